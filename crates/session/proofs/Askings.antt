@@ -32,15 +32,16 @@ use Rattle.session.proofs.Carries.{nothing_of}
 use Rattle.session.proofs.Pausing.{keeps_within}
 use Rattle.session.proofs.Playables.{of_film}
 
-ready_in : (films : List Stored) (source : Source) (settings : Settings) (state : State) (setup : Setup) (prepared : Prepared)
+ready_in : {source : Source} {settings : Settings} {setup : Setup} {prepared : Prepared} (films : List Stored)
+    (state : State)
     → IsReadyIn state setup → IsPrepared prepared
     → OfFilm films setup.film (λ stored. IsPreparedAs stored source settings setup prepared)
     → IsPreparedIn films source settings state prepared
-ready_in films source settings Init setup prepared ready is all = absurd ready
-ready_in films source settings (Ready own paused) setup prepared ready is all =
+ready_in films Init ready is all = absurd ready
+ready_in {source} {settings} {prepared} films (Ready own paused) ready is all =
     subst (λ (x : Setup). IsPreparedIn films source settings (Ready x paused) prepared) (sym ready) (is, all)
-ready_in films source settings (Playing own play) setup prepared ready is all = absurd ready
-ready_in films source settings (Stopping own stop) setup prepared ready is all = absurd ready
+ready_in films (Playing own play) ready is all = absurd ready
+ready_in films (Stopping own stop) ready is all = absurd ready
 
 -- no booking is open in Ready
 pub ready_closed : (state : State) (setup : Setup) → IsReadyIn state setup → open_receipts state ≡ 0
@@ -50,29 +51,29 @@ ready_closed (Playing own play) setup ready = absurd ready
 ready_closed (Stopping own stop) setup ready = absurd ready
 
 -- a play that is asked for can be sent
-pub prepared_in : (films : List Stored) (source : Source) (settings : Settings) (state : State) (setup : Setup) (stored : Stored)
-    (plan : List Segment) (prepared : Prepared) → IsReadyIn state setup → IsFilmAt films setup.film stored
+pub prepared_in : {source : Source} {settings : Settings} {setup : Setup} {stored : Stored} {plan : List Segment}
+    (films : List Stored) (state : State) (prepared : Prepared) → IsReadyIn state setup → IsFilmAt films setup.film stored
     → IsPlayable stored source settings setup prepared.counts prepared.run plan
     → prepared.frames ≡ sending_of stored.film source setup prepared.counts prepared.run
     → length (framed_bytes (run_pieces prepared.frames)) ≡ bytes_between (stored_sizes stored) prepared.run.first_unit prepared.run.end_unit
     → prepared.plan ≡ plan → prepared.paced ≡ plan → IsPreparedIn films source settings state prepared
-prepared_in films source settings state setup stored plan prepared ready at playable frames bytes own paced =
+prepared_in {source} {settings} {setup} {stored} films state prepared ready at playable frames bytes own paced =
     let same : IsPlayable stored source settings setup prepared.counts prepared.run prepared.plan =
     subst (λ (l : List Segment). IsPlayable stored source settings setup prepared.counts prepared.run l) (sym own) playable in
     let boundary : IsBoundary (run_pieces prepared.frames) prepared.run.sent =
     subst (λ (s : Sending). IsBoundary (run_pieces s) prepared.run.sent) (sym frames) same.run_of.boundary in
-    ready_in films source settings state setup prepared ready
+    ready_in films state ready
     (record { going = record { boundary = boundary; whole = same.bytes ∙ sym bytes }; paced = paced ∙ sym own })
     (of_film films setup.film stored (λ s. IsPreparedAs s source settings setup prepared) at
     (record { playable = same; frames_are = frames }))
 
 -- what an admission makes of it
-pub admitted_state : (films : List Stored) (source : Source) (settings : Settings) (setup : Setup) (paused : Option Run)
-    (prepared : Prepared) (play : Played) → IsSetup (length films) setup
+pub admitted_state : {source : Source} {settings : Settings} {setup : Setup} {prepared : Prepared} {play : Played}
+    (films : List Stored) (paused : Option Run) → IsSetup (length films) setup
     → IsPreparedIn films source settings (Ready setup paused) prepared → IsPacing play.pacer → play.run ≡ prepared.run
     → play.plan ≡ prepared.plan → play.pacer ≡ whole_pacing (run_pieces prepared.frames) prepared.run.sent prepared.paced play.start
     → IsStateKept films source settings prepared.counts (Playing setup play)
-admitted_state films source settings setup paused prepared play is_setup kept pacing run plan pacer = (
+admitted_state {source} {settings} {setup} {prepared} {play} films paused is_setup kept pacing run plan pacer = (
   is_setup,
   record {
     pacing = pacing;
@@ -89,9 +90,10 @@ admitted_state films source settings setup paused prepared play is_setup kept pa
       },
 )
 
-pub admitted_going : (lost : Bool) (setup : Setup) (play : Played) (pieces : List (List ℕ)) (before start : ℕ) (paced : List Segment)
+pub admitted_going : {lost : Bool} {play : Played} {paced : List Segment} (setup : Setup) (pieces : List (List ℕ))
+    (before start : ℕ)
     → play.pacer ≡ whole_pacing pieces before paced start → paced ≡ play.plan → IsGoing lost (Playing setup play)
-admitted_going lost setup play pieces before start paced pacer same = λ linked. record {
+admitted_going setup pieces before start pacer same = λ linked. record {
   even = ap (λ (p : Pacing). p.due) pacer ∙ sym (ap (λ (p : Pacing). p.sent) pacer);
   whole = ap (λ (p : Pacing). p.keep) pacer ∙ ap total_bytes same;
   going = ap is_done pacer;
@@ -108,11 +110,11 @@ next_in films source settings counts lost state (Look sequence) kept = tt
 next_in films source settings counts lost state (Offer sequence) kept = tt
 
 -- a play of which a halt is asked is the same but for what is kept
-halting_kept : (films : List Stored) (source : Source) (settings : Settings) (counts : Counts) (setup : Setup) (play : Played)
-    (pacer : Pacing) (keep : ℕ) → IsStateKept films source settings counts (Playing setup play) → IsPacing pacer
+halting_kept : {source : Source} {settings : Settings} {counts : Counts} {setup : Setup} {play : Played}
+    {pacer : Pacing} (films : List Stored) (keep : ℕ) → IsStateKept films source settings counts (Playing setup play) → IsPacing pacer
     → pacer ≡ record play.pacer { keep = keep }
     → IsStateKept films source settings counts (Playing setup (record play { pacer = pacer }))
-halting_kept films source settings counts setup play pacer keep kept pacing is = (
+halting_kept films keep kept pacing is = (
   kept.0,
   record {
     pacing = pacing;
@@ -147,7 +149,7 @@ module _ (inside : Inside) (setup : Setup) (play : Played) (kept : IsKept inside
         films = kept.films;
         settings = kept.settings;
         id = kept.id;
-        state = halting_kept inside.films.now inside.source inside.settings inside.counts setup play pacer (next_boundary play.pacer)
+        state = halting_kept inside.films.now (next_boundary play.pacer)
             playing_in pacing is;
         awaited = (keeps_within play keep unhalted most, left);
         stop = tt;

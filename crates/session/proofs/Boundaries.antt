@@ -5,11 +5,11 @@ use Rattle.pacer.specs.Boundaries.{boundary_from}
 use Rattle.pacer.specs.Pacings.{IsPacing, Pacing, due_by, next_boundary, stands_at_boundary, after_step}
 use Rattle.pacer.proofs.PacingLemmas.{boundary-from, boundary-is}
 
-stops_at : (pieces : List (List ℕ)) (before sent due end : ℕ) → IsBoundary pieces end → before + sent ≤ end
+stops_at : {pieces : List (List ℕ)} {end : ℕ} (before sent due : ℕ) → IsBoundary pieces end → before + sent ≤ end
     → end ≤ length (framed_bytes pieces) → 0 < due - min due (boundary_from pieces (before + sent) - before)
     → boundary_from pieces (before + min due (boundary_from pieces (before + sent) - before)) - before
     ≡ min due (boundary_from pieces (before + sent) - before)
-stops_at pieces before sent due end ends within most left =
+stops_at {pieces} {end} before sent due ends within most left =
     let inside : before + sent ≤ length (framed_bytes pieces) = omega arith in
     let next : IsBoundaryAfter pieces (before + sent) (boundary_from pieces (before + sent)) =
     boundary-from pieces (before + sent) inside in
@@ -33,4 +33,4 @@ stop_between slot old new is_old is left =
     subst Stands (sym is)
     (λ more. eq-eqb (boundary_from old.pieces (old.before + min (due_by old slot) (next_boundary old)) - old.before)
     (min (due_by old slot) (next_boundary old))
-    (stops_at old.pieces old.before old.sent (due_by old slot) (old.before + old.keep) is_old.ends within most more)) left
+    (stops_at old.before old.sent (due_by old slot) is_old.ends within most more)) left

@@ -32,10 +32,11 @@ play_kept old new kept run plan same = record {
   plan = same.plan ∙ kept.plan ∙ sym plan;
 }
 
-playing_kept : (stored : Stored) (source : Source) (settings : Settings) (setup : Setup) (counts : Counts) (old new : Played)
+playing_kept : {stored : Stored} {source : Source} {settings : Settings} {setup : Setup} {counts : Counts}
+    {old new : Played}
     → IsPlaying stored source settings setup counts old → new.run ≡ old.run → new.plan ≡ old.plan
     → IsSamePacing old.pacer new.pacer → IsPlaying stored source settings setup counts new
-playing_kept stored source settings setup counts old new kept run plan same = record {
+playing_kept {stored} {source} {settings} {setup} {counts} {old} {new} kept run plan same = record {
   playable = subst (λ (r : Run). IsPlayable stored source settings setup counts r new.plan) (sym run)
       (subst (λ (l : List Segment). IsPlayable stored source settings setup counts old.run l) (sym plan) kept.playable);
   pieces = same.pieces ∙ kept.pieces ∙ ap (λ (r : Run). run_pieces (sending_of stored.film source setup counts r)) (sym run);
@@ -58,7 +59,7 @@ state_kept films source settings counts (Playing setup play) (Playing s p) kept 
     subst (λ (x : Setup). IsStateKept films source settings counts (Playing x p)) (sym carried.0) (
       kept.0,
       play_kept play p kept.1 carried.1 carried.4 carried.5,
-      λ stored at. playing_kept stored source settings setup counts play p (kept.2 stored at) carried.1 carried.4 carried.5,
+      λ stored at. playing_kept (kept.2 stored at) carried.1 carried.4 carried.5,
     )
 state_kept films source settings counts (Playing setup play) (Stopping s p) kept carried = absurd carried
 state_kept films source settings counts (Stopping setup stop) Init kept carried = absurd carried

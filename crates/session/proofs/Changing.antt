@@ -34,13 +34,13 @@ replied_changes old text ask new is =
       inl (ap (λ (s : Standing). s.state) is.1),
     )
 
-play_asked : (old new : Standing) (stored : Stored) (setup : Setup) (paused : Option Run) (range : Option (List ℕ)) (planned : Planned)
-    (sequence : ℕ) (authority : List ℕ) → old.state ≡ Ready setup paused → IsPlannedRun old stored setup paused range planned
+play_asked : {old new : Standing} {stored : Stored} {setup : Setup} {paused : Option Run} {range : Option (List ℕ)}
+    {planned : Planned} (sequence : ℕ) (authority : List ℕ) → old.state ≡ Ready setup paused → IsPlannedRun old stored setup paused range planned
     → new ≡ record old {
       awaited = Play (prepared_of old stored setup planned sequence);
       text = play_front old stored setup planned sequence authority;
     } → IsPlayAskedFor old (AskPlay planned.plan) new
-play_asked old new stored setup paused range planned sequence authority ready planned_is is = record {
+play_asked {new} {stored} {setup} {paused} {range} {planned} sequence authority ready planned_is is = record {
   play = record {
     setup = setup;
     paused = paused;
@@ -75,7 +75,7 @@ comes_changes old new message ask (AsksForPlay stored setup paused range planned
       subst (IsSameGround old) (sym is) (record { films = refl; settings = refl; source = refl; counts = refl; heard = refl }),
       (
         ap (λ (s : Standing). s.state) is,
-        play_asked old new stored setup paused range planned sequence authority ready planned_is is,
+        play_asked sequence authority ready planned_is is,
       ),
     )
 comes_changes old new message ask (AsksForHalt sequence setup play next playing told by halts) =
@@ -101,56 +101,57 @@ pub hears_state : (old new : Standing) (message : List ℕ) (ask : Ask) → Hear
 hears_state old new message ask hears = (comes_changes old new message ask (comes_to old message ask new hears)).1
 
 -- a PLAY to which no refusal applies
-no_refusal : (old : Standing) (sequence : ℕ) (authority : List ℕ) (setup : Setup) (paused : Option Run) (range : Option (List ℕ))
-    (planned : Result Planned Refusal) (ask : Ask) (new : Standing) → old.state ≡ Ready setup paused
+no_refusal : {old : Standing} {setup : Setup} {paused : Option Run} {range : Option (List ℕ)} {ask : Ask}
+    {new : Standing} (sequence : ℕ) (authority : List ℕ) (planned : Result Planned Refusal) → old.state ≡ Ready setup paused
     → ((refusal : Refusal) → refusal ≢ Memory → ¬ IsPlanned old setup paused range (Err refusal))
     → IsPlanned old setup paused range planned → AsksPlayOr old sequence authority setup planned ask new → AsksOrLacks old ask new
-no_refusal old sequence authority setup paused range (Ok planned) ask new ready good is (inl asks) =
+no_refusal {old} {setup} {paused} {range} {ask} {new} sequence authority (Ok planned) ready good is (inl asks) =
     let own = of_film old.films setup.film is.0 (λ s. IsPlannedRun old s setup paused range planned) is.1.at is.1 asks.stored asks.at in
     inl (subst (λ a. IsPlayAskedFor old a new) (sym asks.command)
-    (play_asked old new asks.stored setup paused range planned sequence authority ready own asks.state))
-no_refusal old sequence authority setup paused range (Ok planned) ask new ready good is (inr refused) =
+    (play_asked sequence authority ready own asks.state))
+no_refusal {ask} {new} sequence authority (Ok planned) ready good is (inr refused) =
     inr (record { sequence = sequence; refused = refused })
-no_refusal old sequence authority setup paused range (Err refusal) ask new ready good is refused =
+no_refusal {old} {ask} {new} sequence authority (Err refusal) ready good is refused =
     elim (is_memory refusal) [
       | inl memory ↦ inr (record { sequence = sequence; refused = subst (λ r. IsRefused old (Some sequence) r [] ask new) memory refused })
       | inr other ↦ absurd (good refusal other is)
     ]
 
-good_plays : (old : Standing) (request : Request) (setup : Setup) (paused : Option Run) (authority : List ℕ) (ask : Ask) (new : Standing)
+good_plays : {old : Standing} {request : Request} {setup : Setup} {paused : Option Run} {ask : Ask} {new : Standing}
+    (authority : List ℕ)
     → old.state ≡ Ready setup paused → IsGoodPlay old setup paused request → Plays old.state old request authority ask new → AsksOrLacks old ask new
-good_plays old request setup paused authority ask new ready good plays =
+good_plays {old} {request} {ask} {new} authority ready good plays =
     let is = subst (λ (s : State). Plays s old request authority ask new) ready plays in
-    no_refusal old request.sequence authority setup paused (header_value request.head.now (codes "Range")) is.planned ask new ready good.plan
+    no_refusal request.sequence authority is.planned ready good.plan
     is.is_planned is.asks
 
-good_takes : (old : Standing) (request : Request) (setup : Setup) (paused : Option Run) (judgement : Result Task Refusal) (ask : Ask)
-    (new : Standing) → old.state ≡ Ready setup paused → IsGoodPlay old setup paused request
+good_takes : {old : Standing} {request : Request} {setup : Setup} {paused : Option Run} {ask : Ask} {new : Standing}
+    (judgement : Result Task Refusal) → old.state ≡ Ready setup paused → IsGoodPlay old setup paused request
     → IsJudged old.films old.id (place_of old.state) request judgement → Takes old request judgement ask new → AsksOrLacks old ask new
-good_takes old request setup paused (Ok (ToPlay asked)) ask new ready good judged takes =
-    good_plays old request setup paused asked.authority.now ask new ready good takes
-good_takes old request setup paused (Err refusal) ask new ready good judged takes = absurd (good.taken refusal judged)
-good_takes old request setup paused (Ok ToOptions) ask new ready good judged takes =
+good_takes {ask} {new} (Ok (ToPlay asked)) ready good judged takes =
+    good_plays asked.authority.now ready good takes
+good_takes {ask} {new} (Err refusal) ready good judged takes = absurd (good.taken refusal judged)
+good_takes {ask} {new} (Ok ToOptions) ready good judged takes =
     absurd (let no : ⊥ = cc (judged.talk.spoken.named, good.method) in no)
-good_takes old request setup paused (Ok (ToDescribe asked)) ask new ready good judged takes =
+good_takes {ask} {new} (Ok (ToDescribe asked)) ready good judged takes =
     absurd (let no : ⊥ = cc (judged.talk.spoken.named, good.method) in no)
-good_takes old request setup paused (Ok (ToSetup film)) ask new ready good judged takes =
+good_takes {ask} {new} (Ok (ToSetup film)) ready good judged takes =
     absurd (let no : ⊥ = cc (judged.talk.spoken.named, good.method) in no)
-good_takes old request setup paused (Ok ToPause) ask new ready good judged takes =
+good_takes {ask} {new} (Ok ToPause) ready good judged takes =
     absurd (let no : ⊥ = cc (judged.talk.spoken.named, good.method) in no)
-good_takes old request setup paused (Ok ToTeardown) ask new ready good judged takes =
+good_takes {ask} {new} (Ok ToTeardown) ready good judged takes =
     absurd (let no : ⊥ = cc (judged.talk.spoken.named, good.method) in no)
-good_takes old request setup paused (Ok ToGetParameter) ask new ready good judged takes =
+good_takes {ask} {new} (Ok ToGetParameter) ready good judged takes =
     absurd (let no : ⊥ = cc (judged.talk.spoken.named, good.method) in no)
 
-hears_on_good : (lost : Bool) (old : Standing) (message : List ℕ) (ask : Ask) (new : Standing) → lost ≡ false → CanBePlayed old message
+hears_on_good : {lost : Bool} {old : Standing} {message : List ℕ} {ask : Ask} {new : Standing} → lost ≡ false → CanBePlayed old message
     → HearsOn lost old message ask new → AsksOrLacks old ask new
-hears_on_good true old message ask new linked can hears = absurd (let no : ⊥ = cc in no)
-hears_on_good false old message ask new linked can (inl fault) = absurd (can.sound fault.fault fault.is_fault)
-hears_on_good false old message ask new linked can (inr whole) =
-    good_takes old whole.request can.setup can.paused whole.hears.judgement ask new can.ready (can.good whole.request whole.is_request)
+hears_on_good {lost = true} {ask} {new} linked can hears = absurd (let no : ⊥ = cc in no)
+hears_on_good {lost = false} {ask} {new} linked can (inl fault) = absurd (can.sound fault.fault fault.is_fault)
+hears_on_good {lost = false} {ask} {new} linked can (inr whole) =
+    good_takes whole.hears.judgement can.ready (can.good whole.request whole.is_request)
     whole.hears.judged whole.hears.takes
 
 pub hears_good : (old new : Standing) (message : List ℕ) (ask : Ask) → Hears old message ask new → CanBePlayed old message
     → AsksOrLacks old ask new
-hears_good old new message ask hears can = hears_on_good old.lost old message ask new can.linked can hears
+hears_good old new message ask hears can = hears_on_good can.linked can hears

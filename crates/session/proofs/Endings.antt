@@ -45,9 +45,9 @@ unfolding value_named
 session_told sequence id = record { fields = field (codes "Session") id ∷ []; text_is = refl; session = refl }
 
 -- a halt that was asked for, for a TEARDOWN
-torn_halt : (old : Standing) (sequence : ℕ) (setup : Setup) (play : Played) (ask : Ask) (new : Standing)
+torn_halt : {old : Standing} {sequence : ℕ} {setup : Setup} {play : Played} {ask : Ask} {new : Standing}
     → old.state ≡ Playing setup play → AsksHalt old sequence setup play Torn ask new → IsTornDown old ask new
-torn_halt old sequence setup play ask new playing asks = record {
+torn_halt {old} {sequence} {ask} {new} playing asks = record {
   sequence = sequence;
   told = subst (IsSessionTold sequence old.id) (sym (ap (λ (s : Standing). s.text) asks.state)) (session_told sequence old.id);
   halts = subst (λ (s : State). HaltsPlay (stage_of s) ask) (sym playing) (asks.keep, asks.command);
@@ -65,19 +65,19 @@ torn_reply old sequence ask new halts ends = record {
   ends = subst (λ a. EndsSession a new) (sym ends.0) (ap (λ (s : Standing). (sent_reply s).torn) ends.1);
 }
 
-tears_in : (state : State) (old : Standing) (sequence : ℕ) (ask : Ask) (new : Standing) → old.state ≡ state
+tears_in : {state : State} {old : Standing} {ask : Ask} {new : Standing} (sequence : ℕ) → old.state ≡ state
     → TearsDown state old sequence ask new → IsTornDown old ask new
-tears_in Init old sequence ask new is tears =
+tears_in {state = Init} {old} {ask} {new} sequence is tears =
     torn_reply old sequence ask new (subst (λ (s : State). HaltsPlay (stage_of s) Reply) (sym is) refl) tears
-tears_in (Ready setup paused) old sequence ask new is tears =
+tears_in {state = Ready setup paused} {old} {ask} {new} sequence is tears =
     torn_reply old sequence ask new (subst (λ (s : State). HaltsPlay (stage_of s) Reply) (sym is) refl) tears
-tears_in (Playing setup play) old sequence ask new is tears = torn_halt old sequence setup play ask new is tears
-tears_in (Stopping setup stop) old sequence ask new is tears =
+tears_in {state = Playing setup play} {ask} {new} sequence is tears = torn_halt is tears
+tears_in {state = Stopping setup stop} {old} {ask} {new} sequence is tears =
     torn_reply old sequence ask new (subst (λ (s : State). HaltsPlay (stage_of s) Reply) (sym is) refl) tears
 
-paused_play : (old : Standing) (sequence : ℕ) (setup : Setup) (play : Played) (ask : Ask) (new : Standing)
+paused_play : {old : Standing} {sequence : ℕ} {setup : Setup} {play : Played} {ask : Ask} {new : Standing}
     → old.state ≡ Playing setup play → PausesPlay old sequence setup play ask new → IsPausedPlay old ask new
-paused_play old sequence setup play ask new is pauses = record {
+paused_play {old} {sequence} {setup} {play} {ask} {new} is pauses = record {
   setup = setup;
   play = play;
   stored = pauses.stored;
@@ -94,12 +94,12 @@ paused_play old sequence setup play ask new is pauses = record {
   state = λ place. ap (λ (s : Standing). (sent_reply (after_halt s place)).state) pauses.asks.state;
 }
 
-pauses_in : (state : State) (old : Standing) (sequence : ℕ) (ask : Ask) (new : Standing) → old.state ≡ state
+pauses_in : {state : State} {old : Standing} {ask : Ask} {new : Standing} (sequence : ℕ) → old.state ≡ state
     → Pauses state old sequence ask new → IsPausedPlay old ask new
-pauses_in Init old sequence ask new is pauses = absurd pauses
-pauses_in (Ready setup paused) old sequence ask new is pauses = absurd pauses
-pauses_in (Playing setup play) old sequence ask new is pauses = paused_play old sequence setup play ask new is pauses
-pauses_in (Stopping setup stop) old sequence ask new is pauses = absurd pauses
+pauses_in {state = Init} {ask} {new} sequence is pauses = absurd pauses
+pauses_in {state = Ready setup paused} {ask} {new} sequence is pauses = absurd pauses
+pauses_in {state = Playing setup play} {ask} {new} sequence is pauses = paused_play is pauses
+pauses_in {state = Stopping setup stop} {ask} {new} sequence is pauses = absurd pauses
 
 -- a name is that of one method
 other_method : (name : List ℕ) (method other : Method) → (method ≡ other → ⊥) → name ≡ name_of method → name ≡ name_of other → ⊥
@@ -108,7 +108,7 @@ other_method name method other differ is its = differ (method_once name method o
 takes_teardown : (old : Standing) (request : Request) (judgement : Result Task Refusal) (ask : Ask) (new : Standing)
     → request.method.now ≡ codes "TEARDOWN" → IsJudged old.films old.id (place_of old.state) request judgement
     → Takes old request judgement ask new → Comes IsTornDown old ask new
-takes_teardown old request (Ok ToTeardown) ask new method judged takes = inr (tears_in old.state old request.sequence ask new refl takes)
+takes_teardown old request (Ok ToTeardown) ask new method judged takes = inr (tears_in request.sequence refl takes)
 takes_teardown old request (Ok ToOptions) ask new method judged takes =
     absurd (other_method request.method.now Options Teardown (λ same. cc) judged.talk.spoken.named method)
 takes_teardown old request (Ok (ToDescribe asked)) ask new method judged takes =
@@ -122,12 +122,12 @@ takes_teardown old request (Ok ToPause) ask new method judged takes =
 takes_teardown old request (Ok ToGetParameter) ask new method judged takes =
     absurd (other_method request.method.now GetParameter Teardown (λ same. cc) judged.talk.spoken.named method)
 takes_teardown old request (Err refusal) ask new method judged takes =
-    inl (refused old (Some request.sequence) refusal (option_of request.head.now) ask new takes)
+    inl (refused (Some request.sequence) refusal (option_of request.head.now) takes)
 
 takes_pause : (old : Standing) (request : Request) (judgement : Result Task Refusal) (ask : Ask) (new : Standing)
     → request.method.now ≡ codes "PAUSE" → IsJudged old.films old.id (place_of old.state) request judgement
     → Takes old request judgement ask new → Comes IsPausedPlay old ask new
-takes_pause old request (Ok ToPause) ask new method judged takes = inr (pauses_in old.state old request.sequence ask new refl takes)
+takes_pause old request (Ok ToPause) ask new method judged takes = inr (pauses_in request.sequence refl takes)
 takes_pause old request (Ok ToOptions) ask new method judged takes =
     absurd (other_method request.method.now Options Pause (λ same. cc) judged.talk.spoken.named method)
 takes_pause old request (Ok (ToDescribe asked)) ask new method judged takes =
@@ -141,30 +141,30 @@ takes_pause old request (Ok ToTeardown) ask new method judged takes =
 takes_pause old request (Ok ToGetParameter) ask new method judged takes =
     absurd (other_method request.method.now GetParameter Pause (λ same. cc) judged.talk.spoken.named method)
 takes_pause old request (Err refusal) ask new method judged takes =
-    inl (refused old (Some request.sequence) refusal (option_of request.head.now) ask new takes)
+    inl (refused (Some request.sequence) refusal (option_of request.head.now) takes)
 
 -- a message of a method is refused, or comes to what its request does
-hears_on : (P : Standing → Ask → Standing → Type 0) (method : List ℕ)
+hears_on : {P : Standing → Ask → Standing → Type 0} {method : List ℕ}
     → ((old : Standing) (request : Request) (judgement : Result Task Refusal) (ask : Ask) (new : Standing) → request.method.now ≡ method
     → IsJudged old.films old.id (place_of old.state) request judgement → Takes old request judgement ask new → Comes P old ask new)
-    → (lost : Bool) (old : Standing) (message : List ℕ) (ask : Ask) (new : Standing) → IsOfMethod method message
+    → (lost : Bool) {old : Standing} {message : List ℕ} {ask : Ask} {new : Standing} → IsOfMethod method message
     → HearsOn lost old message ask new → Comes P old ask new
-hears_on P method takes true old message ask new is hears = inl (refused old _ Memory [] ask new hears)
-hears_on P method takes false old message ask new is (inl fault) =
+hears_on {P} {method} takes true {ask} {new} is hears = inl (refused _ Memory [] hears)
+hears_on {P} {method} takes false {message} {ask} {new} is (inl fault) =
     let r = is.request in
     absurd (no_fault message r.method.now r.url.now r.sequence r.head.now r.body.now fault.fault is.is_request fault.is_fault)
-hears_on P method takes false old message ask new is (inr whole) =
+hears_on {P} {method} takes false {old} {message} {ask} {new} is (inr whole) =
     let alike = same_request message is.request whole.request is.is_request whole.is_request in
     takes old whole.request whole.hears.judgement ask new (alike.method ∙ is.method_is) whole.hears.judged whole.hears.takes
 
 pub teardown_ends : (old new : Standing) (message : List ℕ) (ask : Ask) → IsTeardown message → Hears old message ask new
     → IsDeclined old ask new ⊎ IsTornDown old ask new
 teardown_ends old new message ask is hears =
-    hears_on IsTornDown (codes "TEARDOWN") takes_teardown old.lost old message ask new is hears
+    hears_on {P = IsTornDown} {method = codes "TEARDOWN"} takes_teardown old.lost {old = old} {message = message} {ask = ask} {new = new} is hears
 
 pub pause_leaves : (old new : Standing) (message : List ℕ) (ask : Ask) → IsPause message → Hears old message ask new
     → IsDeclined old ask new ⊎ IsPausedPlay old ask new
-pause_leaves old new message ask is hears = hears_on IsPausedPlay (codes "PAUSE") takes_pause old.lost old message ask new is hears
+pause_leaves old new message ask is hears = hears_on {P = IsPausedPlay} {method = codes "PAUSE"} takes_pause old.lost {old = old} {message = message} {ask = ask} {new = new} is hears
 
 -- ---- only a TEARDOWN ends the session
 

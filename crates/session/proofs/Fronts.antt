@@ -38,9 +38,9 @@ told_on : (old : Option (List Doing)) (xs ys : List Doing) → told_more (told_m
 told_on None xs ys = refl
 told_on (Some told) xs ys = ap Some (append_assoc told xs ys)
 
-pub front_right : (old mid new : Option (List Doing)) (bytes more : List ℕ) → mid ≡ told_more old (sends bytes) → IsFrontTold mid new more →
+pub front_right : {mid new : Option (List Doing)} (old : Option (List Doing)) (bytes more : List ℕ) → mid ≡ told_more old (sends bytes) → IsFrontTold mid new more →
     IsFrontTold old new (bytes ++ more)
-front_right old mid new bytes more whole front = (
+front_right {new} old bytes more whole front = (
   length bytes + front.0,
   (
     omega (arith, front.1.0, length-append bytes more),
@@ -51,9 +51,9 @@ front_right old mid new bytes more whole front = (
 )
 
 -- a step that failed
-pub failed_front : (stop : Bool) (slot : ℕ) (p new : Pacing) (told next : Option (List Doing)) → HasFailed stop slot p new told next →
+pub failed_front : {stop : Bool} {slot : ℕ} {p new : Pacing} {told next : Option (List Doing)} → HasFailed stop slot p new told next →
     IsFrontTold told next (plan_bytes p p.sent (step_end stop (at_slot slot p)))
-failed_front stop slot p new told next failed =
+failed_front {stop} {slot} {p} {new} {told} {next} failed =
     let end : ℕ = step_end stop (at_slot slot p) in
     let part : ℕ = (p.before + failed.out) - (p.before + p.sent) in
     let whole : ℕ = (p.before + end) - (p.before + p.sent) in
@@ -61,19 +61,20 @@ failed_front stop slot p new told next failed =
     front_of told next (plan_bytes p p.sent end) part
     (failed.told ∙ ap (λ bs. told_more told (sends bs)) (sym (take-take part whole (drop (p.before + p.sent) (framed_bytes p.pieces)) within)))
 
-pub failed_due : (stop : Bool) (slot : ℕ) (p new : Pacing) (told next : Option (List Doing)) → HasFailed stop slot p new told next → new.due ≡ due_by p slot
-failed_due stop slot p new told next failed = ap (λ (q : Pacing). q.due) failed.state
+pub failed_due : {stop : Bool} {slot : ℕ} {p new : Pacing} {told next : Option (List Doing)} → HasFailed stop slot p new told next → new.due ≡ due_by p slot
+failed_due {stop} {slot} {p} {new} {next} failed = ap (λ (q : Pacing). q.due) failed.state
 
 max_twice : (a b : ℕ) → max (max a b) b ≡ max a b
 max_twice a b = omega arith
 
 -- both sends of a slot: a front of what comes after the first
-pub front_both : (waits between : Bool) (old mid new : Option (List Doing)) (one text after plain : List ℕ) → waits ≡ true → between ≡ true →
+pub front_both : {waits between : Bool} {mid new : Option (List Doing)} (old : Option (List Doing))
+    (one text after plain : List ℕ) → waits ≡ true → between ≡ true →
     mid ≡ told_more old (sends one) → IsFrontTold mid new (text ++ after) →
     IsFrontTold old new (if waits then one ++ (if between then text ++ after else []) else plain)
-front_both true true old mid new one text after plain waiting between told front = front_right old mid new one (text ++ after) told front
-front_both true false old mid new one text after plain waiting between told front = absurd (true≢false (sym between))
-front_both false between old mid new one text after plain waiting is told front = absurd (true≢false (sym waiting))
+front_both {waits = true} {between = true} {new} old one text after plain waiting between told front = front_right old one (text ++ after) told front
+front_both {waits = true} {between = false} {new} old one text after plain waiting between told front = absurd (true≢false (sym between))
+front_both {waits = false} {between} {new} old one text after plain waiting is told front = absurd (true≢false (sym waiting))
 
 -- a slot that was stepped makes nothing more due as it is stepped again
 pub raised_twice : (stop : Bool) (slot : ℕ) (state : State) → open_in (stepped_in false slot (stepped_in stop slot state)) ≡ open_in (stepped_in stop slot state)

@@ -15,13 +15,13 @@ use Rattle.session.specs.Inside.{IsAwaitedKept, IsNextIn, IsStateKept, IsStopAns
 use Rattle.session.specs.Sendings.{state_after}
 
 -- how the state is kept that a halt leaves
-pub halted_kept : (films : List Stored) (source : Source) (settings : Settings) (counts : Counts) (setup : Setup) (play : Played)
-    (keep : ℕ) (next : Next) → IsStateKept films source settings counts (Playing setup play)
+pub halted_kept : {source : Source} {settings : Settings} {counts : Counts} {setup : Setup} {play : Played}
+    (films : List Stored) (keep : ℕ) (next : Next) → IsStateKept films source settings counts (Playing setup play)
     → IsNextIn films source counts (Playing setup play) next
     → IsStateKept films source settings (counts_next films source counts setup play.run keep next) (state_after setup play next)
-halted_kept films source settings counts setup play keep Done kept left = (kept.0, tt)
-halted_kept films source settings counts setup play keep (Paused rest) kept left = (kept.0, kept.1.pacing, left)
-halted_kept films source settings counts setup play keep Torn kept left = (kept.0, kept.1.pacing, tt)
+halted_kept films keep Done kept left = (kept.0, tt)
+halted_kept films keep (Paused rest) kept left = (kept.0, kept.1.pacing, left)
+halted_kept films keep Torn kept left = (kept.0, kept.1.pacing, tt)
 
 pub halted_rest : (films : List Stored) (source : Source) (settings : Settings) (counts : Counts) (lost : Bool) (setup : Setup)
     (play : Played) (next : Next) → IsAwaitedKept films source settings counts lost (state_after setup play next) Nothing
@@ -41,11 +41,11 @@ halted_closed setup play (Paused rest) = refl
 halted_closed setup play Torn = refl
 
 -- a session that is torn down by a halt has a reply that waits
-pub halted_torn : (next : Next) (tearing waits torn : Bool) → (tearing ≡ true → waits ≡ false → torn ≡ true)
+pub halted_torn : {tearing waits torn : Bool} (next : Next) → (tearing ≡ true → waits ≡ false → torn ≡ true)
     → (if is_torn next then true else tearing) ≡ true → (if is_answered next then true else waits) ≡ false → torn ≡ true
-halted_torn Done tearing waits torn was ends still = was ends still
-halted_torn (Paused rest) tearing waits torn was ends still = cc
-halted_torn Torn tearing waits torn was ends still = cc
+halted_torn {waits} Done was ends still = was ends still
+halted_torn {waits} (Paused rest) was ends still = cc
+halted_torn {waits} Torn was ends still = cc
 
 pub or_if : (a b : Bool) → (a || b) ≡ (if b then true else a)
 or_if true true = refl

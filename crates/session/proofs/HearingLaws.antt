@@ -14,30 +14,30 @@ use Rattle.session.proofs.Results.{ComesTo, Lacks, Refuses, Says, SettlesSetup, 
 plays_on : (old new : Standing) → new.state ≡ old.state → new.heard ≡ old.heard → PlaysOn old new
 plays_on old new state heard = record { state = state; heard = heard }
 
-comes_plays : (old new : Standing) (message : List ℕ) (ask : Ask) (setup : Setup) (play : Played) → ComesTo old message ask new
+comes_plays : {old new : Standing} {message : List ℕ} {ask : Ask} {setup : Setup} {play : Played} → ComesTo old message ask new
     → old.state ≡ Playing setup play → IsNoHalt ask → PlaysOn old new
-comes_plays old new message ask setup play (Lacks is) playing free =
+comes_plays {old} {new} {ask} (Lacks is) playing free =
     plays_on old new (ap (λ (s : Standing). s.state) is.1) (ap (λ (s : Standing). s.heard) is.1)
-comes_plays old new message ask setup play (Refuses sequence refusal option other is) playing free =
+comes_plays {old} {new} {ask} (Refuses sequence refusal option other is) playing free =
     plays_on old new (ap (λ (s : Standing). s.state) is.1) (ap (λ (s : Standing). s.heard) is.1)
-comes_plays old new message ask setup play (Says sequence fields body tearing by command is) playing free =
+comes_plays {old} {new} {ask} (Says sequence fields body tearing by command is) playing free =
     plays_on old new (ap (λ (s : Standing). s.state) is) (ap (λ (s : Standing). s.heard) is)
-comes_plays old new message ask setup play (SettlesSetup sequence own init ranges command is) playing free =
+comes_plays {new} {ask} (SettlesSetup sequence own init ranges command is) playing free =
     absurd (let no : ⊥ = cc in no)
-comes_plays old new message ask setup play (AsksForPlay stored own paused range planned sequence authority ready planned_is command is) playing free =
+comes_plays {new} {ask} (AsksForPlay stored own paused range planned sequence authority ready planned_is command is) playing free =
     absurd (let no : ⊥ = cc in no)
-comes_plays old new message ask setup play (AsksForHalt sequence own going next was told by halts) playing free =
+comes_plays {new} {ask} (AsksForHalt sequence own going next was told by halts) playing free =
     absurd (subst IsNoHalt halts.command free)
-comes_plays old new message ask setup play (AsksForLook sequence look) playing free =
+comes_plays {old} {new} {ask} (AsksForLook sequence look) playing free =
     plays_on old new (ap (λ (s : Standing). s.state) look.state) (ap (λ (s : Standing). s.heard) look.state)
-comes_plays old new message ask setup play (AsksForOffer sequence wait planned asks) playing free =
+comes_plays {old} {new} {ask} (AsksForOffer sequence wait planned asks) playing free =
     plays_on old new (ap (λ (s : Standing). s.state) asks.state) (ap (λ (s : Standing). s.heard) asks.state)
 
 -- in Playing a request that asks for no halt leaves the play
 pub hears_plays : (old new : Standing) (message : List ℕ) (ask : Ask) (setup : Setup) (play : Played) → Hears old message ask new
     → old.state ≡ Playing setup play → IsNoHalt ask → PlaysOn old new
 hears_plays old new message ask setup play hears is free =
-    comes_plays old new message ask setup play (comes_to old message ask new hears) is free
+    comes_plays (comes_to old message ask new hears) is free
 
 leaves : (old : Standing) (text : List ℕ) (ask : Ask) (new : Standing) → IsReplied old text ask new → LeavesOr old new
 leaves old text ask new is = inr (is.1 ∙ ap (λ (t : List ℕ). replied old t) (sym (ap (λ (s : Standing). s.text) is.1)))

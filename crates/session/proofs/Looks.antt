@@ -90,27 +90,28 @@ booked_asks : (old new : Standing) (sequence : ℕ) (ask : Ask) → 0 < old.look
 booked_asks old new sequence ask some (inl look) = λ lacks. subst (λ a. Is500 a new) look.command lacks
 booked_asks old new sequence ask some (inr short) = absurd (omega (arith, some, short.later))
 
-gets_booked : (old new : Standing) (request : Request) (topic : Topic) (ask : Ask) → 0 < old.looks_left → topic ≡ Booked
+gets_booked : {topic : Topic} (old new : Standing) (request : Request) (ask : Ask) → 0 < old.looks_left → topic ≡ Booked
     → Gets old request topic ask new → ¬ Is500 ask new
-gets_booked old new request NoTopic ask some is gets = absurd (let no : ⊥ = cc in no)
-gets_booked old new request Booked ask some is gets = booked_asks old new request.sequence ask some gets
-gets_booked old new request OfferTopic ask some is gets = absurd (let no : ⊥ = cc in no)
-gets_booked old new request Unknown ask some is gets = absurd (let no : ⊥ = cc in no)
+gets_booked {topic = NoTopic} old new request ask some is gets = absurd (let no : ⊥ = cc in no)
+gets_booked {topic = Booked} old new request ask some is gets = booked_asks old new request.sequence ask some gets
+gets_booked {topic = OfferTopic} old new request ask some is gets = absurd (let no : ⊥ = cc in no)
+gets_booked {topic = Unknown} old new request ask some is gets = absurd (let no : ⊥ = cc in no)
 
-refuses_booked : (old new : Standing) (message : List ℕ) (ask : Ask) (sequence : ℕ) (refusal : Refusal) (option : List ℕ)
+refuses_booked : {new : Standing} {ask : Ask} {refusal : Refusal} (old : Standing) (message : List ℕ) (sequence : ℕ)
+    (option : List ℕ)
     → (refusal ≡ Memory → ⊥) → IsRefused old (Some sequence) refusal option ask new → ¬ Is500 ask new
-refuses_booked old new message ask sequence refusal option other is = λ lacks.
+refuses_booked {new} {ask} {refusal} old message sequence option other is = λ lacks.
     let text = refusal_text (Some sequence) refusal option in
     let code : HasCode 500 new.text = subst (λ a. Is500 a new) is.0 lacks in
     let its = subst (λ (t : List ℕ). HasCode 500 t) (ap (λ (s : Standing). s.text) is.1) code in
     let own = own_code refusal in
-    other (own.memory (one_code (code_of refusal) 500 text own.small (omega arith) (refusal_code (Some sequence) refusal option) its))
+    other (own.memory (one_code text own.small (omega arith) (refusal_code (Some sequence) refusal option) its))
 
 takes_booked : (old new : Standing) (message : List ℕ) (request : Request) (judgement : Result Task Refusal) (ask : Ask)
     → 0 < old.looks_left → request.method.now ≡ codes "GET_PARAMETER" → IsWord (codes "x-Booked") request.body.now
     → IsJudged old.films old.id (place_of old.state) request judgement → Takes old request judgement ask new → ¬ Is500 ask new
 takes_booked old new message request (Ok ToGetParameter) ask some method body judged takes =
-    gets_booked old new request takes.topic ask some (topic_once request.body.now Booked takes.topic body takes.is_topic) takes.gets
+    gets_booked old new request ask some (topic_once request.body.now Booked takes.topic body takes.is_topic) takes.gets
 takes_booked old new message request (Ok ToOptions) ask some method body judged takes =
     absurd (let no : ⊥ = cc (judged.talk.spoken.named, method) in no)
 takes_booked old new message request (Ok (ToDescribe asked)) ask some method body judged takes =
@@ -124,16 +125,16 @@ takes_booked old new message request (Ok ToPause) ask some method body judged ta
 takes_booked old new message request (Ok ToTeardown) ask some method body judged takes =
     absurd (let no : ⊥ = cc (judged.talk.spoken.named, method) in no)
 takes_booked old new message request (Err refusal) ask some method body judged takes =
-    refuses_booked old new message ask request.sequence refusal (option_of request.head.now)
+    refuses_booked old message request.sequence (option_of request.head.now)
     (λ memory. subst (λ r. IsJudged old.films old.id (place_of old.state) request (Err r)) memory judged) takes
 
-hears_booked : (lost : Bool) (old new : Standing) (message : List ℕ) (ask : Ask) → lost ≡ false → 0 < old.looks_left
+hears_booked : {lost : Bool} {old : Standing} {message : List ℕ} (new : Standing) (ask : Ask) → lost ≡ false → 0 < old.looks_left
     → AsksBooked old message → HearsOn lost old message ask new → ¬ Is500 ask new
-hears_booked true old new message ask linked some is hears = absurd (let no : ⊥ = cc in no)
-hears_booked false old new message ask linked some is (inl fault) =
+hears_booked {lost = true} new ask linked some is hears = absurd (let no : ⊥ = cc in no)
+hears_booked {lost = false} {message} new ask linked some is (inl fault) =
     let r = is.request in
     absurd (no_fault message r.method.now r.url.now r.sequence r.head.now r.body.now fault.fault is.is_request fault.is_fault)
-hears_booked false old new message ask linked some is (inr whole) =
+hears_booked {lost = false} {old} {message} new ask linked some is (inr whole) =
     let alike = same_request message is.request whole.request is.is_request whole.is_request in
     takes_booked old new message whole.request whole.hears.judgement ask some (alike.method ∙ is.method)
     (subst (λ (b : List ℕ). IsWord (codes "x-Booked") b) (sym alike.body) is.body) whole.hears.judged whole.hears.takes
@@ -142,4 +143,4 @@ pub looks_found : (films : List Stored) (settings : Settings) (words : List ℕ)
     → HasLooksLeft films settings words old → AsksBooked old message → Hears old message ask new → ¬ Is500 ask new
 looks_found films settings words old new message ask has is hears =
     let room = all_room has.happenings (new_standing films settings words) old has.are in
-    hears_booked old.lost old new message ask is.linked (omega (arith, room, has.few)) is hears
+    hears_booked new ask is.linked (omega (arith, room, has.few)) is hears

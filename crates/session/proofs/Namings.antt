@@ -20,9 +20,9 @@ name_at films name i named =
 within : (films : List Stored) (name : List ℕ) (i : ℕ) → IsFilmNamed films name i → i < length films
 within films name i named = slice_get_within films i named.stored named.at
 
-pub film_once : (films : List Stored) (name : List ℕ) (i j : ℕ) → AreFilms films → IsFilmNamed films name i
+pub film_once : {films : List Stored} {name : List ℕ} {i j : ℕ} → AreFilms films → IsFilmNamed films name i
     → IsFilmNamed films name j → i ≡ j
-film_once films name i j are one other =
+film_once {films} {name} {i} {j} are one other =
     let below : i < j → ⊥ =
     λ less. are.differ i j less (within films name j other) (name_at films name i one ∙ sym (name_at films name j other)) in
     let above : j < i → ⊥ =
@@ -30,8 +30,8 @@ film_once films name i j are one other =
     elim (cases_order i j) [ inl same ↦ same | inr differ ↦ elim differ [ inl less ↦ absurd (below less) | inr more ↦ absurd (above more) ] ]
 
 -- what two readings of a URL have in common
-rest_once : (url a b : List ℕ) (n m : List ℕ) → (one : IsRead url a (Some n)) → (other : IsRead url b (Some m)) → n ≡ m
-rest_once url a b n m one other =
+rest_once : {url a b n m : List ℕ} → (one : IsRead url a (Some n)) → (other : IsRead url b (Some m)) → n ≡ m
+rest_once {url} {a} {n} {m} one other =
     let same : one.path ≡ other.path = end_once 47 url 7 one.path other.path one.is_url.end other.is_url.end in
     let Named : ℕ → Type 0 = λ path. NamesFilm (slice_range url path (length url)) n in
     name_once (slice_range url other.path (length url)) n m (subst Named same one.name_is) other.name_is
@@ -42,7 +42,7 @@ read_none url a b m one other =
     let Named : ℕ → Type 0 = λ path. NamesFilm (slice_range url path (length url)) m in
     one.name_is m (subst Named same other.name_is)
 
-pub named_once : (films : List Stored) (url a n b : List ℕ) (i : ℕ) → IsRead url a (Some n) → Names films url b i
+pub named_once : {films : List Stored} {url a n b : List ℕ} {i : ℕ} → IsRead url a (Some n) → Names films url b i
     → IsFilmNamed films n i
-named_once films url a n b i read names =
-    subst (λ name. IsFilmNamed films name i) (rest_once url b a names.name n names.read read) names.film
+named_once {films} {url} {a} {i} read names =
+    subst (λ name. IsFilmNamed films name i) (rest_once names.read read) names.film

@@ -48,10 +48,11 @@ wanted_resumes : (film : Film) (paused : Run) (to : Option ℕ) (wanted : Wanted
 wanted_resumes film paused to (Resumed run) is = is
 wanted_resumes film paused to (New run) is = absurd is
 
-counts_resume : (film : Film) (source : Source) (setup : Setup) (counts : Counts) (paused : Run) (to : Option ℕ) (wanted : Wanted)
+counts_resume : {counts : Counts} (film : Film) (source : Source) (setup : Setup) (paused : Run) (to : Option ℕ)
+    (wanted : Wanted)
     → IsWanted film (Some paused) Now to wanted → counts_for film source setup counts (Some paused) wanted ≡ counts
-counts_resume film source setup counts paused to (Resumed run) is = refl
-counts_resume film source setup counts paused to (New run) is = absurd is
+counts_resume film source setup paused to (Resumed run) is = refl
+counts_resume film source setup paused to (New run) is = absurd is
 
 pub resumes : (old : Standing) (stored : Stored) (setup : Setup) (paused : Run) (planned : Planned)
     → IsPlannedRun old stored setup (Some paused) None planned → Resumes old paused planned
@@ -60,16 +61,17 @@ resumes old stored setup paused planned is =
     subst (λ (s : Span). IsWanted stored.film (Some paused) s.from s.to is.wanted) is.asked.is_span is.asked.is_wanted in
     record {
       run = is.run_is ∙ wanted_resumes stored.film paused None is.wanted now;
-      counts = is.counts_is ∙ counts_resume stored.film old.source setup old.counts paused None is.wanted now;
+      counts = is.counts_is ∙ counts_resume stored.film old.source setup paused None is.wanted now;
     }
 
 -- a new run goes on from what was sent of the paused one
-pub dropped_goes_on : (old : Standing) (stored : Stored) (setup : Setup) (paused run : Run) (range : Option (List ℕ)) (planned : Planned)
+pub dropped_goes_on : {old : Standing} {stored : Stored} {setup : Setup} {paused run : Run} {range : Option (List ℕ)}
+    {planned : Planned}
     → (is : IsPlannedRun old stored setup (Some paused) range planned) → is.wanted ≡ New run
     → GoesOn (identity_of old.source setup old.counts) (identity_of old.source setup planned.counts)
     (frames_before (sending_of stored.film old.source setup old.counts paused) paused.sent)
     (octets_before (sending_of stored.film old.source setup old.counts paused) paused.sent)
-dropped_goes_on old stored setup paused run range planned is new =
+dropped_goes_on {old} {stored} {setup} {paused} {planned} is new =
     let sending = sending_of stored.film old.source setup old.counts paused in
     let counts : planned.counts ≡ counts_after old.counts sending paused.sent =
     is.counts_is ∙ ap (λ w. counts_for stored.film old.source setup old.counts (Some paused) w) new in

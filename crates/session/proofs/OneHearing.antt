@@ -53,23 +53,23 @@ use Rattle.session.proofs.OnePlan.{film_at_once, planned_once}
 use Rattle.session.proofs.OneVerdict.{AreAlike, method_once, not_both, refusal_once, turned}
 
 -- what a SETUP asks for
-chosen_once : (value : Option (List ℕ)) (own least most a b : ℕ) → IsChosen value own least most a → IsChosen value own least most b → b ≡ a
-chosen_once None own least most a b is its = its ∙ sym is
-chosen_once (Some value) own least most a b is its = within_once least most value b a its is
+chosen_once : {a b : ℕ} (value : Option (List ℕ)) (own least most : ℕ) → IsChosen value own least most a → IsChosen value own least most b → b ≡ a
+chosen_once {a} None own least most is its = its ∙ sym is
+chosen_once {a} {b} (Some value) own least most is its = within_once least most value b a its is
 
 channels_once : (value : Option (List ℕ)) (a b : Channels) → AreChannelsOf value a → AreChannelsOf value b → b ≡ a
 channels_once None a b is its = absurd is
 channels_once (Some value) a b is its = transport_once value b a its is
 
-setup_once : (settings : Settings) (head : List ℕ) (film : ℕ) (one other : Setup) → AsksForSetup settings head film one
+setup_once : {settings : Settings} {head : List ℕ} {film : ℕ} {one other : Setup} → AsksForSetup settings head film one
     → AsksForSetup settings head film other → other ≡ one
-setup_once settings head film one other is its =
+setup_once {settings} {head} {film} {one} {other} is its =
     let S : ℕ → Channels → ℕ → ℕ → Setup = λ f c b d. record { film = f; media = c.media; control = c.control; buffer = b; delay = d } in
     let C : Setup → Channels = λ s. record { media = s.media; control = s.control } in
     let film_is = its.film_is ∙ sym is.film_is in
     let channels = channels_once (header_value head (codes "Transport")) (C one) (C other) is.channels its.channels in
-    let buffer = chosen_once (header_value head (codes "x-Buffer")) settings.buffer 1 (2 ^ 42) one.buffer other.buffer is.buffer its.buffer in
-    let delay = chosen_once (header_value head (codes "x-Startup")) settings.startup 0 10000 one.delay other.delay is.delay its.delay in
+    let buffer = chosen_once (header_value head (codes "x-Buffer")) settings.buffer 1 (2 ^ 42) is.buffer its.buffer in
+    let delay = chosen_once (header_value head (codes "x-Startup")) settings.startup 0 10000 is.delay its.delay in
     ap (λ f. S f (C other) other.buffer other.delay) film_is ∙ ap (λ c. S one.film c other.buffer other.delay) channels
     ∙ ap (λ b. S one.film (C one) b other.delay) buffer ∙ ap (λ d. S one.film (C one) one.buffer d) delay
 
@@ -99,20 +99,20 @@ unread_once settings head one other (NoChannels is none) (NoMeaning its bad) = a
 unread_once settings head one other (NoMeaning is bad) (NoChannels its none) = absurd (none bad.channels.0 bad.channels.1)
 unread_once settings head one other (NoMeaning is bad) (NoMeaning its worse) = its ∙ sym is
 
-not_unread : (settings : Settings) (head : List ℕ) (film : ℕ) (setup : Setup) (refusal : Refusal) → AsksForSetup settings head film setup
+not_unread : {settings : Settings} {head : List ℕ} {film : ℕ} {setup : Setup} {refusal : Refusal} → AsksForSetup settings head film setup
     → Unread settings head refusal → ⊥
-not_unread settings head film setup refusal is (NoChannels its none) = none (record { media = setup.media; control = setup.control }) is.channels
-not_unread settings head film setup refusal is (NoMeaning its none) =
+not_unread {head} {setup} is (NoChannels its none) = none (record { media = setup.media; control = setup.control }) is.channels
+not_unread {head} {setup} is (NoMeaning its none) =
     elim none.none [ inl buffer ↦ buffer setup.buffer is.buffer | inr delay ↦ delay setup.delay is.delay ]
 
-read_once : (settings : Settings) (head : List ℕ) (film : ℕ) (one other : Result Setup Refusal) → IsSetupRead settings head film one
+read_once : {one other : Result Setup Refusal} (settings : Settings) (head : List ℕ) (film : ℕ) → IsSetupRead settings head film one
     → IsSetupRead settings head film other → other ≡ one
-read_once settings head film (Ok one) (Ok other) is its = ap (λ s. Ok s) (setup_once settings head film one other is its)
-read_once settings head film (Ok one) (Err other) is its =
-    absurd (not_unread settings head film one other is (unread settings head film other its))
-read_once settings head film (Err one) (Ok other) is its =
-    absurd (not_unread settings head film other one its (unread settings head film one is))
-read_once settings head film (Err one) (Err other) is its =
+read_once {one = Ok one} {other = Ok other} settings head film is its = ap (λ s. Ok s) (setup_once is its)
+read_once {one = Ok one} {other = Err other} settings head film is its =
+    absurd (not_unread is (unread settings head film other its))
+read_once {one = Err one} {other = Ok other} settings head film is its =
+    absurd (not_unread its (unread settings head film one is))
+read_once {one = Err one} {other = Err other} settings head film is its =
     ap (λ r. Err r) (unread_once settings head one other (unread settings head film one is) (unread settings head film other its))
 
 -- what a body asks for
@@ -155,13 +155,13 @@ record AreSameNames (one other : List ℕ) (film number : ℕ) : Type 0 where
   authority : other ≡ one
   film_is : number ≡ film
 
-names_once : (films : List Stored) (url one other : List ℕ) (film number : ℕ) → AreFilms films → Names films url one film
+names_once : {films : List Stored} {url one other : List ℕ} {film number : ℕ} → AreFilms films → Names films url one film
     → Names films url other number → AreSameNames one other film number
-names_once films url one other film number are is its =
+names_once {url} {one} {other} {number} are is its =
     let path = end_once 47 url 7 its.read.path is.read.path its.read.is_url.end is.read.is_url.end in
     record {
       authority = its.read.authority_is ∙ ap (λ n. slice_range url 7 n) path ∙ sym is.read.authority_is;
-      film_is = film_once films is.name number film are (named_once films url one is.name other number is.read its) is.film;
+      film_is = film_once are (named_once is.read its) is.film;
     }
 
 -- the number of a request is the first of its head
@@ -348,7 +348,7 @@ module _ (old : Standing) (message : List ℕ) (ask again : Ask) (one other : St
   sets_up_once : (film : ℕ) → SetsUp old request film ask one → SetsUp old request' film again other → Agreed
   sets_up_once film is its =
       let read = subst (λ h. IsSetupRead old.settings h film its.read) alike.head its.is_read in
-      let reads = read_once old.settings request.head.now film is.read its.read is.is_read read in
+      let reads = read_once old.settings request.head.now film is.is_read read in
       set_up_once old message ask again one other request.sequence is.read is.done
       (subst (λ r. IsSetUp old request.sequence r again other) reads
       (subst (λ s. IsSetUp old s its.read again other) alike.sequence its.done))
@@ -393,18 +393,18 @@ module _ (old : Standing) (message : List ℕ) (ask again : Ask) (one other : St
   by_once : AreFilms old.films → (method : Method) → By old method request ask one → By old method request' again other → Agreed
   by_once films Options is its = replied_once old message ask again one other _ _ (ap public_text alike.sequence) is its
   by_once films Describe is its =
-      let names = names_once old.films request.url.now is.0 its.0 is.1.0 its.1.0 films is.1.1.0
+      let names = names_once films is.1.1.0
       (subst (λ u. Names old.films u its.0 its.1.0) alike.url its.1.1.0) in
       describes_once old message ask again one other request.sequence is.1.0 is.0 is.1.1.1
       (subst (λ n. Describes old request.sequence n is.0 again other) names.film_is
       (subst (λ a. Describes old request.sequence its.1.0 a again other) names.authority
       (subst (λ s. Describes old s its.1.0 its.0 again other) alike.sequence its.1.1.1)))
   by_once films SetupMethod is its =
-      let names = names_once old.films request.url.now is.0 its.0 is.1.0 its.1.0 films is.1.1.0
+      let names = names_once films is.1.1.0
       (subst (λ u. Names old.films u its.0 its.1.0) alike.url its.1.1.0) in
       sets_up_once is.1.0 is.1.1.1 (subst (λ n. SetsUp old request' n again other) names.film_is its.1.1.1)
   by_once films PlayMethod is its =
-      let names = names_once old.films request.url.now is.0 its.0 is.1.0 its.1.0 films is.1.1.0
+      let names = names_once films is.1.1.0
       (subst (λ u. Names old.films u its.0 its.1.0) alike.url its.1.1.0) in
       plays_once old.state is.0 is.1.1.1 (subst (λ a. Plays old.state old request' a again other) names.authority its.1.1.1)
   by_once films Pause is its =
@@ -426,19 +426,19 @@ module _ (old : Standing) (message : List ℕ) (ask again : Ask) (one other : St
       by_once films (method_of a) (by_method old request (place_of old.state) a ask one judged.film is)
       (subst (λ m. By old m request' again other) method (by_method old request' (place_of old.state) b again other judged'.film its))
   takes_once films (Ok a) (Err b) judged judged' is its =
-      absurd (not_both old.films old.id (place_of old.state) request request' a b alike judged judged')
+      absurd (not_both b alike judged judged')
   takes_once films (Err a) (Ok b) judged judged' is its =
-      absurd (not_both old.films old.id (place_of old.state) request' request b a (turned request request' alike) judged' judged)
+      absurd (not_both a (turned request request' alike) judged' judged)
   takes_once films (Err a) (Err b) judged judged' is its =
-      let refusal = refusal_once old.films old.id (place_of old.state) request request' a b alike judged judged' in
+      let refusal = refusal_once old.films old.id (place_of old.state) alike judged judged' in
       replied_once old message ask again one other _ _
       (ap (λ s. refusal_text (Some s) b (option_of request'.head.now)) alike.sequence
       ∙ ap (λ r. refusal_text (Some request.sequence) r (option_of request'.head.now)) refusal
       ∙ ap (λ h. refusal_text (Some request.sequence) a (option_of h)) alike.head) is its
 
-whole_once : (old one other : Standing) (message : List ℕ) (ask again : Ask) → AreFilms old.films → HearsWhole old message ask one
+whole_once : {old one other : Standing} {message : List ℕ} {ask again : Ask} → AreFilms old.films → HearsWhole old message ask one
     → HearsWhole old message again other → IsOneHearing old message ask one again other
-whole_once old one other message ask again films is its =
+whole_once {old} {one} {other} {message} {ask} {again} films is its =
     let a = is.request in
     let b = its.request in
     let parts = request_once message b.method.now b.url.now b.sequence b.head.now b.body.now
@@ -452,21 +452,21 @@ whole_once old one other message ask again films is its =
     }) (first_is message a.sequence is.is_request.sequence_is) films is.hears.judgement its.hears.judgement is.hears.judged its.hears.judged
     is.hears.takes its.hears.takes
 
-hears_on_once : (lost : Bool) (old one other : Standing) (message : List ℕ) (ask again : Ask) → AreFilms old.films
+hears_on_once : {one other : Standing} {ask again : Ask} (lost : Bool) (old : Standing) (message : List ℕ) → AreFilms old.films
     → HearsOn lost old message ask one → HearsOn lost old message again other → IsOneHearing old message ask one again other
-hears_on_once true old one other message ask again films is its = inr (inl is)
-hears_on_once false old one other message ask again films (inl is) (inl its) =
+hears_on_once {one} {other} {ask} true old message films is its = inr (inl is)
+hears_on_once {one} {other} {ask} {again} false old message films (inl is) (inl its) =
     replied_once old message ask again one other _ _ (ap (λ f. refusal_text (first_sequence message) (fault_refusal f) [])
     (fault_once message its.fault is.fault its.is_fault is.is_fault)) is.refused its.refused
-hears_on_once false old one other message ask again films (inl is) (inr its) =
+hears_on_once {one} {other} {ask} false old message films (inl is) (inr its) =
     let r = its.request in
     absurd (no_fault message r.method.now r.url.now r.sequence r.head.now r.body.now is.fault its.is_request is.is_fault)
-hears_on_once false old one other message ask again films (inr is) (inl its) =
+hears_on_once {one} {other} {ask} false old message films (inr is) (inl its) =
     let r = is.request in
     absurd (no_fault message r.method.now r.url.now r.sequence r.head.now r.body.now its.fault is.is_request its.is_fault)
-hears_on_once false old one other message ask again films (inr is) (inr its) = whole_once old one other message ask again films is its
+hears_on_once {one} {other} {ask} false old message films (inr is) (inr its) = whole_once films is its
 
 -- a message has one answer, state, reply and command, or memory is wanting for it
 pub hears_once : (old one other : Standing) (message : List ℕ) (ask again : Ask) → AreFilms old.films → Hears old message ask one
     → Hears old message again other → IsOneHearing old message ask one again other
-hears_once old one other message ask again films is its = hears_on_once old.lost old one other message ask again films is its
+hears_once old one other message ask again films is its = hears_on_once old.lost old message films is its

@@ -37,15 +37,15 @@ pub film_at_once : (films : List Stored) (number : ℕ) (one other : Stored) →
 film_at_once films number one other is its = cc
 
 -- the units at which a run begins and ends
-group_by_once : (units : List PictureUnit) (picture time k j : ℕ) → IsGroupBy units picture time k → IsGroupBy units picture time j → j ≡ k
-group_by_once units picture time k j is its =
+group_by_once : {units : List PictureUnit} {picture time k j : ℕ} → IsGroupBy units picture time k → IsGroupBy units picture time j → j ≡ k
+group_by_once {k} {j} is its =
     let below = is.last j its.group its.by_then in
     let above = its.last k is.group is.by_then in
     omega (arith, below, above)
 
-group_from_least : (units : List PictureUnit) (picture time after k j : ℕ) → IsGroupFrom units picture time after k
+group_from_least : {units : List PictureUnit} {picture time after k j : ℕ} → IsGroupFrom units picture time after k
     → IsGroupFrom units picture time after j → k ≤ j
-group_from_least units picture time after k j is its =
+group_from_least {j} is its =
     elim its.group [
       | inl group ↦ is.first j its.later group (its.from_then group.within)
       | inr end ↦
@@ -55,17 +55,17 @@ group_from_least units picture time after k j is its =
           ]
     ]
 
-end_once : (units : List PictureUnit) (picture : ℕ) (to : Option ℕ) (after k j : ℕ) → IsEnd units picture to after k
+end_once : {k j : ℕ} (units : List PictureUnit) (picture : ℕ) (to : Option ℕ) (after : ℕ) → IsEnd units picture to after k
     → IsEnd units picture to after j → j ≡ k
-end_once units picture None after k j is its = its ∙ sym is
-end_once units picture (Some time) after k j is its =
-    let below = group_from_least units picture time after k j is its in
-    let above = group_from_least units picture time after j k its is in
+end_once units picture None after is its = its ∙ sym is
+end_once units picture (Some time) after is its =
+    let below = group_from_least is its in
+    let above = group_from_least its is in
     omega (arith, below, above)
 
-new_run_once : (sizes : List ℕ) (first end : ℕ) (one other : Run) → IsNewRun sizes first end one → IsNewRun sizes first end other
+new_run_once : {sizes : List ℕ} {first end : ℕ} {one other : Run} → IsNewRun sizes first end one → IsNewRun sizes first end other
     → other ≡ one
-new_run_once sizes first end one other is its =
+new_run_once {first} {end} {one} {other} is its =
     let R : ℕ → ℕ → ℕ → ℕ → ℕ → Run =
     λ f e u s p. record { first_unit = f; end_unit = e; from_unit = u; sent = s; played = p } in
     let a = ap (λ n. R n other.end_unit other.from_unit other.sent other.played) (its.first_is ∙ sym is.first_is) in
@@ -75,37 +75,37 @@ new_run_once sizes first end one other is its =
     let e = ap (λ n. R one.first_unit one.end_unit one.from_unit one.sent n) (its.played_is ∙ sym is.played_is) in
     a ∙ b ∙ c ∙ d ∙ e
 
-asked_once : (film : Film) (from : ℕ) (to : Option ℕ) (one other : Run) → IsAsked film from to one → IsAsked film from to other → other ≡ one
-asked_once film from to one other is its =
+asked_once : {film : Film} {from : ℕ} {to : Option ℕ} {one other : Run} → IsAsked film from to one → IsAsked film from to other → other ≡ one
+asked_once {film} {from} {to} {one} {other} is its =
     let units = film.units.items in
     let time = picture_time film.rate in
     let sizes = film_sizes film.slice_starts.items units in
-    let first = group_by_once units time from one.first_unit other.first_unit is.begins its.begins in
-    let end = end_once units time to one.first_unit one.end_unit other.end_unit is.ends
+    let first = group_by_once is.begins its.begins in
+    let end = end_once units time to one.first_unit is.ends
     (subst (λ n. IsEnd units time to n other.end_unit) first its.ends) in
-    new_run_once sizes one.first_unit one.end_unit one other is.new
+    new_run_once is.new
     (subst (λ n. IsNewRun sizes one.first_unit n other) end (subst (λ n. IsNewRun sizes n other.end_unit other) first its.new))
 
-wanted_once : (film : Film) (paused : Option Run) (from : Origin) (to : Option ℕ) (one other : Wanted) → IsWanted film paused from to one
+wanted_once : {one other : Wanted} (film : Film) (paused : Option Run) (from : Origin) (to : Option ℕ) → IsWanted film paused from to one
     → IsWanted film paused from to other → other ≡ one
-wanted_once film None Now to (Resumed run) other is its = absurd is
-wanted_once film None Now to (New run) (Resumed other) is its = absurd its
-wanted_once film None Now to (New run) (New other) is its = ap (λ r. New r) (asked_once film 0 to run other is its)
-wanted_once film (Some paused) Now to (Resumed run) (Resumed other) is its = ap (λ r. Resumed r) (its ∙ sym is)
-wanted_once film (Some paused) Now to (Resumed run) (New other) is its = absurd its
-wanted_once film (Some paused) Now to (New run) other is its = absurd is
-wanted_once film None (At time) to (Resumed run) other is its = absurd is
-wanted_once film None (At time) to (New run) (Resumed other) is its = absurd its
-wanted_once film None (At time) to (New run) (New other) is its = ap (λ r. New r) (asked_once film time to run other is its)
-wanted_once film (Some paused) (At time) to (Resumed run) other is its = absurd is
-wanted_once film (Some paused) (At time) to (New run) (Resumed other) is its = absurd its
-wanted_once film (Some paused) (At time) to (New run) (New other) is its = ap (λ r. New r) (asked_once film time to run other is its)
+wanted_once {one = Resumed run} {other} film None Now to is its = absurd is
+wanted_once {one = New run} {other = Resumed other} film None Now to is its = absurd its
+wanted_once {one = New run} {other = New other} film None Now to is its = ap (λ r. New r) (asked_once is its)
+wanted_once {one = Resumed run} {other = Resumed other} film (Some paused) Now to is its = ap (λ r. Resumed r) (its ∙ sym is)
+wanted_once {one = Resumed run} {other = New other} film (Some paused) Now to is its = absurd its
+wanted_once {one = New run} {other} film (Some paused) Now to is its = absurd is
+wanted_once {one = Resumed run} {other} film None (At time) to is its = absurd is
+wanted_once {one = New run} {other = Resumed other} film None (At time) to is its = absurd its
+wanted_once {one = New run} {other = New other} film None (At time) to is its = ap (λ r. New r) (asked_once is its)
+wanted_once {one = Resumed run} {other} film (Some paused) (At time) to is its = absurd is
+wanted_once {one = New run} {other = Resumed other} film (Some paused) (At time) to is its = absurd its
+wanted_once {one = New run} {other = New other} film (Some paused) (At time) to is its = ap (λ r. New r) (asked_once is its)
 
-asked_run_once : (film : Film) (paused : Option Run) (range : Option (List ℕ)) (one other : Wanted) → IsAskedRun film paused range one
+asked_run_once : {film : Film} {paused : Option Run} {range : Option (List ℕ)} {one other : Wanted} → IsAskedRun film paused range one
     → IsAskedRun film paused range other → other ≡ one
-asked_run_once film paused range one other is its =
+asked_run_once {film} {paused} {range} {one} {other} is its =
     let same = span_of_once range its.span is.span its.is_span is.is_span in
-    wanted_once film paused is.span.from is.span.to one other is.is_wanted
+    wanted_once film paused is.span.from is.span.to is.is_wanted
     (subst (λ (s : Span). IsWanted film paused s.from s.to other) same its.is_wanted)
 
 wants_some : (film : Film) (paused : Option Run) (from : Origin) (to : Option ℕ) (wanted : Wanted) → IsWanted film paused from to wanted
@@ -123,9 +123,9 @@ asks_some : (film : Film) (paused : Option Run) (range : Option (List ℕ)) (wan
 asks_some film paused range wanted is none = wants_some film paused is.span.from is.span.to wanted is.is_wanted (none is.span is.is_span)
 
 -- why a run has no plan: one cause, or want of memory
-least_once : (sizes : List ℕ) (timing : Timing) (slot used least slot' used' least' : ℕ) → IsOverfull sizes timing slot used least
+least_once : {sizes : List ℕ} {timing : Timing} {slot used least slot' used' least' : ℕ} → IsOverfull sizes timing slot used least
     → IsOverfull sizes timing slot' used' least' → least' ≤ least
-least_once sizes timing slot used least slot' used' least' is its =
+least_once {slot} is its =
     let most = is.greatest its.reached.0 its.reached.1 in
     let reached = its.reached.2 in
     omega (arith, most, reached)
@@ -148,8 +148,8 @@ curves_once sizes timing (Fault (BufferTooSmall slot used least)) (Fault NoPictu
 curves_once sizes timing (Fault (BufferTooSmall slot used least)) (Fault (TooManySlots slots)) is its =
     absurd (let many = its.2 in let same = its.1 in let few = is.1 in omega (arith, many, same, few))
 curves_once sizes timing (Fault (BufferTooSmall slot used least)) (Fault (BufferTooSmall slot' used' least')) is its =
-    let below = least_once sizes timing slot used least slot' used' least' is.2 its.2 in
-    let above = least_once sizes timing slot' used' least' slot used least its.2 is.2 in
+    let below = least_once is.2 its.2 in
+    let above = least_once its.2 is.2 in
     inl (ap (λ n. curve_refusal (Fault (BufferTooSmall 0 0 n))) (let same : least' ≡ least = omega (arith, below, above) in same))
 
 accepted_once : (sizes : List ℕ) (timing : Timing) (refused : CurveRefused) → IsAccepted sizes timing → IsRefused sizes timing refused
@@ -173,7 +173,7 @@ module _ (old : Standing) (setup : Setup) (paused : Option Run) (range : Option 
       let its = subst (λ (s : Stored). IsPlannedRun old s setup paused range other) film that in
       let sizes = stored_sizes stored in
       let playback = playback_of stored.film old.settings setup in
-      let wanted = asked_run_once stored.film paused range is.wanted its.wanted is.asked its.asked in
+      let wanted = asked_run_once is.asked its.asked in
       let run : other.run ≡ one.run = its.run_is ∙ ap run_of wanted ∙ sym is.run_is in
       let counts : other.counts ≡ one.counts =
       its.counts_is ∙ ap (λ w. counts_for stored.film old.source setup old.counts paused w) wanted ∙ sym is.counts_is in
@@ -192,7 +192,7 @@ module _ (old : Standing) (setup : Setup) (paused : Option Run) (range : Option 
       let film = film_at_once old.films setup.film stored that.stored is.at that.at in
       let asked = subst (λ (s : Stored). IsAskedRun s.film paused range that.wanted) film that.asked in
       let wanted : run_of that.wanted ≡ planned.run =
-      ap run_of (asked_run_once stored.film paused range is.wanted that.wanted is.asked asked) ∙ sym is.run_is in
+      ap run_of (asked_run_once is.asked asked) ∙ sym is.run_is in
       let own = subst (λ (s : Stored). IsRefused (rest_sizes (stored_sizes s) (run_of that.wanted))
       (timing_of (playback_of s.film old.settings setup) (run_of that.wanted)) that.refused) film that.no_curves in
       let none = subst (λ (r : Run). IsRefused (rest_sizes (stored_sizes stored) r)
@@ -206,7 +206,7 @@ module _ (old : Standing) (setup : Setup) (paused : Option Run) (range : Option 
       let film = film_at_once old.films setup.film is.stored that.stored is.at that.at in
       let asked = subst (λ (s : Stored). IsAskedRun s.film paused range that.wanted) film that.asked in
       let wanted : run_of that.wanted ≡ run_of is.wanted =
-      ap run_of (asked_run_once is.stored.film paused range is.wanted that.wanted is.asked asked) in
+      ap run_of (asked_run_once is.asked asked) in
       let own = subst (λ (s : Stored). IsRefused (rest_sizes (stored_sizes s) (run_of that.wanted))
       (timing_of (playback_of s.film old.settings setup) (run_of that.wanted)) that.refused) film that.no_curves in
       let none = subst (λ (r : Run). IsRefused (rest_sizes (stored_sizes is.stored) r)

@@ -221,9 +221,9 @@ turned request other alike = record {
   body = sym alike.body;
 }
 
-same_rank : (films : List Stored) (id : List ℕ) (place : Place) (request other : Request) (a b : Result Task Refusal)
+same_rank : {request other : Request} (films : List Stored) (id : List ℕ) (place : Place) (a b : Result Task Refusal)
     → AreAlike request other → IsJudged films id place request a → IsJudged films id place other b → rank a ≡ rank b
-same_rank films id place request other a b alike is its =
+same_rank {request} {other} films id place a b alike is its =
     let stop = stops films id place other b its in
     let by_name = subst (λ (n : List ℕ). StopsAt films id place n other.url.now other.head.now (rank b)) alike.method stop in
     let by_url = subst (λ (u : List ℕ). StopsAt films id place request.method.now u other.head.now (rank b)) alike.url by_name in
@@ -231,15 +231,16 @@ same_rank films id place request other a b alike is its =
     stops_once films id place request.method.now request.url.now request.head.now (rank a) (rank b)
     (stops films id place request a is) by_head
 
-pub refusal_once : (films : List Stored) (id : List ℕ) (place : Place) (request other : Request) (a b : Refusal)
+pub refusal_once : {request other : Request} {a b : Refusal} (films : List Stored) (id : List ℕ) (place : Place)
     → AreAlike request other → IsJudged films id place request (Err a) → IsJudged films id place other (Err b) → b ≡ a
-refusal_once films id place request other a b alike is its =
-    let same = same_rank films id place request other (Err a) (Err b) alike is its in
+refusal_once {request} {other} {a} {b} films id place alike is its =
+    let same = same_rank films id place (Err a) (Err b) alike is its in
     (ranked films id place other b its).is ∙ ap refusal_at (sym same) ∙ sym (ranked films id place request a is).is
 
-pub not_both : (films : List Stored) (id : List ℕ) (place : Place) (request other : Request) (task : Task) (refusal : Refusal)
+pub not_both : {films : List Stored} {id : List ℕ} {place : Place} {request other : Request} {task : Task}
+    (refusal : Refusal)
     → AreAlike request other → IsJudged films id place request (Ok task) → IsJudged films id place other (Err refusal) → ⊥
-not_both films id place request other task refusal alike is its =
-    let same = same_rank films id place request other (Ok task) (Err refusal) alike is its in
+not_both {films} {id} {place} {other} {task} refusal alike is its =
+    let same = same_rank films id place (Ok task) (Err refusal) alike is its in
     let below = (ranked films id place other refusal its).below in
     omega (arith, same, below)

@@ -80,11 +80,11 @@ left_boundary stored source setup counts run left p keep pieces before boundary 
     (subst (λ (all : List (List ℕ)). IsBoundary all (p.before + keep)) same boundary)
 
 -- a play in hand is halted
-pub halts_play : (play : Played) (last : Option ℕ) (keep : ℕ) (halted : Pacing) → IsPacedPlay play → IsUnhalted play
+pub halts_play : {play : Played} {keep : ℕ} {halted : Pacing} (last : Option ℕ) → IsPacedPlay play → IsUnhalted play
     → halted ≡ record play.pacer { keep = next_boundary play.pacer }
     → IsBoundaryAfter play.pacer.pieces (play.pacer.before + play.pacer.sent) (play.pacer.before + keep) → keep ≤ play.pacer.keep
     → slots_through last ≡ halted.passed → IsHalt play.plan last keep
-halts_play play last keep halted is unhalted state after most through =
+halts_play {play} {keep} {halted} last is unhalted state after most through =
     subst (λ (plan : List Segment). IsHalt plan last keep) is.plan
     (is_halt play.pacer keep is.pacing unhalted.even (unhalted.whole ∙ ap total_bytes (sym is.plan)) unhalted.going after most last
     (through ∙ ap (λ (p : Pacing). p.passed) state))
@@ -94,12 +94,12 @@ pub keeps_within : (play : Played) (keep : ℕ) → IsUnhalted play → keep ≤
 keeps_within play keep unhalted most = subst (λ (n : ℕ). keep ≤ n) unhalted.whole most
 
 -- what it leaves can be sent on
-pub left_runs : (stored : Stored) (source : Source) (settings : Settings) (setup : Setup) (counts : Counts) (play : Played)
-    (playback : Playback) (last : Option ℕ) (keep : ℕ) (left : Run) → IsPacedPlay play → IsPlaying stored source settings setup counts play
+pub left_runs : {stored : Stored} {source : Source} {settings : Settings} {setup : Setup} {counts : Counts}
+    {play : Played} {playback : Playback} {last : Option ℕ} {keep : ℕ} {left : Run} → IsPacedPlay play → IsPlaying stored source settings setup counts play
     → playback ≡ playback_of stored.film settings setup → IsBoundary play.pacer.pieces (play.pacer.before + keep)
     → IsLeft (stored_sizes stored) playback play.run play.plan last keep left → IsRun (stored_sizes stored) left
     → Fits playback.buffer left → IsRunOf stored source setup counts left
-left_runs stored source settings setup counts play playback last keep left is playing same boundary left_is run fits = record {
+left_runs {stored} {source} {setup} {counts} {play} {last} {keep} {left} is playing same boundary left_is run fits = record {
   run_is = run;
   fits = subst (λ (p : Playback). Fits p.buffer left) same fits;
   boundary = left_boundary stored source setup counts play.run left play.pacer keep playing.pieces is.before boundary left_is.first_is

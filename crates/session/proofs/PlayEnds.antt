@@ -55,33 +55,33 @@ play_in (Ready setup paused) other = other
 play_in (Playing setup play) other = play
 play_in (Stopping setup stop) other = other
 
-same_play : (state : State) (setup its : Setup) (play other : Played) → state ≡ Playing setup play → state ≡ Playing its other → play ≡ other
-same_play state setup its play other is is_too = ap (λ s. play_in s play) (sym is ∙ is_too)
+same_play : {state : State} {setup its : Setup} {play other : Played} → state ≡ Playing setup play → state ≡ Playing its other → play ≡ other
+same_play {play} {other} is is_too = ap (λ s. play_in s play) (sym is ∙ is_too)
 
-comes_halts : (old new : Standing) (message : List ℕ) (keep : ℕ) (setup : Setup) (play : Played) → ComesTo old message (AskHalt keep) new
+comes_halts : {old new : Standing} {message : List ℕ} {keep : ℕ} {setup : Setup} {play : Played} → ComesTo old message (AskHalt keep) new
     → old.state ≡ Playing setup play → IsPacing play.pacer → KeepsToBoundary play keep
-comes_halts old new message keep setup play (Lacks is) playing pacing = absurd (let no : ⊥ = cc (is.0) in no)
-comes_halts old new message keep setup play (Refuses sequence refusal option other is) playing pacing =
+comes_halts {new} (Lacks is) playing pacing = absurd (let no : ⊥ = cc (is.0) in no)
+comes_halts {new} (Refuses sequence refusal option other is) playing pacing =
     absurd (let no : ⊥ = cc (is.0) in no)
-comes_halts old new message keep setup play (Says sequence fields body tearing by command is) playing pacing =
+comes_halts {new} (Says sequence fields body tearing by command is) playing pacing =
     absurd (let no : ⊥ = cc (command) in no)
-comes_halts old new message keep setup play (SettlesSetup sequence own init ranges command is) playing pacing =
+comes_halts {new} (SettlesSetup sequence own init ranges command is) playing pacing =
     absurd (let no : ⊥ = cc (command) in no)
-comes_halts old new message keep setup play (AsksForPlay stored own paused range planned sequence authority ready planned_is command is) playing pacing =
+comes_halts {new} (AsksForPlay stored own paused range planned sequence authority ready planned_is command is) playing pacing =
     absurd (let no : ⊥ = cc (command) in no)
-comes_halts old new message keep setup play (AsksForHalt sequence own other next was told by halts) playing pacing =
-    let same : play ≡ other = same_play old.state setup own play other playing was in
+comes_halts {new} {keep} {play} (AsksForHalt sequence own other next was told by halts) playing pacing =
+    let same : play ≡ other = same_play playing was in
     let asked : keep ≡ halts.keep = cc (halts.command) in
     let kept : keep ≡ next_boundary play.pacer = asked ∙ halts.keep_is ∙ ap (λ (p : Played). next_boundary p.pacer) (sym same) in
     subst (λ n. KeepsToBoundary play n) (sym kept) (kept_at play pacing)
-comes_halts old new message keep setup play (AsksForLook sequence look) playing pacing = absurd (let no : ⊥ = cc (look.command) in no)
-comes_halts old new message keep setup play (AsksForOffer sequence wait planned asks) playing pacing =
+comes_halts {new} (AsksForLook sequence look) playing pacing = absurd (let no : ⊥ = cc (look.command) in no)
+comes_halts {new} (AsksForOffer sequence wait planned asks) playing pacing =
     absurd (let no : ⊥ = cc (asks.command) in no)
 
 pub halts_at_boundary : (old new : Standing) (message : List ℕ) (keep : ℕ) (setup : Setup) (play : Played)
     → Hears old message (AskHalt keep) new → old.state ≡ Playing setup play → IsPacing play.pacer → KeepsToBoundary play keep
 halts_at_boundary old new message keep setup play hears playing pacing =
-    comes_halts old new message keep setup play (comes_to old message (AskHalt keep) new hears) playing pacing
+    comes_halts (comes_to old message (AskHalt keep) new hears) playing pacing
 
 -- ---- what is counted after a run
 
@@ -98,13 +98,13 @@ all_sent sending =
     }) in
     take_all (count_ended (length (framed_bytes blocks)) blocks) (pieces_in sending) (omega (arith, count, ended))
 
-counts_of_done : (old : Standing) (setup : Setup) (play : Played) (keep : ℕ) (next : Next) (stored : Stored) → is_answered next ≡ false
+counts_of_done : {stored : Stored} (old : Standing) (setup : Setup) (play : Played) (keep : ℕ) (next : Next) → is_answered next ≡ false
     → IsFilmAt old.films setup.film stored
     → counts_next old.films old.source old.counts setup play.run keep next ≡ counts_after old.counts (sending_of stored.film old.source setup old.counts play.run) (play.run.sent + keep)
-counts_of_done old setup play keep Done stored none at =
+counts_of_done old setup play keep Done none at =
     ap (counts_done old.source old.counts setup play.run keep) at
-counts_of_done old setup play keep (Paused run) stored none at = absurd (let no : ⊥ = cc in no)
-counts_of_done old setup play keep Torn stored none at = absurd (let no : ⊥ = cc in no)
+counts_of_done old setup play keep (Paused run) none at = absurd (let no : ⊥ = cc in no)
+counts_of_done old setup play keep Torn none at = absurd (let no : ⊥ = cc in no)
 
 pub run_counted : (old : Standing) (place : ℕ) (stored : Stored) (setup : Setup) (play : Played) → old.state ≡ Playing setup play
     → is_answered (next_of old.awaited) ≡ false → IsFilmAt old.films setup.film stored
@@ -115,7 +115,7 @@ run_counted old place stored setup play playing none at all =
     let sending = sending_of stored.film old.source setup old.counts play.run in
     let end = length (framed_bytes (run_pieces sending)) in
     let counts : halted_counts old old.state ≡ counts_after old.counts sending end =
-    ap (halted_counts old) playing ∙ counts_of_done old setup play (kept_of old.awaited play.pacer.due) (next_of old.awaited) stored none at
+    ap (halted_counts old) playing ∙ counts_of_done old setup play (kept_of old.awaited play.pacer.due) (next_of old.awaited) none at
     ∙ ap (counts_after old.counts sending) all in
     let its = identity_goes_on old.source setup old.counts sending end in
     let goes = subst (λ (c : Counts). GoesOn (identity_of old.source setup old.counts) (identity_of old.source setup c)
@@ -147,11 +147,11 @@ play_noted old place stored setup play playing playable within = record {
 
 -- ---- what is admitted
 
-sent_as_asked : (old asked : Standing) (stored : Stored) (setup : Setup) (paused : Option Run) (planned : Planned) (sequence place start : ℕ)
-    (state : State) (awaited : Awaited) → asked.state ≡ state → asked.awaited ≡ awaited → state ≡ Ready setup paused
+sent_as_asked : {old : Standing} {stored : Stored} {setup : Setup} {paused : Option Run} {planned : Planned}
+    {place start : ℕ} {state : State} {awaited : Awaited} (asked : Standing) (sequence : ℕ) → asked.state ≡ state → asked.awaited ≡ awaited → state ≡ Ready setup paused
     → awaited ≡ Play (prepared_of old stored setup planned sequence)
     → IsSentAsAsked old stored setup planned place start (after_admission asked place start)
-sent_as_asked old asked stored setup paused planned sequence place start state awaited s a ready is =
+sent_as_asked {old} {stored} {setup} {paused} {planned} {place} {start} {awaited} asked sequence s a ready is =
     let prepared = prepared_of old stored setup planned sequence in
     let counts : counts_of asked.awaited asked.counts ≡ planned.counts = ap (λ (x : Awaited). counts_of x asked.counts) (a ∙ is) in
     record {
@@ -179,5 +179,5 @@ sent_as_asked old asked stored setup paused planned sequence place start state a
 pub play_sent : (old asked : Standing) (is : IsPlayAsked old asked) (place start : ℕ) → asked.state ≡ old.state
     → IsSentAsAsked old is.stored is.setup is.planned place start (after_admission asked place start)
 play_sent old asked is place start same =
-    sent_as_asked old asked is.stored is.setup is.paused is.planned is.sequence place start asked.state asked.awaited refl refl
+    sent_as_asked asked is.sequence refl refl
     (same ∙ is.ready) is.awaited

@@ -25,42 +25,44 @@ of_film films number stored P at holds other is =
     let same : stored ≡ other = cc in
     subst P same holds
 
-pub paused_of : (films : List Stored) (source : Source) (counts : Counts) (setup : Setup) (paused : Option Run) (stored : Stored)
+pub paused_of : {stored : Stored} (films : List Stored) (source : Source) (counts : Counts) (setup : Setup)
+    (paused : Option Run)
     → IsPausedIn films source counts setup paused → IsFilmAt films setup.film stored
     → IfSome paused (λ run. IsRunOf stored source setup counts run)
-paused_of films source counts setup None stored kept at = tt
-paused_of films source counts setup (Some run) stored kept at = kept stored at
+paused_of films source counts setup None kept at = tt
+paused_of {stored} films source counts setup (Some run) kept at = kept stored at
 
-new_goes_on : (stored : Stored) (source : Source) (setup : Setup) (counts : Counts) (from : ℕ) (to : Option ℕ) (run : Run)
+new_goes_on : {stored : Stored} {source : Source} {setup : Setup} {counts : Counts} {from : ℕ} {to : Option ℕ}
+    {run : Run}
     → IsAsked stored.film from to run → IsRunOf stored source setup counts run
-new_goes_on stored source setup counts from to run asked = record {
+new_goes_on {stored} {source} {setup} {counts} {from} {run} asked = record {
   run_is = asked.new.run_is;
   fits = let none : run.sent ≡ 0 = asked.new.sent_is in omega arith;
   boundary = none-at-boundary stored.film run asked.new.sent_is (identity_of source setup counts);
 }
 
-wanted_goes_on : (stored : Stored) (source : Source) (setup : Setup) (counts : Counts) (paused : Option Run) (from : Origin)
-    (to : Option ℕ) (wanted : Wanted) → IfSome paused (λ run. IsRunOf stored source setup counts run)
+wanted_goes_on : {stored : Stored} {source : Source} {setup : Setup} (counts : Counts) (paused : Option Run)
+    (from : Origin) (to : Option ℕ) (wanted : Wanted) → IfSome paused (λ run. IsRunOf stored source setup counts run)
     → IsWanted stored.film paused from to wanted
     → IsRunOf stored source setup (counts_for stored.film source setup counts paused wanted) (run_of wanted)
-wanted_goes_on stored source setup counts None Now to (Resumed run) kept is = absurd is
-wanted_goes_on stored source setup counts None Now to (New run) kept is =
-    new_goes_on stored source setup (counts_for stored.film source setup counts None (New run)) 0 to run is
-wanted_goes_on stored source setup counts (Some paused) Now to (Resumed run) kept is =
+wanted_goes_on counts None Now to (Resumed run) kept is = absurd is
+wanted_goes_on counts None Now to (New run) kept is =
+    new_goes_on is
+wanted_goes_on {stored} {source} {setup} counts (Some paused) Now to (Resumed run) kept is =
     subst (λ (r : Run). IsRunOf stored source setup counts r) (sym is) kept
-wanted_goes_on stored source setup counts (Some paused) Now to (New run) kept is = absurd is
-wanted_goes_on stored source setup counts None (At time) to (Resumed run) kept is = absurd is
-wanted_goes_on stored source setup counts None (At time) to (New run) kept is =
-    new_goes_on stored source setup (counts_for stored.film source setup counts None (New run)) time to run is
-wanted_goes_on stored source setup counts (Some paused) (At time) to (Resumed run) kept is = absurd is
-wanted_goes_on stored source setup counts (Some paused) (At time) to (New run) kept is =
-    new_goes_on stored source setup (counts_for stored.film source setup counts (Some paused) (New run)) time to run is
+wanted_goes_on counts (Some paused) Now to (New run) kept is = absurd is
+wanted_goes_on counts None (At time) to (Resumed run) kept is = absurd is
+wanted_goes_on counts None (At time) to (New run) kept is =
+    new_goes_on is
+wanted_goes_on counts (Some paused) (At time) to (Resumed run) kept is = absurd is
+wanted_goes_on counts (Some paused) (At time) to (New run) kept is =
+    new_goes_on is
 
-pub goes_on : (stored : Stored) (source : Source) (setup : Setup) (counts : Counts) (paused : Option Run) (range : Option (List ℕ))
-    (wanted : Wanted) → IfSome paused (λ run. IsRunOf stored source setup counts run) → IsAskedRun stored.film paused range wanted
+pub goes_on : {stored : Stored} {source : Source} {setup : Setup} {paused : Option Run} {range : Option (List ℕ)}
+    {wanted : Wanted} (counts : Counts) → IfSome paused (λ run. IsRunOf stored source setup counts run) → IsAskedRun stored.film paused range wanted
     → IsRunOf stored source setup (counts_for stored.film source setup counts paused wanted) (run_of wanted)
-goes_on stored source setup counts paused range wanted kept asked =
-    wanted_goes_on stored source setup counts paused asked.span.from asked.span.to wanted kept asked.is_wanted
+goes_on {paused} {wanted} counts kept asked =
+    wanted_goes_on counts paused asked.span.from asked.span.to wanted kept asked.is_wanted
 
 -- a Range gives one span
 pub span_of_once : (range : Option (List ℕ)) (a b : Span) → IsSpanOf range a → IsSpanOf range b → a ≡ b

@@ -28,17 +28,17 @@ pub record IsRanged (place : Place) (request : Request) : Type 0 where
   pub range : is_some (header_value request.head.now (codes "Range")) ≡ true
   pub playing : place.playing ≡ true
 
-never_taken : (films : List Stored) (id : List ℕ) (place : Place) (request : Request) (task : Task) → IsRanged place request
+never_taken : {films : List Stored} {id : List ℕ} {place : Place} {request : Request} {task : Task} → IsRanged place request
     → IsJudged films id place request (Ok task) → ⊥
-never_taken films id place request (ToPlay asked) ranged judged =
+never_taken {id} {place} {task = ToPlay asked} ranged judged =
     let none = judged.state ranged.playing in
     let no : ⊥ = cc (none, ranged.range) in no
-never_taken films id place request ToOptions ranged judged = let no : ⊥ = cc (judged.talk.spoken.named, ranged.method) in no
-never_taken films id place request (ToDescribe asked) ranged judged = let no : ⊥ = cc (judged.talk.spoken.named, ranged.method) in no
-never_taken films id place request (ToSetup film) ranged judged = let no : ⊥ = cc (judged.talk.spoken.named, ranged.method) in no
-never_taken films id place request ToPause ranged judged = let no : ⊥ = cc (judged.talk.spoken.named, ranged.method) in no
-never_taken films id place request ToTeardown ranged judged = let no : ⊥ = cc (judged.talk.spoken.named, ranged.method) in no
-never_taken films id place request ToGetParameter ranged judged = let no : ⊥ = cc (judged.talk.spoken.named, ranged.method) in no
+never_taken {id} {place} {task = ToOptions} ranged judged = let no : ⊥ = cc (judged.talk.spoken.named, ranged.method) in no
+never_taken {id} {place} {task = ToDescribe asked} ranged judged = let no : ⊥ = cc (judged.talk.spoken.named, ranged.method) in no
+never_taken {id} {place} {task = ToSetup film} ranged judged = let no : ⊥ = cc (judged.talk.spoken.named, ranged.method) in no
+never_taken {id} {place} {task = ToPause} ranged judged = let no : ⊥ = cc (judged.talk.spoken.named, ranged.method) in no
+never_taken {id} {place} {task = ToTeardown} ranged judged = let no : ⊥ = cc (judged.talk.spoken.named, ranged.method) in no
+never_taken {id} {place} {task = ToGetParameter} ranged judged = let no : ⊥ = cc (judged.talk.spoken.named, ranged.method) in no
 
 -- no refusal has the code 200
 not_ok : (refusal : Refusal) → code_of refusal ≡ 200 → ⊥
@@ -55,16 +55,17 @@ not_ok (Buffer least) is = omega (arith, is)
 not_ok Range is = omega (arith, is)
 not_ok Memory is = omega (arith, is)
 
-pub refused : (old : Standing) (sequence : Option ℕ) (refusal : Refusal) (option : List ℕ) (ask : Ask) (new : Standing)
+pub refused : {old : Standing} {ask : Ask} {new : Standing} (sequence : Option ℕ) (refusal : Refusal)
+    (option : List ℕ)
     → IsRefused old sequence refusal option ask new → IsDeclined old ask new
-refused old sequence refusal option ask new is =
+refused {old} {ask} {new} sequence refusal option is =
     let text : new.text ≡ refusal_text sequence refusal option = ap (λ (s : Standing). s.text) is.1 in
     record {
       command = is.0;
       leaves = is.1 ∙ ap (λ (t : List ℕ). replied old t) (sym text);
       no_ok = λ ok.
           let its = subst (λ (t : List ℕ). HasCode 200 t) text ok in
-          not_ok refusal (one_code (code_of refusal) 200 (refusal_text sequence refusal option) (own_code refusal).small (omega arith)
+          not_ok refusal (one_code (refusal_text sequence refusal option) (own_code refusal).small (omega arith)
           (refusal_code sequence refusal option) its);
     }
 
@@ -89,22 +90,22 @@ ranged_as place request other alike is = record {
   playing = is.playing;
 }
 
-takes_refused : (old : Standing) (request : Request) (judgement : Result Task Refusal) (ask : Ask) (new : Standing)
+takes_refused : {old : Standing} {request : Request} {ask : Ask} {new : Standing} (judgement : Result Task Refusal)
     → IsRanged (place_of old.state) request → IsJudged old.films old.id (place_of old.state) request judgement
     → Takes old request judgement ask new → IsDeclined old ask new
-takes_refused old request (Ok task) ask new ranged judged takes =
-    absurd (never_taken old.films old.id (place_of old.state) request task ranged judged)
-takes_refused old request (Err refusal) ask new ranged judged takes =
-    refused old (Some request.sequence) refusal (option_of request.head.now) ask new takes
+takes_refused {ask} {new} (Ok task) ranged judged takes =
+    absurd (never_taken ranged judged)
+takes_refused {request} {ask} {new} (Err refusal) ranged judged takes =
+    refused (Some request.sequence) refusal (option_of request.head.now) takes
 
-hears_on_refused : (lost : Bool) (old : Standing) (message : List ℕ) (ask : Ask) (new : Standing) (request : Request)
+hears_on_refused : {old : Standing} {message : List ℕ} {ask : Ask} {new : Standing} {request : Request} (lost : Bool)
     → IsReadAs message request → IsRanged (place_of old.state) request → HearsOn lost old message ask new → IsDeclined old ask new
-hears_on_refused true old message ask new request is ranged hears = refused old _ Memory [] ask new hears
-hears_on_refused false old message ask new request is ranged (inl fault) =
+hears_on_refused {ask} {new} true is ranged hears = refused _ Memory [] hears
+hears_on_refused {message} {ask} {new} {request} false is ranged (inl fault) =
     absurd (no_fault message request.method.now request.url.now request.sequence request.head.now request.body.now fault.fault is fault.is_fault)
-hears_on_refused false old message ask new request is ranged (inr whole) =
+hears_on_refused {old} {message} {ask} {new} {request} false is ranged (inr whole) =
     let alike = same_request message request whole.request is whole.is_request in
-    takes_refused old whole.request whole.hears.judgement ask new (ranged_as (place_of old.state) request whole.request alike ranged)
+    takes_refused whole.hears.judgement (ranged_as (place_of old.state) request whole.request alike ranged)
     whole.hears.judged whole.hears.takes
 
 -- what a PLAY with a Range is in Playing
@@ -118,36 +119,36 @@ ranged_in old message request is = record {
 pub range_refused : (old new : Standing) (message : List ℕ) (ask : Ask) (request : Request) → Hears old message ask new
     → HasRangeInPlaying old message request → IsDeclined old ask new
 range_refused old new message ask request hears is =
-    hears_on_refused old.lost old message ask new request is.is_request (ranged_in old message request is) hears
+    hears_on_refused old.lost is.is_request (ranged_in old message request is) hears
 
 -- its code, where no other refusal comes before
-takes_455 : (old : Standing) (request other : Request) (judgement : Result Task Refusal) (ask : Ask) (new : Standing)
+takes_455 : {old : Standing} {request other : Request} (judgement : Result Task Refusal) (ask : Ask) (new : Standing)
     → AreAlike request other → IsRanged (place_of old.state) request → IsElseGood old request
     → IsJudged old.films old.id (place_of old.state) other judgement → Takes old other judgement ask new → HasCode 455 new.text
-takes_455 old request other (Ok task) ask new alike ranged good judged takes =
-    absurd (never_taken old.films old.id (place_of old.state) other task (ranged_as (place_of old.state) request other alike ranged) judged)
-takes_455 old request other (Err refusal) ask new alike ranged good judged takes =
+takes_455 {old} {request} {other} (Ok task) ask new alike ranged good judged takes =
+    absurd (never_taken (ranged_as (place_of old.state) request other alike ranged) judged)
+takes_455 {old} {request} {other} (Err refusal) ask new alike ranged good judged takes =
     let own : IsJudged old.films old.id (place_of old.state) request (Err NotNow) = record {
       method = PlayMethod;
       talk = good.talk;
       film = good.film;
       state = λ timely. let none = timely ranged.playing in let no : ⊥ = cc (none, ranged.range) in no;
     } in
-    let same : refusal ≡ NotNow = refusal_once old.films old.id (place_of old.state) request other NotNow refusal alike own judged in
+    let same : refusal ≡ NotNow = refusal_once old.films old.id (place_of old.state) alike own judged in
     let text : new.text ≡ refusal_text (Some other.sequence) NotNow (option_of other.head.now) =
     ap (λ (s : Standing). s.text) takes.1 ∙ ap (λ r. refusal_text (Some other.sequence) r (option_of other.head.now)) same in
     subst (λ (t : List ℕ). HasCode 455 t) (sym text) (refusal_code (Some other.sequence) NotNow (option_of other.head.now))
 
-hears_455 : (lost : Bool) (old : Standing) (message : List ℕ) (ask : Ask) (new : Standing) (request : Request) → lost ≡ false
+hears_455 : {lost : Bool} {old : Standing} {message : List ℕ} {request : Request} (ask : Ask) (new : Standing) → lost ≡ false
     → IsReadAs message request → IsRanged (place_of old.state) request → IsElseGood old request → HearsOn lost old message ask new → HasCode 455 new.text
-hears_455 true old message ask new request linked is ranged good hears = absurd (let no : ⊥ = cc in no)
-hears_455 false old message ask new request linked is ranged good (inl fault) =
+hears_455 {lost = true} ask new linked is ranged good hears = absurd (let no : ⊥ = cc in no)
+hears_455 {lost = false} {message} {request} ask new linked is ranged good (inl fault) =
     absurd (no_fault message request.method.now request.url.now request.sequence request.head.now request.body.now fault.fault is fault.is_fault)
-hears_455 false old message ask new request linked is ranged good (inr whole) =
-    takes_455 old request whole.request whole.hears.judgement ask new (same_request message request whole.request is whole.is_request)
+hears_455 {lost = false} {message} {request} ask new linked is ranged good (inr whole) =
+    takes_455 whole.hears.judgement ask new (same_request message request whole.request is whole.is_request)
     ranged good whole.hears.judged whole.hears.takes
 
 pub range_455 : (old new : Standing) (message : List ℕ) (ask : Ask) (request : Request) → Hears old message ask new
     → HasRangeInPlaying old message request → IsElseGood old request → HasCode 455 new.text
 range_455 old new message ask request hears is good =
-    hears_455 old.lost old message ask new request good.linked is.is_request (ranged_in old message request is) good hears
+    hears_455 ask new good.linked is.is_request (ranged_in old message request is) good hears

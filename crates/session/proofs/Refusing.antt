@@ -17,8 +17,8 @@ use Rattle.session.proofs.OneHearing.{hears_once}
 use Rattle.session.proofs.Results.{ComesTo, Lacks, Refuses, Says, SettlesSetup, AsksForPlay, AsksForHalt, AsksForLook, AsksForOffer, comes_to}
 
 -- a reply has one code
-pub one_code : (c d : ℕ) (text : List ℕ) → c < 1000 → d < 1000 → HasCode c text → HasCode d text → c ≡ d
-one_code c d text small short is its = decimal_injective c d (omega (arith, small)) (omega (arith, short)) (sym is ∙ its)
+pub one_code : {c d : ℕ} (text : List ℕ) → c < 1000 → d < 1000 → HasCode c text → HasCode d text → c ≡ d
+one_code {c} {d} text small short is its = decimal_injective c d (omega (arith, small)) (omega (arith, short)) (sym is ∙ its)
 
 ok_code : (sequence : Option ℕ) (fields : List Field) (rest : List ℕ) → HasCode 200 (reply_front 200 sequence fields ++ rest)
 unfolding reply_front status_line digits
@@ -66,8 +66,8 @@ own_code Memory = record { small = omega arith; no_overflow = λ is. omega (arit
 
 plain : (text : List ℕ) → HasCode 200 text → IsNoRefusal text
 plain text ok = record {
-  no_overflow = λ is. let same = one_code 200 453 text (omega arith) (omega arith) ok is in omega (arith, same);
-  not_full = λ is. let same = one_code 200 503 text (omega arith) (omega arith) ok is in omega (arith, same);
+  no_overflow = λ is. let same = one_code text (omega arith) (omega arith) ok is in omega (arith, same);
+  not_full = λ is. let same = one_code text (omega arith) (omega arith) ok is in omega (arith, same);
 }
 
 pub ok_plain : (sequence : Option ℕ) (fields : List Field) (body : List ℕ) → IsNoRefusal (reply_text 200 sequence fields body)
@@ -82,8 +82,8 @@ refusal_plain sequence refusal option =
     let own = own_code refusal in
     let code = refusal_code sequence refusal option in
     record {
-      no_overflow = λ is. own.no_overflow (one_code (code_of refusal) 453 text own.small (omega arith) code is);
-      not_full = λ is. own.not_full (one_code (code_of refusal) 503 text own.small (omega arith) code is);
+      no_overflow = λ is. own.no_overflow (one_code text own.small (omega arith) code is);
+      not_full = λ is. own.not_full (one_code text own.small (omega arith) code is);
     }
 
 -- a 200 tells no want of memory
@@ -94,7 +94,7 @@ found_text : (sequence : Option ℕ) (fields : List Field) (body : List ℕ) →
 found_text sequence fields body = record {
   found = λ is.
       let text = reply_text 200 sequence fields body in
-      let same = one_code 200 500 text (omega arith) (omega arith) (ok_text_code sequence fields body) is in
+      let same = one_code text (omega arith) (omega arith) (ok_text_code sequence fields body) is in
       omega (arith, same);
 }
 
@@ -102,23 +102,23 @@ found_front : (sequence : Option ℕ) (fields : List Field) (rest : List ℕ) �
 found_front sequence fields rest = record {
   found = λ is.
       let text = reply_front 200 sequence fields ++ rest in
-      let same = one_code 200 500 text (omega arith) (omega arith) (ok_code sequence fields rest) is in
+      let same = one_code text (omega arith) (omega arith) (ok_code sequence fields rest) is in
       omega (arith, same);
 }
 
 -- what is shown of a reply's text
-of_text : (old : Standing) (text : List ℕ) (ask : Ask) (new : Standing) → ask ≡ Reply → new.text ≡ text → IsNoRefusal text → RefusesNone ask new
-of_text old text ask new reply is refuses = subst (λ a. RefusesNone a new) (sym reply) (subst IsNoRefusal (sym is) refuses)
+of_text : {text : List ℕ} {ask : Ask} (old new : Standing) → ask ≡ Reply → new.text ≡ text → IsNoRefusal text → RefusesNone ask new
+of_text {text} {ask} old new reply is refuses = subst (λ a. RefusesNone a new) (sym reply) (subst IsNoRefusal (sym is) refuses)
 
 comes_text : (old new : Standing) (message : List ℕ) (ask : Ask) → ComesTo old message ask new → RefusesNone ask new
 comes_text old new message ask (Lacks is) =
-    of_text old _ ask new is.0 (ap (λ (s : Standing). s.text) is.1) (refusal_plain _ Memory [])
+    of_text old new is.0 (ap (λ (s : Standing). s.text) is.1) (refusal_plain _ Memory [])
 comes_text old new message ask (Refuses sequence refusal option other is) =
-    of_text old _ ask new is.0 (ap (λ (s : Standing). s.text) is.1) (refusal_plain sequence refusal option)
+    of_text old new is.0 (ap (λ (s : Standing). s.text) is.1) (refusal_plain sequence refusal option)
 comes_text old new message ask (Says sequence fields body tearing by command is) =
-    of_text old _ ask new command (ap (λ (s : Standing). s.text) is) (ok_plain (Some sequence) fields body)
+    of_text old new command (ap (λ (s : Standing). s.text) is) (ok_plain (Some sequence) fields body)
 comes_text old new message ask (SettlesSetup sequence setup init ranges command is) =
-    of_text old _ ask new command (ap (λ (s : Standing). s.text) is) (ok_plain (Some sequence) _ [])
+    of_text old new command (ap (λ (s : Standing). s.text) is) (ok_plain (Some sequence) _ [])
 comes_text old new message ask (AsksForPlay stored setup paused range planned sequence authority ready planned_is command is) =
     subst (λ a. RefusesNone a new) (sym command)
     (λ rest. subst (λ (t : List ℕ). IsNoRefusal (t ++ rest)) (sym (ap (λ (s : Standing). s.text) is))
@@ -139,7 +139,7 @@ comes_500 old new message (Refuses sequence refusal option other is) code =
     let text = refusal_text sequence refusal option in
     let own = own_code refusal in
     let its = subst (λ (t : List ℕ). HasCode 500 t) (ap (λ (s : Standing). s.text) is.1) code in
-    absurd (other (own.memory (one_code (code_of refusal) 500 text own.small (omega arith) (refusal_code sequence refusal option) its)))
+    absurd (other (own.memory (one_code text own.small (omega arith) (refusal_code sequence refusal option) its)))
 comes_500 old new message (Says sequence fields body tearing by command is) code =
     absurd ((subst IsFound (sym (ap (λ (s : Standing). s.text) is)) (found_text (Some sequence) fields body)).found code)
 comes_500 old new message (SettlesSetup sequence setup init ranges command is) code =
@@ -163,21 +163,21 @@ wanting_500 old new message ask is =
     subst (λ a. Is500 a new) (sym is.0)
     (subst (λ (t : List ℕ). HasCode 500 t) (sym (ap (λ (s : Standing). s.text) is.1)) (refusal_code _ Memory []))
 
-same_wanting : (old one other : Standing) (message : List ℕ) (ask again : Ask) → IsWanting old message ask one → IsWanting old message again other
+same_wanting : {one other : Standing} {ask again : Ask} (old : Standing) (message : List ℕ) → IsWanting old message ask one → IsWanting old message again other
     → (ask ≡ again) × (one ≡ other)
-same_wanting old one other message ask again is its = (is.0 ∙ sym its.0, is.1 ∙ sym its.1)
+same_wanting {one} {other} {ask} old message is its = (is.0 ∙ sym its.0, is.1 ∙ sym its.1)
 
 -- where memory is found for both hearings of a message, or for none, they come to the same
-pub hears_same : (old one other : Standing) (message : List ℕ) (ask again : Ask) → AreFilms old.films → Hears old message ask one
+pub hears_same : {one other : Standing} {ask again : Ask} (old : Standing) (message : List ℕ) → AreFilms old.films → Hears old message ask one
     → Hears old message again other → (Is500 ask one → Is500 again other) → (Is500 again other → Is500 ask one) → (ask ≡ again) × (one ≡ other)
-hears_same old one other message ask again films is its there back =
+hears_same {one} {other} {ask} {again} old message films is its there back =
     elim (hears_once old one other message ask again films is its) [
       | inl same ↦ (sym same.ask_is, sym same.session_is)
       | inr lacks ↦
           elim lacks [
-            | inl first ↦ same_wanting old one other message ask again first
+            | inl first ↦ same_wanting old message first
                 (hears_500 old other message again its (there (wanting_500 old one message ask first)))
-            | inr second ↦ same_wanting old one other message ask again
+            | inr second ↦ same_wanting old message
                 (hears_500 old one message ask is (back (wanting_500 old other message again second))) second
           ]
     ]

@@ -92,15 +92,15 @@ record IsIn (least most n : ℕ) : Type 0 where
   above : least ≤ n
   below : n ≤ most
 
-chosen : (value : Option (List ℕ)) (own least most n : ℕ) → IsChosen value own least most n → least ≤ own → own ≤ most → IsIn least most n
-chosen None own least most n is low high = subst (IsIn least most) (sym is) (record { above = low; below = high })
-chosen (Some value) own least most n is low high = record { above = is.above; below = is.below }
+chosen : {own least most n : ℕ} (value : Option (List ℕ)) → IsChosen value own least most n → least ≤ own → own ≤ most → IsIn least most n
+chosen {least} {most} None is low high = subst (IsIn least most) (sym is) (record { above = low; below = high })
+chosen (Some value) is low high = record { above = is.above; below = is.below }
 
-setup_ranges : (settings : Settings) (head : List ℕ) (film films : ℕ) (setup : Setup) → AsksForSetup settings head film setup
+setup_ranges : {settings : Settings} {head : List ℕ} {film films : ℕ} {setup : Setup} → AsksForSetup settings head film setup
     → film < films → AreSettings settings → IsSetup films setup
-setup_ranges settings head film films setup asks within good =
-    let buffer = chosen _ settings.buffer 1 (2 ^ 42) setup.buffer asks.buffer good.some_buffer good.most_buffer in
-    let delay = chosen _ settings.startup 0 10000 setup.delay asks.delay (omega arith) good.most_startup in
+setup_ranges {head} {film} {films} asks within good =
+    let buffer = chosen _ asks.buffer good.some_buffer good.most_buffer in
+    let delay = chosen _ asks.delay (omega arith) good.most_startup in
     record {
       film = subst (λ n. n < films) (sym asks.film_is) within;
       some_buffer = buffer.above;
@@ -162,7 +162,7 @@ module _ (old : Standing) (message : List ℕ) (ask : Ask) (new : Standing) wher
       → old.state ≡ Init → film < length old.films → IsSetupRead old.settings request.head.now film read
       → IsSetUp old request.sequence read ask new → Comes
   set_up_to request film (Ok setup) number init within read is =
-      SettlesSetup request.sequence setup init (setup_ranges old.settings request.head.now film (length old.films) setup read within) is.0 is.1
+      SettlesSetup request.sequence setup init (setup_ranges read within) is.0 is.1
   set_up_to request film (Err refusal) number init within read is = refuses request.sequence refusal number is
 
   asks_play_to : (sequence : ℕ) (authority : List ℕ) (setup : Setup) (paused : Option Run) (range : Option (List ℕ))

@@ -95,9 +95,9 @@ dash_not text k all inside = λ dash.
     cc
 
 -- a range from one time to another
-range_read : (s e : List ℕ) (from to : ℕ) → list_all (λ x. not (x == 45)) s ≡ true → IsTime s from → IsTime e to
+range_read : {s e : List ℕ} {from to : ℕ} → list_all (λ x. not (x == 45)) s ≡ true → IsTime s from → IsTime e to
     → IsSpan (codes "npt=" ++ (s ++ 45 ∷ e)) (record { from = At from; to = Some to })
-range_read s e from to free first last =
+range_read {s} {e} {from} {to} free first last =
     let text = codes "npt=" ++ (s ++ 45 ∷ e) in
     let size : length text ≡ 4 + (length s + (1 + length e)) = omega (arith, length-append (codes "npt=") (s ++ 45 ∷ e), length-append s (45 ∷ e)) in
     let at : ℕ = 4 + length s in
@@ -145,7 +145,7 @@ span_told film first end small short =
       from_is = ticks_360 (first * picture_time film.rate);
       to_is = ticks_360 (end * picture_time film.rate);
       read = subst (λ (t : List ℕ). IsSpan t (record { from = At (ms_at film first * 1000000); to = Some (ms_at film end * 1000000) })) same
-          (range_read s e (ms_at film first * 1000000) (ms_at film end * 1000000) (no_dash-seconds (ms_at film first) small)
+          (range_read (no_dash-seconds (ms_at film first) small)
           (seconds_read (ms_at film first) small) (seconds_read (ms_at film end) short));
     }
 
@@ -243,7 +243,7 @@ few_ms units unit time within few brief =
     let small : unit * time / 360 * 360 ≤ unit * time = div-mul-le_self (unit * time) 360 in
     omega (arith, most, small)
 
-info_told : (old : Standing) (stored : Stored) (setup : Setup) (planned : Planned) (authority : List ℕ) → IsAuthority authority
+info_told : {stored : Stored} {authority : List ℕ} (old : Standing) (setup : Setup) (planned : Planned) → IsAuthority authority
     → is_good_name (string_bytes stored.name) ≡ true
     → TellsInfo stored old.source authority
     (planned.counts.frames + frames_before (sending_of stored.film old.source setup planned.counts planned.run) planned.run.sent)
@@ -251,7 +251,7 @@ info_told : (old : Standing) (stored : Stored) (setup : Setup) (planned : Planne
     (joined_parts (codes "url=rtsp://" ∷ authority ∷ codes "/" ∷ string_bytes stored.name ∷ codes "/video;seq="
     ∷ decimal (first_number old stored setup planned) ∷ codes ";rtptime="
     ∷ decimal (timestamp_at stored.film old.source planned.run.from_unit) ∷ []))
-info_told old stored setup planned authority is good =
+info_told {stored} {authority} old setup planned is good =
     let name = string_bytes stored.name in
     let number = first_number old stored setup planned in
     let time = timestamp_at stored.film old.source planned.run.from_unit in
@@ -317,7 +317,7 @@ play_told old stored setup paused range planned sequence url authority name is r
             ∷ decimal (first_number old stored setup planned) ∷ codes ";rtptime="
             ∷ decimal (timestamp_at stored.film old.source planned.run.from_unit) ∷ []);
         info_is = refl;
-        told = info_told old stored setup planned authority (authority_of url authority name read) good;
+        told = info_told old setup planned (authority_of url authority name read) good;
       };
     }
 
@@ -347,11 +347,12 @@ film_text sequence url authority name asked film read good short =
     base_is : (a n : List ℕ) → codes "rtsp://" ++ (a ++ (47 ∷ n ++ codes "/")) ≡ joined_parts (codes "rtsp://" ∷ a ∷ codes "/" ∷ n ∷ codes "/" ∷ [])
     base_is a n = refl
 
-pub film_told : (old new : Standing) (sequence number : ℕ) (url authority : List ℕ) (asked : Option (List ℕ)) (ask : Ask)
+pub film_told : {old new : Standing} {sequence number : ℕ} {url authority : List ℕ} {asked : Option (List ℕ)}
+    {ask : Ask}
     → (is : Describes old sequence number authority ask new) → IsRead url authority asked
     → is_good_name (string_bytes is.stored.name) ≡ true → IsShort is.stored.film
     → IsFilmTold sequence authority (string_bytes is.stored.name) is.stored.film new.text
-film_told old new sequence number url authority asked ask is read good short =
+film_told {new} {sequence} {number} {url} {authority} {asked} {ask} is read good short =
     subst (λ (t : List ℕ). IsFilmTold sequence authority (string_bytes is.stored.name) is.stored.film t)
     (sym (ap (λ (s : Standing). s.text) is.reply.1))
     (film_text sequence url authority (string_bytes is.stored.name) asked is.stored.film read good short)

@@ -3,4 +3,4 @@ use Rattle.session.proofs.laws.law_film_told.Goals as goal
 
 pub returns : goal.returns
 returns c = λ old new sequence authority is.
-    film_told old new sequence is.number is.url authority is.asked is.ask is.describes is.read is.good is.short
+    film_told is.describes is.read is.good is.short

@@ -6,4 +6,4 @@ returns-clause-run c = identity_goes_on
 
 pub returns-clause-dropped : goal.returns-clause-dropped
 returns-clause-dropped c = λ old stored setup paused planned is.
-    dropped_goes_on old stored setup paused is.run is.range planned is.planned_is is.wanted_is
+    dropped_goes_on is.planned_is is.wanted_is

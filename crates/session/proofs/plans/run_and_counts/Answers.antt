@@ -12,5 +12,5 @@ returns-in-New-clause-goes_on c =
     subst (λ (n : Counts). IsRunOf stored c.args.source setup n c.in-New.run') (sym c.counts_before.ensures)
     (subst (λ (w : Wanted). IsRunOf stored c.args.source setup
     (counts_for stored.film c.args.source setup c.args.counts c.args.paused w) (run_of w)) c.in-New.is
-    (goes_on stored c.args.source setup c.args.counts c.args.paused c.requires.wanted.0 c.args.wanted c.requires.paused
+    (goes_on c.args.counts c.requires.paused
     c.requires.wanted.1))

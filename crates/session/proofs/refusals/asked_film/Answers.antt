@@ -19,14 +19,14 @@ returns-in_err-film-clause-asked c =
     λ name. IsRead c.args.url.now c.in_ok-read.read.authority.now (option_copied name) in
     rw c.from_residual-in_err-film.ensures
     (λ authority film names. c.in_err-film.ensures.found film
-    (named_once c.args.films.now c.args.url.now c.in_ok-read.read.authority.now c.in_ok-name.name.now authority film
+    (named_once
     (subst IsReadAs c.in_ok-name.was c.in_ok-read.ensures.read) names))
 
 pub returns-clause-one : goal.returns-clause-one
 returns-clause-one c authority film names =
     let IsReadAs : Option (Bor (List ℕ)) → Type 0 =
     λ name. IsRead c.args.url.now c.in_ok-read.read.authority.now (option_copied name) in
-    film_once c.args.films.now c.in_ok-name.name.now film c.in_ok-film.film c.requires
-    (named_once c.args.films.now c.args.url.now c.in_ok-read.read.authority.now c.in_ok-name.name.now authority film
+    film_once c.requires
+    (named_once
     (subst IsReadAs c.in_ok-name.was c.in_ok-read.ensures.read) names)
     c.in_ok-film.ensures.found

@@ -36,5 +36,5 @@ returns-clause-judged c =
     let timely : IsTimely c.args.place c.args.request.now c.in-Some.method = search rules in
     subst (λ (task : Task). IsTaken c.args.films.now c.args.id.now c.args.place c.args.request.now task)
     (sym c.task_of.ensures.exact)
-    (taken c.args.films.now c.args.id.now c.args.place c.args.request.now c.in-Some.method c.in-Some-asked_film.asked
+    (taken c.in-Some-asked_film.asked
     talk film timely)

@@ -8,5 +8,5 @@ pub returns-in_err-step-clause-front : goal.returns-in_err-step-clause-front
 returns-in_err-step-clause-front g c =
     let told : g.K.Link.told c.send.new.self ≡ told_more (g.K.Link.told c.args.link.now) (sends c.args.reply.now) = search rules in
     on_err c.from_residual-in_err-step.result
-    (front_right (g.K.Link.told c.args.link.now) (g.K.Link.told c.send.new.self) (g.K.Link.told c.step.new.link) c.args.reply.now
+    (front_right (g.K.Link.told c.args.link.now) c.args.reply.now
     (step_bytes false c.args.slot c.args.state.now) told (search rules))

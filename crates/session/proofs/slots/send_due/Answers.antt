@@ -14,6 +14,6 @@ returns-in_err-send_both-clause-front g c =
     let front : IsFrontTold (g.K.Link.told c.step-2.new.link) (g.K.Link.told c.send_both.new.link)
     (c.args.reply.now ++ step_bytes false c.args.slot (stepped_in true c.args.slot c.args.state.now)) = search rules in
     on_err c.from_residual-in_err-send_both.result
-    (front_both c.args.waits (is_between (stepped_in true c.args.slot c.args.state.now)) (g.K.Link.told c.args.link.now)
-    (g.K.Link.told c.step-2.new.link) (g.K.Link.told c.send_both.new.link) (step_bytes true c.args.slot c.args.state.now) c.args.reply.now
+    (front_both (g.K.Link.told c.args.link.now)
+    (step_bytes true c.args.slot c.args.state.now) c.args.reply.now
     (step_bytes false c.args.slot (stepped_in true c.args.slot c.args.state.now)) (step_bytes false c.args.slot c.args.state.now) waits between told front)

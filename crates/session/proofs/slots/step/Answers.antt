@@ -5,10 +5,10 @@ use Rattle.session.proofs.slots.step.Goals as goal
 
 pub returns-in-Ok-clause-between : goal.returns-in-Ok-clause-between
 returns-in-Ok-clause-between g c more stops =
-    stopped c.args.stop c.args.slot c.in-Playing.play.pacer c.step.new.self c.in-Ok.stepped.left
+    stopped c.args.slot
     (subst IsPacingIn c.in-Playing.is c.requires) c.in-Ok.ensures.state c.in-Ok.ensures.answer.left more stops
 
 pub returns-in-Ok-step-clause-between : goal.returns-in-Ok-step-clause-between
 returns-in-Ok-step-clause-between g c more stops =
-    stopped c.args.stop c.args.slot c.in-Stopping.halted.pacer c.step-in-Stopping.new.self c.in-Ok-step.stepped.left
+    stopped c.args.slot
     (subst IsPacingIn c.in-Stopping.is c.requires) c.in-Ok-step.ensures.state c.in-Ok-step.ensures.answer.left more stops

@@ -57,7 +57,7 @@ invariant_of-self-2 c =
       settings = c.self.invariant.settings;
       id = c.self.invariant.id;
       state = c.self.invariant.state;
-      awaited = prepared_in films inside.source inside.settings inside.state setup stored planned.plan
+      awaited = prepared_in films inside.state
           (record {
             run = planned.run;
             counts = planned.counts;

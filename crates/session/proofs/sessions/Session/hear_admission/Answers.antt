@@ -48,10 +48,10 @@ invariant_of-self c =
       films = c.self.invariant.films;
       settings = c.self.invariant.settings;
       id = c.self.invariant.id;
-      state = admitted_state films inside.source inside.settings setup c.in-Ready.field-1 prepared play ready.0 kept pacing refl refl pacer;
+      state = admitted_state films c.in-Ready.field-1 ready.0 kept pacing refl refl pacer;
       awaited = subst (λ (a : Awaited). IsAwaitedKept films inside.source inside.settings prepared.counts inside.lost
           (Playing setup play) a) (sym none)
-          (admitted_going inside.lost setup play (run_pieces prepared.frames) prepared.run.sent c.args.start prepared.paced pacer kept.0.paced);
+          (admitted_going setup (run_pieces prepared.frames) prepared.run.sent c.args.start pacer kept.0.paced);
       stop = tt;
       receipt_room = omega (arith, c.self.invariant.receipt_room);
       play_room = omega (arith, c.self.invariant.play_room);

@@ -58,7 +58,7 @@ invariant_of-self c =
       state = subst (λ (n : Counts). IsStateKept films inside.source inside.settings n state) (sym counted)
           (subst (λ (s : State). IsStateKept films inside.source inside.settings
           (counts_next films inside.source inside.counts setup play.run keep next) s) (sym is)
-          (halted_kept films inside.source inside.settings inside.counts setup play keep next kept left));
+          (halted_kept films keep next kept left));
       awaited = subst (λ (a : Awaited). IsAwaitedKept films inside.source inside.settings counts inside.lost state a) (sym none)
           (subst (λ (s : State). IsAwaitedKept films inside.source inside.settings counts inside.lost s Nothing) (sym is)
           (halted_rest films inside.source inside.settings counts inside.lost setup play next));
@@ -70,7 +70,7 @@ invariant_of-self c =
       offer_room = omega arith;
       looks = c.self.invariant.looks;
       torn = λ ends still.
-          halted_torn next inside.tearing inside.waits inside.torn c.self.invariant.torn (sym tearing ∙ ends) (sym waits ∙ still);
+          halted_torn next c.self.invariant.torn (sym tearing ∙ ends) (sym waits ∙ still);
       late = c.self.invariant.late;
       heard = c.self.invariant.heard;
       front = λ asks. absurd (omega (arith, asks));

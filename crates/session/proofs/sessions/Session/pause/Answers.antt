@@ -24,7 +24,7 @@ run_after-left-requires-clause-halt c =
     let play = c.in-Playing.play in
     let state : inside.state ≡ Playing setup play = sym c.in-Playing.ensures.value in
     let hear : CanHear (standing_of inside) = subst CanHear (sym c.self.view_is) c.requires.hear in
-    halts_play play c.last_slot-last.result c.ask_halt-keep.result c.ask_halt-keep.new.self
+    halts_play c.last_slot-last.result
     (playing_in inside setup play c.self.invariant state hear).1 (unhalted inside setup play c.self.invariant state hear)
     c.ask_halt-keep.ensures.state c.ask_halt-keep.ensures.boundary c.ask_halt-keep.ensures.most c.last_slot-last.ensures
 
@@ -41,8 +41,8 @@ invariant_of-self c =
     halt_asked inside setup play c.self.invariant state hear c.ask_halt-keep.new.self c.ask_halt-keep.result (Paused left)
     c.put_session.new.reply c.ask_halt-keep.ensures.pacing c.ask_halt-keep.ensures.state c.ask_halt-keep.ensures.most
     (of_film inside.films.now setup.film stored (λ s. IsRunOf s inside.source setup inside.counts left) c.stored_at-stored.ensures.film
-    (left_runs stored inside.source inside.settings setup inside.counts play c.playback_of-playback.result c.last_slot-last.result
-    c.ask_halt-keep.result left kept.1 (kept.2 stored c.stored_at-stored.ensures.film) c.playback_of-playback.ensures.playback
+    (left_runs
+    kept.1 (kept.2 stored c.stored_at-stored.ensures.film) c.playback_of-playback.ensures.playback
     c.ask_halt-keep.ensures.boundary.boundary c.run_after-left.ensures.left c.run_after-left.ensures.run c.run_after-left.ensures.fits))
 
 pub returns-clause-exact : goal.returns-clause-exact

@@ -1,0 +1,164 @@
+-- What a play, a halt and an admission leave of how a session is kept.
+use Rattle.std.proofs.Common.{◌≡◌, ℕ, ◌≤◌, Bool, List, Option, length, refl, sym, ap, subst, ◌∙◌, arith}
+use Rattle.plan_cert.specs.declared.Segment.{Segment}
+use Rattle.plan_cert.specs.Slots.{total_bytes}
+use Rattle.film_frames.specs.declared.stores.Stored.{Stored}
+use Rattle.film_frames.specs.Runs.{Run as Sending, run_pieces}
+use Rattle.film_frames.specs.Tracks.{IsBoundary, framed_bytes}
+use Rattle.film_run.specs.declared.runs.Run.{Run}
+use Rattle.film_run.specs.Runs.{bytes_between}
+use Rattle.film_run.specs.Units.{stored_sizes}
+use Rattle.pacer.specs.Pacings.{IsPacing, Pacing, is_done, next_boundary, whole_pacing}
+use Rattle.session.specs.Films.{IsFilmAt, OfFilm, sending_of}
+use Rattle.session.specs.Inside.{IsAwaitedKept, IsGoing, IsKept, IsNextIn, IsPreparedAs, IsPreparedIn, IsStateKept, IsUnhalted, open_receipts, standing_of}
+use Rattle.session.specs.Plans.{IsPrepared}
+use Rattle.session.specs.Playing.{IsPlayable}
+use Rattle.session.specs.Ranges.{IsSetup}
+use Rattle.session.specs.Sendings.{next_of}
+use Rattle.session.specs.Standings.{CanHear, IsReadyIn}
+use Rattle.session.specs.declared.settings.Settings.{Settings}
+use Rattle.session.specs.declared.states.Awaited.{Awaited}
+use Rattle.session.specs.declared.states.Awaited.TheVariants.{Nothing, Play, Halt, Look, Offer}
+use Rattle.session.specs.declared.states.Counts.{Counts}
+use Rattle.session.specs.declared.states.Next.{Next}
+use Rattle.session.specs.declared.states.Play.{Play as Played}
+use Rattle.session.specs.declared.states.Prepared.{Prepared}
+use Rattle.session.specs.declared.states.Setup.{Setup}
+use Rattle.session.specs.declared.states.Source.{Source}
+use Rattle.session.specs.declared.states.State.{State}
+use Rattle.session.specs.declared.states.State.TheVariants.{Init, Ready, Playing, Stopping}
+use Rattle.session.specs.declared.sessions.Session.TheInside.{Inside}
+use Rattle.session.proofs.Carries.{nothing_of}
+use Rattle.session.proofs.Pausing.{keeps_within}
+use Rattle.session.proofs.Playables.{of_film}
+
+ready_in : {source : Source} {settings : Settings} {setup : Setup} {prepared : Prepared} (films : List Stored)
+    (state : State)
+    → IsReadyIn state setup → IsPrepared prepared
+    → OfFilm films setup.film (λ stored. IsPreparedAs stored source settings setup prepared)
+    → IsPreparedIn films source settings state prepared
+ready_in films Init ready is all = absurd ready
+ready_in {source} {settings} {prepared} films (Ready own paused) ready is all =
+    subst (λ (x : Setup). IsPreparedIn films source settings (Ready x paused) prepared) (sym ready) (is, all)
+ready_in films (Playing own play) ready is all = absurd ready
+ready_in films (Stopping own stop) ready is all = absurd ready
+
+-- no booking is open in Ready
+pub ready_closed : (state : State) (setup : Setup) → IsReadyIn state setup → open_receipts state ≡ 0
+ready_closed Init setup ready = absurd ready
+ready_closed (Ready own paused) setup ready = refl
+ready_closed (Playing own play) setup ready = absurd ready
+ready_closed (Stopping own stop) setup ready = absurd ready
+
+-- a play that is asked for can be sent
+pub prepared_in : {source : Source} {settings : Settings} {setup : Setup} {stored : Stored} {plan : List Segment}
+    (films : List Stored) (state : State) (prepared : Prepared) → IsReadyIn state setup → IsFilmAt films setup.film stored
+    → IsPlayable stored source settings setup prepared.counts prepared.run plan
+    → prepared.frames ≡ sending_of stored.film source setup prepared.counts prepared.run
+    → length (framed_bytes (run_pieces prepared.frames)) ≡ bytes_between (stored_sizes stored) prepared.run.first_unit prepared.run.end_unit
+    → prepared.plan ≡ plan → prepared.paced ≡ plan → IsPreparedIn films source settings state prepared
+prepared_in {source} {settings} {setup} {stored} films state prepared ready at playable frames bytes own paced =
+    let same : IsPlayable stored source settings setup prepared.counts prepared.run prepared.plan =
+    subst (λ (l : List Segment). IsPlayable stored source settings setup prepared.counts prepared.run l) (sym own) playable in
+    let boundary : IsBoundary (run_pieces prepared.frames) prepared.run.sent =
+    subst (λ (s : Sending). IsBoundary (run_pieces s) prepared.run.sent) (sym frames) same.run_of.boundary in
+    ready_in films state ready
+    (record { going = record { boundary = boundary; whole = same.bytes ∙ sym bytes }; paced = paced ∙ sym own })
+    (of_film films setup.film stored (λ s. IsPreparedAs s source settings setup prepared) at
+    (record { playable = same; frames_are = frames }))
+
+-- what an admission makes of it
+pub admitted_state : {source : Source} {settings : Settings} {setup : Setup} {prepared : Prepared} {play : Played}
+    (films : List Stored) (paused : Option Run) → IsSetup (length films) setup
+    → IsPreparedIn films source settings (Ready setup paused) prepared → IsPacing play.pacer → play.run ≡ prepared.run
+    → play.plan ≡ prepared.plan → play.pacer ≡ whole_pacing (run_pieces prepared.frames) prepared.run.sent prepared.paced play.start
+    → IsStateKept films source settings prepared.counts (Playing setup play)
+admitted_state {source} {settings} {setup} {prepared} {play} films paused is_setup kept pacing run plan pacer = (
+  is_setup,
+  record {
+    pacing = pacing;
+    before = ap (λ (p : Pacing). p.before) pacer ∙ ap (λ (r : Run). r.sent) (sym run);
+    plan = ap (λ (p : Pacing). p.plan) pacer ∙ kept.0.paced ∙ sym plan;
+  },
+  λ stored at.
+      let made : IsPreparedAs stored source settings setup prepared = kept.1 stored at in
+      record {
+        playable = subst (λ (r : Run). IsPlayable stored source settings setup prepared.counts r play.plan) (sym run)
+            (subst (λ (l : List Segment). IsPlayable stored source settings setup prepared.counts prepared.run l) (sym plan) made.playable);
+        pieces = ap (λ (p : Pacing). p.pieces) pacer ∙ ap run_pieces made.frames_are
+            ∙ ap (λ (r : Run). run_pieces (sending_of stored.film source setup prepared.counts r)) (sym run);
+      },
+)
+
+pub admitted_going : {lost : Bool} {play : Played} {paced : List Segment} (setup : Setup) (pieces : List (List ℕ))
+    (before start : ℕ)
+    → play.pacer ≡ whole_pacing pieces before paced start → paced ≡ play.plan → IsGoing lost (Playing setup play)
+admitted_going setup pieces before start pacer same = λ linked. record {
+  even = ap (λ (p : Pacing). p.due) pacer ∙ sym (ap (λ (p : Pacing). p.sent) pacer);
+  whole = ap (λ (p : Pacing). p.keep) pacer ∙ ap total_bytes same;
+  going = ap is_done pacer;
+}
+
+-- what a halt leads to can be sent on
+pub next_in : (films : List Stored) (source : Source) (settings : Settings) (counts : Counts) (lost : Bool) (state : State)
+    (awaited : Awaited) → IsAwaitedKept films source settings counts lost state awaited
+    → IsNextIn films source counts state (next_of awaited)
+next_in films source settings counts lost state Nothing kept = tt
+next_in films source settings counts lost state (Play prepared) kept = tt
+next_in films source settings counts lost state (Halt keep next) kept = kept.1
+next_in films source settings counts lost state (Look sequence) kept = tt
+next_in films source settings counts lost state (Offer sequence) kept = tt
+
+-- a play of which a halt is asked is the same but for what is kept
+halting_kept : {source : Source} {settings : Settings} {counts : Counts} {setup : Setup} {play : Played}
+    {pacer : Pacing} (films : List Stored) (keep : ℕ) → IsStateKept films source settings counts (Playing setup play) → IsPacing pacer
+    → pacer ≡ record play.pacer { keep = keep }
+    → IsStateKept films source settings counts (Playing setup (record play { pacer = pacer }))
+halting_kept films keep kept pacing is = (
+  kept.0,
+  record {
+    pacing = pacing;
+    before = ap (λ (p : Pacing). p.before) is ∙ kept.1.before;
+    plan = ap (λ (p : Pacing). p.plan) is ∙ kept.1.plan;
+  },
+  λ stored at. record {
+    playable = (kept.2 stored at).playable;
+    pieces = ap (λ (p : Pacing). p.pieces) is ∙ (kept.2 stored at).pieces;
+  },
+)
+
+-- a play in hand, as a request is heard that halts it
+module _ (inside : Inside) (setup : Setup) (play : Played) (kept : IsKept inside) (state : inside.state ≡ Playing setup play)
+    (hear : CanHear (standing_of inside)) where
+  pub playing_in : IsStateKept inside.films.now inside.source inside.settings inside.counts (Playing setup play)
+  playing_in = subst (λ (s : State). IsStateKept inside.films.now inside.source inside.settings inside.counts s) state kept.state
+
+  pub unhalted : IsUnhalted play
+  unhalted = subst (λ (s : State). IsGoing inside.lost s) state
+      (subst (λ (a : Awaited). IsAwaitedKept inside.films.now inside.source inside.settings inside.counts inside.lost inside.state a)
+      (nothing_of inside.awaited hear.rest) kept.awaited) hear.lost
+
+  -- how the session is kept once its halt was asked for
+  pub halt_asked : (pacer : Pacing) (keep : ℕ) (next : Next) (reply : List ℕ) → IsPacing pacer
+      → pacer ≡ record play.pacer { keep = next_boundary play.pacer } → keep ≤ play.pacer.keep
+      → IsNextIn inside.films.now inside.source inside.counts (Playing setup (record play { pacer = pacer })) next
+      → IsKept (record inside { state = Playing setup (record play { pacer = pacer }); awaited = Halt keep next; reply = reply })
+  halt_asked pacer keep next reply pacing is most left =
+      let open_one : open_receipts inside.state ≡ 1 = ap open_receipts state in
+      record {
+        films = kept.films;
+        settings = kept.settings;
+        id = kept.id;
+        state = halting_kept inside.films.now (next_boundary play.pacer)
+            playing_in pacing is;
+        awaited = (keeps_within play keep unhalted most, left);
+        stop = tt;
+        receipt_room = omega (arith, kept.receipt_room);
+        play_room = omega (arith, kept.play_room);
+        offer_room = omega arith;
+        looks = kept.looks;
+        torn = kept.torn;
+        late = kept.late;
+        heard = kept.heard;
+        front = λ asks. absurd (omega (arith, asks));
+      }

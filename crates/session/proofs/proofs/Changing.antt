@@ -1,0 +1,157 @@
+-- What each request changes of a session.
+use Rattle.std.proofs.Common.{◌≡◌, ◌≢◌, ℕ, Bool, true, false, List, [], Option, Some, Result, Ok, Err, codes, refl, sym, ap, subst, inl, inr}
+use Rattle.rtsp_text.specs.Fields.{header_value}
+use Rattle.rtsp_text.specs.declared.requests.Request.{Request}
+use Rattle.film_frames.specs.declared.stores.Stored.{Stored}
+use Rattle.film_run.specs.declared.runs.Run.{Run}
+use Rattle.session.specs.declared.asks.Ask.{Ask}
+use Rattle.session.specs.declared.asks.Ask.TheVariants.{Play as AskPlay}
+use Rattle.session.specs.declared.plans.Planned.{Planned}
+use Rattle.session.specs.declared.refusals.Refusal.{Refusal}
+use Rattle.session.specs.declared.refusals.Refusal.TheVariants.{Memory}
+use Rattle.session.specs.declared.refusals.Task.{Task}
+use Rattle.session.specs.declared.refusals.Task.TheVariants.{Options as ToOptions, Describe as ToDescribe, Setup as ToSetup, Play as ToPlay, Pause as ToPause, Teardown as ToTeardown, GetParameter as ToGetParameter}
+use Rattle.session.specs.declared.states.Awaited.TheVariants.{Play}
+use Rattle.session.specs.declared.states.Setup.{Setup}
+use Rattle.session.specs.declared.states.State.{State}
+use Rattle.session.specs.declared.states.State.TheVariants.{Ready}
+use Rattle.session.specs.Changes.{AsksOrLacks, CanBePlayed, ChangesState, IsGoodPlay, IsPlayAskedFor, IsSameGround}
+use Rattle.session.specs.Hearings.{Hears, HearsOn}
+use Rattle.session.specs.Judging.{IsJudged, place_of}
+use Rattle.session.specs.Methods.{AsksPlayOr, IsRefused, IsReplied, Plays, Takes, play_front, prepared_of}
+use Rattle.session.specs.Planning.{IsPlanned, IsPlannedRun}
+use Rattle.session.specs.Standings.{Standing}
+use Rattle.session.proofs.Playables.{of_film}
+use Rattle.session.proofs.Results.{ComesTo, Lacks, Refuses, Says, SettlesSetup, AsksForPlay, AsksForHalt, AsksForLook, AsksForOffer, comes_to, is_memory}
+
+abbrev pub Changes : Ask → Standing → Standing → Type 0
+Changes ask old new = IsSameGround old new × ChangesState ask old new
+
+replied_changes : (old : Standing) (text : List ℕ) (ask : Ask) (new : Standing) → IsReplied old text ask new → Changes ask old new
+replied_changes old text ask new is =
+    subst (λ a. Changes a old new) (sym is.0) (
+      subst (IsSameGround old) (sym is.1) (record { films = refl; settings = refl; source = refl; counts = refl; heard = refl }),
+      inl (ap (λ (s : Standing). s.state) is.1),
+    )
+
+play_asked : {old new : Standing} {stored : Stored} {setup : Setup} {paused : Option Run} {range : Option (List ℕ)}
+    {planned : Planned} (sequence : ℕ) (authority : List ℕ) → old.state ≡ Ready setup paused → IsPlannedRun old stored setup paused range planned
+    → new ≡ record old {
+      awaited = Play (prepared_of old stored setup planned sequence);
+      text = play_front old stored setup planned sequence authority;
+    } → IsPlayAskedFor old (AskPlay planned.plan) new
+play_asked {new} {stored} {setup} {paused} {range} {planned} sequence authority ready planned_is is = record {
+  play = record {
+    setup = setup;
+    paused = paused;
+    range = range;
+    stored = stored;
+    planned = planned;
+    sequence = sequence;
+    authority = authority;
+    ready = ready;
+    planned_is = planned_is;
+    awaited = ap (λ (s : Standing). s.awaited) is;
+    text = ap (λ (s : Standing). s.text) is;
+  };
+  command = refl;
+}
+
+comes_changes : (old new : Standing) (message : List ℕ) (ask : Ask) → ComesTo old message ask new → Changes ask old new
+comes_changes old new message ask (Lacks is) = replied_changes old _ ask new is
+comes_changes old new message ask (Refuses sequence refusal option other is) = replied_changes old _ ask new is
+comes_changes old new message ask (Says sequence fields body tearing by command is) =
+    subst (λ a. Changes a old new) (sym command) (
+      subst (IsSameGround old) (sym is) (record { films = refl; settings = refl; source = refl; counts = refl; heard = refl }),
+      inl (ap (λ (s : Standing). s.state) is),
+    )
+comes_changes old new message ask (SettlesSetup sequence setup init ranges command is) =
+    subst (λ a. Changes a old new) (sym command) (
+      subst (IsSameGround old) (sym is) (record { films = refl; settings = refl; source = refl; counts = refl; heard = refl }),
+      inr (record { setup = setup; state = ap (λ (s : Standing). s.state) is; ranges = ranges }),
+    )
+comes_changes old new message ask (AsksForPlay stored setup paused range planned sequence authority ready planned_is command is) =
+    subst (λ a. Changes a old new) (sym command) (
+      subst (IsSameGround old) (sym is) (record { films = refl; settings = refl; source = refl; counts = refl; heard = refl }),
+      (
+        ap (λ (s : Standing). s.state) is,
+        play_asked sequence authority ready planned_is is,
+      ),
+    )
+comes_changes old new message ask (AsksForHalt sequence setup play next playing told by halts) =
+    subst (λ a. Changes a old new) (sym halts.command) (
+      subst (IsSameGround old) (sym halts.state) (record { films = refl; settings = refl; source = refl; counts = refl; heard = refl }),
+      record { setup = setup; play = play; keep = halts.keep; was = playing; now = ap (λ (s : Standing). s.state) halts.state },
+    )
+comes_changes old new message ask (AsksForLook sequence look) =
+    subst (λ a. Changes a old new) (sym look.command) (
+      subst (IsSameGround old) (sym look.state) (record { films = refl; settings = refl; source = refl; counts = refl; heard = refl }),
+      ap (λ (s : Standing). s.state) look.state,
+    )
+comes_changes old new message ask (AsksForOffer sequence wait planned asks) =
+    subst (λ a. Changes a old new) (sym asks.command) (
+      subst (IsSameGround old) (sym asks.state) (record { films = refl; settings = refl; source = refl; counts = refl; heard = refl }),
+      ap (λ (s : Standing). s.state) asks.state,
+    )
+
+pub hears_ground : (old new : Standing) (message : List ℕ) (ask : Ask) → Hears old message ask new → IsSameGround old new
+hears_ground old new message ask hears = (comes_changes old new message ask (comes_to old message ask new hears)).0
+
+pub hears_state : (old new : Standing) (message : List ℕ) (ask : Ask) → Hears old message ask new → ChangesState ask old new
+hears_state old new message ask hears = (comes_changes old new message ask (comes_to old message ask new hears)).1
+
+-- a PLAY to which no refusal applies
+no_refusal : {old : Standing} {setup : Setup} {paused : Option Run} {range : Option (List ℕ)} {ask : Ask}
+    {new : Standing} (sequence : ℕ) (authority : List ℕ) (planned : Result Planned Refusal) → old.state ≡ Ready setup paused
+    → ((refusal : Refusal) → refusal ≢ Memory → ¬ IsPlanned old setup paused range (Err refusal))
+    → IsPlanned old setup paused range planned → AsksPlayOr old sequence authority setup planned ask new → AsksOrLacks old ask new
+no_refusal {old} {setup} {paused} {range} {ask} {new} sequence authority (Ok planned) ready good is (inl asks) =
+    let own = of_film old.films setup.film is.0 (λ s. IsPlannedRun old s setup paused range planned) is.1.at is.1 asks.stored asks.at in
+    inl (subst (λ a. IsPlayAskedFor old a new) (sym asks.command)
+    (play_asked sequence authority ready own asks.state))
+no_refusal {ask} {new} sequence authority (Ok planned) ready good is (inr refused) =
+    inr (record { sequence = sequence; refused = refused })
+no_refusal {old} {ask} {new} sequence authority (Err refusal) ready good is refused =
+    elim (is_memory refusal) [
+      | inl memory ↦ inr (record { sequence = sequence; refused = subst (λ r. IsRefused old (Some sequence) r [] ask new) memory refused })
+      | inr other ↦ absurd (good refusal other is)
+    ]
+
+good_plays : {old : Standing} {request : Request} {setup : Setup} {paused : Option Run} {ask : Ask} {new : Standing}
+    (authority : List ℕ)
+    → old.state ≡ Ready setup paused → IsGoodPlay old setup paused request → Plays old.state old request authority ask new → AsksOrLacks old ask new
+good_plays {old} {request} {ask} {new} authority ready good plays =
+    let is = subst (λ (s : State). Plays s old request authority ask new) ready plays in
+    no_refusal request.sequence authority is.planned ready good.plan
+    is.is_planned is.asks
+
+good_takes : {old : Standing} {request : Request} {setup : Setup} {paused : Option Run} {ask : Ask} {new : Standing}
+    (judgement : Result Task Refusal) → old.state ≡ Ready setup paused → IsGoodPlay old setup paused request
+    → IsJudged old.films old.id (place_of old.state) request judgement → Takes old request judgement ask new → AsksOrLacks old ask new
+good_takes {ask} {new} (Ok (ToPlay asked)) ready good judged takes =
+    good_plays asked.authority.now ready good takes
+good_takes {ask} {new} (Err refusal) ready good judged takes = absurd (good.taken refusal judged)
+good_takes {ask} {new} (Ok ToOptions) ready good judged takes =
+    absurd (let no : ⊥ = cc (judged.talk.spoken.named, good.method) in no)
+good_takes {ask} {new} (Ok (ToDescribe asked)) ready good judged takes =
+    absurd (let no : ⊥ = cc (judged.talk.spoken.named, good.method) in no)
+good_takes {ask} {new} (Ok (ToSetup film)) ready good judged takes =
+    absurd (let no : ⊥ = cc (judged.talk.spoken.named, good.method) in no)
+good_takes {ask} {new} (Ok ToPause) ready good judged takes =
+    absurd (let no : ⊥ = cc (judged.talk.spoken.named, good.method) in no)
+good_takes {ask} {new} (Ok ToTeardown) ready good judged takes =
+    absurd (let no : ⊥ = cc (judged.talk.spoken.named, good.method) in no)
+good_takes {ask} {new} (Ok ToGetParameter) ready good judged takes =
+    absurd (let no : ⊥ = cc (judged.talk.spoken.named, good.method) in no)
+
+hears_on_good : {lost : Bool} {old : Standing} {message : List ℕ} {ask : Ask} {new : Standing} → lost ≡ false → CanBePlayed old message
+    → HearsOn lost old message ask new → AsksOrLacks old ask new
+hears_on_good {lost = true} {ask} {new} linked can hears = absurd (let no : ⊥ = cc in no)
+hears_on_good {lost = false} {ask} {new} linked can (inl fault) = absurd (can.sound fault.fault fault.is_fault)
+hears_on_good {lost = false} {ask} {new} linked can (inr whole) =
+    good_takes whole.hears.judgement can.ready (can.good whole.request whole.is_request)
+    whole.hears.judged whole.hears.takes
+
+pub hears_good : (old new : Standing) (message : List ℕ) (ask : Ask) → Hears old message ask new → CanBePlayed old message
+    → AsksOrLacks old ask new
+hears_good old new message ask hears can = hears_on_good can.linked can hears

@@ -1,0 +1,286 @@
+-- What a PAUSE and a TEARDOWN come to.
+use Rattle.std.proofs.Common.{◌≡◌, ℕ, ◌⊎◌, ◌&&◌, Bool, true, false, cond, List, [], ◌∷◌, Option, Some, codes, Result, Ok, Err, refl, sym, ap, subst, ◌∙◌, inl, inr}
+use Rattle.film_frames.specs.declared.stores.Stored.{Stored}
+use Rattle.pacer.specs.Pacings.{next_boundary}
+use Rattle.rtsp_text.specs.Replies.{value_named}
+use Rattle.rtsp_text.specs.declared.requests.Request.{Request}
+use Rattle.rtsp_text.proofs.Once.{no_fault}
+use Rattle.session.specs.declared.asks.Ask.{Ask}
+use Rattle.session.specs.declared.asks.Ask.TheVariants.{Reply, Halt as AskHalt}
+use Rattle.session.specs.declared.refusals.Refusal.{Refusal}
+use Rattle.session.specs.declared.refusals.Refusal.TheVariants.{Memory}
+use Rattle.session.specs.declared.refusals.Task.{Task}
+use Rattle.session.specs.declared.refusals.Task.TheVariants.{Options as ToOptions, Describe as ToDescribe, Setup as ToSetup, Play as ToPlay, Pause as ToPause, Teardown as ToTeardown, GetParameter as ToGetParameter}
+use Rattle.session.specs.declared.settings.Settings.{Settings}
+use Rattle.session.specs.declared.states.Awaited.{Awaited}
+use Rattle.session.specs.declared.states.Awaited.TheVariants.{Halt as ToHalt}
+use Rattle.session.specs.declared.states.Next.TheVariants.{Done, Torn}
+use Rattle.session.specs.declared.states.Play.{Play as Played}
+use Rattle.session.specs.declared.states.Setup.{Setup}
+use Rattle.session.specs.declared.states.State.{State}
+use Rattle.session.specs.declared.states.State.TheVariants.{Init, Ready, Playing, Stopping}
+use Rattle.session.specs.EndLaws.{EndsSession, HaltsPlay, HasTeardown, IsOfMethod, IsPausedPlay, IsPause, IsSessionTold, IsTeardown, IsTeardownHeard, IsTornDown}
+use Rattle.session.specs.Hearings.{Hears, HearsOn, after_halt, is_torn, new_standing}
+use Rattle.session.specs.declared.methods.Method.{Method}
+use Rattle.session.specs.declared.methods.Method.TheVariants.{Options, Describe, Setup as SetUp, Play as PlayMethod, Pause, Teardown, GetParameter}
+use Rattle.session.specs.Judging.{IsJudged, name_of, option_of, place_of}
+use Rattle.session.specs.Laws.{stage_of}
+use Rattle.session.specs.LookLaws.{Happening, Message, Admission, Overflow, Full, Halt, Look, Offer, Slot, Sending, AreAfter, IsAfter}
+use Rattle.session.specs.Methods.{AsksHalt, Ends, IsRefused, Pauses, PausesPlay, Takes, TearsDown}
+use Rattle.session.specs.PlayLaws.{IsDeclined}
+use Rattle.session.specs.Replies.{field, session_text}
+use Rattle.session.specs.Sendings.{after_play, is_between, is_done_in, is_sending, is_taken, next_of, sent_due, sent_in, sent_reply, sent_slot, stepped_in}
+use Rattle.session.specs.Standings.{Standing}
+use Rattle.session.proofs.OneVerdict.{method_once}
+use Rattle.session.proofs.RangeInPlaying.{refused, same_request}
+use Rattle.session.proofs.Results.{ComesTo, Lacks, Refuses, Says, SettlesSetup, AsksForPlay, AsksForHalt, AsksForLook, AsksForOffer, comes_to}
+
+-- ---- what each method comes to
+
+abbrev Comes : (Standing → Ask → Standing → Type 0) → Standing → Ask → Standing → Type 0
+Comes P old ask new = IsDeclined old ask new ⊎ P old ask new
+
+session_told : (sequence : ℕ) (id : List ℕ) → IsSessionTold sequence id (session_text sequence id)
+unfolding value_named
+session_told sequence id = record { fields = field (codes "Session") id ∷ []; text_is = refl; session = refl }
+
+-- a halt that was asked for, for a TEARDOWN
+torn_halt : {old : Standing} {sequence : ℕ} {setup : Setup} {play : Played} {ask : Ask} {new : Standing}
+    → old.state ≡ Playing setup play → AsksHalt old sequence setup play Torn ask new → IsTornDown old ask new
+torn_halt {old} {sequence} {ask} {new} playing asks = record {
+  sequence = sequence;
+  told = subst (IsSessionTold sequence old.id) (sym (ap (λ (s : Standing). s.text) asks.state)) (session_told sequence old.id);
+  halts = subst (λ (s : State). HaltsPlay (stage_of s) ask) (sym playing) (asks.keep, asks.command);
+  ends = subst (λ a. EndsSession a new) (sym asks.command)
+      (λ place. ap (λ (s : Standing). (sent_reply (after_halt s place)).torn) asks.state);
+}
+
+-- a reply of its own, to a TEARDOWN
+torn_reply : (old : Standing) (sequence : ℕ) (ask : Ask) (new : Standing) → HaltsPlay (stage_of old.state) Reply
+    → Ends old sequence ask new → IsTornDown old ask new
+torn_reply old sequence ask new halts ends = record {
+  sequence = sequence;
+  told = subst (IsSessionTold sequence old.id) (sym (ap (λ (s : Standing). s.text) ends.1)) (session_told sequence old.id);
+  halts = subst (HaltsPlay (stage_of old.state)) (sym ends.0) halts;
+  ends = subst (λ a. EndsSession a new) (sym ends.0) (ap (λ (s : Standing). (sent_reply s).torn) ends.1);
+}
+
+tears_in : {state : State} {old : Standing} {ask : Ask} {new : Standing} (sequence : ℕ) → old.state ≡ state
+    → TearsDown state old sequence ask new → IsTornDown old ask new
+tears_in {state = Init} {old} {ask} {new} sequence is tears =
+    torn_reply old sequence ask new (subst (λ (s : State). HaltsPlay (stage_of s) Reply) (sym is) refl) tears
+tears_in {state = Ready setup paused} {old} {ask} {new} sequence is tears =
+    torn_reply old sequence ask new (subst (λ (s : State). HaltsPlay (stage_of s) Reply) (sym is) refl) tears
+tears_in {state = Playing setup play} {ask} {new} sequence is tears = torn_halt is tears
+tears_in {state = Stopping setup stop} {old} {ask} {new} sequence is tears =
+    torn_reply old sequence ask new (subst (λ (s : State). HaltsPlay (stage_of s) Reply) (sym is) refl) tears
+
+paused_play : {old : Standing} {sequence : ℕ} {setup : Setup} {play : Played} {ask : Ask} {new : Standing}
+    → old.state ≡ Playing setup play → PausesPlay old sequence setup play ask new → IsPausedPlay old ask new
+paused_play {old} {sequence} {setup} {play} {ask} {new} is pauses = record {
+  setup = setup;
+  play = play;
+  stored = pauses.stored;
+  keep = next_boundary play.pacer;
+  last = pauses.last;
+  left = pauses.left;
+  sequence = sequence;
+  playing = is;
+  command = pauses.asks.command ∙ ap AskHalt pauses.asks.keep_is;
+  told = subst (IsSessionTold sequence old.id) (sym (ap (λ (s : Standing). s.text) pauses.asks.state)) (session_told sequence old.id);
+  at = pauses.at;
+  last_is = pauses.last_is;
+  left_is = pauses.left_is;
+  state = λ place. ap (λ (s : Standing). (sent_reply (after_halt s place)).state) pauses.asks.state;
+}
+
+pauses_in : {state : State} {old : Standing} {ask : Ask} {new : Standing} (sequence : ℕ) → old.state ≡ state
+    → Pauses state old sequence ask new → IsPausedPlay old ask new
+pauses_in {state = Init} {ask} {new} sequence is pauses = absurd pauses
+pauses_in {state = Ready setup paused} {ask} {new} sequence is pauses = absurd pauses
+pauses_in {state = Playing setup play} {ask} {new} sequence is pauses = paused_play is pauses
+pauses_in {state = Stopping setup stop} {ask} {new} sequence is pauses = absurd pauses
+
+-- a name is that of one method
+other_method : (name : List ℕ) (method other : Method) → (method ≡ other → ⊥) → name ≡ name_of method → name ≡ name_of other → ⊥
+other_method name method other differ is its = differ (method_once name method other is its)
+
+takes_teardown : (old : Standing) (request : Request) (judgement : Result Task Refusal) (ask : Ask) (new : Standing)
+    → request.method.now ≡ codes "TEARDOWN" → IsJudged old.films old.id (place_of old.state) request judgement
+    → Takes old request judgement ask new → Comes IsTornDown old ask new
+takes_teardown old request (Ok ToTeardown) ask new method judged takes = inr (tears_in request.sequence refl takes)
+takes_teardown old request (Ok ToOptions) ask new method judged takes =
+    absurd (other_method request.method.now Options Teardown (λ same. cc) judged.talk.spoken.named method)
+takes_teardown old request (Ok (ToDescribe asked)) ask new method judged takes =
+    absurd (other_method request.method.now Describe Teardown (λ same. cc) judged.talk.spoken.named method)
+takes_teardown old request (Ok (ToSetup film)) ask new method judged takes =
+    absurd (other_method request.method.now SetUp Teardown (λ same. cc) judged.talk.spoken.named method)
+takes_teardown old request (Ok (ToPlay asked)) ask new method judged takes =
+    absurd (other_method request.method.now PlayMethod Teardown (λ same. cc) judged.talk.spoken.named method)
+takes_teardown old request (Ok ToPause) ask new method judged takes =
+    absurd (other_method request.method.now Pause Teardown (λ same. cc) judged.talk.spoken.named method)
+takes_teardown old request (Ok ToGetParameter) ask new method judged takes =
+    absurd (other_method request.method.now GetParameter Teardown (λ same. cc) judged.talk.spoken.named method)
+takes_teardown old request (Err refusal) ask new method judged takes =
+    inl (refused (Some request.sequence) refusal (option_of request.head.now) takes)
+
+takes_pause : (old : Standing) (request : Request) (judgement : Result Task Refusal) (ask : Ask) (new : Standing)
+    → request.method.now ≡ codes "PAUSE" → IsJudged old.films old.id (place_of old.state) request judgement
+    → Takes old request judgement ask new → Comes IsPausedPlay old ask new
+takes_pause old request (Ok ToPause) ask new method judged takes = inr (pauses_in request.sequence refl takes)
+takes_pause old request (Ok ToOptions) ask new method judged takes =
+    absurd (other_method request.method.now Options Pause (λ same. cc) judged.talk.spoken.named method)
+takes_pause old request (Ok (ToDescribe asked)) ask new method judged takes =
+    absurd (other_method request.method.now Describe Pause (λ same. cc) judged.talk.spoken.named method)
+takes_pause old request (Ok (ToSetup film)) ask new method judged takes =
+    absurd (other_method request.method.now SetUp Pause (λ same. cc) judged.talk.spoken.named method)
+takes_pause old request (Ok (ToPlay asked)) ask new method judged takes =
+    absurd (other_method request.method.now PlayMethod Pause (λ same. cc) judged.talk.spoken.named method)
+takes_pause old request (Ok ToTeardown) ask new method judged takes =
+    absurd (other_method request.method.now Teardown Pause (λ same. cc) judged.talk.spoken.named method)
+takes_pause old request (Ok ToGetParameter) ask new method judged takes =
+    absurd (other_method request.method.now GetParameter Pause (λ same. cc) judged.talk.spoken.named method)
+takes_pause old request (Err refusal) ask new method judged takes =
+    inl (refused (Some request.sequence) refusal (option_of request.head.now) takes)
+
+-- a message of a method is refused, or comes to what its request does
+hears_on : {P : Standing → Ask → Standing → Type 0} {method : List ℕ}
+    → ((old : Standing) (request : Request) (judgement : Result Task Refusal) (ask : Ask) (new : Standing) → request.method.now ≡ method
+    → IsJudged old.films old.id (place_of old.state) request judgement → Takes old request judgement ask new → Comes P old ask new)
+    → (lost : Bool) {old : Standing} {message : List ℕ} {ask : Ask} {new : Standing} → IsOfMethod method message
+    → HearsOn lost old message ask new → Comes P old ask new
+hears_on {P} {method} takes true {ask} {new} is hears = inl (refused _ Memory [] hears)
+hears_on {P} {method} takes false {message} {ask} {new} is (inl fault) =
+    let r = is.request in
+    absurd (no_fault message r.method.now r.url.now r.sequence r.head.now r.body.now fault.fault is.is_request fault.is_fault)
+hears_on {P} {method} takes false {old} {message} {ask} {new} is (inr whole) =
+    let alike = same_request message is.request whole.request is.is_request whole.is_request in
+    takes old whole.request whole.hears.judgement ask new (alike.method ∙ is.method_is) whole.hears.judged whole.hears.takes
+
+pub teardown_ends : (old new : Standing) (message : List ℕ) (ask : Ask) → IsTeardown message → Hears old message ask new
+    → IsDeclined old ask new ⊎ IsTornDown old ask new
+teardown_ends old new message ask is hears =
+    hears_on {P = IsTornDown} {method = codes "TEARDOWN"} takes_teardown old.lost {old = old} {message = message} {ask = ask} {new = new} is hears
+
+pub pause_leaves : (old new : Standing) (message : List ℕ) (ask : Ask) → IsPause message → Hears old message ask new
+    → IsDeclined old ask new ⊎ IsPausedPlay old ask new
+pause_leaves old new message ask is hears = hears_on {P = IsPausedPlay} {method = codes "PAUSE"} takes_pause old.lost {old = old} {message = message} {ask = ask} {new = new} is hears
+
+-- ---- only a TEARDOWN ends the session
+
+-- a halt that was asked for leads to the session's end
+abbrev is_ending : Awaited → Bool
+is_ending awaited = is_torn (next_of awaited)
+
+record IsCalm (standing : Standing) : Type 0 where
+  tearing : standing.tearing ≡ false
+  torn : standing.torn ≡ false
+  awaited : is_ending standing.awaited ≡ false
+
+calm_by : (old new : Standing) → IsCalm old → new.tearing ≡ old.tearing → new.torn ≡ old.torn → is_ending new.awaited ≡ false
+    → IsCalm new
+calm_by old new calm tearing torn awaited = record {
+  tearing = tearing ∙ calm.tearing;
+  torn = torn ∙ calm.torn;
+  awaited = awaited;
+}
+
+comes_calm : (old new : Standing) (message : List ℕ) (ask : Ask) → IsCalm old → ComesTo old message ask new → IsTeardown message ⊎ IsCalm new
+comes_calm old new message ask calm (Lacks is) =
+    inr (calm_by old new calm (ap (λ (s : Standing). s.tearing) is.1) (ap (λ (s : Standing). s.torn) is.1)
+    (ap (λ (s : Standing). is_ending s.awaited) is.1 ∙ calm.awaited))
+comes_calm old new message ask calm (Refuses sequence refusal option other is) =
+    inr (calm_by old new calm (ap (λ (s : Standing). s.tearing) is.1) (ap (λ (s : Standing). s.torn) is.1)
+    (ap (λ (s : Standing). is_ending s.awaited) is.1 ∙ calm.awaited))
+comes_calm old new message ask calm (Says sequence fields body tearing (inl same) command is) =
+    inr (calm_by old new calm (ap (λ (s : Standing). s.tearing) is ∙ same) (ap (λ (s : Standing). s.torn) is)
+    (ap (λ (s : Standing). is_ending s.awaited) is ∙ calm.awaited))
+comes_calm old new message ask calm (Says sequence fields body tearing (inr teardown) command is) = inl teardown
+comes_calm old new message ask calm (SettlesSetup sequence setup init ranges command is) =
+    inr (calm_by old new calm (ap (λ (s : Standing). s.tearing) is) (ap (λ (s : Standing). s.torn) is)
+    (ap (λ (s : Standing). is_ending s.awaited) is ∙ calm.awaited))
+comes_calm old new message ask calm (AsksForPlay stored setup paused range planned sequence authority ready planned_is command is) =
+    inr (calm_by old new calm (ap (λ (s : Standing). s.tearing) is) (ap (λ (s : Standing). s.torn) is)
+    (ap (λ (s : Standing). is_ending s.awaited) is))
+comes_calm old new message ask calm (AsksForHalt sequence setup play next playing told (inl not_torn) halts) =
+    inr (calm_by old new calm (ap (λ (s : Standing). s.tearing) halts.state) (ap (λ (s : Standing). s.torn) halts.state)
+    (ap (λ (s : Standing). is_ending s.awaited) halts.state ∙ not_torn))
+comes_calm old new message ask calm (AsksForHalt sequence setup play next playing told (inr teardown) halts) = inl teardown
+comes_calm old new message ask calm (AsksForLook sequence look) =
+    inr (calm_by old new calm (ap (λ (s : Standing). s.tearing) look.state) (ap (λ (s : Standing). s.torn) look.state)
+    (ap (λ (s : Standing). is_ending s.awaited) look.state))
+comes_calm old new message ask calm (AsksForOffer sequence wait planned asks) =
+    inr (calm_by old new calm (ap (λ (s : Standing). s.tearing) asks.state) (ap (λ (s : Standing). s.torn) asks.state)
+    (ap (λ (s : Standing). is_ending s.awaited) asks.state))
+
+halt_calm : (old : Standing) (place : ℕ) → IsCalm old → IsCalm (after_halt old place)
+halt_calm old place calm = record {
+  tearing = ap (λ b. cond b true old.tearing) calm.awaited ∙ calm.tearing;
+  torn = calm.torn;
+  awaited = refl;
+}
+
+reply_calm : (old : Standing) → IsCalm old → IsCalm (sent_reply old)
+reply_calm old calm = record { tearing = calm.tearing; torn = calm.tearing; awaited = calm.awaited }
+
+finished_calm : (done : Bool) (sent : ℕ) (awaited : Awaited) → is_ending awaited ≡ false
+    → is_ending (cond done (ToHalt sent Done) awaited) ≡ false
+finished_calm true sent awaited calm = refl
+finished_calm false sent awaited calm = calm
+
+play_calm : (old : Standing) → IsCalm old → IsCalm (after_play old)
+play_calm old calm = record {
+  tearing = calm.tearing;
+  torn = calm.torn;
+  awaited = finished_calm (is_done_in old.state) (sent_in old.state) old.awaited calm.awaited;
+}
+
+sent_calm : (sent : Bool) (old : Standing) → IsCalm old → IsCalm (cond sent (sent_reply old) old)
+sent_calm true old calm = reply_calm old calm
+sent_calm false old calm = calm
+
+slot_calm : (taken sending : Bool) (old : Standing) (slot : ℕ) → IsCalm old
+    → IsCalm (cond taken (cond sending (after_play (sent_slot old slot)) (record old { heard = slot })) old)
+slot_calm true true old slot calm =
+    play_calm (sent_slot old slot) (sent_calm (old.waits && is_between (stepped_in true slot old.state)) (sent_due old slot)
+    (record { tearing = calm.tearing; torn = calm.torn; awaited = calm.awaited }))
+slot_calm true false old slot calm = record { tearing = calm.tearing; torn = calm.torn; awaited = calm.awaited }
+slot_calm false sending old slot calm = calm
+
+happening_calm : (old : Standing) (happening : Happening) (new : Standing) → IsAfter old happening new → IsCalm old
+    → IsTeardownHeard happening ⊎ IsCalm new
+happening_calm old (Message message ask) new is calm = comes_calm old new message ask calm (comes_to old message ask new is)
+happening_calm old (Admission place start) new is calm =
+    inr (subst IsCalm (sym is) (record { tearing = calm.tearing; torn = calm.torn; awaited = refl }))
+happening_calm old (Overflow place slot booked asked) new is calm =
+    inr (subst IsCalm (sym is) (record { tearing = calm.tearing; torn = calm.torn; awaited = refl }))
+happening_calm old (Full entries live) new is calm =
+    inr (subst IsCalm (sym is) (record { tearing = calm.tearing; torn = calm.torn; awaited = refl }))
+happening_calm old (Halt place) new is calm = inr (subst IsCalm (sym is) (halt_calm old place calm))
+happening_calm old (Look place now at booked) new is calm =
+    inr (subst IsCalm (sym is) (record { tearing = calm.tearing; torn = calm.torn; awaited = refl }))
+happening_calm old (Offer note) new is calm =
+    inr (subst IsCalm (sym is) (record { tearing = calm.tearing; torn = calm.torn; awaited = refl }))
+happening_calm old (Slot slot) new is calm =
+    inr (subst IsCalm (sym is) (slot_calm (is_taken old slot) (is_sending old.state) old slot calm))
+happening_calm old Sending new is calm = inr (subst IsCalm (sym is) (reply_calm old calm))
+
+all_calm : (happenings : List Happening) (old new : Standing) → AreAfter old happenings new → IsCalm old → HasTeardown happenings ⊎ IsCalm new
+all_calm [] old new is calm = inr (subst IsCalm (sym is) calm)
+all_calm (happening ∷ rest) old new is calm =
+    elim (happening_calm old happening is.0 is.1.0 calm) [
+      | inl heard ↦ inl (inl heard)
+      | inr quiet ↦
+          elim (all_calm rest is.0 new is.1.1 quiet) [
+            | inl later ↦ inl (inr later)
+            | inr end ↦ inr end
+          ]
+    ]
+
+pub torn_by_teardown : (films : List Stored) (settings : Settings) (words : List ℕ) (happenings : List Happening) (now : Standing)
+    → AreAfter (new_standing films settings words) happenings now → now.torn ≡ true → HasTeardown happenings
+torn_by_teardown films settings words happenings now are torn =
+    elim (all_calm happenings (new_standing films settings words) now are (record { tearing = refl; torn = refl; awaited = refl })) [
+      | inl heard ↦ heard
+      | inr quiet ↦ absurd (let no : ⊥ = cc (quiet.torn, torn) in no)
+    ]

@@ -1,0 +1,94 @@
+-- Lemmas on what a failed sending of a slot leaves.
+use Rattle.std.proofs.Common.{◌≡◌, ℕ, ◌+◌, ◌-◌, ◌≤◌, ◌++◌, Bool, true, false, if◌then◌else◌, min, max, List, [], length, take, drop, Option, Some, None, Result, Ok, Err, OnErr, refl, ap, sym, ◌∙◌, arith, inl, inr}
+use Rattle.std.proofs.lemmas.Bool.{cases_lt, true≢false}
+use Rattle.std.proofs.lemmas.List.{append_assoc, length-append, map-append, take-append-le, take-take, take_all}
+use Rattle.std.proofs.Math.Seq.{take-append-add}
+use Rattle.film_frames.specs.Tracks.{framed_bytes}
+use Rattle.vod_base.specs.Links.{Doing, Sent, IsFrontTold, sends, told_more}
+use Rattle.pacer.specs.Pacings.{Pacing, due_by, first_slots, plan_bytes, at_slot, slots_by, step_end}
+use Rattle.pacer.specs.Steps.{HasFailed}
+use Rattle.session.specs.declared.states.State.{State}
+use Rattle.session.specs.declared.states.State.TheVariants.{Init, Ready, Playing, Stopping}
+use Rattle.session.specs.Sendings.{stepped_in}
+use Rattle.session.specs.Standings.{open_in}
+
+-- a fact that holds, also where there is no fault
+pub on_err : {T E P : Type 0} (r : Result T E) → P → OnErr r P
+on_err (Ok t) p = tt
+on_err (Err e) p = p
+
+-- the first bytes, however many are asked for
+any_front : (bytes : List ℕ) (k : ℕ) → (n : ℕ) × ((n ≤ length bytes) × (take n bytes ≡ take k bytes))
+any_front bytes k =
+    elim (cases_lt (length bytes) k) [
+      | inl long ↦ (length bytes, (omega (arith), take_all (length bytes) bytes (omega (arith)) ∙ sym (take_all k bytes (omega (arith, long)))))
+      | inr short ↦ (k, (short, refl))
+    ]
+
+pub front_of : (old new : Option (List Doing)) (bytes : List ℕ) (k : ℕ) → new ≡ told_more old (sends (take k bytes)) → IsFrontTold old new bytes
+front_of old new bytes k told =
+    let front = any_front bytes k in (front.0, (front.1.0, told ∙ ap (λ bs. told_more old (sends bs)) (sym front.1.1)))
+
+-- a front of what comes first is a front of all
+pub front_left : (old new : Option (List Doing)) (bytes more : List ℕ) → IsFrontTold old new bytes → IsFrontTold old new (bytes ++ more)
+front_left old new bytes more front =
+    (front.0, (omega (arith, front.1.0, length-append bytes more), front.1.1 ∙ ap (λ bs. told_more old (sends bs)) (sym (take-append-le front.0 bytes more front.1.0))))
+
+told_on : (old : Option (List Doing)) (xs ys : List Doing) → told_more (told_more old xs) ys ≡ told_more old (xs ++ ys)
+told_on None xs ys = refl
+told_on (Some told) xs ys = ap Some (append_assoc told xs ys)
+
+pub front_right : {mid new : Option (List Doing)} (old : Option (List Doing)) (bytes more : List ℕ) → mid ≡ told_more old (sends bytes) → IsFrontTold mid new more →
+    IsFrontTold old new (bytes ++ more)
+front_right {new} old bytes more whole front = (
+  length bytes + front.0,
+  (
+    omega (arith, front.1.0, length-append bytes more),
+    front.1.1 ∙ ap (λ t. told_more t (sends (take front.0 more))) whole ∙ told_on old (sends bytes) (sends (take front.0 more))
+        ∙ ap (told_more old) (sym (map-append Sent bytes (take front.0 more)))
+        ∙ ap (λ bs. told_more old (sends bs)) (sym (take-append-add bytes more front.0)),
+  ),
+)
+
+-- a step that failed
+pub failed_front : {stop : Bool} {slot : ℕ} {p new : Pacing} {told next : Option (List Doing)} → HasFailed stop slot p new told next →
+    IsFrontTold told next (plan_bytes p p.sent (step_end stop (at_slot slot p)))
+failed_front {stop} {slot} {p} {new} {told} {next} failed =
+    let end : ℕ = step_end stop (at_slot slot p) in
+    let part : ℕ = (p.before + failed.out) - (p.before + p.sent) in
+    let whole : ℕ = (p.before + end) - (p.before + p.sent) in
+    let within : part ≤ whole = omega (arith, failed.out_most) in
+    front_of told next (plan_bytes p p.sent end) part
+    (failed.told ∙ ap (λ bs. told_more told (sends bs)) (sym (take-take part whole (drop (p.before + p.sent) (framed_bytes p.pieces)) within)))
+
+pub failed_due : {stop : Bool} {slot : ℕ} {p new : Pacing} {told next : Option (List Doing)} → HasFailed stop slot p new told next → new.due ≡ due_by p slot
+failed_due {stop} {slot} {p} {new} {next} failed = ap (λ (q : Pacing). q.due) failed.state
+
+max_twice : (a b : ℕ) → max (max a b) b ≡ max a b
+max_twice a b = omega arith
+
+-- both sends of a slot: a front of what comes after the first
+pub front_both : {waits between : Bool} {mid new : Option (List Doing)} (old : Option (List Doing))
+    (one text after plain : List ℕ) → waits ≡ true → between ≡ true →
+    mid ≡ told_more old (sends one) → IsFrontTold mid new (text ++ after) →
+    IsFrontTold old new (if waits then one ++ (if between then text ++ after else []) else plain)
+front_both {waits = true} {between = true} {new} old one text after plain waiting between told front = front_right old one (text ++ after) told front
+front_both {waits = true} {between = false} {new} old one text after plain waiting between told front = absurd (true≢false (sym between))
+front_both {waits = false} {between} {new} old one text after plain waiting is told front = absurd (true≢false (sym waiting))
+
+-- a slot that was stepped makes nothing more due as it is stepped again
+pub raised_twice : (stop : Bool) (slot : ℕ) (state : State) → open_in (stepped_in false slot (stepped_in stop slot state)) ≡ open_in (stepped_in stop slot state)
+raised_twice stop slot Init = refl
+raised_twice stop slot (Ready setup paused) = refl
+raised_twice stop slot (Playing setup play) =
+    ap (λ n. Some (record { plan = play.plan; start = play.start; due = n }))
+    (max_twice play.pacer.due (min (first_slots play.pacer.plan (slots_by play.pacer slot)) play.pacer.keep))
+raised_twice stop slot (Stopping setup halted) = refl
+
+pub due_between : (between : Bool) (slot : ℕ) (state : State) →
+    open_in (if between then stepped_in false slot (stepped_in true slot state) else stepped_in true slot state) ≡ open_in (stepped_in true slot state)
+due_between false slot state = refl
+due_between true slot state = raised_twice true slot state
+
+-- what a slot with a waiting reply is proved by
+pub ruleset due_fronts = (front_left, front_right, raised_twice, due_between)

@@ -1,0 +1,54 @@
+-- What a halt leaves.
+use Rattle.std.proofs.Common.{◌≡◌, ℕ, Bool, true, false, ◌||◌, if◌then◌else◌, List, refl}
+use Rattle.film_frames.specs.declared.stores.Stored.{Stored}
+use Rattle.session.specs.declared.settings.Settings.{Settings}
+use Rattle.session.specs.declared.states.Awaited.TheVariants.{Nothing}
+use Rattle.session.specs.declared.states.Counts.{Counts}
+use Rattle.session.specs.declared.states.Next.{Next}
+use Rattle.session.specs.declared.states.Next.TheVariants.{Done, Paused, Torn}
+use Rattle.session.specs.declared.states.Play.{Play as Played}
+use Rattle.session.specs.declared.states.Setup.{Setup}
+use Rattle.session.specs.declared.states.Source.{Source}
+use Rattle.session.specs.declared.states.State.TheVariants.{Playing}
+use Rattle.session.specs.Hearings.{counts_next, is_answered, is_torn}
+use Rattle.session.specs.Inside.{IsAwaitedKept, IsNextIn, IsStateKept, IsStopAnswered, open_receipts}
+use Rattle.session.specs.Sendings.{state_after}
+
+-- how the state is kept that a halt leaves
+pub halted_kept : {source : Source} {settings : Settings} {counts : Counts} {setup : Setup} {play : Played}
+    (films : List Stored) (keep : ℕ) (next : Next) → IsStateKept films source settings counts (Playing setup play)
+    → IsNextIn films source counts (Playing setup play) next
+    → IsStateKept films source settings (counts_next films source counts setup play.run keep next) (state_after setup play next)
+halted_kept films keep Done kept left = (kept.0, tt)
+halted_kept films keep (Paused rest) kept left = (kept.0, kept.1.pacing, left)
+halted_kept films keep Torn kept left = (kept.0, kept.1.pacing, tt)
+
+pub halted_rest : (films : List Stored) (source : Source) (settings : Settings) (counts : Counts) (lost : Bool) (setup : Setup)
+    (play : Played) (next : Next) → IsAwaitedKept films source settings counts lost (state_after setup play next) Nothing
+halted_rest films source settings counts lost setup play Done = tt
+halted_rest films source settings counts lost setup play (Paused rest) = tt
+halted_rest films source settings counts lost setup play Torn = tt
+
+pub halted_stop : (setup : Setup) (play : Played) (next : Next) (waits : Bool)
+    → IsStopAnswered (state_after setup play next) (if is_answered next then true else waits)
+halted_stop setup play Done waits = tt
+halted_stop setup play (Paused rest) waits = refl
+halted_stop setup play Torn waits = refl
+
+pub halted_closed : (setup : Setup) (play : Played) (next : Next) → open_receipts (state_after setup play next) ≡ 0
+halted_closed setup play Done = refl
+halted_closed setup play (Paused rest) = refl
+halted_closed setup play Torn = refl
+
+-- a session that is torn down by a halt has a reply that waits
+pub halted_torn : {tearing waits torn : Bool} (next : Next) → (tearing ≡ true → waits ≡ false → torn ≡ true)
+    → (if is_torn next then true else tearing) ≡ true → (if is_answered next then true else waits) ≡ false → torn ≡ true
+halted_torn {waits} Done was ends still = was ends still
+halted_torn {waits} (Paused rest) was ends still = cc
+halted_torn {waits} Torn was ends still = cc
+
+pub or_if : (a b : Bool) → (a || b) ≡ (if b then true else a)
+or_if true true = refl
+or_if true false = refl
+or_if false true = refl
+or_if false false = refl

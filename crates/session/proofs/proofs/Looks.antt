@@ -1,0 +1,146 @@
+-- There is room for the first looks of a connection.
+use Rattle.std.proofs.Common.{◌≡◌, ℕ, ◌+◌, ◌-◌, ◌<◌, ◌≤◌, ◌&&◌, Bool, true, false, cond, List, [], ◌∷◌, Option, Some, codes, Result, Ok, Err, refl, sym, ap, subst, ◌∙◌, inl, inr, arith}
+use Rattle.std.proofs.lemmas.List.Sums.{sum_by-cons}
+use Rattle.film_frames.specs.declared.stores.Stored.{Stored}
+use Rattle.rtsp_text.specs.declared.requests.Request.{Request}
+use Rattle.rtsp_text.proofs.Once.{no_fault}
+use Rattle.session.specs.declared.asks.Ask.{Ask}
+use Rattle.session.specs.declared.asks.Ask.TheVariants.{Reply}
+use Rattle.session.specs.declared.methods.Topic.{Topic}
+use Rattle.session.specs.declared.methods.Topic.TheVariants.{Nothing as NoTopic, Booked, Offer as OfferTopic, Unknown}
+use Rattle.session.specs.declared.refusals.Refusal.{Refusal}
+use Rattle.session.specs.declared.refusals.Refusal.TheVariants.{Memory}
+use Rattle.session.specs.declared.refusals.Task.{Task}
+use Rattle.session.specs.declared.refusals.Task.TheVariants.{Options as ToOptions, Describe as ToDescribe, Setup as ToSetup, Play as ToPlay, Pause as ToPause, Teardown as ToTeardown, GetParameter as ToGetParameter}
+use Rattle.session.specs.declared.settings.Settings.{Settings}
+use Rattle.session.specs.Hearings.{Hears, HearsOn, new_standing}
+use Rattle.session.specs.Judging.{IsJudged, IsWord, option_of, place_of}
+use Rattle.session.specs.Laws.{Is500}
+use Rattle.session.specs.LookLaws.{Happening, Message, Admission, Overflow, Full, Halt, Look, Offer, Slot, Sending, AreAfter, AsksBooked, HasLooksLeft, IsAfter, looks_asked, looks_in, looks_of}
+use Rattle.session.specs.Changes.{HasCode}
+use Rattle.session.specs.Methods.{Gets, IsRefused, Looks, Takes}
+use Rattle.session.specs.Replies.{code_of, refusal_text}
+use Rattle.session.specs.Sendings.{after_play, is_between, is_sending, is_taken, sent_due, sent_reply, sent_slot, stepped_in}
+use Rattle.session.specs.Standings.{Standing}
+use Rattle.session.proofs.OneHearing.{topic_once}
+use Rattle.session.proofs.RangeInPlaying.{same_request}
+use Rattle.session.proofs.Refusing.{one_code, own_code, refusal_code}
+use Rattle.session.proofs.Results.{ComesTo, Lacks, Refuses, Says, SettlesSetup, AsksForPlay, AsksForHalt, AsksForLook, AsksForOffer, comes_to}
+
+-- the room that a session has lost is that of the looks that were asked for
+abbrev Keeps : ℕ → Standing → Standing → Type 0
+Keeps looks old new = old.looks_left ≤ new.looks_left + looks
+
+same_room : (old new : Standing) → new.looks_left ≡ old.looks_left → Keeps 0 old new
+same_room old new is = omega (arith, is)
+
+replies_room : (old new : Standing) (ask : Ask) → ask ≡ Reply → new.looks_left ≡ old.looks_left → Keeps (looks_in ask) old new
+replies_room old new ask reply is = subst (λ a. Keeps (looks_in a) old new) (sym reply) (same_room old new is)
+
+comes_room : (old new : Standing) (message : List ℕ) (ask : Ask) → ComesTo old message ask new → Keeps (looks_in ask) old new
+comes_room old new message ask (Lacks is) = replies_room old new ask is.0 (ap (λ (s : Standing). s.looks_left) is.1)
+comes_room old new message ask (Refuses sequence refusal option other is) =
+    replies_room old new ask is.0 (ap (λ (s : Standing). s.looks_left) is.1)
+comes_room old new message ask (Says sequence fields body tearing by command is) =
+    replies_room old new ask command (ap (λ (s : Standing). s.looks_left) is)
+comes_room old new message ask (SettlesSetup sequence setup init ranges command is) =
+    replies_room old new ask command (ap (λ (s : Standing). s.looks_left) is)
+comes_room old new message ask (AsksForPlay stored setup paused range planned sequence authority ready planned_is command is) =
+    subst (λ a. Keeps (looks_in a) old new) (sym command) (same_room old new (ap (λ (s : Standing). s.looks_left) is))
+comes_room old new message ask (AsksForHalt sequence setup play next playing told by halts) =
+    subst (λ a. Keeps (looks_in a) old new) (sym halts.command) (same_room old new (ap (λ (s : Standing). s.looks_left) halts.state))
+comes_room old new message ask (AsksForLook sequence look) =
+    let left : new.looks_left ≡ old.looks_left - 1 = ap (λ (s : Standing). s.looks_left) look.state in
+    subst (λ a. Keeps (looks_in a) old new) (sym look.command) (omega (arith, left))
+comes_room old new message ask (AsksForOffer sequence wait planned asks) =
+    subst (λ a. Keeps (looks_in a) old new) (sym asks.command) (same_room old new (ap (λ (s : Standing). s.looks_left) asks.state))
+
+sent_room : (b : Bool) (standing : Standing) → (cond b (sent_reply standing) standing).looks_left ≡ standing.looks_left
+sent_room true standing = refl
+sent_room false standing = refl
+
+slot_room : (taken sending : Bool) (old : Standing) (slot : ℕ)
+    → (cond taken (cond sending (after_play (sent_slot old slot)) (record old { heard = slot })) old).looks_left ≡ old.looks_left
+slot_room true true old slot = sent_room (old.waits && is_between (stepped_in true slot old.state)) (sent_due old slot)
+slot_room true false old slot = refl
+slot_room false sending old slot = refl
+
+happening_room : (old : Standing) (happening : Happening) (new : Standing) → IsAfter old happening new → Keeps (looks_of happening) old new
+happening_room old (Message message ask) new is = comes_room old new message ask (comes_to old message ask new is)
+happening_room old (Admission place start) new is = same_room old new (ap (λ (s : Standing). s.looks_left) is)
+happening_room old (Overflow place slot booked asked) new is = same_room old new (ap (λ (s : Standing). s.looks_left) is)
+happening_room old (Full entries live) new is = same_room old new (ap (λ (s : Standing). s.looks_left) is)
+happening_room old (Halt place) new is = same_room old new (ap (λ (s : Standing). s.looks_left) is)
+happening_room old (Look place now at booked) new is = same_room old new (ap (λ (s : Standing). s.looks_left) is)
+happening_room old (Offer note) new is = same_room old new (ap (λ (s : Standing). s.looks_left) is)
+happening_room old (Slot slot) new is =
+    same_room old new (ap (λ (s : Standing). s.looks_left) is ∙ slot_room (is_taken old slot) (is_sending old.state) old slot)
+happening_room old Sending new is = same_room old new (ap (λ (s : Standing). s.looks_left) is)
+
+all_room : (happenings : List Happening) (old new : Standing) → AreAfter old happenings new → Keeps (looks_asked happenings) old new
+all_room [] old new is = same_room old new (ap (λ (s : Standing). s.looks_left) is)
+all_room (happening ∷ rest) old new is =
+    let first = happening_room old happening is.0 is.1.0 in
+    let more = all_room rest is.0 new is.1.1 in
+    omega (arith, first, more, sum_by-cons looks_of happening rest)
+
+-- ---- a message for what is booked
+
+booked_asks : (old new : Standing) (sequence : ℕ) (ask : Ask) → 0 < old.looks_left → Looks old sequence ask new → ¬ Is500 ask new
+booked_asks old new sequence ask some (inl look) = λ lacks. subst (λ a. Is500 a new) look.command lacks
+booked_asks old new sequence ask some (inr short) = absurd (omega (arith, some, short.later))
+
+gets_booked : {topic : Topic} (old new : Standing) (request : Request) (ask : Ask) → 0 < old.looks_left → topic ≡ Booked
+    → Gets old request topic ask new → ¬ Is500 ask new
+gets_booked {topic = NoTopic} old new request ask some is gets = absurd (let no : ⊥ = cc in no)
+gets_booked {topic = Booked} old new request ask some is gets = booked_asks old new request.sequence ask some gets
+gets_booked {topic = OfferTopic} old new request ask some is gets = absurd (let no : ⊥ = cc in no)
+gets_booked {topic = Unknown} old new request ask some is gets = absurd (let no : ⊥ = cc in no)
+
+refuses_booked : {new : Standing} {ask : Ask} {refusal : Refusal} (old : Standing) (message : List ℕ) (sequence : ℕ)
+    (option : List ℕ)
+    → (refusal ≡ Memory → ⊥) → IsRefused old (Some sequence) refusal option ask new → ¬ Is500 ask new
+refuses_booked {new} {ask} {refusal} old message sequence option other is = λ lacks.
+    let text = refusal_text (Some sequence) refusal option in
+    let code : HasCode 500 new.text = subst (λ a. Is500 a new) is.0 lacks in
+    let its = subst (λ (t : List ℕ). HasCode 500 t) (ap (λ (s : Standing). s.text) is.1) code in
+    let own = own_code refusal in
+    other (own.memory (one_code text own.small (omega arith) (refusal_code (Some sequence) refusal option) its))
+
+takes_booked : (old new : Standing) (message : List ℕ) (request : Request) (judgement : Result Task Refusal) (ask : Ask)
+    → 0 < old.looks_left → request.method.now ≡ codes "GET_PARAMETER" → IsWord (codes "x-Booked") request.body.now
+    → IsJudged old.films old.id (place_of old.state) request judgement → Takes old request judgement ask new → ¬ Is500 ask new
+takes_booked old new message request (Ok ToGetParameter) ask some method body judged takes =
+    gets_booked old new request ask some (topic_once request.body.now Booked takes.topic body takes.is_topic) takes.gets
+takes_booked old new message request (Ok ToOptions) ask some method body judged takes =
+    absurd (let no : ⊥ = cc (judged.talk.spoken.named, method) in no)
+takes_booked old new message request (Ok (ToDescribe asked)) ask some method body judged takes =
+    absurd (let no : ⊥ = cc (judged.talk.spoken.named, method) in no)
+takes_booked old new message request (Ok (ToSetup film)) ask some method body judged takes =
+    absurd (let no : ⊥ = cc (judged.talk.spoken.named, method) in no)
+takes_booked old new message request (Ok (ToPlay asked)) ask some method body judged takes =
+    absurd (let no : ⊥ = cc (judged.talk.spoken.named, method) in no)
+takes_booked old new message request (Ok ToPause) ask some method body judged takes =
+    absurd (let no : ⊥ = cc (judged.talk.spoken.named, method) in no)
+takes_booked old new message request (Ok ToTeardown) ask some method body judged takes =
+    absurd (let no : ⊥ = cc (judged.talk.spoken.named, method) in no)
+takes_booked old new message request (Err refusal) ask some method body judged takes =
+    refuses_booked old message request.sequence (option_of request.head.now)
+    (λ memory. subst (λ r. IsJudged old.films old.id (place_of old.state) request (Err r)) memory judged) takes
+
+hears_booked : {lost : Bool} {old : Standing} {message : List ℕ} (new : Standing) (ask : Ask) → lost ≡ false → 0 < old.looks_left
+    → AsksBooked old message → HearsOn lost old message ask new → ¬ Is500 ask new
+hears_booked {lost = true} new ask linked some is hears = absurd (let no : ⊥ = cc in no)
+hears_booked {lost = false} {message} new ask linked some is (inl fault) =
+    let r = is.request in
+    absurd (no_fault message r.method.now r.url.now r.sequence r.head.now r.body.now fault.fault is.is_request fault.is_fault)
+hears_booked {lost = false} {old} {message} new ask linked some is (inr whole) =
+    let alike = same_request message is.request whole.request is.is_request whole.is_request in
+    takes_booked old new message whole.request whole.hears.judgement ask some (alike.method ∙ is.method)
+    (subst (λ (b : List ℕ). IsWord (codes "x-Booked") b) (sym alike.body) is.body) whole.hears.judged whole.hears.takes
+
+pub looks_found : (films : List Stored) (settings : Settings) (words : List ℕ) (old new : Standing) (message : List ℕ) (ask : Ask)
+    → HasLooksLeft films settings words old → AsksBooked old message → Hears old message ask new → ¬ Is500 ask new
+looks_found films settings words old new message ask has is hears =
+    let room = all_room has.happenings (new_standing films settings words) old has.are in
+    hears_booked new ask is.linked (omega (arith, room, has.few)) is hears

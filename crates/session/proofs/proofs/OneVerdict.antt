@@ -1,0 +1,246 @@
+-- A request is judged in one way.
+use Rattle.std.specs.Prelude.{is_some}
+use Rattle.std.proofs.Common.{◌≡◌, ℕ, ◌+◌, ◌*◌, ◌<◌, ◌==◌, ◌⊎◌, if◌then◌else◌, List, get_or, length, Option, None, Result, Ok, Err, true, codes, refl, sym, ap, subst, ◌∙◌, inl, inr, arith, below_more}
+use Rattle.std.proofs.lemmas.Bool.{cases_order}
+use Rattle.film_frames.specs.declared.stores.Stored.{Stored}
+use Rattle.rtsp_text.specs.Fields.{header_value}
+use Rattle.rtsp_text.specs.declared.requests.Request.{Request}
+use Rattle.session.specs.declared.methods.Method.{Method}
+use Rattle.session.specs.declared.methods.Method.TheVariants.{Options, Describe, Setup, Play, Pause, Teardown, GetParameter}
+use Rattle.session.specs.declared.refusals.Place.{Place}
+use Rattle.session.specs.declared.refusals.Refusal.{Refusal}
+use Rattle.session.specs.declared.refusals.Refusal.TheVariants.{BadRequest, Version, Method as Unknown, Option as Required, Session, Film, State, Transport, Parameter, Buffer, Range, Memory}
+use Rattle.session.specs.declared.refusals.Task.{Task}
+use Rattle.session.specs.declared.refusals.Task.TheVariants.{Options as ToOptions, Describe as ToDescribe, Setup as ToSetup, Play as ToPlay, Pause as ToPause, Teardown as ToTeardown, GetParameter as ToGetParameter}
+use Rattle.session.specs.Judging.{FitsSession, FitsState, HasFilm, IsJudged, IsTaskOf, method_of, name_of, required_of}
+
+-- a name is that of one method
+abbrev key : List ℕ → ℕ
+key name = get_or name 0 0 + 10 * length name
+
+abbrev method_by : ℕ → Method
+method_by n =
+    if n == 149 then Options else if n == 148 then Describe else if n == 133 then Setup else if n == 120 then Play
+    else if n == 130 then Pause else if n == 164 then Teardown else GetParameter
+
+named : (m : Method) → method_by (key (name_of m)) ≡ m
+named Options = refl
+named Describe = refl
+named Setup = refl
+named Play = refl
+named Pause = refl
+named Teardown = refl
+named GetParameter = refl
+
+pub method_once : (name : List ℕ) (m other : Method) → name ≡ name_of m → name ≡ name_of other → m ≡ other
+method_once name m other is its = sym (named m) ∙ ap (λ n. method_by (key n)) (sym is ∙ its) ∙ named other
+
+-- the five judgements, in their order
+data Check : Type 0 where
+  ByMethod : Check
+  ByOption : Check
+  BySession : Check
+  ByFilm : Check
+  ByState : Check
+  ByNone : Check
+
+abbrev check_at : ℕ → Check
+check_at n =
+    if n == 0 then ByMethod else if n == 1 then ByOption else if n == 2 then BySession else if n == 3 then ByFilm
+    else if n == 4 then ByState else ByNone
+
+abbrev refusal_at : ℕ → Refusal
+refusal_at n =
+    if n == 0 then Unknown else if n == 1 then Required else if n == 2 then Session else if n == 3 then Film else State
+
+abbrev rank : Result Task Refusal → ℕ
+rank (Ok task) = 5
+rank (Err BadRequest) = 5
+rank (Err Version) = 5
+rank (Err Unknown) = 0
+rank (Err Required) = 1
+rank (Err Session) = 2
+rank (Err Film) = 3
+rank (Err State) = 4
+rank (Err Transport) = 5
+rank (Err Parameter) = 5
+rank (Err (Buffer least)) = 5
+rank (Err Range) = 5
+rank (Err Memory) = 5
+
+none_some : (value : Option (List ℕ)) → value ≡ None → is_some value ≡ true → ⊥
+none_some value none some = cc
+
+module _ (films : List Stored) (id : List ℕ) (place : Place) (name url head : List ℕ) where
+  abbrev Owns : Method → Type 0
+  Owns m = FitsSession m (is_some place.film) id (header_value head (codes "Session"))
+
+  abbrev HasTime : Method → Type 0
+  HasTime m = FitsState m place (is_some (header_value head (codes "Range")))
+
+  abbrev PassesBy : Check → Type 0
+  PassesBy ByMethod = (m : Method) × (name ≡ name_of m)
+  PassesBy ByOption = required_of head ≡ None
+  PassesBy BySession = (m : Method) × ((name ≡ name_of m) × Owns m)
+  PassesBy ByFilm = (m : Method) × ((name ≡ name_of m) × ((m ≡ Options) ⊎ HasFilm films place url m))
+  PassesBy ByState = (m : Method) × ((name ≡ name_of m) × HasTime m)
+  PassesBy ByNone = ⊥
+
+  abbrev Passes : ℕ → Type 0
+  Passes n = PassesBy (check_at n)
+
+  -- the first judgement that a request doesn't pass
+  record StopsAt (n : ℕ) : Type 0 where
+    before : (k : ℕ) → k < n → Passes k
+    at : ¬ Passes n
+
+  stops_once : (n m : ℕ) → StopsAt n → StopsAt m → n ≡ m
+  stops_once n m is its =
+      elim (cases_order n m) [
+        | inl same ↦ same
+        | inr differ ↦ elim differ [ inl less ↦ absurd (is.at (its.before n less)) | inr more ↦ absurd (its.at (is.before m more)) ]
+      ]
+
+  before_0 : (k : ℕ) → k < 0 → Passes k
+  before_0 k less = absurd (omega (arith, less))
+
+  before_1 : Passes 0 → (k : ℕ) → k < 1 → Passes k
+  before_1 method = below_more Passes 0 before_0 method
+
+  before_2 : Passes 0 → Passes 1 → (k : ℕ) → k < 2 → Passes k
+  before_2 method free = below_more Passes 1 (before_1 method) free
+
+  before_3 : Passes 0 → Passes 1 → Passes 2 → (k : ℕ) → k < 3 → Passes k
+  before_3 method free own = below_more Passes 2 (before_2 method free) own
+
+  before_4 : Passes 0 → Passes 1 → Passes 2 → Passes 3 → (k : ℕ) → k < 4 → Passes k
+  before_4 method free own film = below_more Passes 3 (before_3 method free own) film
+
+  before_5 : Passes 0 → Passes 1 → Passes 2 → Passes 3 → Passes 4 → (k : ℕ) → k < 5 → Passes k
+  before_5 method free own film time = below_more Passes 4 (before_4 method free own film) time
+
+film_of : (films : List Stored) (place : Place) (url : List ℕ) (task : Task) → IsTaskOf films place url task
+    → (method_of task ≡ Options) ⊎ HasFilm films place url (method_of task)
+film_of films place url ToOptions is = inl refl
+film_of films place url (ToDescribe asked) is = inr (asked.authority.now, (asked.film, is))
+film_of films place url (ToSetup film) is = inr (is.0, (film, is.1))
+film_of films place url (ToPlay asked) is = inr (asked.authority.now, (asked.film, is))
+film_of films place url ToPause is = inr is
+film_of films place url ToTeardown is = inr is
+film_of films place url ToGetParameter is = inr is
+
+-- a judgement is by the first that isn't passed
+stops : (films : List Stored) (id : List ℕ) (place : Place) (request : Request) (judgement : Result Task Refusal)
+    → IsJudged films id place request judgement
+    → StopsAt films id place request.method.now request.url.now request.head.now (rank judgement)
+stops films id place request (Ok task) is =
+    let m = method_of task in
+    let spoken = is.talk.spoken in
+    record {
+      before = before_5 films id place request.method.now request.url.now request.head.now (m, spoken.named) spoken.free
+          (m, (spoken.named, is.talk.session)) (m, (spoken.named, film_of films place request.url.now task is.film))
+          (m, (spoken.named, is.state));
+      at = λ no. no;
+    }
+stops films id place request (Err BadRequest) is = absurd is
+stops films id place request (Err Version) is = absurd is
+stops films id place request (Err Unknown) is = record {
+  before = before_0 films id place request.method.now request.url.now request.head.now;
+  at = λ has. is.none has.0 has.1;
+}
+stops films id place request (Err Required) is = record {
+  before = before_1 films id place request.method.now request.url.now request.head.now (is.method, is.named);
+  at = λ free. none_some (required_of request.head.now) free is.required;
+}
+stops films id place request (Err Session) is =
+    let Fits : Method → Type 0 = λ m. Owns films id place request.method.now request.url.now request.head.now m in
+    record {
+      before = before_2 films id place request.method.now request.url.now request.head.now (is.method, is.spoken.named) is.spoken.free;
+      at = λ own. is.session (subst Fits (method_once request.method.now own.0 is.method own.1.0 is.spoken.named) own.1.1);
+    }
+stops films id place request (Err Film) is =
+    let spoken = is.talk.spoken in
+    record {
+      before = before_3 films id place request.method.now request.url.now request.head.now (is.method, spoken.named) spoken.free
+          (is.method, (spoken.named, is.talk.session));
+      at = λ has.
+          let same = method_once request.method.now has.0 is.method has.1.0 spoken.named in
+          elim has.1.1 [
+            | inl options ↦ is.asked (sym same ∙ options)
+            | inr film ↦ is.none (subst (λ (m : Method). HasFilm films place request.url.now m) same film)
+          ];
+    }
+stops films id place request (Err State) is =
+    let spoken = is.talk.spoken in
+    let Fits : Method → Type 0 = λ m. HasTime films id place request.method.now request.url.now request.head.now m in
+    record {
+      before = before_4 films id place request.method.now request.url.now request.head.now (is.method, spoken.named) spoken.free
+          (is.method, (spoken.named, is.talk.session)) (is.method, (spoken.named, inr is.film));
+      at = λ timely. is.state (subst Fits (method_once request.method.now timely.0 is.method timely.1.0 spoken.named) timely.1.1);
+    }
+stops films id place request (Err Transport) is = absurd is
+stops films id place request (Err Parameter) is = absurd is
+stops films id place request (Err (Buffer least)) is = absurd is
+stops films id place request (Err Range) is = absurd is
+stops films id place request (Err Memory) is = absurd is
+
+-- a refusal is that of its judgement
+record IsRanked (refusal : Refusal) : Type 0 where
+  below : rank (Err refusal) < 5
+  is : refusal ≡ refusal_at (rank (Err refusal))
+
+ranked : (films : List Stored) (id : List ℕ) (place : Place) (request : Request) (refusal : Refusal)
+    → IsJudged films id place request (Err refusal) → IsRanked refusal
+ranked films id place request BadRequest is = absurd is
+ranked films id place request Version is = absurd is
+ranked films id place request Unknown is = record { below = omega arith; is = refl }
+ranked films id place request Required is = record { below = omega arith; is = refl }
+ranked films id place request Session is = record { below = omega arith; is = refl }
+ranked films id place request Film is = record { below = omega arith; is = refl }
+ranked films id place request State is = record { below = omega arith; is = refl }
+ranked films id place request Transport is = absurd is
+ranked films id place request Parameter is = absurd is
+ranked films id place request (Buffer least) is = absurd is
+ranked films id place request Range is = absurd is
+ranked films id place request Memory is = absurd is
+
+-- the parts of two requests are the same
+pub record AreAlike (request other : Request) : Type 0 where
+  pub method : other.method.now ≡ request.method.now
+  pub url : other.url.now ≡ request.url.now
+  pub sequence : other.sequence ≡ request.sequence
+  pub head : other.head.now ≡ request.head.now
+  pub body : other.body.now ≡ request.body.now
+
+pub turned : (request other : Request) → AreAlike request other → AreAlike other request
+turned request other alike = record {
+  method = sym alike.method;
+  url = sym alike.url;
+  sequence = sym alike.sequence;
+  head = sym alike.head;
+  body = sym alike.body;
+}
+
+same_rank : {request other : Request} (films : List Stored) (id : List ℕ) (place : Place) (a b : Result Task Refusal)
+    → AreAlike request other → IsJudged films id place request a → IsJudged films id place other b → rank a ≡ rank b
+same_rank {request} {other} films id place a b alike is its =
+    let stop = stops films id place other b its in
+    let by_name = subst (λ (n : List ℕ). StopsAt films id place n other.url.now other.head.now (rank b)) alike.method stop in
+    let by_url = subst (λ (u : List ℕ). StopsAt films id place request.method.now u other.head.now (rank b)) alike.url by_name in
+    let by_head = subst (λ (h : List ℕ). StopsAt films id place request.method.now request.url.now h (rank b)) alike.head by_url in
+    stops_once films id place request.method.now request.url.now request.head.now (rank a) (rank b)
+    (stops films id place request a is) by_head
+
+pub refusal_once : {request other : Request} {a b : Refusal} (films : List Stored) (id : List ℕ) (place : Place)
+    → AreAlike request other → IsJudged films id place request (Err a) → IsJudged films id place other (Err b) → b ≡ a
+refusal_once {request} {other} {a} {b} films id place alike is its =
+    let same = same_rank films id place (Err a) (Err b) alike is its in
+    (ranked films id place other b its).is ∙ ap refusal_at (sym same) ∙ sym (ranked films id place request a is).is
+
+pub not_both : {films : List Stored} {id : List ℕ} {place : Place} {request other : Request} {task : Task}
+    (refusal : Refusal)
+    → AreAlike request other → IsJudged films id place request (Ok task) → IsJudged films id place other (Err refusal) → ⊥
+not_both {films} {id} {place} {other} {task} refusal alike is its =
+    let same = same_rank films id place (Ok task) (Err refusal) alike is its in
+    let below = (ranked films id place other refusal its).below in
+    omega (arith, same, below)

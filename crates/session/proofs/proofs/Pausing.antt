@@ -1,0 +1,107 @@
+-- What a halt leaves of a play.
+use Rattle.std.proofs.Common.{◌≡◌, ℕ, ◌+◌, ◌<◌, ◌≤◌, min, nat_lt, ◌==◌, true, false, List, Option, Some, None, refl, sym, ap, subst, ◌∙◌, eq-eqb, inl, inr, arith}
+use Rattle.std.proofs.lemmas.Bool.{cases_lt, lt-ltb}
+use Rattle.plan_cert.proofs.SlotLaws.{sum_through_rises}
+use Rattle.plan_cert.proofs.SlotSums.{sum_through-past}
+use Rattle.plan_cert.specs.Slots.{sum_through, total_bytes, total_slots}
+use Rattle.film_frames.specs.declared.stores.Stored.{Stored}
+use Rattle.film_frames.specs.Tracks.{IsBoundary, IsBoundaryAfter}
+use Rattle.film_frames.specs.Runs.{run_of, run_pieces}
+use Rattle.film_run.specs.declared.runs.Run.{Run}
+use Rattle.film_run.specs.declared.plans.Playback.{Playback}
+use Rattle.film_run.specs.Pauses.{IsHalt, IsLeft}
+use Rattle.film_run.specs.Runs.{Fits, IsRun}
+use Rattle.film_run.specs.Units.{stored_sizes}
+use Rattle.plan_cert.specs.declared.Segment.{Segment}
+use Rattle.pacer.specs.Pacings.{IsPacing, Pacing, first_slots, is_done, next_boundary, slots_through}
+use Rattle.session.specs.Films.{identity_of, sending_of}
+use Rattle.session.specs.Inside.{IsPlaying, IsUnhalted}
+use Rattle.session.specs.Plans.{IsPacedPlay}
+use Rattle.session.specs.Playing.{IsRunOf, playback_of}
+use Rattle.session.specs.declared.settings.Settings.{Settings}
+use Rattle.session.specs.declared.states.Counts.{Counts}
+use Rattle.session.specs.declared.states.Play.{Play as Played}
+use Rattle.session.specs.declared.states.Setup.{Setup}
+use Rattle.session.specs.declared.states.Source.{Source}
+
+module _ (p : Pacing) (keep : ℕ) (pacing : IsPacing p) (even : p.due ≡ p.sent) (whole : p.keep ≡ total_bytes p.plan)
+    (going : is_done p ≡ false) (after : IsBoundaryAfter p.pieces (p.before + p.sent) (p.before + keep)) (most : keep ≤ p.keep) where
+  -- not all that is kept was sent, once a slot was stepped
+  not_done : 0 < p.passed → p.sent ≡ p.keep → ⊥
+  not_done some all =
+      let stepped : nat_lt 0 p.passed ≡ true = lt-ltb 0 p.passed some in
+      let sent : (p.sent == p.keep) ≡ true = eq-eqb p.sent p.keep all in
+      let done : is_done p ≡ true = rw (stepped, sent) refl in
+      cc
+
+  halt_none : 0 ≡ p.passed → keep ≡ 0
+  halt_none none =
+      let start : first_slots p.plan p.passed ≡ 0 = ap (first_slots p.plan) (sym none) in
+      let due : p.due ≡ min (first_slots p.plan p.passed) p.keep = pacing.due in
+      let sent : p.sent ≡ 0 = omega arith in
+      let least : p.before + keep ≤ p.before = after.least p.before pacing.begins (omega arith) in
+      omega arith
+
+  halt_some : (last : ℕ) → last + 1 ≡ p.passed
+      → (last < total_slots p.plan) × (sum_through p.plan last ≤ keep) × (keep ≤ total_bytes p.plan)
+  halt_some last is =
+      let through : first_slots p.plan p.passed ≡ sum_through p.plan last = ap (first_slots p.plan) (sym is) in
+      let due : p.due ≡ min (first_slots p.plan p.passed) p.keep = pacing.due in
+      let past : total_bytes p.plan ≡ sum_through p.plan (last + total_slots p.plan) =
+      sum_through-past p.plan (last + total_slots p.plan) pacing.plan (omega arith) in
+      let rises : sum_through p.plan last ≤ sum_through p.plan (last + total_slots p.plan) =
+      sum_through_rises p.plan last (last + total_slots p.plan) (omega arith) in
+      let from : p.before + p.sent ≤ p.before + keep = after.after in
+      let inside : last < total_slots p.plan =
+      elim (cases_lt last (total_slots p.plan)) [
+        | inl less ↦ less
+        | inr more ↦
+            let all : total_bytes p.plan ≡ sum_through p.plan last = sum_through-past p.plan last pacing.plan (omega arith) in
+            absurd (not_done (omega arith) (omega arith))
+      ] in
+      (inside, omega arith, omega arith)
+
+  pub is_halt : (last : Option ℕ) → slots_through last ≡ p.passed → IsHalt p.plan last keep
+  is_halt None is = halt_none is
+  is_halt (Some last) is = halt_some last is
+
+-- what is left of a run ends at the boundary where the halt is
+pub left_boundary : (stored : Stored) (source : Source) (setup : Setup) (counts : Counts) (run left : Run) (p : Pacing) (keep : ℕ)
+    → p.pieces ≡ run_pieces (sending_of stored.film source setup counts run) → p.before ≡ run.sent
+    → IsBoundary p.pieces (p.before + keep) → left.first_unit ≡ run.first_unit → left.end_unit ≡ run.end_unit
+    → left.sent ≡ run.sent + keep
+    → IsBoundary (run_pieces (sending_of stored.film source setup counts left)) left.sent
+left_boundary stored source setup counts run left p keep pieces before boundary first end sent =
+    let place : p.before + keep ≡ left.sent = ap (λ n. n + keep) before ∙ sym sent in
+    let same : p.pieces ≡ run_pieces (sending_of stored.film source setup counts left) =
+    pieces ∙ ap (λ n. run_pieces (run_of stored.film n run.end_unit (identity_of source setup counts))) (sym first)
+    ∙ ap (λ n. run_pieces (run_of stored.film left.first_unit n (identity_of source setup counts))) (sym end) in
+    subst (λ (n : ℕ). IsBoundary (run_pieces (sending_of stored.film source setup counts left)) n) place
+    (subst (λ (all : List (List ℕ)). IsBoundary all (p.before + keep)) same boundary)
+
+-- a play in hand is halted
+pub halts_play : {play : Played} {keep : ℕ} {halted : Pacing} (last : Option ℕ) → IsPacedPlay play → IsUnhalted play
+    → halted ≡ record play.pacer { keep = next_boundary play.pacer }
+    → IsBoundaryAfter play.pacer.pieces (play.pacer.before + play.pacer.sent) (play.pacer.before + keep) → keep ≤ play.pacer.keep
+    → slots_through last ≡ halted.passed → IsHalt play.plan last keep
+halts_play {play} {keep} {halted} last is unhalted state after most through =
+    subst (λ (plan : List Segment). IsHalt plan last keep) is.plan
+    (is_halt play.pacer keep is.pacing unhalted.even (unhalted.whole ∙ ap total_bytes (sym is.plan)) unhalted.going after most last
+    (through ∙ ap (λ (p : Pacing). p.passed) state))
+
+-- what it keeps is of its plan
+pub keeps_within : (play : Played) (keep : ℕ) → IsUnhalted play → keep ≤ play.pacer.keep → keep ≤ total_bytes play.plan
+keeps_within play keep unhalted most = subst (λ (n : ℕ). keep ≤ n) unhalted.whole most
+
+-- what it leaves can be sent on
+pub left_runs : {stored : Stored} {source : Source} {settings : Settings} {setup : Setup} {counts : Counts}
+    {play : Played} {playback : Playback} {last : Option ℕ} {keep : ℕ} {left : Run} → IsPacedPlay play → IsPlaying stored source settings setup counts play
+    → playback ≡ playback_of stored.film settings setup → IsBoundary play.pacer.pieces (play.pacer.before + keep)
+    → IsLeft (stored_sizes stored) playback play.run play.plan last keep left → IsRun (stored_sizes stored) left
+    → Fits playback.buffer left → IsRunOf stored source setup counts left
+left_runs {stored} {source} {setup} {counts} {play} {last} {keep} {left} is playing same boundary left_is run fits = record {
+  run_is = run;
+  fits = subst (λ (p : Playback). Fits p.buffer left) same fits;
+  boundary = left_boundary stored source setup counts play.run left play.pacer keep playing.pieces is.before boundary left_is.first_is
+      left_is.end_is left_is.sent_is;
+}

@@ -1,0 +1,154 @@
+-- A PLAY with a Range in Playing is refused.
+use Rattle.std.proofs.Common.{◌≡◌, ℕ, Bool, true, false, List, [], Option, Some, is_some, codes, Result, Ok, Err, refl, sym, ap, subst, ◌∙◌, inl, inr, arith}
+use Rattle.film_frames.specs.declared.stores.Stored.{Stored}
+use Rattle.rtsp_text.specs.Fields.{header_value}
+use Rattle.rtsp_text.specs.declared.requests.Request.{Request}
+use Rattle.rtsp_text.proofs.Once.{no_fault, request_once}
+use Rattle.session.specs.declared.asks.Ask.{Ask}
+use Rattle.session.specs.declared.methods.Method.TheVariants.{Play as PlayMethod}
+use Rattle.session.specs.declared.refusals.Place.{Place}
+use Rattle.session.specs.declared.refusals.Refusal.{Refusal}
+use Rattle.session.specs.declared.refusals.Refusal.TheVariants.{BadRequest, Version, Method, Option as Required, Session, Film, State as NotNow, Transport, Parameter, Buffer, Range, Memory}
+use Rattle.session.specs.declared.refusals.Task.{Task}
+use Rattle.session.specs.declared.refusals.Task.TheVariants.{Options as ToOptions, Describe as ToDescribe, Setup as ToSetup, Play as ToPlay, Pause as ToPause, Teardown as ToTeardown, GetParameter as ToGetParameter}
+use Rattle.session.specs.declared.states.State.{State}
+use Rattle.session.specs.Changes.{HasCode}
+use Rattle.session.specs.Hearings.{Hears, HearsOn}
+use Rattle.session.specs.Judging.{IsJudged, IsReadAs, option_of, place_of}
+use Rattle.session.specs.Methods.{IsRefused, Takes}
+use Rattle.session.specs.PlayLaws.{HasRangeInPlaying, IsElseGood, IsDeclined}
+use Rattle.session.specs.Replies.{code_of, refusal_text}
+use Rattle.session.specs.Standings.{Standing, replied}
+use Rattle.session.proofs.OneVerdict.{AreAlike, not_both, refusal_once}
+use Rattle.session.proofs.Refusing.{one_code, own_code, refusal_code}
+
+-- a PLAY with a Range, heard in Playing
+pub record IsRanged (place : Place) (request : Request) : Type 0 where
+  pub method : request.method.now ≡ codes "PLAY"
+  pub range : is_some (header_value request.head.now (codes "Range")) ≡ true
+  pub playing : place.playing ≡ true
+
+never_taken : {films : List Stored} {id : List ℕ} {place : Place} {request : Request} {task : Task} → IsRanged place request
+    → IsJudged films id place request (Ok task) → ⊥
+never_taken {id} {place} {task = ToPlay asked} ranged judged =
+    let none = judged.state ranged.playing in
+    let no : ⊥ = cc (none, ranged.range) in no
+never_taken {id} {place} {task = ToOptions} ranged judged = let no : ⊥ = cc (judged.talk.spoken.named, ranged.method) in no
+never_taken {id} {place} {task = ToDescribe asked} ranged judged = let no : ⊥ = cc (judged.talk.spoken.named, ranged.method) in no
+never_taken {id} {place} {task = ToSetup film} ranged judged = let no : ⊥ = cc (judged.talk.spoken.named, ranged.method) in no
+never_taken {id} {place} {task = ToPause} ranged judged = let no : ⊥ = cc (judged.talk.spoken.named, ranged.method) in no
+never_taken {id} {place} {task = ToTeardown} ranged judged = let no : ⊥ = cc (judged.talk.spoken.named, ranged.method) in no
+never_taken {id} {place} {task = ToGetParameter} ranged judged = let no : ⊥ = cc (judged.talk.spoken.named, ranged.method) in no
+
+-- no refusal has the code 200
+not_ok : (refusal : Refusal) → code_of refusal ≡ 200 → ⊥
+not_ok BadRequest is = omega (arith, is)
+not_ok Version is = omega (arith, is)
+not_ok Method is = omega (arith, is)
+not_ok Required is = omega (arith, is)
+not_ok Session is = omega (arith, is)
+not_ok Film is = omega (arith, is)
+not_ok NotNow is = omega (arith, is)
+not_ok Transport is = omega (arith, is)
+not_ok Parameter is = omega (arith, is)
+not_ok (Buffer least) is = omega (arith, is)
+not_ok Range is = omega (arith, is)
+not_ok Memory is = omega (arith, is)
+
+pub refused : {old : Standing} {ask : Ask} {new : Standing} (sequence : Option ℕ) (refusal : Refusal)
+    (option : List ℕ)
+    → IsRefused old sequence refusal option ask new → IsDeclined old ask new
+refused {old} {ask} {new} sequence refusal option is =
+    let text : new.text ≡ refusal_text sequence refusal option = ap (λ (s : Standing). s.text) is.1 in
+    record {
+      command = is.0;
+      leaves = is.1 ∙ ap (λ (t : List ℕ). replied old t) (sym text);
+      no_ok = λ ok.
+          let its = subst (λ (t : List ℕ). HasCode 200 t) text ok in
+          not_ok refusal (one_code (refusal_text sequence refusal option) (own_code refusal).small (omega arith)
+          (refusal_code sequence refusal option) its);
+    }
+
+-- the request that a message is
+pub same_request : (message : List ℕ) (request other : Request)
+    → IsReadAs message request → IsReadAs message other → AreAlike request other
+same_request message request other is its =
+    let parts = request_once message other.method.now other.url.now other.sequence other.head.now other.body.now
+    request.method.now request.url.now request.sequence request.head.now request.body.now its is in
+    record {
+      method = parts.method_is;
+      url = parts.url_is;
+      sequence = parts.sequence_is;
+      head = parts.head_is;
+      body = parts.body_is;
+    }
+
+ranged_as : (place : Place) (request other : Request) → AreAlike request other → IsRanged place request → IsRanged place other
+ranged_as place request other alike is = record {
+  method = alike.method ∙ is.method;
+  range = ap (λ (h : List ℕ). is_some (header_value h (codes "Range"))) alike.head ∙ is.range;
+  playing = is.playing;
+}
+
+takes_refused : {old : Standing} {request : Request} {ask : Ask} {new : Standing} (judgement : Result Task Refusal)
+    → IsRanged (place_of old.state) request → IsJudged old.films old.id (place_of old.state) request judgement
+    → Takes old request judgement ask new → IsDeclined old ask new
+takes_refused {ask} {new} (Ok task) ranged judged takes =
+    absurd (never_taken ranged judged)
+takes_refused {request} {ask} {new} (Err refusal) ranged judged takes =
+    refused (Some request.sequence) refusal (option_of request.head.now) takes
+
+hears_on_refused : {old : Standing} {message : List ℕ} {ask : Ask} {new : Standing} {request : Request} (lost : Bool)
+    → IsReadAs message request → IsRanged (place_of old.state) request → HearsOn lost old message ask new → IsDeclined old ask new
+hears_on_refused {ask} {new} true is ranged hears = refused _ Memory [] hears
+hears_on_refused {message} {ask} {new} {request} false is ranged (inl fault) =
+    absurd (no_fault message request.method.now request.url.now request.sequence request.head.now request.body.now fault.fault is fault.is_fault)
+hears_on_refused {old} {message} {ask} {new} {request} false is ranged (inr whole) =
+    let alike = same_request message request whole.request is whole.is_request in
+    takes_refused whole.hears.judgement (ranged_as (place_of old.state) request whole.request alike ranged)
+    whole.hears.judged whole.hears.takes
+
+-- what a PLAY with a Range is in Playing
+ranged_in : (old : Standing) (message : List ℕ) (request : Request) → HasRangeInPlaying old message request → IsRanged (place_of old.state) request
+ranged_in old message request is = record {
+  method = is.method;
+  range = ap is_some is.range;
+  playing = ap (λ (s : State). (place_of s).playing) is.playing;
+}
+
+pub range_refused : (old new : Standing) (message : List ℕ) (ask : Ask) (request : Request) → Hears old message ask new
+    → HasRangeInPlaying old message request → IsDeclined old ask new
+range_refused old new message ask request hears is =
+    hears_on_refused old.lost is.is_request (ranged_in old message request is) hears
+
+-- its code, where no other refusal comes before
+takes_455 : {old : Standing} {request other : Request} (judgement : Result Task Refusal) (ask : Ask) (new : Standing)
+    → AreAlike request other → IsRanged (place_of old.state) request → IsElseGood old request
+    → IsJudged old.films old.id (place_of old.state) other judgement → Takes old other judgement ask new → HasCode 455 new.text
+takes_455 {old} {request} {other} (Ok task) ask new alike ranged good judged takes =
+    absurd (never_taken (ranged_as (place_of old.state) request other alike ranged) judged)
+takes_455 {old} {request} {other} (Err refusal) ask new alike ranged good judged takes =
+    let own : IsJudged old.films old.id (place_of old.state) request (Err NotNow) = record {
+      method = PlayMethod;
+      talk = good.talk;
+      film = good.film;
+      state = λ timely. let none = timely ranged.playing in let no : ⊥ = cc (none, ranged.range) in no;
+    } in
+    let same : refusal ≡ NotNow = refusal_once old.films old.id (place_of old.state) alike own judged in
+    let text : new.text ≡ refusal_text (Some other.sequence) NotNow (option_of other.head.now) =
+    ap (λ (s : Standing). s.text) takes.1 ∙ ap (λ r. refusal_text (Some other.sequence) r (option_of other.head.now)) same in
+    subst (λ (t : List ℕ). HasCode 455 t) (sym text) (refusal_code (Some other.sequence) NotNow (option_of other.head.now))
+
+hears_455 : {lost : Bool} {old : Standing} {message : List ℕ} {request : Request} (ask : Ask) (new : Standing) → lost ≡ false
+    → IsReadAs message request → IsRanged (place_of old.state) request → IsElseGood old request → HearsOn lost old message ask new → HasCode 455 new.text
+hears_455 {lost = true} ask new linked is ranged good hears = absurd (let no : ⊥ = cc in no)
+hears_455 {lost = false} {message} {request} ask new linked is ranged good (inl fault) =
+    absurd (no_fault message request.method.now request.url.now request.sequence request.head.now request.body.now fault.fault is fault.is_fault)
+hears_455 {lost = false} {message} {request} ask new linked is ranged good (inr whole) =
+    takes_455 whole.hears.judgement ask new (same_request message request whole.request is whole.is_request)
+    ranged good whole.hears.judged whole.hears.takes
+
+pub range_455 : (old new : Standing) (message : List ℕ) (ask : Ask) (request : Request) → Hears old message ask new
+    → HasRangeInPlaying old message request → IsElseGood old request → HasCode 455 new.text
+range_455 old new message ask request hears is good =
+    hears_455 ask new good.linked is.is_request (ranged_in old message request is) good hears

@@ -1,0 +1,226 @@
+-- What a message comes to: the one analysis of it by cases, above which the laws stand.
+use Rattle.std.specs.Prelude.{is_none}
+use Rattle.std.proofs.Common.{◌≡◌, ◌≢◌, ℕ, ◌^◌, ◌<◌, ◌≤◌, ◌⊎◌, Bool, true, false, List, [], length, Option, Some, None, Result, Ok, Err, refl, sym, subst, inl, inr, arith}
+use Rattle.std.proofs.lemmas.Option.{slice_get_within}
+use Rattle.film_frames.specs.declared.stores.Stored.{Stored}
+use Rattle.film_run.specs.declared.runs.Run.{Run}
+use Rattle.rtsp_text.specs.Fields.{first_sequence}
+use Rattle.rtsp_text.specs.Replies.{Field, reply_text}
+use Rattle.rtsp_text.specs.declared.requests.Request.{Request}
+use Rattle.rtsp_text.specs.declared.requests.RequestFault.{RequestFault}
+use Rattle.rtsp_text.specs.declared.requests.RequestFault.TheVariants.{BadLine, BadVersion, BadHeader, NoSequenceNumber, BadLength}
+use Rattle.session.specs.declared.asks.Ask.{Ask}
+use Rattle.session.specs.declared.asks.Ask.TheVariants.{Reply, Play as AskPlay}
+use Rattle.session.specs.declared.methods.Topic.{Topic}
+use Rattle.session.specs.declared.methods.Topic.TheVariants.{Nothing as NoTopic, Booked, Offer as OfferTopic, Unknown}
+use Rattle.session.specs.declared.plans.Planned.{Planned}
+use Rattle.session.specs.declared.refusals.Refusal.{Refusal}
+use Rattle.session.specs.declared.refusals.Refusal.TheVariants.{BadRequest, Version, Method, Option as Required, Session, Film, State as NotNow, Transport, Parameter, Buffer, Range, Memory}
+use Rattle.session.specs.declared.refusals.Task.{Task}
+use Rattle.session.specs.declared.refusals.Task.TheVariants.{Options as ToOptions, Describe as ToDescribe, Setup as ToSetup, Play as ToPlay, Pause as ToPause, Teardown as ToTeardown, GetParameter as ToGetParameter}
+use Rattle.session.specs.declared.settings.Settings.{Settings}
+use Rattle.session.specs.declared.states.Awaited.TheVariants.{Play}
+use Rattle.session.specs.declared.states.Next.{Next}
+use Rattle.session.specs.declared.states.Next.TheVariants.{Paused, Torn}
+use Rattle.session.specs.declared.states.Play.{Play as Played}
+use Rattle.session.specs.declared.states.Setup.{Setup}
+use Rattle.session.specs.declared.states.State.{State}
+use Rattle.session.specs.declared.states.State.TheVariants.{Init, Ready, Playing, Stopping}
+use Rattle.session.specs.EndLaws.{IsTeardown}
+use Rattle.session.specs.Hearings.{Hears, HearsOn, is_answered, is_torn}
+use Rattle.session.specs.Judging.{IsJudged, IsReadAs, fault_refusal, option_of, place_of}
+use Rattle.session.specs.Laws.{IsWanting}
+use Rattle.session.specs.Methods.{AsksHalt, AsksLook, AsksOffer, AsksOfferOr, AsksPlayOr, Gets, GetsOffer, IsRefused, IsReplied, IsSetUp, Looks, Pauses, Plays, Takes, TearsDown, play_front, prepared_of}
+use Rattle.session.specs.Planning.{IsPlanned, IsPlannedRun}
+use Rattle.session.specs.Ranges.{AreSettings, IsSetup}
+use Rattle.session.specs.Replies.{setup_text}
+use Rattle.session.specs.Setups.{AsksForSetup, IsChosen, IsSetupRead}
+use Rattle.session.specs.Standings.{Standing, replied}
+use Rattle.session.proofs.Playables.{of_film}
+use Rattle.session.proofs.OneHearing.{first_is}
+
+pub data ComesTo (old : Standing) (message : List ℕ) (ask : Ask) (new : Standing) : Type 0 where
+  -- memory is wanting
+  Lacks : IsWanting old message ask new → ComesTo old message ask new
+  Refuses : (sequence : Option ℕ) (refusal : Refusal) (option : List ℕ) → refusal ≢ Memory
+      → IsRefused old sequence refusal option ask new → ComesTo old message ask new
+  -- a 200 that changes nothing, or that a TEARDOWN is answered
+  Says : (sequence : ℕ) (fields : List Field) (body : List ℕ) (tearing : Bool)
+      → (tearing ≡ old.tearing) ⊎ IsTeardown message → ask ≡ Reply
+      → new ≡ record old { text = reply_text 200 (Some sequence) fields body; waits = true; tearing = tearing }
+      → ComesTo old message ask new
+  SettlesSetup : (sequence : ℕ) (setup : Setup) → old.state ≡ Init
+      → (AreSettings old.settings → IsSetup (length old.films) setup) → ask ≡ Reply
+      → new ≡ record (replied old (setup_text sequence setup.media setup.control old.source.ssrc old.id)) { state = Ready setup None }
+      → ComesTo old message ask new
+  AsksForPlay : (stored : Stored) (setup : Setup) (paused : Option Run) (range : Option (List ℕ)) (planned : Planned) (sequence : ℕ)
+      (authority : List ℕ) → old.state ≡ Ready setup paused → IsPlannedRun old stored setup paused range planned
+      → ask ≡ AskPlay planned.plan
+      → new ≡ record old {
+        awaited = Play (prepared_of old stored setup planned sequence);
+        text = play_front old stored setup planned sequence authority;
+      } → ComesTo old message ask new
+  AsksForHalt : (sequence : ℕ) (setup : Setup) (play : Played) (next : Next) → old.state ≡ Playing setup play
+      → is_answered next ≡ true → (is_torn next ≡ false) ⊎ IsTeardown message → AsksHalt old sequence setup play next ask new
+      → ComesTo old message ask new
+  AsksForLook : (sequence : ℕ) → AsksLook old sequence ask new → ComesTo old message ask new
+  AsksForOffer : (sequence wait : ℕ) (planned : Planned) → AsksOffer old sequence wait planned ask new → ComesTo old message ask new
+
+pub is_memory : (refusal : Refusal) → (refusal ≡ Memory) ⊎ (refusal ≢ Memory)
+is_memory Memory = inl refl
+is_memory BadRequest = inr (λ same. cc)
+is_memory Version = inr (λ same. cc)
+is_memory Method = inr (λ same. cc)
+is_memory Required = inr (λ same. cc)
+is_memory Session = inr (λ same. cc)
+is_memory Film = inr (λ same. cc)
+is_memory NotNow = inr (λ same. cc)
+is_memory Transport = inr (λ same. cc)
+is_memory Parameter = inr (λ same. cc)
+is_memory (Buffer least) = inr (λ same. cc)
+is_memory Range = inr (λ same. cc)
+
+fault_refuses : (fault : RequestFault) → fault_refusal fault ≢ Memory
+fault_refuses BadLine = λ same. cc
+fault_refuses BadVersion = λ same. cc
+fault_refuses (BadHeader line) = λ same. cc
+fault_refuses NoSequenceNumber = λ same. cc
+fault_refuses BadLength = λ same. cc
+
+-- what a SETUP settles is in its ranges
+record IsIn (least most n : ℕ) : Type 0 where
+  above : least ≤ n
+  below : n ≤ most
+
+chosen : {own least most n : ℕ} (value : Option (List ℕ)) → IsChosen value own least most n → least ≤ own → own ≤ most → IsIn least most n
+chosen {least} {most} None is low high = subst (IsIn least most) (sym is) (record { above = low; below = high })
+chosen (Some value) is low high = record { above = is.above; below = is.below }
+
+setup_ranges : {settings : Settings} {head : List ℕ} {film films : ℕ} {setup : Setup} → AsksForSetup settings head film setup
+    → film < films → AreSettings settings → IsSetup films setup
+setup_ranges {head} {film} {films} asks within good =
+    let buffer = chosen _ asks.buffer good.some_buffer good.most_buffer in
+    let delay = chosen _ asks.delay (omega arith) good.most_startup in
+    record {
+      film = subst (λ n. n < films) (sym asks.film_is) within;
+      some_buffer = buffer.above;
+      most_buffer = buffer.below;
+      most_delay = delay.below;
+    }
+
+init_of : (state : State) → is_none (place_of state).film ≡ true → state ≡ Init
+init_of Init none = refl
+init_of (Ready setup paused) none = absurd (let no : ⊥ = cc in no)
+init_of (Playing setup play) none = absurd (let no : ⊥ = cc in no)
+init_of (Stopping setup stop) none = absurd (let no : ⊥ = cc in no)
+
+module _ (old : Standing) (message : List ℕ) (ask : Ask) (new : Standing) where
+  abbrev Comes : Type 0
+  Comes = ComesTo old message ask new
+
+  lacks : (sequence : ℕ) → first_sequence message ≡ Some sequence → IsRefused old (Some sequence) Memory [] ask new → Comes
+  lacks sequence number is = Lacks (subst (λ s. IsRefused old s Memory [] ask new) (sym number) is)
+
+  -- a refusal, or want of memory
+  refuses : (sequence : ℕ) (refusal : Refusal) → first_sequence message ≡ Some sequence
+      → IsRefused old (Some sequence) refusal [] ask new → Comes
+  refuses sequence refusal number is =
+      elim (is_memory refusal) [
+        | inl memory ↦ lacks sequence number (subst (λ r. IsRefused old (Some sequence) r [] ask new) memory is)
+        | inr other ↦ Refuses (Some sequence) refusal [] other is
+      ]
+
+  says : (sequence : ℕ) (fields : List Field) (body : List ℕ) → IsReplied old (reply_text 200 (Some sequence) fields body) ask new → Comes
+  says sequence fields body is = Says sequence fields body old.tearing (inl refl) is.0 is.1
+
+  looks_to : (sequence : ℕ) → first_sequence message ≡ Some sequence → Looks old sequence ask new → Comes
+  looks_to sequence number (inl look) = AsksForLook sequence look
+  looks_to sequence number (inr short) = lacks sequence number short.refused
+
+  asks_offer_to : (sequence wait : ℕ) (planned : Result Planned Refusal) → first_sequence message ≡ Some sequence
+      → AsksOfferOr old sequence wait planned ask new → Comes
+  asks_offer_to sequence wait (Ok planned) number (inl asks) = AsksForOffer sequence wait planned asks
+  asks_offer_to sequence wait (Ok planned) number (inr refused) = lacks sequence number refused
+  asks_offer_to sequence wait (Err refusal) number refused = refuses sequence refusal number refused
+
+  gets_offer_to : (state : State) (request : Request) → first_sequence message ≡ Some request.sequence
+      → GetsOffer state old request ask new → Comes
+  gets_offer_to Init request number is = refuses request.sequence Session number is
+  gets_offer_to (Ready setup paused) request number (inl short) = refuses request.sequence Parameter number short.refused
+  gets_offer_to (Ready setup paused) request number (inr offers) =
+      asks_offer_to request.sequence offers.wait offers.offers.planned number offers.offers.asks
+  gets_offer_to (Playing setup play) request number is = refuses request.sequence NotNow number is
+  gets_offer_to (Stopping setup stop) request number is = refuses request.sequence NotNow number is
+
+  gets_to : (request : Request) (topic : Topic) → first_sequence message ≡ Some request.sequence → Gets old request topic ask new → Comes
+  gets_to request NoTopic number is = says request.sequence [] [] is
+  gets_to request Booked number is = looks_to request.sequence number is
+  gets_to request OfferTopic number is = gets_offer_to old.state request number is
+  gets_to request Unknown number is = refuses request.sequence Parameter number is
+
+  set_up_to : (request : Request) (film : ℕ) (read : Result Setup Refusal) → first_sequence message ≡ Some request.sequence
+      → old.state ≡ Init → film < length old.films → IsSetupRead old.settings request.head.now film read
+      → IsSetUp old request.sequence read ask new → Comes
+  set_up_to request film (Ok setup) number init within read is =
+      SettlesSetup request.sequence setup init (setup_ranges read within) is.0 is.1
+  set_up_to request film (Err refusal) number init within read is = refuses request.sequence refusal number is
+
+  asks_play_to : (sequence : ℕ) (authority : List ℕ) (setup : Setup) (paused : Option Run) (range : Option (List ℕ))
+      (planned : Result Planned Refusal) → first_sequence message ≡ Some sequence → old.state ≡ Ready setup paused
+      → IsPlanned old setup paused range planned → AsksPlayOr old sequence authority setup planned ask new → Comes
+  asks_play_to sequence authority setup paused range (Ok planned) number ready is (inl asks) =
+      AsksForPlay asks.stored setup paused range planned sequence authority ready
+      (of_film old.films setup.film is.0 (λ s. IsPlannedRun old s setup paused range planned) is.1.at is.1 asks.stored asks.at)
+      asks.command asks.state
+  asks_play_to sequence authority setup paused range (Ok planned) number ready is (inr refused) = lacks sequence number refused
+  asks_play_to sequence authority setup paused range (Err refusal) number ready is refused = refuses sequence refusal number refused
+
+  plays_to : (state : State) (request : Request) (authority : List ℕ) → first_sequence message ≡ Some request.sequence
+      → old.state ≡ state → Plays state old request authority ask new → Comes
+  plays_to Init request authority number same is = absurd is
+  plays_to (Ready setup paused) request authority number same is =
+      asks_play_to request.sequence authority setup paused _ is.planned number same is.is_planned is.asks
+  plays_to (Playing setup play) request authority number same is = says request.sequence _ [] is
+  plays_to (Stopping setup stop) request authority number same is = says request.sequence _ [] is
+
+  pauses_to : (state : State) (sequence : ℕ) → old.state ≡ state → Pauses state old sequence ask new → Comes
+  pauses_to Init sequence same is = absurd is
+  pauses_to (Ready setup paused) sequence same is = absurd is
+  pauses_to (Playing setup play) sequence same is = AsksForHalt sequence setup play (Paused is.left) same refl (inl refl) is.asks
+  pauses_to (Stopping setup stop) sequence same is = absurd is
+
+  tears_to : (state : State) (sequence : ℕ) → IsTeardown message → old.state ≡ state → TearsDown state old sequence ask new → Comes
+  tears_to Init sequence torn same is = Says sequence _ [] true (inr torn) is.0 is.1
+  tears_to (Ready setup paused) sequence torn same is = Says sequence _ [] true (inr torn) is.0 is.1
+  tears_to (Playing setup play) sequence torn same is = AsksForHalt sequence setup play Torn same refl (inr torn) is
+  tears_to (Stopping setup stop) sequence torn same is = Says sequence _ [] true (inr torn) is.0 is.1
+
+  takes_to : (request : Request) (judgement : Result Task Refusal) → IsReadAs message request → first_sequence message ≡ Some request.sequence
+      → IsJudged old.films old.id (place_of old.state) request judgement → Takes old request judgement ask new → Comes
+  takes_to request (Ok ToOptions) read number judged takes = says request.sequence _ [] takes
+  takes_to request (Ok (ToDescribe asked)) read number judged takes = says request.sequence _ _ takes.reply
+  takes_to request (Ok (ToSetup film)) read number judged takes =
+      let named = judged.film.1.named.film in
+      set_up_to request film takes.read number (init_of old.state judged.state) (slice_get_within old.films film named.stored named.at)
+      takes.is_read takes.done
+  takes_to request (Ok (ToPlay asked)) read number judged takes = plays_to old.state request asked.authority.now number refl takes
+  takes_to request (Ok ToPause) read number judged takes = pauses_to old.state request.sequence refl takes
+  takes_to request (Ok ToTeardown) read number judged takes = tears_to old.state request.sequence
+      (record { request = request; is_request = read; method_is = judged.talk.spoken.named }) refl takes
+  takes_to request (Ok ToGetParameter) read number judged takes = gets_to request takes.topic number takes.gets
+  takes_to request (Err refusal) read number judged takes =
+      elim (is_memory refusal) [
+        | inl memory ↦
+            absurd (subst (λ r. IsJudged old.films old.id (place_of old.state) request (Err r)) memory judged)
+        | inr other ↦ Refuses (Some request.sequence) refusal (option_of request.head.now) other takes
+      ]
+
+  hears_on_to : (lost : Bool) → HearsOn lost old message ask new → Comes
+  hears_on_to true refused = Lacks refused
+  hears_on_to false (inl fault) = Refuses (first_sequence message) (fault_refusal fault.fault) [] (fault_refuses fault.fault) fault.refused
+  hears_on_to false (inr whole) =
+      takes_to whole.request whole.hears.judgement whole.is_request (first_is message whole.request.sequence whole.is_request.sequence_is)
+      whole.hears.judged whole.hears.takes
+
+  pub comes_to : Hears old message ask new → Comes
+  comes_to hears = hears_on_to old.lost hears

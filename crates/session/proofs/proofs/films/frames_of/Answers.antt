@@ -1,0 +1,18 @@
+use Rattle.std.proofs.Common.{◌-◌, ℕ, List, length, sum, take, drop, sym, ap, ◌∙◌}
+use Rattle.std.proofs.lemmas.List.{drop-map, take-map}
+use Rattle.mpeg_scan.specs.declared.units.Unit.{Unit as PictureUnit}
+use Rattle.film_frames.specs.Pieces.{wire_size}
+use Rattle.film_frames.specs.Runs.{Run as Sending, run_pieces}
+use Rattle.film_frames.specs.Tracks.{framed_bytes}
+use Rattle.session.proofs.films.frames_of.Goals as goal
+
+pub returns-clause-bytes : goal.returns-clause-bytes
+returns-clause-bytes c =
+    let film = c.args.stored.now.film in
+    let first = c.args.run.now.first_unit in
+    let count = c.args.run.now.end_unit - first in
+    let wire : PictureUnit → ℕ = λ u. wire_size film.slice_starts.items u in
+    ap (λ (s : Sending). length (framed_bytes (run_pieces s))) c.new.ensures
+    ∙ c.law_piece_sizes.ensures.all
+    ∙ sym (ap (λ (l : List ℕ). sum (take count l)) (drop-map wire first film.units.items)
+    ∙ ap sum (take-map wire count (drop first film.units.items)))

@@ -1,0 +1,17 @@
+use Rattle.std.proofs.Common.{◌≡◌, true, refl, sym, subst, string_bytes, length}
+use Rattle.std.proofs.lemmas.Option.{slice_get_read}
+use Rattle.std.proofs.lemmas.List.Elements.{All-get_or}
+use Rattle.vod_base.specs.Names.{is_good_name}
+use Rattle.film_frames.specs.declared.stores.Stored.{Stored}
+use Rattle.session.proofs.films.stored_at.Goals as goal
+
+pub returns-clause-good : goal.returns-clause-good
+returns-clause-good c =
+    let IsGood : Stored → Type 0 = λ film. is_good_name (string_bytes film.name) ≡ true in
+    subst IsGood (sym c.index-films-film.is)
+    (All-get_or IsGood c.args.films.now c.args.film c.index-films-film.result c.requires.within c.requires.films.good)
+
+pub returns-clause-film : goal.returns-clause-film
+returns-clause-film c =
+    slice_get_read c.args.films.now (length c.args.films.now) c.args.film c.index-films-film.result refl c.requires.within
+    c.index-films-film.is

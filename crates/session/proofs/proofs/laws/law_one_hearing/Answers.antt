@@ -1,0 +1,12 @@
+use Rattle.session.proofs.OneHearing.{hears_once}
+use Rattle.session.proofs.Refusing.{hears_500, hears_never}
+use Rattle.session.proofs.laws.law_one_hearing.Goals as goal
+
+pub returns-clause-one : goal.returns-clause-one
+returns-clause-one c = hears_once
+
+pub returns-clause-memory : goal.returns-clause-memory
+returns-clause-memory c = hears_500
+
+pub returns-clause-begun : goal.returns-clause-begun
+returns-clause-begun c = hears_never

@@ -1,0 +1,64 @@
+use Rattle.std.proofs.Common.{◌≡◌, ◌-◌, refl, sym, ap, subst, ◌∙◌, rules, arith}
+use Rattle.film_frames.specs.Runs.{run_pieces}
+use Rattle.pacer.specs.Pacings.{IsPacing, whole_pacing}
+use Rattle.session.specs.Inside.{IsAwaitedKept, IsPreparedIn, IsStateKept, awaited_offers, awaited_plays, awaited_receipts, open_receipts}
+use Rattle.session.specs.Logs.{Logged}
+use Rattle.session.specs.declared.states.Awaited.{Awaited}
+use Rattle.session.specs.declared.states.Awaited.TheVariants.{Nothing, Play}
+use Rattle.session.specs.declared.states.Play.{Play as Played}
+use Rattle.session.specs.declared.states.State.{State}
+use Rattle.session.specs.declared.states.State.TheVariants.{Playing, Ready}
+use Rattle.session.proofs.Askings.{admitted_going, admitted_state}
+use Rattle.session.proofs.sessions.Session.hear_admission.Goals as goal
+
+pub invariant_of-self : goal.invariant_of-self
+invariant_of-self c =
+    let inside = c.self.inside in
+    let films = inside.films.now in
+    let setup = c.in-Ready.setup in
+    let prepared = c.in-Play.prepared in
+    let state : inside.state ≡ Ready setup c.in-Ready.field-1 = c.in-Ready.is in
+    let awaited : inside.awaited ≡ Play prepared = sym c.replace.ensures.value ∙ c.in-Play.is in
+    let asked : IsPreparedIn films inside.source inside.settings inside.state prepared =
+    subst (λ (a : Awaited). IsAwaitedKept films inside.source inside.settings inside.counts inside.lost inside.state a) awaited
+    c.self.invariant.awaited in
+    let kept : IsPreparedIn films inside.source inside.settings (Ready setup c.in-Ready.field-1) prepared =
+    subst (λ (s : State). IsPreparedIn films inside.source inside.settings s prepared) state asked in
+    let ready = subst (λ (s : State). IsStateKept films inside.source inside.settings inside.counts s) state c.self.invariant.state in
+    let play : Played = record {
+      run = prepared.run;
+      place = c.args.place;
+      start = c.args.start;
+      plan = prepared.plan;
+      pacer = c.new-pacer.result;
+    } in
+    let pacer : play.pacer ≡ whole_pacing (run_pieces prepared.frames) prepared.run.sent prepared.paced c.args.start =
+    c.new-pacer.ensures in
+    let pacing : IsPacing play.pacer = search rules in
+    let none : c.replace.new.dest ≡ Nothing = c.replace.ensures.after in
+    let receipts : awaited_receipts c.replace.new.dest ≡ 0 = ap awaited_receipts none in
+    let plays : awaited_plays c.replace.new.dest ≡ 0 = ap awaited_plays none in
+    let offers : awaited_offers c.replace.new.dest ≡ 0 = ap awaited_offers none in
+    let closed : open_receipts inside.state ≡ 0 = ap open_receipts state in
+    let two : awaited_receipts inside.awaited ≡ 2 = ap awaited_receipts awaited in
+    let one : awaited_plays inside.awaited ≡ 1 = ap awaited_plays awaited in
+    let receipt_room : c.note.new.self.receipt_room ≡ inside.log.receipt_room - 1 = ap (λ (l : Logged). l.receipt_room) c.note.ensures in
+    let play_room : c.note.new.self.play_room ≡ inside.log.play_room = ap (λ (l : Logged). l.play_room) c.note.ensures in
+    record {
+      films = c.self.invariant.films;
+      settings = c.self.invariant.settings;
+      id = c.self.invariant.id;
+      state = admitted_state films c.in-Ready.field-1 ready.0 kept pacing refl refl pacer;
+      awaited = subst (λ (a : Awaited). IsAwaitedKept films inside.source inside.settings prepared.counts inside.lost
+          (Playing setup play) a) (sym none)
+          (admitted_going setup (run_pieces prepared.frames) prepared.run.sent c.args.start pacer kept.0.paced);
+      stop = tt;
+      receipt_room = omega (arith, c.self.invariant.receipt_room);
+      play_room = omega (arith, c.self.invariant.play_room);
+      offer_room = omega arith;
+      looks = c.self.invariant.looks;
+      torn = λ tearing waits. cc;
+      late = c.self.invariant.late;
+      heard = c.self.invariant.heard;
+      front = λ asks. absurd (omega (arith, asks));
+    }

@@ -1,0 +1,77 @@
+use Rattle.std.proofs.Common.{◌≡◌, ◌-◌, ◌||◌, Bool, true, if◌then◌else◌, refl, sym, ap, subst, ◌∙◌, arith}
+use Rattle.session.specs.Hearings.{counts_next, is_answered, is_torn}
+use Rattle.session.specs.Inside.{IsAwaitedKept, IsNextIn, IsStateKept, IsStopAnswered, awaited_offers, awaited_plays, awaited_receipts, open_receipts}
+use Rattle.session.specs.Logs.{Logged}
+use Rattle.session.specs.Sendings.{next_of, state_after}
+use Rattle.session.specs.declared.states.Awaited.{Awaited}
+use Rattle.session.specs.declared.states.Awaited.TheVariants.{Nothing}
+use Rattle.session.specs.declared.states.Counts.{Counts}
+use Rattle.session.specs.declared.states.Next.{Next}
+use Rattle.session.specs.declared.states.State.{State}
+use Rattle.session.specs.declared.states.State.TheVariants.{Playing}
+use Rattle.session.proofs.Askings.{next_in}
+use Rattle.session.proofs.Halts.{halted_closed, halted_kept, halted_rest, halted_stop, halted_torn, or_if}
+use Rattle.session.proofs.sessions.Session.hear_halt.Goals as goal
+
+pub counts_next-self-inside-requires-clause-run : goal.counts_next-self-inside-requires-clause-run
+counts_next-self-inside-requires-clause-run c =
+    let inside = c.self.inside in
+    let kept = subst (λ (s : State). IsStateKept inside.films.now inside.source inside.settings inside.counts s)
+    (sym c.in-Playing.ensures.value) c.self.invariant.state in
+    λ stored at. (kept.2 stored at).playable.run_of.run_is
+
+pub invariant_of-self : goal.invariant_of-self
+invariant_of-self c =
+    let inside = c.self.inside in
+    let films = inside.films.now in
+    let setup = c.in-Playing.setup in
+    let play = c.in-Playing.play in
+    let keep = c.kept_and_next-keep.result.0 in
+    let next = c.kept_and_next-keep.result.1 in
+    let state = c.state_and_note-state.result.0 in
+    let counts = c.counts_next-self-inside.result in
+    let was : inside.state ≡ Playing setup play = sym c.in-Playing.ensures.value in
+    let kept = subst (λ (s : State). IsStateKept films inside.source inside.settings inside.counts s) was c.self.invariant.state in
+    let asked : next_of inside.awaited ≡ next = sym (ap next_of c.replace-asked.ensures.value) ∙ sym c.kept_and_next-keep.ensures.next in
+    let left : IsNextIn films inside.source inside.counts (Playing setup play) next =
+    subst (λ (s : State). IsNextIn films inside.source inside.counts s next) was
+    (subst (λ (n : Next). IsNextIn films inside.source inside.counts inside.state n) asked
+    (next_in films inside.source inside.settings inside.counts inside.lost inside.state inside.awaited c.self.invariant.awaited)) in
+    let none : c.replace-asked.new.dest ≡ Nothing = c.replace-asked.ensures.after in
+    let is : state ≡ state_after setup play next = c.state_and_note-state.ensures.state in
+    let counted : counts ≡ counts_next films inside.source inside.counts setup play.run keep next = c.counts_next-self-inside.ensures in
+    let waits : (inside.waits || c.is_answered.result) ≡ (if is_answered next then true else inside.waits) =
+    ap (λ b. inside.waits || b) c.is_answered.ensures ∙ or_if inside.waits (is_answered next) in
+    let tearing : (inside.tearing || c.is_torn.result) ≡ (if is_torn next then true else inside.tearing) =
+    ap (λ b. inside.tearing || b) c.is_torn.ensures ∙ or_if inside.tearing (is_torn next) in
+    let closed : open_receipts state ≡ 0 = ap open_receipts is ∙ halted_closed setup play next in
+    let open_one : open_receipts inside.state ≡ 1 = ap open_receipts was in
+    let receipts : awaited_receipts c.replace-asked.new.dest ≡ 0 = ap awaited_receipts none in
+    let plays : awaited_plays c.replace-asked.new.dest ≡ 0 = ap awaited_plays none in
+    let offers : awaited_offers c.replace-asked.new.dest ≡ 0 = ap awaited_offers none in
+    let room : c.note_play.new.self.receipt_room ≡ inside.log.receipt_room - 1 =
+    ap (λ (l : Logged). l.receipt_room) c.note_play.ensures ∙ ap (λ (l : Logged). l.receipt_room) c.note.ensures in
+    record {
+      films = c.self.invariant.films;
+      settings = c.self.invariant.settings;
+      id = c.self.invariant.id;
+      state = subst (λ (n : Counts). IsStateKept films inside.source inside.settings n state) (sym counted)
+          (subst (λ (s : State). IsStateKept films inside.source inside.settings
+          (counts_next films inside.source inside.counts setup play.run keep next) s) (sym is)
+          (halted_kept films keep next kept left));
+      awaited = subst (λ (a : Awaited). IsAwaitedKept films inside.source inside.settings counts inside.lost state a) (sym none)
+          (subst (λ (s : State). IsAwaitedKept films inside.source inside.settings counts inside.lost s Nothing) (sym is)
+          (halted_rest films inside.source inside.settings counts inside.lost setup play next));
+      stop = subst (IsStopAnswered state) (sym waits)
+          (subst (λ (s : State). IsStopAnswered s (if is_answered next then true else inside.waits)) (sym is)
+          (halted_stop setup play next inside.waits));
+      receipt_room = omega (arith, c.self.invariant.receipt_room);
+      play_room = omega arith;
+      offer_room = omega arith;
+      looks = c.self.invariant.looks;
+      torn = λ ends still.
+          halted_torn next c.self.invariant.torn (sym tearing ∙ ends) (sym waits ∙ still);
+      late = c.self.invariant.late;
+      heard = c.self.invariant.heard;
+      front = λ asks. absurd (omega (arith, asks));
+    }

@@ -1,0 +1,87 @@
+use Rattle.std.proofs.Common.{◌≡◌, ℕ, List, refl, sym, ap, subst, ◌∙◌}
+use Rattle.film_run.specs.declared.plans.Playback.{Playback}
+use Rattle.film_run.specs.Pauses.{IsLeft}
+use Rattle.film_run.specs.Units.{stored_sizes}
+use Rattle.pacer.specs.Pacings.{Pacing, next_boundary}
+use Rattle.session.specs.Inside.{standing_of}
+use Rattle.session.specs.Methods.{Pauses}
+use Rattle.session.specs.Playing.{IsRunOf, playback_of}
+use Rattle.session.specs.Standings.{CanHear, Standing}
+use Rattle.session.specs.declared.states.Awaited.TheVariants.{Halt}
+use Rattle.session.specs.declared.states.Next.TheVariants.{Paused}
+use Rattle.session.specs.declared.states.State.{State}
+use Rattle.session.specs.declared.states.State.TheVariants.{Playing}
+use Rattle.session.specs.declared.asks.Ask.TheVariants.{Halt as AskHalt}
+use Rattle.session.proofs.Askings.{halt_asked, playing_in, unhalted}
+use Rattle.session.proofs.Pausing.{halts_play, left_runs}
+use Rattle.session.proofs.Playables.{of_film}
+use Rattle.session.proofs.sessions.Session.pause.Goals as goal
+
+pub run_after-left-requires-clause-halt : goal.run_after-left-requires-clause-halt
+run_after-left-requires-clause-halt c =
+    let inside = c.self.inside in
+    let setup = c.in-Playing.setup in
+    let play = c.in-Playing.play in
+    let state : inside.state ≡ Playing setup play = sym c.in-Playing.ensures.value in
+    let hear : CanHear (standing_of inside) = subst CanHear (sym c.self.view_is) c.requires.hear in
+    halts_play c.last_slot-last.result
+    (playing_in inside setup play c.self.invariant state hear).1 (unhalted inside setup play c.self.invariant state hear)
+    c.ask_halt-keep.ensures.state c.ask_halt-keep.ensures.boundary c.ask_halt-keep.ensures.most c.last_slot-last.ensures
+
+pub invariant_of-self : goal.invariant_of-self
+invariant_of-self c =
+    let inside = c.self.inside in
+    let setup = c.in-Playing.setup in
+    let play = c.in-Playing.play in
+    let stored = c.stored_at-stored.result.now in
+    let left = c.run_after-left.result in
+    let state : inside.state ≡ Playing setup play = sym c.in-Playing.ensures.value in
+    let hear : CanHear (standing_of inside) = subst CanHear (sym c.self.view_is) c.requires.hear in
+    let kept = playing_in inside setup play c.self.invariant state hear in
+    halt_asked inside setup play c.self.invariant state hear c.ask_halt-keep.new.self c.ask_halt-keep.result (Paused left)
+    c.put_session.new.reply c.ask_halt-keep.ensures.pacing c.ask_halt-keep.ensures.state c.ask_halt-keep.ensures.most
+    (of_film inside.films.now setup.film stored (λ s. IsRunOf s inside.source setup inside.counts left) c.stored_at-stored.ensures.film
+    (left_runs
+    kept.1 (kept.2 stored c.stored_at-stored.ensures.film) c.playback_of-playback.ensures.playback
+    c.ask_halt-keep.ensures.boundary.boundary c.run_after-left.ensures.left c.run_after-left.ensures.run c.run_after-left.ensures.fits))
+
+pub returns-clause-exact : goal.returns-clause-exact
+returns-clause-exact c =
+    let inside = c.self.inside in
+    let setup = c.in-Playing.setup in
+    let play = c.in-Playing.play in
+    let stored = c.stored_at-stored.result.now in
+    let sizes = stored_sizes stored in
+    let keep = c.ask_halt-keep.result in
+    let left = c.run_after-left.result in
+    let last = c.last_slot-last.result in
+    let state : inside.state ≡ Playing setup play = sym c.in-Playing.ensures.value in
+    let new : Pacing → List ℕ → Standing = λ p text. record (standing_of inside) {
+      state = Playing setup (record play { pacer = p });
+      awaited = Halt keep (Paused left);
+      text = text;
+    } in
+    let value : keep ≡ next_boundary play.pacer = c.ask_halt-keep.ensures.value in
+    let pacer : c.ask_halt-keep.new.self ≡ record play.pacer { keep = keep } =
+    c.ask_halt-keep.ensures.state ∙ ap (λ (n : ℕ). record play.pacer { keep = n }) (sym value) in
+    subst (λ (old : Standing). Pauses old.state old c.args.sequence (AskHalt keep) (new c.ask_halt-keep.new.self c.put_session.new.reply))
+    c.self.view_is
+    (subst (λ (s : State). Pauses s (standing_of inside) c.args.sequence (AskHalt keep)
+    (new c.ask_halt-keep.new.self c.put_session.new.reply)) (sym state)
+    (record {
+      stored = stored;
+      at = c.stored_at-stored.ensures.film;
+      last = last;
+      last_is = c.last_slot-last.ensures ∙ ap (λ (p : Pacing). p.passed) c.ask_halt-keep.ensures.state;
+      left = left;
+      left_is = subst (λ (n : ℕ). IsLeft sizes (playback_of stored.film inside.settings setup) play.run play.plan last n left) value
+          (subst (λ (p : Playback). IsLeft sizes p play.run play.plan last keep left) c.playback_of-playback.ensures.playback
+          c.run_after-left.ensures.left);
+      asks = record {
+        keep = keep;
+        keep_is = value;
+        command = refl;
+        state = ap (λ (p : Pacing). new p c.put_session.new.reply) pacer
+            ∙ ap (λ (text : List ℕ). new (record play.pacer { keep = keep }) text) c.put_session.ensures;
+      };
+    }))

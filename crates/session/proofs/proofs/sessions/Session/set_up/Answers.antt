@@ -1,0 +1,19 @@
+use Rattle.std.proofs.Common.{ℕ, List, None, Ok, ap, subst, ◌∙◌}
+use Rattle.session.specs.Inside.{standing_of}
+use Rattle.session.specs.Methods.{SetsUp}
+use Rattle.session.specs.Standings.{Standing, replied}
+use Rattle.session.specs.declared.states.State.TheVariants.{Ready}
+use Rattle.session.proofs.sessions.Session.set_up.Goals as goal
+
+pub returns-in-Ok-clause-exact : goal.returns-in-Ok-clause-exact
+returns-in-Ok-clause-exact c =
+    subst (λ (old : Standing). SetsUp old c.args.request.now c.args.film c.reply_waits.result c.reply_waits.new.self) c.self.view_is
+    (record {
+      read = Ok c.in-Ok.setup;
+      is_read = c.in-Ok.ensures.read;
+      done = (
+        c.reply_waits.ensures.asks,
+        c.reply_waits.ensures.waits
+            ∙ ap (λ (t : List ℕ). record (replied (standing_of c.self.inside) t) { state = Ready c.in-Ok.setup None }) c.put_setup.ensures,
+      );
+    })
