@@ -104,10 +104,10 @@ none_more [] = refl
 none_more (part ∷ parts) = none_more parts
 
 -- a part before a comma: what is read of it decides, with the rest
-pub part_first : (steps : List CapStep) (text part rest : List ℕ) → position_or_len (λ b. b == 44) text < length text →
+pub part_first : {part rest : List ℕ} (steps : List CapStep) (text : List ℕ) → position_or_len (λ b. b == 44) text < length text →
     part ≡ before_first (λ b. b == 44) text → rest ≡ after_first (λ b. b == 44) text →
     fold part_more (Some steps) (slice_split (λ b. b == 44) text) ≡ fold part_more (step_more steps (step_of part)) (slice_split (λ b. b == 44) rest)
-part_first steps text part rest inside before after =
+part_first {part} steps text inside before after =
     ap (fold part_more (Some steps)) (slice_split_first (λ b. b == 44) text 0 inside)
     ∙ ap (λ (p : List ℕ). fold part_more (step_more steps (step_of p)) (slice_split (λ b. b == 44) (after_first (λ b. b == 44) text))) (sym before)
     ∙ ap (λ (r : List ℕ). fold part_more (step_more steps (step_of part)) (slice_split (λ b. b == 44) r)) (sym after)
@@ -120,10 +120,10 @@ part_last steps text none =
     (All-from_get_or (λ b. (b == 44) ≡ false) text 0 (λ i inside. fails_before_first (λ b. b == 44) text i 0 (rw none inside))))
 
 -- a part that writes no step which may stand there
-pub part_bad : (steps : List CapStep) (text part rest : List ℕ) → position_or_len (λ b. b == 44) text < length text →
+pub part_bad : {part rest : List ℕ} (steps : List CapStep) (text : List ℕ) → position_or_len (λ b. b == 44) text < length text →
     part ≡ before_first (λ b. b == 44) text → rest ≡ after_first (λ b. b == 44) text → step_more steps (step_of part) ≡ None →
     fold part_more (Some steps) (slice_split (λ b. b == 44) text) ≡ None
-part_bad steps text part rest inside before after bad =
-    part_first steps text part rest inside before after
+part_bad {rest} steps text inside before after bad =
+    part_first steps text inside before after
     ∙ ap (λ (o : Option (List CapStep)). fold part_more o (slice_split (λ b. b == 44) rest)) bad
     ∙ none_more (slice_split (λ b. b == 44) rest)

@@ -49,9 +49,9 @@ abbrev IsAdded : List ℕ → List ℕ → Setting → List (List ℕ) → List 
 IsAdded key value default values values' =
     (values ≡ values') ⊎ ((default.key ≡ key) × (values ≡ []) × (values' ≡ value ∷ []))
 
-own_key : (key value : List ℕ) (default : Setting) (words : List (List ℕ)) → list_all (λ d. not (bytes_eq d.key key) || bytes_eq d.value value) defaults ≡ true →
+own_key : {key value : List ℕ} {default : Setting} (words : List (List ℕ)) → list_all (λ d. not (bytes_eq d.key key) || bytes_eq d.value value) defaults ≡ true →
     Contains defaults default → values_of default.key words ≡ [] → IsAdded key value default (values_of key words) (values_of key (word_of default ∷ words))
-own_key key value default words one stands absent = elim (cases_Bool (bytes_eq default.key key)) [
+own_key {key} {value} {default} words one stands absent = elim (cases_Bool (bytes_eq default.key key)) [
   | inl same ↦ inr (
       let key_is : default.key ≡ key = (bytes_eq-Decides default.key key).0 same in
       let none : values_of key words ≡ [] = ap (λ (k : List ℕ). values_of k words) (sym key_is) ∙ absent in
@@ -69,18 +69,20 @@ own_key key value default words one stands absent = elim (cases_Bool (bytes_eq d
 ]
 
 -- where a value is read so, what is given before is given after
-added_same : {A : Type 0} (read : List (List ℕ) → A) (key value : List ℕ) (default : Setting) (values values' : List (List ℕ)) →
+added_same : {A : Type 0} {key value : List ℕ} {values values' : List (List ℕ)} (read : List (List ℕ) → A)
+    (default : Setting) →
     read [] ≡ read (value ∷ []) → IsAdded key value default values values' → read values ≡ read values'
-added_same read key value default values values' same added = elim added [
+added_same {key} {value} read default same added = elim added [
   | inl equal ↦ ap read equal
   | inr new ↦ ap read new.1 ∙ same ∙ sym (ap read new.2)
 ]
 
 -- a source: of a trace no slot is asked
-source_same : (default : Setting) (words words' : List (List ℕ)) (traces films traces' films' slots slots' : List (List ℕ)) → traces ≡ traces' → films ≡ films' →
+source_same : {traces films traces' films' slots slots' : List (List ℕ)} (default : Setting)
+    (words words' : List (List ℕ)) → traces ≡ traces' → films ≡ films' →
     IsAdded (codes "slot") (codes "14400") default slots slots' → (default.key ≡ codes "slot" → traces ≡ []) →
     source_of traces films slots ≡ source_of traces' films' slots'
-source_same default words words' traces films traces' films' slots slots' trace film slot of_film =
+source_same {traces} {films} {traces'} {slots} {slots'} default words words' trace film slot of_film =
     elim slot [
       | inl equal ↦ ap (source_of traces films) equal
       | inr new ↦ (
@@ -104,34 +106,34 @@ give_same command words default left =
     let stands = left.listed in
     let other : (key : List ℕ) → list_all (λ d. not (bytes_eq d.key key)) defaults ≡ true → values_of key words ≡ values_of key words' = λ key none. other_key key default words none stands in
     let own : (key value : List ℕ) → list_all (λ d. not (bytes_eq d.key key) || bytes_eq d.value value) defaults ≡ true → IsAdded key value default (values_of key words) (values_of key words') =
-    λ key value one. own_key key value default words one stands left.absent in
+    λ key value one. own_key words one stands left.absent in
     record {
       films = other (codes "film") refl;
-      source = source_same default words words' (values_of (codes "trace") words) (values_of (codes "film") words) (values_of (codes "trace") words') (values_of (codes "film") words')
-          (values_of (codes "slot") words) (values_of (codes "slot") words') (other (codes "trace") refl) (other (codes "film") refl) (own (codes "slot") (codes "14400") refl) left.of_film;
+      source = source_same default words words'
+          (other (codes "trace") refl) (other (codes "film") refl) (own (codes "slot") (codes "14400") refl) left.of_film;
       cert = other (codes "cert") refl;
       script = other (codes "script") refl;
       kind = other (codes "kind") refl;
       seed = other (codes "seed") refl;
       pictures = other (codes "pictures") refl;
       plays = other (codes "plays") refl;
-      buffer = added_same (number_or 1048576 1 (2 ^ 42)) (codes "buffer") (codes "1048576") default (values_of (codes "buffer") words) (values_of (codes "buffer") words')
+      buffer = added_same (number_or 1048576 1 (2 ^ 42)) default
           refl (own (codes "buffer") (codes "1048576") refl);
-      startup = added_same (number_or 25 0 10000) (codes "startup") (codes "25") default (values_of (codes "startup") words) (values_of (codes "startup") words')
+      startup = added_same (number_or 25 0 10000) default
           refl (own (codes "startup") (codes "25") refl);
-      slot = added_same (number_or 14400 360 360000) (codes "slot") (codes "14400") default (values_of (codes "slot") words) (values_of (codes "slot") words')
+      slot = added_same (number_or 14400 360 360000) default
           refl (own (codes "slot") (codes "14400") refl);
-      capacity = added_same one_capacity (codes "capacity") (codes "50000") default (values_of (codes "capacity") words) (values_of (codes "capacity") words')
+      capacity = added_same one_capacity default
           refl (own (codes "capacity") (codes "50000") refl);
-      journal = added_same (number_or 65536 2 1048576) (codes "journal") (codes "65536") default (values_of (codes "journal") words) (values_of (codes "journal") words')
+      journal = added_same (number_or 65536 2 1048576) default
           refl (own (codes "journal") (codes "65536") refl);
-      port = added_same (number_or 8554 1 65535) (codes "port") (codes "8554") default (values_of (codes "port") words) (values_of (codes "port") words')
+      port = added_same (number_or 8554 1 65535) default
           refl (own (codes "port") (codes "8554") refl);
-      bind = added_same one_bind (codes "bind") (codes "local") default (values_of (codes "bind") words) (values_of (codes "bind") words')
+      bind = added_same one_bind default
           refl (own (codes "bind") (codes "local") refl);
-      workers = added_same (number_or 32 1 256) (codes "workers") (codes "32") default (values_of (codes "workers") words) (values_of (codes "workers") words')
+      workers = added_same (number_or 32 1 256) default
           refl (own (codes "workers") (codes "32") refl);
-      connections = added_same (number_or 0 0 (2 ^ 64 - 1)) (codes "connections") (codes "0") default (values_of (codes "connections") words) (values_of (codes "connections") words')
+      connections = added_same (number_or 0 0 (2 ^ 64 - 1)) default
           refl (own (codes "connections") (codes "0") refl);
     }
 
@@ -145,5 +147,5 @@ pub default_same : (name : List ℕ) (command : Command) (words : List (List ℕ
 default_same name command words default named left =
     let taken : is_word_of command (word_of default) ≡ true =
     one_read (keys_of command) default.key default.value (key_is_plain default left.listed) ∙ key_found default.key (keys_of command) left.taken in
-    sym (meaning_same name command words (word_of default ∷ words) named
+    sym (meaning_same name named
     (sym (ap (λ (b : Bool). b && list_all (is_word_of command) words) taken)) (give_same command words default left))

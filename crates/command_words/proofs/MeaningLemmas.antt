@@ -70,10 +70,10 @@ order_same Serve words words' same =
 order_same Watch words words' same = rw same.films (rw same.port (rw (pace_same words words' same) refl))
 
 -- words that are of the same command, and give the same, mean the same
-pub meaning_same : (name : List ℕ) (command : Command) (words words' : List (List ℕ)) → command_named name ≡ Some command →
+pub meaning_same : {command : Command} {words words' : List (List ℕ)} (name : List ℕ) → command_named name ≡ Some command →
     list_all (is_word_of command) words ≡ list_all (is_word_of command) words' → GiveSame words words' →
     meaning (name ∷ words) ≡ meaning (name ∷ words')
-meaning_same name command words words' named all same =
+meaning_same {command} {words} {words'} name named all same =
     meaning_of name command words named
     ∙ ap (λ (b : Bool). if b then order_given command words else None) all
     ∙ ap (λ (o : Option Order). if list_all (is_word_of command) words' then o else None) (order_same command words words' same)

@@ -71,6 +71,6 @@ pub order_free : (name : List ℕ) (command : Command) (front : List (List ℕ))
     command_named name ≡ Some command → HaveOtherKeys word other →
     meaning (name ∷ front ++ word ∷ other ∷ rest) ≡ meaning (name ∷ front ++ other ∷ word ∷ rest)
 order_free name command front word other rest named apart =
-    meaning_same name command (front ++ word ∷ other ∷ rest) (front ++ other ∷ word ∷ rest) named
+    meaning_same name named
     (all_free (is_word_of command) front word other rest)
     (give_same (front ++ word ∷ other ∷ rest) (front ++ other ∷ word ∷ rest) (values_free front word other rest apart))

@@ -29,23 +29,23 @@ pub record GivesPace (words : List (List ℕ)) (bytes slots : ℕ) : Type 0 wher
   pub buffer : buffer_given words ≡ Some bytes
   pub startup : startup_given words ≡ Some slots
 
-pace_read : (settings : List Setting) (buffer startup : ℕ) → are_plain settings ≡ true → picked (codes "buffer") settings ≡ decimal buffer ∷ [] →
+pace_read : {buffer startup : ℕ} (settings : List Setting) → are_plain settings ≡ true → picked (codes "buffer") settings ≡ decimal buffer ∷ [] →
     picked (codes "startup") settings ≡ decimal startup ∷ [] → IsWithin 1 (2 ^ 42) buffer → IsWithin 0 10000 startup → GivesPace (given settings) buffer startup
-pace_read settings buffer startup plain b s some few =
+pace_read {buffer} {startup} settings plain b s some few =
     record {
-      buffer = key_or 1048576 1 (2 ^ 42) buffer (values_of (codes "buffer") (given settings)) (values_read (codes "buffer") settings plain ∙ b) some (omega (arith, some.1));
-      startup = key_or 25 0 10000 startup (values_of (codes "startup") (given settings)) (values_read (codes "startup") settings plain ∙ s) few (omega (arith, few.1));
+      buffer = key_or 1048576 (values_read (codes "buffer") settings plain ∙ b) some (omega (arith, some.1));
+      startup = key_or 25 (values_read (codes "startup") settings plain ∙ s) few (omega (arith, few.1));
     }
 
 slot_read : (settings : List Setting) (slot : ℕ) → are_plain settings ≡ true → picked (codes "slot") settings ≡ decimal slot ∷ [] →
     IsWithin 360 360000 slot → slot_given (given settings) ≡ Some slot
 slot_read settings slot plain s within =
-    key_or 14400 360 360000 slot (values_of (codes "slot") (given settings)) (values_read (codes "slot") settings plain ∙ s) within (omega (arith, within.1))
+    key_or 14400 (values_read (codes "slot") settings plain ∙ s) within (omega (arith, within.1))
 
 journal_read : (settings : List Setting) (journal : ℕ) → are_plain settings ≡ true → picked (codes "journal") settings ≡ decimal journal ∷ [] →
     IsWithin 2 1048576 journal → journal_given (given settings) ≡ Some journal
 journal_read settings journal plain j within =
-    key_or 65536 2 1048576 journal (values_of (codes "journal") (given settings)) (values_read (codes "journal") settings plain ∙ j) within (omega (arith, within.1))
+    key_or 65536 (values_read (codes "journal") settings plain ∙ j) within (omega (arith, within.1))
 
 capacity_read : (settings : List Setting) (steps : List CapStep) → are_plain settings ≡ true → picked (codes "capacity") settings ≡ steps_text steps ∷ [] →
     IsCapacity steps → capacity_given (given settings) ≡ Some steps
@@ -55,21 +55,21 @@ capacity_read settings steps plain c capacity =
 port_read : (settings : List Setting) (port : ℕ) → are_plain settings ≡ true → picked (codes "port") settings ≡ decimal port ∷ [] →
     IsWithin 1 65535 port → port_given (given settings) ≡ Some port
 port_read settings port plain p within =
-    key_or 8554 1 65535 port (values_of (codes "port") (given settings)) (values_read (codes "port") settings plain ∙ p) within (omega (arith, within.1))
+    key_or 8554 (values_read (codes "port") settings plain ∙ p) within (omega (arith, within.1))
 
 -- a source, by what its keys are given
-trace_read : (settings : List Setting) (name : List ℕ) → are_plain settings ≡ true → picked (codes "trace") settings ≡ name ∷ [] →
+trace_read : {name : List ℕ} (settings : List Setting) → are_plain settings ≡ true → picked (codes "trace") settings ≡ name ∷ [] →
     picked (codes "film") settings ≡ [] → picked (codes "slot") settings ≡ [] → is_good_name name ≡ true → source_given (given settings) ≡ Some (trace_source name)
-trace_read settings name plain t f s good =
+trace_read {name} settings plain t f s good =
     ap (λ (vs : List (List ℕ)). source_of vs (values_of (codes "film") (given settings)) (values_of (codes "slot") (given settings))) (values_read (codes "trace") settings plain ∙ t)
     ∙ ap (λ (vs : List (List ℕ)). source_of (name ∷ []) vs (values_of (codes "slot") (given settings))) (values_read (codes "film") settings plain ∙ f)
     ∙ ap (λ (vs : List (List ℕ)). source_of (name ∷ []) [] vs) (values_read (codes "slot") settings plain ∙ s)
     ∙ ap (option_map trace_source) (name_back name (name ∷ []) refl good)
 
-film_read : (settings : List Setting) (name : List ℕ) (slot : ℕ) → are_plain settings ≡ true → picked (codes "trace") settings ≡ [] →
+film_read : {name : List ℕ} {slot : ℕ} (settings : List Setting) → are_plain settings ≡ true → picked (codes "trace") settings ≡ [] →
     picked (codes "film") settings ≡ name ∷ [] → picked (codes "slot") settings ≡ decimal slot ∷ [] → is_good_name name ≡ true → IsWithin 360 360000 slot →
     source_given (given settings) ≡ Some (film_source name slot)
-film_read settings name slot plain t f s good within =
+film_read {name} {slot} settings plain t f s good within =
     ap (λ (vs : List (List ℕ)). source_of vs (values_of (codes "film") (given settings)) (values_of (codes "slot") (given settings))) (values_read (codes "trace") settings plain ∙ t)
     ∙ then_is (λ (n : List ℕ). option_map (λ (k : ℕ). film_source n k) (number_or 14400 360 360000 (values_of (codes "slot") (given settings)))) (one_name (values_of (codes "film") (given settings))) name (Some (film_source name slot))
     (name_back name (values_of (codes "film") (given settings)) (values_read (codes "film") settings plain ∙ f) good)
@@ -86,10 +86,10 @@ viewer_read viewer may = by viewer.source viewer.buffer viewer.startup may.sourc
         viewer_given (given (viewer_settings (record { source = source; buffer = buffer; startup = startup }))) ≡ Some (record { source = source; buffer = buffer; startup = startup })
     by (trace_source name) buffer startup good some few =
         let settings = viewer_settings (record { source = trace_source name; buffer = buffer; startup = startup }) in
-        viewer_is (given settings) (trace_source name) buffer startup (trace_read settings name refl refl refl refl good) (pace_read settings buffer startup refl refl refl some few)
+        viewer_is (given settings) (trace_source name) buffer startup (trace_read settings refl refl refl refl good) (pace_read settings refl refl refl some few)
     by (film_source name slot) buffer startup good some few =
         let settings = viewer_settings (record { source = film_source name slot; buffer = buffer; startup = startup }) in
-        viewer_is (given settings) (film_source name slot) buffer startup (film_read settings name slot refl refl refl refl good.0 good.1) (pace_read settings buffer startup refl refl refl some few)
+        viewer_is (given settings) (film_source name slot) buffer startup (film_read settings refl refl refl refl good.0 good.1) (pace_read settings refl refl refl some few)
 
 check_read : (viewer : Viewer) (cert : List ℕ) → MayBeViewer viewer → is_good_name cert ≡ true →
     check_given (given (settings_of (check_of viewer cert))) ≡ Some (check_of viewer cert)
@@ -100,13 +100,13 @@ check_read viewer cert may good = by viewer.source viewer.buffer viewer.startup 
     by (trace_source name) buffer startup named some few =
         let viewer : Viewer = record { source = trace_source name; buffer = buffer; startup = startup } in
         let settings = settings_of (check_of viewer cert) in
-        let found = viewer_is (given settings) (trace_source name) buffer startup (trace_read settings name refl refl refl refl named) (pace_read settings buffer startup refl refl refl some few) in
+        let found = viewer_is (given settings) (trace_source name) buffer startup (trace_read settings refl refl refl refl named) (pace_read settings refl refl refl some few) in
         then_is (λ (v : Viewer). option_map (λ (c : List ℕ). check_of v c) (cert_given (given settings))) (viewer_given (given settings)) viewer (Some (check_of viewer cert)) found
         (ap (option_map (λ (c : List ℕ). check_of viewer c)) (name_back cert (values_of (codes "cert") (given settings)) (values_read (codes "cert") settings refl) good))
     by (film_source name slot) buffer startup named some few =
         let viewer : Viewer = record { source = film_source name slot; buffer = buffer; startup = startup } in
         let settings = settings_of (check_of viewer cert) in
-        let found = viewer_is (given settings) (film_source name slot) buffer startup (film_read settings name slot refl refl refl refl named.0 named.1) (pace_read settings buffer startup refl refl refl some few) in
+        let found = viewer_is (given settings) (film_source name slot) buffer startup (film_read settings refl refl refl refl named.0 named.1) (pace_read settings refl refl refl some few) in
         then_is (λ (v : Viewer). option_map (λ (c : List ℕ). check_of v c) (cert_given (given settings))) (viewer_given (given settings)) viewer (Some (check_of viewer cert)) found
         (ap (option_map (λ (c : List ℕ). check_of viewer c)) (name_back cert (values_of (codes "cert") (given settings)) (values_read (codes "cert") settings refl) good))
 
@@ -116,9 +116,9 @@ make_read kind seed pictures small within =
     let settings = settings_of (make_of kind seed pictures) in
     let kinds : one_kind (values_of (codes "kind") (given settings)) ≡ Some kind = ap one_kind (values_read (codes "kind") settings refl) ∙ kind_back kind in
     let seeds : seed_given (given settings) ≡ Some seed =
-    key_one 0 (2 ^ 64 - 1) seed (values_of (codes "seed") (given settings)) (values_read (codes "seed") settings refl) (omega arith, omega (arith, small)) small in
+    key_one (values_read (codes "seed") settings refl) (omega arith, omega (arith, small)) small in
     let all : pictures_given (given settings) ≡ Some pictures =
-    key_one 1 100000 pictures (values_of (codes "pictures") (given settings)) (values_read (codes "pictures") settings refl) within (omega (arith, within.1)) in
+    key_one (values_read (codes "pictures") settings refl) within (omega (arith, within.1)) in
     rw kinds (rw seeds (rw all refl))
   where
     kind_back : (kind : Made) → one_kind (made_text kind ∷ []) ≡ Some kind
@@ -139,18 +139,18 @@ draw_read : (run : FairRun) → MayDraw run → fair_run_given (given (settings_
 draw_read run may =
     let settings = settings_of (fair_of run) in
     let seed : seed_given (given settings) ≡ Some run.seed =
-    key_one 0 (2 ^ 64 - 1) run.seed (values_of (codes "seed") (given settings)) (values_read (codes "seed") settings refl) (omega arith, omega (arith, may.seed)) may.seed in
+    key_one (values_read (codes "seed") settings refl) (omega arith, omega (arith, may.seed)) may.seed in
     let plays : plays_given (given settings) ≡ Some run.plays =
-    key_one 1 100000 run.plays (values_of (codes "plays") (given settings)) (values_read (codes "plays") settings refl) may.plays (omega (arith, may.plays.1)) in
+    key_one (values_read (codes "plays") settings refl) may.plays (omega (arith, may.plays.1)) in
     let capacity = capacity_read settings run.capacity refl refl may.capacity in
     rw seed (rw plays (rw capacity refl))
 
 -- the client and the slot length that settings give
-whole_pace : (settings : List Setting) (pace : Pace) → are_plain settings ≡ true → picked (codes "buffer") settings ≡ decimal pace.buffer ∷ [] →
+whole_pace : {pace : Pace} (settings : List Setting) → are_plain settings ≡ true → picked (codes "buffer") settings ≡ decimal pace.buffer ∷ [] →
     picked (codes "startup") settings ≡ decimal pace.startup ∷ [] → picked (codes "slot") settings ≡ decimal pace.slot ∷ [] → MayBePace pace →
     pace_given (given settings) ≡ Some pace
-whole_pace settings pace plain b s k may =
-    let gives : GivesPace (given settings) pace.buffer pace.startup = pace_read settings pace.buffer pace.startup plain b s may.buffer may.startup in
+whole_pace {pace} settings plain b s k may =
+    let gives : GivesPace (given settings) pace.buffer pace.startup = pace_read settings plain b s may.buffer may.startup in
     let slot = slot_read settings pace.slot plain k may.slot in
     rw gives.buffer (rw gives.startup (rw slot refl))
 
@@ -159,20 +159,20 @@ watching_read watching may =
     let settings = settings_of (watch_of watching) in
     let film : film_given (given settings) ≡ Some watching.film = name_back watching.film (values_of (codes "film") (given settings)) (values_read (codes "film") settings refl) may.film in
     let port = port_read settings watching.port refl refl may.port in
-    let pace = whole_pace settings watching.pace refl refl refl refl may.pace in
+    let pace = whole_pace settings refl refl refl refl may.pace in
     rw film (rw port (rw pace refl))
 
-listening_read : (settings : List Setting) (listening : Listening) → are_plain settings ≡ true → picked (codes "port") settings ≡ decimal listening.port ∷ [] →
+listening_read : {listening : Listening} (settings : List Setting) → are_plain settings ≡ true → picked (codes "port") settings ≡ decimal listening.port ∷ [] →
     picked (codes "bind") settings ≡ bind_text listening.all ∷ [] → picked (codes "workers") settings ≡ decimal listening.workers ∷ [] →
     picked (codes "connections") settings ≡ decimal listening.connections ∷ [] → MayListen listening → listening_given (given settings) ≡ Some listening
-listening_read settings listening plain p b w c may =
+listening_read {listening} settings plain p b w c may =
     let port = port_read settings listening.port plain p may.port in
     let bind : one_bind (values_of (codes "bind") (given settings)) ≡ Some listening.all =
     ap one_bind (values_read (codes "bind") settings plain ∙ b) ∙ bind_back listening.all in
     let workers : workers_given (given settings) ≡ Some listening.workers =
-    key_or 32 1 256 listening.workers (values_of (codes "workers") (given settings)) (values_read (codes "workers") settings plain ∙ w) may.workers (omega (arith, may.workers.1)) in
+    key_or 32 (values_read (codes "workers") settings plain ∙ w) may.workers (omega (arith, may.workers.1)) in
     let connections : connections_given (given settings) ≡ Some listening.connections =
-    key_or 0 0 (2 ^ 64 - 1) listening.connections (values_of (codes "connections") (given settings)) (values_read (codes "connections") settings plain ∙ c)
+    key_or 0 (values_read (codes "connections") settings plain ∙ c)
     (omega arith, omega (arith, may.connections)) may.connections in
     rw port (rw bind (rw workers (rw connections refl)))
   where
@@ -190,8 +190,8 @@ serving_read serving may =
     values_read (codes "film") settings plain ∙ picked_films serving.films others ∙ append-nil serving.films in
     let capacity = capacity_read settings serving.capacity plain (past (codes "capacity") refl) may.capacity in
     let journal = journal_read settings serving.journal plain (past (codes "journal") refl) may.journal in
-    let listening = listening_read settings serving.listening plain (past (codes "port") refl) (past (codes "bind") refl) (past (codes "workers") refl) (past (codes "connections") refl) may.listening in
-    let pace = whole_pace settings serving.pace plain (past (codes "buffer") refl) (past (codes "startup") refl) (past (codes "slot") refl) may.pace in
+    let listening = listening_read settings plain (past (codes "port") refl) (past (codes "bind") refl) (past (codes "workers") refl) (past (codes "connections") refl) may.listening in
+    let pace = whole_pace settings plain (past (codes "buffer") refl) (past (codes "startup") refl) (past (codes "slot") refl) may.pace in
     rw films (rw may.films (rw capacity (rw journal (rw listening (rw pace refl)))))
 
 -- the settings of a client are words of `plan` and `check`

@@ -32,13 +32,13 @@ number_back least most n within small =
     ∙ ap (λ (b : Bool). if b && nat_le n most then Some n else None) (le-leb least n within.0)
     ∙ ap (λ (b : Bool). if b then Some n else None) (le-leb n most within.1)
 
-pub key_or : (default least most n : ℕ) (values : List (List ℕ)) → values ≡ decimal n ∷ [] → IsWithin least most n → n < 2 ^ 64 →
+pub key_or : {least most n : ℕ} {values : List (List ℕ)} (default : ℕ) → values ≡ decimal n ∷ [] → IsWithin least most n → n < 2 ^ 64 →
     number_or default least most values ≡ Some n
-key_or default least most n values given within small = ap (number_or default least most) given ∙ number_back least most n within small
+key_or {least} {most} {n} default given within small = ap (number_or default least most) given ∙ number_back least most n within small
 
-pub key_one : (least most n : ℕ) (values : List (List ℕ)) → values ≡ decimal n ∷ [] → IsWithin least most n → n < 2 ^ 64 →
+pub key_one : {least most n : ℕ} {values : List (List ℕ)} → values ≡ decimal n ∷ [] → IsWithin least most n → n < 2 ^ 64 →
     one_number least most values ≡ Some n
-key_one least most n values given within small = ap (one_number least most) given ∙ number_back least most n within small
+key_one {least} {most} {n} given within small = ap (one_number least most) given ∙ number_back least most n within small
 
 pub name_back : (name : List ℕ) (values : List (List ℕ)) → values ≡ name ∷ [] → is_good_name name ≡ true → one_name values ≡ Some name
 name_back name values given good = ap one_name given ∙ ap (λ (b : Bool). if b then Some name else None) good

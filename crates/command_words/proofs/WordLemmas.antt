@@ -40,32 +40,35 @@ some_found None h = cc
 some_found (Some v) h = refl
 
 -- the first word that gives a value
-pub values_of_first : (key : List ℕ) (words : List (String Global)) (i : ℕ) (word : String Global) (found answer found' : Option (Bor (List ℕ))) →
+pub values_of_first : {word : String Global} {answer found' : Option (Bor (List ℕ))} (key : List ℕ)
+    (words : List (String Global)) (i : ℕ) (found : Option (Bor (List ℕ))) →
     i < length words → word ≡ get_or words i word → values_of key (texts (take i words)) ≡ option_to_list (option_copied found) →
     option_copied answer ≡ setting_value key (string_bytes word) → is_some found ≡ false → found' ≡ answer →
     values_of key (texts (take (i + 1) words)) ≡ option_to_list (option_copied found')
-values_of_first key words i word found answer found' h at before says none is =
+values_of_first {word} key words i found h at before says none is =
     values_of_more key words i word h at
     ∙ ap (λ (vs : List (List ℕ)). vs ++ option_to_list (setting_value key (string_bytes word))) (before ∙ ap option_to_list (none_found found none))
     ∙ ap option_to_list (sym says) ∙ ap (λ (o : Option (Bor (List ℕ))). option_to_list (option_copied o)) (sym is)
 
 -- a word that gives no value
-pub values_of_none : (key : List ℕ) (words : List (String Global)) (i : ℕ) (word : String Global) (found answer found' : Option (Bor (List ℕ))) →
+pub values_of_none : {word : String Global} {found answer found' : Option (Bor (List ℕ))} (key : List ℕ)
+    (words : List (String Global)) (i : ℕ) →
     i < length words → word ≡ get_or words i word → values_of key (texts (take i words)) ≡ option_to_list (option_copied found) →
     option_copied answer ≡ setting_value key (string_bytes word) → answer ≡ None → found' ≡ found →
     values_of key (texts (take (i + 1) words)) ≡ option_to_list (option_copied found')
-values_of_none key words i word found answer found' h at before says none is =
+values_of_none {word} key words i h at before says none is =
     values_of_more key words i word h at
     ∙ ap (λ (o : Option (List ℕ)). values_of key (texts (take i words)) ++ option_to_list o) (sym says ∙ ap option_copied none)
     ∙ append-nil (values_of key (texts (take i words)))
     ∙ before ∙ ap (λ (o : Option (Bor (List ℕ))). option_to_list (option_copied o)) (sym is)
 
 -- a second word that gives a value
-pub values_of_again : (key : List ℕ) (words : List (String Global)) (i : ℕ) (word : String Global) (found answer : Option (Bor (List ℕ))) (value : Bor (List ℕ)) →
+pub values_of_again : {word : String Global} {answer : Option (Bor (List ℕ))} {value : Bor (List ℕ)} (key : List ℕ)
+    (words : List (String Global)) (i : ℕ) (found : Option (Bor (List ℕ))) →
     i < length words → word ≡ get_or words i word → values_of key (texts (take i words)) ≡ option_to_list (option_copied found) →
     option_copied answer ≡ setting_value key (string_bytes word) → is_some found ≡ true → answer ≡ Some value →
     2 ≤ length (values_of key (texts words))
-values_of_again key words i word found answer value h at before says some is =
+values_of_again {word} {answer} {value} key words i found h at before says some is =
     let grown : length (values_of key (texts (take (i + 1) words))) ≡ length (values_of key (texts (take i words)) ++ option_to_list (option_copied answer)) =
     ap length (values_of_more key words i word h at) ∙ ap (λ (o : Option (List ℕ)). length (values_of key (texts (take i words)) ++ option_to_list o)) (sym says) in
     let last : length (option_to_list (option_copied answer)) ≡ 1 = ap (λ (o : Option (Bor (List ℕ))). length (option_to_list (option_copied o))) is in
@@ -73,9 +76,9 @@ values_of_again key words i word found answer value h at before says some is =
     omega (arith, grown, length-append (values_of key (texts (take i words))) (option_to_list (option_copied answer)), last, first, values_of_front key words (i + 1))
 
 -- a word more that passes
-pub all_more : (p : List ℕ → Bool) (words : List (String Global)) (i : ℕ) (word : String Global) → i < length words → word ≡ get_or words i word →
+pub all_more : {word : String Global} (p : List ℕ → Bool) (words : List (String Global)) (i : ℕ) → i < length words → word ≡ get_or words i word →
     list_all p (texts (take i words)) ≡ true → p (string_bytes word) ≡ true → list_all p (texts (take (i + 1) words)) ≡ true
-all_more p words i word h at before passes =
+all_more {word} p words i h at before passes =
     ap (λ (ws : List (String Global)). list_all p (texts ws)) (take_more words i word h)
     ∙ ap (list_all p) (map-append string_bytes (take i words) (get_or words i word ∷ []))
     ∙ list_all-append p (texts (take i words)) (string_bytes (get_or words i word) ∷ [])
@@ -84,8 +87,8 @@ all_more p words i word h at before passes =
     ∙ ap (λ (b : Bool). b && true) passes
 
 -- a word that fails
-pub all_fails : (p : List ℕ → Bool) (words : List (String Global)) (i : ℕ) (word : String Global) → i < length words → word ≡ get_or words i word →
+pub all_fails : {word : String Global} (p : List ℕ → Bool) (words : List (String Global)) (i : ℕ) → i < length words → word ≡ get_or words i word →
     p (string_bytes word) ≡ false → list_all p (texts words) ≡ false
-all_fails p words i word h at fails =
+all_fails {word} p words i h at fails =
     list_all_at p (texts words) i (string_bytes word) (rw length-map h)
     (ap p (get_or-map string_bytes words i word ∙ ap string_bytes (sym at)) ∙ fails)

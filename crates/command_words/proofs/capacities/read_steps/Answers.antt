@@ -12,7 +12,7 @@ returns-then-not-put_part-clause-steps c =
     let first = rw c.in-Some.is at (split_once_first 44 c.loop-part.rest.now c.split_once.result c.split_once.ensures.cases (lit< tt)) in
     sym (
     c.loop-part.invariant.2
-    ∙ part_bad c.loop-part.steps c.loop-part.rest.now c.in-Some.part.now c.in-Some.after.now first.0 first.1 first.2 (c.put_part.ensures.refused c.if-not-put_part.true)
+    ∙ part_bad c.loop-part.steps c.loop-part.rest.now first.0 first.1 first.2 (c.put_part.ensures.refused c.if-not-put_part.true)
     )
 
 pub loop-part-preserved : goal.loop-part-preserved
@@ -21,7 +21,7 @@ loop-part-preserved c =
       search rules,
       c.put_part.ensures.front,
       c.loop-part.invariant.2
-          ∙ part_first c.loop-part.steps c.loop-part.rest.now c.in-Some.part.now c.in-Some.after.now first.0 first.1 first.2
+          ∙ part_first c.loop-part.steps c.loop-part.rest.now first.0 first.1 first.2
           ∙ ap (λ (o : Option (List CapStep)). fold part_more o (slice_split (λ b. b == 44) c.in-Some.after.now)) (c.put_part.ensures.put c.if-not-put_part.false),
     )
 

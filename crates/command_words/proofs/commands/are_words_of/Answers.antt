@@ -7,10 +7,10 @@ pub returns-then-not-is_word_of : goal.returns-then-not-is_word_of
 returns-then-not-is_word_of c =
     let fails : is_word_of c.args.command (string_bytes c.word-item.result) ≡ false =
     ap (is_word_of c.args.command) (sym c.as_str.ensures.value) ∙ sym (c.if-not-is_word_of.ensures {u = tt}) in
-    sym (all_fails (is_word_of c.args.command) c.args.words.now c.loop-word.word-index c.word-item.result c.loop-word-test.true c.word-item.is fails)
+    sym (all_fails (is_word_of c.args.command) c.args.words.now c.loop-word.word-index c.loop-word-test.true c.word-item.is fails)
 
 pub loop-word-preserved : goal.loop-word-preserved
 loop-word-preserved c =
     let passes : is_word_of c.args.command (string_bytes c.word-item.result) ≡ true =
     ap (is_word_of c.args.command) (sym c.as_str.ensures.value) ∙ sym (c.if-not-is_word_of.ensures {u = tt}) in
-    all_more (is_word_of c.args.command) c.args.words.now c.loop-word.word-index c.word-item.result c.loop-word-test.true c.word-item.is c.loop-word.invariant passes
+    all_more (is_word_of c.args.command) c.args.words.now c.loop-word.word-index c.loop-word-test.true c.word-item.is c.loop-word.invariant passes

@@ -9,7 +9,7 @@ pub returns-then-is_some : goal.returns-then-is_some
 returns-then-is_some c =
     let says : option_copied c.setting.result ≡ setting_value c.args.key.now (string_bytes c.word-item.result) =
     c.setting.ensures ∙ ap (setting_value c.args.key.now) c.as_str.ensures.value in
-    values_of_again c.args.key.now c.args.words.now c.loop-word.word-index c.word-item.result c.loop-word.found c.setting.result c.in-Some.value
+    values_of_again c.args.key.now c.args.words.now c.loop-word.word-index c.loop-word.found
     c.loop-word-test.true c.word-item.is c.loop-word.invariant says (sym (c.if-is_some.ensures {u = tt})) c.in-Some.is
 
 pub loop-word-preserved : goal.loop-word-preserved
@@ -18,9 +18,9 @@ loop-word-preserved c =
     c.setting.ensures ∙ ap (setting_value c.args.key.now) c.as_str.ensures.value in
     elim c.match-setting.branch [
       | in-Some+else-is_some w ↦
-          values_of_first c.args.key.now c.args.words.now c.loop-word.word-index c.word-item.result c.loop-word.found c.setting.result c.match-setting.found
+          values_of_first c.args.key.now c.args.words.now c.loop-word.word-index c.loop-word.found
           c.loop-word-test.true c.word-item.is c.loop-word.invariant says (sym (w.if-is_some.ensures {u = tt})) (w.found-is ∙ sym w.in-Some.is)
       | in_default w ↦
-          values_of_none c.args.key.now c.args.words.now c.loop-word.word-index c.word-item.result c.loop-word.found c.setting.result c.match-setting.found
+          values_of_none c.args.key.now c.args.words.now c.loop-word.word-index
           c.loop-word-test.true c.word-item.is c.loop-word.invariant says w.in_default.is w.found-is
     ]
