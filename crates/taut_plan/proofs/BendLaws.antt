@@ -49,12 +49,12 @@ pub record IsCorner (side : Side) (curve other : ℕ → ℕ) (t s : ℕ) (o b :
   pub others_after : (j : ℕ) → b.place < j → j ≤ s → IsInside side o b (on_curve other j)
   pub crossed : IsInside side o b (on_curve curve t)
 
-pub corner_of : {side : Side} {curve : ℕ → ℕ} {t : ℕ} {o : Point} {own : List Point} {b : Point} {rest : List Point}
-    (other : ℕ → ℕ) (s : ℕ)
+pub corner_of : {side : Side} {curve other : ℕ → ℕ} {t s : ℕ} {o : Point} {own : List Point} {b : Point}
+    {rest : List Point}
     → IsCrossing side curve other t s o own (b ∷ rest) → IsOrdered side (curve t) (other t)
     → IsInside side o b (on_curve curve t)
     → IsCorner side curve other t s o b
-corner_of {side} {curve} {t} {o} {b} other s state ordered crossed =
+corner_of {side} {curve} {other} {t} {s} {o} {b} state ordered crossed =
     let edge = state.others.0 in
     let later = edge.later in
     let near = edge.near in
@@ -79,10 +79,10 @@ corner_of {side} {curve} {t} {o} {b} other s state ordered crossed =
     }
 
 -- the chain with the new point is that point alone, and stays so
-own_moves : {side : Side} {curve : ℕ → ℕ} {t : ℕ} {o b : Point} (other : ℕ → ℕ) (s : ℕ) (own : List Point)
+own_moves : {side : Side} {curve other : ℕ → ℕ} {t s : ℕ} {o b : Point} (own : List Point)
     → IsChain side curve t o own → IsCorner side curve other t s o b → IsChain side curve t b own
-own_moves other s [] at_end corner = let one = corner.later in let two = corner.before_new in absurd (omega (arith, at_end, one, two))
-own_moves {side} {curve} {t} {o} {b} other s (p ∷ rest) chain corner =
+own_moves {other} {s} [] at_end corner = let one = corner.later in let two = corner.before_new in absurd (omega (arith, at_end, one, two))
+own_moves {side} {curve} {other} {t} {s} {o} {b} (p ∷ rest) chain corner =
     let edge = chain.0 in
     let later = edge.later in
     let near = edge.near in
@@ -113,17 +113,17 @@ own_moves {side} {curve} {t} {o} {b} other s (p ∷ rest) chain corner =
     ]
 
 -- the corner becomes the point that the chains begin at
-pub crossing_moves : {side : Side} {curve : ℕ → ℕ} {t : ℕ} {o : Point} {own : List Point} {b : Point}
-    {rest : List Point} (other : ℕ → ℕ) (s : ℕ)
+pub crossing_moves : {side : Side} {curve other : ℕ → ℕ} {t s : ℕ} {o : Point} {own : List Point} {b : Point}
+    {rest : List Point}
     → IsCrossing side curve other t s o own (b ∷ rest) → IsCorner side curve other t s o b
     → IsCrossing side curve other t s b own rest
-crossing_moves {side} {curve} {o} {own} {b} other s state corner =
+crossing_moves {side} {curve} {other} {s} {o} {own} {b} state corner =
     let first = corner.later in
     record {
       newest = state.newest;
       beyond = corner.before_new;
       not_past = state.not_past;
-      own = own_moves other s own state.own corner;
+      own = own_moves own state.own corner;
       others = state.others.1;
       apart = record {
         apart = λ i j i_past i_before j_past j_upto.
@@ -134,12 +134,12 @@ crossing_moves {side} {curve} {o} {own} {b} other s state corner =
     }
 
 -- The new point stands within the other chain: so the curves stand apart with it.
-uncrossed_within : (side : Side) (curve other : ℕ → ℕ) (t s : ℕ) (o : Point) (chain : List Point)
+uncrossed_within : {s : ℕ} (side : Side) (curve other : ℕ → ℕ) (t : ℕ) (o : Point) (chain : List Point)
     → IsChain (other_side side) other s o chain
     → IsUncrossed side o chain (on_curve curve t) → (j : ℕ) → o.place < j → j ≤ s
     → IsWithin side o (on_curve curve t) (on_curve other j)
-uncrossed_within side curve other t s o [] at_end un j after upto = absurd (omega (arith, at_end, after, upto))
-uncrossed_within side curve other t s o (b ∷ rest) chain un j after upto =
+uncrossed_within {s} side curve other t o [] at_end un j after upto = absurd (omega (arith, at_end, after, upto))
+uncrossed_within {s} side curve other t o (b ∷ rest) chain un j after upto =
     let edge = chain.0 in
     let later = edge.later in
     within_within side o (on_curve curve t) b (on_curve other j) later un
@@ -148,14 +148,14 @@ uncrossed_within side curve other t s o (b ∷ rest) chain un j after upto =
       | inr before ↦ other_within side o (on_curve other j) b (edge.before j after before)
     ])
 
-pub apart_again : {side : Side} {curve : ℕ → ℕ} {t : ℕ} {o : Point} {own others : List Point} (other : ℕ → ℕ) (s : ℕ)
+pub apart_again : {side : Side} {curve other : ℕ → ℕ} {t s : ℕ} {o : Point} {own others : List Point}
     → IsCrossing side curve other t s o own others
     → IsUncrossed side o others (on_curve curve t) → KeepsApart side curve other (t + 1) s o
-apart_again {side} {curve} {t} {o} {others} other s state un = record {
+apart_again {side} {curve} {other} {t} {s} {o} {others} state un = record {
   apart = λ i j i_after i_before j_after j_upto.
       elim (cases_lt i t) [
         | inl old ↦ state.apart.apart i j i_after old j_after j_upto
         | inr new ↦ (let e : t ≡ i = omega (arith, new, i_before) in
-            subst (λ k. IsWithin side o (on_curve curve k) (on_curve other j)) e (uncrossed_within side curve other t s o others state.others un j j_after j_upto))
+            subst (λ k. IsWithin side o (on_curve curve k) (on_curve other j)) e (uncrossed_within side curve other t o others state.others un j j_after j_upto))
       ];
 }

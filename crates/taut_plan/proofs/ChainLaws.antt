@@ -57,11 +57,11 @@ FirstTurns side curve s p [] = ⊥
 FirstTurns side curve s p (x ∷ rest) = IsInside side p (on_curve curve (s + 1)) x
 
 -- so it stands inside the edge to p
-turns_before : {side : Side} {curve : ℕ → ℕ} {o : Point} (s : ℕ) (p : Point) (rest : List Point)
+turns_before : {side : Side} {curve : ℕ → ℕ} {s : ℕ} {o p : Point} (rest : List Point)
     → IsFurthest side curve s o p → IsOpen side curve s p rest
     → FirstTurns side curve s p rest → IsInside side o (on_curve curve (s + 1)) p
-turns_before s p [] edge open_ turns = absurd turns
-turns_before {side} {curve} {o} s p (x ∷ rest) edge open_ turns =
+turns_before {s} {p} [] edge open_ turns = absurd turns
+turns_before {side} {curve} {s} {o} {p} (x ∷ rest) edge open_ turns =
     let next = open_.0 in
     let one = edge.later in
     let two = next.later in
@@ -71,9 +71,9 @@ turns_before {side} {curve} {o} s p (x ∷ rest) edge open_ turns =
     turns_on side o p x (on_curve curve (s + 1)) one two (omega (arith, two, three)) (subst (λ y. IsInside side o (record { place = x.place; height = y }) p) (sym same) beyond) turns
 
 -- the edge of a point that place s + 1 stands inside of goes on
-longer : {side : Side} {curve : ℕ → ℕ} {o : Point} (s : ℕ) (p : Point) → IsFurthest side curve s o p
+longer : {side : Side} {curve : ℕ → ℕ} {s : ℕ} {o p : Point} → IsFurthest side curve s o p
     → IsInside side o (on_curve curve (s + 1)) p → IsFurthest side curve (s + 1) o p
-longer {side} {curve} {o} s p edge turns = record {
+longer {side} {curve} {s} {o} {p} edge turns = record {
   later = edge.later;
   near = let near = edge.near in omega (arith, near);
   on = edge.on;
@@ -89,17 +89,17 @@ pub record Joined (side : Side) (curve : ℕ → ℕ) (s : ℕ) (o : Point) (cha
   pub joined : IsChain side curve (s + 1) o (chain ++ on_curve curve (s + 1) ∷ [])
 
 -- where place s + 1 stands inside the last edge, it joins
-pub open_joins : {side : Side} {curve : ℕ → ℕ} {o : Point} (s : ℕ) (front : List Point) (q : Point)
+pub open_joins : {side : Side} {curve : ℕ → ℕ} {s : ℕ} {o : Point} (front : List Point) (q : Point)
     → IsOpen side curve s o (front ++ q ∷ []) → IsInside side (last_point o front) (on_curve curve (s + 1)) q
     → Joined side curve s o (front ++ q ∷ [])
-open_joins {side} {curve} s [] q open_ turns = record {
+open_joins {side} {curve} {s} [] q open_ turns = record {
   first_turns = turns;
-  joined = (longer s q open_.0 turns, open_joins_alone side curve s q open_.1);
+  joined = (longer open_.0 turns, open_joins_alone side curve s q open_.1);
 }
-open_joins {side} {curve} {o} s (p ∷ front) q open_ turns =
-    let rest = open_joins {side = side} {curve = curve} {o = p} s front q open_.1 turns in
-    let here = turns_before s p (front ++ q ∷ []) open_.0 open_.1 rest.first_turns in
+open_joins {side} {curve} {s} {o} (p ∷ front) q open_ turns =
+    let rest = open_joins {side = side} {curve = curve} {s = s} {o = p} front q open_.1 turns in
+    let here = turns_before (front ++ q ∷ []) open_.0 open_.1 rest.first_turns in
     record {
       first_turns = here;
-      joined = (longer s p open_.0 here, rest.joined);
+      joined = (longer open_.0 here, rest.joined);
     }

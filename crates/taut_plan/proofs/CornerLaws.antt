@@ -15,17 +15,17 @@ use Rattle.taut_plan.proofs.BendLaws.{IsCorner}
 use Rattle.taut_plan.proofs.PathLaws.{IsRise, IsFall, goes_on_rise, goes_on_fall}
 
 -- The ray of n slots and b bytes from height v, where h is its end, against a height y at offset i.
-ray_le : (v n h b i y : ℕ) → h ≡ v + b → slope_le v n h i y → v * n + i * b ≤ y * n
-ray_le v n h b i y is le = let e : i * h ≡ i * (v + b) = ap (λ x. i * x) is in omega (arith, le, e)
+ray_le : {h : ℕ} (v n b i y : ℕ) → h ≡ v + b → slope_le v n h i y → v * n + i * b ≤ y * n
+ray_le {h} v n b i y is le = let e : i * h ≡ i * (v + b) = ap (λ x. i * x) is in omega (arith, le, e)
 
-ray_lt : (v n h b i y : ℕ) → h ≡ v + b → slope_lt v n h i y → v * n + i * b < y * n
-ray_lt v n h b i y is lt = let e : i * h ≡ i * (v + b) = ap (λ x. i * x) is in omega (arith, lt, e)
+ray_lt : {h : ℕ} (v n b i y : ℕ) → h ≡ v + b → slope_lt v n h i y → v * n + i * b < y * n
+ray_lt {h} v n b i y is lt = let e : i * h ≡ i * (v + b) = ap (λ x. i * x) is in omega (arith, lt, e)
 
-ray_ge : (v n h b i y : ℕ) → h ≡ v + b → slope_le v i y n h → y * n ≤ v * n + i * b
-ray_ge v n h b i y is le = let e : i * h ≡ i * (v + b) = ap (λ x. i * x) is in omega (arith, le, e)
+ray_ge : {h : ℕ} (v n b i y : ℕ) → h ≡ v + b → slope_le v i y n h → y * n ≤ v * n + i * b
+ray_ge {h} v n b i y is le = let e : i * h ≡ i * (v + b) = ap (λ x. i * x) is in omega (arith, le, e)
 
-ray_gt : (v n h b i y : ℕ) → h ≡ v + b → slope_lt v i y n h → y * n < v * n + i * b
-ray_gt v n h b i y is lt = let e : i * h ≡ i * (v + b) = ap (λ x. i * x) is in omega (arith, lt, e)
+ray_gt : {h : ℕ} (v n b i y : ℕ) → h ≡ v + b → slope_lt v i y n h → y * n < v * n + i * b
+ray_gt {h} v n b i y is lt = let e : i * h ≡ i * (v + b) = ap (λ x. i * x) is in omega (arith, lt, e)
 
 -- The same over points, at an offset from the first one.
 line_below : (curve : ℕ → ℕ) (o b : Point) (i : ℕ) → o.height ≤ b.height
@@ -33,7 +33,7 @@ line_below : (curve : ℕ → ℕ) (o b : Point) (i : ℕ) → o.height ≤ b.he
     → o.height * (b.place - o.place) + i * (b.height - o.height) ≤ curve (o.place + i) * (b.place - o.place)
 line_below curve o b i up h =
     let e : (o.place + i) - o.place ≡ i = omega arith in
-    ray_le o.height (b.place - o.place) b.height (b.height - o.height) i (curve (o.place + i)) (omega (arith, up))
+    ray_le o.height (b.place - o.place) (b.height - o.height) i (curve (o.place + i)) (omega (arith, up))
     (subst (λ d. slope_le o.height (b.place - o.place) b.height d (curve (o.place + i))) e h)
 
 line_under : (curve : ℕ → ℕ) (o b : Point) (i : ℕ) → o.height ≤ b.height
@@ -41,7 +41,7 @@ line_under : (curve : ℕ → ℕ) (o b : Point) (i : ℕ) → o.height ≤ b.he
     → o.height * (b.place - o.place) + i * (b.height - o.height) < curve (o.place + i) * (b.place - o.place)
 line_under curve o b i up h =
     let e : (o.place + i) - o.place ≡ i = omega arith in
-    ray_lt o.height (b.place - o.place) b.height (b.height - o.height) i (curve (o.place + i)) (omega (arith, up))
+    ray_lt o.height (b.place - o.place) (b.height - o.height) i (curve (o.place + i)) (omega (arith, up))
     (subst (λ d. slope_lt o.height (b.place - o.place) b.height d (curve (o.place + i))) e h)
 
 line_above : (curve : ℕ → ℕ) (o b : Point) (i : ℕ) → o.height ≤ b.height
@@ -49,7 +49,7 @@ line_above : (curve : ℕ → ℕ) (o b : Point) (i : ℕ) → o.height ≤ b.he
     → curve (o.place + i) * (b.place - o.place) ≤ o.height * (b.place - o.place) + i * (b.height - o.height)
 line_above curve o b i up h =
     let e : (o.place + i) - o.place ≡ i = omega arith in
-    ray_ge o.height (b.place - o.place) b.height (b.height - o.height) i (curve (o.place + i)) (omega (arith, up))
+    ray_ge o.height (b.place - o.place) (b.height - o.height) i (curve (o.place + i)) (omega (arith, up))
     (subst (λ d. slope_le o.height d (curve (o.place + i)) (b.place - o.place) b.height) e h)
 
 line_over : (curve : ℕ → ℕ) (o b : Point) (i : ℕ) → o.height ≤ b.height
@@ -57,7 +57,7 @@ line_over : (curve : ℕ → ℕ) (o b : Point) (i : ℕ) → o.height ≤ b.hei
     → curve (o.place + i) * (b.place - o.place) < o.height * (b.place - o.place) + i * (b.height - o.height)
 line_over curve o b i up h =
     let e : (o.place + i) - o.place ≡ i = omega arith in
-    ray_gt o.height (b.place - o.place) b.height (b.height - o.height) i (curve (o.place + i)) (omega (arith, up))
+    ray_gt o.height (b.place - o.place) (b.height - o.height) i (curve (o.place + i)) (omega (arith, up))
     (subst (λ d. slope_lt o.height d (curve (o.place + i)) (b.place - o.place) b.height) e h)
 
 -- at the start of a ray
@@ -75,10 +75,10 @@ starts_below curve k v n b i none le =
     subst (λ p. v * n + i * b ≤ curve p * n) e (subst (λ j. v * n + j * b ≤ curve k * n) z (omega (arith, up)))
 
 -- a corner of the upper chain
-pub rise_of_corner : {hi : ℕ → ℕ} {t : ℕ} {o b : Point} (lo : ℕ → ℕ) (s : ℕ) → IsCorner Lower lo hi t s o b → t ≤ s + 1
+pub rise_of_corner : {lo hi : ℕ → ℕ} {t s : ℕ} {o b : Point} → IsCorner Lower lo hi t s o b → t ≤ s + 1
     → lo o.place ≤ o.height → o.height ≤ hi o.place
     → o.height ≤ b.height → lo t ≤ hi t → IsRise lo hi o.place o.height (segment_to o b)
-rise_of_corner {hi} {t} {o} {b} lo s corner newest above below up ordered =
+rise_of_corner {lo} {hi} {t} {s} {o} {b} corner newest above below up ordered =
     let later = corner.later in
     let near = corner.near in
     let new = corner.before_new in
@@ -113,10 +113,10 @@ rise_of_corner {hi} {t} {o} {b} lo s corner newest above below up ordered =
     }
 
 -- a corner of the lower chain
-pub fall_of_corner : {hi : ℕ → ℕ} {t : ℕ} {o b : Point} (lo : ℕ → ℕ) (s : ℕ) → IsCorner Upper hi lo t s o b → t ≤ s + 1
+pub fall_of_corner : {lo hi : ℕ → ℕ} {t s : ℕ} {o b : Point} → IsCorner Upper hi lo t s o b → t ≤ s + 1
     → lo o.place ≤ o.height → o.height ≤ hi o.place
     → o.height ≤ b.height → lo t ≤ hi t → IsFall lo hi o.place o.height (segment_to o b)
-fall_of_corner {hi} {t} {o} {b} lo s corner newest above below up ordered =
+fall_of_corner {lo} {hi} {t} {s} {o} {b} corner newest above below up ordered =
     let later = corner.later in
     let near = corner.near in
     let new = corner.before_new in
@@ -157,30 +157,29 @@ above_start v t z n h lt le =
     lt_of_mul-lt-mul_left t all
 
 -- the line never falls to a corner
-pub corner_rises : {hi : ℕ → ℕ} {n t : ℕ} {o b : Point} (side : Side) (lo : ℕ → ℕ) (from s : ℕ) → IsBand lo hi from n → t ≤ n
+pub corner_rises : {side : Side} {lo hi : ℕ → ℕ} {from n t s : ℕ} {o b : Point} → IsBand lo hi from n → t ≤ n
     → s ≤ t → o.place < t → o.height ≤ hi o.place
     → IsCorner side (curve_on lo hi side) (curve_on lo hi (other_side side)) t s o b → o.height ≤ b.height
-corner_rises {o} {b} Lower lo from s band fits most past below corner =
+corner_rises {side = Lower} {lo} {from} {s} {o} {b} band fits most past below corner =
     let later = corner.later in
     let near = corner.near in
     let on = corner.on in
     let up = band.high_rises o.place b.place (omega (arith, later)) (omega (arith, near, most, fits)) in
     omega (arith, below, up, on)
-corner_rises {hi} {t} {o} {b} Upper lo from s band fits most past below corner =
+corner_rises {side = Upper} {lo} {hi} {from} {t} {s} {o} {b} band fits most past below corner =
     let up = band.high_rises o.place t (omega (arith, past)) fits in
     let lt = above_start o.height (t - o.place) (hi t) (b.place - o.place) b.height corner.crossed (omega (arith, below, up)) in
     omega (arith, lt)
 
 -- the path goes on to a corner
-pub path_bends : {side : Side} {hi : ℕ → ℕ} {n t : ℕ} {o b : Point} {segments : List Segment} (lo : ℕ → ℕ)
-    (from s : ℕ)
+pub path_bends : {side : Side} {lo hi : ℕ → ℕ} {from n t s : ℕ} {o b : Point} {segments : List Segment}
     → IsBand lo hi from n → t ≤ n → t ≤ s + 1 → s ≤ t → o.place < t
     → IsPath lo hi from o segments → IsCorner side (curve_on lo hi side) (curve_on lo hi (other_side side)) t s o b
     → IsPath lo hi from b (segments ++ segment_to o b ∷ [])
-path_bends {side} {hi} {n} {t} {o} {b} {segments} lo from s band fits newest most past path corner =
+path_bends {side} {lo} {hi} {from} {n} {t} {s} {o} {b} {segments} band fits newest most past path corner =
     let later = corner.later in
     let near = corner.near in
-    let up = corner_rises side lo from s band fits most past path.below corner in
+    let up = corner_rises band fits most past path.below corner in
     let place : o.place + (b.place - o.place) ≡ b.place = omega (arith, later) in
     let height : o.height + (b.height - o.height) ≡ b.height = omega (arith, up) in
     let slots = path.slots in
@@ -212,22 +211,22 @@ path_bends {side} {hi} {n} {t} {o} {b} {segments} lo from s band fits newest mos
         → IsCorner side (curve_on lo hi side) (curve_on lo hi (other_side side)) t s o b
         → GoesOn lo hi from (o.place + (b.place - o.place)) (o.height + (b.height - o.height)) (segments ++ segment_to o b ∷ [])
     goes Lower lo hi from t s o b segments newest path ordered up corner =
-        goes_on_rise lo from (segment_to o b) path.goes_on (rise_of_corner lo s corner newest path.above path.below up ordered)
+        goes_on_rise path.goes_on (rise_of_corner corner newest path.above path.below up ordered)
     goes Upper lo hi from t s o b segments newest path ordered up corner =
-        goes_on_fall lo from (segment_to o b) path.goes_on (fall_of_corner lo s corner newest path.above path.below up ordered)
+        goes_on_fall path.goes_on (fall_of_corner corner newest path.above path.below up ordered)
 
-pub path_rises : {hi : ℕ → ℕ} {n : ℕ} {o : Point} {segments : List Segment} (lo : ℕ → ℕ) (from : ℕ) → IsBand lo hi from n
+pub path_rises : {lo hi : ℕ → ℕ} {from n : ℕ} {o : Point} {segments : List Segment} → IsBand lo hi from n
     → o.place < n → IsPath lo hi from o segments → o.height ≤ hi n
-path_rises {n} {o} lo from band past path =
+path_rises {lo} {from} {n} {o} band past path =
     let up = band.high_rises o.place n (omega (arith, past)) (omega arith) in
     let below = path.below in
     omega (arith, up, below)
 
 -- the segments with the last one, to where the curves meet
-pub path_ends : {hi : ℕ → ℕ} {n : ℕ} {o : Point} {segments : List Segment} (lo : ℕ → ℕ) (from : ℕ) → IsBand lo hi from n
+pub path_ends : {lo hi : ℕ → ℕ} {from n : ℕ} {o : Point} {segments : List Segment} → IsBand lo hi from n
     → o.place < n → IsPath lo hi from o segments
     → KeepsApart Upper hi lo (n + 1) n o → IsWhole lo hi from n (segments ++ segment_to o (on_curve hi n) ∷ [])
-path_ends {hi} {n} {o} {segments} lo from band past path keeps =
+path_ends {lo} {hi} {from} {n} {o} {segments} band past path keeps =
     let up = band.high_rises o.place n (omega (arith, past)) (omega arith) in
     let below = path.below in
     let rises : o.height ≤ hi n = omega (arith, up, below) in

@@ -19,10 +19,10 @@ edge_of_one o chain second one is = record {
   begins = refl;
 }
 
-pub edge_of_more : {o : Point} (chain : List Point) (b : ℕ) (first second : Point) → length chain ≡ b + 2
+pub edge_of_more : {o : Point} {chain : List Point} {first second : Point} (b : ℕ) → length chain ≡ b + 2
     → first ≡ get_or chain b first → second ≡ get_or chain (b + 1) second
     → IsLastEdge o chain first second
-edge_of_more {o} chain b first second many is_first is_second = record {
+edge_of_more {o} {chain} {first} {second} b many is_first is_second = record {
   front = take (b + 1) chain;
   is = sym (take_all (b + 1 + 1) chain (omega (arith, many))) ∙ (take_more chain (b + 1) second (omega (arith, many)) ∙ ap (λ (p : Point). take (b + 1) chain ++ p ∷ []) (sym is_second));
   begins = is_first ∙ (sym (last_point-push o (take b chain) (get_or chain b first)) ∙ ap (last_point o) (sym (take_more chain b first (omega (arith, many)))));
@@ -35,10 +35,10 @@ open_ascends : (side : Side) (curve : ℕ → ℕ) (s : ℕ) (o : Point) (front 
 open_ascends side curve s o [] q open_ = let later = open_.0.later in let near = open_.0.near in (omega (arith, later), omega (arith, near))
 open_ascends side curve s o (p ∷ front) q open_ = open_ascends side curve s p front q open_.1
 
-pub edges_ascend : (side : Side) (curve : ℕ → ℕ) (s : ℕ) (o : Point) (chain : List Point) (point : Point)
+pub edges_ascend : {o : Point} {chain : List Point} {point : Point} (side : Side) (curve : ℕ → ℕ) (s : ℕ)
     → point ≡ on_curve curve (s + 1) → IsOpen side curve s o chain
     → EdgesAscend o chain point
-edges_ascend side curve s o chain point is open_ first second edge =
+edges_ascend {o} {chain} {point} side curve s is open_ first second edge =
     let up = open_ascends side curve s o edge.front second (subst (IsOpen side curve s o) edge.is open_) in
     (subst (λ (p : Point). p.place ≤ second.place) (sym edge.begins) up.0, subst (λ (p : Point). second.place ≤ p.place) (sym is) up.1)
 
@@ -50,11 +50,10 @@ without_last chain front q is =
     subst (λ c. take (length c - 1) c ≡ front) (sym is) (take_at front (q ∷ []) (length (front ++ q ∷ []) - 1) n)
 
 -- a point that is passed leaves
-pub pop_step : {side : Side} {o : Point} {old : List Point} (curve : ℕ → ℕ) (s : ℕ) (new : List Point)
-    (point : Point)
+pub pop_step : {side : Side} {o : Point} {old new : List Point} {point : Point} (curve : ℕ → ℕ) (s : ℕ)
     → point ≡ on_curve curve (s + 1) → IsOpen side curve s o old
     → IsPassed side o old point → new ≡ take (length old - 1) old → IsOpen side curve s o new
-pop_step {side} {o} {old} curve s new point is open_ passed left =
+pop_step {side} {o} {old} {new} {point} curve s is open_ passed left =
     let edge = passed.edge in
     let out : IsWithin side (last_point o edge.front) passed.second (on_curve curve (s + 1)) =
     subst (λ p. IsWithin side (last_point o edge.front) passed.second p) is (subst (λ f. IsWithin side f passed.second point) edge.begins passed.passed) in
@@ -62,10 +61,10 @@ pop_step {side} {o} {old} curve s new point is open_ passed left =
     subst (IsOpen side curve s o) (sym e) (open_pops side curve s o edge.front passed.second (subst (IsOpen side curve s o) edge.is open_) out)
 
 -- the new point joins
-pub join_step : {side : Side} {o : Point} {old : List Point} (curve : ℕ → ℕ) (s : ℕ) (point : Point)
+pub join_step : {side : Side} {o : Point} {old : List Point} {point : Point} (curve : ℕ → ℕ) (s : ℕ)
     → point ≡ on_curve curve (s + 1) → IsOpen side curve s o old
     → IsReady side o old point → IsChain side curve (s + 1) o (old ++ point ∷ [])
-join_step {side} {o} {old} curve s point is open_ ready = subst (λ (p : Point). IsChain side curve (s + 1) o (old ++ p ∷ [])) (sym is)
+join_step {side} {o} {old} {point} curve s is open_ ready = subst (λ (p : Point). IsChain side curve (s + 1) o (old ++ p ∷ [])) (sym is)
     (elim ready [
       | inl none ↦ subst (λ c. IsChain side curve (s + 1) o (c ++ on_curve curve (s + 1) ∷ [])) (sym none) (open_joins_alone side curve s o (subst (IsOpen side curve s o) none open_))
       | inr held ↦ join_held side curve s o old point is open_ held
@@ -78,5 +77,5 @@ join_step {side} {o} {old} curve s point is open_ ready = subst (λ (p : Point).
         let edge = held.edge in
         let inside : IsInside side (last_point o edge.front) (on_curve curve (s + 1)) held.second =
         subst (λ p. IsInside side (last_point o edge.front) p held.second) is (subst (λ f. IsInside side f point held.second) edge.begins held.held) in
-        let all = open_joins {side = side} {curve = curve} {o = o} s edge.front held.second (subst (IsOpen side curve s o) edge.is open_) inside in
+        let all = open_joins edge.front held.second (subst (IsOpen side curve s o) edge.is open_) inside in
         subst (λ c. IsChain side curve (s + 1) o (c ++ on_curve curve (s + 1) ∷ [])) (sym edge.is) all.joined

@@ -44,17 +44,17 @@ record IsJoined (side : Side) (curve : ℕ → ℕ) (s : ℕ) (o : Point) : Type
   chain : List Point
   is : IsChain side curve (s + 1) o chain
 
-joins : {side : Side} {curve : ℕ → ℕ} {o : Point} (n s : ℕ) (chain : List Point) → length chain ≤ n
+joins : {side : Side} {curve : ℕ → ℕ} {s : ℕ} {o : Point} (n : ℕ) (chain : List Point) → length chain ≤ n
     → IsOpen side curve s o chain → IsJoined side curve s o
-joins {side} {curve} {o} zero s [] few open_ = record { chain = on_curve curve (s + 1) ∷ []; is = open_joins_alone side curve s o open_ }
-joins zero s (p ∷ rest) few open_ = let bad : ⊥ = omega (arith, few) in absurd bad
-joins {side} {curve} {o} (suc n) s [] few open_ = record { chain = on_curve curve (s + 1) ∷ []; is = open_joins_alone side curve s o open_ }
-joins {side} {curve} {o} (suc n) s (p ∷ rest) few open_ =
+joins {side} {curve} {s} {o} zero [] few open_ = record { chain = on_curve curve (s + 1) ∷ []; is = open_joins_alone side curve s o open_ }
+joins {s} zero (p ∷ rest) few open_ = let bad : ⊥ = omega (arith, few) in absurd bad
+joins {side} {curve} {s} {o} (suc n) [] few open_ = record { chain = on_curve curve (s + 1) ∷ []; is = open_joins_alone side curve s o open_ }
+joins {side} {curve} {s} {o} (suc n) (p ∷ rest) few open_ =
     let e = has_end p rest in
     let same : IsOpen side curve s o (e.front ++ e.last ∷ []) = subst (IsOpen side curve s o) e.is open_ in
     elim (further side (last_point o e.front) (on_curve curve (s + 1)) e.last) [
-      | inl turns ↦ record { chain = (e.front ++ e.last ∷ []) ++ on_curve curve (s + 1) ∷ []; is = (open_joins s e.front e.last same turns).joined }
-      | inr out ↦ joins n s e.front (omega (arith, few, ap length e.is, length-append e.front (e.last ∷ []))) (open_pops side curve s o e.front e.last same out)
+      | inl turns ↦ record { chain = (e.front ++ e.last ∷ []) ++ on_curve curve (s + 1) ∷ []; is = (open_joins e.front e.last same turns).joined }
+      | inr out ↦ joins n e.front (omega (arith, few, ap length e.is, length-append e.front (e.last ∷ []))) (open_pops side curve s o e.front e.last same out)
     ]
 
 -- ---- one side takes in the next slot's end
@@ -67,27 +67,27 @@ record IsExtended (side : Side) (lo hi : ℕ → ℕ) (from t s : ℕ) : Type 0 
   funnel : IsFunnel side (curve_on lo hi side) (curve_on lo hi (other_side side)) t s apex own others
   after : apex.place < t
 
-crosses : {side : Side} {hi : ℕ → ℕ} {n t : ℕ} {o : Point} {segments : List Segment} {own : List Point} (lo : ℕ → ℕ)
-    (from s : ℕ) (others : List Point)
+crosses : {side : Side} {lo hi : ℕ → ℕ} {from n t s : ℕ} {o : Point} {segments : List Segment}
+    {own others : List Point}
     → IsBand lo hi from n → t ≤ n → IsPath lo hi from o segments
     → IsCrossing side (curve_on lo hi side) (curve_on lo hi (other_side side)) t s o own others
     → IsExtended side lo hi from t s
-crosses {side} {hi} {t} {o} {segments} {own} lo from s [] band fits path state = record {
+crosses {lo} {from} {s} {o} {segments} {own} {others = []} band fits path state = record {
   apex = o;
   segments = segments;
   own = own;
   others = [];
   path = path;
-  funnel = crossing_ends (curve_on lo hi (other_side side)) s (on_curve (curve_on lo hi side) t) refl state tt;
+  funnel = crossing_ends refl state tt;
   after = state.beyond;
 }
-crosses {side} {hi} {n} {t} {o} {segments} {own} lo from s (corner ∷ rest) band fits path state =
+crosses {side} {lo} {hi} {from} {n} {t} {s} {o} {segments} {own} {others = corner ∷ rest} band fits path state =
     let point = on_curve (curve_on lo hi side) t in
     elim (further side o corner point) [
       | inl out ↦ (
           let crossed : IsCrossed side o (corner ∷ rest) point corner = record { rest = rest; is = refl; crossed = out } in
-          let bent = bends_at lo from s rest point band fits refl path state crossed refl in
-          crosses {side = side} {hi = hi} {n = n} {t = t} {o = corner} {segments = segments ++ segment_to o corner ∷ []} {own = own} lo from s rest band fits bent.path bent.crossing
+          let bent = bends_at band fits refl path state crossed refl in
+          crosses {side = side} {lo = lo} {hi = hi} {from = from} {n = n} {t = t} {s = s} {o = corner} {segments = segments ++ segment_to o corner ∷ []} {own = own} {others = rest} band fits bent.path bent.crossing
           )
       | inr within ↦ record {
         apex = o;
@@ -95,22 +95,22 @@ crosses {side} {hi} {n} {t} {o} {segments} {own} lo from s (corner ∷ rest) ban
         own = own;
         others = corner ∷ rest;
         path = path;
-        funnel = crossing_ends (curve_on lo hi (other_side side)) s point refl state within;
+        funnel = crossing_ends refl state within;
         after = state.beyond;
       }
     ]
 
-extends : {side : Side} {hi : ℕ → ℕ} {n : ℕ} {o : Point} {segments : List Segment} {own others : List Point}
-    (lo : ℕ → ℕ) (from slot : ℕ)
+extends : {side : Side} {lo hi : ℕ → ℕ} {from n slot : ℕ} {o : Point} {segments : List Segment}
+    {own others : List Point}
     → IsBand lo hi from n → slot + 1 ≤ n → IsPath lo hi from o segments
     → IsFunnel side (curve_on lo hi side) (curve_on lo hi (other_side side)) slot (others_known side slot) o own others
     → IsExtended side lo hi from (slot + 1) (others_known side slot)
-extends {side} {hi} {o} {own} {others} lo from slot band fits path funnel =
+extends {side} {lo} {hi} {from} {slot} {o} {own} band fits path funnel =
     let curve = curve_on lo hi side in
     let other = curve_on lo hi (other_side side) in
-    let j = joins (length own) slot own (omega arith) (chain_opens side curve slot o own funnel.own) in
-    crosses lo from (others_known side slot) others band fits path
-    (crossing_starts other slot funnel j.is)
+    let j = joins (length own) own (omega arith) (chain_opens side curve slot o own funnel.own) in
+    crosses band fits path
+    (crossing_starts funnel j.is)
 
 -- ---- slot by slot
 record IsReached (lo hi : ℕ → ℕ) (from slot : ℕ) : Type 0 where
@@ -146,15 +146,15 @@ starts lo hi from n band =
       after = λ bad. absurd (omega (arith, bad));
     }
 
-reaches : {hi : ℕ → ℕ} {n : ℕ} (lo : ℕ → ℕ) (from slot : ℕ) → IsBand lo hi from n → slot ≤ n → IsReached lo hi from slot
-reaches {hi} {n} lo from zero band fits = starts lo hi from n band
-reaches {hi} {n} lo from (suc slot) band fits =
-    let was = reaches lo from slot band (omega (arith, fits)) in
+reaches : {lo hi : ℕ → ℕ} {from n slot : ℕ} → IsBand lo hi from n → slot ≤ n → IsReached lo hi from slot
+reaches {lo} {hi} {from} {n} {slot = zero} band fits = starts lo hi from n band
+reaches {lo} {hi} {from} {n} {slot = suc slot} band fits =
+    let was = reaches band (omega (arith, fits)) in
     let few : slot + 1 ≤ n = omega (arith, fits) in
-    let a = extends lo from slot band few was.path was.funnel in
-    let turned = funnel_turns hi slot a.funnel in
-    let b = extends lo from slot band few a.path turned in
-    let back = funnel_turns lo (slot + 1) b.funnel in
+    let a = extends band few was.path was.funnel in
+    let turned = funnel_turns a.funnel in
+    let b = extends band few a.path turned in
+    let back = funnel_turns b.funnel in
     let here : IsReached lo hi from (slot + 1) = record {
       apex = b.apex;
       segments = b.segments;
@@ -174,7 +174,7 @@ one_taut from low up sound =
     let hi = bound_at from up in
     let n = length low in
     let band = band_of_sound from low up sound in
-    let r = reaches lo from n band (omega arith) in
-    let end = ends_at lo from n r.lower r.upper (on_curve hi n) band refl r.path r.funnel (r.after sound.some_slot) refl in
+    let r = reaches band (omega arith) in
+    let end = ends_at band refl r.path r.funnel (r.after sound.some_slot) refl in
     let segments = r.segments ++ segment_to r.apex (on_curve hi n) ∷ [] in
     (segments, (taut_of_whole from low up segments sound end.whole, (best_of_whole from low up segments sound end.whole).only))

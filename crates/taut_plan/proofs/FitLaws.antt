@@ -22,33 +22,33 @@ upper_fits from low up sound j fits =
     let total = sound.total_fits in
     omega (arith, rise, meet, end, total)
 
-pub curve_fits : {up : List ℕ} (side : Side) (from : ℕ) (low : List ℕ) → IsSound from low up → (j : ℕ) → j ≤ length low
+pub curve_fits : {from : ℕ} {low up : List ℕ} (side : Side) → IsSound from low up → (j : ℕ) → j ≤ length low
     → curve_on (bound_at from low) (bound_at from up) side j ≤ 2 ^ 42
-curve_fits {up} Upper from low sound j fits = upper_fits from low up sound j fits
-curve_fits {up} Lower from low sound j fits =
+curve_fits {from} {low} {up} Upper sound j fits = upper_fits from low up sound j fits
+curve_fits {from} {low} {up} Lower sound j fits =
     let band = band_of_sound from low up sound in
     let below = band.ordered j fits in
     let above = upper_fits from low up sound j fits in
     omega (arith, below, above)
 
-pub point_fits : {up : List ℕ} (side : Side) (from : ℕ) (low : List ℕ) → IsSound from low up → (j : ℕ) → j ≤ length low
+pub point_fits : {from : ℕ} {low up : List ℕ} (side : Side) → IsSound from low up → (j : ℕ) → j ≤ length low
     → Fits (on_curve (curve_on (bound_at from low) (bound_at from up) side) j)
-point_fits side from low sound j fits = record {
+point_fits {from} {low} side sound j fits = record {
   place = let few = sound.few_slots in omega (arith, few, fits);
-  height = curve_fits side from low sound j fits;
+  height = curve_fits side sound j fits;
 }
 
 -- a corner between the curves
-pub corner_fits : {up : List ℕ} {o : Point} (from : ℕ) (low : List ℕ) → IsSound from low up → o.place ≤ length low
+pub corner_fits : {from : ℕ} {low up : List ℕ} {o : Point} → IsSound from low up → o.place ≤ length low
     → o.height ≤ bound_at from up o.place → Fits o
-corner_fits {up} {o} from low sound fits below = record {
+corner_fits {from} {low} {up} {o} sound fits below = record {
   place = let few = sound.few_slots in omega (arith, few, fits);
   height = let above = upper_fits from low up sound o.place fits in omega (arith, above, below);
 }
 
-furthest_fits : {side : Side} {curve : ℕ → ℕ} {o : Point} (last : ℕ) (p : Point) → IsFurthest side curve last o p
+furthest_fits : {side : Side} {curve : ℕ → ℕ} {last : ℕ} {o p : Point} → IsFurthest side curve last o p
     → ((j : ℕ) → j ≤ last → Fits (on_curve curve j)) → Fits p
-furthest_fits last p edge all = record {
+furthest_fits {last} {p} edge all = record {
   place = (all p.place edge.near).place;
   height = subst (λ h. h ≤ 2 ^ 42) (sym edge.on) (all p.place edge.near).height;
 }
@@ -57,33 +57,33 @@ pub record EdgeFits (first second : Point) : Type 0 where
   pub begins : Fits first
   pub ends : Fits second
 
-open_fits : {curve : ℕ → ℕ} {o q : Point} (side : Side) (s : ℕ) (front : List Point)
+open_fits : {curve : ℕ → ℕ} {s : ℕ} {o q : Point} (side : Side) (front : List Point)
     → IsOpen side curve s o (front ++ q ∷ []) → Fits o → ((j : ℕ) → j ≤ s → Fits (on_curve curve j))
     → EdgeFits (last_point o front) q
-open_fits {q} side s [] open_ o_fits all = record { begins = o_fits; ends = furthest_fits s q open_.0 all }
-open_fits {curve} {o} {q} side s (p ∷ front) open_ o_fits all =
-    open_fits {curve = curve} {o = p} {q = q} side s front open_.1 (furthest_fits {side = side} {curve = curve} {o = o} s p open_.0 all) all
+open_fits {s} side [] open_ o_fits all = record { begins = o_fits; ends = furthest_fits open_.0 all }
+open_fits {curve} {s} {o} {q} side (p ∷ front) open_ o_fits all =
+    open_fits {curve = curve} {s = s} {o = p} {q = q} side front open_.1 (furthest_fits {side = side} {curve = curve} {last = s} {o = o} {p = p} open_.0 all) all
 
-pub edges_fit : {curve : ℕ → ℕ} {o : Point} (side : Side) (s : ℕ) (chain : List Point) (point : Point)
+pub edges_fit : {curve : ℕ → ℕ} {o : Point} {chain : List Point} {point : Point} (side : Side) (s : ℕ)
     → point ≡ on_curve curve (s + 1) → IsOpen side curve s o chain → Fits o
     → ((j : ℕ) → j ≤ s + 1 → Fits (on_curve curve j)) → EdgesFit o chain point
-edges_fit {curve} {o} side s chain point is open_ o_fits all first second edge =
-    let both = open_fits {curve = curve} {o = o} {q = second} side s edge.front (subst (IsOpen side curve s o) edge.is open_) o_fits (λ j le. all j (omega (arith, le))) in
+edges_fit {curve} {o} {chain} {point} side s is open_ o_fits all first second edge =
+    let both = open_fits side edge.front (subst (IsOpen side curve s o) edge.is open_) o_fits (λ j le. all j (omega (arith, le))) in
     record {
       begins = subst Fits (sym edge.begins) both.begins;
       passes = both.ends;
       ends = subst Fits (sym is) (all (s + 1) (omega arith));
     }
 
-pub first_fits : {side : Side} {curve : ℕ → ℕ} {t : ℕ} {o : Point} {own : List Point} (other : ℕ → ℕ) (s n : ℕ)
-    (others : List Point) (point : Point)
+pub first_fits : {side : Side} {curve other : ℕ → ℕ} {t s : ℕ} {o : Point} {own others : List Point} {point : Point}
+    (n : ℕ)
     → point ≡ on_curve curve t → IsCrossing side curve other t s o own others → t ≤ n → Fits o
     → ((j : ℕ) → j ≤ n → Fits (on_curve curve j)) → ((j : ℕ) → j ≤ n → Fits (on_curve other j))
     → FirstFits o others point
-first_fits other s n [] point is state fits o_fits all others_all = tt
-first_fits {t} other s n (b ∷ rest) point is state fits o_fits all others_all = record {
+first_fits {other} {s} {others = []} {point} n is state fits o_fits all others_all = tt
+first_fits {other} {t} {s} {others = b ∷ rest} {point} n is state fits o_fits all others_all = record {
   begins = o_fits;
   passes = let most = state.not_past in
-      furthest_fits s b state.others.0 (λ j le. others_all j (omega (arith, le, most, fits)));
+      furthest_fits state.others.0 (λ j le. others_all j (omega (arith, le, most, fits)));
   ends = subst Fits (sym is) (all t fits);
 }

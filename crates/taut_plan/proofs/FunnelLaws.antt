@@ -24,11 +24,10 @@ pub chain_beyond : (side : Side) (curve : ℕ → ℕ) (t : ℕ) (o : Point) (ch
 chain_beyond side curve t o [] at_end = omega (arith, at_end)
 chain_beyond side curve t o (p ∷ rest) chain = let later = chain.0.later in let near = chain.0.near in omega (arith, later, near)
 
-pub crossing_starts : {side : Side} {curve : ℕ → ℕ} {o : Point} {own joined others : List Point} (other : ℕ → ℕ)
-    (slot : ℕ)
+pub crossing_starts : {side : Side} {curve other : ℕ → ℕ} {slot : ℕ} {o : Point} {own joined others : List Point}
     → IsFunnel side curve other slot (others_known side slot) o own others → IsChain side curve (slot + 1) o joined
     → IsCrossing side curve other (slot + 1) (others_known side slot) o joined others
-crossing_starts {side} {curve} {o} {own} {others} other slot funnel chain = record {
+crossing_starts {side} {curve} {other} {slot} {o} {own} {others} funnel chain = record {
   newest = let le = known_least side slot in omega (arith, le);
   not_past = known_most side slot;
   beyond = let le = chain_beyond side curve slot o own funnel.own in omega (arith, le);
@@ -37,12 +36,12 @@ crossing_starts {side} {curve} {o} {own} {others} other slot funnel chain = reco
   apart = funnel.keeps;
 }
 
-pub first_is_between : {side : Side} {curve : ℕ → ℕ} {t : ℕ} {o : Point} {own : List Point} (other : ℕ → ℕ) (s : ℕ)
-    (others : List Point) (point : Point)
+pub first_is_between : {side : Side} {curve other : ℕ → ℕ} {t s : ℕ} {o : Point} {own others : List Point}
+    {point : Point}
     → point ≡ on_curve curve t
     → IsCrossing side curve other t s o own others → FirstIsBetween o others point
-first_is_between other s [] point is state = tt
-first_is_between {t} other s (b ∷ rest) point is state =
+first_is_between {other} {s} {others = []} {point} is state = tt
+first_is_between {other} {t} {s} {others = b ∷ rest} {point} is state =
     let edge = state.others.0 in
     let later = edge.later in
     let near = edge.near in
@@ -61,36 +60,36 @@ pub record IsBent (side : Side) (lo hi : ℕ → ℕ) (from t s : ℕ) (o corner
   pub path : IsPath lo hi from corner (segments ++ segment_to o corner ∷ [])
   pub crossing : IsCrossing side (curve_on lo hi side) (curve_on lo hi (other_side side)) t s corner own others
 
-pub bends_at : {side : Side} {hi : ℕ → ℕ} {n t : ℕ} {o corner : Point} {segments : List Segment}
-    {own others : List Point} (lo : ℕ → ℕ) (from s : ℕ) (left : List Point) (point : Point)
+pub bends_at : {side : Side} {lo hi : ℕ → ℕ} {from n t s : ℕ} {o corner : Point} {segments : List Segment}
+    {own others left : List Point} {point : Point}
     → IsBand lo hi from n → t ≤ n → point ≡ on_curve (curve_on lo hi side) t → IsPath lo hi from o segments
     → IsCrossing side (curve_on lo hi side) (curve_on lo hi (other_side side)) t s o own others
     → IsCrossed side o others point corner → left ≡ drop 1 others
     → IsBent side lo hi from t s o corner segments own left
-bends_at {side} {hi} {t} {o} {corner} {own} lo from s left point band fits is path state crossed gone =
+bends_at {side} {lo} {hi} {from} {t} {s} {o} {corner} {own} {left} {point} band fits is path state crossed gone =
     let state' : IsCrossing side (curve_on lo hi side) (curve_on lo hi (other_side side)) t s o own (corner ∷ crossed.rest) =
     subst (IsCrossing side (curve_on lo hi side) (curve_on lo hi (other_side side)) t s o own) crossed.is state in
     let out : IsInside side o corner (on_curve (curve_on lo hi side) t) = subst (λ p. IsInside side o corner p) is crossed.crossed in
-    let there = corner_of (curve_on lo hi (other_side side)) s state' (ordered_on side lo hi t (band.ordered t fits)) out in
+    let there = corner_of state' (ordered_on side lo hi t (band.ordered t fits)) out in
     let e : left ≡ crossed.rest = gone ∙ ap (drop 1) crossed.is in
     let later = there.later in
     record {
       later = omega (arith, later);
-      higher = corner_rises side lo from s band fits state.not_past state.beyond path.below there;
-      path = path_bends lo from s band fits state.newest state.not_past state.beyond path there;
+      higher = corner_rises band fits state.not_past state.beyond path.below there;
+      path = path_bends band fits state.newest state.not_past state.beyond path there;
       crossing = subst (IsCrossing side (curve_on lo hi side) (curve_on lo hi (other_side side)) t s corner own) (sym e)
-          (crossing_moves (curve_on lo hi (other_side side)) s state' there);
+          (crossing_moves state' there);
     }
 
-pub crossing_ends : {side : Side} {curve : ℕ → ℕ} {t : ℕ} {o : Point} {own others : List Point} (other : ℕ → ℕ)
-    (s : ℕ) (point : Point)
+pub crossing_ends : {side : Side} {curve other : ℕ → ℕ} {t s : ℕ} {o : Point} {own others : List Point}
+    {point : Point}
     → point ≡ on_curve curve t
     → IsCrossing side curve other t s o own others → IsUncrossed side o others point
     → IsFunnel side curve other t s o own others
-crossing_ends {side} {o} {own} {others} other s point is state un = record {
+crossing_ends {side} {other} {s} {o} {own} {others} {point} is state un = record {
   own = state.own;
   others = state.others;
-  keeps = apart_again other s state (subst (IsUncrossed side o others) is un);
+  keeps = apart_again state (subst (IsUncrossed side o others) is un);
 }
 
 -- Seen from the other side.
@@ -103,11 +102,10 @@ other_twice : (side : Side) (curve : ℕ → ℕ) (t : ℕ) (o : Point) (chain :
 other_twice Lower curve t o chain h = h
 other_twice Upper curve t o chain h = h
 
-pub funnel_turns : {side : Side} {curve : ℕ → ℕ} {t : ℕ} {o : Point} {own others : List Point} (other : ℕ → ℕ)
-    (s : ℕ)
+pub funnel_turns : {side : Side} {curve other : ℕ → ℕ} {t s : ℕ} {o : Point} {own others : List Point}
     → IsFunnel side curve other t s o own others
     → IsFunnel (other_side side) other curve s t o others own
-funnel_turns {side} {curve} {t} {o} {own} {others} other s funnel = record {
+funnel_turns {side} {curve} {other} {t} {s} {o} {own} {others} funnel = record {
   own = funnel.others;
   others = other_twice side curve t o own funnel.own;
   keeps = record {

@@ -53,27 +53,27 @@ flatter_by v n b n' b' i y some below above =
 offsets : (curve : ℕ → ℕ) (k n i : ℕ) → curve (k + n + i) ≡ curve (k + (n + i))
 offsets curve k n i = ap curve (omega arith)
 
-steeper_at : {hi : ℕ → ℕ} {k v : ℕ} (lo : ℕ → ℕ) (s next : Segment) → IsRise lo hi k v s → 1 ≤ next.slots → (i : ℕ) → 1 ≤ i
+steeper_at : {lo hi : ℕ → ℕ} {k v : ℕ} {s : Segment} (next : Segment) → IsRise lo hi k v s → 1 ≤ next.slots → (i : ℕ) → 1 ≤ i
     → hi (k + s.slots + i) * next.slots ≤ (v + s.bytes) * next.slots + i * next.bytes → (far : ℕ) → s.slots + i ≤ far
     → ((j : ℕ) → s.slots < j → j ≤ far → v * s.slots + j * s.bytes < hi (k + j) * s.slots)
     → IsBelow (slope_of s) (slope_of next)
-steeper_at {hi} {k} {v} lo s next rise some i later touches far within free =
+steeper_at {lo} {hi} {k} {v} {s} next rise some i later touches far within free =
     steeper_by v s.slots s.bytes next.slots next.bytes i (hi (k + (s.slots + i))) some (free (s.slots + i) (omega (arith, later)) within)
     (subst (λ h. h * next.slots ≤ (v + s.bytes) * next.slots + i * next.bytes) (offsets hi k s.slots i) touches)
 
-flatter_at : {hi : ℕ → ℕ} {k v : ℕ} (lo : ℕ → ℕ) (s next : Segment) → IsFall lo hi k v s → 1 ≤ next.slots → (i : ℕ) → 1 ≤ i
+flatter_at : {lo hi : ℕ → ℕ} {k v : ℕ} {s : Segment} (next : Segment) → IsFall lo hi k v s → 1 ≤ next.slots → (i : ℕ) → 1 ≤ i
     → (v + s.bytes) * next.slots + i * next.bytes ≤ lo (k + s.slots + i) * next.slots → (far : ℕ) → s.slots + i ≤ far
     → ((j : ℕ) → s.slots < j → j ≤ far → lo (k + j) * s.slots < v * s.slots + j * s.bytes)
     → IsBelow (slope_of next) (slope_of s)
-flatter_at {k} {v} lo s next fall some i later touches far within free =
+flatter_at {lo} {k} {v} {s} next fall some i later touches far within free =
     flatter_by v s.slots s.bytes next.slots next.bytes i (lo (k + (s.slots + i))) some (free (s.slots + i) (omega (arith, later)) within)
     (subst (λ h. (v + s.bytes) * next.slots + i * next.bytes ≤ h * next.slots) (offsets lo k s.slots i) touches)
 
-rise_bends : {hi : ℕ → ℕ} {k v : ℕ} (lo : ℕ → ℕ) (s : Segment) (rest : List Segment) → IsRise lo hi k v s
+rise_bends : {lo hi : ℕ → ℕ} {k v : ℕ} {s : Segment} (rest : List Segment) → IsRise lo hi k v s
     → HasOneSlope lo hi (k + s.slots) (v + s.bytes) rest
     → Bends lo hi (k + s.slots) (v + s.bytes) s rest
-rise_bends lo s [] rise one = tt
-rise_bends {k} {v} lo s (next ∷ rest) rise one =
+rise_bends {lo} {s} [] rise one = tt
+rise_bends {lo} {k} {v} {s} (next ∷ rest) rise one =
     let meets = one.2 in
     let later = rise.later in
     let i = rise.far - s.slots in
@@ -83,16 +83,16 @@ rise_bends {k} {v} lo s (next ∷ rest) rise one =
         | inl past ↦ steeper_by v s.slots s.bytes next.slots next.bytes i (lo (k + rise.far)) one.0
             (subst (λ f. v * s.slots + f * s.bytes < lo (k + rise.far) * s.slots) (sym is) rise.leaves)
             (subst (λ h. h * next.slots ≤ (v + s.bytes) * next.slots + i * next.bytes) (offsets lo k s.slots i ∙ ap (λ f. lo (k + f)) is) (meets.free i (omega (arith, past, later))))
-        | inr within ↦ steeper_at lo s next rise one.0 meets.far meets.later meets.touches rise.far within rise.free
+        | inr within ↦ steeper_at next rise one.0 meets.far meets.later meets.touches rise.far within rise.free
       ],
       rise.on,
     )
 
-fall_bends : {hi : ℕ → ℕ} {k v : ℕ} (lo : ℕ → ℕ) (s : Segment) (rest : List Segment) → IsFall lo hi k v s
+fall_bends : {lo hi : ℕ → ℕ} {k v : ℕ} {s : Segment} (rest : List Segment) → IsFall lo hi k v s
     → HasOneSlope lo hi (k + s.slots) (v + s.bytes) rest
     → Bends lo hi (k + s.slots) (v + s.bytes) s rest
-fall_bends lo s [] fall one = tt
-fall_bends {hi} {k} {v} lo s (next ∷ rest) fall one =
+fall_bends {lo} {s} [] fall one = tt
+fall_bends {lo} {hi} {k} {v} {s} (next ∷ rest) fall one =
     let meets = one.1 in
     let later = fall.later in
     let i = fall.far - s.slots in
@@ -102,15 +102,15 @@ fall_bends {hi} {k} {v} lo s (next ∷ rest) fall one =
         | inl past ↦ flatter_by v s.slots s.bytes next.slots next.bytes i (hi (k + fall.far)) one.0
             (subst (λ f. hi (k + fall.far) * s.slots < v * s.slots + f * s.bytes) (sym is) fall.leaves)
             (subst (λ h. (v + s.bytes) * next.slots + i * next.bytes ≤ h * next.slots) (offsets hi k s.slots i ∙ ap (λ f. hi (k + f)) is) (meets.free i (omega (arith, past, later))))
-        | inr within ↦ flatter_at lo s next fall one.0 meets.far meets.later meets.touches fall.far within fall.free
+        | inr within ↦ flatter_at next fall one.0 meets.far meets.later meets.touches fall.far within fall.free
       ],
       fall.on,
     )
 
 -- a rise's own ray meets the lower curve where that leaves the ray, and the upper curve at the corner
-rise_slope : {hi : ℕ → ℕ} {k v : ℕ} (lo : ℕ → ℕ) (s : Segment) (rest : List Segment) → IsRise lo hi k v s
+rise_slope : {lo hi : ℕ → ℕ} {k v : ℕ} {s : Segment} (rest : List Segment) → IsRise lo hi k v s
     → HasOneSlope lo hi k v (s ∷ rest)
-rise_slope {hi} {k} {v} lo s rest rise =
+rise_slope {lo} {hi} {k} {v} {s} rest rise =
     let later = rise.later in (
       rise.some,
       record {
@@ -127,9 +127,9 @@ rise_slope {hi} {k} {v} lo s rest rise =
       },
     )
 
-fall_slope : {hi : ℕ → ℕ} {k v : ℕ} (lo : ℕ → ℕ) (s : Segment) (rest : List Segment) → IsFall lo hi k v s
+fall_slope : {lo hi : ℕ → ℕ} {k v : ℕ} {s : Segment} (rest : List Segment) → IsFall lo hi k v s
     → HasOneSlope lo hi k v (s ∷ rest)
-fall_slope {k} {v} lo s rest fall =
+fall_slope {lo} {k} {v} {s} rest fall =
     let later = fall.later in (
       fall.some,
       record {
@@ -152,20 +152,20 @@ regroup : (lo hi : ℕ → ℕ) (from : ℕ) (segments rest : List Segment) (s :
 regroup lo hi from segments rest s runs = let e : (segments ++ s ∷ []) ++ rest ≡ segments ++ (s ∷ rest) = append_assoc segments (s ∷ []) rest in
     subst (λ segs. RunsTaut lo hi 0 from segs) (sym e) runs
 
-pub goes_on_rise : {hi : ℕ → ℕ} {k v : ℕ} {segments : List Segment} (lo : ℕ → ℕ) (from : ℕ) (s : Segment)
+pub goes_on_rise : {lo hi : ℕ → ℕ} {from k v : ℕ} {segments : List Segment} {s : Segment}
     → GoesOn lo hi from k v segments → IsRise lo hi k v s
     → GoesOn lo hi from (k + s.slots) (v + s.bytes) (segments ++ s ∷ [])
-goes_on_rise {hi} {segments} lo from s goes rise = record {
+goes_on_rise {lo} {hi} {from} {segments} {s} goes rise = record {
   on = λ rest one runs.
-      regroup lo hi from segments rest s (goes.on (s ∷ rest) (rise_slope lo s rest rise)
-      (record { some = rise.some; above = rise.above; below = rise.below }, rise_bends lo s rest rise one, runs));
+      regroup lo hi from segments rest s (goes.on (s ∷ rest) (rise_slope rest rise)
+      (record { some = rise.some; above = rise.above; below = rise.below }, rise_bends rest rise one, runs));
 }
 
-pub goes_on_fall : {hi : ℕ → ℕ} {k v : ℕ} {segments : List Segment} (lo : ℕ → ℕ) (from : ℕ) (s : Segment)
+pub goes_on_fall : {lo hi : ℕ → ℕ} {from k v : ℕ} {segments : List Segment} {s : Segment}
     → GoesOn lo hi from k v segments → IsFall lo hi k v s
     → GoesOn lo hi from (k + s.slots) (v + s.bytes) (segments ++ s ∷ [])
-goes_on_fall {hi} {segments} lo from s goes fall = record {
+goes_on_fall {lo} {hi} {from} {segments} {s} goes fall = record {
   on = λ rest one runs.
-      regroup lo hi from segments rest s (goes.on (s ∷ rest) (fall_slope lo s rest fall)
-      (record { some = fall.some; above = fall.above; below = fall.below }, fall_bends lo s rest fall one, runs));
+      regroup lo hi from segments rest s (goes.on (s ∷ rest) (fall_slope rest fall)
+      (record { some = fall.some; above = fall.above; below = fall.below }, fall_bends rest fall one, runs));
 }

@@ -34,14 +34,14 @@ not_above first middle last begins ends le = omega (arith, split first middle la
 untrue : (a b : ℕ) → (IsTrue false ↔ (a < b)) → b ≤ a
 untrue a b is = elim (cases_lt a b) [ inl lt ↦ absurd (false≢true (is.1 lt)) | inr le ↦ le ]
 
-pub lower_test : (r : Bool) (first middle last : Point) → first.place ≤ middle.place → middle.place ≤ last.place
+pub lower_test : {r : Bool} (first middle last : Point) → first.place ≤ middle.place → middle.place ≤ last.place
     → (IsTrue r ↔ (weight first middle last < chord first middle last))
     → MatchBool r (IsInside Lower first middle last) (IsWithin Lower first last middle)
-lower_test true first middle last begins ends is = below first middle last begins ends (is.0 refl)
-lower_test false first middle last begins ends is = not_below first middle last begins ends (untrue (weight first middle last) (chord first middle last) is)
+lower_test {r = true} first middle last begins ends is = below first middle last begins ends (is.0 refl)
+lower_test {r = false} first middle last begins ends is = not_below first middle last begins ends (untrue (weight first middle last) (chord first middle last) is)
 
-pub upper_test : (r : Bool) (first middle last : Point) → first.place ≤ middle.place → middle.place ≤ last.place
+pub upper_test : {r : Bool} (first middle last : Point) → first.place ≤ middle.place → middle.place ≤ last.place
     → (IsTrue r ↔ (chord first middle last < weight first middle last))
     → MatchBool r (IsInside Upper first middle last) (IsWithin Upper first last middle)
-upper_test true first middle last begins ends is = above first middle last begins ends (is.0 refl)
-upper_test false first middle last begins ends is = not_above first middle last begins ends (untrue (chord first middle last) (weight first middle last) is)
+upper_test {r = true} first middle last begins ends is = above first middle last begins ends (is.0 refl)
+upper_test {r = false} first middle last begins ends is = not_above first middle last begins ends (untrue (chord first middle last) (weight first middle last) is)

@@ -5,27 +5,27 @@ use Rattle.taut_plan.specs.declared.points.Point.{Point}
 use Rattle.taut_plan.specs.Chain.{IsLastEdge}
 use Rattle.taut_plan.proofs.EdgeLaws.{edge_of_one, edge_of_more}
 
-at_place : (points : List Point) (passed place i : ℕ) (p : Point) → passed + i ≡ place → p ≡ get_or points place p
+at_place : {place : ℕ} {p : Point} (points : List Point) (passed i : ℕ) → passed + i ≡ place → p ≡ get_or points place p
     → p ≡ get_or (drop passed points) i p
-at_place points passed place i p at is =
+at_place {place} {p} points passed i at is =
     is ∙ sym (get_or-drop passed points i p ∙ ap (λ j. get_or points j p) at)
 
-pub edge_of_two : {o : Point} {count : ℕ} (points : List Point) (passed : ℕ) (first second : Point) → count ≡ length points → passed + 2 ≤ count
+pub edge_of_two : {o : Point} {count : ℕ} {first second : Point} (points : List Point) (passed : ℕ) → count ≡ length points → passed + 2 ≤ count
     → first ≡ get_or points (count - 2) first → second ≡ get_or points (count - 1) second
     → IsLastEdge o (drop passed points) first second
-edge_of_two {count} points passed first second all many is_first is_second =
+edge_of_two {count} {first} {second} points passed all many is_first is_second =
     let left = length-drop passed points in
     let b = count - passed - 2 in
-    edge_of_more (drop passed points) b first second (omega (arith, left, all, many))
-    (at_place points passed (count - 2) b first (omega (arith, many)) is_first)
-    (at_place points passed (count - 1) (b + 1) second (omega (arith, many)) is_second)
+    edge_of_more b (omega (arith, left, all, many))
+    (at_place points passed b (omega (arith, many)) is_first)
+    (at_place points passed (b + 1) (omega (arith, many)) is_second)
 
-pub edge_of_last : {o : Point} {count : ℕ} (points : List Point) (passed : ℕ) (second : Point) → count ≡ length points → passed + 1 ≡ count
+pub edge_of_last : {o : Point} {count : ℕ} {second : Point} (points : List Point) (passed : ℕ) → count ≡ length points → passed + 1 ≡ count
     → second ≡ get_or points (count - 1) second → IsLastEdge o (drop passed points) o second
-edge_of_last {o} {count} points passed second all one is_second =
+edge_of_last {o} {second} points passed all one is_second =
     let left = length-drop passed points in
     edge_of_one o (drop passed points) second (omega (arith, left, all, one))
-    (at_place points passed (count - 1) 0 second (omega (arith, one)) is_second)
+    (at_place points passed 0 (omega (arith, one)) is_second)
 
 pub without_first : (points : List Point) (passed : ℕ) → 0 < length (drop passed points)
     → drop (passed + 1) points ≡ drop 1 (drop passed points)

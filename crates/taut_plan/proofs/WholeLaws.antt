@@ -22,18 +22,18 @@ pub record IsEnding (lo hi : ℕ → ℕ) (from n : ℕ) (o point : Point) (segm
   pub higher : o.height ≤ point.height
   pub whole : IsWhole lo hi from n (segments ++ segment_to o point ∷ [])
 
-pub ends_at : {hi : ℕ → ℕ} {n : ℕ} {o : Point} {segments : List Segment} (lo : ℕ → ℕ) (from slot : ℕ)
-    (lower upper : List Point) (point : Point)
+pub ends_at : {lo hi : ℕ → ℕ} {from n slot : ℕ} {o : Point} {segments : List Segment} {lower upper : List Point}
+    {point : Point}
     → IsBand lo hi from n → slot ≡ n
     → IsPath lo hi from o segments → IsFunnel Lower lo hi slot slot o lower upper → o.place < slot
     → point ≡ on_curve hi n → IsEnding lo hi from n o point segments
-ends_at {hi} {n} {o} {segments} lo from slot lower upper point band same path funnel past is =
+ends_at {lo} {hi} {from} {n} {slot} {o} {segments} {lower} {upper} {point} band same path funnel past is =
     let past' : o.place < n = omega (arith, same, past) in
     let funnel' : IsFunnel Lower lo hi n n o lower upper = subst (λ t. IsFunnel Lower lo hi t t o lower upper) same funnel in
-    let turned = funnel_turns hi n funnel' in
+    let turned = funnel_turns funnel' in
     record {
-      higher = subst (λ (p : Point). o.height ≤ p.height) (sym is) (path_rises lo from band past' path);
-      whole = subst (λ p. IsWhole lo hi from n (segments ++ segment_to o p ∷ [])) (sym is) (path_ends lo from band past' path turned.keeps);
+      higher = subst (λ (p : Point). o.height ≤ p.height) (sym is) (path_rises band past' path);
+      whole = subst (λ p. IsWhole lo hi from n (segments ++ segment_to o p ∷ [])) (sym is) (path_ends band past' path turned.keeps);
     }
 
 none_empty : (lo hi : ℕ → ℕ) (k v : ℕ) (segments : List Segment) → RunsTaut lo hi k v segments

@@ -11,22 +11,22 @@ loop-side-init c = chain_opens c.args.side (side_of c.args.curves.now c.args.sid
 
 pub is_passed-requires-clause-ascend : goal.is_passed-requires-clause-ascend
 is_passed-requires-clause-ascend c =
-    edges_ascend c.args.side (side_of c.args.curves.now c.args.side) c.args.slot c.args.apex c.loop-side.chain c.point_at-point.result c.point_at-point.ensures c.loop-side.invariant
+    edges_ascend c.args.side (side_of c.args.curves.now c.args.side) c.args.slot c.point_at-point.ensures c.loop-side.invariant
 
 pub is_passed-requires-clause-fit : goal.is_passed-requires-clause-fit
 is_passed-requires-clause-fit c =
     let curves = c.args.curves.now in
-    edges_fit c.args.side c.args.slot c.loop-side.chain c.point_at-point.result c.point_at-point.ensures c.loop-side.invariant c.requires.apex
-    (λ j le. point_fits c.args.side curves.from curves.low.items c.requires.sound j (let slot = c.requires.low in omega (arith, le, slot)))
+    edges_fit c.args.side c.args.slot c.point_at-point.ensures c.loop-side.invariant c.requires.apex
+    (λ j le. point_fits c.args.side c.requires.sound j (let slot = c.requires.low in omega (arith, le, slot)))
 
 pub loop-side-preserved : goal.loop-side-preserved
 loop-side-preserved c =
     let old = c.loop-side.chain in
-    pop_step (side_of c.args.curves.now c.args.side) c.args.slot _ c.point_at-point.result c.point_at-point.ensures c.loop-side.invariant
+    pop_step (side_of c.args.curves.now c.args.side) c.args.slot c.point_at-point.ensures c.loop-side.invariant
     c.loop-side-test.ensures c.pop_last.ensures
 
 pub returns-clause-chain : goal.returns-clause-chain
 returns-clause-chain c =
     let curve = side_of c.args.curves.now c.args.side in
     subst (IsChain c.args.side curve (c.args.slot + 1) c.args.apex) (sym c.in_ok-join.ensures)
-    (join_step curve c.args.slot c.point_at-point.result c.point_at-point.ensures c.loop-side.invariant c.loop-side-test.ensures)
+    (join_step curve c.args.slot c.point_at-point.ensures c.loop-side.invariant c.loop-side-test.ensures)

@@ -13,7 +13,7 @@ loop-corner-init c =
     let curves = c.args.curves.now in
     record {
       path = c.requires.path;
-      crossing = crossing_starts (side_of curves (other_side c.args.side)) c.args.slot
+      crossing = crossing_starts
           c.requires.funnel c.in_ok-point.ensures.chain;
     }
 
@@ -22,7 +22,7 @@ join-requires-clause-apex c =
     let curves = c.args.curves.now in
     let slot = c.requires.slot in
     let beyond = chain_beyond c.args.side (side_of curves c.args.side) c.args.slot c.args.path.now.apex c.args.own.now c.requires.funnel.own in
-    corner_fits curves.from curves.low.items c.requires.sound (omega (arith, beyond, slot)) c.requires.path.below
+    corner_fits c.requires.sound (omega (arith, beyond, slot)) c.requires.path.below
 
 pub crossing-requires-clause-fit : goal.crossing-requires-clause-fit
 crossing-requires-clause-fit c =
@@ -30,25 +30,25 @@ crossing-requires-clause-fit c =
     let slot = c.requires.slot in
     let beyond = c.loop-corner.invariant.crossing.beyond in
     let fits : c.args.slot + 1 ≤ length curves.low.items = omega (arith, slot) in
-    first_fits (side_of curves (other_side c.args.side)) (others_known c.args.side c.args.slot) (length curves.low.items)
-    c.loop-corner.others c.in_ok-point.point c.in_ok-point.ensures.point c.loop-corner.invariant.crossing fits
-    (corner_fits curves.from curves.low.items c.requires.sound (omega (arith, beyond, fits)) c.loop-corner.invariant.path.below)
-    (point_fits c.args.side curves.from curves.low.items c.requires.sound)
-    (point_fits (other_side c.args.side) curves.from curves.low.items c.requires.sound)
+    first_fits (length curves.low.items)
+    c.in_ok-point.ensures.point c.loop-corner.invariant.crossing fits
+    (corner_fits c.requires.sound (omega (arith, beyond, fits)) c.loop-corner.invariant.path.below)
+    (point_fits c.args.side c.requires.sound)
+    (point_fits (other_side c.args.side) c.requires.sound)
 
 pub bend_at-requires-clause-higher : goal.bend_at-requires-clause-higher
 bend_at-requires-clause-higher c =
     let curves = c.args.curves.now in
-    let bent = bends_at (lower_of curves) curves.from (others_known c.args.side c.args.slot)
-    _ c.in_ok-point.point (band_of_sound curves.from curves.low.items curves.up.items c.requires.sound) (omega arith)
+    let bent = bends_at
+    (band_of_sound curves.from curves.low.items curves.up.items c.requires.sound) (omega arith)
     c.in_ok-point.ensures.point c.loop-corner.invariant.path c.loop-corner.invariant.crossing c.in-Some.ensures c.pop_first.ensures in
     bent.higher
 
 pub loop-corner-preserved : goal.loop-corner-preserved
 loop-corner-preserved c =
     let curves = c.args.curves.now in
-    let bent = bends_at (lower_of curves) curves.from (others_known c.args.side c.args.slot)
-    _ c.in_ok-point.point (band_of_sound curves.from curves.low.items curves.up.items c.requires.sound) (omega arith)
+    let bent = bends_at
+    (band_of_sound curves.from curves.low.items curves.up.items c.requires.sound) (omega arith)
     c.in_ok-point.ensures.point c.loop-corner.invariant.path c.loop-corner.invariant.crossing c.in-Some.ensures c.pop_first.ensures in
     let corner = c.in-Some.corner in
     let known = others_known c.args.side c.args.slot in
@@ -62,5 +62,5 @@ loop-corner-preserved c =
 pub returns-clause-funnel : goal.returns-clause-funnel
 returns-clause-funnel c =
     let curves = c.args.curves.now in
-    crossing_ends (side_of curves (other_side c.args.side)) (others_known c.args.side c.args.slot) c.in_ok-point.point c.in_ok-point.ensures.point
+    crossing_ends c.in_ok-point.ensures.point
     c.loop-corner.invariant.crossing c.in_default.ensures
