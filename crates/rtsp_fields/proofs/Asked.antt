@@ -18,8 +18,8 @@ authority_byte authority k all inside = λ slash.
     cc
 
 -- the byte after `front` at place k of the rest
-byte_after : (url front rest : List ℕ) (n k : ℕ) → url ≡ front ++ rest → length front ≡ n → n ≤ k → get_or url k 0 ≡ get_or rest (k - n) 0
-byte_after url front rest n k parts size after =
+byte_after : {url : List ℕ} {n : ℕ} (front rest : List ℕ) (k : ℕ) → url ≡ front ++ rest → length front ≡ n → n ≤ k → get_or url k 0 ≡ get_or rest (k - n) 0
+byte_after {url} {n} front rest k parts size after =
     ap (λ l. get_or l k 0) parts ∙ get_or-append_right front rest n k 0 size after
 
 rtsp_is_read : (url : List ℕ) → list_all is_url_byte url ≡ true → IsRtspUrl url → (path : ℕ) × IsAbsoluteUrl url path
@@ -38,13 +38,13 @@ rtsp_is_read url bytes u =
           none = λ k from below.
               let inside : k - 7 < length u.authority = omega (arith, from, below) in
               let here : get_or url k 0 ≡ get_or u.authority (k - 7) 0 =
-              byte_after url u.scheme (u.authority ++ u.path) 7 k u.parts seven from ∙ get_or_append_left u.authority u.path 0 (k - 7) inside in
+              byte_after u.scheme (u.authority ++ u.path) k u.parts seven from ∙ get_or_append_left u.authority u.path 0 (k - 7) inside in
               λ slash. authority_byte u.authority (k - 7) u.no_slash inside (sym here ∙ slash);
           ends = λ inside.
               let some : 0 < length u.path = omega (arith, inside, size) in
               let left : 7 + length u.authority - 7 ≡ length u.authority = omega arith in
               let none : 7 + length u.authority - 7 - length u.authority ≡ 0 = omega arith in
-              byte_after url u.scheme (u.authority ++ u.path) 7 (7 + length u.authority) u.parts seven (omega arith) ∙
+              byte_after u.scheme (u.authority ++ u.path) (7 + length u.authority) u.parts seven (omega arith) ∙
               get_or-append_right u.authority u.path (length u.authority) (7 + length u.authority - 7) 0 refl (omega arith) ∙ ap (λ n. get_or u.path n 0) none ∙ u.path_begins some;
         };
       },

@@ -20,8 +20,8 @@ pub record IsClockAt (text : List ℕ) (first second seconds : ℕ) : Type 0 whe
 pub first_colon : (text : List ℕ) (first seconds : ℕ) (clock : IsClock text seconds) → IsEnd 58 text 0 first → clock.first ≡ first
 first_colon text first seconds clock e = end_once 58 text 0 clock.first first clock.hours_end e
 
-pub clock_at : (text : List ℕ) (first second seconds : ℕ) → IsEnd 58 text 0 first → IsEnd 58 text (first + 1) second → IsClock text seconds → IsClockAt text first second seconds
-clock_at text first second seconds e f clock =
+pub clock_at : {text : List ℕ} {first second seconds : ℕ} → IsEnd 58 text 0 first → IsEnd 58 text (first + 1) second → IsClock text seconds → IsClockAt text first second seconds
+clock_at {text} {first} {second} {seconds} e f clock =
     let same : clock.first ≡ first = first_colon text first seconds clock e in
     let E : ℕ → Type 0 = λ n. IsEnd 58 text (n + 1) clock.second in
     let same_second : clock.second ≡ second = end_once 58 text (first + 1) clock.second second (subst E same clock.minutes_end) f in
@@ -57,11 +57,11 @@ pub value_once : (most : ℕ) (text : List ℕ) (a b : ℕ) → IsDigits most te
 value_once most text a b x y = x.value ∙ sym y.value
 
 -- the clock time that was read
-pub whole_clock : (text : List ℕ) (first second hours minutes seconds : ℕ) → IsEnd 58 text 0 first → IsEnd 58 text (first + 1) second → second < length text →
+pub whole_clock : {text : List ℕ} {first second hours minutes seconds : ℕ} → IsEnd 58 text 0 first → IsEnd 58 text (first + 1) second → second < length text →
     IsDigits 5 (take first text) hours × (hours < 10 ^ 9) → IsDigits 2 (slice_range text (first + 1) second) minutes × (minutes < 10 ^ 9) →
     IsDigits 2 (slice_range text (second + 1) (length text)) seconds × (seconds < 10 ^ 9) → minutes ≤ 59 → seconds ≤ 59 →
     IsClock text (hours * 3600 + minutes * 60 + seconds) × (hours * 3600 + minutes * 60 + seconds < 10 ^ 13)
-whole_clock text first second hours minutes seconds e f inside h m s small_minutes small_seconds = (
+whole_clock {text} {first} {second} {hours} {minutes} {seconds} e f inside h m s small_minutes small_seconds = (
   record {
     first = first;
     second = second;
@@ -82,16 +82,16 @@ whole_clock text first second hours minutes seconds e f inside h m s small_minut
 )
 
 -- not short enough for a clock
-pub long_minutes : (text : List ℕ) (first second minutes n : ℕ) → IsEnd 58 text 0 first → IsEnd 58 text (first + 1) second →
+pub long_minutes : {text : List ℕ} {first second minutes n : ℕ} → IsEnd 58 text 0 first → IsEnd 58 text (first + 1) second →
     IsDigits 2 (slice_range text (first + 1) second) minutes → 59 < minutes → IsClock text n → ⊥
-long_minutes text first second minutes n e f m large clock =
-    let at : IsClockAt text first second n = clock_at text first second n e f clock in
+long_minutes {text} {first} {second} {minutes} {n} e f m large clock =
+    let at : IsClockAt text first second n = clock_at e f clock in
     omega (arith, value_once 2 (slice_range text (first + 1) second) minutes at.minutes m at.are_minutes, at.small_minutes, large)
 
-pub long_seconds : (text : List ℕ) (first second seconds n : ℕ) → IsEnd 58 text 0 first → IsEnd 58 text (first + 1) second →
+pub long_seconds : {text : List ℕ} {first second seconds n : ℕ} → IsEnd 58 text 0 first → IsEnd 58 text (first + 1) second →
     IsDigits 2 (slice_range text (second + 1) (length text)) seconds → 59 < seconds → IsClock text n → ⊥
-long_seconds text first second seconds n e f s large clock =
-    let at : IsClockAt text first second n = clock_at text first second n e f clock in
+long_seconds {text} {first} {second} {seconds} {n} e f s large clock =
+    let at : IsClockAt text first second n = clock_at e f clock in
     omega (arith, value_once 2 (slice_range text (second + 1) (length text)) seconds at.rest s at.are_seconds, at.small_seconds, large)
 
 -- no seconds as such, and a clock time or not
@@ -112,8 +112,8 @@ time_at text point n e t =
     subst (IsTimeAt text) (end_once 46 text 0 t.point point t.point_is e)
     (record { seconds = t.seconds; fraction = t.fraction; whole = t.whole; part = t.part })
 
-pub no_fraction : (text : List ℕ) (point n : ℕ) → IsEnd 46 text 0 point → point < length text →
+pub no_fraction : {text : List ℕ} {point n : ℕ} → IsEnd 46 text 0 point → point < length text →
     ((f : ℕ) → ¬ IsFraction (slice_range text (point + 1) (length text)) f) → IsTime text n → ⊥
-no_fraction text point n e inside none t =
+no_fraction {text} {point} {n} e inside none t =
     let at : IsTimeAt text point = time_at text point n e t in
     elim at.part [ inl whole ↦ omega (arith, inside, whole.0) | inr part ↦ none at.fraction part.1 ]

@@ -76,10 +76,10 @@ counted_value None text all short h =
     ]
 counted_value (Some n) text all short h = h.0.value
 
-pub fraction_read : (o : Option ℕ) (text : List ℕ) (k power : ℕ) → list_all is_ascii_digit text ≡ true → k ≡ min (length text) 9 →
+pub fraction_read : {text : List ℕ} {k power : ℕ} (o : Option ℕ) → list_all is_ascii_digit text ≡ true → k ≡ min (length text) 9 →
     MatchOption o ((n : ℕ) → ¬ IsDigits 9 (take k text) n) (λ n. IsDigits 9 (take k text) n × (n < 10 ^ 9)) →
     power ≡ 10 ^ (9 - length (take k text)) → IsFraction text (unwrap_or o 0 * power) × (unwrap_or o 0 * power < 10 ^ 9)
-fraction_read o text k power all cut read is_power =
+fraction_read {text} {k} {power} o all cut read is_power =
     let nine : take k text ≡ take 9 text = ap (λ n. take n text) (cut ∙ min_comm (length text) 9) ∙ take_min 9 text in
     let digits : list_all is_ascii_digit (take k text) ≡ true = digits_take k text all in
     let short : length (take k text) ≤ 9 = rw (length-take k text, cut) (omega arith) in

@@ -25,9 +25,9 @@ pair_at text dash channels e p =
 pub within_once : (low high : ℕ) (text : List ℕ) (a b : ℕ) → IsWithin low high text a → IsWithin low high text b → a ≡ b
 within_once low high text a b x y = some_same a b (sym x.is_number ∙ y.is_number)
 
-pub not_pair_equal : (text : List ℕ) (dash a b : ℕ) (channels : Channels) → IsEnd 45 text 0 dash → IsWithin 0 255 (take dash text) a →
+pub not_pair_equal : {text : List ℕ} {dash a b : ℕ} {channels : Channels} → IsEnd 45 text 0 dash → IsWithin 0 255 (take dash text) a →
     IsWithin 0 255 (slice_range text (dash + 1) (length text)) b → a ≡ b → IsPair text channels → ⊥
-not_pair_equal text dash a b channels e x y same p =
+not_pair_equal {text} {dash} {a} {b} {channels} e x y same p =
     let at : IsPairAt text dash channels = pair_at text dash channels e p in
     at.differ (within_once 0 255 (take dash text) channels.media a at.media x ∙ same ∙ within_once 0 255 (slice_range text (dash + 1) (length text)) b channels.control y at.control)
 
@@ -42,19 +42,19 @@ pub name_within : (part : List ℕ) → Begins (codes "interleaved=") (lower par
 name_within part b = let e = simp (length-map, length-take) at (ap length b) in omega (arith, e)
 
 -- the first part that names channels tells them
-pub named_channels : (o : Option Channels) (text : List ℕ) (from to : ℕ) → IsPiece 59 text from to → NamesChannels (slice_range text from to) →
+pub named_channels : {text : List ℕ} {from to : ℕ} (o : Option Channels) → IsPiece 59 text from to → NamesChannels (slice_range text from to) →
     NoneBefore 59 text from NamesChannels →
     MatchOption o ((channels : Channels) → ¬ AreChannels (after_name (without_blanks (slice_range text from to))) channels) (AreChannels (after_name (without_blanks (slice_range text from to)))) →
     MatchOption o ((channels : Channels) → ¬ HasChannels text channels) (HasChannels text)
-named_channels None text from to piece names first h = λ channels has. elim has [
+named_channels {text} {from} {to} None piece names first h = λ channels has. elim has [
   | inl named ↦
-      let same = first_once 59 text NamesChannels named.from named.to from to named.piece named.names named.first piece names first in
+      let same = first_once NamesChannels named.piece named.names named.first piece names first in
       let P : ℕ → Type 0 = λ n. AreChannels (after_name (without_blanks (slice_range text n named.to))) channels in
       let Q : ℕ → Type 0 = λ n. AreChannels (after_name (without_blanks (slice_range text from n))) channels in
       h channels (subst Q same.1 (subst P same.0 named.are))
   | inr default ↦ default.none from to piece names
 ]
-named_channels (Some channels) text from to piece names first h =
+named_channels {text} {from} {to} (Some channels) piece names first h =
     inl (record { from = from; to = to; piece = piece; names = names; first = first; are = h })
 
 -- no alternative with another first part can be taken
@@ -65,10 +65,10 @@ other_protocol text end channels e other t =
     other (subst P same t.protocol)
 
 -- an alternative with that first part and no other part is taken with its channels
-pub taken_channels : (o : Option Channels) (text : List ℕ) (end : ℕ) → IsEnd 59 text 0 end → word (take end text) ≡ codes "rtp/avp/tcp" → NoPiece 59 text IsOther →
+pub taken_channels : {text : List ℕ} {end : ℕ} (o : Option Channels) → IsEnd 59 text 0 end → word (take end text) ≡ codes "rtp/avp/tcp" → NoPiece 59 text IsOther →
     MatchOption o ((channels : Channels) → ¬ HasChannels text channels) (HasChannels text) → MatchOption o ((channels : Channels) → ¬ IsTaken text channels) (IsTaken text)
-taken_channels None text end e protocol plain h = λ channels t. h channels t.has
-taken_channels (Some channels) text end e protocol plain h =
+taken_channels {text} {end} None e protocol plain h = λ channels t. h channels t.has
+taken_channels {text} {end} (Some channels) e protocol plain h =
     record { end = end; first = record { start = inl refl; end = e }; protocol = protocol; plain = plain; has = h }
 
 pub not_taken : (text : List ℕ) → ((channels : Channels) → ¬ IsTaken text channels) → ¬ CanBeTaken text

@@ -13,14 +13,14 @@ end_once c text from a b x y =
     ]
 
 -- no piece begins after the place where one begins and before its end
-pub no_start_inside : (c : ℕ) (text : List ℕ) (from to k : ℕ) → IsEnd c text from to → from < k → k ≤ to → IsStart c text k → ⊥
-no_start_inside c text from to k e after before (inl zero) = omega (arith, after, zero)
-no_start_inside c text from to k e after before (inr s) = e.none (k - 1) (omega (arith, after)) (omega (arith, after, before)) s.1
+pub no_start_inside : {c : ℕ} {text : List ℕ} {from to k : ℕ} → IsEnd c text from to → from < k → k ≤ to → IsStart c text k → ⊥
+no_start_inside {c} {text} {from} e after before (inl zero) = omega (arith, after, zero)
+no_start_inside {c} {text} {from} {k} e after before (inr s) = e.none (k - 1) (omega (arith, after)) (omega (arith, after, before)) s.1
 
 -- the piece that begins at `from` isn't such a text either
-pub none_before_next : (c : ℕ) (text : List ℕ) (P : List ℕ → Type 0) (from to : ℕ) → IsEnd c text from to → NoneBefore c text from P →
+pub none_before_next : {c : ℕ} {text : List ℕ} {from to : ℕ} (P : List ℕ → Type 0) → IsEnd c text from to → NoneBefore c text from P →
     ¬ P (slice_range text from to) → NoneBefore c text (to + 1) P
-none_before_next c text P from to e before here = λ k end below piece.
+none_before_next {c} {text} {from} {to} P e before here = λ k end below piece.
     elim (cases_order k from) [
       | inl same ↦
           let same_end : end ≡ to = end_once c text from end to (let Q : ℕ → Type 0 = λ n. IsEnd c text n end in subst Q same piece.end) e in
@@ -28,7 +28,7 @@ none_before_next c text P from to e before here = λ k end below piece.
           let R : ℕ → Type 0 = λ n. P (slice_range text from n) → ⊥ in
           subst Q (sym same) (subst R (sym same_end) here)
       | inr (inl less) ↦ before k end less piece
-      | inr (inr more) ↦ λ _. no_start_inside c text from to k e more (omega (arith, below)) piece.start
+      | inr (inr more) ↦ λ _. no_start_inside e more (omega (arith, below)) piece.start
     ]
 
 -- the next piece begins after the separator
@@ -41,9 +41,9 @@ pub passed_all : (c : ℕ) (text : List ℕ) (P : List ℕ → Type 0) (from : �
 passed_all c text P from past before = λ k end piece. before k end (omega (arith, past, piece.end.after, piece.end.within)) piece
 
 -- the first piece of one kind is one piece
-pub first_once : (c : ℕ) (text : List ℕ) (P : List ℕ → Type 0) (a b a' b' : ℕ) → IsPiece c text a b → P (slice_range text a b) → NoneBefore c text a P →
+pub first_once : {c : ℕ} {text : List ℕ} {a b a' b' : ℕ} (P : List ℕ → Type 0) → IsPiece c text a b → P (slice_range text a b) → NoneBefore c text a P →
     IsPiece c text a' b' → P (slice_range text a' b') → NoneBefore c text a' P → (a ≡ a') × (b ≡ b')
-first_once c text P a b a' b' x p before y q before' =
+first_once {c} {text} {a} {b} {a'} {b'} P x p before y q before' =
     let same : a ≡ a' = elim (cases_order a a') [
       | inl e ↦ e
       | inr (inl less) ↦ absurd (before' a b less x p)

@@ -39,7 +39,7 @@ unfolding joined
 none_of P is_other part [] none here all = none_whole 59 part P none here
 none_of P is_other part (next ∷ more) none here all =
     let other = All-head IsOtherParameter next more all in
-    none_more 59 part (joined next more) P none here
+    none_more P none here
     (none_of P is_other next more (no_semicolon next other) (is_other next other) (All-tail IsOtherParameter next more all))
 
 first_of : (part : List ℕ) (parts : List (List ℕ)) → HasNone 59 part 0 (length part) → IsPiece 59 (joined part parts) 0 (length part)

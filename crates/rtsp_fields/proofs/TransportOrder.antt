@@ -37,7 +37,7 @@ later_taken first rest channels none refused is =
       to = length first + 1 + is.to;
       piece = piece_later 44 first rest is.from is.to is.piece;
       taken = subst (λ (t : List ℕ). IsTaken t channels) (sym (slice_later 44 first rest is.from is.to is.piece.end.after)) is.taken;
-      first = none_before 44 first rest is.from CanBeTaken free (λ can. refused can.0 (alone first can.0 free can.1)) is.first;
+      first = none_before CanBeTaken free (λ can. refused can.0 (alone first can.0 free can.1)) is.first;
     })
 
 -- an alternative whose last part asks for another thing isn't taken

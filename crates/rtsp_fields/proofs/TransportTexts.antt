@@ -99,9 +99,9 @@ end_first c a rest end none is =
       | inr least ↦ omega (arith, least, most)
     ]
 
-piece_cases : (c : ℕ) (a rest : List ℕ) (k end : ℕ) → HasNone c a 0 (length a) → IsPiece c (text_of c a rest) k end →
+piece_cases : {c : ℕ} {a rest : List ℕ} {k end : ℕ} → HasNone c a 0 (length a) → IsPiece c (text_of c a rest) k end →
     ((k ≡ 0) × (end ≡ length a)) ⊎ Later c a rest k end
-piece_cases c a rest k end none p = go p.start
+piece_cases {c} {a} {rest} {k} {end} none p = go p.start
   where
     go : IsStart c (text_of c a rest) k → ((k ≡ 0) × (end ≡ length a)) ⊎ Later c a rest k end
     go (inl e) = inl (e, end_first c a rest end none (subst (λ (n : ℕ). IsEnd c (text_of c a rest) n end) e p.end))
@@ -159,8 +159,8 @@ slice_later c a rest k end order =
         ∙ dropped front rest k
 
 -- no piece is such a text
-pub none_more : (c : ℕ) (a rest : List ℕ) (P : List ℕ → Type 0) → HasNone c a 0 (length a) → ¬ P a → NoPiece c rest P → NoPiece c (text_of c a rest) P
-none_more c a rest P none first more = λ k end p. go k end p (piece_cases c a rest k end none p)
+pub none_more : {c : ℕ} {a rest : List ℕ} (P : List ℕ → Type 0) → HasNone c a 0 (length a) → ¬ P a → NoPiece c rest P → NoPiece c (text_of c a rest) P
+none_more {c} {a} {rest} P none first more = λ k end p. go k end p (piece_cases none p)
   where
     go : (k end : ℕ) → IsPiece c (text_of c a rest) k end → ((k ≡ 0) × (end ≡ length a)) ⊎ Later c a rest k end → ¬ P (slice_range (text_of c a rest) k end)
     go k end p (inl e) = λ is.
@@ -194,8 +194,8 @@ whole_slice c a k end none p =
 pub none_whole : (c : ℕ) (a : List ℕ) (P : List ℕ → Type 0) → HasNone c a 0 (length a) → ¬ P a → NoPiece c a P
 none_whole c a P none other = λ k end p is. other (subst P (whole_slice c a k end none p) is)
 
-pub none_before : (c : ℕ) (a rest : List ℕ) (at : ℕ) (P : List ℕ → Type 0) → HasNone c a 0 (length a) → ¬ P a → NoneBefore c rest at P → NoneBefore c (text_of c a rest) (length a + 1 + at) P
-none_before c a rest at P none first more = λ k end below p. go k end below (piece_cases c a rest k end none p)
+pub none_before : {c : ℕ} {a rest : List ℕ} {at : ℕ} (P : List ℕ → Type 0) → HasNone c a 0 (length a) → ¬ P a → NoneBefore c rest at P → NoneBefore c (text_of c a rest) (length a + 1 + at) P
+none_before {c} {a} {rest} {at} P none first more = λ k end below p. go k end below (piece_cases none p)
   where
     go : (k end : ℕ) → k < length a + 1 + at → ((k ≡ 0) × (end ≡ length a)) ⊎ Later c a rest k end → ¬ P (slice_range (text_of c a rest) k end)
     go k end below (inl e) = λ is.
@@ -358,8 +358,8 @@ are_named numbers channels w =
       to = 11 + 1 + to;
       piece = piece_later 59 (codes "RTP/AVP/TCP") U (7 + 1 + 0) to middle;
       names = subst NamesChannels (sym is) (named_names numbers channels w);
-      first = none_before 59 (codes "RTP/AVP/TCP") U (7 + 1 + 0) NamesChannels protocol_none (names_none (codes "RTP/AVP/TCP") 114 refl (omega arith))
-          (none_before 59 (codes "unicast") I 0 NamesChannels unicast_none (names_none (codes "unicast") 117 refl (omega arith)) (λ k end below p. absurd (omega (arith, below))));
+      first = none_before NamesChannels protocol_none (names_none (codes "RTP/AVP/TCP") 114 refl (omega arith))
+          (none_before {c = 59} {a = codes "unicast"} {rest = I} {at = 0} NamesChannels unicast_none (names_none (codes "unicast") 117 refl (omega arith)) (λ k end below p. absurd (omega (arith, below))));
       are = subst (λ (t : List ℕ). AreChannels (after_name (without_blanks t)) channels) (sym is)
           (subst (λ (t : List ℕ). AreChannels (after_name t) channels) (sym (named_bare numbers channels w))
           (subst (λ (t : List ℕ). AreChannels t channels) (sym (after_named numbers)) w.are));
@@ -371,8 +371,8 @@ taken numbers channels w = record {
   end = 11;
   first = piece_first 59 (codes "RTP/AVP/TCP") (rest_of numbers) protocol_none;
   protocol = ap word (slice_first 59 (codes "RTP/AVP/TCP") (rest_of numbers));
-  plain = none_more 59 (codes "RTP/AVP/TCP") (rest_of numbers) IsOther protocol_none (first_letter (codes "RTP/AVP/TCP") 114 refl (omega arith))
-      (none_more 59 (codes "unicast") (named numbers) IsOther unicast_none (first_letter (codes "unicast") 117 refl (omega arith))
+  plain = none_more IsOther protocol_none (first_letter (codes "RTP/AVP/TCP") 114 refl (omega arith))
+      (none_more IsOther unicast_none (first_letter (codes "unicast") 117 refl (omega arith))
       (none_whole 59 (named numbers) IsOther (named_none numbers channels w) (named_plain numbers channels w)));
   has = inl (are_named numbers channels w);
 }

@@ -11,4 +11,4 @@ returns-in_err-seconds c =
 pub returns-in_err-fraction : goal.returns-in_err-fraction
 returns-in_err-fraction c =
     rw c.from_residual-in_err-fraction.ensures
-    (λ n time. no_fraction c.args.text.now c.piece_end-point.result n c.piece_end-point.ensures c.if-point-text.true c.in_err-fraction.ensures time)
+    (λ n time. no_fraction c.piece_end-point.ensures c.if-point-text.true c.in_err-fraction.ensures time)

@@ -13,5 +13,5 @@ returns-in_err-control c =
 
 pub returns-then-media-control : goal.returns-then-media-control
 returns-then-media-control c = λ channels pair.
-    not_pair_equal c.args.text.now c.piece_end-dash.result c.in_ok-media.media c.in_ok-control.control channels c.piece_end-dash.ensures
+    not_pair_equal c.piece_end-dash.ensures
     c.in_ok-media.ensures c.in_ok-control.ensures c.if-media-control.true pair

@@ -6,7 +6,7 @@ use Rattle.rtsp_fields.proofs.transports.read_transport.Goals as goal
 pub loop-from-preserved : goal.loop-from-preserved
 loop-from-preserved c = (
   next_start 44 c.args.value.now c.loop-from.from c.piece_end-end.result c.piece_end-end.ensures,
-  none_before_next 44 c.args.value.now CanBeTaken c.loop-from.from c.piece_end-end.result c.piece_end-end.ensures c.loop-from.invariant.1
+  none_before_next CanBeTaken c.piece_end-end.ensures c.loop-from.invariant.1
       (not_taken _ c.in_default.ensures),
 )
 
