@@ -28,96 +28,96 @@ ready-kept old new kept ready =
     let R : Moment → Type 0 = λ m. IsReady m in
     subst R (sym kept) ready
 
-ready-made : (old new : Moment) (e : Entry) (seats : List Seat) → new ≡ record { entries = old.entries ++ e ∷ []; seats = seats; heard = old.heard }
+ready-made : {new : Moment} {seats : List Seat} (old : Moment) (e : Entry) → new ≡ record { entries = old.entries ++ e ∷ []; seats = seats; heard = old.heard }
     → length seats ≡ 256 → IsBalanced (old.entries ++ e ∷ []) seats old.heard → IsReady new
-ready-made old new e seats is count balanced =
+ready-made {new} old e is count balanced =
     let R : Moment → Type 0 = λ m. IsReady m in
     subst R (sym is) (record { count = count; balanced = balanced })
 
-answered : (answer : Answer) (link : Link) (c : ℕ) (rest : Rest) (plan : List Segment) (old new : Moment) → c < 256 → ((t : ℕ) → share_of t (get_or old.seats c Idle) ≡ 0)
+answered : {old new : Moment} (answer : Answer) (link : Link) (c : ℕ) (rest : Rest) (plan : List Segment) → c < 256 → ((t : ℕ) → share_of t (get_or old.seats c Idle) ≡ 0)
     → new ≡ record {
       entries = old.entries ++ entry_by c (commands.Play old.heard plan) answer ∷ [];
       seats = with_play c rest plan (length old.entries) answer old.seats;
       heard = old.heard;
     } → IsReady old → IsReady new
-answered (Admitted start) link c rest plan old new client free is ready =
+answered {old} {new} (Admitted start) link c rest plan client free is ready =
     let play : Play = record { number = length old.entries; rest = rest; plan = plan; start = start } in
     let e = entry_by c (commands.Play old.heard plan) (Admitted start) in
-    ready-made old new e (set old.seats c (Playing play)) is (length-set old.seats c (Playing play) ∙ ready.count)
-    (balanced-play old.entries old.seats old.heard c play e (omega (arith, client, ready.count)) refl refl
+    ready-made old e is (length-set old.seats c (Playing play) ∙ ready.count)
+    (balanced-play play e (omega (arith, client, ready.count)) refl refl
     (ap (λ (s : State). s.held) (state-push old.entries e)) free ready.balanced)
-answered (Overflow over booked asked) link c rest plan old new client free is ready =
+answered {old} {new} (Overflow over booked asked) link c rest plan client free is ready =
     let e = entry_by c (commands.Play old.heard plan) (Overflow over booked asked) in
-    ready-made old new e old.seats is ready.count
+    ready-made old e is ready.count
     (balanced-same old.entries old.seats old.heard e (ap (λ (s : State). s.held) (state-push old.entries e)) ready.balanced)
-answered Halted link c rest plan old new client free is ready =
+answered {old} {new} Halted link c rest plan client free is ready =
     let e = entry_by c (commands.Play old.heard plan) Halted in
-    ready-made old new e old.seats is ready.count
+    ready-made old e is ready.count
     (balanced-same old.entries old.seats old.heard e (ap (λ (s : State). s.held) (state-push old.entries e)) ready.balanced)
-answered (Looked now at booked) link c rest plan old new client free is ready =
+answered {old} {new} (Looked now at booked) link c rest plan client free is ready =
     let e = entry_by c (commands.Play old.heard plan) (Looked now at booked) in
-    ready-made old new e old.seats is ready.count
+    ready-made old e is ready.count
     (balanced-same old.entries old.seats old.heard e (ap (λ (s : State). s.held) (state-push old.entries e)) ready.balanced)
 
-asked : (link : Link) (c : ℕ) (rest : Rest) (old new : Moment) (text : List ℕ) → c < 256 → ((t : ℕ) → share_of t (get_or old.seats c Idle) ≡ 0)
+asked : {link : Link} {c : ℕ} {rest : Rest} {old new : Moment} {text : List ℕ} → c < 256 → ((t : ℕ) → share_of t (get_or old.seats c Idle) ≡ 0)
     → IsAsked link c rest old new text → IsReady old → IsReady new
-asked link c rest old new text client free (inl faulty) ready = ready-kept old new faulty.told.kept ready
-asked link c rest old new text client free (inr planned) ready = elim planned.done [
+asked {c} {old} {new} {text} client free (inl faulty) ready = ready-kept old new faulty.told.kept ready
+asked {link} {c} {rest} {old} {new} {text} client free (inr planned) ready = elim planned.done [
   | inl full ↦ ready-kept old new full.told.kept ready
-  | inr made ↦ answered made.answer link c rest planned.plan old new client free made.noted.new_is ready
+  | inr made ↦ answered made.answer link c rest planned.plan client free made.noted.new_is ready
 ]
 
-pub play-ready : (link : Link) (c : ℕ) (rest : Rest) (seat : Seat) (old new : Moment) (text : List ℕ) → c < 256 → get_or old.seats c Idle ≡ seat
+pub play-ready : {c : ℕ} {seat : Seat} {old new : Moment} (link : Link) (rest : Rest) (text : List ℕ) → c < 256 → get_or old.seats c Idle ≡ seat
     → IsPlayLine link c rest seat old new text → IsReady old → IsReady new
-play-ready link c rest Idle old new text client at is ready = asked link c rest old new text client (λ t. ap (share_of t) at) is ready
-play-ready link c rest (Playing play) old new text client at is ready = ready-kept old new is.kept ready
-play-ready link c rest (Pausing stop left) old new text client at is ready = ready-kept old new is.kept ready
-play-ready link c rest (Paused left) old new text client at is ready = asked link c rest old new text client (λ t. ap (share_of t) at) is ready
+play-ready {c} {seat = Idle} {new} link rest text client at is ready = asked client (λ t. ap (share_of t) at) is ready
+play-ready {c} {seat = Playing play} {old} {new} link rest text client at is ready = ready-kept old new is.kept ready
+play-ready {c} {seat = Pausing stop left} {old} {new} link rest text client at is ready = ready-kept old new is.kept ready
+play-ready {c} {seat = Paused left} {new} link rest text client at is ready = asked client (λ t. ap (share_of t) at) is ready
 
-pub resume-ready : (link : Link) (c : ℕ) (seat : Seat) (old new : Moment) (text : List ℕ) → c < 256 → get_or old.seats c Idle ≡ seat
+pub resume-ready : {c : ℕ} {seat : Seat} {old new : Moment} (link : Link) (text : List ℕ) → c < 256 → get_or old.seats c Idle ≡ seat
     → IsResumeLine link c seat old new text → IsReady old → IsReady new
-resume-ready link c Idle old new text client at is ready = ready-kept old new is.kept ready
-resume-ready link c (Playing play) old new text client at is ready = ready-kept old new is.kept ready
-resume-ready link c (Pausing stop rest) old new text client at is ready = ready-kept old new is.kept ready
-resume-ready link c (Paused rest) old new text client at is ready = asked link c rest old new text client (λ t. ap (share_of t) at) is ready
+resume-ready {c} {seat = Idle} {old} {new} link text client at is ready = ready-kept old new is.kept ready
+resume-ready {c} {seat = Playing play} {old} {new} link text client at is ready = ready-kept old new is.kept ready
+resume-ready {c} {seat = Pausing stop rest} {old} {new} link text client at is ready = ready-kept old new is.kept ready
+resume-ready {c} {seat = Paused rest} {new} link text client at is ready = asked client (λ t. ap (share_of t) at) is ready
 
 shut-pause : (b : Bool) (stop : Booked) (rest : Rest) → IsShut (cond b (Paused rest) (Pausing stop rest))
 shut-pause true stop rest = tt
 shut-pause false stop rest = tt
 
-paused : (link : Link) (c : ℕ) (play : Play) (old new : Moment) (text : List ℕ) → c < 256 → get_or old.seats c Idle ≡ Playing play
+paused : {link : Link} {c : ℕ} {play : Play} {old new : Moment} {text : List ℕ} → c < 256 → get_or old.seats c Idle ≡ Playing play
     → IsHaltedPlay link c play old new text → IsReady old → IsReady new
-paused link c play old new text client at is ready =
+paused {c} {play} {old} {new} {text} client at is ready =
     let e = entry_by c (commands.Halt play.number is.keep) Halted in
     let stop = cut_play play.start play.plan is.keep in
     let rest = record play.rest { run = is.pause.left } in
     let S : Seat → Type 0 = λ s. IsShut s in
     let shut : IsShut is.seat = subst S (sym is.pause.seat_is) (shut-pause (sent_by stop old.heard == stop.keep) stop rest) in
-    ready-made old new e (set old.seats c is.seat) is.noted.new_is (length-set old.seats c is.seat ∙ ready.count)
-    (balanced-halt old.entries old.seats old.heard c is.keep play is.seat (omega (arith, client, ready.count)) at shut
+    ready-made old e is.noted.new_is (length-set old.seats c is.seat ∙ ready.count)
+    (balanced-halt c is.keep is.seat (omega (arith, client, ready.count)) at shut
     (λ t later. ap (share_of t) is.pause.seat_is ∙ pausing-share t old.heard stop rest later) ready.balanced)
 
-pub pause-ready : (link : Link) (c : ℕ) (seat : Seat) (old new : Moment) (text : List ℕ) → c < 256 → get_or old.seats c Idle ≡ seat
+pub pause-ready : {c : ℕ} {seat : Seat} {old new : Moment} (link : Link) (text : List ℕ) → c < 256 → get_or old.seats c Idle ≡ seat
     → IsPauseLine link c seat old new text → IsReady old → IsReady new
-pause-ready link c Idle old new text client at is ready = ready-kept old new is.kept ready
-pause-ready link c (Playing play) old new text client at is ready = paused link c play old new text client at is ready
-pause-ready link c (Pausing stop rest) old new text client at is ready = ready-kept old new is.kept ready
-pause-ready link c (Paused rest) old new text client at is ready = ready-kept old new is.kept ready
+pause-ready {c} {seat = Idle} {old} {new} link text client at is ready = ready-kept old new is.kept ready
+pause-ready {c} {seat = Playing play} {new} link text client at is ready = paused client at is ready
+pause-ready {c} {seat = Pausing stop rest} {old} {new} link text client at is ready = ready-kept old new is.kept ready
+pause-ready {c} {seat = Paused rest} {old} {new} link text client at is ready = ready-kept old new is.kept ready
 
 looked : (answer : Answer) (slot : ℕ) (old new : Moment)
     → new ≡ record { entries = old.entries ++ entry_by 0 (commands.Look slot) answer ∷ []; seats = old.seats; heard = old.heard } → IsReady old → IsReady new
 looked answer slot old new is ready =
     let e = entry_by 0 (commands.Look slot) answer in
-    ready-made old new e old.seats is ready.count
+    ready-made old e is ready.count
     (balanced-same old.entries old.seats old.heard e (ap (λ (s : State). s.held) (state-push old.entries e)) ready.balanced)
 
-look-ready : (link : Link) (slot : ℕ) (old new : Moment) (text : List ℕ) → IsLookLine link slot old new text → IsReady old → IsReady new
-look-ready link slot old new text (inl full) ready = ready-kept old new full.told.kept ready
-look-ready link slot old new text (inr made) ready = looked made.answer slot old new made.noted.new_is ready
+look-ready : {link : Link} {slot : ℕ} {old new : Moment} {text : List ℕ} → IsLookLine link slot old new text → IsReady old → IsReady new
+look-ready {slot} {old} {new} {text} (inl full) ready = ready-kept old new full.told.kept ready
+look-ready {slot} {old} {new} {text} (inr made) ready = looked made.answer slot old new made.noted.new_is ready
 
-offer-ready : (link : Link) (rest : Rest) (wait : ℕ) (old new : Moment) (text : List ℕ) → IsOfferLine link rest wait old new text → IsReady old → IsReady new
-offer-ready link rest wait old new text (inl faulty) ready = ready-kept old new faulty.told.kept ready
-offer-ready link rest wait old new text (inr offered) ready = ready-kept old new offered.told.kept ready
+offer-ready : {link : Link} {rest : Rest} {wait : ℕ} {old new : Moment} {text : List ℕ} → IsOfferLine link rest wait old new text → IsReady old → IsReady new
+offer-ready {old} {new} {text} (inl faulty) ready = ready-kept old new faulty.told.kept ready
+offer-ready {old} {new} {text} (inr offered) ready = ready-kept old new offered.told.kept ready
 
 pub slot-ready : (old new : Moment) (slot : ℕ) → old.heard ≤ slot → new ≡ at_slot old slot → IsReady old → IsReady new
 slot-ready old new slot le is ready =
@@ -127,16 +127,16 @@ slot-ready old new slot le is ready =
       balanced = balanced-slot old slot le ready.balanced;
     })
 
-pub line-ready : (link : Link) (line : Line) (n : ℕ) (old new : Moment) (text : List ℕ) → IsClient line → StandsAfter old.heard n line → IsLine link line old new text
+pub line-ready : {old new : Moment} (link : Link) (line : Line) (n : ℕ) (text : List ℕ) → IsClient line → StandsAfter old.heard n line → IsLine link line old new text
     → IsReady old → IsReady new
-line-ready link (lines.Play c source buffer delay) n old new text client stands is ready =
-    play-ready link c (rest_at link source buffer delay) (seat_at old c) old new text client refl is ready
-line-ready link (lines.Pause c) n old new text client stands is ready = pause-ready link c (seat_at old c) old new text client refl is ready
-line-ready link (lines.Resume c) n old new text client stands is ready = resume-ready link c (seat_at old c) old new text client refl is ready
-line-ready link (lines.Look slot) n old new text client stands is ready = look-ready link _ old new text is ready
-line-ready link (lines.Slot slot) n old new text client stands is ready = slot-ready old new slot (omega (arith, stands.0)) is.0 ready
-line-ready link (lines.Offer c source buffer delay wait) n old new text client stands is ready =
-    offer-ready link (rest_at link source buffer delay) wait old new text is ready
+line-ready {new} link (lines.Play c source buffer delay) n text client stands is ready =
+    play-ready link (rest_at link source buffer delay) text client refl is ready
+line-ready {new} link (lines.Pause c) n text client stands is ready = pause-ready link text client refl is ready
+line-ready {new} link (lines.Resume c) n text client stands is ready = resume-ready link text client refl is ready
+line-ready {new} link (lines.Look slot) n text client stands is ready = look-ready is ready
+line-ready {old} {new} link (lines.Slot slot) n text client stands is ready = slot-ready old new slot (omega (arith, stands.0)) is.0 ready
+line-ready {new} link (lines.Offer c source buffer delay wait) n text client stands is ready =
+    offer-ready is ready
 
 idle-shares : (t n : ℕ) → sum_by (share_of t) (replicate n Idle) ≡ 0
 idle-shares t zero = refl
@@ -161,29 +161,29 @@ pub ready-sent : (m : Moment) (slot : ℕ) → m.heard ≤ slot → IsReady m �
 ready-sent m slot le ready = balanced-sent m.entries m.seats m.heard slot le ready.balanced
 
 -- lines that may stand after a slot, one after the other
-pub stands-rest : (n heard : ℕ) (line : Line) (lines : List Line)
+pub stands-rest : {n heard : ℕ} (line : Line) (lines : List Line)
     → ((i : ℕ) (none : Line) → i < length (line ∷ lines) → StandsAfter (fold slot_after heard (take i (line ∷ lines))) n (get_or (line ∷ lines) i none))
     → (i : ℕ) (none : Line) → i < length lines → StandsAfter (fold slot_after (slot_after heard line) (take i lines)) n (get_or lines i none)
-stands-rest n heard line lines each i none inside = each (suc i) none (omega (arith, inside))
+stands-rest line lines each i none inside = each (suc i) none (omega (arith, inside))
 
-asked-heard : (link : Link) (c : ℕ) (rest : Rest) (old new : Moment) (text : List ℕ) → IsAsked link c rest old new text → new.heard ≡ old.heard
-asked-heard link c rest old new text (inl faulty) = ap (λ (m : Moment). m.heard) faulty.told.kept
-asked-heard link c rest old new text (inr planned) = elim planned.done [
+asked-heard : {link : Link} {c : ℕ} {rest : Rest} {old new : Moment} {text : List ℕ} → IsAsked link c rest old new text → new.heard ≡ old.heard
+asked-heard {c} {new} {text} (inl faulty) = ap (λ (m : Moment). m.heard) faulty.told.kept
+asked-heard {c} {new} {text} (inr planned) = elim planned.done [
   | inl full ↦ ap (λ (m : Moment). m.heard) full.told.kept
   | inr made ↦ ap (λ (m : Moment). m.heard) made.noted.new_is
 ]
 
 pub play-heard : (link : Link) (c : ℕ) (rest : Rest) (seat : Seat) (old new : Moment) (text : List ℕ) → IsPlayLine link c rest seat old new text → new.heard ≡ old.heard
-play-heard link c rest Idle old new text is = asked-heard link c rest old new text is
+play-heard link c rest Idle old new text is = asked-heard is
 play-heard link c rest (Playing play) old new text is = ap (λ (m : Moment). m.heard) is.kept
 play-heard link c rest (Pausing stop left) old new text is = ap (λ (m : Moment). m.heard) is.kept
-play-heard link c rest (Paused left) old new text is = asked-heard link c rest old new text is
+play-heard link c rest (Paused left) old new text is = asked-heard is
 
 pub resume-heard : (link : Link) (c : ℕ) (seat : Seat) (old new : Moment) (text : List ℕ) → IsResumeLine link c seat old new text → new.heard ≡ old.heard
 resume-heard link c Idle old new text is = ap (λ (m : Moment). m.heard) is.kept
 resume-heard link c (Playing play) old new text is = ap (λ (m : Moment). m.heard) is.kept
 resume-heard link c (Pausing stop rest) old new text is = ap (λ (m : Moment). m.heard) is.kept
-resume-heard link c (Paused rest) old new text is = asked-heard link c rest old new text is
+resume-heard link c (Paused rest) old new text is = asked-heard is
 
 pub pause-heard : (link : Link) (c : ℕ) (seat : Seat) (old new : Moment) (text : List ℕ) → IsPauseLine link c seat old new text → new.heard ≡ old.heard
 pause-heard link c Idle old new text is = ap (λ (m : Moment). m.heard) is.kept
@@ -195,9 +195,9 @@ look-heard : (link : Link) (slot : ℕ) (old new : Moment) (text : List ℕ) →
 look-heard link slot old new text (inl full) = ap (λ (m : Moment). m.heard) full.told.kept
 look-heard link slot old new text (inr made) = ap (λ (m : Moment). m.heard) made.noted.new_is
 
-offer-heard : (link : Link) (rest : Rest) (wait : ℕ) (old new : Moment) (text : List ℕ) → IsOfferLine link rest wait old new text → new.heard ≡ old.heard
-offer-heard link rest wait old new text (inl faulty) = ap (λ (m : Moment). m.heard) faulty.told.kept
-offer-heard link rest wait old new text (inr offered) = ap (λ (m : Moment). m.heard) offered.told.kept
+offer-heard : {link : Link} {rest : Rest} {wait : ℕ} {old new : Moment} {text : List ℕ} → IsOfferLine link rest wait old new text → new.heard ≡ old.heard
+offer-heard {new} {text} (inl faulty) = ap (λ (m : Moment). m.heard) faulty.told.kept
+offer-heard {new} {text} (inr offered) = ap (λ (m : Moment). m.heard) offered.told.kept
 
 pub heard-after : (link : Link) (line : Line) (old new : Moment) (text : List ℕ) → IsLine link line old new text → new.heard ≡ slot_after old.heard line
 heard-after link (lines.Play c source buffer delay) old new text is = play-heard link c (rest_at link source buffer delay) (seat_at old c) old new text is
@@ -205,24 +205,24 @@ heard-after link (lines.Pause c) old new text is = pause-heard link c (seat_at o
 heard-after link (lines.Resume c) old new text is = resume-heard link c (seat_at old c) old new text is
 heard-after link (lines.Look slot) old new text is = look-heard link _ old new text is
 heard-after link (lines.Slot slot) old new text is = ap (λ (m : Moment). m.heard) is.0
-heard-after link (lines.Offer c source buffer delay wait) old new text is = offer-heard link (rest_at link source buffer delay) wait old new text is
+heard-after link (lines.Offer c source buffer delay wait) old new text is = offer-heard is
 
-pub run-ready : (link : Link) (n : ℕ) (lines : List Line) (texts : List (List ℕ)) (old new : Moment)
+pub run-ready : {old new : Moment} (link : Link) (n : ℕ) (lines : List Line) (texts : List (List ℕ))
     → ((i : ℕ) (none : Line) → i < length lines → IsClient (get_or lines i none))
     → ((i : ℕ) (none : Line) → i < length lines → StandsAfter (fold slot_after old.heard (take i lines)) n (get_or lines i none))
     → AreRun link lines texts old new → IsReady old → IsReady new
-run-ready link n [] [] old new clients stands run ready = ready-kept old new run ready
-run-ready link n [] (t ∷ texts) old new clients stands run ready = absurd run
-run-ready link n (l ∷ ls) [] old new clients stands run ready = absurd run
-run-ready link n (l ∷ ls) (t ∷ texts) old new clients stands run ready =
+run-ready {old} {new} link n [] [] clients stands run ready = ready-kept old new run ready
+run-ready {new} link n [] (t ∷ texts) clients stands run ready = absurd run
+run-ready {new} link n (l ∷ ls) [] clients stands run ready = absurd run
+run-ready {old} {new} link n (l ∷ ls) (t ∷ texts) clients stands run ready =
     let next = run.0 in
-    let ok = line-ready link l n old next t (clients zero l (omega arith)) (stands zero l (omega arith)) run.1.0 ready in
+    let ok = line-ready link l n t (clients zero l (omega arith)) (stands zero l (omega arith)) run.1.0 ready in
     let H : ℕ → Type 0 = λ h. (i : ℕ) (none : Line) → i < length ls → StandsAfter (fold slot_after h (take i ls)) n (get_or ls i none) in
-    let after : H next.heard = subst H (sym (heard-after link l old next t run.1.0)) (stands-rest n old.heard l ls stands) in
-    run-ready link n ls texts next new (λ i none inside. clients (suc i) none (omega (arith, inside))) after run.1.1 ok
+    let after : H next.heard = subst H (sym (heard-after link l old next t run.1.0)) (stands-rest l ls stands) in
+    run-ready {old = next} {new = new} link n ls texts (λ i none inside. clients (suc i) none (omega (arith, inside))) after run.1.1 ok
 
 -- after the lines of a script, what is sent up to a slot is what is booked up to there
 pub day-sent : (link : Link) (n : ℕ) (lines : List Line) (texts : List (List ℕ)) (m : Moment) (slot : ℕ) → AreClients lines → AreLines n lines
     → AreRun link lines texts first_moment m → m.heard ≤ slot → sent_up_to m slot ≡ booked_up_to m slot
 day-sent link n lines texts m slot clients are run le =
-    ready-sent m slot le (run-ready link n lines texts first_moment m clients.each are.each run morning-ready)
+    ready-sent m slot le (run-ready link n lines texts clients.each are.each run morning-ready)

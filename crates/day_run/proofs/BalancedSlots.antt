@@ -76,9 +76,9 @@ done-shares t slot play later done =
     let all : (sent_by (booking_of play) slot == total_bytes play.plan) ≡ true = both-true (nat_le play.start slot) (sent_by (booking_of play) slot == total_bytes play.plan) done in
     sym (share-done t slot (booking_of play) later (eqb-true (sent_by (booking_of play) slot) (total_bytes play.plan) all))
 
-left-alone : (slot c : ℕ) (entries : List Entry) (seats : List Seat) (seat : Seat) → get_or seats c Idle ≡ seat → IsBalanced entries seats slot
+left-alone : {slot : ℕ} {entries : List Entry} {seats : List Seat} {seat : Seat} (c : ℕ) → get_or seats c Idle ≡ seat → IsBalanced entries seats slot
     → IsBalanced (entries ++ []) (set seats c seat) slot
-left-alone slot c entries seats seat at balanced =
+left-alone {slot} {entries} {seats} {seat} c at balanced =
     let E : List Entry → Type 0 = λ es. IsBalanced es (set seats c seat) slot in
     let S : List Seat → Type 0 = λ l. IsBalanced entries l slot in
     let same : seats ≡ set seats c seat = sym (ap (set seats c) (sym at) ∙ set-get_or seats c Idle) in
@@ -103,10 +103,10 @@ past-share t slot start keep plan past sent most =
       sent-rises plan start (t + 1) (slot + 1) (omega (arith, past)),
     )
 
-pub stays-halt : (entries : List Entry) (c keep slot : ℕ) (play : Play)
+pub stays-halt : {slot : ℕ} (entries : List Entry) (c keep : ℕ) (play : Play)
     → held_as play.number (state_after entries).held ≡ Some (admitted_play play.number play.start play.plan) → sent_by (booking_of play) slot ≤ keep
     → keep ≤ total_bytes play.plan → Stays slot entries (entries ++ halt_by c play.number keep)
-stays-halt entries c keep slot play held sent most t past =
+stays-halt {slot} entries c keep play held sent most t past =
     omega (
       arith,
       booked-halted entries c play.number keep play.start t play.plan held,
@@ -118,47 +118,47 @@ record IsStep (slot : ℕ) (old new : List Entry) (seats : List Seat) : Type 0 w
   balanced : IsBalanced new seats slot
   stays : Stays slot old new
 
-kept-step : (slot c : ℕ) (entries : List Entry) (seats : List Seat) (seat : Seat) → get_or seats c Idle ≡ seat → IsBalanced entries seats slot
+kept-step : {slot : ℕ} {entries : List Entry} {seats : List Seat} {seat : Seat} (c : ℕ) → get_or seats c Idle ≡ seat → IsBalanced entries seats slot
     → IsStep slot entries (entries ++ []) (set seats c seat)
-kept-step slot c entries seats seat at balanced =
-    record { balanced = left-alone slot c entries seats seat at balanced; stays = stays-none slot entries }
+kept-step {slot} {entries} c at balanced =
+    record { balanced = left-alone c at balanced; stays = stays-none slot entries }
 
-pub its-held : (entries : List Entry) (seats : List Seat) (heard c : ℕ) (play : Play) → c < length seats → get_or seats c Idle ≡ Playing play → IsBalanced entries seats heard
+pub its-held : {entries : List Entry} {seats : List Seat} {heard : ℕ} {play : Play} (c : ℕ) → c < length seats → get_or seats c Idle ≡ Playing play → IsBalanced entries seats heard
     → held_as play.number (state_after entries).held ≡ Some (admitted_play play.number play.start play.plan)
-its-held entries seats heard c play inside at balanced =
+its-held {entries} {play} c inside at balanced =
     let H : Seat → Type 0 = λ s. AreHeldOf entries c s in
     let its : IsHeld entries c play = subst H at (balanced.held c inside) in
     its.held
 
-step-play : (slot c : ℕ) (entries : List Entry) (seats : List Seat) (play : Play) (done : Bool) → is_done slot play ≡ done → c < length seats
+step-play : {slot : ℕ} {entries : List Entry} {seats : List Seat} {play : Play} {done : Bool} (c : ℕ) → is_done slot play ≡ done → c < length seats
     → get_or seats c Idle ≡ Playing play → IsBalanced entries seats slot
     → IsStep slot entries (entries ++ cond done (halt_by c play.number (total_bytes play.plan)) []) (set seats c (cond done Idle (Playing play)))
-step-play slot c entries seats play true done inside at balanced = record {
-  balanced = balanced-halt entries seats slot c (total_bytes play.plan) play Idle inside at tt (λ t later. done-shares t slot play later done) balanced;
-  stays = stays-halt entries c (total_bytes play.plan) slot play (its-held entries seats slot c play inside at balanced) (omega arith) (omega arith);
+step-play {slot} {entries} {play} {done = true} c done inside at balanced = record {
+  balanced = balanced-halt c (total_bytes play.plan) Idle inside at tt (λ t later. done-shares t slot play later done) balanced;
+  stays = stays-halt entries c (total_bytes play.plan) play (its-held c inside at balanced) (omega arith) (omega arith);
 }
-step-play slot c entries seats play false done inside at balanced = kept-step slot c entries seats (Playing play) at balanced
+step-play {slot} {done = false} c done inside at balanced = kept-step c at balanced
 
-step-seat : (slot c : ℕ) (entries : List Entry) (seats : List Seat) (seat : Seat) → c < length seats → get_or seats c Idle ≡ seat → IsBalanced entries seats slot
+step-seat : {slot : ℕ} (c : ℕ) (entries : List Entry) (seats : List Seat) (seat : Seat) → c < length seats → get_or seats c Idle ≡ seat → IsBalanced entries seats slot
     → IsStep slot entries (entries ++ done_halt slot c seat) (set seats c (after_play slot seat))
-step-seat slot c entries seats Idle inside at balanced = kept-step slot c entries seats Idle at balanced
-step-seat slot c entries seats (Playing play) inside at balanced = step-play slot c entries seats play (is_done slot play) refl inside at balanced
-step-seat slot c entries seats (Pausing stop rest) inside at balanced = kept-step slot c entries seats (Pausing stop rest) at balanced
-step-seat slot c entries seats (Paused rest) inside at balanced = kept-step slot c entries seats (Paused rest) at balanced
+step-seat {slot} c entries seats Idle inside at balanced = kept-step c at balanced
+step-seat {slot} c entries seats (Playing play) inside at balanced = step-play c refl inside at balanced
+step-seat {slot} c entries seats (Pausing stop rest) inside at balanced = kept-step c at balanced
+step-seat {slot} c entries seats (Paused rest) inside at balanced = kept-step c at balanced
 
-open-seat : (slot c : ℕ) (entries : List Entry) (seats : List Seat) (seat : Seat) → c < length seats → get_or seats c Idle ≡ seat → IsBalanced entries seats slot
+open-seat : {slot : ℕ} (c : ℕ) (entries : List Entry) (seats : List Seat) (seat : Seat) → c < length seats → get_or seats c Idle ≡ seat → IsBalanced entries seats slot
     → IsStep slot entries (entries ++ open_halt slot c seat) (set seats c (after_open seat))
-open-seat slot c entries seats Idle inside at balanced = kept-step slot c entries seats Idle at balanced
-open-seat slot c entries seats (Playing play) inside at balanced =
+open-seat {slot} c entries seats Idle inside at balanced = kept-step c at balanced
+open-seat {slot} c entries seats (Playing play) inside at balanced =
     let keep = sent_by (booking_of play) slot in
     record {
       balanced =
-          balanced-halt entries seats slot c keep play Idle inside at tt
+          balanced-halt c keep Idle inside at tt
           (λ t later. sym (share-done t slot (cut_play play.start play.plan keep) later (omega arith))) balanced;
-      stays = stays-halt entries c keep slot play (its-held entries seats slot c play inside at balanced) (omega arith) (omega arith);
+      stays = stays-halt entries c keep play (its-held c inside at balanced) (omega arith) (omega arith);
     }
-open-seat slot c entries seats (Pausing stop rest) inside at balanced = kept-step slot c entries seats (Pausing stop rest) at balanced
-open-seat slot c entries seats (Paused rest) inside at balanced = kept-step slot c entries seats (Paused rest) at balanced
+open-seat {slot} c entries seats (Pausing stop rest) inside at balanced = kept-step c at balanced
+open-seat {slot} c entries seats (Paused rest) inside at balanced = kept-step c at balanced
 
 abbrev IsStepOf : ℕ → (ℕ → Seat → List Entry) → (Seat → Seat) → Type 0
 IsStepOf slot halt after =
@@ -173,9 +173,10 @@ record Ending (slot n : ℕ) (halt : ℕ → Seat → List Entry) (after : Seat 
   balanced : IsBalanced entries seats slot
   stays : Stays slot begun entries
 
-ending : (slot : ℕ) (halt : ℕ → Seat → List Entry) (after : Seat → Seat) (begun : List Entry) (old : List Seat) (n : ℕ) → IsStepOf slot halt after → n ≤ length old
+ending : {slot : ℕ} {halt : ℕ → Seat → List Entry} {after : Seat → Seat} {begun : List Entry} {old : List Seat}
+    {n : ℕ} → IsStepOf slot halt after → n ≤ length old
     → IsBalanced begun old slot → Ending slot n halt after begun old
-ending slot halt after begun old zero step most balanced = record {
+ending {slot} {halt} {after} {begun} {old} {n = zero} step most balanced = record {
   entries = begun;
   seats = old;
   swept = swept-none after old;
@@ -183,8 +184,8 @@ ending slot halt after begun old zero step most balanced = record {
   balanced = balanced;
   stays = λ t past. refl;
 }
-ending slot halt after begun old (suc n) step most balanced =
-    let e = ending slot halt after begun old n step (omega (arith, most)) balanced in
+ending {slot} {halt} {after} {begun} {old} {n = suc n} step most balanced =
+    let e = ending {slot = slot} {halt = halt} {after = after} {begun = begun} {old = old} {n = n} step (omega (arith, most)) balanced in
     let seat = get_or old n Idle in
     let one : n + 1 ≡ suc n = omega arith in
     let inside : n < length old = omega (arith, most) in
@@ -193,8 +194,8 @@ ending slot halt after begun old (suc n) step most balanced =
     subst E one (record {
       entries = e.entries ++ halt n seat;
       seats = set e.seats n (after seat);
-      swept = swept-set after n old e.seats (after seat) inside refl e.swept;
-      entries_are = entries-more halt old n begun e.entries (e.entries ++ halt n seat) (halt n seat) inside e.entries_are refl refl;
+      swept = swept-set {f = after} {i = n} {old = old} {new = e.seats} {seat = after seat} inside refl e.swept;
+      entries_are = entries-more {i = n} {before = e.entries} {after = e.entries ++ halt n seat} {more = halt n seat} halt old begun inside e.entries_are refl refl;
       balanced = next.balanced;
       stays = λ t past. next.stays t past ∙ e.stays t past;
     })
@@ -204,7 +205,7 @@ pub balanced-slot : (old : Moment) (slot : ℕ) → old.heard ≤ slot → IsBal
 balanced-slot old slot le balanced =
     let sent = map (after_sending slot) old.seats in
     let n = length sent in
-    let e = ending slot (done_halt slot) (after_play slot) old.entries sent n (step-seat slot) (omega arith) (balanced-sending old.entries old.seats old.heard slot le balanced) in
+    let e = ending {slot = slot} {halt = done_halt slot} {after = after_play slot} {begun = old.entries} {old = sent} {n = n} (step-seat) (omega arith) (balanced-sending old.entries old.seats old.heard slot le balanced) in
     let seats : e.seats ≡ map (after_play slot) sent = swept-all (after_play slot) n sent e.seats (omega arith) e.swept in
     let entries : e.entries ≡ old.entries ++ halts (done_halt slot) 0 old.seats =
     e.entries_are ∙ ap (λ l. old.entries ++ halts (done_halt slot) 0 l) (take_all n sent (omega arith))
@@ -218,7 +219,7 @@ pub slot-stays : (old : Moment) (slot t : ℕ) → old.heard ≤ slot → t ≤ 
 slot-stays old slot t le past balanced =
     let sent = map (after_sending slot) old.seats in
     let n = length sent in
-    let e = ending slot (done_halt slot) (after_play slot) old.entries sent n (step-seat slot) (omega arith) (balanced-sending old.entries old.seats old.heard slot le balanced) in
+    let e = ending {slot = slot} {halt = done_halt slot} {after = after_play slot} {begun = old.entries} {old = sent} {n = n} (step-seat) (omega arith) (balanced-sending old.entries old.seats old.heard slot le balanced) in
     let entries : e.entries ≡ old.entries ++ halts (done_halt slot) 0 old.seats =
     e.entries_are ∙ ap (λ l. old.entries ++ halts (done_halt slot) 0 l) (take_all n sent (omega arith))
     ∙ ap (λ es. old.entries ++ es) (halts-sent slot 0 old.seats) in
@@ -229,7 +230,7 @@ pub last-stays : (m : Moment) (t : ℕ) → t ≤ m.heard → IsBalanced m.entri
     → booked_in (state_after (last_journal m)) t ≡ booked_in (state_after m.entries) t
 last-stays m t past balanced =
     let n = length m.seats in
-    let e = ending m.heard (open_halt m.heard) after_open m.entries m.seats n (open-seat m.heard) (omega arith) balanced in
+    let e = ending {slot = m.heard} {halt = open_halt m.heard} {after = after_open} {begun = m.entries} {old = m.seats} {n = n} (open-seat) (omega arith) balanced in
     let entries : e.entries ≡ last_journal m = e.entries_are ∙ ap (λ l. m.entries ++ halts (open_halt m.heard) 0 l) (take_all n m.seats (omega arith)) in
     sym (ap (λ es. booked_in (state_after es) t) entries) ∙ e.stays t past
 
@@ -250,7 +251,7 @@ pub last-later : (m : Moment) (t : ℕ) → m.heard < t → IsBalanced m.entries
     → booked_in (state_after (last_journal m)) t ≡ sum_by (share_of t) (map after_open m.seats)
 last-later m t later balanced =
     let n = length m.seats in
-    let e = ending m.heard (open_halt m.heard) after_open m.entries m.seats n (open-seat m.heard) (omega arith) balanced in
+    let e = ending {slot = m.heard} {halt = open_halt m.heard} {after = after_open} {begun = m.entries} {old = m.seats} {n = n} (open-seat) (omega arith) balanced in
     let entries : e.entries ≡ last_journal m = e.entries_are ∙ ap (λ l. m.entries ++ halts (open_halt m.heard) 0 l) (take_all n m.seats (omega arith)) in
     let seats : e.seats ≡ map after_open m.seats = swept-all after_open n m.seats e.seats (omega arith) e.swept in
     sym (ap (λ es. booked_in (state_after es) t) entries) ∙ e.balanced.each t later ∙ ap (sum_by (share_of t)) seats

@@ -150,20 +150,20 @@ booked-halted entries c number keep start t plan is =
     ap F parts.was ∙ sum-split t parts.before parts.after (admitted_play number start plan) in
     omega (arith, s, new, old)
 
-other-halted : (entries : List Entry) (c d number keep : ℕ) (play : Play) → number < length entries → ((none : Entry) → (get_or entries number none).maker ≡ c)
+other-halted : {entries : List Entry} {c d : ℕ} {play : Play} (number keep : ℕ) → number < length entries → ((none : Entry) → (get_or entries number none).maker ≡ c)
     → (d ≡ c → ⊥) → IsHeld entries d play → IsHeld (entries ++ halt_by c number keep) d play
-other-halted entries c d number keep play inside maker other its =
+other-halted {entries} {c} {d} {play} number keep inside maker other its =
     let e = entry_by c (commands.Halt number keep) Halted in
     let apart : number ≡ play.number → ⊥ = λ same. other (sym (its.maker e) ∙ ap (λ k. (get_or entries k e).maker) (sym same) ∙ maker e) in
     maker-more entries e d play its
     (ap (λ (x : State). held_as play.number x.held) (state-push entries e) ∙ found-other play.number number keep (state_after entries).held apart ∙ its.held)
 
-others-halted : (entries : List Entry) (c d number keep : ℕ) (seat : Seat) → number < length entries → ((none : Entry) → (get_or entries number none).maker ≡ c)
+others-halted : {c d : ℕ} (entries : List Entry) (number keep : ℕ) (seat : Seat) → number < length entries → ((none : Entry) → (get_or entries number none).maker ≡ c)
     → (d ≡ c → ⊥) → AreHeldOf entries d seat → AreHeldOf (entries ++ halt_by c number keep) d seat
-others-halted entries c d number keep Idle inside maker other its = tt
-others-halted entries c d number keep (Playing play) inside maker other its = other-halted entries c d number keep play inside maker other its
-others-halted entries c d number keep (Pausing stop rest) inside maker other its = tt
-others-halted entries c d number keep (Paused rest) inside maker other its = tt
+others-halted {c} entries number keep Idle inside maker other its = tt
+others-halted {c} entries number keep (Playing play) inside maker other its = other-halted number keep inside maker other its
+others-halted {c} entries number keep (Pausing stop rest) inside maker other its = tt
+others-halted {c} entries number keep (Paused rest) inside maker other its = tt
 
 fresh-halted : (number keep n : ℕ) (held : List Held) → All (λ (h : Held). h.number < n) held → All (λ (h : Held). h.number < n) (with_halted number keep held)
 fresh-halted number keep n [] all = all
@@ -184,10 +184,10 @@ fresh-more n m held le all =
     All-weaker (λ (h : Held). h.number < n) (λ (h : Held). h.number < m) (λ h less. omega (arith, less, le)) held all
 
 -- a client's play was halted, and the client books what is kept of it
-pub balanced-halt : (entries : List Entry) (seats : List Seat) (heard c keep : ℕ) (play : Play) (next : Seat) → c < length seats
+pub balanced-halt : {entries : List Entry} {seats : List Seat} {heard : ℕ} {play : Play} (c keep : ℕ) (next : Seat) → c < length seats
     → get_or seats c Idle ≡ Playing play → IsShut next → ((t : ℕ) → heard < t → share_of t next ≡ share_at t (cut_play play.start play.plan keep))
     → IsBalanced entries seats heard → IsBalanced (entries ++ halt_by c play.number keep) (set seats c next) heard
-balanced-halt entries seats heard c keep play next inside at shut shares balanced =
+balanced-halt {entries} {seats} {play} c keep next inside at shut shares balanced =
     let e = entry_by c (commands.Halt play.number keep) Halted in
     let H : Seat → Type 0 = λ s. AreHeldOf entries c s in
     let its : IsHeld entries c play = subst H at (balanced.held c inside) in
@@ -205,7 +205,7 @@ balanced-halt entries seats heard c keep play next inside at shut shares balance
         | inr other ↦
             let C : Seat → Type 0 = λ x. AreHeldOf (entries ++ halt_by c play.number keep) d x in
             subst C (sym (get_or-set_other seats c d next Idle other))
-            (others-halted entries c d play.number keep (get_or seats d Idle) its.inside its.maker other (balanced.held d (omega (arith, within, length-set seats c next))))
+            (others-halted entries play.number keep (get_or seats d Idle) its.inside its.maker other (balanced.held d (omega (arith, within, length-set seats c next))))
       ];
       fresh =
           let A : State → Type 0 = λ s. All (λ (h : Held). h.number < length (entries ++ halt_by c play.number keep)) s.held in
@@ -243,10 +243,10 @@ push-held entries e c (Pausing stop rest) new is its = tt
 push-held entries e c (Paused rest) new is its = tt
 
 -- a client's play was admitted, which booked nothing before
-pub balanced-play : (entries : List Entry) (seats : List Seat) (heard c : ℕ) (play : Play) (e : Entry) → c < length seats → play.number ≡ length entries → e.maker ≡ c
+pub balanced-play : {entries : List Entry} {seats : List Seat} {heard c : ℕ} (play : Play) (e : Entry) → c < length seats → play.number ≡ length entries → e.maker ≡ c
     → (state_after (entries ++ e ∷ [])).held ≡ (state_after entries).held ++ admitted_play play.number play.start play.plan ∷ []
     → ((t : ℕ) → share_of t (get_or seats c Idle) ≡ 0) → IsBalanced entries seats heard → IsBalanced (entries ++ e ∷ []) (set seats c (Playing play)) heard
-balanced-play entries seats heard c play e inside number maker is free balanced =
+balanced-play {entries} {seats} {c} play e inside number maker is free balanced =
     let new = admitted_play play.number play.start play.plan in
     let held = (state_after entries).held in
     let n : length (entries ++ e ∷ []) ≡ length entries + 1 = omega (arith, length-append entries (e ∷ [])) in

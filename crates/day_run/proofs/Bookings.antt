@@ -16,9 +16,9 @@ use Rattle.day_run.specs.declared.clients.Client.TheVariants.{Idle, Playing, Pau
 use Rattle.day_run.specs.Clients.{AreBooked, AreGoing, AreUndone, IsBooked, IsGoing, IsOpenOf, IsQuiet, IsUndone}
 
 -- an entry that doesn't halt a play leaves it open
-pub open-push : (xs : List Entry) (c number bytes : ℕ) (e : Entry) → IsOpenOf xs c number bytes → (Halts number e.command → ⊥)
+pub open-push : {xs : List Entry} {c number bytes : ℕ} (e : Entry) → IsOpenOf xs c number bytes → (Halts number e.command → ⊥)
     → IsOpenOf (xs ++ e ∷ []) c number bytes
-open-push xs c number bytes e its apart =
+open-push {xs} {c} {number} {bytes} e its apart =
     let h = halting (state_after xs) number bytes its.can in
     let still : held_as number (next_of (state_after xs) (length xs) e).held ≡ Some h.held =
     found-next (state_after xs) (length xs) number h.held e.command e.answer apart h.is in
@@ -38,7 +38,7 @@ pub record HaltsNone (xs : List Entry) (client : ℕ) (e : Entry) : Type 0 where
 booked-push : (xs : List Entry) (c : ℕ) (client : Client) (e : Entry) → HaltsNone xs c e → IsBooked xs c client → IsBooked (xs ++ e ∷ []) c client
 booked-push xs c Idle e none booked = tt
 booked-push xs c (Playing play) e none booked =
-    open-push xs c play.number (total_bytes play.plan) e booked (λ halts. none.apart play.number halts booked.maker)
+    open-push e booked (λ halts. none.apart play.number halts booked.maker)
 booked-push xs c (Pausing stop) e none booked = tt
 booked-push xs c (Paused rest) e none booked = tt
 
@@ -49,10 +49,10 @@ booked-more xs clients e none booked =
     record { each = λ c d inside. booked-push xs c (get_or clients c d) e (record { apart = λ number halts _. none number halts }) (booked.each c d inside) }
 
 -- a client is put in the place of one, whose play alone an entry may halt
-pub booked-set : (xs : List Entry) (clients : List Client) (c : ℕ) (client : Client) (e : Entry)
+pub booked-set : {xs : List Entry} {clients : List Client} {c : ℕ} {e : Entry} (client : Client)
     → ((d : ℕ) → (d ≡ c → ⊥) → HaltsNone xs d e) → IsBooked (xs ++ e ∷ []) c client → AreBooked xs clients
     → AreBooked (xs ++ e ∷ []) (set clients c client)
-booked-set xs clients c client e others own booked =
+booked-set {xs} {clients} {c} {e} client others own booked =
     record {
       each = λ d none inside. elim (cases_eq d c) [
         | inl same ↦
@@ -74,11 +74,11 @@ quiet-booked xs c (Pausing stop) quiet = tt
 quiet-booked xs c (Paused rest) quiet = tt
 
 -- a client whose play is halted is quiet from then on
-pub booked-halt : (xs : List Entry) (clients : List Client) (c : ℕ) (client : Client) (e : Entry) (number bytes keep : ℕ)
+pub booked-halt : {xs : List Entry} {clients : List Client} {c number bytes keep : ℕ} (client : Client) (e : Entry)
     → e.command ≡ Halt number keep → IsOpenOf xs c number bytes → IsQuiet client → AreBooked xs clients
     → AreBooked (xs ++ e ∷ []) (set clients c client)
-booked-halt xs clients c client e number bytes keep is its quiet booked =
-    booked-set xs clients c client e
+booked-halt {xs} {c} {number} client e is its quiet booked =
+    booked-set client
     (λ d other. record {
       apart = λ n halts maker.
           let H : Command → Type 0 = λ x. Halts n x in
@@ -104,9 +104,9 @@ going-set clients c client own going =
       ];
     }
 
-pub undone-set : (upto : ℕ) (clients : List Client) (c : ℕ) (client : Client) → c < length clients → IsUndone client → AreUndone upto clients
+pub undone-set : {upto : ℕ} {clients : List Client} (c : ℕ) (client : Client) → c < length clients → IsUndone client → AreUndone upto clients
     → AreUndone upto (set clients c client)
-undone-set upto clients c client within own undone =
+undone-set {clients} c client within own undone =
     record {
       each = λ d none inside. elim (cases_eq d c) [
         | inl same ↦

@@ -40,16 +40,18 @@ script-rest [] some none = absurd (some refl)
 script-rest (c ∷ text) some none = script-last c text none
 
 -- one more word was put after those before
-pub words-more : (before after : List (Bor (List ℕ))) (word : Bor (List ℕ)) (rest next : List ℕ) (whole : List (List ℕ)) → after ≡ before ++ word ∷ []
+pub words-more : {after : List (Bor (List ℕ))} {rest next : List ℕ} {whole : List (List ℕ)}
+    (before : List (Bor (List ℕ))) (word : Bor (List ℕ)) → after ≡ before ++ word ∷ []
     → IsCut 32 rest word.now next → texts_at before ++ slice_split is_space rest ≡ whole → texts_at after ++ slice_split is_space next ≡ whole
-words-more before after word rest next whole e cut h =
+words-more {rest} {next} {whole} before word e cut h =
     ap (λ ws. texts_at ws ++ slice_split is_space next) e
     ∙ ap (λ ws. ws ++ slice_split is_space next) (map-append (λ (text : Bor (List ℕ)). text.now) before (word ∷ []))
     ∙ append_assoc (texts_at before) (word.now ∷ []) (slice_split is_space next)
     ∙ ap (λ ws. texts_at before ++ ws) (sym (words-cut rest word.now next cut)) ∙ h
 
-pub words-last : (before after : List (Bor (List ℕ))) (word : Bor (List ℕ)) (whole : List (List ℕ)) → after ≡ before ++ word ∷ []
+pub words-last : {after : List (Bor (List ℕ))} {whole : List (List ℕ)} (before : List (Bor (List ℕ)))
+    (word : Bor (List ℕ)) → after ≡ before ++ word ∷ []
     → All (λ b. b ≢ 32) word.now → texts_at before ++ slice_split is_space word.now ≡ whole → texts_at after ≡ whole
-words-last before after word whole e none h =
+words-last {whole} before word e none h =
     ap texts_at e ∙ map-append (λ (text : Bor (List ℕ)). text.now) before (word ∷ [])
     ∙ ap (λ ws. texts_at before ++ ws) (sym (words-none word.now none)) ∙ h

@@ -24,26 +24,27 @@ flat-push : (texts : List (List ℕ)) (text : List ℕ) → flat_map (λ (t : Li
 flat-push texts text =
     flat_map-append (λ (t : List ℕ). t) texts (text ∷ []) ∙ ap (λ l. flat_map (λ (t : List ℕ). t) texts ++ l) (append-nil text)
 
-pub run-push : (link : Link) (lines : List Line) (line : Line) (before after : List ℕ) (old new : Moment) → HasRun link lines before old
+pub run-push : {link : Link} {lines : List Line} {before after : List ℕ} {old new : Moment} (line : Line) → HasRun link lines before old
     → IsPrinted before after (IsLine link line old new) → HasRun link (lines ++ line ∷ []) after new
-run-push link lines line before after old new run printed = record {
+run-push {link} {lines} {old} {new} line run printed = record {
   texts = run.texts ++ printed.text ∷ [];
   text_is = printed.after_is ∙ ap (λ l. l ++ printed.text) run.text_is ∙ sym (flat-push run.texts printed.text);
   run = run-more link lines run.texts line printed.text _ old new run.run printed.is;
 }
 
-pub run-next : (link here : Link) (lines : List Line) (i : ℕ) (none : Line) (before after : List ℕ) (old new : Moment) → here ≡ link → i < length lines
+pub run-next : {link here : Link} {before after : List ℕ} {old new : Moment} (lines : List Line) (i : ℕ)
+    (none : Line) → here ≡ link → i < length lines
     → HasRun link (take i lines) before old → IsPrinted before after (IsLine here (get_or lines i none) old new) → HasRun link (take (i + 1) lines) after new
-run-next link here lines i none before after old new same inside run printed =
+run-next {link} {here} {before} {after} {old} {new} lines i none same inside run printed =
     let P : Link → Type 0 = λ l. IsPrinted before after (IsLine l (get_or lines i none) old new) in
     let L : List Line → Type 0 = λ ls. HasRun link ls after new in
-    subst L (sym (take_more lines i none inside)) (run-push link (take i lines) (get_or lines i none) before after old new run (subst P same printed))
+    subst L (sym (take_more lines i none inside)) (run-push (get_or lines i none) run (subst P same printed))
 
 -- one line more of the entries' lines
-pub entries-next : (entries : List Entry) (i : ℕ) (none : Entry) (whole before after : List ℕ) → i < length entries
+pub entries-next : {whole after : List ℕ} (entries : List Entry) (i : ℕ) (none : Entry) (before : List ℕ) → i < length entries
     → before ++ entry_lines i (drop i entries) ≡ whole → after ≡ before ++ entry_line i (get_or entries i none)
     → after ++ entry_lines (i + 1) (drop (i + 1) entries) ≡ whole
-entries-next entries i none whole before after inside begun is =
+entries-next {whole} entries i none before inside begun is =
     ap (λ l. l ++ entry_lines (i + 1) (drop (i + 1) entries)) is
     ∙ append_assoc before (entry_line i (get_or entries i none)) (entry_lines (i + 1) (drop (i + 1) entries))
     ∙ ap (λ es. before ++ entry_lines i es) (sym (drop_more entries i none inside)) ∙ begun
@@ -53,18 +54,19 @@ entries-end entries i whole text past is =
     sym (append-nil text) ∙ ap (λ es. text ++ entry_lines i es) (sym (drop_all i entries past)) ∙ is
 
 -- the text of a slot
-pub slot-printed : (old : Moment) (slot sent booked from : ℕ) (ys : List Entry) (before middle after sent-text : List ℕ) → from ≡ length old.entries
+pub slot-printed : {from : ℕ} {ys : List Entry} {middle after : List ℕ} (old : Moment) (slot sent booked : ℕ)
+    (before sent-text : List ℕ) → from ≡ length old.entries
     → ys ≡ old.entries ++ halts_at old slot → middle ≡ before ++ sent-text → after ≡ middle ++ entry_lines from (drop from ys)
     → after ≡ before ++ (sent-text ++ entry_lines (length old.entries) (halts_at old slot))
-slot-printed old slot sent booked from ys before middle after sent-text at y m a =
+slot-printed {from} {ys} old slot sent booked before sent-text at y m a =
     a ∙ ap (λ l. l ++ entry_lines from (drop from ys)) m ∙ ap (λ n. (before ++ sent-text) ++ entry_lines n (drop n ys)) at
     ∙ ap (λ es. (before ++ sent-text) ++ entry_lines (length old.entries) es) (more-entries old.entries ys (halts_at old slot) y)
     ∙ append_assoc before sent-text (entry_lines (length old.entries) (halts_at old slot))
 
 -- a whole day
-pub day-of : (link here : Link) (lines : List Line) (text whole : List ℕ) (m : Moment) (journal : List Entry) → here ≡ link → HasRun here lines text m
+pub day-of : {link here : Link} {lines : List Line} {text whole : List ℕ} {m : Moment} {journal : List Entry} → here ≡ link → HasRun here lines text m
     → whole ≡ text ++ last_lines m → journal ≡ last_journal m → IsDay link lines whole journal
-day-of link here lines text whole m journal same run w j =
+day-of {here} {lines} {text} {whole} {m} same run w j =
     let A : Link → Type 0 = λ l. AreRun l lines run.texts first_moment m in
     record {
       evening = m;

@@ -57,25 +57,26 @@ can-fewer state number bytes keep le can =
     subst P (sym h.is) (h.is_open, omega (arith, le, h.small))
 
 -- a play that may be halted with so many bytes may be with fewer
-fewer : (xs : List Entry) (c number bytes keep : ℕ) → keep ≤ bytes → IsOpenOf xs c number bytes → IsOpenOf xs c number keep
-fewer xs c number bytes keep le its =
+fewer : {xs : List Entry} {c number bytes keep : ℕ} → keep ≤ bytes → IsOpenOf xs c number bytes → IsOpenOf xs c number keep
+fewer {xs} {c} {number} {bytes} {keep} le its =
     record { inside = its.inside; maker = its.maker; can = can-fewer (state_after xs) number bytes keep le its.can }
 
 -- the play of a client that is halted so
-pub open-halt : (xs : List Entry) (c : ℕ) (client : Client) (halt : ClientHalt) → IsGoing client → IsBooked xs c client → IsHaltOf client halt
+pub open-halt : {xs : List Entry} {c : ℕ} {halt : ClientHalt} (client : Client) → IsGoing client → IsBooked xs c client → IsHaltOf client halt
     → IsOpenOf xs c halt.number halt.keep
-open-halt xs c clients.Idle halt going booked is = absurd is
-open-halt xs c (clients.Playing play) halt going booked is =
+open-halt {c} {halt} clients.Idle going booked is = absurd is
+open-halt {xs} {c} {halt} (clients.Playing play) going booked is =
     let O : ℕ → Type 0 = λ n. IsOpenOf xs c n halt.keep in
-    subst O (sym is.0) (fewer xs c play.number (total_bytes play.plan) halt.keep (omega (arith, is.1, going.whole)) booked)
-open-halt xs c (clients.Pausing stop) halt going booked is = absurd is
-open-halt xs c (clients.Paused rest) halt going booked is = absurd is
+    subst O (sym is.0) (fewer (omega (arith, is.1, going.whole)) booked)
+open-halt {c} {halt} (clients.Pausing stop) going booked is = absurd is
+open-halt {c} {halt} (clients.Paused rest) going booked is = absurd is
 
 -- a client's play was halted
-pub day-halted : (slot_units heard : ℕ) (xs ys : List Entry) (cs ds : List Client) (c number bytes keep : ℕ) (client : Client) (e : Entry)
+pub day-halted : {slot_units heard : ℕ} {xs ys : List Entry} {cs ds : List Client} {c number bytes keep : ℕ}
+    (client : Client) (e : Entry)
     → IsSoundDay slot_units heard xs cs → ys ≡ xs ++ e ∷ [] → ds ≡ set cs c client → e.command ≡ Halt number keep → IsOpenOf xs c number bytes
     → c < length cs → IsGoing client → IsUndone client → IsQuiet client → IsTimed heard client → IsSoundDay slot_units heard ys ds
-day-halted slot_units heard xs ys cs ds c number bytes keep client e day y d is its inside going undone quiet timed =
+day-halted {slot_units} {heard} {xs} {ys} {cs} {c} {number} {keep} client e day y d is its inside going undone quiet timed =
     let D : List Client → Type 0 = λ l. IsSoundDay slot_units heard ys l in
     let Y : List Entry → Type 0 = λ l. IsSoundDay slot_units heard l (set cs c client) in
     let U : ℕ → Type 0 = λ n. AreUndone n (set cs c client) in
@@ -86,15 +87,15 @@ day-halted slot_units heard xs ys cs ds c number bytes keep client e day y d is 
       heard_fits = day.heard_fits;
       now_heard = omega (arith, halted-now xs e number keep is, day.now_heard);
       going = going-set cs c client going day.going;
-      undone = subst U (sym (length-set cs c client)) (undone-set (length cs) cs c client inside undone day.undone);
-      booked = booked-halt xs cs c client e number bytes keep is its quiet day.booked;
+      undone = subst U (sym (length-set cs c client)) (undone-set c client inside undone day.undone);
+      booked = booked-halt client e is its quiet day.booked;
       timed = timed-set heard cs c client timed day.timed;
     }))
 
 -- an entry was made that halts no play
-pub day-noted : (slot_units heard : ℕ) (xs ys : List Entry) (cs : List Client) (e : Entry) → IsSoundDay slot_units heard xs cs → ys ≡ xs ++ e ∷ []
+pub day-noted : {slot_units heard : ℕ} {xs ys : List Entry} {cs : List Client} (e : Entry) → IsSoundDay slot_units heard xs cs → ys ≡ xs ++ e ∷ []
     → ((number : ℕ) → Halts number e.command → ⊥) → (state_after (xs ++ e ∷ [])).now ≤ heard → IsSoundDay slot_units heard ys cs
-day-noted slot_units heard xs ys cs e day y none now =
+day-noted {slot_units} {heard} {xs} {cs} e day y none now =
     let Y : List Entry → Type 0 = λ l. IsSoundDay slot_units heard l cs in
     subst Y (sym y) (record {
       count = day.count;
@@ -109,11 +110,12 @@ day-noted slot_units heard xs ys cs e day y none now =
     })
 
 -- a client's play was admitted
-pub day-played : (slot_units heard : ℕ) (xs ys : List Entry) (cs ds : List Client) (c slot : ℕ) (segments : List Segment) (play : ClientPlay) (e : Entry)
+pub day-played : {slot_units heard : ℕ} {xs ys : List Entry} {cs ds : List Client} {c slot : ℕ}
+    {segments : List Segment} {play : ClientPlay} (e : Entry)
     → IsSoundDay slot_units heard xs cs → ys ≡ xs ++ e ∷ [] → ds ≡ set cs c (clients.Playing play) → e.command ≡ Play slot segments → slot ≤ heard
     → e.maker ≡ c → play.number ≡ length xs → CanHalt (state_after (xs ++ e ∷ [])) play.number (total_bytes play.plan)
     → c < length cs → IsPlaying play → IsUndone (clients.Playing play) → IsTimed heard (clients.Playing play) → IsSoundDay slot_units heard ys ds
-day-played slot_units heard xs ys cs ds c slot segments play e day y d is le maker number can inside playing undone timed =
+day-played {slot_units} {heard} {xs} {ys} {cs} {c} {slot} {segments} {play} e day y d is le maker number can inside playing undone timed =
     let D : List Client → Type 0 = λ l. IsSoundDay slot_units heard ys l in
     let Y : List Entry → Type 0 = λ l. IsSoundDay slot_units heard l (set cs c (clients.Playing play)) in
     let U : ℕ → Type 0 = λ n. AreUndone n (set cs c (clients.Playing play)) in
@@ -133,7 +135,7 @@ day-played slot_units heard xs ys cs ds c slot segments play e day y d is le mak
       heard_fits = day.heard_fits;
       now_heard = omega (arith, played-now xs e slot segments is, day.now_heard, le);
       going = going-set cs c (clients.Playing play) playing day.going;
-      undone = subst U (sym (length-set cs c (clients.Playing play))) (undone-set (length cs) cs c (clients.Playing play) inside undone day.undone);
-      booked = booked-set xs cs c (clients.Playing play) e (λ d other. record { apart = λ n halts _. none n halts }) its day.booked;
+      undone = subst U (sym (length-set cs c (clients.Playing play))) (undone-set c (clients.Playing play) inside undone day.undone);
+      booked = booked-set (clients.Playing play) (λ d other. record { apart = λ n halts _. none n halts }) its day.booked;
       timed = timed-set heard cs c (clients.Playing play) timed day.timed;
     }))

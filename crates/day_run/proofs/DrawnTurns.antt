@@ -17,16 +17,16 @@ HasDone link old new text = IsTold [] old new text ⊎ ((line : Line) × (IsDraw
 below : (n m : ℕ) → 0 < m → n % m < m
 below n m some = mod-lt n some
 
-drawn-done : (link : Link) (words : ℕ → ℕ) (client : ℕ) (seat : Seat) (old new : Moment) (text : List ℕ) → client < 256
+drawn-done : {link : Link} {client : ℕ} {old new : Moment} {text : List ℕ} (words : ℕ → ℕ) (seat : Seat) → client < 256
     → IsDone link words client seat old new text → HasDone link old new text
-drawn-done link words client Idle old new text small is =
+drawn-done {client} {new} {text} words Idle small is =
     let source = below (words 0) 16 (omega arith) in
     let buffer = below (words 1) 16384 (omega arith) in
     let delay = below (words 2) 26 (omega arith) in
     inr (Play client (words 0 % 16) (16384 + words 1 % 16384) (words 2 % 26), ((small, source, omega arith, omega (arith, buffer), omega (arith, delay)), is))
-drawn-done link words client (Playing play) old new text small is = inr (Pause client, (small, is))
-drawn-done link words client (Pausing stop rest) old new text small is = inl is
-drawn-done link words client (Paused rest) old new text small is = inr (Resume client, (small, is))
+drawn-done {client} {new} {text} words (Playing play) small is = inr (Pause client, (small, is))
+drawn-done {new} {text} words (Pausing stop rest) small is = inl is
+drawn-done {client} {new} {text} words (Paused rest) small is = inr (Resume client, (small, is))
 
 pub drawn-turn : (link : Link) (words : ℕ → ℕ) (turn : Turn) → IsTurn link words turn → IsDrawnTurn link turn
 drawn-turn link words turn is =
@@ -35,5 +35,5 @@ drawn-turn link words turn is =
       later = words 0 % 4;
       few = omega (arith, later);
       mid_is = is.slot;
-      done = drawn-done link (after 2 words) (client_of words) (seat_in words turn) turn.mid turn.new turn.text (below (words 1) 256 (omega arith)) is.done;
+      done = drawn-done (after 2 words) (seat_in words turn) (below (words 1) 256 (omega arith)) is.done;
     }

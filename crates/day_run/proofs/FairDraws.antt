@@ -12,10 +12,11 @@ use Rattle.day_run.specs.Seats.{trace_track}
 use Rattle.day_run.specs.Tracks.{reel_track}
 
 -- one trace more
-pub sizes-next : (words left : ℕ → ℕ) (k pictures : ℕ) (traces more : List (Vec ℕ)) (trace : Vec ℕ) → more ≡ traces ++ trace ∷ [] → left ≡ after_traces k words
+pub sizes-next : {left : ℕ → ℕ} {pictures : ℕ} {more : List (Vec ℕ)} (words : ℕ → ℕ) (k : ℕ) (traces : List (Vec ℕ))
+    (trace : Vec ℕ) → more ≡ traces ++ trace ∷ [] → left ≡ after_traces k words
     → pictures ≡ 100 + left 0 % 101 → trace.items ≡ sizes_of (after 1 left) pictures → sizes_in traces ≡ traces_drawn k words
     → sizes_in more ≡ traces_drawn (k + 1) words
-sizes-next words left k pictures traces more trace m l p t before =
+sizes-next {left} {more} words k traces trace m l p t before =
     let own : trace.items ≡ trace_drawn (after_traces k words) =
     t ∙ ap (sizes_of (after 1 left)) p ∙ ap (λ (w : ℕ → ℕ). sizes_of (after 1 w) (100 + w 0 % 101)) l in
     let at : 0 + k ≡ k = omega arith in
@@ -27,9 +28,9 @@ after-more : (words : ℕ → ℕ) (k : ℕ) → after_traces (k + 1) words ≡ 
 unfolding after_traces
 after-more words k = ap (λ n. after_traces n words) (add-one k)
 
-pub left-next : (words left mid next : ℕ → ℕ) (k pictures : ℕ) → left ≡ after_traces k words → mid ≡ after 1 left → pictures ≡ 100 + left 0 % 101 → next ≡ after pictures mid
+pub left-next : {left mid next : ℕ → ℕ} {pictures : ℕ} (words : ℕ → ℕ) (k : ℕ) → left ≡ after_traces k words → mid ≡ after 1 left → pictures ≡ 100 + left 0 % 101 → next ≡ after pictures mid
     → next ≡ after_traces (k + 1) words
-left-next words left mid next k pictures l m p n =
+left-next {left} {next} {pictures} words k l m p n =
     n ∙ ap (after pictures) m ∙ ap (λ c. after c (after 1 left)) p ∙ ap (λ (w : ℕ → ℕ). after (100 + w 0 % 101) (after 1 w)) l ∙ sym (after-more words k)
 
 pub left-none : (words : ℕ → ℕ) → words ≡ after_traces 0 words
@@ -37,11 +38,11 @@ unfolding after_traces
 left-none words = refl
 
 -- one reel more
-pub reels-next : (reels more : List Reel) (reel : Reel) (traces : List (Vec ℕ)) (i : ℕ) (none : Vec ℕ) → i < length traces → more ≡ reels ++ reel ∷ []
+pub reels-next : {more : List Reel} (reels : List Reel) (reel : Reel) (traces : List (Vec ℕ)) (i : ℕ) (none : Vec ℕ) → i < length traces → more ≡ reels ++ reel ∷ []
     → reel_track 14400 reel ≡ trace_track 14400 (get_or traces i none).items
     → map (reel_track 14400) reels ≡ map (trace_track 14400) (sizes_in (take i traces))
     → map (reel_track 14400) more ≡ map (trace_track 14400) (sizes_in (take (i + 1) traces))
-reels-next reels more reel traces i none inside m own before =
+reels-next {more} reels reel traces i none inside m own before =
     ap (map (reel_track 14400)) m ∙ map-append (reel_track 14400) reels (reel ∷ []) ∙ ap (λ ts. ts ++ reel_track 14400 reel ∷ []) before
     ∙ ap (λ t. map (trace_track 14400) (sizes_in (take i traces)) ++ t ∷ []) own
     ∙ sym (map-append (trace_track 14400) (sizes_in (take i traces)) ((get_or traces i none).items ∷ []))

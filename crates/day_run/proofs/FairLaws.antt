@@ -38,23 +38,23 @@ pub turn-ready : (link : Link) (words : ℕ → ℕ) (turn : Turn) → IsTurn li
 turn-ready link words turn is ready =
     let R : Moment → Type 0 = λ m. IsReady m in
     let mid : IsReady turn.mid = subst R (sym is.slot) (later-ready turn.old (words 0 % 4) ready) in
-    done-ready link (after 2 words) (client_of words) _ turn.mid turn.new turn.text (omega arith) refl is.done mid
+    done-ready link (after 2 words) turn.text (omega arith) refl is.done mid
 
 turn-balanced : (link : Link) (words : ℕ → ℕ) (turn : Turn) → IsTurn link words turn → IsReady turn.old → turn_sent turn ≡ turn_booked turn
 turn-balanced link words turn is ready =
     let M : Moment → Type 0 = λ m. turn.old.heard ≤ m.heard in
     ready-sent turn.old turn.mid.heard (subst M (sym is.slot) (later-heard turn.old (words 0 % 4))) ready
 
-pub turns-balanced : (link : Link) (words : ℕ → ℕ) (turns : List Turn) (old new : Moment) → AreTurns link words turns old new → IsReady old
+pub turns-balanced : {old : Moment} (link : Link) (words : ℕ → ℕ) (turns : List Turn) (new : Moment) → AreTurns link words turns old new → IsReady old
     → sum_by turn_sent turns ≡ sum_by turn_booked turns
-turns-balanced link words [] old new run ready = refl
-turns-balanced link words (turn ∷ turns) old new run ready =
+turns-balanced link words [] new run ready = refl
+turns-balanced link words (turn ∷ turns) new run ready =
     let R : Moment → Type 0 = λ m. IsReady m in
     let begun : IsReady turn.old = subst R (sym run.0) ready in
     omega (
       arith,
       turn-balanced link words turn run.1.0 begun,
-      turns-balanced link (after_turn words turn) turns turn.new new run.1.1 (turn-ready link words turn run.1.0 begun),
+      turns-balanced link (after_turn words turn) turns new run.1.1 (turn-ready link words turn run.1.0 begun),
       sum_by-cons turn_sent turn turns,
       sum_by-cons turn_booked turn turns,
     )
@@ -71,24 +71,24 @@ grown-on : (a b c : List Entry) → HasGrown a b → HasGrown b c → HasGrown a
 grown-on a b c one two =
     record { made = one.made ++ two.made; new_is = two.new_is ∙ ap (λ l. l ++ two.made) one.new_is ∙ append_assoc a one.made two.made }
 
-asked-grown : (link : Link) (c : ℕ) (rest : Rest) (old new : Moment) (text : List ℕ) → IsAsked link c rest old new text → HasGrown old.entries new.entries
-asked-grown link c rest old new text (inl faulty) = kept-grown old new faulty.told.kept
-asked-grown link c rest old new text (inr planned) = elim planned.done [
+asked-grown : {link : Link} {c : ℕ} {rest : Rest} {old new : Moment} {text : List ℕ} → IsAsked link c rest old new text → HasGrown old.entries new.entries
+asked-grown {c} {old} {new} {text} (inl faulty) = kept-grown old new faulty.told.kept
+asked-grown {c} {old} {new} {text} (inr planned) = elim planned.done [
   | inl full ↦ kept-grown old new full.told.kept
   | inr made ↦ record { made = _; new_is = ap (λ (m : Moment). m.entries) made.noted.new_is }
 ]
 
 play-grown : (link : Link) (c : ℕ) (rest : Rest) (seat : Seat) (old new : Moment) (text : List ℕ) → IsPlayLine link c rest seat old new text → HasGrown old.entries new.entries
-play-grown link c rest Idle old new text is = asked-grown link c rest old new text is
+play-grown link c rest Idle old new text is = asked-grown is
 play-grown link c rest (Playing play) old new text is = kept-grown old new is.kept
 play-grown link c rest (Pausing stop left) old new text is = kept-grown old new is.kept
-play-grown link c rest (Paused left) old new text is = asked-grown link c rest old new text is
+play-grown link c rest (Paused left) old new text is = asked-grown is
 
 resume-grown : (link : Link) (c : ℕ) (seat : Seat) (old new : Moment) (text : List ℕ) → IsResumeLine link c seat old new text → HasGrown old.entries new.entries
 resume-grown link c Idle old new text is = kept-grown old new is.kept
 resume-grown link c (Playing play) old new text is = kept-grown old new is.kept
 resume-grown link c (Pausing stop rest) old new text is = kept-grown old new is.kept
-resume-grown link c (Paused rest) old new text is = asked-grown link c rest old new text is
+resume-grown link c (Paused rest) old new text is = asked-grown is
 
 pause-grown : (link : Link) (c : ℕ) (seat : Seat) (old new : Moment) (text : List ℕ) → IsPauseLine link c seat old new text → HasGrown old.entries new.entries
 pause-grown link c Idle old new text is = kept-grown old new is.kept
@@ -128,24 +128,25 @@ most-of : (f : ℕ → ℕ) (most top : ℕ) (ts : List ℕ) → top ≤ most �
 most-of f most top [] small each = small
 most-of f most top (t ∷ ts) small each = most-of f most (max top (f t)) ts (omega (arith, small, each t)) each
 
-moment-within : (steps : List CapStep) (journal : List Entry) (m : Moment) (most slot : ℕ) → IsLegal steps journal → HasGrown m.entries journal
+moment-within : {steps : List CapStep} {journal : List Entry} (m : Moment) (most slot : ℕ) → IsLegal steps journal → HasGrown m.entries journal
     → ((t : ℕ) → capacity_at steps t ≤ most) → most_up_to m slot ≤ most
-moment-within steps journal m most slot legal grown capacity =
+moment-within {steps} {journal} m most slot legal grown capacity =
     most-of (booked_in (state_after m.entries)) most 0 (range_with_len (m.heard + 1) (slot - m.heard)) (omega arith)
     (λ t.
     let front : take (length m.entries) journal ≡ m.entries = ap (take (length m.entries)) grown.new_is ∙ take_at m.entries grown.made (length m.entries) refl in
     let E : List Entry → Type 0 = λ es. booked_after es t ≤ capacity_at steps t in
     omega (arith, subst E front ((sound-after steps (take (length m.entries) journal) (legal-take steps journal (length m.entries) legal)).within.each t), capacity t))
 
-pub turns-within : (link : Link) (words : ℕ → ℕ) (turns : List Turn) (old new : Moment) (steps : List CapStep) (journal : List Entry) (most top : ℕ)
+pub turns-within : {steps : List CapStep} {journal : List Entry} (link : Link) (words : ℕ → ℕ) (turns : List Turn)
+    (old new : Moment) (most top : ℕ)
     → AreTurns link words turns old new → IsLegal steps journal → HasGrown new.entries journal → ((t : ℕ) → capacity_at steps t ≤ most) → top ≤ most
     → fold max top (map turn_peak turns) ≤ most
-turns-within link words [] old new steps journal most top run legal grown capacity small = small
-turns-within link words (turn ∷ turns) old new steps journal most top run legal grown capacity small =
+turns-within {steps} link words [] old new most top run legal grown capacity small = small
+turns-within {steps} {journal} link words (turn ∷ turns) old new most top run legal grown capacity small =
     let later = turns-grown link (after_turn words turn) turns turn.new new run.1.1 in
     let from-old = grown-on turn.old.entries turn.new.entries journal (turn-grown link words turn run.1.0) (grown-on turn.new.entries new.entries journal later grown) in
-    let here : turn_peak turn ≤ most = moment-within steps journal turn.old most turn.mid.heard legal from-old capacity in
-    turns-within link (after_turn words turn) turns turn.new new steps journal most (max top (turn_peak turn)) run.1.1 legal grown capacity (omega (arith, small, here))
+    let here : turn_peak turn ≤ most = moment-within turn.old most turn.mid.heard legal from-old capacity in
+    turns-within link (after_turn words turn) turns turn.new new most (max top (turn_peak turn)) run.1.1 legal grown capacity (omega (arith, small, here))
 
 pub evening-grown : (evening : Moment) (journal : List Entry) → journal ≡ last_journal evening → HasGrown evening.entries journal
 evening-grown evening journal is = record { made = last_halts evening; new_is = is }
@@ -178,10 +179,10 @@ turns-heard link words (turn ∷ turns) old new run =
       turns-heard link (after_turn words turn) turns turn.new new run.1.1,
     )
 
-pub turns-ready : (link : Link) (words : ℕ → ℕ) (turns : List Turn) (old new : Moment) → AreTurns link words turns old new → IsReady old → IsReady new
-turns-ready link words [] old new run ready =
+pub turns-ready : {old new : Moment} (link : Link) (words : ℕ → ℕ) (turns : List Turn) → AreTurns link words turns old new → IsReady old → IsReady new
+turns-ready {new} link words [] run ready =
     let R : Moment → Type 0 = λ m. IsReady m in
     subst R (sym run) ready
-turns-ready link words (turn ∷ turns) old new run ready =
+turns-ready {new} link words (turn ∷ turns) run ready =
     let R : Moment → Type 0 = λ m. IsReady m in
-    turns-ready link (after_turn words turn) turns turn.new new run.1.1 (turn-ready link words turn run.1.0 (subst R (sym run.0) ready))
+    turns-ready link (after_turn words turn) turns run.1.1 (turn-ready link words turn run.1.0 (subst R (sym run.0) ready))

@@ -21,15 +21,15 @@ fair-line steps number plays text journal fair legal =
     let turns = fair.turns in
     let none : first_moment.heard ≡ 0 = refl in
     let whole : fair.evening.heard - 0 ≡ fair.evening.heard = omega arith in
-    let past = fair-past link words turns fair.evening journal fair.run fair.journal_is (turns-ready link words turns first_moment fair.evening fair.run morning-ready) in
+    let past = fair-past link words fair.run fair.journal_is (turns-ready link words turns fair.run morning-ready) in
     record {
       counts = counts_of turns fair.evening;
       text_is = fair.text_is;
       turns_are = fair.count;
       last = omega (arith, turns-heard link words turns first_moment fair.evening fair.run, fair.count, none);
-      balanced = turns-balanced link words turns first_moment fair.evening fair.run morning-ready;
+      balanced = turns-balanced link words turns fair.evening fair.run morning-ready;
       booked_is = past.sum_is ∙ ap (λ k. sum_by (booked_after journal) (range_with_len 1 k)) whole;
       peak_is = past.peak_is ∙ ap (λ k. fold max 0 (map (booked_after journal) (range_with_len 1 k))) whole;
       within = λ most capacity.
-          turns-within link words turns first_moment fair.evening steps journal most 0 fair.run legal (evening-grown fair.evening journal fair.journal_is) capacity (omega arith);
+          turns-within link words turns first_moment fair.evening most 0 fair.run legal (evening-grown fair.evening journal fair.journal_is) capacity (omega arith);
     }

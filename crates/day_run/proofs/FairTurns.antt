@@ -30,13 +30,13 @@ use Rattle.day_run.proofs.Sweeps.{seat-at}
 use Rattle.day_run.proofs.Peaks.{peak-push}
 
 -- ---- what a client does keeps the balance
-pub done-ready : (link : Link) (words : ℕ → ℕ) (c : ℕ) (seat : Seat) (old new : Moment) (text : List ℕ) → c < 256 → get_or old.seats c Idle ≡ seat
+pub done-ready : {c : ℕ} {seat : Seat} {old new : Moment} (link : Link) (words : ℕ → ℕ) (text : List ℕ) → c < 256 → get_or old.seats c Idle ≡ seat
     → IsDone link words c seat old new text → IsReady old → IsReady new
-done-ready link words c Idle old new text client at is ready =
-    play-ready link c (rest_at link (words 0 % 16) (16384 + words 1 % 16384) (words 2 % 26)) (seat_at old c) old new text client refl is ready
-done-ready link words c (Playing play) old new text client at is ready = pause-ready link c (seat_at old c) old new text client refl is ready
-done-ready link words c (Pausing stop rest) old new text client at is ready = ready-kept old new is.kept ready
-done-ready link words c (Paused rest) old new text client at is ready = resume-ready link c (seat_at old c) old new text client refl is ready
+done-ready {c} {seat = Idle} {new} link words text client at is ready =
+    play-ready link (rest_at link (words 0 % 16) (16384 + words 1 % 16384) (words 2 % 26)) text client refl is ready
+done-ready {c} {seat = Playing play} {new} link words text client at is ready = pause-ready link text client refl is ready
+done-ready {c} {seat = Pausing stop rest} {old} {new} link words text client at is ready = ready-kept old new is.kept ready
+done-ready {c} {seat = Paused rest} {new} link words text client at is ready = resume-ready link text client refl is ready
 
 -- ---- a slot, or none
 pub later-none : (old new : Moment) (later : ℕ) → later ≡ 0 → new ≡ old → new ≡ at_later old later
@@ -52,9 +52,9 @@ later-some old new later some is =
     ] in
     is ∙ sym (cond-false (later == 0) old (at_slot old (old.heard + later)) other)
 
-plain-counts : (c : Counts) (last s b p : ℕ) → c.last ≡ last → s ≡ 0 → b ≡ 0 → p ≡ 0
+plain-counts : {c : Counts} {last s b p : ℕ} → c.last ≡ last → s ≡ 0 → b ≡ 0 → p ≡ 0
     → c ≡ record { turns = c.turns; full = c.full; last = last; sent = c.sent + s; booked = c.booked + b; peak = max c.peak p }
-plain-counts c last s b p l none-sent none-booked none-peak =
+plain-counts {c} {last} {s} {b} {p} l none-sent none-booked none-peak =
     let sent : c.sent ≡ c.sent + s = omega (arith, none-sent) in
     let booked : c.booked ≡ c.booked + b = omega (arith, none-booked) in
     let peak : c.peak ≡ max c.peak p = omega (arith, none-peak) in
@@ -67,18 +67,19 @@ pub same-counts : (counts : Counts) (moment : Moment) → counts.last ≡ moment
 same-counts counts moment last =
     let f = booked_in (state_after moment.entries) in
     let none : moment.heard - moment.heard ≡ 0 = omega arith in
-    plain-counts counts moment.heard (sent_up_to moment moment.heard) (booked_up_to moment moment.heard) (most_up_to moment moment.heard) last
+    plain-counts last
     (sum-none moment.heard moment.seats) (ap (λ n. sum_by f (range_with_len (moment.heard + 1) n)) none)
     (ap (λ n. fold max 0 (map f (range_with_len (moment.heard + 1) n))) none)
 
 -- ---- one turn
-pub turn-of : (link here : Link) (w w1 w2 w3 : ℕ → ℕ) (later client : ℕ) (turn : Turn) (c c1 c2 : Counts) (full : Bool) → here ≡ link → w1 ≡ after 1 w
+pub turn-of : {link here : Link} {w w1 w2 w3 : ℕ → ℕ} {later client : ℕ} {c c1 c2 : Counts} {full : Bool}
+    (turn : Turn) → here ≡ link → w1 ≡ after 1 w
     → w2 ≡ after 1 w1 → later ≡ w 0 % 4 → client ≡ w1 0 % 256 → turn.mid ≡ at_later turn.old later
     → IsDone here w2 client (seat_at turn.mid client) turn.mid turn.new turn.text → w3 ≡ after (words_for (seat_at turn.mid client)) w2
     → c1 ≡ with_slot c turn.old turn.mid.heard → is_full_line turn.text ≡ full
     → c2 ≡ record { turns = c1.turns + 1; full = c1.full + cond full 1 0; last = c1.last; sent = c1.sent; booked = c1.booked; peak = c1.peak }
     → HasTurned link w w3 c c2 turn.old turn.new
-turn-of link here w w1 w2 w3 later client turn c c1 c2 full same one two l who slot done left n told m =
+turn-of {here} {w} {w2} {later} {client} {c} {full} turn same one two l who slot done left n told m =
     let who-is : client ≡ w 1 % 256 = who ∙ ap (λ (f : ℕ → ℕ). f 0 % 256) one ∙ ap (λ k. k % 256) (after-at 1 w 0) in
     let second : w2 ≡ after 2 w = two ∙ ap (after 1) one ∙ after-after 1 1 w in
     let D : ℕ → Type 0 = λ k. IsDone here w2 k (seat_at turn.mid k) turn.mid turn.new turn.text in
@@ -98,11 +99,11 @@ turn-of link here w w1 w2 w3 later client turn c c1 c2 full same one two l who s
     }
 
 -- ---- turns
-turns-more : (link : Link) (words : ℕ → ℕ) (turns : List Turn) (turn : Turn) (old mid : Moment) → AreTurns link words turns old mid → turn.old ≡ mid
+turns-more : {link : Link} {turn : Turn} {mid : Moment} (words : ℕ → ℕ) (turns : List Turn) (old : Moment) → AreTurns link words turns old mid → turn.old ≡ mid
     → IsTurn link (after_turns words turns) turn → AreTurns link words (turns ++ turn ∷ []) old turn.new
-turns-more link words [] turn old mid run at is = (at ∙ run, (is, refl))
-turns-more link words (t ∷ turns) turn old mid run at is =
-    (run.0, (run.1.0, turns-more link (after_turn words t) turns turn t.new mid run.1.1 at is))
+turns-more words [] old run at is = (at ∙ run, (is, refl))
+turns-more {link} {turn} {mid} words (t ∷ turns) old run at is =
+    (run.0, (run.1.0, turns-more {link = link} {turn = turn} {mid = mid} (after_turn words t) turns t.new run.1.1 at is))
 
 after-more : (words : ℕ → ℕ) (turns : List Turn) (turn : Turn) → after_turns words (turns ++ turn ∷ []) ≡ after_turn (after_turns words turns) turn
 after-more words [] turn = refl
@@ -127,9 +128,9 @@ pub come-none : (link : Link) (words : ℕ → ℕ) (counts : Counts) (moment : 
 come-none link words counts moment is c =
     record { turns = []; count = refl; run = is; left_is = refl; counts_are = c ∙ ap (counts_of []) (sym is) }
 
-pub come-next : (link here : Link) (words left next : ℕ → ℕ) (n : ℕ) (counts more : Counts) (old new : Moment) → here ≡ link → HasCome link words left n counts old
+pub come-next : {link here : Link} {words left next : ℕ → ℕ} {n : ℕ} {counts more : Counts} {old new : Moment} → here ≡ link → HasCome link words left n counts old
     → HasTurned here left next counts more old new → more.last ≡ new.heard → HasCome link words next (n + 1) more new
-come-next link here words left next n counts more old new same come turned last =
+come-next {link} {here} {words} {left} {next} {more} {old} {new} same come turned last =
     let turn = turned.turn in
     let all = come.turns ++ turn ∷ [] in
     let heard : turn.mid.heard ≡ new.heard = sym (ap (λ (c : Counts). c.last) turned.counts_are) ∙ last in
@@ -140,16 +141,16 @@ come-next link here words left next n counts more old new same come turned last 
     record {
       turns = all;
       count = length-append come.turns (turn ∷ []) ∙ ap (λ k. k + 1) come.count;
-      run = subst M turned.new_is (turns-more link words come.turns turn first_moment old come.run turned.old_is is);
+      run = subst M turned.new_is (turns-more words come.turns first_moment come.run turned.old_is is);
       left_is = turned.left_is ∙ ap (λ (w : ℕ → ℕ). after_turn w turn) come.left_is ∙ sym (after-more words come.turns turn);
       counts_are = turned.counts_are ∙ ap (λ (c : Counts). with_turn c turn) come.counts_are ∙ counts-more come.turns turn old new heard;
     }
 
 -- a day of turns
-pub fair-of : (here : Link) (steps : List CapStep) (number plays : ℕ) (words left : ℕ → ℕ) (counts : Counts) (made : Made) (evening : Moment) (text : List ℕ)
-    (journal : List Entry) → here ≡ fair_link steps (words_of number) → words ≡ after_traces 16 (words_of number) → HasCome here words left plays counts evening
+pub fair-of : {here : Link} {steps : List CapStep} {number plays : ℕ} {words left : ℕ → ℕ} {counts : Counts}
+    {made : Made} {evening : Moment} {text : List ℕ} {journal : List Entry} → here ≡ fair_link steps (words_of number) → words ≡ after_traces 16 (words_of number) → HasCome here words left plays counts evening
     → journal ≡ last_journal evening → made ≡ made_of journal → text ≡ fair_text counts made → IsFair steps number plays text journal
-fair-of here steps number plays words left counts made evening text journal same w come j m t =
+fair-of {here} {steps} {number} {words} {left} {made} {evening} {text} same w come j m t =
     let L : Link → Type 0 = λ x. AreTurns x words come.turns first_moment evening in
     let W : (ℕ → ℕ) → Type 0 = λ x. AreTurns (fair_link steps (words_of number)) x come.turns first_moment evening in
     record {
@@ -168,18 +169,19 @@ second-word w w1 one = ap (λ (f : ℕ → ℕ). f 0) one ∙ after-at 1 w 0
 pub third-word : (w w1 w2 : ℕ → ℕ) → w1 ≡ after 1 w → w2 ≡ after 1 w1 → w2 0 ≡ w 2
 third-word w w1 w2 one two = ap (λ (f : ℕ → ℕ). f 0) (two ∙ ap (after 1) one ∙ after-after 1 1 w) ∙ after-at 2 w 0
 
-pub three-left : (w w1 w2 w3 : ℕ → ℕ) → w1 ≡ after 1 w → w2 ≡ after 1 w1 → w3 ≡ after 1 w2 → w3 ≡ after 3 w
-three-left w w1 w2 w3 one two three = three ∙ ap (after 1) (two ∙ ap (after 1) one ∙ after-after 1 1 w) ∙ after-after 1 2 w
+pub three-left : {w1 w2 w3 : ℕ → ℕ} (w : ℕ → ℕ) → w1 ≡ after 1 w → w2 ≡ after 1 w1 → w3 ≡ after 1 w2 → w3 ≡ after 3 w
+three-left w one two three = three ∙ ap (after 1) (two ∙ ap (after 1) one ∙ after-after 1 1 w) ∙ after-after 1 2 w
 
 pub ok-of : {A E : Type 0} (r : Result A E) (X : Type 0) → X → OnOk r X
 ok-of (Ok a) X x = x
 ok-of (Err e) X x = tt
 
-pub line-drawn : (r : Result Told NoMemory) (link : Link) (client : ℕ) (seat : Seat) (old new : Moment) (entries : List Entry) (s b d source buffer delay : ℕ)
+pub line-drawn : {s b d source buffer delay : ℕ} (r : Result Told NoMemory) (link : Link) (client : ℕ) (seat : Seat)
+    (old new : Moment) (entries : List Entry)
     → s ≡ source → b ≡ buffer → d ≡ delay
     → IfOk r (λ told. IsPlayLine link client (rest_at link s b d) seat old new (told_text entries told))
     → IfOk r (λ told. IsPlayLine link client (rest_at link source buffer delay) seat old new (told_text entries told))
-line-drawn r link client seat old new entries s b d source buffer delay es eb ed is =
+line-drawn {s} {b} {d} {source} {buffer} {delay} r link client seat old new entries es eb ed is =
     let P : Rest → Type 0 = λ rest. IfOk r (λ told. IsPlayLine link client rest seat old new (told_text entries told)) in
     let e : rest_at link s b d ≡ rest_at link source buffer delay =
     ap (λ k. rest_at link k b d) es ∙ ap (λ k. rest_at link source k d) eb ∙ ap (rest_at link source buffer) ed in
@@ -190,9 +192,9 @@ none-left : (w : ℕ → ℕ) (n : ℕ) → n ≡ 0 → w ≡ after n w
 none-left w n none = sym (ap (λ k. after k w) none ∙ after-zero w)
 
 -- a client for whom no word is drawn
-pub no-words : (w : ℕ → ℕ) (clients : List Client) (c : ℕ) (client : Client) → length clients ≡ 256 → c < 2 ^ 8 → client ≡ get_or clients c client
+pub no-words : {w : ℕ → ℕ} {client : Client} (clients : List Client) (c : ℕ) → length clients ≡ 256 → c < 2 ^ 8 → client ≡ get_or clients c client
     → words_for (seat_of client) ≡ 0 → w ≡ after (words_for (get_or (map seat_of clients) c Idle)) w
-no-words w clients c client count small at none =
+no-words {w} {client} clients c count small at none =
     let inside : c < length clients = omega (arith, count, small) in
     none-left w _ (ap words_for (seat-at clients c client inside ∙ sym (ap seat_of at)) ∙ none)
 

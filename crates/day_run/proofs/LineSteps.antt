@@ -38,9 +38,9 @@ pub told-entry : (place : ℕ) (xs ys : List Entry) (e : Entry) → place ≡ le
 told-entry place xs ys e at y =
     ap (λ n. entry_lines n (drop n ys)) at ∙ ap (entry_lines (length xs)) (more-entries xs ys (e ∷ []) y) ∙ append-nil (entry_line (length xs) e)
 
-pub told-full : (link : Link) (places : ℕ) (old new : Moment) (full : Full) → link.limit < places_taken old.entries + places
+pub told-full : {link : Link} {places : ℕ} {old new : Moment} (full : Full) → link.limit < places_taken old.entries + places
     → full.entries ≡ length old.entries → full.live ≡ open_count old.entries → new ≡ old → IsFull link places old new (full_text full)
-told-full link places old new full above entries opened kept = record {
+told-full {old} {new} full above entries opened kept = record {
   full = above;
   told = record {
     kept = kept;
@@ -50,10 +50,10 @@ told-full link places old new full above entries opened kept = record {
 }
 
 -- an entry was made
-pub noted : (link : Link) (old new : Moment) (place : ℕ) (e : Entry) (seats : List Seat) → IsAnswered link.steps (state_after old.entries) e
+pub noted : {link : Link} {old new : Moment} {place : ℕ} {e : Entry} {seats : List Seat} → IsAnswered link.steps (state_after old.entries) e
     → place ≡ length old.entries → new.entries ≡ old.entries ++ e ∷ [] → new.seats ≡ seats → new.heard ≡ old.heard
     → IsNoted link e seats old new (told_text new.entries (tolds.Entry place))
-noted link old new place e seats answered at y s h = record {
+noted {old} {new} {place} {e} {seats} answered at y s h = record {
   answered = answered;
   new_is =
       ap (λ es. record { entries = es; seats = new.seats; heard = new.heard }) y
@@ -72,104 +72,108 @@ noted-halt link old new place c number keep e {seats} answered at y s h maker an
     ap (λ n. record { maker = n; command = e.command; answer = e.answer }) maker ∙ ap (λ x. record { maker = c; command = x; answer = e.answer }) command
     ∙ ap (λ a. entry_by c (commands.Halt number keep) a) answer in
     let N : Entry → Type 0 = λ x. IsNoted link x seats old new (told_text new.entries (tolds.Entry place)) in
-    subst N same (noted link old new place e seats answered at y s h)
+    subst N same (noted answered at y s h)
 
 -- the entry of a play was made
-pub noted-play : (link : Link) (old new : Moment) (place c slot maker : ℕ) (plan : List Segment) (answer : Answer) (seats : List Seat) → slot ≡ old.heard → maker ≡ c
+pub noted-play : {link : Link} {old new : Moment} {place c slot maker : ℕ} {seats : List Seat} (plan : List Segment)
+    (answer : Answer) → slot ≡ old.heard → maker ≡ c
     → IsAnswered link.steps (state_after old.entries) (entry_by maker (commands.Play slot plan) answer) → place ≡ length old.entries
     → new.entries ≡ old.entries ++ entry_by maker (commands.Play slot plan) answer ∷ [] → new.seats ≡ seats → new.heard ≡ old.heard
     → IsNoted link (entry_by c (commands.Play old.heard plan) answer) seats old new (told_text new.entries (tolds.Entry place))
-noted-play link old new place c slot maker plan answer seats late own answered at y s h =
+noted-play {link} {old} {new} {place} {c} {slot} {maker} {seats} plan answer late own answered at y s h =
     let N : Entry → Type 0 = λ x. IsNoted link x seats old new (told_text new.entries (tolds.Entry place)) in
     let same : entry_by maker (commands.Play slot plan) answer ≡ entry_by c (commands.Play old.heard plan) answer =
     ap (λ n. entry_by n (commands.Play slot plan) answer) own ∙ ap (λ n. entry_by c (commands.Play n plan) answer) late in
-    subst N same (noted link old new place (entry_by maker (commands.Play slot plan) answer) seats answered at y s h)
+    subst N same (noted answered at y s h)
 
 -- a play in the words of a day
-pub play-is : (play : ClientPlay) (number : ℕ) (rest : ClientRest) (plan : List Segment) (start : ℕ) → play.number ≡ number → play.rest ≡ rest
+pub play-is : {number : ℕ} {rest : ClientRest} {plan : List Segment} {start : ℕ} (play : ClientPlay) → play.number ≡ number → play.rest ≡ rest
     → play.plan ≡ plan → play.pacer.start ≡ start → play_of play ≡ record { number = number; rest = rest_of rest; plan = plan; start = start }
-play-is play number rest plan start n r p s =
+play-is {number} {rest} {plan} {start} play n r p s =
     ap (λ x. record { number = x; rest = rest_of play.rest; plan = play.plan; start = play.pacer.start }) n
     ∙ ap (λ x. record { number = number; rest = rest_of x; plan = play.plan; start = play.pacer.start }) r
     ∙ ap (λ x. record { number = number; rest = rest_of rest; plan = x; start = play.pacer.start }) p
     ∙ ap (λ x. record { number = number; rest = rest_of rest; plan = plan; start = x }) s
 
 -- the clients after a play's answer
-pub seats-played : (cs : List Client) (c : ℕ) (play : ClientPlay) (number : ℕ) (rest : ClientRest) (plan : List Segment) (start : ℕ) (answer : Answer)
+pub seats-played : {number : ℕ} {rest : ClientRest} {plan : List Segment} {start : ℕ} {answer : Answer}
+    (cs : List Client) (c : ℕ) (play : ClientPlay)
     → answer ≡ Admitted start → play.number ≡ number → play.rest ≡ rest → play.plan ≡ plan → play.pacer.start ≡ start
     → map seat_of (set cs c (clients.Playing play)) ≡ with_play c (rest_of rest) plan number answer (map seat_of cs)
-seats-played cs c play number rest plan start answer is n r p s =
-    seats-set cs c (clients.Playing play) ∙ ap (λ x. set (map seat_of cs) c (Playing x)) (play-is play number rest plan start n r p s)
+seats-played {number} {rest} {plan} {start} cs c play is n r p s =
+    seats-set cs c (clients.Playing play) ∙ ap (λ x. set (map seat_of cs) c (Playing x)) (play-is play n r p s)
     ∙ ap (λ a. with_play c (rest_of rest) plan number a (map seat_of cs)) (sym is)
 
-pub seats-same : (c : ℕ) (rest : Rest) (plan : List Segment) (number : ℕ) (answer : Answer) (seats : List Seat) → is_admission answer ≡ false
+pub seats-same : {seats : List Seat} (c : ℕ) (rest : Rest) (plan : List Segment) (number : ℕ) (answer : Answer) → is_admission answer ≡ false
     → seats ≡ with_play c rest plan number answer seats
-seats-same c rest plan number (Admitted start) seats not = cc not
-seats-same c rest plan number (Overflow over booked asked) seats not = refl
-seats-same c rest plan number Halted seats not = refl
-seats-same c rest plan number (Looked now at booked) seats not = refl
+seats-same c rest plan number (Admitted start) not = cc not
+seats-same c rest plan number (Overflow over booked asked) not = refl
+seats-same c rest plan number Halted not = refl
+seats-same c rest plan number (Looked now at booked) not = refl
 
 -- a play that was admitted hasn't come to its first slot
-pub begun-timed : (steps : List CapStep) (state : State) (play : ClientPlay) (slot start heard : ℕ) (plan : List Segment) (answer : Answer) → answer ≡ Admitted start
+pub begun-timed : {slot start heard : ℕ} {answer : Answer} (steps : List CapStep) (state : State) (play : ClientPlay)
+    (plan : List Segment) → answer ≡ Admitted start
     → IsAnswer steps state (commands.Play slot plan) answer → slot ≡ heard → play.pacer.start ≡ start → play.pacer.passed ≡ 0
     → IsTimed heard (clients.Playing play)
-begun-timed steps state play slot start heard plan answer is answered late at begun =
+begun-timed {slot} {start} steps state play plan is answered late at begun =
     let A : Answer → Type 0 = λ a. IsAnswer steps state (commands.Play slot plan) a in
     let its = subst A is answered in
     omega (arith, its.0, late, at, begun)
 
 -- a client pauses
-pub pause-line : (link : Link) (c : ℕ) (client next : Client) (halt : Halt) (old new : Moment) (text : List ℕ) → IsPauseOf old.heard halt client next
+pub pause-line : {link : Link} {c : ℕ} {halt : Halt} {old new : Moment} {text : List ℕ} (client next : Client) → IsPauseOf old.heard halt client next
     → IsNoted link (entry_by c (commands.Halt halt.number halt.keep) Halted) (set old.seats c (seat_of next)) old new text
     → IsPauseLine link c (seat_of client) old new text
-pause-line link c clients.Idle next halt old new text is n = absurd is
-pause-line link c (clients.Playing play) next halt old new text is n =
+pause-line {c} {halt} {new} {text} clients.Idle next is n = absurd is
+pause-line {link} {c} {halt} {old} {new} {text} (clients.Playing play) next is n =
     let N : ℕ → Type 0 = λ k. IsNoted link (entry_by c (commands.Halt k halt.keep) Halted) (set old.seats c (seat_of next)) old new text in
     record { keep = halt.keep; seat = seat_of next; pause = is.1; noted = subst N is.0 n }
-pause-line link c (clients.Pausing stop) next halt old new text is n = absurd is
-pause-line link c (clients.Paused rest) next halt old new text is n = absurd is
+pause-line {c} {halt} {new} {text} (clients.Pausing stop) next is n = absurd is
+pause-line {c} {halt} {new} {text} (clients.Paused rest) next is n = absurd is
 
-pub no-pause : (link : Link) (c : ℕ) (client : Client) (old new : Moment) (text : List ℕ) → IsQuiet client → IsTold state_text old new text
+pub no-pause : {old new : Moment} {text : List ℕ} (link : Link) (c : ℕ) (client : Client) → IsQuiet client → IsTold state_text old new text
     → IsPauseLine link c (seat_of client) old new text
-no-pause link c clients.Idle old new text quiet told = told
-no-pause link c (clients.Playing play) old new text quiet told = absurd quiet
-no-pause link c (clients.Pausing stop) old new text quiet told = told
-no-pause link c (clients.Paused rest) old new text quiet told = told
+no-pause {new} {text} link c clients.Idle quiet told = told
+no-pause {new} {text} link c (clients.Playing play) quiet told = absurd quiet
+no-pause {new} {text} link c (clients.Pausing stop) quiet told = told
+no-pause {new} {text} link c (clients.Paused rest) quiet told = told
 
 -- a client asks for a play, or can't
-pub play-line : (link : Link) (c : ℕ) (rest : Rest) (seat : Seat) (old new : Moment) (text : List ℕ) → is_busy seat ≡ false
+pub play-line : {link : Link} {c : ℕ} {rest : Rest} {old new : Moment} {text : List ℕ} (seat : Seat) → is_busy seat ≡ false
     → IsAsked link c rest old new text → IsPlayLine link c rest seat old new text
-play-line link c rest Idle old new text free asked = asked
-play-line link c rest (Playing play) old new text free asked = cc free
-play-line link c rest (Pausing stop left) old new text free asked = cc free
-play-line link c rest (Paused left) old new text free asked = asked
+play-line {c} {new} {text} Idle free asked = asked
+play-line {c} {new} {text} (Playing play) free asked = cc free
+play-line {c} {new} {text} (Pausing stop left) free asked = cc free
+play-line {c} {new} {text} (Paused left) free asked = asked
 
-pub no-play : (link : Link) (c : ℕ) (rest : Rest) (seat : Seat) (old new : Moment) (text : List ℕ) → is_busy seat ≡ true
+pub no-play : {old new : Moment} {text : List ℕ} (link : Link) (c : ℕ) (rest : Rest) (seat : Seat) → is_busy seat ≡ true
     → IsTold state_text old new text → IsPlayLine link c rest seat old new text
-no-play link c rest Idle old new text busy told = cc busy
-no-play link c rest (Playing play) old new text busy told = told
-no-play link c rest (Pausing stop left) old new text busy told = told
-no-play link c rest (Paused left) old new text busy told = cc busy
+no-play {new} {text} link c rest Idle busy told = cc busy
+no-play {new} {text} link c rest (Playing play) busy told = told
+no-play {new} {text} link c rest (Pausing stop left) busy told = told
+no-play {new} {text} link c rest (Paused left) busy told = cc busy
 
-pub play-asked : (link : Link) (c : ℕ) (one rest : Rest) (own seat : Seat) (old new : Moment) (text : List ℕ) → one ≡ rest → own ≡ seat → is_busy own ≡ false
+pub play-asked : {link : Link} {c : ℕ} {one rest : Rest} {own seat : Seat} {old new : Moment} {text : List ℕ} → one ≡ rest → own ≡ seat → is_busy own ≡ false
     → IsAsked link c one old new text → IsPlayLine link c rest seat old new text
-play-asked link c one rest own seat old new text r s free asked =
+play-asked {link} {c} {one} {own} {seat} {old} {new} {text} r s free asked =
     let R : Rest → Type 0 = λ x. IsPlayLine link c x seat old new text in
     let S : Seat → Type 0 = λ x. IsPlayLine link c one x old new text in
-    subst R r (subst S s (play-line link c one own old new text free asked))
+    subst R r (subst S s (play-line own free asked))
 
-pub play-ok : (r : Result Told NoMemory) (link : Link) (c : ℕ) (one rest : Rest) (own seat : Seat) (old new : Moment) (entries : List Entry) → one ≡ rest → own ≡ seat
+pub play-ok : {one rest : Rest} {own seat : Seat} (r : Result Told NoMemory) (link : Link) (c : ℕ) (old new : Moment)
+    (entries : List Entry) → one ≡ rest → own ≡ seat
     → is_busy own ≡ false → IfOk r (λ told. IsAsked link c one old new (told_text entries told))
     → IfOk r (λ told. IsPlayLine link c rest seat old new (told_text entries told))
-play-ok (Ok told) link c one rest own seat old new entries r s free asked =
-    play-asked link c one rest own seat old new (told_text entries told) r s free asked
-play-ok (Err e) link c one rest own seat old new entries r s free asked = tt
+play-ok {one} (Ok told) link c old new entries r s free asked =
+    play-asked r s free asked
+play-ok {one} (Err e) link c old new entries r s free asked = tt
 
 -- a line's text was printed
-pub printed : (r : Result (Unit {0}) NoMemory) (before after text : List ℕ) (Is : List ℕ → Type 0) → Is text → OnOk r (after ≡ before ++ text)
+pub printed : {text : List ℕ} (r : Result (Unit {0}) NoMemory) (before after : List ℕ) (Is : List ℕ → Type 0) → Is text → OnOk r (after ≡ before ++ text)
     → OnOk r (IsPrinted before after Is)
-printed (Ok u) before after text Is is e = record { text = text; after_is = e; is = is }
-printed (Err f) before after text Is is e = tt
+printed {text} (Ok u) before after Is is e = record { text = text; after_is = e; is = is }
+printed {text} (Err f) before after Is is e = tt
 
 -- all of a source that has no picture
 pub none-left : (sizes : List ℕ) → length sizes ≡ 0 → length (sizes_between sizes 0 (length sizes)) ≡ 0

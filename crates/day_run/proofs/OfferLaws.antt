@@ -13,11 +13,12 @@ use Rattle.day_run.specs.DayLaws.{IsCount, IsLeast, IsOfferTold}
 use Rattle.day_run.specs.Days.{IsFaulty, IsOfferLine, Link, Moment}
 use Rattle.day_run.specs.Seats.{Rest}
 
-start-least : (booked capacity : ℕ → ℕ) (plan : List Segment) (first wait : ℕ) (tried : List Tried) (start : Option ℕ) → AreRefusals 0 booked capacity plan first tried
+start-least : {booked capacity : ℕ → ℕ} {plan : List Segment} {first : ℕ} {tried : List Tried} (wait : ℕ)
+    (start : Option ℕ) → AreRefusals 0 booked capacity plan first tried
     → IsStart 0 booked capacity plan first wait (length tried) start → IsLeast (λ s. HasRoom 0 booked capacity s plan) first (first + wait) start
-start-least booked capacity plan first wait tried None refusals is = λ start begun within room.
+start-least {booked} {capacity} {plan} {first} {tried} wait None refusals is = λ start begun within room.
     no_room_tried 0 booked capacity plan first tried start refusals begun (omega (arith, is, within)) room
-start-least booked capacity plan first wait tried (Some start) refusals is = (
+start-least {booked} {capacity} {plan} {first} {tried} wait (Some start) refusals is = (
   omega (arith, is.1),
   omega (arith, is.0, is.1),
   is.2,
@@ -29,10 +30,10 @@ start-count : (booked capacity : ℕ → ℕ) (plan : List Segment) (first wait 
 start-count booked capacity plan first wait count None is = omega (arith, is)
 start-count booked capacity plan first wait count (Some start) is = sym is.1
 
-pub offer-told : (link : Link) (rest : Rest) (wait : ℕ) (old new : Moment) (text : List ℕ) → IsOfferLine link rest wait old new text
+pub offer-told : {link : Link} {rest : Rest} {wait : ℕ} {old new : Moment} {text : List ℕ} → IsOfferLine link rest wait old new text
     → IsFaulty rest old new text ⊎ IsOfferTold link rest wait old text
-offer-told link rest wait old new text (inl faulty) = inl faulty
-offer-told link rest wait old new text (inr offered) =
+offer-told {new} {text} (inl faulty) = inl faulty
+offer-told {link} {wait} {old} {new} {text} (inr offered) =
     let booked = booked_after old.entries in
     let capacity = capacity_at link.steps in
     let plan = offered.plan in
@@ -47,7 +48,7 @@ offer-told link rest wait old new text (inr offered) =
       first = first;
       first_is = refl;
       start = found.start;
-      least = start-least booked capacity plan first wait found.tried found.start refusals start;
+      least = start-least wait found.start refusals start;
       tried = found.tried;
       count = start-count booked capacity plan first wait (length found.tried) found.start start;
       each = λ i none inside.

@@ -74,66 +74,67 @@ pub record IsOne (new new' : Moment) (text text' : List ℕ) : Type 0 where
   pub new_is : new ≡ new'
   pub text_is : text ≡ text'
 
-one-told : (told : List ℕ) (old new new' : Moment) (text text' : List ℕ) → IsTold told old new text → IsTold told old new' text' → IsOne new new' text text'
-one-told told old new new' text text' a b = record { new_is = a.kept ∙ sym b.kept; text_is = a.text_is ∙ sym b.text_is }
+one-told : {told : List ℕ} {old new new' : Moment} {text text' : List ℕ} → IsTold told old new text → IsTold told old new' text' → IsOne new new' text text'
+one-told {new} {text} a b = record { new_is = a.kept ∙ sym b.kept; text_is = a.text_is ∙ sym b.text_is }
 
-one-noted : (link : Link) (one other : Entry) (seats seats' : List Seat) (old new new' : Moment) (text text' : List ℕ) → one ≡ other → seats ≡ seats'
+one-noted : {link : Link} {one other : Entry} {seats seats' : List Seat} {old new new' : Moment}
+    {text text' : List ℕ} → one ≡ other → seats ≡ seats'
     → IsNoted link one seats old new text → IsNoted link other seats' old new' text' → IsOne new new' text text'
-one-noted link one other seats seats' old new new' text text' e s a b = record {
+one-noted {one} {other} {seats} {old} {new} {text} e s a b = record {
   new_is =
       a.new_is ∙ ap (λ x. record { entries = old.entries ++ x ∷ []; seats = seats; heard = old.heard }) e
       ∙ ap (λ l. record { entries = old.entries ++ other ∷ []; seats = l; heard = old.heard }) s ∙ sym b.new_is;
   text_is = a.text_is ∙ ap (entry_line (length old.entries)) e ∙ sym b.text_is;
 }
 
-one-planned : (link : Link) (c : ℕ) (rest : Rest) (plan : List Segment) (old new new' : Moment) (text text' : List ℕ)
+one-planned : {link : Link} {c : ℕ} {rest : Rest} {plan : List Segment} {old new new' : Moment} {text text' : List ℕ}
     → (IsFull link 2 old new text ⊎ IsAnsweredPlay link c rest plan old new text) → (IsFull link 2 old new' text' ⊎ IsAnsweredPlay link c rest plan old new' text')
     → IsOne new new' text text'
-one-planned link c rest plan old new new' text text' (inl a) (inl b) = one-told _ old new new' text text' a.told b.told
-one-planned link c rest plan old new new' text text' (inl a) (inr b) = absurd (omega (arith, a.full, b.room))
-one-planned link c rest plan old new new' text text' (inr a) (inl b) = absurd (omega (arith, a.room, b.full))
-one-planned link c rest plan old new new' text text' (inr a) (inr b) =
+one-planned {c} {new} {text} (inl a) (inl b) = one-told a.told b.told
+one-planned {c} {new} {text} (inl a) (inr b) = absurd (omega (arith, a.full, b.room))
+one-planned {c} {new} {text} (inr a) (inl b) = absurd (omega (arith, a.room, b.full))
+one-planned {link} {c} {rest} {plan} {old} {new} {text} (inr a) (inr b) =
     let same : a.answer ≡ b.answer =
     answer-once link.steps (state_after old.entries) (commands.Play old.heard plan) a.answer b.answer a.noted.answered b.noted.answered in
-    one-noted link _ _ _ _ old new new' text text' (ap (entry_by c (commands.Play old.heard plan)) same)
+    one-noted (ap (entry_by c (commands.Play old.heard plan)) same)
     (ap (λ x. with_play c rest plan (length old.entries) x old.seats) same) a.noted b.noted
 
-one-fault : (rest : Rest) (old new new' : Moment) (text text' : List ℕ) → IsFaulty rest old new text → IsFaulty rest old new' text' → IsOne new new' text text'
-one-fault rest old new new' text text' a b =
+one-fault : {rest : Rest} {old new new' : Moment} {text text' : List ℕ} → IsFaulty rest old new text → IsFaulty rest old new' text' → IsOne new new' text text'
+one-fault {rest} {old} {new} {text} a b =
     let same = fault-once (rest_sizes rest.sizes rest.run) (timing_of rest.playback rest.run) a.fault b.fault a.fault_is b.fault_is in
     let T : CurveFault → Type 0 = λ f. IsTold (fault_text f) old new text in
-    one-told (fault_text b.fault) old new new' text text' (subst T same a.told) b.told
+    one-told (subst T same a.told) b.told
 
-one-asked : (link : Link) (c : ℕ) (rest : Rest) (old new new' : Moment) (text text' : List ℕ) → (0 < length (rest_sizes rest.sizes rest.run) → IsSoundRest rest)
+one-asked : {link : Link} {c : ℕ} {rest : Rest} {old new new' : Moment} {text text' : List ℕ} → (0 < length (rest_sizes rest.sizes rest.run) → IsSoundRest rest)
     → IsAsked link c rest old new text → IsAsked link c rest old new' text' → IsOne new new' text text'
-one-asked link c rest old new new' text text' own (inl a) (inl b) = one-fault rest old new new' text text' a b
-one-asked link c rest old new new' text text' own (inl a) (inr b) =
+one-asked {c} {new} {text} own (inl a) (inl b) = one-fault a b
+one-asked {c} {rest} {new} {text} own (inl a) (inr b) =
     absurd (fault-apart (rest_sizes rest.sizes rest.run) (timing_of rest.playback rest.run) a.fault a.fault_is b.plan_is.accepted)
-one-asked link c rest old new new' text text' own (inr a) (inl b) =
+one-asked {c} {rest} {new} {text} own (inr a) (inl b) =
     absurd (fault-apart (rest_sizes rest.sizes rest.run) (timing_of rest.playback rest.run) b.fault b.fault_is a.plan_is.accepted)
-one-asked link c rest old new new' text text' own (inr a) (inr b) =
+one-asked {link} {c} {rest} {old} {new} {text} own (inr a) (inr b) =
     let can = (own b.plan_is.accepted.some_picture).can in
     let same : a.plan ≡ b.plan = sending-one rest.sizes rest.playback rest.run b.plan (record { can_play = can; plan_is = b.plan_is }) a.plan a.plan_is in
     let D : List Segment → Type 0 = λ p. IsFull link 2 old new text ⊎ IsAnsweredPlay link c rest p old new text in
-    one-planned link c rest b.plan old new new' text text' (subst D same a.done) b.done
+    one-planned (subst D same a.done) b.done
 
-one-play : (link : Link) (c : ℕ) (rest : Rest) (seat : Seat) (old new new' : Moment) (text text' : List ℕ) → (0 < length (rest_sizes rest.sizes rest.run) → IsSoundRest rest)
+one-play : {rest : Rest} {new new' : Moment} {text text' : List ℕ} (link : Link) (c : ℕ) (seat : Seat) (old : Moment) → (0 < length (rest_sizes rest.sizes rest.run) → IsSoundRest rest)
     → IsPlayLine link c rest seat old new text → IsPlayLine link c rest seat old new' text' → IsOne new new' text text'
-one-play link c rest Idle old new new' text text' own a b = one-asked link c rest old new new' text text' own a b
-one-play link c rest (Playing play) old new new' text text' own a b = one-told _ old new new' text text' a b
-one-play link c rest (Pausing stop left) old new new' text text' own a b = one-told _ old new new' text text' a b
-one-play link c rest (Paused left) old new new' text text' own a b = one-asked link c rest old new new' text text' own a b
+one-play {new} {text} link c Idle old own a b = one-asked own a b
+one-play {new} {text} link c (Playing play) old own a b = one-told a b
+one-play {new} {text} link c (Pausing stop left) old own a b = one-told a b
+one-play {new} {text} link c (Paused left) old own a b = one-asked own a b
 
-one-resume : (link : Link) (c : ℕ) (seat : Seat) (old new new' : Moment) (text text' : List ℕ) → IsSoundSeat old.heard seat
+one-resume : {new new' : Moment} {text text' : List ℕ} (link : Link) (c : ℕ) (seat : Seat) (old : Moment) → IsSoundSeat old.heard seat
     → IsResumeLine link c seat old new text → IsResumeLine link c seat old new' text' → IsOne new new' text text'
-one-resume link c Idle old new new' text text' own a b = one-told _ old new new' text text' a b
-one-resume link c (Playing play) old new new' text text' own a b = one-told _ old new new' text text' a b
-one-resume link c (Pausing stop rest) old new new' text text' own a b = one-told _ old new new' text text' a b
-one-resume link c (Paused rest) old new new' text text' own a b = one-asked link c rest old new new' text text' (λ some. own) a b
+one-resume {new} {text} link c Idle old own a b = one-told a b
+one-resume {new} {text} link c (Playing play) old own a b = one-told a b
+one-resume {new} {text} link c (Pausing stop rest) old own a b = one-told a b
+one-resume {new} {text} link c (Paused rest) old own a b = one-asked (λ some. own) a b
 
-one-halted : (link : Link) (c : ℕ) (play : Play) (old new new' : Moment) (text text' : List ℕ) → IsHaltedPlay link c play old new text
+one-halted : {link : Link} {c : ℕ} {play : Play} {old new new' : Moment} {text text' : List ℕ} → IsHaltedPlay link c play old new text
     → IsHaltedPlay link c play old new' text' → IsOne new new' text text'
-one-halted link c play old new new' text text' a b =
+one-halted {c} {play} {old} {new} {text} a b =
     let x = a.pause.boundary in
     let y = b.pause.boundary in
     let keep : a.keep ≡ b.keep = omega (arith, x.least _ y.boundary y.after, y.least _ x.boundary x.after) in
@@ -143,37 +144,37 @@ one-halted link c play old new new' text text' a b =
     let seat : a.seat ≡ b.seat =
     a.pause.seat_is ∙ ap (λ k. pausing_seat old.heard (cut_play play.start play.plan k) (record play.rest { run = a.pause.left })) keep
     ∙ ap (λ r. pausing_seat old.heard (cut_play play.start play.plan b.keep) (record play.rest { run = r })) left ∙ sym b.pause.seat_is in
-    one-noted link _ _ _ _ old new new' text text' (ap (λ k. entry_by c (commands.Halt play.number k) Halted) keep) (ap (set old.seats c) seat) a.noted b.noted
+    one-noted (ap (λ k. entry_by c (commands.Halt play.number k) Halted) keep) (ap (set old.seats c) seat) a.noted b.noted
 
-one-pause : (link : Link) (c : ℕ) (seat : Seat) (old new new' : Moment) (text text' : List ℕ) → IsPauseLine link c seat old new text
+one-pause : {new new' : Moment} {text text' : List ℕ} (link : Link) (c : ℕ) (seat : Seat) (old : Moment) → IsPauseLine link c seat old new text
     → IsPauseLine link c seat old new' text' → IsOne new new' text text'
-one-pause link c Idle old new new' text text' a b = one-told _ old new new' text text' a b
-one-pause link c (Playing play) old new new' text text' a b = one-halted link c play old new new' text text' a b
-one-pause link c (Pausing stop rest) old new new' text text' a b = one-told _ old new new' text text' a b
-one-pause link c (Paused rest) old new new' text text' a b = one-told _ old new new' text text' a b
+one-pause {new} {text} link c Idle old a b = one-told a b
+one-pause {new} {text} link c (Playing play) old a b = one-halted a b
+one-pause {new} {text} link c (Pausing stop rest) old a b = one-told a b
+one-pause {new} {text} link c (Paused rest) old a b = one-told a b
 
-one-look : (link : Link) (slot : ℕ) (old new new' : Moment) (text text' : List ℕ) → IsLookLine link slot old new text → IsLookLine link slot old new' text'
+one-look : {link : Link} {slot : ℕ} {old new new' : Moment} {text text' : List ℕ} → IsLookLine link slot old new text → IsLookLine link slot old new' text'
     → IsOne new new' text text'
-one-look link slot old new new' text text' (inl a) (inl b) = one-told _ old new new' text text' a.told b.told
-one-look link slot old new new' text text' (inl a) (inr b) = absurd (omega (arith, a.full, b.room))
-one-look link slot old new new' text text' (inr a) (inl b) = absurd (omega (arith, a.room, b.full))
-one-look link slot old new new' text text' (inr a) (inr b) =
+one-look {slot} {new} {text} (inl a) (inl b) = one-told a.told b.told
+one-look {slot} {new} {text} (inl a) (inr b) = absurd (omega (arith, a.full, b.room))
+one-look {slot} {new} {text} (inr a) (inl b) = absurd (omega (arith, a.room, b.full))
+one-look {link} {slot} {old} {new} {text} (inr a) (inr b) =
     let same = answer-once link.steps (state_after old.entries) (commands.Look slot) a.answer b.answer a.noted.answered b.noted.answered in
-    one-noted link _ _ _ _ old new new' text text' (ap (entry_by 0 (commands.Look slot)) same) refl a.noted b.noted
+    one-noted (ap (entry_by 0 (commands.Look slot)) same) refl a.noted b.noted
 
 one-found : (one other : Found) → one.wait ≡ other.wait → one.start ≡ other.start → one.tried ≡ other.tried → one ≡ other
 one-found one other w s t =
     ap (λ n. record { wait = n; start = one.start; tried = one.tried }) w ∙ ap (λ n. record { wait = other.wait; start = n; tried = one.tried }) s
     ∙ ap (λ l. record { wait = other.wait; start = other.start; tried = l }) t
 
-one-offer : (link : Link) (rest : Rest) (wait : ℕ) (old new new' : Moment) (text text' : List ℕ) → (0 < length (rest_sizes rest.sizes rest.run) → IsSoundRest rest)
+one-offer : {link : Link} {rest : Rest} {wait : ℕ} {old new new' : Moment} {text text' : List ℕ} → (0 < length (rest_sizes rest.sizes rest.run) → IsSoundRest rest)
     → IsOfferLine link rest wait old new text → IsOfferLine link rest wait old new' text' → IsOne new new' text text'
-one-offer link rest wait old new new' text text' own (inl a) (inl b) = one-fault rest old new new' text text' a b
-one-offer link rest wait old new new' text text' own (inl a) (inr b) =
+one-offer {new} {text} own (inl a) (inl b) = one-fault a b
+one-offer {rest} {new} {text} own (inl a) (inr b) =
     absurd (fault-apart (rest_sizes rest.sizes rest.run) (timing_of rest.playback rest.run) a.fault a.fault_is b.plan_is.accepted)
-one-offer link rest wait old new new' text text' own (inr a) (inl b) =
+one-offer {rest} {new} {text} own (inr a) (inl b) =
     absurd (fault-apart (rest_sizes rest.sizes rest.run) (timing_of rest.playback rest.run) b.fault b.fault_is a.plan_is.accepted)
-one-offer link rest wait old new new' text text' own (inr a) (inr b) =
+one-offer {link} {rest} {old} {new} {text} own (inr a) (inr b) =
     let can = (own b.plan_is.accepted.some_picture).can in
     let same : a.plan ≡ b.plan = sending-one rest.sizes rest.playback rest.run b.plan (record { can_play = can; plan_is = b.plan_is }) a.plan a.plan_is in
     let booked = booked_in (state_after old.entries) in
@@ -185,49 +186,49 @@ one-offer link rest wait old new new' text text' own (inr a) (inr b) =
     one-found a.found b.found waits (same_start 0 booked (capacity_at link.steps) b.plan first a.found b.found waits mine b.found_is)
     (same_tried 0 booked (capacity_at link.steps) b.plan first a.found b.found waits mine b.found_is) in
     let T : Found → Type 0 = λ f. IsTold (offer_text f) old new text in
-    one-told (offer_text b.found) old new new' text text' (subst T found a.told) b.told
+    one-told (subst T found a.told) b.told
 
-one-line : (link : Link) (line : Line) (old new new' : Moment) (text text' : List ℕ) → IsLink link → IsClient line → StandsAfter old.heard (length link.tracks) line
+one-line : {link : Link} {old new new' : Moment} {text text' : List ℕ} (line : Line) → IsLink link → IsClient line → StandsAfter old.heard (length link.tracks) line
     → IsSound old → IsLine link line old new text → IsLine link line old new' text' → IsOne new new' text text'
-one-line link (lines.Play c source buffer delay) old new new' text text' link-is client stands sound a b =
-    one-play link c (rest_at link source buffer delay) (seat_at old c) old new new' text text' (whole-sound link source buffer delay link-is stands) a b
-one-line link (lines.Pause c) old new new' text text' link-is client stands sound a b = one-pause link c (seat_at old c) old new new' text text' a b
-one-line link (lines.Resume c) old new new' text text' link-is client stands sound a b =
-    one-resume link c (seat_at old c) old new new' text text' (sound.each c client) a b
-one-line link (lines.Look slot) old new new' text text' link-is client stands sound a b = one-look link _ old new new' text text' a b
-one-line link (lines.Slot slot) old new new' text text' link-is client stands sound a b = record { new_is = a.0 ∙ sym b.0; text_is = a.1 ∙ sym b.1 }
-one-line link (lines.Offer c source buffer delay wait) old new new' text text' link-is client stands sound a b =
-    one-offer link (rest_at link source buffer delay) wait old new new' text text' (whole-sound link source buffer delay link-is stands.0) a b
+one-line {link} {old} {new} {text} (lines.Play c source buffer delay) link-is client stands sound a b =
+    one-play link c (seat_at old c) old (whole-sound link-is stands) a b
+one-line {link} {old} {new} {text} (lines.Pause c) link-is client stands sound a b = one-pause link c (seat_at old c) old a b
+one-line {link} {old} {new} {text} (lines.Resume c) link-is client stands sound a b =
+    one-resume link c (seat_at old c) old (sound.each c client) a b
+one-line {new} {text} (lines.Look slot) link-is client stands sound a b = one-look a b
+one-line {new} {text} (lines.Slot slot) link-is client stands sound a b = record { new_is = a.0 ∙ sym b.0; text_is = a.1 ∙ sym b.1 }
+one-line {new} {text} (lines.Offer c source buffer delay wait) link-is client stands sound a b =
+    one-offer (whole-sound link-is stands.0) a b
 
 -- ---- a run of lines has one outcome
 pub record IsOneRun (new new' : Moment) (texts texts' : List (List ℕ)) : Type 0 where
   pub new_is : new ≡ new'
   pub texts_are : texts ≡ texts'
 
-one-run : (link : Link) (ls : List Line) (texts texts' : List (List ℕ)) (old new new' : Moment) → IsLink link
+one-run : {link : Link} {texts texts' : List (List ℕ)} {old new new' : Moment} (ls : List Line) → IsLink link
     → ((i : ℕ) (none : Line) → i < length ls → IsClient (get_or ls i none))
     → ((i : ℕ) (none : Line) → i < length ls → StandsAfter (fold slot_after old.heard (take i ls)) (length link.tracks) (get_or ls i none))
     → IsSound old → AreRun link ls texts old new → AreRun link ls texts' old new' → IsOneRun new new' texts texts'
-one-run link [] [] [] old new new' link-is clients stands sound a b = record { new_is = a ∙ sym b; texts_are = refl }
-one-run link [] (t ∷ ts) texts' old new new' link-is clients stands sound a b = absurd a
-one-run link [] [] (t ∷ ts) old new new' link-is clients stands sound a b = absurd b
-one-run link (l ∷ ls) [] texts' old new new' link-is clients stands sound a b = absurd a
-one-run link (l ∷ ls) (t ∷ ts) [] old new new' link-is clients stands sound a b = absurd b
-one-run link (l ∷ ls) (t ∷ ts) (t' ∷ ts') old new new' link-is clients stands sound a b =
+one-run {texts = []} {texts' = []} {new} [] link-is clients stands sound a b = record { new_is = a ∙ sym b; texts_are = refl }
+one-run {texts = t ∷ ts} {new} [] link-is clients stands sound a b = absurd a
+one-run {texts = []} {texts' = t ∷ ts} {new} [] link-is clients stands sound a b = absurd b
+one-run {texts = []} {new} (l ∷ ls) link-is clients stands sound a b = absurd a
+one-run {texts = t ∷ ts} {texts' = []} {new} (l ∷ ls) link-is clients stands sound a b = absurd b
+one-run {link} {texts = t ∷ ts} {texts' = t' ∷ ts'} {old} {new} {new'} (l ∷ ls) link-is clients stands sound a b =
     let client = clients zero l (omega arith) in
     let stand = stands zero l (omega arith) in
-    let one = one-line link l old a.0 b.0 t t' link-is client stand sound a.1.0 b.1.0 in
-    let next = line-sound link l old a.0 t link-is client stand sound a.1.0 in
+    let one = one-line l link-is client stand sound a.1.0 b.1.0 in
+    let next = line-sound l t link-is client stand sound a.1.0 in
     let H : ℕ → Type 0 = λ h. (i : ℕ) (none : Line) → i < length ls → StandsAfter (fold slot_after h (take i ls)) (length link.tracks) (get_or ls i none) in
-    let after : H a.0.heard = subst H (sym (heard-after link l old a.0 t a.1.0)) (stands-rest (length link.tracks) old.heard l ls stands) in
+    let after : H a.0.heard = subst H (sym (heard-after link l old a.0 t a.1.0)) (stands-rest l ls stands) in
     let R : Moment → Type 0 = λ m. AreRun link ls ts' m new' in
-    let rest = one-run link ls ts ts' a.0 new new' link-is (λ i none inside. clients (suc i) none (omega (arith, inside))) after next a.1.1 (subst R (sym one.new_is) b.1.1) in
+    let rest = one-run {link = link} {texts = ts} {texts' = ts'} {old = a.0} {new = new} {new' = new'} ls link-is (λ i none inside. clients (suc i) none (omega (arith, inside))) after next a.1.1 (subst R (sym one.new_is) b.1.1) in
     record { new_is = rest.new_is; texts_are = ap (λ x. x ∷ ts) one.text_is ∙ ap (λ xs. t' ∷ xs) rest.texts_are }
 
 pub one-day : (link : Link) (ls : List Line) (text text' : List ℕ) (journal journal' : List Entry) → IsLink link → AreClients ls → AreLines (length link.tracks) ls
     → IsDay link ls text journal → IsDay link ls text' journal' → (text ≡ text') × (journal ≡ journal')
 one-day link ls text text' journal journal' link-is clients are a b =
-    let one = one-run link ls a.texts b.texts first_moment a.evening b.evening link-is clients.each are.each (record { ready = morning-ready; each = idle-sound }) a.run b.run in (
+    let one = one-run ls link-is clients.each are.each (record { ready = morning-ready; each = idle-sound }) a.run b.run in (
       a.text_is ∙ ap (λ ts. flat_map (λ (t : List ℕ). t) ts ++ last_lines a.evening) one.texts_are
           ∙ ap (λ m. flat_map (λ (t : List ℕ). t) b.texts ++ last_lines m) one.new_is ∙ sym b.text_is,
       a.journal_is ∙ ap last_journal one.new_is ∙ sym b.journal_is,

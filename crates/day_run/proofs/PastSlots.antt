@@ -40,61 +40,62 @@ same-past : (old new : Moment) (e : Entry) (seats : List Seat) → new ≡ recor
 same-past old new e seats is same t past =
     ap (λ (m : Moment). booked_after m.entries t) is ∙ ap (λ hs. booked_by (map (λ (h : Held). h.play) hs) t) same
 
-answered-past : (answer : Answer) (link : Link) (c : ℕ) (rest : Rest) (plan : List Segment) (old new : Moment)
+answered-past : {new : Moment} (answer : Answer) (link : Link) (c : ℕ) (rest : Rest) (plan : List Segment)
+    (old : Moment)
     → IsAnswered link.steps (state_after old.entries) (entry_by c (commands.Play old.heard plan) answer)
     → new ≡ record {
       entries = old.entries ++ entry_by c (commands.Play old.heard plan) answer ∷ [];
       seats = with_play c rest plan (length old.entries) answer old.seats;
       heard = old.heard;
     } → Past old new
-answered-past (Admitted start) link c rest plan old new answered is = λ t past.
+answered-past {new} (Admitted start) link c rest plan old answered is = λ t past.
     let e = entry_by c (commands.Play old.heard plan) (Admitted start) in
     let early : old.heard < start = omega (arith, answered.0) in
     ap (λ (m : Moment). booked_after m.entries t) is
     ∙ play-stays old.entries e (length old.entries) start old.heard t plan early past (ap (λ (s : State). s.held) (state-push old.entries e))
-answered-past (Overflow over booked asked) link c rest plan old new answered is =
+answered-past {new} (Overflow over booked asked) link c rest plan old answered is =
     let e = entry_by c (commands.Play old.heard plan) (Overflow over booked asked) in
     same-past old new e old.seats is (ap (λ (s : State). s.held) (state-push old.entries e))
-answered-past Halted link c rest plan old new answered is =
+answered-past {new} Halted link c rest plan old answered is =
     let e = entry_by c (commands.Play old.heard plan) Halted in
     same-past old new e old.seats is (ap (λ (s : State). s.held) (state-push old.entries e))
-answered-past (Looked now at booked) link c rest plan old new answered is =
+answered-past {new} (Looked now at booked) link c rest plan old answered is =
     let e = entry_by c (commands.Play old.heard plan) (Looked now at booked) in
     same-past old new e old.seats is (ap (λ (s : State). s.held) (state-push old.entries e))
 
-asked-past : (link : Link) (c : ℕ) (rest : Rest) (old new : Moment) (text : List ℕ) → IsAsked link c rest old new text → Past old new
-asked-past link c rest old new text (inl faulty) = kept-past old new faulty.told.kept
-asked-past link c rest old new text (inr planned) = elim planned.done [
+asked-past : {link : Link} {c : ℕ} {rest : Rest} {old new : Moment} {text : List ℕ} → IsAsked link c rest old new text → Past old new
+asked-past {c} {old} {new} {text} (inl faulty) = kept-past old new faulty.told.kept
+asked-past {link} {c} {rest} {old} {new} {text} (inr planned) = elim planned.done [
   | inl full ↦ kept-past old new full.told.kept
-  | inr made ↦ answered-past made.answer link c rest planned.plan old new made.noted.answered made.noted.new_is
+  | inr made ↦ answered-past made.answer link c rest planned.plan old made.noted.answered made.noted.new_is
 ]
 
 play-past : (link : Link) (c : ℕ) (rest : Rest) (seat : Seat) (old new : Moment) (text : List ℕ) → IsPlayLine link c rest seat old new text → Past old new
-play-past link c rest Idle old new text is = asked-past link c rest old new text is
+play-past link c rest Idle old new text is = asked-past is
 play-past link c rest (Playing play) old new text is = kept-past old new is.kept
 play-past link c rest (Pausing stop left) old new text is = kept-past old new is.kept
-play-past link c rest (Paused left) old new text is = asked-past link c rest old new text is
+play-past link c rest (Paused left) old new text is = asked-past is
 
 resume-past : (link : Link) (c : ℕ) (seat : Seat) (old new : Moment) (text : List ℕ) → IsResumeLine link c seat old new text → Past old new
 resume-past link c Idle old new text is = kept-past old new is.kept
 resume-past link c (Playing play) old new text is = kept-past old new is.kept
 resume-past link c (Pausing stop rest) old new text is = kept-past old new is.kept
-resume-past link c (Paused rest) old new text is = asked-past link c rest old new text is
+resume-past link c (Paused rest) old new text is = asked-past is
 
-halted-past : (link : Link) (c : ℕ) (play : Play) (old new : Moment) (text : List ℕ) → c < 256 → get_or old.seats c Idle ≡ Playing play → IsReady old
+halted-past : {link : Link} {c : ℕ} {play : Play} {old new : Moment} {text : List ℕ} → c < 256 → get_or old.seats c Idle ≡ Playing play → IsReady old
     → IsHaltedPlay link c play old new text → Past old new
-halted-past link c play old new text client at ready is t past =
-    let held = its-held old.entries old.seats old.heard c play (omega (arith, client, ready.count)) at ready.balanced in
+halted-past {c} {play} {old} {new} {text} client at ready is t past =
+    let held = its-held c (omega (arith, client, ready.count)) at ready.balanced in
     let most = kept-most old.entries play is.keep held is.noted.answered in
     let sent : sent_by (booking_of play) old.heard ≤ is.keep = omega (arith, is.pause.boundary.after) in
-    ap (λ (m : Moment). booked_after m.entries t) is.noted.new_is ∙ stays-halt old.entries c is.keep old.heard play held sent most t past
+    ap (λ (m : Moment). booked_after m.entries t) is.noted.new_is ∙ stays-halt old.entries c is.keep play held sent most t past
 
-pause-past : (link : Link) (c : ℕ) (seat : Seat) (old new : Moment) (text : List ℕ) → c < 256 → get_or old.seats c Idle ≡ seat → IsReady old
+pause-past : {c : ℕ} {seat : Seat} {old : Moment} (link : Link) (new : Moment) (text : List ℕ) → c < 256 → get_or old.seats c Idle ≡ seat → IsReady old
     → IsPauseLine link c seat old new text → Past old new
-pause-past link c Idle old new text client at ready is = kept-past old new is.kept
-pause-past link c (Playing play) old new text client at ready is = halted-past link c play old new text client at ready is
-pause-past link c (Pausing stop rest) old new text client at ready is = kept-past old new is.kept
-pause-past link c (Paused rest) old new text client at ready is = kept-past old new is.kept
+pause-past {c} {seat = Idle} {old} link new text client at ready is = kept-past old new is.kept
+pause-past {c} {seat = Playing play} link new text client at ready is = halted-past client at ready is
+pause-past {c} {seat = Pausing stop rest} {old} link new text client at ready is = kept-past old new is.kept
+pause-past {c} {seat = Paused rest} {old} link new text client at ready is = kept-past old new is.kept
 
 look-past : (link : Link) (slot : ℕ) (old new : Moment) (text : List ℕ) → IsLookLine link slot old new text → Past old new
 look-past link slot old new text (inl full) = kept-past old new full.told.kept
@@ -106,41 +107,42 @@ look-past link slot old new text (inr made) =
         → (state_after (entries ++ entry_by 0 (commands.Look slot) answer ∷ [])).held ≡ (state_after entries).held
     look-held answer slot entries = ap (λ (s : State). s.held) (state-push entries (entry_by 0 (commands.Look slot) answer))
 
-offer-past : (link : Link) (rest : Rest) (wait : ℕ) (old new : Moment) (text : List ℕ) → IsOfferLine link rest wait old new text → Past old new
-offer-past link rest wait old new text (inl faulty) = kept-past old new faulty.told.kept
-offer-past link rest wait old new text (inr offered) = kept-past old new offered.told.kept
+offer-past : {link : Link} {rest : Rest} {wait : ℕ} {old new : Moment} {text : List ℕ} → IsOfferLine link rest wait old new text → Past old new
+offer-past {old} {new} {text} (inl faulty) = kept-past old new faulty.told.kept
+offer-past {old} {new} {text} (inr offered) = kept-past old new offered.told.kept
 
-line-past : (link : Link) (line : Line) (n : ℕ) (old new : Moment) (text : List ℕ) → IsClient line → StandsAfter old.heard n line → IsReady old
+line-past : {old : Moment} (link : Link) (line : Line) (n : ℕ) (new : Moment) (text : List ℕ) → IsClient line → StandsAfter old.heard n line → IsReady old
     → IsLine link line old new text → Past old new
-line-past link (lines.Play c source buffer delay) n old new text client stands ready is =
+line-past {old} link (lines.Play c source buffer delay) n new text client stands ready is =
     play-past link c (rest_at link source buffer delay) (seat_at old c) old new text is
-line-past link (lines.Pause c) n old new text client stands ready is = pause-past link c (seat_at old c) old new text client refl ready is
-line-past link (lines.Resume c) n old new text client stands ready is = resume-past link c (seat_at old c) old new text is
-line-past link (lines.Look slot) n old new text client stands ready is = look-past link _ old new text is
-line-past link (lines.Slot slot) n old new text client stands ready is = λ t past.
+line-past link (lines.Pause c) n new text client stands ready is = pause-past link new text client refl ready is
+line-past {old} link (lines.Resume c) n new text client stands ready is = resume-past link c (seat_at old c) old new text is
+line-past {old} link (lines.Look slot) n new text client stands ready is = look-past link _ old new text is
+line-past {old} link (lines.Slot slot) n new text client stands ready is = λ t past.
     ap (λ (m : Moment). booked_after m.entries t) is.0 ∙ slot-stays old slot t (omega (arith, stands.0)) (omega (arith, past, stands.0)) ready.balanced
-line-past link (lines.Offer c source buffer delay wait) n old new text client stands ready is =
-    offer-past link (rest_at link source buffer delay) wait old new text is
+line-past link (lines.Offer c source buffer delay wait) n new text client stands ready is =
+    offer-past is
 
-pub day-past : (link : Link) (n : ℕ) (ls : List Line) (texts : List (List ℕ)) (m new : Moment) (line : Line) (text : List ℕ) (t : ℕ) → AreClients ls → AreLines n ls
+pub day-past : {n : ℕ} {ls : List Line} (link : Link) (texts : List (List ℕ)) (m new : Moment) (line : Line)
+    (text : List ℕ) (t : ℕ) → AreClients ls → AreLines n ls
     → AreRun link ls texts first_moment m → IsClient line → StandsAfter m.heard n line → IsLine link line m new text → t ≤ m.heard
     → booked_after new.entries t ≡ booked_after m.entries t
-day-past link n ls texts m new line text t clients are run client stands is past =
-    line-past link line n m new text client stands (run-ready link n ls texts first_moment m clients.each are.each run morning-ready) is t past
+day-past {n} {ls} link texts m new line text t clients are run client stands is past =
+    line-past link line n new text client stands (run-ready link n ls texts clients.each are.each run morning-ready) is t past
 
-pub end-past : (link : Link) (n : ℕ) (ls : List Line) (texts : List (List ℕ)) (m : Moment) (t : ℕ) → AreClients ls → AreLines n ls
+pub end-past : {n : ℕ} {ls : List Line} (link : Link) (texts : List (List ℕ)) (m : Moment) (t : ℕ) → AreClients ls → AreLines n ls
     → AreRun link ls texts first_moment m → t ≤ m.heard → booked_after (last_journal m) t ≡ booked_after m.entries t
-end-past link n ls texts m t clients are run past =
-    last-stays m t past (run-ready link n ls texts first_moment m clients.each are.each run morning-ready).balanced
+end-past {n} {ls} link texts m t clients are run past =
+    last-stays m t past (run-ready link n ls texts clients.each are.each run morning-ready).balanced
 
 -- ---- the same of turns
-done-past : (link : Link) (words : ℕ → ℕ) (c : ℕ) (seat : Seat) (old new : Moment) (text : List ℕ) → c < 256 → IsReady old → get_or old.seats c Idle ≡ seat
+done-past : {c : ℕ} {seat : Seat} {old : Moment} (link : Link) (words : ℕ → ℕ) (new : Moment) (text : List ℕ) → c < 256 → IsReady old → get_or old.seats c Idle ≡ seat
     → IsDone link words c seat old new text → Past old new
-done-past link words c Idle old new text client ready at is =
+done-past {c} {seat = Idle} {old} link words new text client ready at is =
     play-past link c (rest_at link (words 0 % 16) (16384 + words 1 % 16384) (words 2 % 26)) (seat_at old c) old new text is
-done-past link words c (Playing play) old new text client ready at is = pause-past link c (seat_at old c) old new text client refl ready is
-done-past link words c (Pausing stop rest) old new text client ready at is = kept-past old new is.kept
-done-past link words c (Paused rest) old new text client ready at is = resume-past link c (seat_at old c) old new text is
+done-past {c} {seat = Playing play} link words new text client ready at is = pause-past link new text client refl ready is
+done-past {c} {seat = Pausing stop rest} {old} link words new text client ready at is = kept-past old new is.kept
+done-past {c} {seat = Paused rest} {old} link words new text client ready at is = resume-past link c (seat_at old c) old new text is
 
 -- a slot or none leaves what is booked up to it
 later-past : (old : Moment) (later t : ℕ) → IsReady old → t ≤ (at_later old later).heard → booked_after (at_later old later).entries t ≡ booked_after old.entries t
@@ -151,14 +153,14 @@ later-past old later t ready = past-if (later == 0)
     past-if true past = refl
     past-if false past = slot-stays old (old.heard + later) t (omega arith) past ready.balanced
 
-turn-past : (link : Link) (words : ℕ → ℕ) (turn : Turn) (t : ℕ) → IsTurn link words turn → IsReady turn.old → t ≤ turn.mid.heard
+turn-past : {link : Link} {words : ℕ → ℕ} {turn : Turn} (t : ℕ) → IsTurn link words turn → IsReady turn.old → t ≤ turn.mid.heard
     → booked_after turn.new.entries t ≡ booked_after turn.old.entries t
-turn-past link words turn t is ready past =
+turn-past {link} {words} {turn} t is ready past =
     let R : Moment → Type 0 = λ m. IsReady m in
     let mid : IsReady turn.mid = subst R (sym is.slot) (later-ready turn.old (words 0 % 4) ready) in
     let P : Moment → Type 0 = λ m. t ≤ m.heard → booked_after m.entries t ≡ booked_after turn.old.entries t in
     let to-mid : P turn.mid = subst P (sym is.slot) (later-past turn.old (words 0 % 4) t ready) in
-    done-past link (after 2 words) (client_of words) _ turn.mid turn.new turn.text (omega arith) mid refl is.done t past ∙ to-mid past
+    done-past link (after 2 words) turn.new turn.text (omega arith) mid refl is.done t past ∙ to-mid past
 
 -- ---- sums and peaks over slots that join
 sum-same : (f g : ℕ → ℕ) (a n : ℕ) → ((t : ℕ) → t < a + n → f t ≡ g t) → sum_by f (range_with_len a n) ≡ sum_by g (range_with_len a n)
@@ -228,10 +230,10 @@ pub record AreBooked (booked : ℕ → ℕ) (turns : List Turn) (from to : ℕ) 
   pub sum_is : sum_by turn_booked turns ≡ sum_by booked (range_with_len (from + 1) (to - from))
   pub peak_is : fold max 0 (map turn_peak turns) ≡ fold max 0 (map booked (range_with_len (from + 1) (to - from)))
 
-pub turns-past : (link : Link) (words : ℕ → ℕ) (turns : List Turn) (old new : Moment) (booked : ℕ → ℕ) → AreTurns link words turns old new → IsReady old
+pub turns-past : {turns : List Turn} {old : Moment} {booked : ℕ → ℕ} (link : Link) (words : ℕ → ℕ) (new : Moment) → AreTurns link words turns old new → IsReady old
     → ((t : ℕ) → t ≤ new.heard → booked t ≡ booked_after new.entries t)
     → AreBooked booked turns old.heard new.heard × ((t : ℕ) → t ≤ old.heard → booked t ≡ booked_after old.entries t)
-turns-past link words [] old new booked run ready same =
+turns-past {turns = []} {old} {booked} link words new run ready same =
     let heard : new.heard ≡ old.heard = ap (λ (m : Moment). m.heard) run in
     let none : new.heard - old.heard ≡ 0 = omega (arith, heard) in (
       record {
@@ -241,17 +243,17 @@ turns-past link words [] old new booked run ready same =
       },
       λ t past. same t (omega (arith, past, heard)) ∙ ap (λ (m : Moment). booked_after m.entries t) run,
     )
-turns-past link words (turn ∷ turns) old new booked run ready same =
+turns-past {turns = turn ∷ turns} {old} {booked} link words new run ready same =
     let R : Moment → Type 0 = λ m. IsReady m in
     let begun : IsReady turn.old = subst R (sym run.0) ready in
     let is = run.1.0 in
-    let rest = turns-past link (after_turn words turn) turns turn.new new booked run.1.1 (turn-ready link words turn is begun) same in
+    let rest = turns-past {turns = turns} {old = turn.new} {booked = booked} link (after_turn words turn) new run.1.1 (turn-ready link words turn is begun) same in
     let from : turn.old.heard ≡ old.heard = ap (λ (m : Moment). m.heard) run.0 in
     let mid : turn.new.heard ≡ turn.mid.heard = done-heard link (after 2 words) (client_of words) _ turn.mid turn.new turn.text is.done in
     let M : Moment → Type 0 = λ m. turn.old.heard ≤ m.heard in
     let later : turn.old.heard ≤ turn.mid.heard = subst M (sym is.slot) (later-heard turn.old (words 0 % 4)) in
     let here : (t : ℕ) → t ≤ turn.mid.heard → booked t ≡ booked_after turn.old.entries t =
-    λ t past. rest.1 t (omega (arith, past, mid)) ∙ turn-past link words turn t is begun past in
+    λ t past. rest.1 t (omega (arith, past, mid)) ∙ turn-past {link = link} {words = words} {turn = turn} t is begun past in
     let m = turn.mid.heard - turn.old.heard in
     let n = new.heard - turn.new.heard in
     let order = rest.0.order in
@@ -287,10 +289,10 @@ turns-past link words (turn ∷ turns) old new booked run ready same =
       λ t past. here t (omega (arith, past, from, later)) ∙ ap (λ (x : Moment). booked_after x.entries t) run.0,
     )
 
-pub fair-past : (link : Link) (words : ℕ → ℕ) (turns : List Turn) (evening : Moment) (journal : List Entry) → AreTurns link words turns first_moment evening
+pub fair-past : {turns : List Turn} {evening : Moment} {journal : List Entry} (link : Link) (words : ℕ → ℕ) → AreTurns link words turns first_moment evening
     → journal ≡ last_journal evening → IsReady evening → AreBooked (booked_after journal) turns 0 evening.heard
-fair-past link words turns evening journal run is ready =
-    (turns-past link words turns first_moment evening (booked_after journal) run morning-ready
+fair-past {evening} link words run is ready =
+    (turns-past link words evening run morning-ready
     (λ t past. ap (λ es. booked_after es t) is ∙ last-stays evening t past ready.balanced)).0
 
 -- ---- looks and offers
@@ -309,7 +311,7 @@ pub offer-leaves : (link : Link) (client source buffer delay wait : ℕ) (old ne
 offer-leaves link client source buffer delay wait old new text (inl faulty) = faulty.told.kept
 offer-leaves link client source buffer delay wait old new text (inr offered) = offered.told.kept
 
-pub end-later : (link : Link) (n : ℕ) (ls : List Line) (texts : List (List ℕ)) (m : Moment) (t : ℕ) → AreClients ls → AreLines n ls
+pub end-later : {n : ℕ} {ls : List Line} (link : Link) (texts : List (List ℕ)) (m : Moment) (t : ℕ) → AreClients ls → AreLines n ls
     → AreRun link ls texts first_moment m → m.heard < t → booked_after (last_journal m) t ≡ sum_by (share_of t) (map after_open m.seats)
-end-later link n ls texts m t clients are run later =
-    last-later m t later (run-ready link n ls texts first_moment m clients.each are.each run morning-ready).balanced
+end-later {n} {ls} link texts m t clients are run later =
+    last-later m t later (run-ready link n ls texts clients.each are.each run morning-ready).balanced

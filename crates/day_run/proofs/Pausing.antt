@@ -45,15 +45,15 @@ undone-apart p undone some same =
     subst T e (eqb_refl p.keep)
 
 -- the halt of a play that isn't done
-pub halts : (play : Play) (last : Option ℕ) (keep : ℕ) → IsPlaying play → is_done play.pacer ≡ false → slots_through last ≡ play.pacer.passed
+pub halts : {play : Play} {keep : ℕ} (last : Option ℕ) → IsPlaying play → is_done play.pacer ≡ false → slots_through last ≡ play.pacer.passed
     → IsBoundaryAfter play.pacer.pieces (play.pacer.before + play.pacer.sent) (play.pacer.before + keep) → keep ≤ play.pacer.keep → IsHalt play.plan last keep
-halts play None keep playing undone passed boundary most =
+halts {play} {keep} None playing undone passed boundary most =
     let p = play.pacer in
     let nothing : first_slots p.plan p.passed ≡ 0 = ap (first_slots p.plan) (sym passed) in
     let sent : p.sent ≡ 0 = omega (arith, playing.all_sent, playing.pacing.due, nothing) in
     let le : p.before + keep ≤ p.before = boundary.least p.before playing.pacing.begins (omega (arith, sent)) in
     omega (arith, le)
-halts play (Some last) keep playing undone passed boundary most =
+halts {play} (Some last) playing undone passed boundary most =
     let p = play.pacer in
     let due : p.due ≡ min (sum_through p.plan last) p.keep = playing.pacing.due ∙ ap (λ n. min (first_slots p.plan n) p.keep) (sym passed) in
     let apart : p.sent ≡ p.keep → ⊥ = undone-apart p undone (omega (arith, passed)) in

@@ -11,9 +11,9 @@ pub peak-slots : (f : ℕ → ℕ) (a n j : ℕ) → a + n ≡ j → fold max 0 
 peak-slots f a n j at = ap (fold max 0) (map-range_with_len_more f a n j at) ∙ peak-push (map f (range_with_len a n)) (f j)
 
 -- the most through a slot
-pub peak-next : (f : ℕ → ℕ) (from slot peak here : ℕ) → from + 1 ≤ slot → peak ≡ fold max 0 (map f (range_with_len (from + 1) (slot - (from + 1)))) → here ≡ f slot
+pub peak-next : {slot peak here : ℕ} (f : ℕ → ℕ) (from : ℕ) → from + 1 ≤ slot → peak ≡ fold max 0 (map f (range_with_len (from + 1) (slot - (from + 1)))) → here ≡ f slot
     → max peak here ≡ fold max 0 (map f (range_with_len (from + 1) (slot + 1 - (from + 1))))
-peak-next f from slot peak here begun is h =
+peak-next {slot} {here} f from begun is h =
     let n = slot - (from + 1) in
     let at : from + 1 + n ≡ slot = omega (arith, begun) in
     let e : slot + 1 - (from + 1) ≡ n + 1 = omega (arith, begun) in

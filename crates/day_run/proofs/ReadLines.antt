@@ -69,16 +69,16 @@ reads-more begun r [] line h = then_some (line_read begun line) ∙ ap (λ x. li
 reads-more begun r (l ∷ lines) line h = reads-on (line_read begun l) r lines line (λ n e. reads-more n r lines line e) h
 
 -- one more line was read
-pub read-next : (text line : List ℕ) (rest : List (List ℕ)) (k : ℕ) (r next : Reading) → NextLine (lines_of_script text) k line rest
+pub read-next : {line : List ℕ} {rest : List (List ℕ)} {k : ℕ} {r next : Reading} (text : List ℕ) → NextLine (lines_of_script text) k line rest
     → lines_read nothing_read (take k (lines_of_script text)) ≡ Some r → line_read r line ≡ Some next
     → lines_read nothing_read (take (k + 1) (lines_of_script text)) ≡ Some next
-read-next text line rest k r next at h read =
+read-next {line} {k} {r} {next} text at h read =
     ap (lines_read nothing_read) at.front ∙ reads-more nothing_read r (take k (lines_of_script text)) line h ∙ read
 
 -- the next line may not stand there
-pub bad-next : (text line : List ℕ) (rest : List (List ℕ)) (k : ℕ) (r : Reading) → NextLine (lines_of_script text) k line rest → k ≤ 1000000
+pub bad-next : {text line : List ℕ} {rest : List (List ℕ)} {k : ℕ} {r : Reading} → NextLine (lines_of_script text) k line rest → k ≤ 1000000
     → lines_read nothing_read (take k (lines_of_script text)) ≡ Some r → ((k + 1 ≡ 1000001) ⊎ (line_read r line ≡ None)) → IsBadLine text (k + 1)
-bad-next text line rest k r at few h here =
+bad-next {text} {line} {k} {r} at few h here =
     let e : k + 1 - 1 ≡ k = omega arith in
     record {
       reading = r;

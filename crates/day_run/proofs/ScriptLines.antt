@@ -10,21 +10,21 @@ use Rattle.day_run.specs.Scripts.{AreLines, IsWish, StandsAfter, latest_slot, sl
 pub latest-push : (lines : List Line) (line : Line) → latest_slot (lines ++ line ∷ []) ≡ slot_after (latest_slot lines) line
 latest-push lines line = fold_push slot_after 0 lines line
 
-more-wish : (n m source buffer delay : ℕ) → n ≤ m → IsWish n source buffer delay → IsWish m source buffer delay
-more-wish n m source buffer delay le wish =
+more-wish : {n m source buffer delay : ℕ} → n ≤ m → IsWish n source buffer delay → IsWish m source buffer delay
+more-wish {m} le wish =
     record { inside = omega (arith, wish.inside, le); some_buffer = wish.some_buffer; buffer_fits = wish.buffer_fits; delay_fits = wish.delay_fits }
 
 -- more sources do as well
 more-sources : (heard n m : ℕ) (line : Line) → n ≤ m → StandsAfter heard n line → StandsAfter heard m line
-more-sources heard n m (Play client source buffer delay) le stands = more-wish n m source buffer delay le stands
+more-sources heard n m (Play client source buffer delay) le stands = more-wish le stands
 more-sources heard n m (Pause client) le stands = tt
 more-sources heard n m (Resume client) le stands = tt
 more-sources heard n m (Look slot) le stands = tt
 more-sources heard n m (Slot slot) le stands = stands
-more-sources heard n m (Offer client source buffer delay wait) le stands = (more-wish n m source buffer delay le stands.0, stands.1)
+more-sources heard n m (Offer client source buffer delay wait) le stands = (more-wish le stands.0, stands.1)
 
-pub lines-more : (n m : ℕ) (lines : List Line) (line : Line) → n ≤ m → AreLines n lines → StandsAfter (latest_slot lines) m line → AreLines m (lines ++ line ∷ [])
-lines-more n m lines line le are stands =
+pub lines-more : {n m : ℕ} {lines : List Line} (line : Line) → n ≤ m → AreLines n lines → StandsAfter (latest_slot lines) m line → AreLines m (lines ++ line ∷ [])
+lines-more {n} {m} {lines} line le are stands =
     record {
       each = λ i none inside. elim (cases_lt i (length lines)) [
         | inl before ↦

@@ -37,9 +37,9 @@ sum-past f a m n le none =
     sym (ap (λ k. sum_by f (range_with_len a k)) e ∙ sum-more-slots f a m (n - m) none)
 
 -- the sum through a slot
-pub booked-next : (f : ℕ → ℕ) (from slot booked here : ℕ) → from + 1 ≤ slot → booked ≡ sum_by f (range_with_len (from + 1) (slot - (from + 1)))
+pub booked-next : {slot booked here : ℕ} (f : ℕ → ℕ) (from : ℕ) → from + 1 ≤ slot → booked ≡ sum_by f (range_with_len (from + 1) (slot - (from + 1)))
     → here ≡ f slot → booked + here ≡ sum_by f (range_with_len (from + 1) (slot + 1 - (from + 1)))
-booked-next f from slot booked here begun is h =
+booked-next {slot} {here} f from begun is h =
     let at : from + 1 + (slot - (from + 1)) ≡ slot = omega (arith, begun) in
     let e : slot + 1 - (from + 1) ≡ slot - (from + 1) + 1 = omega (arith, begun) in
     ap (λ k. k + here) is ∙ ap (λ k. sum_by f (range_with_len (from + 1) (slot - (from + 1))) + k) (h ∙ ap f (sym at))

@@ -59,27 +59,27 @@ kept-seats old new kept each =
     subst M (sym kept) each
 
 -- ---- a play that begins
-answered-seats : (answer : Answer) (link : Link) (c : ℕ) (rest : Rest) (plan : List Segment) (old : Moment) → c < 256 → IsSoundRest rest
+answered-seats : {rest : Rest} {plan : List Segment} {old : Moment} (answer : Answer) (link : Link) (c : ℕ) → c < 256 → IsSoundRest rest
     → IsPlanOf rest.sizes rest.playback rest.run plan → IsSound old
     → IsAnswered link.steps (state_after old.entries) (entry_by c (commands.Play old.heard plan) answer) → AreSeats old.heard (with_play c rest plan (length old.entries) answer old.seats)
-answered-seats (Admitted start) link c rest plan old client own plan-is sound answer =
+answered-seats {rest} {plan} {old} (Admitted start) link c client own plan-is sound answer =
     let play : Play = record { number = length old.entries; rest = rest; plan = plan; start = start } in
     let early : old.heard < start = omega (arith, answer.0) in
     set-sound old.heard c old.seats (Playing play) sound.ready.count client
     (record { rest = own; plan = plan-is; left = λ begun. absurd (omega (arith, begun, early)) }) sound.each
-answered-seats (Overflow over booked asked) link c rest plan old client own plan-is sound answer = sound.each
-answered-seats Halted link c rest plan old client own plan-is sound answer = sound.each
-answered-seats (Looked now at booked) link c rest plan old client own plan-is sound answer = sound.each
+answered-seats (Overflow over booked asked) link c client own plan-is sound answer = sound.each
+answered-seats Halted link c client own plan-is sound answer = sound.each
+answered-seats (Looked now at booked) link c client own plan-is sound answer = sound.each
 
-asked-seats : (link : Link) (c : ℕ) (rest : Rest) (old new : Moment) (text : List ℕ) → c < 256 → (0 < length (rest_sizes rest.sizes rest.run) → IsSoundRest rest)
+asked-seats : {link : Link} {c : ℕ} {rest : Rest} {old new : Moment} {text : List ℕ} → c < 256 → (0 < length (rest_sizes rest.sizes rest.run) → IsSoundRest rest)
     → IsSound old → IsAsked link c rest old new text → AreSeats new.heard new.seats
-asked-seats link c rest old new text client own sound (inl faulty) = kept-seats old new faulty.told.kept sound.each
-asked-seats link c rest old new text client own sound (inr planned) = elim planned.done [
+asked-seats {c} {old} {new} {text} client own sound (inl faulty) = kept-seats old new faulty.told.kept sound.each
+asked-seats {link} {c} {old} {new} {text} client own sound (inr planned) = elim planned.done [
   | inl full ↦ kept-seats old new full.told.kept sound.each
   | inr made ↦
       let M : Moment → Type 0 = λ m. AreSeats m.heard m.seats in
       subst M (sym made.noted.new_is)
-      (answered-seats made.answer link c rest planned.plan old client (own planned.plan_is.accepted.some_picture) planned.plan_is sound made.noted.answered)
+      (answered-seats made.answer link c client (own planned.plan_is.accepted.some_picture) planned.plan_is sound made.noted.answered)
 ]
 
 -- ---- a play that is halted
@@ -122,13 +122,13 @@ sent-through play heard begun below =
     let sent : sent_before play.plan play.start (heard + 1) ≡ sum_through play.plan (heard - play.start) = ap (λ n. sum (take n (plan_slots play.plan))) e in
     omega (arith, below, sent)
 
-halt-if : (b : Bool) (play : Play) (heard keep : ℕ) (seat : Seat) → nat_lt heard play.start ≡ b → IsSoundPlay heard play → IsPause play heard keep seat
+halt-if : {b : Bool} {play : Play} {heard keep : ℕ} {seat : Seat} → nat_lt heard play.start ≡ b → IsSoundPlay heard play → IsPause play heard keep seat
     → keep ≤ total_bytes play.plan → IsHalt play.plan (cond b None (Some (heard - play.start))) keep
-halt-if true play heard keep seat early sound pause most =
+halt-if {b = true} {play} {heard} {keep} early sound pause most =
     let before : heard < play.start = ltb-true heard play.start early in
     let le : play.rest.run.sent + keep ≤ play.rest.run.sent = pause.boundary.least play.rest.run.sent sound.rest.boundary (omega (arith, none-sent play heard before)) in
     omega (arith, le)
-halt-if false play heard keep seat late sound pause most =
+halt-if {b = false} {play} {heard} late sound pause most =
     let begun : play.start ≤ heard = ltb-false heard play.start late in
     let last = heard - play.start in
     let below = sound.left begun in
@@ -152,15 +152,15 @@ kept-most entries play keep held can =
     let P : Option Held → Type 0 = λ o. IsSomeAnd o (λ (h : Held). IsTrue h.is_open × (keep ≤ total_bytes h.play.segments)) in
     (subst P held can).1
 
-left-sound : (play : Play) (heard keep : ℕ) (seat : Seat) → IsSoundPlay heard play → (pause : IsPause play heard keep seat) → keep ≤ total_bytes play.plan
+left-sound : {play : Play} {heard keep : ℕ} {seat : Seat} → IsSoundPlay heard play → (pause : IsPause play heard keep seat) → keep ≤ total_bytes play.plan
     → IsSoundRest (record play.rest { run = pause.left })
-left-sound play heard keep seat sound pause most =
+left-sound {play} {heard} {keep} sound pause most =
     let sending : IsSending play.rest.sizes play.rest.playback play.rest.run play.plan = record { can_play = sound.rest.can; plan_is = sound.plan } in
     let B : ℕ → Type 0 = λ n. IsBoundary play.rest.pieces n in
     record {
       can =
           halted-plays play.rest.sizes play.rest.playback play.rest.run play.plan sending (slot_sent play.start heard) keep pause.left
-          (halt-if (nat_lt heard play.start) play heard keep seat refl sound pause most) pause.left_is;
+          (halt-if refl sound pause most) pause.left_is;
       boundary = subst B (sym pause.left_is.sent_is) pause.boundary.boundary;
     }
 
@@ -168,15 +168,15 @@ pausing-sound : (heard slot : ℕ) (b : Bool) (stop : Booked) (rest : Rest) → 
 pausing-sound heard slot true stop rest own = own
 pausing-sound heard slot false stop rest own = own
 
-halted-seats : (link : Link) (c : ℕ) (play : Play) (old new : Moment) (text : List ℕ) → c < 256 → get_or old.seats c Idle ≡ Playing play → IsSound old
+halted-seats : {link : Link} {c : ℕ} {play : Play} {old new : Moment} {text : List ℕ} → c < 256 → get_or old.seats c Idle ≡ Playing play → IsSound old
     → IsHaltedPlay link c play old new text → AreSeats new.heard new.seats
-halted-seats link c play old new text client at sound is =
+halted-seats {c} {play} {old} {new} {text} client at sound is =
     let P : Seat → Type 0 = λ s. IsSoundSeat old.heard s in
     let own : IsSoundPlay old.heard play = subst P at (sound.each c client) in
     let H : Seat → Type 0 = λ s. AreHeldOf old.entries c s in
     let its : IsHeld old.entries c play = subst H at (sound.ready.balanced.held c (omega (arith, client, sound.ready.count))) in
     let most = kept-most old.entries play is.keep its.held is.noted.answered in
-    let rest = left-sound play old.heard is.keep is.seat own is.pause most in
+    let rest = left-sound own is.pause most in
     let seat : IsSoundSeat old.heard is.seat = subst P (sym is.pause.seat_is) (pausing-sound old.heard old.heard _ _ _ rest) in
     let M : Moment → Type 0 = λ m. AreSeats m.heard m.seats in
     subst M (sym is.noted.new_is) (set-sound old.heard c old.seats is.seat sound.ready.count client seat sound.each)
@@ -207,9 +207,9 @@ slot-seats old slot sound c client =
     (seat-slot old.heard slot (get_or old.seats c Idle) (sound.each c client))
 
 -- ---- all of a track
-pub whole-sound : (link : Link) (source buffer delay : ℕ) → IsLink link → IsWish (length link.tracks) source buffer delay
+pub whole-sound : {link : Link} {source buffer delay : ℕ} → IsLink link → IsWish (length link.tracks) source buffer delay
     → 0 < length (rest_sizes (rest_at link source buffer delay).sizes (rest_at link source buffer delay).run) → IsSoundRest (rest_at link source buffer delay)
-whole-sound link source buffer delay link-is wish some =
+whole-sound {link} {source} {buffer} {delay} link-is wish some =
     let rest = rest_at link source buffer delay in
     let track = link-is.tracks source no_track wish.inside in
     let count : 0 < length rest.sizes = omega (arith, some, length-take (length rest.sizes - 0) (drop 0 rest.sizes)) in
@@ -240,76 +240,76 @@ whole-sound link source buffer delay link-is wish some =
     }
 
 -- ---- each kind of line leaves the clients sound
-play-seats : (link : Link) (c : ℕ) (rest : Rest) (seat : Seat) (old new : Moment) (text : List ℕ) → c < 256
+play-seats : {c : ℕ} {rest : Rest} {old : Moment} (link : Link) (seat : Seat) (new : Moment) (text : List ℕ) → c < 256
     → (0 < length (rest_sizes rest.sizes rest.run) → IsSoundRest rest) → IsSound old → IsPlayLine link c rest seat old new text → AreSeats new.heard new.seats
-play-seats link c rest Idle old new text client own sound is = asked-seats link c rest old new text client own sound is
-play-seats link c rest (Playing play) old new text client own sound is = kept-seats old new is.kept sound.each
-play-seats link c rest (Pausing stop left) old new text client own sound is = kept-seats old new is.kept sound.each
-play-seats link c rest (Paused left) old new text client own sound is = asked-seats link c rest old new text client own sound is
+play-seats {c} link Idle new text client own sound is = asked-seats client own sound is
+play-seats {c} {old} link (Playing play) new text client own sound is = kept-seats old new is.kept sound.each
+play-seats {c} {old} link (Pausing stop left) new text client own sound is = kept-seats old new is.kept sound.each
+play-seats {c} link (Paused left) new text client own sound is = asked-seats client own sound is
 
-resume-seats : (link : Link) (c : ℕ) (seat : Seat) (old new : Moment) (text : List ℕ) → c < 256 → get_or old.seats c Idle ≡ seat → IsSound old
+resume-seats : {c : ℕ} {seat : Seat} {old : Moment} (link : Link) (new : Moment) (text : List ℕ) → c < 256 → get_or old.seats c Idle ≡ seat → IsSound old
     → IsResumeLine link c seat old new text → AreSeats new.heard new.seats
-resume-seats link c Idle old new text client at sound is = kept-seats old new is.kept sound.each
-resume-seats link c (Playing play) old new text client at sound is = kept-seats old new is.kept sound.each
-resume-seats link c (Pausing stop rest) old new text client at sound is = kept-seats old new is.kept sound.each
-resume-seats link c (Paused rest) old new text client at sound is =
+resume-seats {c} {seat = Idle} {old} link new text client at sound is = kept-seats old new is.kept sound.each
+resume-seats {c} {seat = Playing play} {old} link new text client at sound is = kept-seats old new is.kept sound.each
+resume-seats {c} {seat = Pausing stop rest} {old} link new text client at sound is = kept-seats old new is.kept sound.each
+resume-seats {c} {seat = Paused rest} {old} link new text client at sound is =
     let P : Seat → Type 0 = λ s. IsSoundSeat old.heard s in
     let own : IsSoundRest rest = subst P at (sound.each c client) in
-    asked-seats link c rest old new text client (λ some. own) sound is
+    asked-seats client (λ some. own) sound is
 
-pause-seats : (link : Link) (c : ℕ) (seat : Seat) (old new : Moment) (text : List ℕ) → c < 256 → get_or old.seats c Idle ≡ seat → IsSound old
+pause-seats : {c : ℕ} {seat : Seat} {old : Moment} (link : Link) (new : Moment) (text : List ℕ) → c < 256 → get_or old.seats c Idle ≡ seat → IsSound old
     → IsPauseLine link c seat old new text → AreSeats new.heard new.seats
-pause-seats link c Idle old new text client at sound is = kept-seats old new is.kept sound.each
-pause-seats link c (Playing play) old new text client at sound is = halted-seats link c play old new text client at sound is
-pause-seats link c (Pausing stop rest) old new text client at sound is = kept-seats old new is.kept sound.each
-pause-seats link c (Paused rest) old new text client at sound is = kept-seats old new is.kept sound.each
+pause-seats {c} {seat = Idle} {old} link new text client at sound is = kept-seats old new is.kept sound.each
+pause-seats {c} {seat = Playing play} link new text client at sound is = halted-seats client at sound is
+pause-seats {c} {seat = Pausing stop rest} {old} link new text client at sound is = kept-seats old new is.kept sound.each
+pause-seats {c} {seat = Paused rest} {old} link new text client at sound is = kept-seats old new is.kept sound.each
 
-look-seats : (link : Link) (slot : ℕ) (old new : Moment) (text : List ℕ) → IsSound old → IsLookLine link slot old new text → AreSeats new.heard new.seats
-look-seats link slot old new text sound (inl full) = kept-seats old new full.told.kept sound.each
-look-seats link slot old new text sound (inr made) =
+look-seats : {link : Link} {slot : ℕ} {old new : Moment} {text : List ℕ} → IsSound old → IsLookLine link slot old new text → AreSeats new.heard new.seats
+look-seats {slot} {old} {new} {text} sound (inl full) = kept-seats old new full.told.kept sound.each
+look-seats {slot} {new} {text} sound (inr made) =
     let M : Moment → Type 0 = λ m. AreSeats m.heard m.seats in
     subst M (sym made.noted.new_is) sound.each
 
-offer-seats : (link : Link) (rest : Rest) (wait : ℕ) (old new : Moment) (text : List ℕ) → IsSound old → IsOfferLine link rest wait old new text → AreSeats new.heard new.seats
-offer-seats link rest wait old new text sound (inl faulty) = kept-seats old new faulty.told.kept sound.each
-offer-seats link rest wait old new text sound (inr offered) = kept-seats old new offered.told.kept sound.each
+offer-seats : {link : Link} {rest : Rest} {wait : ℕ} {old new : Moment} {text : List ℕ} → IsSound old → IsOfferLine link rest wait old new text → AreSeats new.heard new.seats
+offer-seats {old} {new} {text} sound (inl faulty) = kept-seats old new faulty.told.kept sound.each
+offer-seats {old} {new} {text} sound (inr offered) = kept-seats old new offered.told.kept sound.each
 
 -- ---- lines leave the clients sound
-line-seats : (link : Link) (line : Line) (old new : Moment) (text : List ℕ) → IsLink link → IsClient line → StandsAfter old.heard (length link.tracks) line
+line-seats : {link : Link} {old : Moment} (line : Line) (new : Moment) (text : List ℕ) → IsLink link → IsClient line → StandsAfter old.heard (length link.tracks) line
     → IsSound old → IsLine link line old new text → AreSeats new.heard new.seats
-line-seats link (lines.Play c source buffer delay) old new text link-is client stands sound is =
-    play-seats link c (rest_at link source buffer delay) (seat_at old c) old new text client (whole-sound link source buffer delay link-is stands) sound is
-line-seats link (lines.Pause c) old new text link-is client stands sound is = pause-seats link c (seat_at old c) old new text client refl sound is
-line-seats link (lines.Resume c) old new text link-is client stands sound is = resume-seats link c (seat_at old c) old new text client refl sound is
-line-seats link (lines.Look slot) old new text link-is client stands sound is = look-seats link _ old new text sound is
-line-seats link (lines.Slot slot) old new text link-is client stands sound is =
+line-seats {link} {old} (lines.Play c source buffer delay) new text link-is client stands sound is =
+    play-seats link (seat_at old c) new text client (whole-sound link-is stands) sound is
+line-seats {link} (lines.Pause c) new text link-is client stands sound is = pause-seats link new text client refl sound is
+line-seats {link} (lines.Resume c) new text link-is client stands sound is = resume-seats link new text client refl sound is
+line-seats (lines.Look slot) new text link-is client stands sound is = look-seats sound is
+line-seats {old} (lines.Slot slot) new text link-is client stands sound is =
     let M : Moment → Type 0 = λ m. AreSeats m.heard m.seats in
     subst M (sym is.0) (slot-seats old slot sound)
-line-seats link (lines.Offer c source buffer delay wait) old new text link-is client stands sound is =
-    offer-seats link (rest_at link source buffer delay) wait old new text sound is
+line-seats (lines.Offer c source buffer delay wait) new text link-is client stands sound is =
+    offer-seats sound is
 
-pub line-sound : (link : Link) (line : Line) (old new : Moment) (text : List ℕ) → IsLink link → IsClient line → StandsAfter old.heard (length link.tracks) line
+pub line-sound : {link : Link} {old new : Moment} (line : Line) (text : List ℕ) → IsLink link → IsClient line → StandsAfter old.heard (length link.tracks) line
     → IsSound old → IsLine link line old new text → IsSound new
-line-sound link line old new text link-is client stands sound is = record {
-  ready = line-ready link line (length link.tracks) old new text client stands is sound.ready;
-  each = line-seats link line old new text link-is client stands sound is;
+line-sound {link} {new} line text link-is client stands sound is = record {
+  ready = line-ready link line (length link.tracks) text client stands is sound.ready;
+  each = line-seats line new text link-is client stands sound is;
 }
 
 -- after lines, all clients are sound
-run-sound : (link : Link) (ls : List Line) (texts : List (List ℕ)) (old new : Moment) → IsLink link
+run-sound : {link : Link} {old new : Moment} (ls : List Line) (texts : List (List ℕ)) → IsLink link
     → ((i : ℕ) (none : Line) → i < length ls → IsClient (get_or ls i none))
     → ((i : ℕ) (none : Line) → i < length ls → StandsAfter (fold slot_after old.heard (take i ls)) (length link.tracks) (get_or ls i none))
     → IsSound old → AreRun link ls texts old new → IsSound new
-run-sound link [] [] old new link-is clients stands sound run =
+run-sound {new} [] [] link-is clients stands sound run =
     let S : Moment → Type 0 = λ m. IsSound m in
     subst S (sym run) sound
-run-sound link [] (t ∷ ts) old new link-is clients stands sound run = absurd run
-run-sound link (l ∷ ls) [] old new link-is clients stands sound run = absurd run
-run-sound link (l ∷ ls) (t ∷ ts) old new link-is clients stands sound run =
-    let next = line-sound link l old run.0 t link-is (clients zero l (omega arith)) (stands zero l (omega arith)) sound run.1.0 in
+run-sound {new} [] (t ∷ ts) link-is clients stands sound run = absurd run
+run-sound {new} (l ∷ ls) [] link-is clients stands sound run = absurd run
+run-sound {link} {old} {new} (l ∷ ls) (t ∷ ts) link-is clients stands sound run =
+    let next = line-sound l t link-is (clients zero l (omega arith)) (stands zero l (omega arith)) sound run.1.0 in
     let H : ℕ → Type 0 = λ h. (i : ℕ) (none : Line) → i < length ls → StandsAfter (fold slot_after h (take i ls)) (length link.tracks) (get_or ls i none) in
-    let after : H run.0.heard = subst H (sym (heard-after link l old run.0 t run.1.0)) (stands-rest (length link.tracks) old.heard l ls stands) in
-    run-sound link ls ts run.0 new link-is (λ i none inside. clients (suc i) none (omega (arith, inside))) after next run.1.1
+    let after : H run.0.heard = subst H (sym (heard-after link l old run.0 t run.1.0)) (stands-rest l ls stands) in
+    run-sound {link = link} {old = run.0} {new = new} ls ts link-is (λ i none inside. clients (suc i) none (omega (arith, inside))) after next run.1.1
 
 pub idle-sound : AreSeats 0 (replicate 256 Idle)
 idle-sound c client =
@@ -319,4 +319,4 @@ idle-sound c client =
 pub day-sound : (link : Link) (ls : List Line) (texts : List (List ℕ)) (m : Moment) (c : ℕ) → IsLink link → AreClients ls → AreLines (length link.tracks) ls
     → AreRun link ls texts first_moment m → c < 256 → IsSoundSeat m.heard (seat_at m c)
 day-sound link ls texts m c link-is clients are run inside =
-    (run-sound link ls texts first_moment m link-is clients.each are.each (record { ready = morning-ready; each = idle-sound }) run).each c inside
+    (run-sound ls texts link-is clients.each are.each (record { ready = morning-ready; each = idle-sound }) run).each c inside

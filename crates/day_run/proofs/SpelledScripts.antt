@@ -83,9 +83,9 @@ in-words heard names (Offer client source buffer delay wait) may = (
 both-words : (word : List ℕ) (words : List (List ℕ)) → is_word word ≡ true → list_all is_word words ≡ true → list_all is_word (word ∷ words) ≡ true
 both-words word words one rest = and_from (is_word word) (list_all is_word words) one rest
 
-asked-plain : (name : Name) (client buffer delay : ℕ) (words : List (List ℕ)) → IsAskedInWords name client buffer delay → list_all is_word words ≡ true
+asked-plain : {name : Name} {client buffer delay : ℕ} (words : List (List ℕ)) → IsAskedInWords name client buffer delay → list_all is_word words ≡ true
     → list_all is_word (asked_words name client buffer delay words) ≡ true
-asked-plain name client buffer delay words asked rest =
+asked-plain {name} {client} {buffer} {delay} words asked rest =
     both-words (decimal client) (kind_text name.film ∷ name.name ∷ decimal buffer ∷ decimal delay ∷ words) (decimal-word client asked.client_small)
     (both-words (kind_text name.film) (name.name ∷ decimal buffer ∷ decimal delay ∷ words) (kind-word name.film)
     (both-words name.name (decimal buffer ∷ decimal delay ∷ words) asked.one_word
@@ -94,14 +94,14 @@ asked-plain name client buffer delay words asked rest =
 
 pub words-plain : (names : List Name) (line : Line) → IsInWords names line → list_all is_word (words_of names line) ≡ true
 words-plain names (Play client source buffer delay) own =
-    both-words (codes "play") (asked_words (name_at names source) client buffer delay []) refl (asked-plain (name_at names source) client buffer delay [] own refl)
+    both-words (codes "play") (asked_words (name_at names source) client buffer delay []) refl (asked-plain [] own refl)
 words-plain names (Pause client) own = both-words (codes "pause") (decimal client ∷ []) refl (both-words (decimal client) [] (decimal-word client own) refl)
 words-plain names (Resume client) own = both-words (codes "resume") (decimal client ∷ []) refl (both-words (decimal client) [] (decimal-word client own) refl)
 words-plain names (Look slot) own = both-words (codes "look") (decimal slot ∷ []) refl (both-words (decimal slot) [] (decimal-word slot own) refl)
 words-plain names (Slot slot) own = both-words (codes "slot") (decimal slot ∷ []) refl (both-words (decimal slot) [] (decimal-word slot own) refl)
 words-plain names (Offer client source buffer delay wait) own =
     both-words (codes "offer") (asked_words (name_at names source) client buffer delay (decimal wait ∷ [])) refl
-    (asked-plain (name_at names source) client buffer delay (decimal wait ∷ []) own.0 (both-words (decimal wait) [] (decimal-word wait own.1) refl))
+    (asked-plain (decimal wait ∷ []) own.0 (both-words (decimal wait) [] (decimal-word wait own.1) refl))
 
 -- ---- one line
 -- the words of a line are read
@@ -156,9 +156,9 @@ no-name names source good = elim (cases_lt source (length names)) [
       absurd (let no : ⊥ = cc none in no)
 ]
 
-source-at : (names : List Name) (k source : ℕ) → AreApart names → source ≤ k → k ≤ length names → source < length names
+source-at : {source : ℕ} (names : List Name) (k : ℕ) → AreApart names → source ≤ k → k ≤ length names → source < length names
     → source_in (take k names) (name_at names source) ≡ source
-source-at names k source apart next most inside =
+source-at {source} names k apart next most inside =
     let none = name_as false [] in
     let name = name_at names source in
     let count : length (take k names) ≡ k = length-take-le k names most in
@@ -168,9 +168,9 @@ source-at names k source apart next most inside =
     ap (is_name name) at ∙ false_from_ne_true (is_name name (name_at names j)) (λ same. absurd (apart j source before inside (sym (name-is name (name_at names j) same)))))
     (λ within. ap (is_name name) (get_or-take k names source none (omega (arith, within, count))) ∙ name-self name)
 
-names-at : (names : List Name) (k source : ℕ) → source ≤ k → k ≤ length names → source < length names → source_in (take k names) (name_at names source) ≡ source
+names-at : {source : ℕ} (names : List Name) (k : ℕ) → source ≤ k → k ≤ length names → source < length names → source_in (take k names) (name_at names source) ≡ source
     → with_name (take k names) (name_at names source) ≡ take (max k (source + 1)) names
-names-at names k source next most inside at =
+names-at {source} names k next most inside at =
     let name = name_at names source in
     let count : length (take k names) ≡ k = length-take-le k names most in
     elim (cases_lt source k) [
@@ -199,10 +199,10 @@ named-read : (names : List Name) (lines : List Line) (k slot source : ℕ) (line
 named-read names lines k slot source line apart next most good =
     let name = name_at names source in
     let inside = no-name names source good in
-    let at = source-at names k source apart next most inside in
+    let at = source-at names k apart next most inside in
     cond-true (is_good_name name.name) _ None good
     ∙ ap (λ n. Some (record { lines = lines ++ line n ∷ []; names = with_name (take k names) name; slot = slot })) at
-    ∙ ap (λ ns. Some (record { lines = lines ++ line source ∷ []; names = ns; slot = slot })) (names-at names k source next most inside at)
+    ∙ ap (λ ns. Some (record { lines = lines ++ line source ∷ []; names = ns; slot = slot })) (names-at names k next most inside at)
 
 -- a verb's line has a byte
 line-some : (names : List Name) (line : Line) → 0 < length (line_text names line)
@@ -222,19 +222,19 @@ line-words r names (Slot slot) own = text-read r (codes "slot") (decimal slot �
 line-words r names (Offer client source buffer delay wait) own =
     text-read r (codes "offer") (asked_words (name_at names source) client buffer delay (decimal wait ∷ [])) (line-some names (Offer client source buffer delay wait)) (words-plain names (Offer client source buffer delay wait) own)
 
-line-back : (names : List Name) (lines : List Line) (k heard : ℕ) (line : Line) → AreApart names → IsNextName k line → k ≤ length names → MayStand heard names line
+line-back : {k : ℕ} (names : List Name) (lines : List Line) (heard : ℕ) (line : Line) → AreApart names → IsNextName k line → k ≤ length names → MayStand heard names line
     → with_words (read_so_far names lines k heard) (words_of names line)
     ≡ Some (read_so_far names (lines ++ line ∷ []) (names_after k line) (slot_after heard line))
-line-back names lines k heard (Play client source buffer delay) apart next most may =
+line-back {k} names lines heard (Play client source buffer delay) apart next most may =
     let name = name_at names source in
     rw (asked-back name client buffer delay may)
     (named-read names lines k heard source (λ s. Play client s buffer delay) apart next most may.good)
-line-back names lines k heard (Pause client) apart next most may = rw (number-back 0 255 client (omega (arith, may)) (omega arith) may) refl
-line-back names lines k heard (Resume client) apart next most may = rw (number-back 0 255 client (omega (arith, may)) (omega arith) may) refl
-line-back names lines k heard (Look slot) apart next most may = rw (number-back 0 (2 ^ 62) slot (omega (arith, may)) (omega arith) may) refl
-line-back names lines k heard (Slot slot) apart next most may =
+line-back names lines heard (Pause client) apart next most may = rw (number-back 0 255 client (omega (arith, may)) (omega arith) may) refl
+line-back names lines heard (Resume client) apart next most may = rw (number-back 0 255 client (omega (arith, may)) (omega arith) may) refl
+line-back names lines heard (Look slot) apart next most may = rw (number-back 0 (2 ^ 62) slot (omega (arith, may)) (omega arith) may) refl
+line-back names lines heard (Slot slot) apart next most may =
     rw (number-back 1 (2 ^ 62) slot (omega (arith, may.1)) (omega (arith, may.0)) may.1) (rw (lt-ltb heard slot may.0) refl)
-line-back names lines k heard (Offer client source buffer delay wait) apart next most may =
+line-back {k} names lines heard (Offer client source buffer delay wait) apart next most may =
     let name = name_at names source in
     rw (asked-back name client buffer delay may.0) (rw (number-back 0 255 wait (omega (arith, may.1)) (omega arith) may.1)
     (named-read names lines k heard source (λ s. Offer client s buffer delay wait) apart next most may.0.good))
@@ -248,15 +248,15 @@ count-after names k heard (Look slot) may most = most
 count-after names k heard (Slot slot) may most = most
 count-after names k heard (Offer client source buffer delay wait) may most = omega (arith, most, no-name names source may.0.good)
 
-pub texts-read : (names : List Name) (before lines : List Line) (k heard : ℕ) → AreApart names → k ≤ length names → AreStanding names k heard lines
+pub texts-read : {k : ℕ} (names : List Name) (before lines : List Line) (heard : ℕ) → AreApart names → k ≤ length names → AreStanding names k heard lines
     → lines_read (read_so_far names before k heard) (map (line_text names) lines)
     ≡ Some (read_so_far names (before ++ lines) (fold names_after k lines) (fold slot_after heard lines))
-texts-read names before [] k heard apart most standing = ap (λ ls. Some (read_so_far names ls k heard)) (sym (append-nil before))
-texts-read names before (line ∷ lines) k heard apart most standing =
+texts-read {k} names before [] heard apart most standing = ap (λ ls. Some (read_so_far names ls k heard)) (sym (append-nil before))
+texts-read {k} names before (line ∷ lines) heard apart most standing =
     let read = line-words (read_so_far names before k heard) names line (in-words heard names line standing.1)
-    ∙ line-back names before k heard line apart standing.0 most standing.1 in
+    ∙ line-back names before heard line apart standing.0 most standing.1 in
     ap (option_and_then (λ next. lines_read next (map (line_text names) lines))) read
-    ∙ texts-read names (before ++ line ∷ []) lines (names_after k line) (slot_after heard line) apart (count-after names k heard line standing.1 most) standing.2
+    ∙ texts-read {k = names_after k line} names (before ++ line ∷ []) lines (slot_after heard line) apart (count-after names k heard line standing.1 most) standing.2
     ∙ ap (λ ls. Some (read_so_far names ls (fold names_after (names_after k line) lines) (fold slot_after (slot_after heard line) lines))) (append_assoc before (line ∷ []) lines)
 
 -- the lines of a script's text, and of what stands after it
@@ -371,18 +371,18 @@ verb-unknown verb (b ∷ c ∷ d ∷ e ∷ f ∷ g ∷ []) unknown =
 verb-unknown verb (b ∷ c ∷ d ∷ e ∷ f ∷ g ∷ h ∷ words) unknown = refl
 
 -- ---- the first bad line of a text
-pub first-bad : (names : List Name) (lines : List Line) (line rest : List ℕ) → AreWritten names lines
+pub first-bad : {names : List Name} {lines : List Line} {line : List ℕ} (rest : List ℕ) → AreWritten names lines
     → lines_of_script (line ++ 10 ∷ rest) ≡ line ∷ lines_of_script rest
     → line_read (read_so_far names lines (names_used lines) (latest_slot lines)) line ≡ None
     → IsBadLine (script_text names lines ++ (line ++ 10 ∷ rest)) (length lines + 1)
-first-bad names lines line rest written cut none =
+first-bad {names} {lines} {line} rest written cut none =
     let text = script_text names lines ++ (line ++ 10 ∷ rest) in
     let texts = map (line_text names) lines in
     let all : lines_of_script text ≡ texts ++ line ∷ lines_of_script rest =
     texts-lines names lines (line ++ 10 ∷ rest) 0 0 written.standing ∙ ap (λ ls. texts ++ ls) cut in
     let count : length texts ≡ length lines = length-map lines (line_text names) in
     let e : length lines + 1 - 1 ≡ length lines = omega arith in
-    let read = texts-read names [] lines 0 0 written.apart (omega arith) written.standing in
+    let read = texts-read names [] lines 0 written.apart (omega arith) written.standing in
     record {
       reading = read_so_far names lines (names_used lines) (latest_slot lines);
       some = omega arith;
@@ -403,7 +403,7 @@ script-back script written used =
     let none : lines_of_script [] ≡ [] = refl in
     let all : lines_of_script (script_text names lines) ≡ map (line_text names) lines =
     ap lines_of_script (sym (append-nil (script_text names lines))) ∙ texts-lines names lines [] 0 0 written.standing ∙ append-nil (map (line_text names) lines) in
-    let read = texts-read names [] lines 0 0 written.apart (omega arith) written.standing in
+    let read = texts-read names [] lines 0 written.apart (omega arith) written.standing in
     record {
       few = omega (arith, ap length all, length-map lines (line_text names), written.few);
       slot = latest_slot lines;
@@ -415,7 +415,7 @@ script-back script written used =
 pub range-bad : (names : List Name) (lines : List Line) (line : Line) (rest : List ℕ) → AreWritten names lines → IsInWords names line
     → (MayStand (latest_slot lines) names line → ⊥) → IsBadLine (script_text names lines ++ (line_text names line ++ 10 ∷ rest)) (length lines + 1)
 range-bad names lines line rest written own not =
-    first-bad names lines (line_text names line) rest written (spaced-line (words_of names line) rest (words-plain names line own))
+    first-bad rest written (spaced-line (words_of names line) rest (words-plain names line own))
     (line-bad (read_so_far names lines (names_used lines) (latest_slot lines)) names line own not)
 
 pub verb-bad : (names : List Name) (lines : List Line) (verb : List ℕ) (words : List (List ℕ)) (rest : List ℕ) → AreWritten names lines
@@ -423,5 +423,5 @@ pub verb-bad : (names : List Name) (lines : List Line) (verb : List ℕ) (words 
     → IsBadLine (script_text names lines ++ (words_text (verb ∷ words) ++ 10 ∷ rest)) (length lines + 1)
 verb-bad names lines verb words rest written plain some unknown =
     let r = read_so_far names lines (names_used lines) (latest_slot lines) in
-    first-bad names lines (words_text (verb ∷ words)) rest written (spaced-line (verb ∷ words) rest plain)
+    first-bad rest written (spaced-line (verb ∷ words) rest plain)
     (text-read r verb words some plain ∙ ap (option_and_then (with_saying r (verb ∷ words))) (verb-unknown verb words unknown))

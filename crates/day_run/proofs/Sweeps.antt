@@ -22,9 +22,9 @@ pub record IsSwept (f : Seat → Seat) (upto : ℕ) (old new : List Seat) : Type
 pub swept-none : (f : Seat → Seat) (old : List Seat) → IsSwept f 0 old old
 swept-none f old = record { count = refl; past = λ c before inside. absurd (omega (arith, before)); later = λ c from. refl }
 
-pub swept-set : (f : Seat → Seat) (i : ℕ) (old new : List Seat) (seat : Seat) → i < length old → seat ≡ f (get_or old i Idle) → IsSwept f i old new
+pub swept-set : {f : Seat → Seat} {i : ℕ} {old new : List Seat} {seat : Seat} → i < length old → seat ≡ f (get_or old i Idle) → IsSwept f i old new
     → IsSwept f (i + 1) old (set new i seat)
-swept-set f i old new seat inside is swept = record {
+swept-set {f} {i} {old} {new} {seat} inside is swept = record {
   count = length-set new i seat ∙ swept.count;
   past = λ c before within. elim (cases_eq c i) [
     | inl same ↦
@@ -82,10 +82,11 @@ halts-more f seats i inside =
     ∙ ap (λ es. halts f 0 (take i seats) ++ es) (append-nil (f i (get_or seats i Idle)))
 
 -- the entries of one halt more
-pub entries-more : (f : ℕ → Seat → List Entry) (seats : List Seat) (i : ℕ) (begun before after more : List Entry) → i < length seats
+pub entries-more : {i : ℕ} {before after more : List Entry} (f : ℕ → Seat → List Entry) (seats : List Seat)
+    (begun : List Entry) → i < length seats
     → before ≡ begun ++ halts f 0 (take i seats) → after ≡ before ++ more → f i (get_or seats i Idle) ≡ more
     → after ≡ begun ++ halts f 0 (take (i + 1) seats)
-entries-more f seats i begun before after more inside b a m =
+entries-more {i} {before} {more} f seats begun inside b a m =
     a ∙ ap (λ es. before ++ es) (sym m) ∙ ap (λ es. es ++ f i (get_or seats i Idle)) b
     ∙ append_assoc begun (halts f 0 (take i seats)) (f i (get_or seats i Idle))
     ∙ ap (λ es. begun ++ es) (sym (halts-more f seats i inside))
@@ -119,9 +120,9 @@ timed-none slot heard cs timed =
 pub timed-all : (n slot heard : ℕ) (cs : List Client) → length cs ≤ n → AreTimedTo n slot heard cs → AreTimed slot cs
 timed-all n slot heard cs most to = record { each = λ c none inside. to.past c none (omega (arith, inside, most)) inside }
 
-pub timed-next : (i slot heard : ℕ) (cs : List Client) (client : Client) → i < length cs → IsTimed slot client → AreTimedTo i slot heard cs
+pub timed-next : {i slot heard : ℕ} {cs : List Client} (client : Client) → i < length cs → IsTimed slot client → AreTimedTo i slot heard cs
     → AreTimedTo (i + 1) slot heard (set cs i client)
-timed-next i slot heard cs client inside own to = record {
+timed-next {i} {slot} {heard} {cs} client inside own to = record {
   past = λ c none before within. elim (cases_eq c i) [
     | inl same ↦
         let B : ℕ → Type 0 = λ n. IsTimed slot (get_or (set cs i client) n none) in
@@ -148,36 +149,36 @@ steps-none heard slot old timed =
     record { timed = timed-none slot heard old timed; sent_is = refl; swept = swept-none (after_sending slot) (map seat_of old) }
 
 -- the place of a client in the words of a day
-pub swept-at : (f : Seat → Seat) (i : ℕ) (old cs : List Client) (none : Client) → i < length cs → IsSwept f i (map seat_of old) (map seat_of cs)
+pub swept-at : {f : Seat → Seat} {i : ℕ} (old cs : List Client) (none : Client) → i < length cs → IsSwept f i (map seat_of old) (map seat_of cs)
     → get_or (map seat_of old) i Idle ≡ seat_of (get_or cs i none)
-swept-at f i old cs none inside swept = sym (swept.later i (omega arith)) ∙ seat-at cs i none inside
+swept-at {i} old cs none inside swept = sym (swept.later i (omega arith)) ∙ seat-at cs i none inside
 
 pub swept-inside : (f : Seat → Seat) (i : ℕ) (old cs : List Client) → i < length cs → IsSwept f i (map seat_of old) (map seat_of cs)
     → i < length (map seat_of old)
 swept-inside f i old cs inside swept = omega (arith, inside, swept.count, length-map cs seat_of)
 
-pub steps-next : (i heard slot : ℕ) (old cs : List Client) (none new : Client) (sent n : ℕ) → i < length cs
+pub steps-next : {i heard slot : ℕ} {old cs : List Client} {new : Client} {sent n : ℕ} (none : Client) → i < length cs
     → (IsTimed heard (get_or cs i none) → IsStep heard slot (get_or cs i none) new n) → AreStepsTo i heard slot old cs sent
     → AreStepsTo (i + 1) heard slot old (set cs i new) (sent + n)
-steps-next i heard slot old cs none new sent n inside stepped to =
+steps-next {i} {heard} {slot} {old} {cs} {new} {n} none inside stepped to =
     let step = stepped (to.timed.later i none (omega arith) inside) in
-    let at : get_or (map seat_of old) i Idle ≡ seat_of (get_or cs i none) = swept-at (after_sending slot) i old cs none inside to.swept in
+    let at : get_or (map seat_of old) i Idle ≡ seat_of (get_or cs i none) = swept-at old cs none inside to.swept in
     let within : i < length (map seat_of old) = swept-inside (after_sending slot) i old cs inside to.swept in
     let S : List Seat → Type 0 = λ l. IsSwept (after_sending slot) (i + 1) (map seat_of old) l in
     record {
-      timed = timed-next i slot heard cs new inside step.timed to.timed;
+      timed = timed-next new inside step.timed to.timed;
       sent_is =
           ap (λ k. k + n) to.sent_is ∙ ap (λ k. sum_by (sent_between heard slot) (take i (map seat_of old)) + k)
           (step.sent_is ∙ ap (sent_between heard slot) (sym at))
           ∙ sym (sum-more (sent_between heard slot) (map seat_of old) i within);
       swept =
           subst S (sym (seats-set cs i new))
-          (swept-set (after_sending slot) i (map seat_of old) (map seat_of cs) (seat_of new) within (step.seat ∙ ap (after_sending slot) (sym at)) to.swept);
+          (swept-set within (step.seat ∙ ap (after_sending slot) (sym at)) to.swept);
     }
 
-pub steps-all : (n heard slot : ℕ) (old new : List Client) (sent : ℕ) → length new ≤ n → AreStepsTo n heard slot old new sent
+pub steps-all : {n heard slot : ℕ} {old new : List Client} {sent : ℕ} → length new ≤ n → AreStepsTo n heard slot old new sent
     → AreSteps heard slot old new sent
-steps-all n heard slot old new sent most to =
+steps-all {n} {heard} {slot} {old} {new} most to =
     let few : length (map seat_of old) ≤ n = omega (arith, most, to.swept.count, length-map new seat_of) in
     record {
       timed = timed-all n slot heard new most to.timed;
@@ -196,44 +197,46 @@ pub ended-none : (f : ℕ → Seat → List Entry) (g : Seat → Seat) (slot : �
 ended-none f g slot begun old timed =
     record { timed = timed; entries_are = sym (append-nil begun); swept = swept-none g (map seat_of old) }
 
-pub ended-next : (f : ℕ → Seat → List Entry) (g : Seat → Seat) (slot i : ℕ) (begun xs ys : List Entry) (old cs ds : List Client) (none : Client)
-    (halt : Option Halt) → i < length cs → (IsTimed slot (get_or cs i none) → f i (seat_of (get_or cs i none)) ≡ halts_of i halt)
+pub ended-next : {f : ℕ → Seat → List Entry} {g : Seat → Seat} {slot i : ℕ} {begun xs ys : List Entry}
+    {old cs ds : List Client} (none : Client) (halt : Option Halt) → i < length cs → (IsTimed slot (get_or cs i none) → f i (seat_of (get_or cs i none)) ≡ halts_of i halt)
     → (IsTimed slot (get_or cs i none) → g (seat_of (get_or cs i none)) ≡ seat_after halt (seat_of (get_or cs i none)))
     → ys ≡ xs ++ halts_of i halt → OnSome halt (ds ≡ set cs i clients.Idle) → IfNone halt (ds ≡ cs)
     → AreEndedTo f g slot i begun xs old cs → AreEndedTo f g slot (i + 1) begun ys old ds
-ended-next f g slot i begun xs ys old cs ds none None inside has goes y some left to =
+ended-next {f} {g} {slot} {i} {begun} {ys} {old} {cs} none None inside has goes y some left to =
     let timed : IsTimed slot (get_or cs i none) = to.timed.each i none inside in
-    let at : get_or (map seat_of old) i Idle ≡ seat_of (get_or cs i none) = swept-at g i old cs none inside to.swept in
+    let at : get_or (map seat_of old) i Idle ≡ seat_of (get_or cs i none) = swept-at old cs none inside to.swept in
     let within : i < length (map seat_of old) = swept-inside g i old cs inside to.swept in
     let D : List Client → Type 0 = λ l. AreEndedTo f g slot (i + 1) begun ys old l in
     subst D (sym left) (record {
       timed = to.timed;
-      entries_are = entries-more f (map seat_of old) i begun xs ys [] within to.entries_are y (ap (f i) at ∙ has timed);
+      entries_are = entries-more f (map seat_of old) begun within to.entries_are y (ap (f i) at ∙ has timed);
       swept = swept-same g i (map seat_of old) (map seat_of cs) (ap g at ∙ goes timed ∙ sym at) to.swept;
     })
-ended-next f g slot i begun xs ys old cs ds none (Some halt) inside has goes y some left to =
+ended-next {f} {g} {slot} {i} {begun} {ys} {old} {cs} none (Some halt) inside has goes y some left to =
     let timed : IsTimed slot (get_or cs i none) = to.timed.each i none inside in
-    let at : get_or (map seat_of old) i Idle ≡ seat_of (get_or cs i none) = swept-at g i old cs none inside to.swept in
+    let at : get_or (map seat_of old) i Idle ≡ seat_of (get_or cs i none) = swept-at old cs none inside to.swept in
     let within : i < length (map seat_of old) = swept-inside g i old cs inside to.swept in
     let D : List Client → Type 0 = λ l. AreEndedTo f g slot (i + 1) begun ys old l in
     let S : List Seat → Type 0 = λ l. IsSwept g (i + 1) (map seat_of old) l in
     subst D (sym some) (record {
       timed = timed-set slot cs i clients.Idle tt to.timed;
-      entries_are = entries-more f (map seat_of old) i begun xs ys (halts_of i (Some halt)) within to.entries_are y (ap (f i) at ∙ has timed);
+      entries_are = entries-more f (map seat_of old) begun within to.entries_are y (ap (f i) at ∙ has timed);
       swept =
           subst S (sym (seats-set cs i clients.Idle))
-          (swept-set g i (map seat_of old) (map seat_of cs) Idle within (sym (ap g at ∙ goes timed)) to.swept);
+          (swept-set within (sym (ap g at ∙ goes timed)) to.swept);
     })
 
-pub ended-entries : (f : ℕ → Seat → List Entry) (g : Seat → Seat) (slot n : ℕ) (begun entries : List Entry) (old new : List Client) → length new ≤ n
+pub ended-entries : {f : ℕ → Seat → List Entry} {g : Seat → Seat} {slot n : ℕ} {begun entries : List Entry}
+    {old new : List Client} → length new ≤ n
     → AreEndedTo f g slot n begun entries old new → entries ≡ begun ++ halts f 0 (map seat_of old)
-ended-entries f g slot n begun entries old new most to =
+ended-entries {f} {slot} {n} {begun} {old} {new} most to =
     let few : length (map seat_of old) ≤ n = omega (arith, most, to.swept.count, length-map new seat_of) in
     to.entries_are ∙ ap (λ l. begun ++ halts f 0 l) (take_all n (map seat_of old) few)
 
-pub ended-seats : (f : ℕ → Seat → List Entry) (g : Seat → Seat) (slot n : ℕ) (begun entries : List Entry) (old new : List Client) → length new ≤ n
+pub ended-seats : {f : ℕ → Seat → List Entry} {g : Seat → Seat} {slot n : ℕ} {begun entries : List Entry}
+    {old new : List Client} → length new ≤ n
     → AreEndedTo f g slot n begun entries old new → map seat_of new ≡ map g (map seat_of old)
-ended-seats f g slot n begun entries old new most to =
+ended-seats {g} {slot} {n} {begun} {old} {new} most to =
     let few : length (map seat_of old) ≤ n = omega (arith, most, to.swept.count, length-map new seat_of) in
     swept-all g n (map seat_of old) (map seat_of new) few to.swept
 
@@ -242,9 +245,9 @@ read-any : (cs : List Client) (i : ℕ) (one other : Client) → i < length cs �
 read-any cs i one other inside =
     sym (ap (λ l. get_or l i other) (set-get_or cs i one)) ∙ get_or-set_same cs i (get_or cs i one) other inside
 
-pub undone-next : (i : ℕ) (cs ds : List Client) (none : Client) (halt : Option Halt) → i < length cs → IfNone halt (IsUndone (get_or cs i none))
+pub undone-next : {i : ℕ} {cs ds : List Client} (none : Client) (halt : Option Halt) → i < length cs → IfNone halt (IsUndone (get_or cs i none))
     → OnSome halt (ds ≡ set cs i clients.Idle) → IfNone halt (ds ≡ cs) → AreUndone i cs → AreUndone (i + 1) ds
-undone-next i cs ds none None inside own some left undone =
+undone-next {i} {cs} none None inside own some left undone =
     let D : List Client → Type 0 = λ l. AreUndone (i + 1) l in
     let U : Client → Type 0 = λ x. IsUndone x in
     subst D (sym left) (record {
@@ -255,7 +258,7 @@ undone-next i cs ds none None inside own some left undone =
         | inr other ↦ undone.each c any (omega (arith, before, other))
       ];
     })
-undone-next i cs ds none (Some halt) inside own some left undone =
+undone-next {i} {cs} none (Some halt) inside own some left undone =
     let D : List Client → Type 0 = λ l. AreUndone (i + 1) l in
     let U : Client → Type 0 = λ x. IsUndone x in
     subst D (sym some) (record {
@@ -274,11 +277,12 @@ written n es xs same = take_at es (drop (length es) xs) n same
 abbrev moment-as : ℕ → List Entry → List Seat → Moment
 moment-as slot entries seats = record { entries = entries; seats = seats; heard = slot }
 
-moment-same : (slot : ℕ) (xs ys : List Entry) (one other : List Seat) → xs ≡ ys → one ≡ other → moment-as slot xs one ≡ moment-as slot ys other
-moment-same slot xs ys one other e s = ap (λ l. moment-as slot l one) e ∙ ap (moment-as slot ys) s
+moment-same : {xs ys : List Entry} {one other : List Seat} (slot : ℕ) → xs ≡ ys → one ≡ other → moment-as slot xs one ≡ moment-as slot ys other
+moment-same {ys} {one} {other} slot e s = ap (λ l. moment-as slot l one) e ∙ ap (moment-as slot ys) s
 
 -- a day at a slot
-pub slot-moment : (n : ℕ) (entries ys : List Entry) (old xs ds zs es : List Client) (heard slot sent : ℕ) → n ≡ length old → xs ≡ old
+pub slot-moment : {n : ℕ} {ys : List Entry} {old xs ds zs : List Client} {heard slot sent : ℕ} (entries : List Entry)
+    (es : List Client) → n ≡ length old → xs ≡ old
     → zs ≡ take n (ds ++ drop (length ds) old) → heard ≤ slot → AreTimed heard old
     → ((h : ℕ) → h ≤ slot → AreTimed h xs → AreSteps h slot xs ds sent)
     → ((s : ℕ) → AreTimed s zs → ys ≡ entries ++ halts (done_halt s) 0 (map seat_of zs))
@@ -286,7 +290,7 @@ pub slot-moment : (n : ℕ) (entries ys : List Entry) (old xs ds zs es : List Cl
     → halts (done_halt slot) 0 (map (after_sending slot) (map seat_of old)) ≡ halts (done_halt slot) 0 (map seat_of old)
     → record { entries = ys; seats = map seat_of (take n (es ++ drop (length es) (take n (ds ++ drop (length ds) old)))); heard = slot }
     ≡ at_slot (record { entries = entries; seats = map seat_of old; heard = heard }) slot
-slot-moment n entries ys old xs ds zs es heard slot sent len x z le timed stepped ended left quiet =
+slot-moment {n} {ys} {old} {ds} {zs} {heard} {slot} entries es len x z le timed stepped ended left quiet =
     let T : List Client → Type 0 = λ l. AreTimed heard l in
     let U : List Client → Type 0 = λ l. AreTimed slot l in
     let steps = stepped heard le (subst T (sym x) timed) in
@@ -309,6 +313,6 @@ slot-moment n entries ys old xs ds zs es heard slot sent len x z le timed steppe
       length-map old seat_of,
       len,
     ) in
-    moment-same slot ys (entries ++ halts (done_halt slot) 0 (map seat_of old))
-    (map seat_of (take n (es ++ drop (length es) (take n (ds ++ drop (length ds) old))))) (map (after_play slot) (map (after_sending slot) (map seat_of old))) y
+    moment-same slot
+    y
     (ap (map seat_of) (written n es (take n (ds ++ drop (length ds) old)) e-len) ∙ s)

@@ -24,19 +24,19 @@ paced p = cut_play p.start p.plan p.keep
 pub due-at : (p : Pacing) (heard : ℕ) → IsPacing p → p.passed ≡ heard + 1 - p.start → p.due ≡ sent_by (paced p) heard
 due-at p heard pacing timed = pacing.due ∙ ap (λ n. min (first_slots p.plan n) p.keep) timed
 
-pub passed-step : (p q : Pacing) (heard slot : ℕ) → q ≡ after_step false slot p → heard ≤ slot → p.passed ≡ heard + 1 - p.start → q.passed ≡ slot + 1 - q.start
-passed-step p q heard slot e le timed =
+pub passed-step : {q : Pacing} (p : Pacing) (heard slot : ℕ) → q ≡ after_step false slot p → heard ≤ slot → p.passed ≡ heard + 1 - p.start → q.passed ≡ slot + 1 - q.start
+passed-step p heard slot e le timed =
     omega (arith, ap (λ (x : Pacing). x.passed) e, ap (λ (x : Pacing). x.start) e, timed, le)
 
 pub paced-step : (p q : Pacing) (slot : ℕ) → q ≡ after_step false slot p → paced q ≡ paced p
 paced-step p q slot e = ap paced e
 
-pub sent-step : (p q : Pacing) (heard slot : ℕ) → q ≡ after_step false slot p → IsPacing p → IsPacing q → heard ≤ slot → p.passed ≡ heard + 1 - p.start
+pub sent-step : {p q : Pacing} (heard slot : ℕ) → q ≡ after_step false slot p → IsPacing p → IsPacing q → heard ≤ slot → p.passed ≡ heard + 1 - p.start
     → p.sent ≡ p.due → q.sent - p.sent ≡ growth heard slot (paced p)
-sent-step p q heard slot e was is le timed all =
+sent-step {p} {q} heard slot e was is le timed all =
     let q-all : q.sent ≡ q.due = ap (λ (x : Pacing). x.sent) e ∙ sym (ap (λ (x : Pacing). x.due) e) in
     let q-due : q.due ≡ sent_by (paced p) slot =
-    due-at q slot is (passed-step p q heard slot e le timed) ∙ ap (λ (b : Booked). sent_by b slot) (paced-step p q slot e) in
+    due-at q slot is (passed-step p heard slot e le timed) ∙ ap (λ (b : Booked). sent_by b slot) (paced-step p q slot e) in
     let p-due : p.due ≡ sent_by (paced p) heard = due-at p heard was timed in
     omega (arith, q-all, q-due, p-due, all)
 
@@ -54,53 +54,53 @@ sent-at play heard playing timed =
     playing.all_sent ∙ due-at play.pacer heard playing.pacing timed ∙ ap (λ (b : Booked). sent_by b heard) (whole-paced play playing)
 
 -- a play was stepped
-pub playing-step : (play : Play) (q : Pacing) (heard slot sent : ℕ) → IsPlaying play → q ≡ after_step false slot play.pacer → IsPacing q → heard ≤ slot
+pub playing-step : {play : Play} {q : Pacing} {heard slot sent : ℕ} → IsPlaying play → q ≡ after_step false slot play.pacer → IsPacing q → heard ≤ slot
     → play.pacer.passed ≡ heard + 1 - play.pacer.start → sent ≡ q.sent - play.pacer.sent
     → IsStep heard slot (clients.Playing play) (clients.Playing (record play { pacer = q })) sent
-playing-step play q heard slot sent playing e pacing le timed is = record {
-  timed = passed-step play.pacer q heard slot e le timed;
+playing-step {play} {heard} {slot} playing e pacing le timed is = record {
+  timed = passed-step play.pacer heard slot e le timed;
   sent_is =
-      is ∙ sent-step play.pacer q heard slot e playing.pacing pacing le timed playing.all_sent
+      is ∙ sent-step heard slot e playing.pacing pacing le timed playing.all_sent
       ∙ ap (growth heard slot) (whole-paced play playing);
   seat = ap (λ n. Playing (record { number = play.number; rest = rest_of play.rest; plan = play.plan; start = n })) (ap (λ (x : Pacing). x.start) e);
 }
 
 -- a play that was halted was stepped: all that it keeps was sent, or not yet
-pub stop-sent : (stop : Stop) (q : Pacing) (heard slot sent : ℕ) → IsStopping stop → q ≡ after_step false slot stop.pacer → IsPacing q → heard ≤ slot
+pub stop-sent : {stop : Stop} {q : Pacing} {sent : ℕ} (heard slot : ℕ) → IsStopping stop → q ≡ after_step false slot stop.pacer → IsPacing q → heard ≤ slot
     → stop.pacer.passed ≡ heard + 1 - stop.pacer.start → sent ≡ q.sent - stop.pacer.sent
     → sent ≡ sent_between heard slot (seat_of (clients.Pausing stop))
-stop-sent stop q heard slot sent stopping e pacing le timed is =
-    is ∙ sent-step stop.pacer q heard slot e stopping.pacing pacing le timed stopping.all_sent ∙ ap (growth heard slot) (stop-paced stop stopping)
+stop-sent {stop} heard slot stopping e pacing le timed is =
+    is ∙ sent-step heard slot e stopping.pacing pacing le timed stopping.all_sent ∙ ap (growth heard slot) (stop-paced stop stopping)
 
-pub stop-all : (stop : Stop) (q : Pacing) (heard slot : ℕ) → IsStopping stop → q ≡ after_step false slot stop.pacer → IsPacing q → heard ≤ slot
+pub stop-all : {stop : Stop} {q : Pacing} (heard slot : ℕ) → IsStopping stop → q ≡ after_step false slot stop.pacer → IsPacing q → heard ≤ slot
     → stop.pacer.passed ≡ heard + 1 - stop.pacer.start
     → q.sent ≡ sent_by (cut_play stop.pacer.start stop.pacer.plan stop.keep) slot
-stop-all stop q heard slot stopping e pacing le timed =
-    ap (λ (x : Pacing). x.sent) e ∙ sym (ap (λ (x : Pacing). x.due) e) ∙ due-at q slot pacing (passed-step stop.pacer q heard slot e le timed)
+stop-all {stop} {q} heard slot stopping e pacing le timed =
+    ap (λ (x : Pacing). x.sent) e ∙ sym (ap (λ (x : Pacing). x.due) e) ∙ due-at q slot pacing (passed-step stop.pacer heard slot e le timed)
     ∙ ap (λ (b : Booked). sent_by b slot) (paced-step stop.pacer q slot e ∙ stop-paced stop stopping)
 
-pub paused-step : (stop : Stop) (q : Pacing) (heard slot sent : ℕ) → IsStopping stop → q ≡ after_step false slot stop.pacer → IsPacing q → heard ≤ slot
+pub paused-step : {stop : Stop} {q : Pacing} {heard slot sent : ℕ} → IsStopping stop → q ≡ after_step false slot stop.pacer → IsPacing q → heard ≤ slot
     → stop.pacer.passed ≡ heard + 1 - stop.pacer.start → sent ≡ q.sent - stop.pacer.sent → (q.sent == stop.keep) ≡ true
     → IsStep heard slot (clients.Pausing stop) (clients.Paused stop.rest) sent
-paused-step stop q heard slot sent stopping e pacing le timed is all =
+paused-step {stop} {heard} {slot} stopping e pacing le timed is all =
     let b = cut_play stop.pacer.start stop.pacer.plan stop.keep in
-    let test : (sent_by b slot == stop.keep) ≡ true = ap (λ n. n == stop.keep) (sym (stop-all stop q heard slot stopping e pacing le timed)) ∙ all in
+    let test : (sent_by b slot == stop.keep) ≡ true = ap (λ n. n == stop.keep) (sym (stop-all heard slot stopping e pacing le timed)) ∙ all in
     record {
       timed = tt;
-      sent_is = stop-sent stop q heard slot sent stopping e pacing le timed is;
+      sent_is = stop-sent heard slot stopping e pacing le timed is;
       seat = sym (cond-true (sent_by b slot == stop.keep) (Paused (rest_of stop.rest)) (Pausing b (rest_of stop.rest)) test);
     }
 
-pub stopping-step : (stop : Stop) (q : Pacing) (heard slot sent : ℕ) → IsStopping stop → q ≡ after_step false slot stop.pacer → IsPacing q → heard ≤ slot
+pub stopping-step : {stop : Stop} {q : Pacing} {heard slot sent : ℕ} → IsStopping stop → q ≡ after_step false slot stop.pacer → IsPacing q → heard ≤ slot
     → stop.pacer.passed ≡ heard + 1 - stop.pacer.start → sent ≡ q.sent - stop.pacer.sent → (q.sent == stop.keep) ≡ false
     → IsStep heard slot (clients.Pausing stop) (clients.Pausing (record stop { pacer = q })) sent
-stopping-step stop q heard slot sent stopping e pacing le timed is not =
+stopping-step {stop} {q} {heard} {slot} stopping e pacing le timed is not =
     let b = cut_play stop.pacer.start stop.pacer.plan stop.keep in
-    let test : (sent_by b slot == stop.keep) ≡ false = ap (λ n. n == stop.keep) (sym (stop-all stop q heard slot stopping e pacing le timed)) ∙ not in
+    let test : (sent_by b slot == stop.keep) ≡ false = ap (λ n. n == stop.keep) (sym (stop-all heard slot stopping e pacing le timed)) ∙ not in
     let same : cut_play q.start q.plan stop.keep ≡ b = ap (λ (x : Pacing). cut_play x.start x.plan stop.keep) e in
     record {
-      timed = passed-step stop.pacer q heard slot e le timed;
-      sent_is = stop-sent stop q heard slot sent stopping e pacing le timed is;
+      timed = passed-step stop.pacer heard slot e le timed;
+      sent_is = stop-sent heard slot stopping e pacing le timed is;
       seat =
           ap (λ (x : Booked). Pausing x (rest_of stop.rest)) same
           ∙ sym (cond-false (sent_by b slot == stop.keep) (Paused (rest_of stop.rest)) (Pausing b (rest_of stop.rest)) test);
@@ -122,10 +122,10 @@ done-at play slot playing timed =
     ap (λ b. b && (play.pacer.sent == play.pacer.keep)) first ∙ ap (λ b. nat_le play.pacer.start slot && b) all
 
 -- the halt of a play that is done
-pub done-halt : (play : Play) (slot client : ℕ) (halt : Halt) → IsPlaying play → play.pacer.passed ≡ slot + 1 - play.pacer.start
+pub done-halt : {play : Play} (slot client : ℕ) (halt : Halt) → IsPlaying play → play.pacer.passed ≡ slot + 1 - play.pacer.start
     → is_pacing_done play.pacer ≡ true → halt.number ≡ play.number → halt.keep ≡ play.pacer.keep
     → done_halt slot client (seat_of (clients.Playing play)) ≡ halts_of client (Some halt)
-done-halt play slot client halt playing timed done number keep =
+done-halt {play} slot client halt playing timed done number keep =
     cond-true (is_done slot (play_of play)) (halt_by client play.number (total_bytes play.plan)) [] (sym (done-at play slot playing timed) ∙ done)
     ∙ ap (λ n. halt_by client n (total_bytes play.plan)) (sym number) ∙ ap (halt_by client halt.number) (sym (keep ∙ playing.whole))
 
@@ -144,9 +144,9 @@ pub not-left : (play : Play) (slot : ℕ) → IsPlaying play → play.pacer.pass
 not-left play slot playing timed done =
     cond-false (is_done slot (play_of play)) Idle (Playing (play_of play)) (sym (done-at play slot playing timed) ∙ done)
 
-pub open-at : (play : Play) (heard client : ℕ) (halt : Halt) → IsPlaying play → play.pacer.passed ≡ heard + 1 - play.pacer.start
+pub open-at : {play : Play} (heard client : ℕ) (halt : Halt) → IsPlaying play → play.pacer.passed ≡ heard + 1 - play.pacer.start
     → halt.number ≡ play.number → halt.keep ≡ play.pacer.due → open_halt heard client (seat_of (clients.Playing play)) ≡ halts_of client (Some halt)
-open-at play heard client halt playing timed number keep =
+open-at {play} heard client halt playing timed number keep =
     ap (λ n. halt_by client n (sent_by (booking_of (play_of play)) heard)) (sym number)
     ∙ ap (halt_by client halt.number) (sym (keep ∙ sym playing.all_sent ∙ sent-at play heard playing timed))
 
@@ -175,18 +175,18 @@ last-slot (Some last) start heard passed through timed =
     ap Some e ∙ sym (cond-false (nat_lt heard start) None (Some (heard - start)) from)
 
 -- A play is paused: what it keeps, and its client.
-pub kept-sent : (play : Play) (heard keep : ℕ) → IsPlaying play → play.pacer.passed ≡ heard + 1 - play.pacer.start → play.pacer.sent ≤ keep
+pub kept-sent : {play : Play} (heard keep : ℕ) → IsPlaying play → play.pacer.passed ≡ heard + 1 - play.pacer.start → play.pacer.sent ≤ keep
     → keep ≤ play.pacer.keep → sent_by (cut_play play.pacer.start play.plan keep) heard ≡ play.pacer.sent
-kept-sent play heard keep playing timed least most =
+kept-sent {play} heard keep playing timed least most =
     omega (arith, sent-at play heard playing timed, playing.whole, least, most)
 
-pub pause-of : (play : Play) (heard keep : ℕ) (last : Option ℕ) (left : Run) (seat : Seat) → IsPlaying play
+pub pause-of : {play : Play} {heard keep : ℕ} {last : Option ℕ} {left : Run} {seat : Seat} → IsPlaying play
     → play.pacer.passed ≡ heard + 1 - play.pacer.start → slots_through last ≡ play.pacer.passed
     → IsBoundaryAfter play.pacer.pieces (play.pacer.before + play.pacer.sent) (play.pacer.before + keep)
     → IsLeft (reel_sizes play.rest.reel.now) play.rest.playback play.rest.run play.plan last keep left
     → seat ≡ pausing_seat heard (cut_play play.pacer.start play.plan keep) (record (rest_of play.rest) { run = left })
     → IsPause (play_of play) heard keep seat
-pause-of play heard keep last left seat playing timed through boundary is seat-is =
+pause-of {play} {heard} {keep} {last} {left} playing timed through boundary is seat-is =
     let B : List (List ℕ) → Type 0 = λ ps. IsBoundaryAfter ps (play.pacer.before + play.pacer.sent) (play.pacer.before + keep) in
     let C : ℕ → Type 0 = λ n. IsBoundaryAfter (reel_pieces play.rest.reel.now) (n + play.pacer.sent) (n + keep) in
     let D : ℕ → Type 0 = λ n. IsBoundaryAfter (reel_pieces play.rest.reel.now) (play.rest.run.sent + n) (play.rest.run.sent + keep) in
@@ -199,19 +199,19 @@ pause-of play heard keep last left seat playing timed through boundary is seat-i
     }
 
 -- the client whose play keeps no more than was sent, and another one
-pub paused-seat : (play : Play) (heard keep : ℕ) (rest : Rest) → IsPlaying play → play.pacer.passed ≡ heard + 1 - play.pacer.start
+pub paused-seat : {play : Play} {rest : Rest} (heard keep : ℕ) → IsPlaying play → play.pacer.passed ≡ heard + 1 - play.pacer.start
     → play.pacer.sent ≤ keep → keep ≤ play.pacer.keep → (play.pacer.sent == keep) ≡ true
     → Paused rest ≡ pausing_seat heard (cut_play play.pacer.start play.plan keep) rest
-paused-seat play heard keep rest playing timed least most all =
+paused-seat {play} {rest} heard keep playing timed least most all =
     let b = cut_play play.pacer.start play.plan keep in
-    sym (cond-true (sent_by b heard == keep) (Paused rest) (Pausing b rest) (ap (λ n. n == keep) (kept-sent play heard keep playing timed least most) ∙ all))
+    sym (cond-true (sent_by b heard == keep) (Paused rest) (Pausing b rest) (ap (λ n. n == keep) (kept-sent heard keep playing timed least most) ∙ all))
 
-pub pausing-seat : (play : Play) (q : Pacing) (heard keep : ℕ) (rest : Rest) → IsPlaying play → play.pacer.passed ≡ heard + 1 - play.pacer.start
+pub pausing-seat : {play : Play} {q : Pacing} {rest : Rest} (heard keep : ℕ) → IsPlaying play → play.pacer.passed ≡ heard + 1 - play.pacer.start
     → play.pacer.sent ≤ keep → keep ≤ play.pacer.keep → (play.pacer.sent == keep) ≡ false → q ≡ record play.pacer { keep = keep }
     → Pausing (cut_play q.start q.plan keep) rest ≡ pausing_seat heard (cut_play play.pacer.start play.plan keep) rest
-pausing-seat play q heard keep rest playing timed least most not e =
+pausing-seat {play} {q} {rest} heard keep playing timed least most not e =
     let b = cut_play play.pacer.start play.plan keep in
     let same : cut_play q.start q.plan keep ≡ b =
     ap (λ (x : Pacing). cut_play x.start x.plan keep) e ∙ ap (λ s. cut_play play.pacer.start s keep) playing.plan_is in
     ap (λ (x : Booked). Pausing x rest) same
-    ∙ sym (cond-false (sent_by b heard == keep) (Paused rest) (Pausing b rest) (ap (λ n. n == keep) (kept-sent play heard keep playing timed least most) ∙ not))
+    ∙ sym (cond-false (sent_by b heard == keep) (Paused rest) (Pausing b rest) (ap (λ n. n == keep) (kept-sent heard keep playing timed least most) ∙ not))

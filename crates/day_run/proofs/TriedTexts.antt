@@ -11,8 +11,8 @@ tried-more xs i d within =
     ap (λ l. flat_map tried_text l) (take_more xs i d within) ∙ flat_map-append tried_text (take i xs) (get_or xs i d ∷ [])
     ∙ ap (λ l. flat_map tried_text (take i xs) ++ l) (append-nil (tried_text (get_or xs i d)))
 
-pub tried-step : (xs : List Tried) (i : ℕ) (d : Tried) (out mid new : List ℕ) → i < length xs → mid ≡ out ++ flat_map tried_text (take i xs)
+pub tried-step : {mid new : List ℕ} (xs : List Tried) (i : ℕ) (d : Tried) (out : List ℕ) → i < length xs → mid ≡ out ++ flat_map tried_text (take i xs)
     → new ≡ mid ++ tried_text (get_or xs i d) → new ≡ out ++ flat_map tried_text (take (i + 1) xs)
-tried-step xs i d out mid new within before added =
+tried-step {new} xs i d out within before added =
     added ∙ ap (λ l. l ++ tried_text (get_or xs i d)) before ∙ append_assoc out (flat_map tried_text (take i xs)) (tried_text (get_or xs i d))
     ∙ ap (λ l. out ++ l) (sym (tried-more xs i d within))

@@ -17,15 +17,15 @@ loop-client-preserved c =
       booked = done.booked;
       steps = done.steps ∙ inv.steps;
       now = done.now ∙ inv.now;
-      undone = undone-next i cs c.end_play.new.clients none halt inside c.halt_of-halt.ensures.none done.ended done.left inv.undone;
+      undone = undone-next none halt inside c.halt_of-halt.ensures.none done.ended done.left inv.undone;
       limit = done.limit ∙ inv.limit;
       ended = λ slot timed.
-          ended-next (halt_for c.args.which slot) (seat_for c.args.which slot) slot i c.args.book.now.entries c.loop-client.book.entries c.end_play.new.book.entries
-          c.args.clients.now cs c.end_play.new.clients none halt inside (λ t. c.halt_of-halt.ensures.halt slot i (inv.going.each i none inside) t)
+          ended-next
+          none halt inside (λ t. c.halt_of-halt.ensures.halt slot i (inv.going.each i none inside) t)
           (λ t. c.halt_of-halt.ensures.seat slot (inv.going.each i none inside) t) done.entries done.ended done.left (inv.ended slot timed);
     }
 
 pub returns-clause-seats : goal.returns-clause-seats
 returns-clause-seats c = λ slot timed.
-    ended-seats (halt_for c.args.which slot) (seat_for c.args.which slot) slot c.loop-client.client c.args.book.now.entries c.loop-client.book.entries
-    c.args.clients.now c.loop-client.clients (omega arith) (c.loop-client.invariant.ended slot timed)
+    ended-seats
+    (omega arith) (c.loop-client.invariant.ended slot timed)

@@ -23,10 +23,10 @@ returns-in-Some-clause-booked c =
     let y : c.halt-noted.new.self.entries ≡ xs ++ e ∷ [] = ap (λ (j : Journal). j.entries) c.halt-noted.ensures.noted.journal_is in
     let H : Option ClientHalt → Type 0 = λ o. IfSome o (λ (h : ClientHalt). (none : Client) → IsHaltOf (get_or cs c.args.client none) h) in
     let is = subst H c.in-Some.is c.requires.halt in
-    let its = open-halt xs c.args.client (get_or cs c.args.client Idle) halt (c.requires.going.each c.args.client Idle c.requires.inside)
+    let its = open-halt (get_or cs c.args.client Idle) (c.requires.going.each c.args.client Idle c.requires.inside)
     (c.requires.booked.each c.args.client Idle c.requires.inside) (is Idle) in
     let Y : List Entry → Type 0 = λ l. AreBooked l (set cs c.args.client Idle) in
-    subst Y (sym y) (booked-halt xs cs c.args.client Idle e halt.number halt.keep halt.keep refl its tt c.requires.booked)
+    subst Y (sym y) (booked-halt Idle e refl its tt c.requires.booked)
 
 pub returns-in-Some-clause-now : goal.returns-in-Some-clause-now
 returns-in-Some-clause-now c =

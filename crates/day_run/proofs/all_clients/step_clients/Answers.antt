@@ -20,11 +20,11 @@ loop-client-preserved c =
           booked-same entries cs i new (c.step-sent.ensures.booked entries i own) (inv.booked entries begun);
       few = omega (arith, inv.few, c.step-sent.ensures.few);
       steps = λ heard le timed.
-          steps-next i heard c.args.slot c.args.clients.now cs old new c.loop-client.sent c.step-sent.result inside
+          steps-next old inside
           (λ t. c.step-sent.ensures.step heard le t) (inv.steps heard le timed);
     }
 
 pub returns-clause-steps : goal.returns-clause-steps
 returns-clause-steps c = λ heard le timed.
-    steps-all c.loop-client.client heard c.args.slot c.args.clients.now c.loop-client.clients c.loop-client.sent (omega arith)
+    steps-all (omega arith)
     (c.loop-client.invariant.steps heard le timed)

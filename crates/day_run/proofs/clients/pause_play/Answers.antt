@@ -6,7 +6,7 @@ use Rattle.day_run.proofs.clients.pause_play.Goals as goal
 
 pub run_after-run-requires-clause-halt : goal.run_after-run-requires-clause-halt
 run_after-run-requires-clause-halt c =
-    halts c.args.play c.last_slot-last.result c.ask_halt-keep.result c.requires.playing c.requires.undone c.last_slot-last.ensures
+    halts c.last_slot-last.result c.requires.playing c.requires.undone c.last_slot-last.ensures
     c.ask_halt-keep.ensures.boundary c.ask_halt-keep.ensures.most
 
 pub returns-then-sent-keep-clause-pause : goal.returns-then-sent-keep-clause-pause
@@ -16,8 +16,8 @@ returns-then-sent-keep-clause-pause c = λ heard timed.
     let left = c.run_after-run.result in
     let least : play.pacer.sent ≤ keep = omega (arith, c.ask_halt-keep.ensures.boundary.after) in
     let all : (play.pacer.sent == keep) ≡ true = eq-eqb play.pacer.sent keep (sym c.sent-sent.ensures.value ∙ c.if-sent-keep.true) in
-    pause-of play heard keep c.last_slot-last.result left _ c.requires.playing timed c.last_slot-last.ensures c.ask_halt-keep.ensures.boundary
-    c.run_after-run.ensures.left (paused-seat play heard keep (record (rest_of play.rest) { run = left }) c.requires.playing timed least c.ask_halt-keep.ensures.most all)
+    pause-of c.requires.playing timed c.last_slot-last.ensures c.ask_halt-keep.ensures.boundary
+    c.run_after-run.ensures.left (paused-seat heard keep c.requires.playing timed least c.ask_halt-keep.ensures.most all)
 
 pub returns-clause-pause : goal.returns-clause-pause
 returns-clause-pause c = λ heard timed.
@@ -26,7 +26,7 @@ returns-clause-pause c = λ heard timed.
     let left = c.run_after-run.result in
     let least : play.pacer.sent ≤ keep = omega (arith, c.ask_halt-keep.ensures.boundary.after) in
     let not : (play.pacer.sent == keep) ≡ false = ne_eqb play.pacer.sent keep (λ e. c.if-sent-keep.false (c.sent-sent.ensures.value ∙ e)) in
-    pause-of play heard keep c.last_slot-last.result left _ c.requires.playing timed c.last_slot-last.ensures c.ask_halt-keep.ensures.boundary
+    pause-of c.requires.playing timed c.last_slot-last.ensures c.ask_halt-keep.ensures.boundary
     c.run_after-run.ensures.left
-    (pausing-seat play c.ask_halt-keep.new.self heard keep (record (rest_of play.rest) { run = left }) c.requires.playing timed least c.ask_halt-keep.ensures.most not
+    (pausing-seat heard keep c.requires.playing timed least c.ask_halt-keep.ensures.most not
     (c.ask_halt-keep.ensures.state ∙ ap (λ n. record play.pacer { keep = n }) (sym c.ask_halt-keep.ensures.value)))

@@ -19,8 +19,8 @@ loop-line-preserved c =
         steps = ran.kept.steps ∙ inv.kept.steps;
         reels = ran.kept.reels ∙ inv.kept.reels;
       };
-      heard = heard-next c.args.lines.now i _ old.heard new.heard inside ran.heard inv.heard;
+      heard = heard-next c.args.lines.now i _ inside ran.heard inv.heard;
       run =
-          run-next (link_on c.args.runner.now) (link_on old) c.args.lines.now i _ c.loop-line.text.items c.run_line.new.text.items (moment_of old) (moment_of new)
+          run-next c.args.lines.now i _
           inv.kept.link inside inv.run ran.line;
     }

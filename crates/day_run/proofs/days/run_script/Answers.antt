@@ -19,5 +19,5 @@ returns-clause-day c =
     let R : List Line → Type 0 = λ l. HasRun here l text m in
     let same : here ≡ link =
     c.in_ok-runner.ensures.link ∙ ap (λ (l : List Reel). on (map (reel_track units) l)) c.deref.ensures.value ∙ ap on (c.in_ok-reels.ensures.tracks units) in
-    day-of link here c.args.script.now.lines.items text c.run_end.new.text.items m c.into_entries.result.items same
+    day-of same
     (subst R c.deref-2.ensures.value c.in_ok-run_lines.ensures.run) c.in_ok-run_end.ensures.text (c.into_entries.ensures.value ∙ c.in_ok-run_end.ensures.journal)

@@ -16,8 +16,8 @@ returns-clause-fair c =
     ∙ ap (map (trace_track 14400)) (ap sizes_in c.deref.ensures.value ∙ c.in_ok-traces.ensures.sizes ∙ ap (traces_drawn 16) c.new-draws.ensures) in
     let link : link_on c.in_ok-runner.runner ≡ fair_link c.args.profile (words_of c.args.seed) =
     c.in_ok-runner.ensures.link ∙ ap (λ (t : List Track). record { steps = c.args.profile; limit = 1048576; slot_units = 14400; tracks = t }) tracks in
-    fair-of (link_on c.in_ok-runner.runner) c.args.profile c.args.seed c.args.plays (words_left c.draw_traces.new.draws) _ c.in_ok-counts.counts c.count_entries-made.result
-    (moment_of c.run_turns.new.runner) c.push_fair.new.out.items c.into_entries-journal.result.items link
+    fair-of
+    link
     (c.in_ok-traces.ensures.left ∙ ap (after_traces 16) c.new-draws.ensures) c.in_ok-counts.ensures.come
     (c.into_entries-journal.ensures.value ∙ c.end.ensures.journal) (c.count_entries-made.ensures ∙ ap made_of c.deref-3.ensures.value)
     (c.in_ok-push_fair.ensures ∙ ap (λ (l : List ℕ). l ++ fair_text c.in_ok-counts.counts c.count_entries-made.result) c.new-text.ensures.items)

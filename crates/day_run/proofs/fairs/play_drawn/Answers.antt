@@ -10,11 +10,11 @@ returns-clause-line c =
     let w = words_left c.args.draws.now in
     let one = c.draw-source.ensures.left in
     let two = c.draw.ensures.left in
-    line-drawn c.play.result (link_on c.args.runner.now) c.args.client (seat_at (moment_of c.args.runner.now) c.args.client) (moment_of c.args.runner.now) _ _ _ _ _ _ _ _
+    line-drawn c.play.result (link_on c.args.runner.now) c.args.client (seat_at (moment_of c.args.runner.now) c.args.client) (moment_of c.args.runner.now) _ _
     c.draw-source.ensures.value
     (ap (λ n. 16384 + n) (c.from-buffer.ensures ∙ c.draw.ensures.value ∙ ap (λ n. n % 16384) (second-word w _ one)))
     (c.from-delay.ensures ∙ c.draw-2.ensures.value ∙ ap (λ n. n % 26) (third-word w _ _ one two)) c.play.ensures.line
 
 pub returns-clause-left : goal.returns-clause-left
 returns-clause-left c =
-    ok-of c.play.result _ (three-left (words_left c.args.draws.now) _ _ _ c.draw-source.ensures.left c.draw.ensures.left c.draw-2.ensures.left)
+    ok-of c.play.result _ (three-left (words_left c.args.draws.now) c.draw-source.ensures.left c.draw.ensures.left c.draw-2.ensures.left)

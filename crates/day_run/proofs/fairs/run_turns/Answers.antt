@@ -33,6 +33,6 @@ loop-turn-preserved c =
       heard = omega (arith, ran.heard, inv.heard);
       fitting = ran.fitting;
       come =
-          come-next (link_on c.args.runner.now) (link_on c.loop-turn.runner) (words_left c.args.draws.now) (words_left c.loop-turn.draws) _ c.loop-turn.turn c.loop-turn.counts _
-          (moment_of c.loop-turn.runner) _ inv.kept.link inv.come ran.turned ran.fitting.last_is;
+          come-next
+          inv.kept.link inv.come ran.turned ran.fitting.last_is;
     }

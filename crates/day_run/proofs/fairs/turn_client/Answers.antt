@@ -8,15 +8,15 @@ use Rattle.day_run.proofs.fairs.turn_client.Goals as goal
 
 pub returns-in-Playing-clause-left : goal.returns-in-Playing-clause-left
 returns-in-Playing-clause-left c =
-    no-words (words_left c.args.draws.now) c.args.runner.now.clients.items c.args.client c.index.result.now c.requires.runner.count c.ranges.client.fits c.index.ensures
+    no-words c.args.runner.now.clients.items c.args.client c.requires.runner.count c.ranges.client.fits c.index.ensures
     (ap (λ (x : Client). words_for (seat_of x)) c.in-Playing.is)
 
 pub returns-in-Pausing-clause-left : goal.returns-in-Pausing-clause-left
 returns-in-Pausing-clause-left c =
-    no-words (words_left c.args.draws.now) c.args.runner.now.clients.items c.args.client c.index.result.now c.requires.runner.count c.ranges.client.fits c.index.ensures
+    no-words c.args.runner.now.clients.items c.args.client c.requires.runner.count c.ranges.client.fits c.index.ensures
     (ap (λ (x : Client). words_for (seat_of x)) c.in-Pausing.is)
 
 pub returns-in_ok-resume-in-Paused-clause-left : goal.returns-in_ok-resume-in-Paused-clause-left
 returns-in_ok-resume-in-Paused-clause-left c =
-    no-words (words_left c.args.draws.now) c.args.runner.now.clients.items c.args.client c.index.result.now c.requires.runner.count c.ranges.client.fits c.index.ensures
+    no-words c.args.runner.now.clients.items c.args.client c.requires.runner.count c.ranges.client.fits c.index.ensures
     (ap (λ (x : Client). words_for (seat_of x)) c.in-Paused.is)

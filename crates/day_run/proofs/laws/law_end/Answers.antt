@@ -2,4 +2,4 @@ use Rattle.day_run.proofs.PastSlots.{end-later}
 use Rattle.day_run.proofs.laws.law_end.Goals as goal
 
 pub returns : goal.returns
-returns c = λ link sources slot lines texts moment clients are run later. end-later link sources lines texts moment slot clients are run later
+returns c = λ link sources slot lines texts moment clients are run later. end-later link texts moment slot clients are run later

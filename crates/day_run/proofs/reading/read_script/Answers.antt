@@ -10,14 +10,14 @@ returns-then-number-eq-MOST_LINES-clause-refused c =
     let inv = c.loop-line.invariant in
     let at : NextLine (lines_of_script c.args.text.now) c.loop-line.number c.in-Some.line.now (lines_of_script c.in-Some.next.now) =
     next-line (lines_of_script c.args.text.now) c.loop-line.number c.in-Some.line.now (lines_of_script c.in-Some.next.now) (inv.left ∙ c.in-Some.ensures.some) in
-    bad-next c.args.text.now c.in-Some.line.now _ c.loop-line.number (reading_of c.loop-line.draft) at inv.few inv.read (inl (omega arith))
+    bad-next at inv.few inv.read (inl (omega arith))
 
 pub returns-in-Ok-false-clause-refused : goal.returns-in-Ok-false-clause-refused
 returns-in-Ok-false-clause-refused c =
     let inv = c.loop-line.invariant in
     let at : NextLine (lines_of_script c.args.text.now) c.loop-line.number c.in-Some.line.now (lines_of_script c.in-Some.next.now) =
     next-line (lines_of_script c.args.text.now) c.loop-line.number c.in-Some.line.now (lines_of_script c.in-Some.next.now) (inv.left ∙ c.in-Some.ensures.some) in
-    bad-next c.args.text.now c.in-Some.line.now _ c.loop-line.number (reading_of c.loop-line.draft) at inv.few inv.read (inr (rw c.in-Ok-false.field-0-test at c.in-Ok-false.ensures.taken))
+    bad-next at inv.few inv.read (inr (rw c.in-Ok-false.field-0-test at c.in-Ok-false.ensures.taken))
 
 pub loop-line-preserved : goal.loop-line-preserved
 loop-line-preserved c =
@@ -28,7 +28,7 @@ loop-line-preserved c =
       few = omega arith;
       inside = at.inside;
       left = at.left;
-      read = read-next c.args.text.now c.in-Some.line.now _ c.loop-line.number (reading_of c.loop-line.draft) (reading_of c.read.new.self) at inv.read (rw c.in-Ok-true.field-0-test at c.in-Ok-true.ensures.taken);
+      read = read-next c.args.text.now at inv.read (rw c.in-Ok-true.field-0-test at c.in-Ok-true.ensures.taken);
       draft = c.in-Ok-true.ensures.draft c.in-Ok-true.field-0-test;
     }
 

@@ -13,7 +13,7 @@ loop-source-preserved c =
     let inside : i < length c.args.sources.now = omega arith in
     record {
       count = omega (arith, inv.count, ap length e, length-append c.loop-source.reels.items (reel ∷ []));
-      tracks = λ u. tracks-next u c.loop-source.reels.items c.push.new.self.items reel c.args.sources.now i c.source-item.result inside e
+      tracks = λ u. tracks-next u c.loop-source.reels.items reel c.args.sources.now i c.source-item.result inside e
           (c.in_ok-reel_of.ensures u ∙ ap (track_of u) c.source-item.is) (inv.tracks u);
     }
 

@@ -3,9 +3,9 @@ use Rattle.day_run.proofs.splits.split_words.Goals as goal
 
 pub loop-word-preserved : goal.loop-word-preserved
 loop-word-preserved c =
-    words-more c.loop-word.words.items c.push.new.self.items c.in-Some.word c.loop-word.rest.now c.in-Some.after.now _
+    words-more c.loop-word.words.items c.in-Some.word
     c.in_ok-push.ensures.items c.in-Some.ensures c.loop-word.invariant
 
 pub returns : goal.returns
 returns c =
-    words-last c.loop-word.words.items c.push-2.new.self.items c.loop-word.rest _ c.in_ok-push-2.ensures.items c.in_default.ensures c.loop-word.invariant
+    words-last c.loop-word.words.items c.loop-word.rest c.in_ok-push-2.ensures.items c.in_default.ensures c.loop-word.invariant

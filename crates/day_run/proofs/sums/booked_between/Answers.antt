@@ -30,10 +30,10 @@ loop-slot-preserved c =
       few = booked-more c.loop-slot.booked c.booked_bytes-here.result c.loop-slot.slot c.args.from begun c.loop-slot.invariant.few small;
       late = omega arith;
       peak =
-          c.greater-peak.ensures ∙ peak-next (booked_in state) c.args.from c.loop-slot.slot c.loop-slot.peak c.booked_bytes-here.result begun c.loop-slot.invariant.peak
+          c.greater-peak.ensures ∙ peak-next (booked_in state) c.args.from begun c.loop-slot.invariant.peak
           (c.booked_bytes-here.ensures.value ∙ c.calendar-calendar.ensures.stands.each c.loop-slot.slot known);
       sum =
-          booked-next (booked_in state) c.args.from c.loop-slot.slot c.loop-slot.booked c.booked_bytes-here.result begun c.loop-slot.invariant.sum
+          booked-next (booked_in state) c.args.from begun c.loop-slot.invariant.sum
           (c.booked_bytes-here.ensures.value ∙ c.calendar-calendar.ensures.stands.each c.loop-slot.slot known);
     }
 

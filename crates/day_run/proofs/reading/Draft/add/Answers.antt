@@ -10,6 +10,6 @@ returns-clause-draft c =
     let e = c.in_ok-push.ensures.items in
     let A : List Line → Type 0 = λ l. AreLines (length old.named.items) l in
     record {
-      lines = subst A (sym e) (lines-more (length old.named.items) (length old.named.items) old.lines.items c.args.line (omega arith) c.requires.lines c.requires.stands);
+      lines = subst A (sym e) (lines-more c.args.line (omega arith) c.requires.lines c.requires.stands);
       slot_is = c.requires.slot ∙ sym (latest-push old.lines.items c.args.line) ∙ sym (ap latest_slot e);
     }

@@ -31,9 +31,9 @@ returns-in-Some-clause-runner c =
     let can = subst Y y (subst N (sym c.begin_play-play.ensures.number) can0) in
     let inside : c.args.client < length old.clients.items = omega (arith, day.count, c.ranges.client.fits) in
     let timed =
-    begun-timed old.book.steps (state_after old.book.entries) play slot c.in-Some.start old.heard c.args.plan c.in-Ok.noted.answer c.in-Some.ensures.some
+    begun-timed old.book.steps (state_after old.book.entries) play c.args.plan c.in-Some.ensures.some
     noted.answer_is late c.begin_play-play.ensures.start c.begin_play-play.ensures.begun in
-    day-played old.slot_units old.heard old.book.entries c.play.new.self.entries old.clients.items _ c.args.client slot c.args.plan play e day y refl refl
+    day-played e day y refl refl
     (omega arith) c.from.ensures (c.begin_play-play.ensures.number ∙ noted.place_is) can inside c.begin_play-play.ensures.playing c.begin_play-play.ensures.undone timed
 
 pub returns-in-Some-clause-planned : goal.returns-in-Some-clause-planned
@@ -50,7 +50,7 @@ returns-in-Some-clause-planned c =
       heard = old.heard;
     } in
     let seats =
-    seats-played old.clients.items c.args.client play (length old.book.entries) c.args.rest c.args.plan c.in-Some.start c.in-Ok.noted.answer c.in-Some.ensures.some
+    seats-played old.clients.items c.args.client play c.in-Some.ensures.some
     (c.begin_play-play.ensures.number ∙ made.place_is) c.begin_play-play.ensures.rest_is (c.begin_play-play.ensures.plan ∙ c.requires.kept)
     c.begin_play-play.ensures.start in
     record {
@@ -60,7 +60,7 @@ returns-in-Some-clause-planned c =
         room = c.in-Ok.ensures.room;
         answer = c.in-Ok.noted.answer;
         noted =
-            noted-play (link_on old) (moment_of old) new c.in-Ok.noted.place c.args.client slot c.from.result c.args.plan c.in-Ok.noted.answer _ late c.from.ensures
+            noted-play c.args.plan c.in-Ok.noted.answer late c.from.ensures
             made.answer_is made.place_is (ap (λ (j : Journal). j.entries) made.journal_is) seats refl;
       });
     }
@@ -76,7 +76,7 @@ returns-in-None c =
     let y : c.play.new.self.entries ≡ old.book.entries ++ e ∷ [] = ap (λ (j : Journal). j.entries) made.journal_is in
     let now = played-now old.book.entries e slot c.args.plan refl in
     record {
-      runner = day-noted old.slot_units old.heard old.book.entries c.play.new.self.entries old.clients.items e day y (λ number halts. halts) (omega (arith, now, day.now_heard));
+      runner = day-noted e day y (λ number halts. halts) (omega (arith, now, day.now_heard));
       kept = record {
         link = ap (λ (j : Journal). link_on (record old { book = j })) made.journal_is;
         steps = ap (λ (j : Journal). j.steps) made.journal_is;
@@ -90,9 +90,9 @@ returns-in-None c =
           room = c.in-Ok.ensures.room;
           answer = c.in-Ok.noted.answer;
           noted =
-              noted-play (link_on old) (moment_of old) (moment_of (record old { book = c.play.new.self })) c.in-Ok.noted.place c.args.client slot c.from.result c.args.plan
-              c.in-Ok.noted.answer _ late c.from.ensures made.answer_is made.place_is y
-              (seats-same c.args.client (rest_of c.args.rest) c.args.plan (length old.book.entries) c.in-Ok.noted.answer (moment_of old).seats c.in-None.ensures.none) refl;
+              noted-play c.args.plan
+              c.in-Ok.noted.answer late c.from.ensures made.answer_is made.place_is y
+              (seats-same c.args.client (rest_of c.args.rest) c.args.plan (length old.book.entries) c.in-Ok.noted.answer c.in-None.ensures.none) refl;
         });
       };
     }
@@ -103,6 +103,6 @@ returns-in-Err-clause-planned c =
     record {
       plan = c.args.plan;
       plan_is = c.requires.plan.plan_is;
-      done = inl (told-full (link_on old) 2 (moment_of old) (moment_of (record old { book = c.play.new.self })) c.in-Err.refused.full c.in-Err.ensures.full
+      done = inl (told-full c.in-Err.refused.full c.in-Err.ensures.full
           c.in-Err.ensures.counts.entries_are c.in-Err.ensures.counts.live_is (ap (λ j. moment_of (record old { book = j })) c.in-Err.ensures.left));
     }

@@ -13,7 +13,7 @@ returns-in-Ok-clause-runner c =
     let noted = c.in-Ok.ensures.noted in
     let e : Entry = record { maker = 0; command = Look (min c.args.slot (2 ^ 62)); answer = c.in-Ok.noted.answer } in
     let now = looked-now old.book.entries e (min c.args.slot (2 ^ 62)) refl in
-    day-noted old.slot_units old.heard old.book.entries c.look.new.self.entries old.clients.items e c.requires.runner
+    day-noted e c.requires.runner
     (ap (λ (j : Journal). j.entries) noted.journal_is) (λ number halts. halts) (omega (arith, now, c.requires.runner.now_heard))
 
 pub returns-in-Ok-clause-line : goal.returns-in-Ok-clause-line
@@ -25,13 +25,13 @@ returns-in-Ok-clause-line c =
       room = c.in-Ok.ensures.room;
       answer = c.in-Ok.noted.answer;
       noted =
-          noted (link_on old) (moment_of old) (moment_of (record old { book = c.look.new.self })) c.in-Ok.noted.place e (moment_of old).seats made.answer_is
+          noted made.answer_is
           made.place_is (ap (λ (j : Journal). j.entries) made.journal_is) refl refl;
     })
 
 pub returns-in-Err-clause-line : goal.returns-in-Err-clause-line
 returns-in-Err-clause-line c =
     let old = c.args.self.now in
-    inl (told-full (link_on old) 1 (moment_of old) (moment_of (record old { book = c.look.new.self })) c.in-Err.full c.in-Err.ensures.full
+    inl (told-full c.in-Err.full c.in-Err.ensures.full
     c.in-Err.ensures.counts.entries_are c.in-Err.ensures.counts.live_is
     (ap (λ j. moment_of (record old { book = j })) c.in-Err.ensures.left))

@@ -27,9 +27,9 @@ returns-in-Some-clause-runner c =
     let going = subst G (sym c.index_mut.ensures.value) (day.going.each c.args.client client inside) in
     let T : Client → Type 0 = λ x. IsTimed old.heard x in
     let timed = subst T (sym c.index_mut.ensures.value) (day.timed.each c.args.client client inside) in
-    let its = open-halt old.book.entries c.args.client client halt going booked c.in-Some.ensures.some in
+    let its = open-halt client going booked c.in-Some.ensures.some in
     let e : Entry = record { maker = c.from.result; command = Halt halt.number halt.keep; answer = c.halt-noted.result.answer } in
-    day-halted old.slot_units old.heard old.book.entries c.halt-noted.new.self.entries old.clients.items _ c.args.client halt.number halt.keep halt.keep
+    day-halted
     c.pause.new.self e day (ap (λ (j : Journal). j.entries) c.halt-noted.ensures.noted.journal_is) refl refl its inside c.pause.ensures.going c.pause.ensures.undone
     c.in-Some.ensures.quiet (c.pause.ensures.timed old.heard timed)
 
@@ -50,7 +50,7 @@ returns-in-Some-clause-line c =
     let at : seat_of client ≡ get_or (map seat_of old.clients.items) c.args.client Idle =
     ap seat_of c.index_mut.ensures.value ∙ sym (seat-at old.clients.items c.args.client client inside) in
     let P : Seat → Type 0 = λ s. IsPauseLine (link_on old) c.args.client s (moment_of old) new text in
-    subst P at (pause-line (link_on old) c.args.client client next halt (moment_of old) new text (c.in-Some.ensures.pause old.heard timed)
+    subst P at (pause-line client next (c.in-Some.ensures.pause old.heard timed)
     (noted-halt (link_on old) (moment_of old) new c.halt-noted.result.place c.args.client halt.number halt.keep e made.answer_is
     made.place_is (ap (λ (j : Journal). j.entries) made.journal_is) (seats-set old.clients.items c.args.client next) refl c.from.ensures c.halt-noted.ensures.answer refl))
 
@@ -67,5 +67,5 @@ returns-in-None-clause-line c =
     let same : set old.clients.items c.args.client next ≡ old.clients.items =
     ap (set old.clients.items c.args.client) (c.in-None.ensures.none ∙ c.index_mut.ensures.value) ∙ set-get_or old.clients.items c.args.client client in
     let P : Seat → Type 0 = λ s. IsPauseLine (link_on old) c.args.client s (moment_of old) new (told_text old.book.entries tolds.State) in
-    subst P at (no-pause (link_on old) c.args.client client (moment_of old) new (told_text old.book.entries tolds.State) c.in-None.ensures.idle
+    subst P at (no-pause (link_on old) c.args.client client c.in-None.ensures.idle
     (record { kept = ap (λ l. record (moment_of old) { seats = map seat_of l }) same; text_is = refl }))

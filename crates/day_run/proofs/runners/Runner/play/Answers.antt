@@ -16,4 +16,4 @@ returns-in-Some-clause-line c =
     c.in-Some.ensures.whole ∙ ap (λ (t : Track). whole_rest old.slot_units t c.args.buffer c.args.delay) (sym (c.reel_at.ensures old.slot_units no_track)) in
     let own : seat_of client ≡ seat_at (moment_of old) c.args.client = ap seat_of c.index.ensures ∙ sym (seat-at old.clients.items c.args.client client inside) in
     let free : is_busy (seat_of client) ≡ false = sym c.is_busy.ensures ∙ c.if-is_busy.false in
-    play-ok c.ask.result (link_on old) c.args.client _ _ _ _ (moment_of old) _ _ one own free c.ask.ensures.asked
+    play-ok c.ask.result (link_on old) c.args.client (moment_of old) _ _ one own free c.ask.ensures.asked

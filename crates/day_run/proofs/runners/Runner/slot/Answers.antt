@@ -8,6 +8,6 @@ pub returns-clause-moment : goal.returns-clause-moment
 returns-clause-moment c =
     let old = c.args.self.now in
     let day = c.requires.runner in
-    slot-moment old.clients.len old.book.entries c.end_each.new.book.entries old.clients.items _ c.step_clients-sent.new.clients _ c.end_each.new.clients old.heard c.args.slot
-    c.step_clients-sent.result old.clients.ok.0 c.deref_mut.ensures.value c.deref_mut-2.ensures.value (omega arith) day.timed c.step_clients-sent.ensures.steps
+    slot-moment old.book.entries c.end_each.new.clients
+    old.clients.ok.0 c.deref_mut.ensures.value c.deref_mut-2.ensures.value (omega arith) day.timed c.step_clients-sent.ensures.steps
     c.end_each.ensures.entries c.end_each.ensures.seats (halts-sent c.args.slot 0 (map seat_of old.clients.items))
