@@ -25,21 +25,21 @@ no_empties : (lo hi : ℕ → ℕ) (k v : ℕ) (segments : List Segment) → Run
 no_empties lo hi k v [] runs = All-nil (λ s. 1 ≤ s.slots)
 no_empties lo hi k v (s ∷ rest) runs = All-cons (λ x. 1 ≤ x.slots) s rest runs.0.some (no_empties lo hi (k + s.slots) (v + s.bytes) rest runs.2)
 
-keeps_at : (from : ℕ) (low up : List ℕ) (segments : List Segment) → RunsTaut (bound_at from low) (bound_at from up) 0 from segments →
+keeps_at : {from : ℕ} {segments : List Segment} (low up : List ℕ) → RunsTaut (bound_at from low) (bound_at from up) 0 from segments →
     (t : ℕ) → t < total_slots segments → KeepsAt (bound_at from low) (bound_at from up) 0 from (t + 1) segments
-keeps_at from low up [] runs t few = absurd (omega (arith, few))
-keeps_at from low up (s ∷ rest) runs t few = line_keeps (bound_at from low) (bound_at from up) 0 from s rest runs (t + 1) (omega arith)
+keeps_at {from} {segments = []} low up runs t few = absurd (omega (arith, few))
+keeps_at {from} {segments = s ∷ rest} low up runs t few = line_keeps runs (omega arith)
 
 feasible : (from : ℕ) (low up : List ℕ) (segments : List Segment) → total_slots segments ≡ length low →
     RunsTaut (bound_at from low) (bound_at from up) 0 from segments → IsFeasible from low up (plan_slots segments)
 feasible from low up segments slots runs = record {
   same_length = length-plan_slots segments ∙ slots;
   above = λ t inside.
-      let keeps = keeps_at from low up segments runs t (omega (arith, slots)) in
+      let keeps = keeps_at low up runs t (omega (arith, slots)) in
       let at : bound_at from low (0 + (t + 1)) ≡ slice_index low t = ap (bound_at from low) (omega arith) ∙ bound_after from low t in
       omega (arith, keeps.above, at);
   below = λ t inside.
-      let keeps = keeps_at from low up segments runs t (omega (arith, slots)) in
+      let keeps = keeps_at low up runs t (omega (arith, slots)) in
       let at : bound_at from up (0 + (t + 1)) ≡ slice_index up t = ap (bound_at from up) (omega arith) ∙ bound_after from up t in
       omega (arith, keeps.below, at);
 }
@@ -86,30 +86,30 @@ whole_bytes from low up y fine = record {
 }
 
 -- in m-ths, above a whole threshold
-over_in_parts : (from : ℕ) (low up : List ℕ) (segments : List Segment) → AreClosed low up → IsTaut from low up segments →
-    (m : ℕ) (y : List ℕ) → IsFeasibleIn m from low up y → (p : ℕ) → m * over p (plan_slots segments) ≤ over (m * p) y
-over_in_parts from low up segments closed taut m y fine p =
+over_in_parts : {from : ℕ} {low up : List ℕ} {segments : List Segment} → AreClosed low up → IsTaut from low up segments →
+    {m : ℕ} {y : List ℕ} → IsFeasibleIn m from low up y → (p : ℕ) → m * over p (plan_slots segments) ≤ over (m * p) y
+over_in_parts {from} {low} {up} {segments} closed taut {m} {y} fine p =
     let slots : total_slots segments ≡ length low = slots_are from low up segments taut in
     let runs = runs_from_taut from low up segments closed taut in
     let ends = ends_from_taut from low up segments closed taut in
     let ends' : bound_at from low (total_slots segments) ≡ from + total_bytes segments = ap (bound_at from low) (omega arith) ∙ ends.low in
     let line : over p (plan_slots segments) ≡ line_over p segments = over-plan_slots p segments (no_empties (bound_at from low) (bound_at from up) 0 from segments runs) in
     let most : m * line_over p segments ≤ over (m * p) y =
-    least m p (bound_at from low) (bound_at from up) from segments y runs ends' (fine.same_length ∙ sym slots) (keeps_from_feasible m from low up y fine) in
+    least p from segments runs ends' (fine.same_length ∙ sym slots) (keeps_from_feasible m from low up y fine) in
     rw line most
 
 -- in whole bytes
-over_whole : (from : ℕ) (low up : List ℕ) (segments : List Segment) → AreClosed low up → IsTaut from low up segments →
-    (y : List ℕ) → IsFeasible from low up y → (p : ℕ) → over p (plan_slots segments) ≤ over p y
-over_whole from low up segments closed taut y fine p =
-    let h : 1 * over p (plan_slots segments) ≤ over (1 * p) y = over_in_parts from low up segments closed taut 1 y (whole_bytes from low up y fine) p in
+over_whole : {from : ℕ} {low up : List ℕ} {segments : List Segment} → AreClosed low up → IsTaut from low up segments →
+    {y : List ℕ} → IsFeasible from low up y → (p : ℕ) → over p (plan_slots segments) ≤ over p y
+over_whole {from} {low} {up} {segments} closed taut {y} fine p =
+    let h : 1 * over p (plan_slots segments) ≤ over (1 * p) y = over_in_parts closed taut (whole_bytes from low up y fine) p in
     let one : over (1 * p) y ≡ over p y = ap (λ c. over c y) (one-mul p) in
     omega (arith, h, one)
 
 -- above any rate
-excess_any : (from : ℕ) (low up : List ℕ) (segments : List Segment) → AreClosed low up → IsTaut from low up segments →
+excess_any : {from : ℕ} {low up : List ℕ} {segments : List Segment} → AreClosed low up → IsTaut from low up segments →
     (y : List ℕ) → IsFeasible from low up y → (p q : ℕ) → 1 ≤ q → excess (plan_slots segments) p q ≤ excess y p q
-excess_any from low up segments closed taut y fine p q some =
+excess_any {from} {low} {segments} closed taut y fine p q some =
     let a = p / q in
     let r = p % q in
     let e = q - r in
@@ -119,8 +119,8 @@ excess_any from low up segments closed taut y fine p q some =
     let rate' : (e + r) * a + r ≡ p = ap (λ c. c * a + r) rate ∙ omega (arith, split) in
     let mine : excess (plan_slots segments) ((e + r) * a + r) (e + r) ≡ e * over a (plan_slots segments) + r * over (a + 1) (plan_slots segments) = excess-between a e r (plan_slots segments) (omega arith) in
     let theirs : excess y ((e + r) * a + r) (e + r) ≡ e * over a y + r * over (a + 1) y = excess-between a e r y (omega arith) in
-    let one : e * over a (plan_slots segments) ≤ e * over a y = mul-le-mul_left e (over_whole from low up segments closed taut y fine a) in
-    let two : r * over (a + 1) (plan_slots segments) ≤ r * over (a + 1) y = mul-le-mul_left r (over_whole from low up segments closed taut y fine (a + 1)) in
+    let one : e * over a (plan_slots segments) ≤ e * over a y = mul-le-mul_left e (over_whole closed taut fine a) in
+    let two : r * over (a + 1) (plan_slots segments) ≤ r * over (a + 1) y = mul-le-mul_left r (over_whole closed taut fine (a + 1)) in
     let both : excess (plan_slots segments) ((e + r) * a + r) (e + r) ≤ excess y ((e + r) * a + r) (e + r) = omega (arith, mine, theirs, one, two) in
     let at_rate : excess (plan_slots segments) p (e + r) ≤ excess y p (e + r) = subst (λ c. excess (plan_slots segments) c (e + r) ≤ excess y c (e + r)) rate' both in
     subst (λ c. excess (plan_slots segments) p c ≤ excess y p c) rate at_rate
@@ -129,23 +129,23 @@ pub best : (from : ℕ) (low up : List ℕ) (segments : List Segment) → AreClo
 best from low up segments closed taut = record {
   taut = taut;
   feasible = feasible from low up segments (slots_are from low up segments taut) (runs_from_taut from low up segments closed taut);
-  least_excess = excess_any from low up segments closed taut;
+  least_excess = excess_any closed taut;
   least_excess_in_parts = λ m y fine p.
-      let h : m * over p (plan_slots segments) ≤ over (m * p) y = over_in_parts from low up segments closed taut m y fine p in
+      let h : m * over p (plan_slots segments) ≤ over (m * p) y = over_in_parts closed taut fine p in
       rw (excess-one p (plan_slots segments), excess-one (m * p) y) h;
   least_peak = λ y fine peak all.
       let none : over peak y ≡ 0 = over_peak peak y all in
-      let h : over peak (plan_slots segments) ≤ over peak y = over_whole from low up segments closed taut y fine peak in
+      let h : over peak (plan_slots segments) ≤ over peak y = over_whole closed taut fine peak in
       peak_from_over peak (plan_slots segments) (omega (arith, none, h));
   only = λ others taut'.
-      one_list (bound_at from low) (bound_at from up) 0 from others segments
+      one_list
       (runs_from_taut from low up others closed taut') (ends_from_taut from low up others closed taut')
       (runs_from_taut from low up segments closed taut) (ends_from_taut from low up segments closed taut)
       (slots_are from low up others taut' ∙ sym (slots_are from low up segments taut));
 }
 
 -- so a verdict without a fault says that the list is best
-pub best_where_ok : (from : ℕ) (low up : List ℕ) (segments : List Segment) → AreClosed low up → {X : Type 0} (verdict : Result X CertFault) →
+pub best_where_ok : {low up : List ℕ} (from : ℕ) (segments : List Segment) → AreClosed low up → {X : Type 0} (verdict : Result X CertFault) →
     MatchResult verdict (λ _. IsTaut from low up segments) (λ fault. IsFirstFault from low up segments fault) → OnOk verdict (IsBestPlan from low up segments)
-best_where_ok from low up segments closed (Ok done) taut = best from low up segments closed taut
-best_where_ok from low up segments closed (Err fault) first = tt
+best_where_ok {low} {up} from segments closed (Ok done) taut = best from low up segments closed taut
+best_where_ok {low} from segments closed (Err fault) first = tt

@@ -28,9 +28,9 @@ sum-take-drop n j ys fits =
     sym (ap sum seam' ∙ sum_by-append (λ b. b) (take n ys) (take j (drop n ys)))
 
 -- what is left after n numbers keeps between the curves from there
-pub keeps_on : (m : ℕ) (lo hi : ℕ → ℕ) (k held n : ℕ) (ys : List ℕ) → n ≤ length ys → KeepsBetween m lo hi k held ys →
+pub keeps_on : {m : ℕ} {lo hi : ℕ → ℕ} {k held : ℕ} {ys : List ℕ} (n : ℕ) → n ≤ length ys → KeepsBetween m lo hi k held ys →
     KeepsBetween m lo hi (k + n) (held + sum (take n ys)) (drop n ys)
-keeps_on m lo hi k held n ys fits keeps = record {
+keeps_on {m} {lo} {hi} {k} {held} {ys} n fits keeps = record {
   above = λ j few.
       let left : length (drop n ys) ≡ length ys - n = length-drop n ys in
       let e : sum (take n ys) + sum (take j (drop n ys)) ≡ sum (take (n + j) ys) = sum-take-drop n j ys (omega arith) in
@@ -85,11 +85,11 @@ no_fall p n b n' b' is_cold is_hot falls =
     omega (arith, one, two, falls)
 
 -- what comes after a hot segment, in the form that `hot_step` takes
-after_hot : (m p : ℕ) (lo hi : ℕ → ℕ) (k v held : ℕ) (s : Segment) (rest : List Segment) (zs : List ℕ) →
+after_hot : {m p : ℕ} {lo hi : ℕ → ℕ} {k v held : ℕ} {rest : List Segment} {zs : List ℕ} (s : Segment) →
     s.slots * p < s.bytes → Bends lo hi k v s rest → KeepsBetween m lo hi k held zs → Bounds m p v held rest zs →
     m * line_over p rest + m * v ≤ over (m * p) zs + held
-after_hot m p lo hi k v held s [] zs is_hot bend keeps bounds = bounds.hot tt
-after_hot m p lo hi k v held s (next ∷ others) zs is_hot bend keeps bounds =
+after_hot {m} {p} {lo} {rest = []} s is_hot bend keeps bounds = bounds.hot tt
+after_hot {m} {p} {lo} {k} {v} {held} {rest = next ∷ others} {zs} s is_hot bend keeps bounds =
     elim (cases_lt (next.slots * p) next.bytes) [
       | inl next_hot ↦ bounds.hot next_hot
       | inr next_cold ↦ elim bend [
@@ -105,11 +105,11 @@ after_hot m p lo hi k v held s (next ∷ others) zs is_hot bend keeps bounds =
     ]
 
 -- what comes after a cold segment
-after_cold : (m p : ℕ) (lo hi : ℕ → ℕ) (k v held : ℕ) (s : Segment) (rest : List Segment) (zs : List ℕ) →
+after_cold : {m p : ℕ} {lo hi : ℕ → ℕ} {k v held : ℕ} {rest : List Segment} {zs : List ℕ} (s : Segment) →
     s.bytes ≤ s.slots * p → Bends lo hi k v s rest → KeepsBetween m lo hi k held zs → Bounds m p v held rest zs →
     m * line_over p rest ≤ over (m * p) zs
-after_cold m p lo hi k v held s [] zs is_cold bend keeps bounds = bounds.cold tt
-after_cold m p lo hi k v held s (next ∷ others) zs is_cold bend keeps bounds =
+after_cold {m} {p} {lo} {rest = []} s is_cold bend keeps bounds = bounds.cold tt
+after_cold {m} {p} {lo} {hi} {k} {v} {held} {rest = next ∷ others} {zs} s is_cold bend keeps bounds =
     elim (cases_lt (next.slots * p) next.bytes) [
       | inr next_cold ↦ bounds.cold next_cold
       | inl next_hot ↦ elim bend [
@@ -125,28 +125,28 @@ after_cold m p lo hi k v held s (next ∷ others) zs is_cold bend keeps bounds =
     ]
 
 -- the induction: the line ends on both curves
-pub bounds : (m p : ℕ) (lo hi : ℕ → ℕ) (k v held : ℕ) (segments : List Segment) (ys : List ℕ) →
+pub bounds : {m p : ℕ} {lo hi : ℕ → ℕ} {k v held : ℕ} {segments : List Segment} {ys : List ℕ} →
     RunsTaut lo hi k v segments → lo (k + total_slots segments) ≡ v + total_bytes segments → length ys ≡ total_slots segments →
     KeepsBetween m lo hi k held ys → Bounds m p v held segments ys
-bounds m p lo hi k v held [] ys runs ends same keeps = record {
+bounds {m} {p} {lo} {k} {v} {held} {segments = []} runs ends same keeps = record {
   hot = λ _.
       let least : m * lo (k + 0) ≤ held + 0 = keeps.above 0 (omega arith) in
       let at : m * lo (k + 0) ≡ m * (v + 0) = ap (λ x. m * x) ends in
       omega (arith, least, at);
   cold = λ _. omega arith;
 }
-bounds m p lo hi k v held (s ∷ rest) ys runs ends same keeps =
+bounds {m} {p} {lo} {hi} {k} {v} {held} {segments = s ∷ rest} {ys} runs ends same keeps =
     let slots : total_slots (s ∷ rest) ≡ s.slots + total_slots rest = sum_by-cons (λ x. x.slots) s rest in
     let bytes : total_bytes (s ∷ rest) ≡ s.bytes + total_bytes rest = sum_by-cons (λ x. x.bytes) s rest in
     let line : line_over p (s ∷ rest) ≡ (s.bytes - s.slots * p) + line_over p rest = sum_by-cons (λ x. x.bytes - x.slots * p) s rest in
     let fits : s.slots ≤ length ys = omega (arith, same, slots) in
     let left : length (drop s.slots ys) ≡ length ys - s.slots = length-drop s.slots ys in
     let same' : length (drop s.slots ys) ≡ total_slots rest = omega (arith, left, same, slots) in
-    let keeps' = keeps_on m lo hi k held s.slots ys fits keeps in
+    let keeps' = keeps_on s.slots fits keeps in
     let place : k + total_slots (s ∷ rest) ≡ k + s.slots + total_slots rest = omega (arith, slots) in
     let ends' : lo (k + s.slots + total_slots rest) ≡ v + s.bytes + total_bytes rest = ap lo (sym place) ∙ ends ∙ omega (arith, bytes) in
     let rest' : Bounds m p (v + s.bytes) (held + sum (take s.slots ys)) rest (drop s.slots ys) =
-    bounds m p lo hi (k + s.slots) (v + s.bytes) (held + sum (take s.slots ys)) rest (drop s.slots ys) runs.2 ends' same' keeps' in
+    bounds {m = m} {p = p} {lo = lo} {hi = hi} {k = k + s.slots} {v = v + s.bytes} {held = held + sum (take s.slots ys)} {segments = rest} {ys = drop s.slots ys} runs.2 ends' same' keeps' in
     let joined : over (m * p) (take s.slots ys ++ drop s.slots ys) ≡ over (m * p) (take s.slots ys) + over (m * p) (drop s.slots ys) =
     sum_by-append (λ b. b - m * p) (take s.slots ys) (drop s.slots ys) in
     let whole : over (m * p) ys ≡ over (m * p) (take s.slots ys) + over (m * p) (drop s.slots ys) = ap (over (m * p)) (sym (take-append-drop s.slots ys)) ∙ joined in
@@ -155,20 +155,20 @@ bounds m p lo hi k v held (s ∷ rest) ys runs ends same keeps =
     let few' : sum (take s.slots ys) ≤ over (m * p) (take s.slots ys) + s.slots * (m * p) = subst (λ c. sum (take s.slots ys) ≤ over (m * p) (take s.slots ys) + c * (m * p)) count few in
     record {
       hot = λ is_hot. rw (line, whole) (hot_step m p v held s.slots s.bytes (sum (take s.slots ys)) (over (m * p) (take s.slots ys)) (over (m * p) (drop s.slots ys)) (line_over p rest) is_hot few'
-          (after_hot m p lo hi (k + s.slots) (v + s.bytes) (held + sum (take s.slots ys)) s rest (drop s.slots ys) is_hot runs.1 keeps' rest'));
+          (after_hot s is_hot runs.1 keeps' rest'));
       cold = λ is_cold.
-          let after : m * line_over p rest ≤ over (m * p) (drop s.slots ys) = after_cold m p lo hi (k + s.slots) (v + s.bytes) (held + sum (take s.slots ys)) s rest (drop s.slots ys) is_cold runs.1 keeps' rest' in
+          let after : m * line_over p rest ≤ over (m * p) (drop s.slots ys) = after_cold s is_cold runs.1 keeps' rest' in
           let none : s.bytes - s.slots * p ≡ 0 = omega arith in
           rw (line, whole, none) (omega (arith, after));
     }
 
 -- from a place where the curves meet, or where the first segment is cold, the line goes over p by no more than ys
-pub least : (m p : ℕ) (lo hi : ℕ → ℕ) (v : ℕ) (segments : List Segment) (ys : List ℕ) →
+pub least : {m : ℕ} {lo hi : ℕ → ℕ} {ys : List ℕ} (p v : ℕ) (segments : List Segment) →
     RunsTaut lo hi 0 v segments → lo (total_slots segments) ≡ v + total_bytes segments → length ys ≡ total_slots segments →
     KeepsBetween m lo hi 0 (m * v) ys → m * line_over p segments ≤ over (m * p) ys
-least m p lo hi v segments ys runs ends same keeps =
+least {m} {lo} {ys} p v segments runs ends same keeps =
     let ends' : lo (0 + total_slots segments) ≡ v + total_bytes segments = subst (λ c. lo c ≡ v + total_bytes segments) (omega arith) ends in
-    let both : Bounds m p v (m * v) segments ys = bounds m p lo hi 0 v (m * v) segments ys runs ends' same keeps in
+    let both : Bounds m p v (m * v) segments ys = bounds runs ends' same keeps in
     from_both segments both
   where
     from_both : (segs : List Segment) → Bounds m p v (m * v) segs ys → m * line_over p segs ≤ over (m * p) ys

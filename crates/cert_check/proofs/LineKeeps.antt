@@ -27,9 +27,9 @@ pub record KeepsAt (lo hi : ℕ → ℕ) (k v t : ℕ) (segments : List Segment)
   pub above : lo (k + t) ≤ v + sum (take t (plan_slots segments))
   pub below : v + sum (take t (plan_slots segments)) ≤ hi (k + t)
 
-pub line_keeps : (lo hi : ℕ → ℕ) (k v : ℕ) (s : Segment) (rest : List Segment) → RunsTaut lo hi k v (s ∷ rest) →
-    (t : ℕ) → t ≤ total_slots (s ∷ rest) → KeepsAt lo hi k v t (s ∷ rest)
-line_keeps lo hi k v s [] runs t few =
+pub line_keeps : {lo hi : ℕ → ℕ} {k v : ℕ} {s : Segment} {rest : List Segment} → RunsTaut lo hi k v (s ∷ rest) →
+    {t : ℕ} → t ≤ total_slots (s ∷ rest) → KeepsAt lo hi k v t (s ∷ rest)
+line_keeps {lo} {hi} {k} {v} {s} {rest = []} runs {t} few =
     let slots : total_slots (s ∷ []) ≡ s.slots + total_slots [] = sum_by-cons (λ x. x.slots) s [] in
     let none : total_slots [] ≡ 0 = refl in
     let within : t ≤ s.slots = omega (arith, few, slots, none) in
@@ -38,7 +38,7 @@ line_keeps lo hi k v s [] runs t few =
       above = rw here (floor_above v s.slots s.bytes t (lo (k + t)) runs.0.some (runs.0.above t within));
       below = rw here (floor_below v s.slots s.bytes t (hi (k + t)) runs.0.some (runs.0.below t within));
     }
-line_keeps lo hi k v s (next ∷ rest) runs t few =
+line_keeps {lo} {hi} {k} {v} {s} {rest = next ∷ rest} runs {t} few =
     elim (cases_lt s.slots t) [
       | inr within ↦ (
           let here : sum (take t (plan_slots (s ∷ next ∷ rest))) ≡ t * s.bytes / s.slots = sum-take-in s (next ∷ rest) t runs.0.some within in
@@ -51,7 +51,7 @@ line_keeps lo hi k v s (next ∷ rest) runs t few =
           let d = t - s.slots in
           let is : t ≡ s.slots + d = omega arith in
           let slots : total_slots (s ∷ next ∷ rest) ≡ s.slots + total_slots (next ∷ rest) = sum_by-cons (λ x. x.slots) s (next ∷ rest) in
-          let after : KeepsAt lo hi (k + s.slots) (v + s.bytes) d (next ∷ rest) = line_keeps lo hi (k + s.slots) (v + s.bytes) next rest runs.2 d (omega (arith, few, slots)) in
+          let after : KeepsAt lo hi (k + s.slots) (v + s.bytes) d (next ∷ rest) = line_keeps {lo = lo} {hi = hi} {k = k + s.slots} {v = v + s.bytes} {s = next} {rest = rest} runs.2 {t = d} (omega (arith, few, slots)) in
           let joined : sum (take (s.slots + d) (plan_slots (s ∷ next ∷ rest))) ≡ s.bytes + sum (take d (plan_slots (next ∷ rest))) = sum-take-past s (next ∷ rest) d runs.0.some in
           let whole : sum (take t (plan_slots (s ∷ next ∷ rest))) ≡ s.bytes + sum (take d (plan_slots (next ∷ rest))) = ap (λ n. sum (take n (plan_slots (s ∷ next ∷ rest)))) is ∙ joined in
           let place : k + s.slots + d ≡ k + t = omega (arith, is) in

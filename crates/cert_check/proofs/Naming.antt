@@ -7,8 +7,8 @@ use Rattle.cert_check.specs.First.{IsFirst}
 use Rattle.cert_check.specs.Fault.{IsEmptyAt, IsEqualAt, IsRiseOffUpper, IsFallOffLower, IsThere, kind_of, number_of, IsFirstFault}
 use Rattle.cert_check.specs.Whole.{IsWhole, StaysWithin}
 
-not_empty : (from : ℕ) (low up : List ℕ) (segments : List Segment) → IsWhole from low up segments → (i : ℕ) → IsEmptyAt segments i → ⊥
-not_empty from low up segments whole i empty = let some = whole.some i empty.0 in omega (arith, some, empty.1)
+not_empty : {from : ℕ} {low up : List ℕ} {segments : List Segment} → IsWhole from low up segments → {i : ℕ} → IsEmptyAt segments i → ⊥
+not_empty {from} {low} whole {i} empty = let some = whole.some i empty.0 in omega (arith, some, empty.1)
 
 pub first_fall : (from : ℕ) (low up : List ℕ) (segments : List Segment) (i : ℕ) → StaysWithin from low up segments →
     ((j : ℕ) → ¬ IsEqualAt segments j) → ((j : ℕ) → ¬ IsRiseOffUpper from up segments j) → IsFirst (IsFallOffLower from low segments) i →
@@ -20,7 +20,7 @@ first_fall from low up segments i within no_equal no_rise first = record {
 }
   where
     earlier : (other : CertFault) → kind_of other < 7 → ¬ IsThere from low up segments other
-    earlier (EmptySegment j) less = not_empty from low up segments within.whole j
+    earlier (EmptySegment j) less = not_empty {from = from} {low = low} {up = up} {segments = segments} within.whole {i = j}
     earlier WrongLength less = λ off. off within.whole.slots
     earlier WrongTotal less = λ off. off within.whole.bytes
     earlier (BelowLow j) less = within.not_below j

@@ -30,9 +30,9 @@ cut_above n b n' b' c d v j h pos level level' above =
     le_of_mul-le-mul_right all pos
 
 -- the part of a segment of n + n' slots that is left after n of them stays between the curves
-cut_stays : (lo hi : ℕ → ℕ) (k v n b n' b' : ℕ) (t : Segment) → t.slots ≡ n + n' → 1 ≤ n' → t.bytes * n' ≡ b' * t.slots → b * n' ≡ b' * n →
+cut_stays : {lo hi : ℕ → ℕ} {k v : ℕ} {t : Segment} (n b n' b' : ℕ) → t.slots ≡ n + n' → 1 ≤ n' → t.bytes * n' ≡ b' * t.slots → b * n' ≡ b' * n →
     StaysBetween lo hi k v t → StaysBetween lo hi (k + n) (v + b) (record { slots = n'; bytes = b' })
-cut_stays lo hi k v n b n' b' t slots some level level' stays = record {
+cut_stays {lo} {hi} {k} {v} {t} n b n' b' slots some level level' stays = record {
   some = some;
   above = λ j few.
       let h : lo (k + (n + j)) * t.slots ≤ v * t.slots + (n + j) * t.bytes = stays.above (n + j) (omega arith) in
@@ -55,13 +55,13 @@ cut_bends lo hi k v n' b' t (next ∷ rest) some some' level bend =
     ]
 
 -- of two taut lines with level first slopes none has the shorter first segment
-no_longer : (lo hi : ℕ → ℕ) (k v : ℕ) (s : Segment) (xs : List Segment) (t : Segment) (ys : List Segment) →
+no_longer : {lo hi : ℕ → ℕ} {k v : ℕ} {s : Segment} {xs : List Segment} {t : Segment} {ys : List Segment} →
     RunsTaut lo hi k v (s ∷ xs) → EndsOn lo hi k v (s ∷ xs) → RunsTaut lo hi k v (t ∷ ys) → EndsOn lo hi k v (t ∷ ys) →
     total_slots (s ∷ xs) ≡ total_slots (t ∷ ys) → s.bytes * t.slots ≡ t.bytes * s.slots → s.slots < t.slots → ⊥
-no_longer lo hi k v s [] t ys runs ends runs' ends' same level shorter =
+no_longer {lo} {s} {xs = []} {t} {ys} runs ends runs' ends' same level shorter =
     let slots : total_slots (t ∷ ys) ≡ t.slots + total_slots ys = sum_by-cons (λ x. x.slots) t ys in
     omega (arith, same, slots, shorter)
-no_longer lo hi k v s (next ∷ xs) t ys runs ends runs' ends' same level shorter =
+no_longer {lo} {hi} {k} {v} {s} {xs = next ∷ xs} {t} {ys} runs ends runs' ends' same level shorter =
     let n' = t.slots - s.slots in
     let slots : t.slots ≡ s.slots + n' = omega arith in
     let fewer : s.bytes * t.slots ≤ t.bytes * t.slots = omega (arith, level, mul-le-mul_left t.bytes (le_of_lt shorter)) in
@@ -82,7 +82,7 @@ no_longer lo hi k v s (next ∷ xs) t ys runs ends runs' ends' same level shorte
         let place : k + t.slots ≡ k + s.slots + n' = omega arith in
         let height : v + t.bytes ≡ v + s.bytes + b' = omega arith in
         let bend' : Bends lo hi (k + t.slots) (v + t.bytes) part ys = cut_bends lo hi (k + t.slots) (v + t.bytes) n' b' t ys some runs'.0.some level_t runs'.1 in
-        let stays : StaysBetween lo hi (k + s.slots) (v + s.bytes) part = cut_stays lo hi k v s.slots s.bytes n' b' t slots some (sym level_t) (sym level_s) runs'.0 in
+        let stays : StaysBetween lo hi (k + s.slots) (v + s.bytes) part = cut_stays s.slots s.bytes n' b' slots some (sym level_t) (sym level_s) runs'.0 in
         let bend'' : Bends lo hi (k + s.slots + n') (v + s.bytes + b') part ys = subst (λ c. Bends lo hi c (v + s.bytes + b') part ys) place (subst (λ c. Bends lo hi (k + t.slots) c part ys) height bend') in
         let rest'' : RunsTaut lo hi (k + s.slots + n') (v + s.bytes + b') ys = subst (λ c. RunsTaut lo hi c (v + s.bytes + b') ys) place (subst (λ c. RunsTaut lo hi (k + t.slots) c ys) height runs'.2) in
         let part_runs : RunsTaut lo hi (k + s.slots) (v + s.bytes) (part ∷ ys) = (stays, bend'', rest'') in
@@ -93,7 +93,7 @@ no_longer lo hi k v s (next ∷ xs) t ys runs ends runs' ends' same level shorte
         let place' : k + s.slots + total_slots (part ∷ ys) ≡ k + total_slots (t ∷ ys) = omega (arith, slots_t, slots_p) in
         let height' : v + total_bytes (t ∷ ys) ≡ v + s.bytes + total_bytes (part ∷ ys) = omega (arith, bytes_t, bytes_p) in
         let part_ends : EndsOn lo hi (k + s.slots) (v + s.bytes) (part ∷ ys) = record { low = ap lo place' ∙ ends'.low ∙ height'; high = ap hi place' ∙ ends'.high ∙ height' } in
-        let level_n : next.bytes * n' ≡ b' * next.slots = one_slope lo hi (k + s.slots) (v + s.bytes) next xs part ys runs.2 (ends_on lo hi k v s (next ∷ xs) ends) part_runs part_ends in
+        let level_n : next.bytes * n' ≡ b' * next.slots = one_slope runs.2 (ends_on ends) part_runs part_ends in
         let level_ns : next.bytes * s.slots ≡ s.bytes * next.slots = level_trans next.bytes next.slots b' n' s.bytes s.slots some level_n level_s in
         elim runs.1 [
           | inl rise ↦ omega (arith, rise.0, level_ns)
@@ -109,31 +109,31 @@ same_segment s t slots some level =
     ap (λ n. segment n s.bytes) slots ∙ ap (λ b. segment t.slots b) bytes
 
 -- the whole list
-pub one_list : (lo hi : ℕ → ℕ) (k v : ℕ) (xs ys : List Segment) →
+pub one_list : {lo hi : ℕ → ℕ} {k v : ℕ} {xs ys : List Segment} →
     RunsTaut lo hi k v xs → EndsOn lo hi k v xs → RunsTaut lo hi k v ys → EndsOn lo hi k v ys → total_slots xs ≡ total_slots ys → xs ≡ ys
-one_list lo hi k v [] [] runs ends runs' ends' same = refl
-one_list lo hi k v [] (t ∷ ys) runs ends runs' ends' same =
+one_list {lo} {xs = []} {ys = []} runs ends runs' ends' same = refl
+one_list {lo} {xs = []} {ys = t ∷ ys} runs ends runs' ends' same =
     let slots : total_slots (t ∷ ys) ≡ t.slots + total_slots ys = sum_by-cons (λ x. x.slots) t ys in
     let some : 1 ≤ t.slots = runs'.0.some in
     absurd (omega (arith, same, slots, some))
-one_list lo hi k v (s ∷ xs) [] runs ends runs' ends' same =
+one_list {lo} {xs = s ∷ xs} {ys = []} runs ends runs' ends' same =
     let slots : total_slots (s ∷ xs) ≡ s.slots + total_slots xs = sum_by-cons (λ x. x.slots) s xs in
     let some : 1 ≤ s.slots = runs.0.some in
     absurd (omega (arith, same, slots, some))
-one_list lo hi k v (s ∷ xs) (t ∷ ys) runs ends runs' ends' same =
-    let level : s.bytes * t.slots ≡ t.bytes * s.slots = one_slope lo hi k v s xs t ys runs ends runs' ends' in
+one_list {lo} {hi} {k} {v} {xs = s ∷ xs} {ys = t ∷ ys} runs ends runs' ends' same =
+    let level : s.bytes * t.slots ≡ t.bytes * s.slots = one_slope runs ends runs' ends' in
     let slots_s : total_slots (s ∷ xs) ≡ s.slots + total_slots xs = sum_by-cons (λ x. x.slots) s xs in
     let slots_t : total_slots (t ∷ ys) ≡ t.slots + total_slots ys = sum_by-cons (λ x. x.slots) t ys in
     elim (cases_order s.slots t.slots) [
       | inl one ↦ (
           let first : s ≡ t = same_segment s t one runs.0.some level in
           let rest' : RunsTaut lo hi (k + s.slots) (v + s.bytes) ys = subst (λ x. RunsTaut lo hi (k + x.slots) (v + x.bytes) ys) (sym first) runs'.2 in
-          let ends'' : EndsOn lo hi (k + s.slots) (v + s.bytes) ys = subst (λ x. EndsOn lo hi (k + x.slots) (v + x.bytes) ys) (sym first) (ends_on lo hi k v t ys ends') in
-          let others : xs ≡ ys = one_list lo hi (k + s.slots) (v + s.bytes) xs ys runs.2 (ends_on lo hi k v s xs ends) rest' ends'' (omega (arith, same, slots_s, slots_t, one)) in
+          let ends'' : EndsOn lo hi (k + s.slots) (v + s.bytes) ys = subst (λ x. EndsOn lo hi (k + x.slots) (v + x.bytes) ys) (sym first) (ends_on ends') in
+          let others : xs ≡ ys = one_list {lo = lo} {hi = hi} {k = k + s.slots} {v = v + s.bytes} {xs = xs} {ys = ys} runs.2 (ends_on {lo = lo} {hi = hi} {k = k} {v = v} {s = s} {rest = xs} ends) rest' ends'' (omega (arith, same, slots_s, slots_t, one)) in
           ap (λ x. x ∷ xs) first ∙ ap (λ zs. t ∷ zs) others
           )
       | inr other ↦ elim other [
-        | inl shorter ↦ absurd (no_longer lo hi k v s xs t ys runs ends runs' ends' same level shorter)
-        | inr longer ↦ absurd (no_longer lo hi k v t ys s xs runs' ends' runs ends (sym same) (sym level) longer)
+        | inl shorter ↦ absurd (no_longer runs ends runs' ends' same level shorter)
+        | inr longer ↦ absurd (no_longer runs' ends' runs ends (sym same) (sym level) longer)
       ]
     ]

@@ -40,8 +40,8 @@ first_bytes : (s : Segment) (rest : List Segment) → total_bytes (take (0 + 1) 
 first_bytes s rest = omega (arith, sum_by-cons (λ x. x.bytes) s [])
 
 -- the first segment of a faultless list
-first_stays : (lo hi : ℕ → ℕ) (k v : ℕ) (s : Segment) (rest : List Segment) → Faultless lo hi k v (s ∷ rest) → StaysBetween lo hi k v s
-first_stays lo hi k v s rest clean =
+first_stays : {lo hi : ℕ → ℕ} {k v : ℕ} {s : Segment} {rest : List Segment} → Faultless lo hi k v (s ∷ rest) → StaysBetween lo hi k v s
+first_stays {lo} {hi} {k} {v} {s} {rest} clean =
     let slots : total_slots (s ∷ rest) ≡ s.slots + total_slots rest = sum_by-cons (λ x. x.slots) s rest in
     record {
       some = clean.no_empty 0 (omega arith);
@@ -73,9 +73,9 @@ first_stays lo hi k v s rest clean =
     }
 
 -- what a faultless list leaves after its first segment is faultless from there
-rest_faultless : (lo hi : ℕ → ℕ) (k v : ℕ) (s : Segment) (rest : List Segment) → Faultless lo hi k v (s ∷ rest) → StaysBetween lo hi k v s →
+rest_faultless : {lo hi : ℕ → ℕ} {k v : ℕ} {s : Segment} {rest : List Segment} → Faultless lo hi k v (s ∷ rest) → StaysBetween lo hi k v s →
     Faultless lo hi (k + s.slots) (v + s.bytes) rest
-rest_faultless lo hi k v s rest clean stays =
+rest_faultless {lo} {hi} {k} {v} {s} {rest} clean stays =
     let slots : total_slots (s ∷ rest) ≡ s.slots + total_slots rest = sum_by-cons (λ x. x.slots) s rest in
     let pos : 0 < s.slots = stays.some in
     record {
@@ -120,9 +120,9 @@ rest_faultless lo hi k v s rest clean stays =
     same_place k n j = omega arith
 
 -- the bend after the first segment of a faultless list
-first_bends : (lo hi : ℕ → ℕ) (k v : ℕ) (s : Segment) (rest : List Segment) → Faultless lo hi k v (s ∷ rest) → Bends lo hi (k + s.slots) (v + s.bytes) s rest
-first_bends lo hi k v s [] clean = tt
-first_bends lo hi k v s (next ∷ rest) clean =
+first_bends : {lo hi : ℕ → ℕ} {k v : ℕ} {s : Segment} {rest : List Segment} → Faultless lo hi k v (s ∷ rest) → Bends lo hi (k + s.slots) (v + s.bytes) s rest
+first_bends {lo} {s} {rest = []} clean = tt
+first_bends {lo} {hi} {k} {v} {s} {rest = next ∷ rest} clean =
     let height : v + total_bytes (take (0 + 1) (s ∷ next ∷ rest)) ≡ v + s.bytes = omega (arith, first_bytes s (next ∷ rest)) in
     let place : k + total_slots (take (0 + 1) (s ∷ next ∷ rest)) ≡ k + s.slots = omega (arith, first_slots s (next ∷ rest)) in
     elim (cases_order (s.bytes * next.slots) (next.bytes * s.slots)) [
@@ -136,13 +136,13 @@ first_bends lo hi k v s (next ∷ rest) clean =
 pub runs_from_faultless : (lo hi : ℕ → ℕ) (k v : ℕ) (segments : List Segment) → Faultless lo hi k v segments → RunsTaut lo hi k v segments
 runs_from_faultless lo hi k v [] clean = tt
 runs_from_faultless lo hi k v (s ∷ rest) clean =
-    let stays = first_stays lo hi k v s rest clean in
-    (stays, first_bends lo hi k v s rest clean, runs_from_faultless lo hi (k + s.slots) (v + s.bytes) rest (rest_faultless lo hi k v s rest clean stays))
+    let stays = first_stays clean in
+    (stays, first_bends clean, runs_from_faultless lo hi (k + s.slots) (v + s.bytes) rest (rest_faultless clean stays))
 
 -- and back, one segment put in front
-front_faultless : (lo hi : ℕ → ℕ) (k v : ℕ) (s : Segment) (rest : List Segment) → StaysBetween lo hi k v s → Bends lo hi (k + s.slots) (v + s.bytes) s rest →
+front_faultless : {lo hi : ℕ → ℕ} {k v : ℕ} {s : Segment} {rest : List Segment} → StaysBetween lo hi k v s → Bends lo hi (k + s.slots) (v + s.bytes) s rest →
     Faultless lo hi (k + s.slots) (v + s.bytes) rest → Faultless lo hi k v (s ∷ rest)
-front_faultless lo hi k v s rest stays bend after =
+front_faultless {lo} {hi} {k} {v} {s} {rest} stays bend after =
     let slots : total_slots (s ∷ rest) ≡ s.slots + total_slots rest = sum_by-cons (λ x. x.slots) s rest in
     let pos : 0 < s.slots = stays.some in
     record {
@@ -237,9 +237,9 @@ front_faultless lo hi k v s rest stays bend after =
         height ∙ h ∙ ap lo (sym place)
 
 -- the line's end on both curves starts the induction
-pub faultless_from_runs : (lo hi : ℕ → ℕ) (k v : ℕ) (segments : List Segment) → RunsTaut lo hi k v segments →
+pub faultless_from_runs : {lo hi : ℕ → ℕ} {k v : ℕ} {segments : List Segment} → RunsTaut lo hi k v segments →
     lo (k + total_slots segments) ≤ v + total_bytes segments → v + total_bytes segments ≤ hi (k + total_slots segments) → Faultless lo hi k v segments
-faultless_from_runs lo hi k v [] runs under over = record {
+faultless_from_runs {lo} {hi} {k} {segments = []} runs under over = record {
   no_empty = λ i inside. absurd (omega (arith, inside));
   start_above = let e : lo (k + 0) ≡ lo k = ap lo (add-zero k) in omega (arith, under, e);
   start_below = let e : hi (k + 0) ≡ hi k = ap hi (add-zero k) in omega (arith, over, e);
@@ -249,11 +249,11 @@ faultless_from_runs lo hi k v [] runs under over = record {
   rises_on_upper = λ i inside rise. absurd (omega (arith, inside));
   falls_on_lower = λ i inside fall. absurd (omega (arith, inside));
 }
-faultless_from_runs lo hi k v (s ∷ rest) runs under over =
+faultless_from_runs {lo} {hi} {k} {v} {segments = s ∷ rest} runs under over =
     let slots : total_slots (s ∷ rest) ≡ s.slots + total_slots rest = sum_by-cons (λ x. x.slots) s rest in
     let bytes : total_bytes (s ∷ rest) ≡ s.bytes + total_bytes rest = sum_by-cons (λ x. x.bytes) s rest in
     let place : k + total_slots (s ∷ rest) ≡ k + s.slots + total_slots rest = omega (arith, slots) in
     let low : lo (k + total_slots (s ∷ rest)) ≡ lo (k + s.slots + total_slots rest) = ap lo place in
     let high : hi (k + total_slots (s ∷ rest)) ≡ hi (k + s.slots + total_slots rest) = ap hi place in
-    front_faultless lo hi k v s rest runs.0 runs.1
-    (faultless_from_runs lo hi (k + s.slots) (v + s.bytes) rest runs.2 (omega (arith, under, low, bytes)) (omega (arith, over, high, bytes)))
+    front_faultless runs.0 runs.1
+    (faultless_from_runs {lo = lo} {hi = hi} {k = k + s.slots} {v = v + s.bytes} {segments = rest} runs.2 (omega (arith, under, low, bytes)) (omega (arith, over, high, bytes)))

@@ -47,8 +47,8 @@ pub excess-one : (p : ℕ) (ys : List ℕ) → excess ys p 1 ≡ over p ys
 excess-one p ys = sum_by-agree (λ b. 1 * b - p) (λ b. b - p) ys (λ b. omega arith)
 
 -- one number over the rate ((e + r) * a + r) / (e + r), by the two whole thresholds beside it
-between_above : (a e r b d : ℕ) → 1 ≤ e → b ≡ a + 1 + d → (e + r) * b - ((e + r) * a + r) ≡ e * (b - a) + r * (b - (a + 1))
-between_above a e r b d some is =
+between_above : {b : ℕ} (a e r d : ℕ) → 1 ≤ e → b ≡ a + 1 + d → (e + r) * b - ((e + r) * a + r) ≡ e * (b - a) + r * (b - (a + 1))
+between_above {b} a e r d some is =
     let one : b - a ≡ 1 + d = omega arith in
     let two : b - (a + 1) ≡ d = omega arith in
     let left : (e + r) * b ≡ (e + r) * (a + 1 + d) = ap (λ n. (e + r) * n) is in
@@ -57,7 +57,7 @@ between_above a e r b d some is =
 between_thresholds : (a e r b : ℕ) → 1 ≤ e → (e + r) * b - ((e + r) * a + r) ≡ e * (b - a) + r * (b - (a + 1))
 between_thresholds a e r b some =
     elim (cases_lt a b) [
-      | inl above ↦ between_above a e r b (b - (a + 1)) some (omega arith)
+      | inl above ↦ between_above a e r (b - (a + 1)) some (omega arith)
       | inr under ↦ (
           let zero_one : b - a ≡ 0 = omega arith in
           let zero_two : b - (a + 1) ≡ 0 = omega arith in

@@ -97,7 +97,7 @@ taut_from_runs from low up segments closed runs slots total =
     let high_end : bound_at from up (0 + total_slots segments) ≡ from + total_bytes segments =
     ap (bound_at from up) place ∙ bound_end from up (length low) closed.some_slot ∙ sym total in
     let clean : Faultless (bound_at from low) (bound_at from up) 0 from segments =
-    faultless_from_runs (bound_at from low) (bound_at from up) 0 from segments runs (omega (arith, low_end)) (omega (arith, high_end)) in
+    faultless_from_runs runs (omega (arith, low_end)) (omega (arith, high_end)) in
     record {
       no_empty = λ i empty. let some : 1 ≤ (segment_at segments i).slots = clean.no_empty i empty.0 in omega (arith, some, empty.1);
       right_length = λ off. off slots;

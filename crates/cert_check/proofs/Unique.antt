@@ -56,23 +56,23 @@ apart v n b n' b' j h some steeper below above =
     omega (arith, one, two, gap)
 
 -- so a steeper ray that meets low and a flatter one that meets high don't begin together
-pub no_steeper : (lo hi : ℕ → ℕ) (k v n b n' b' : ℕ) → MeetsHigh lo hi k v n b → MeetsLow lo hi k v n' b' → b * n' < b' * n → ⊥
-no_steeper lo hi k v n b n' b' flat steep steeper =
+pub no_steeper : {lo hi : ℕ → ℕ} {k v n b n' b' : ℕ} → MeetsHigh lo hi k v n b → MeetsLow lo hi k v n' b' → b * n' < b' * n → ⊥
+no_steeper {lo} {hi} {k} {v} {n} {b} {n'} {b'} flat steep steeper =
     elim (cases_lt steep.far flat.far) [
       | inl before ↦ apart v n b n' b' steep.far (lo (k + steep.far)) steep.later steeper (flat.free steep.far (omega arith)) steep.touches
       | inr after ↦ apart v n b n' b' flat.far (hi (k + flat.far)) flat.later steeper flat.touches (steep.free flat.far after)
     ]
 
-first_meets_low : (lo hi : ℕ → ℕ) (k v : ℕ) (s : Segment) → StaysBetween lo hi k v s → v + s.bytes ≡ lo (k + s.slots) → MeetsLow lo hi k v s.slots s.bytes
-first_meets_low lo hi k v s stays on_low = record {
+first_meets_low : {lo hi : ℕ → ℕ} {k v : ℕ} {s : Segment} → StaysBetween lo hi k v s → v + s.bytes ≡ lo (k + s.slots) → MeetsLow lo hi k v s.slots s.bytes
+first_meets_low {lo} {k} {v} {s} stays on_low = record {
   far = s.slots;
   later = stays.some;
   touches = let e : (v + s.bytes) * s.slots ≡ lo (k + s.slots) * s.slots = ap (λ x. x * s.slots) on_low in omega (arith, e);
   free = stays.below;
 }
 
-first_meets_high : (lo hi : ℕ → ℕ) (k v : ℕ) (s : Segment) → StaysBetween lo hi k v s → v + s.bytes ≡ hi (k + s.slots) → MeetsHigh lo hi k v s.slots s.bytes
-first_meets_high lo hi k v s stays on_high = record {
+first_meets_high : {lo hi : ℕ → ℕ} {k v : ℕ} {s : Segment} → StaysBetween lo hi k v s → v + s.bytes ≡ hi (k + s.slots) → MeetsHigh lo hi k v s.slots s.bytes
+first_meets_high {lo} {hi} {k} {v} {s} stays on_high = record {
   far = s.slots;
   later = stays.some;
   touches = let e : (v + s.bytes) * s.slots ≡ hi (k + s.slots) * s.slots = ap (λ x. x * s.slots) on_high in omega (arith, e);
@@ -80,9 +80,9 @@ first_meets_high lo hi k v s stays on_high = record {
 }
 
 -- the meeting of a steeper segment's ray, seen along the ray of the segment before it
-low_further : (lo hi : ℕ → ℕ) (k v : ℕ) (s next : Segment) → StaysBetween lo hi k v s → 1 ≤ next.slots →
+low_further : {lo hi : ℕ → ℕ} {k v : ℕ} {s : Segment} (next : Segment) → StaysBetween lo hi k v s → 1 ≤ next.slots →
     s.bytes * next.slots ≤ next.bytes * s.slots → MeetsLow lo hi (k + s.slots) (v + s.bytes) next.slots next.bytes → MeetsLow lo hi k v s.slots s.bytes
-low_further lo hi k v s next stays some steeper meets = record {
+low_further {lo} {hi} {k} {v} {s} next stays some steeper meets = record {
   far = s.slots + meets.far;
   later = omega (arith, meets.later);
   touches =
@@ -103,9 +103,9 @@ low_further lo hi k v s next stays some steeper meets = record {
   ];
 }
 
-high_further : (lo hi : ℕ → ℕ) (k v : ℕ) (s next : Segment) → StaysBetween lo hi k v s → 1 ≤ next.slots →
+high_further : {lo hi : ℕ → ℕ} {k v : ℕ} {s : Segment} (next : Segment) → StaysBetween lo hi k v s → 1 ≤ next.slots →
     next.bytes * s.slots ≤ s.bytes * next.slots → MeetsHigh lo hi (k + s.slots) (v + s.bytes) next.slots next.bytes → MeetsHigh lo hi k v s.slots s.bytes
-high_further lo hi k v s next stays some flatter meets = record {
+high_further {lo} {hi} {k} {v} {s} next stays some flatter meets = record {
   far = s.slots + meets.far;
   later = omega (arith, meets.later);
   touches =
@@ -127,8 +127,8 @@ high_further lo hi k v s next stays some flatter meets = record {
 }
 
 -- what is left after the first segment ends on both curves too
-pub ends_on : (lo hi : ℕ → ℕ) (k v : ℕ) (s : Segment) (rest : List Segment) → EndsOn lo hi k v (s ∷ rest) → EndsOn lo hi (k + s.slots) (v + s.bytes) rest
-ends_on lo hi k v s rest ends =
+pub ends_on : {lo hi : ℕ → ℕ} {k v : ℕ} {s : Segment} {rest : List Segment} → EndsOn lo hi k v (s ∷ rest) → EndsOn lo hi (k + s.slots) (v + s.bytes) rest
+ends_on {lo} {hi} {k} {v} {s} {rest} ends =
     let slots : total_slots (s ∷ rest) ≡ s.slots + total_slots rest = sum_by-cons (λ x. x.slots) s rest in
     let bytes : total_bytes (s ∷ rest) ≡ s.bytes + total_bytes rest = sum_by-cons (λ x. x.bytes) s rest in
     let place : k + total_slots (s ∷ rest) ≡ k + s.slots + total_slots rest = omega (arith, slots) in
@@ -139,42 +139,42 @@ ends_on lo hi k v s rest ends =
     }
 
 -- every taut line's first ray meets low
-pub meets_low : (lo hi : ℕ → ℕ) (k v : ℕ) (s : Segment) (rest : List Segment) → RunsTaut lo hi k v (s ∷ rest) → EndsOn lo hi k v (s ∷ rest) →
+pub meets_low : {lo hi : ℕ → ℕ} {k v : ℕ} {s : Segment} {rest : List Segment} → RunsTaut lo hi k v (s ∷ rest) → EndsOn lo hi k v (s ∷ rest) →
     MeetsLow lo hi k v s.slots s.bytes
-meets_low lo hi k v s [] runs ends =
-    let e = (ends_on lo hi k v s [] ends).low in
+meets_low {lo} {k} {v} {s} {rest = []} runs ends =
+    let e = (ends_on ends).low in
     let on_low : v + s.bytes ≡ lo (k + s.slots) = sym (ap lo (omega arith) ∙ e ∙ omega arith) in
-    first_meets_low lo hi k v s runs.0 on_low
-meets_low lo hi k v s (next ∷ rest) runs ends =
+    first_meets_low runs.0 on_low
+meets_low {lo} {hi} {k} {v} {s} {rest = next ∷ rest} runs ends =
     elim runs.1 [
-      | inl rise ↦ low_further lo hi k v s next runs.0 runs.2.0.some (omega (arith, rise.0))
-          (meets_low lo hi (k + s.slots) (v + s.bytes) next rest runs.2 (ends_on lo hi k v s (next ∷ rest) ends))
-      | inr fall ↦ first_meets_low lo hi k v s runs.0 fall.1
+      | inl rise ↦ low_further next runs.0 runs.2.0.some (omega (arith, rise.0))
+          (meets_low {lo = lo} {hi = hi} {k = k + s.slots} {v = v + s.bytes} {s = next} {rest = rest} runs.2 (ends_on {lo = lo} {hi = hi} {k = k} {v = v} {s = s} {rest = next ∷ rest} ends))
+      | inr fall ↦ first_meets_low runs.0 fall.1
     ]
 
 -- and meets high
-pub meets_high : (lo hi : ℕ → ℕ) (k v : ℕ) (s : Segment) (rest : List Segment) → RunsTaut lo hi k v (s ∷ rest) → EndsOn lo hi k v (s ∷ rest) →
+pub meets_high : {lo hi : ℕ → ℕ} {k v : ℕ} {s : Segment} {rest : List Segment} → RunsTaut lo hi k v (s ∷ rest) → EndsOn lo hi k v (s ∷ rest) →
     MeetsHigh lo hi k v s.slots s.bytes
-meets_high lo hi k v s [] runs ends =
-    let e = (ends_on lo hi k v s [] ends).high in
+meets_high {lo} {hi} {k} {v} {s} {rest = []} runs ends =
+    let e = (ends_on ends).high in
     let on_high : v + s.bytes ≡ hi (k + s.slots) = sym (ap hi (omega arith) ∙ e ∙ omega arith) in
-    first_meets_high lo hi k v s runs.0 on_high
-meets_high lo hi k v s (next ∷ rest) runs ends =
+    first_meets_high runs.0 on_high
+meets_high {lo} {hi} {k} {v} {s} {rest = next ∷ rest} runs ends =
     elim runs.1 [
-      | inl rise ↦ first_meets_high lo hi k v s runs.0 rise.1
-      | inr fall ↦ high_further lo hi k v s next runs.0 runs.2.0.some (omega (arith, fall.0))
-          (meets_high lo hi (k + s.slots) (v + s.bytes) next rest runs.2 (ends_on lo hi k v s (next ∷ rest) ends))
+      | inl rise ↦ first_meets_high runs.0 rise.1
+      | inr fall ↦ high_further next runs.0 runs.2.0.some (omega (arith, fall.0))
+          (meets_high {lo = lo} {hi = hi} {k = k + s.slots} {v = v + s.bytes} {s = next} {rest = rest} runs.2 (ends_on {lo = lo} {hi = hi} {k = k} {v = v} {s = s} {rest = next ∷ rest} ends))
     ]
 
 -- so two taut lines from one place begin with one slope
-pub one_slope : (lo hi : ℕ → ℕ) (k v : ℕ) (s : Segment) (xs : List Segment) (t : Segment) (ys : List Segment) →
+pub one_slope : {lo hi : ℕ → ℕ} {k v : ℕ} {s : Segment} {xs : List Segment} {t : Segment} {ys : List Segment} →
     RunsTaut lo hi k v (s ∷ xs) → EndsOn lo hi k v (s ∷ xs) → RunsTaut lo hi k v (t ∷ ys) → EndsOn lo hi k v (t ∷ ys) →
     s.bytes * t.slots ≡ t.bytes * s.slots
-one_slope lo hi k v s xs t ys runs ends runs' ends' =
+one_slope {lo} {s} {t} runs ends runs' ends' =
     elim (cases_order (s.bytes * t.slots) (t.bytes * s.slots)) [
       | inl same ↦ same
       | inr other ↦ elim other [
-        | inl less ↦ absurd (no_steeper lo hi k v s.slots s.bytes t.slots t.bytes (meets_high lo hi k v s xs runs ends) (meets_low lo hi k v t ys runs' ends') less)
-        | inr more ↦ absurd (no_steeper lo hi k v t.slots t.bytes s.slots s.bytes (meets_high lo hi k v t ys runs' ends') (meets_low lo hi k v s xs runs ends) more)
+        | inl less ↦ absurd (no_steeper (meets_high runs ends) (meets_low runs' ends') less)
+        | inr more ↦ absurd (no_steeper (meets_high runs' ends') (meets_low runs ends) more)
       ]
     ]

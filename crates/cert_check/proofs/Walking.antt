@@ -28,9 +28,9 @@ pub record Goes (from : ℕ) (segments : List Segment) (t : ℕ) (walk : Walk) :
   pub some : 1 ≤ walk.passed
 
 -- one slot further
-pub goes_on : (from : ℕ) (low up : List ℕ) (segments : List Segment) (t : ℕ) (walk : Walk) → IsWhole from low up segments →
+pub goes_on : {from : ℕ} {low up : List ℕ} {segments : List Segment} {t : ℕ} {walk : Walk} → IsWhole from low up segments →
     StandsAt from segments t walk → t < length low → Goes from segments (t + 1) (next_walk segments walk)
-goes_on from low up segments t walk whole stands few =
+goes_on {from} {low} {segments} {t} {walk} whole stands few =
     let s = segment_at segments walk.index in
     let ends : end_place segments walk.index ≡ total_slots (take walk.index segments) + s.slots = end_place_is segments walk.index stands.inside in
     let height : end_height from segments walk.index ≡ from + total_bytes (take walk.index segments) + s.bytes = end_height_is from segments walk.index stands.inside in
@@ -73,7 +73,7 @@ pub record Height (from : ℕ) (segments : List Segment) (t : ℕ) (walk : Walk)
 
 pub height_at : (from : ℕ) (segments : List Segment) (t : ℕ) (walk : Walk) → Goes from segments t walk → Height from segments t walk
 height_at from segments t walk goes =
-    let at : LineIn from segments walk.index walk.passed = line_in from segments walk.index walk.passed goes.stands.inside goes.some goes.stands.within in
+    let at : LineIn from segments walk.index walk.passed = line_in goes.stands.inside goes.some goes.stands.within in
     let height : (from + total_bytes (take walk.index segments)) * (segment_at segments walk.index).slots ≡ walk.height * (segment_at segments walk.index).slots =
     ap (λ h. h * (segment_at segments walk.index).slots) (sym goes.stands.height_is) in
     record {
@@ -81,32 +81,32 @@ height_at from segments t walk goes =
       under = ap (line_under segments) (sym goes.stands.place) ∙ at.under;
     }
 
-pub below_there : (from : ℕ) (low : List ℕ) (segments : List Segment) (t h : ℕ) (walk : Walk) → Goes from segments (t + 1) walk → t < length low →
+pub below_there : {from : ℕ} {segments : List Segment} {t h : ℕ} {walk : Walk} (low : List ℕ) → Goes from segments (t + 1) walk → t < length low →
     h ≡ walk.height * (segment_at segments walk.index).slots + walk.passed * (segment_at segments walk.index).bytes →
     h < slice_index low t * (segment_at segments walk.index).slots → IsBelowLow from low segments t
-below_there from low segments t h walk goes few is under =
+below_there {from} {segments} {t} {h} {walk} low goes few is under =
     let at = height_at from segments (t + 1) walk goes in
     (few, rw (at.top, at.under) (omega (arith, is, under)))
 
-pub not_below_there : (from : ℕ) (low : List ℕ) (segments : List Segment) (t h : ℕ) (walk : Walk) → Goes from segments (t + 1) walk →
+pub not_below_there : {from : ℕ} {segments : List Segment} {t h : ℕ} {walk : Walk} (low : List ℕ) → Goes from segments (t + 1) walk →
     h ≡ walk.height * (segment_at segments walk.index).slots + walk.passed * (segment_at segments walk.index).bytes →
     slice_index low t * (segment_at segments walk.index).slots ≤ h → IsBelowLow from low segments t → ⊥
-not_below_there from low segments t h walk goes is over fault =
+not_below_there {from} {segments} {t} {h} {walk} low goes is over fault =
     let at = height_at from segments (t + 1) walk goes in
     let h' = rw (at.top, at.under) at fault.1 in
     omega (arith, is, over, h')
 
-pub above_there : (from : ℕ) (up : List ℕ) (segments : List Segment) (t h : ℕ) (walk : Walk) → Goes from segments (t + 1) walk → t < length up →
+pub above_there : {from : ℕ} {segments : List Segment} {t h : ℕ} {walk : Walk} (up : List ℕ) → Goes from segments (t + 1) walk → t < length up →
     h ≡ walk.height * (segment_at segments walk.index).slots + walk.passed * (segment_at segments walk.index).bytes →
     slice_index up t * (segment_at segments walk.index).slots < h → IsAboveUp from up segments t
-above_there from up segments t h walk goes few is over =
+above_there {from} {segments} {t} {h} {walk} up goes few is over =
     let at = height_at from segments (t + 1) walk goes in
     (few, rw (at.top, at.under) (omega (arith, is, over)))
 
-pub not_above_there : (from : ℕ) (up : List ℕ) (segments : List Segment) (t h : ℕ) (walk : Walk) → Goes from segments (t + 1) walk →
+pub not_above_there : {from : ℕ} {segments : List Segment} {t h : ℕ} {walk : Walk} (up : List ℕ) → Goes from segments (t + 1) walk →
     h ≡ walk.height * (segment_at segments walk.index).slots + walk.passed * (segment_at segments walk.index).bytes →
     h ≤ slice_index up t * (segment_at segments walk.index).slots → IsAboveUp from up segments t → ⊥
-not_above_there from up segments t h walk goes is under fault =
+not_above_there {from} {segments} {t} {h} {walk} up goes is under fault =
     let at = height_at from segments (t + 1) walk goes in
     let h' = rw (at.top, at.under) at fault.1 in
     omega (arith, is, under, h')

@@ -5,5 +5,5 @@ pub returns-clause-best : goal.returns-clause-best
 returns-clause-best c =
     let curves = c.args.curves.now in
     let sound = c.requires in
-    best_where_ok curves.from curves.low.items curves.up.items c.args.segments.now
+    best_where_ok curves.from c.args.segments.now
     (record { some_slot = sound.some_slot; same_length = sound.same_length; meet = sound.meet_at_end }) c.find_fault.result c.find_fault.ensures

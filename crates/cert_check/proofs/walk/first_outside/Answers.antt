@@ -12,9 +12,9 @@ returns-then-height-from c =
     let short : c.loop-t.t < length c.as_slice-low.result.now = omega arith in
     let few : c.loop-t.t < length curves.low.items = rw c.as_slice-low.ensures.value at short in
     let goes : Goes curves.from segments (c.loop-t.t + 1) c.next-walk.result =
-    rw c.next-walk.ensures (goes_on curves.from curves.low.items curves.up.items segments c.loop-t.t c.loop-t.walk c.requires c.loop-t.invariant.stands few) in
+    rw c.next-walk.ensures (goes_on c.requires c.loop-t.invariant.stands few) in
     record {
-      here = below_there curves.from curves.low.items segments c.loop-t.t c.scaled_height-height.result c.next-walk.result goes few c.scaled_height-height.ensures
+      here = below_there curves.low.items goes few c.scaled_height-height.ensures
           (rw (c.from.ensures, c.from-in-loop-t.ensures, c.as_slice-low.ensures.value) at c.if-height-from.true);
       not_before = c.loop-t.invariant.not_below;
     }
@@ -27,23 +27,23 @@ loop-t-preserved c =
     let few : c.loop-t.t < length curves.low.items = rw c.as_slice-low.ensures.value at short in
     let few_up : c.loop-t.t < length curves.up.items = omega (arith, few, c.requires.slots, c.requires.slots_up) in
     let goes : Goes curves.from segments (c.loop-t.t + 1) c.next-walk.result =
-    rw c.next-walk.ensures (goes_on curves.from curves.low.items curves.up.items segments c.loop-t.t c.loop-t.walk c.requires c.loop-t.invariant.stands few) in
+    rw c.next-walk.ensures (goes_on c.requires c.loop-t.invariant.stands few) in
     record {
       stands = goes.stands;
       not_below = below_more _ _ c.loop-t.invariant.not_below
-          (not_below_there curves.from curves.low.items segments c.loop-t.t c.scaled_height-height.result c.next-walk.result goes c.scaled_height-height.ensures
+          (not_below_there curves.low.items goes c.scaled_height-height.ensures
           (rw (c.from.ensures, c.from-in-loop-t.ensures, c.as_slice-low.ensures.value) at c.if-height-from.false));
       above_is = elim c.if-is_none.branch [
         | then-is_none+then-height-from-2 w ↦ (
             let none : is_some c.loop-t.above ≡ false = c.is_none.ensures ∙ ap not w.if-is_none.true in
             rw w.above-is (first_found c.loop-t.above (IsAboveUp curves.from curves.up.items segments) c.loop-t.t c.loop-t.invariant.above_is none
-            (above_there curves.from curves.up.items segments c.loop-t.t c.scaled_height-height.result c.next-walk.result goes few_up c.scaled_height-height.ensures
+            (above_there curves.up.items goes few_up c.scaled_height-height.ensures
             (rw (w.from-then-is_none.ensures, w.from-then-is_none-2.ensures, c.as_slice-up.ensures.value) at w.if-height-from-2.true)))
             )
         | else-is_none w ↦ rw w.above-is (first_kept c.loop-t.above (IsAboveUp curves.from curves.up.items segments) c.loop-t.t c.loop-t.invariant.above_is
             (λ none. elim w.else-is_none.branch [
               | else-is_none-via-then-is_none+else-height-from-2 w' ↦
-                  not_above_there curves.from curves.up.items segments c.loop-t.t c.scaled_height-height.result c.next-walk.result goes c.scaled_height-height.ensures
+                  not_above_there curves.up.items goes c.scaled_height-height.ensures
                   (rw (w'.from-then-is_none.ensures, w'.from-then-is_none-2.ensures, c.as_slice-up.ensures.value) at w'.if-height-from-2.false)
               | else-is_none-via-else-is_none w' ↦ absurd (both_ways (is_some c.loop-t.above) none (c.is_none.ensures ∙ ap not w'.if-is_none.false))
             ]))
