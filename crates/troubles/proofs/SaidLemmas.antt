@@ -21,9 +21,9 @@ pub said_nothing : (faults : ℕ) (told : Option (List ℕ)) → IsSaid faults f
 said_nothing faults told = record { count = omega arith; all = λ _. more-nil told; risen = λ e. absurd (apart e); front = λ e. absurd (apart e) }
 
 -- nothing more is said after a fault
-pub said_no_more : (faults faults' : ℕ) (told told' : Option (List ℕ)) (text piece : List ℕ) → IsSaid faults faults' told told' text false →
+pub said_no_more : {faults faults' : ℕ} {told told' : Option (List ℕ)} {text : List ℕ} (piece : List ℕ) → IsSaid faults faults' told told' text false →
     IsSaid faults faults' told told' (text ++ piece) false
-said_no_more faults faults' told told' text piece said =
+said_no_more {told} {told'} {text} piece said =
     let front : IsFrontMore told told' text = said.front refl in
     record {
       count = said.count;
@@ -39,9 +39,9 @@ said_no_more faults faults' told told' text piece said =
     }
 
 -- a piece more was written
-pub said_more : (faults faults' faults'' : ℕ) (told told' told'' : Option (List ℕ)) (text piece : List ℕ) → IsSaid faults faults' told told' text true →
+pub said_more : {faults faults' faults'' : ℕ} {told told' told'' : Option (List ℕ)} {text : List ℕ} (piece : List ℕ) → IsSaid faults faults' told told' text true →
     faults' ≤ faults'' → told'' ≡ more told' piece → IsSaid faults faults'' told told'' (text ++ piece) true
-said_more faults faults' faults'' told told' told'' text piece said count wrote = record {
+said_more {told} {text} piece said count wrote = record {
   count = omega (arith, said.count, count);
   all = λ _. wrote ∙ ap (λ (t : Option (List ℕ)). more t piece) (said.all refl) ∙ more-more told text piece;
   risen = λ e. absurd (apart e);
@@ -49,9 +49,9 @@ said_more faults faults' faults'' told told' told'' text piece said count wrote 
 }
 
 -- a piece more failed
-pub said_part : (faults faults' faults'' : ℕ) (told told' told'' : Option (List ℕ)) (text piece : List ℕ) → IsSaid faults faults' told told' text true →
+pub said_part : {faults faults' faults'' : ℕ} {told told' told'' : Option (List ℕ)} {text : List ℕ} (piece : List ℕ) → IsSaid faults faults' told told' text true →
     faults' ≤ faults'' → HasRisen faults' faults'' → IsFrontMore told' told'' piece → IsSaid faults faults'' told told'' (text ++ piece) false
-said_part faults faults' faults'' told told' told'' text piece said count risen wrote = record {
+said_part {told} {text} piece said count risen wrote = record {
   count = omega (arith, said.count, count);
   all = λ e. absurd (apart (sym e));
   risen = λ _ end. omega (arith, said.count, risen end);
@@ -66,20 +66,21 @@ said_part faults faults' faults'' told told' told'' text piece said count risen 
 }
 
 -- a piece was written, or failed
-pub said_piece : (faults faults' faults'' : ℕ) (told told' told'' : Option (List ℕ)) (text piece : List ℕ) (ok : Bool) → IsSaid faults faults' told told' text true →
+pub said_piece : {faults faults' faults'' : ℕ} {told told' told'' : Option (List ℕ)} {text : List ℕ} {ok : Bool}
+    (piece : List ℕ) → IsSaid faults faults' told told' text true →
     faults' ≤ faults'' → (ok ≡ true → told'' ≡ more told' piece) → (ok ≡ false → HasRisen faults' faults'') → (ok ≡ false → IsFrontMore told' told'' piece) →
     IsSaid faults faults'' told told'' (text ++ piece) ok
-said_piece faults faults' faults'' told told' told'' text piece true said count whole risen front =
-    said_more faults faults' faults'' told told' told'' text piece said count (whole refl)
-said_piece faults faults' faults'' told told' told'' text piece false said count whole risen front =
-    said_part faults faults' faults'' told told' told'' text piece said count (risen refl) (front refl)
+said_piece {text} {ok = true} piece said count whole risen front =
+    said_more piece said count (whole refl)
+said_piece {text} {ok = false} piece said count whole risen front =
+    said_part piece said count (risen refl) (front refl)
 
 -- a piece goes on in a text that is named in another grouping
-pub said_same : (faults faults' : ℕ) (told told' : Option (List ℕ)) (text text' : List ℕ) (ok : Bool) → text ≡ text' →
+pub said_same : {faults faults' : ℕ} {told told' : Option (List ℕ)} {text text' : List ℕ} {ok : Bool} → text ≡ text' →
     IsSaid faults faults' told told' text ok → IsSaid faults faults' told told' text' ok
-said_same faults faults' told told' text text' ok e said = subst (λ (t : List ℕ). IsSaid faults faults' told told' t ok) e said
+said_same {faults} {faults'} {told} {told'} {text} {ok} e said = subst (λ (t : List ℕ). IsSaid faults faults' told told' t ok) e said
 
 pub said_as : {faults faults' : ℕ} {told told' : Option (List ℕ)} {text text' : List ℕ} {ok : Bool} → text ≡ text' →
     IsSaid faults faults' told told' text ok → IsSaid faults faults' told told' text' ok
 said_as {faults = faults} {faults' = faults'} {told = told} {told' = told'} {text = text} {text' = text'} {ok = ok} e said =
-    said_same faults faults' told told' text text' ok e said
+    said_same e said

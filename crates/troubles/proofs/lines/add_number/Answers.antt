@@ -5,7 +5,7 @@ use Rattle.troubles.proofs.lines.add_number.Goals as goal
 
 pub returns : goal.returns
 returns g c = λ faults told text said.
-    said_same faults (g.S.Sink.faults c.add.new.sink) told (g.S.Sink.written c.add.new.sink) ((text ++ 32 ∷ []) ++ c.as_bytes.result.now) (text ++ (32 ∷ decimal c.args.number)) c.add.result
+    said_same
     (append_assoc text (32 ∷ []) c.as_bytes.result.now
     ∙ ap (λ digits. text ++ (32 ∷ digits)) (c.as_bytes.ensures.value ∙ c.format.ensures.text))
     (c.add.ensures faults told (text ++ 32 ∷ []) (c.add-blank.ensures faults told text said))
