@@ -1,8 +1,0 @@
-use Rattle.session.proofs.Endings.{teardown_ends, torn_by_teardown}
-use Rattle.session.proofs.end_laws.law_teardown_ends.Goals as goal
-
-pub returns-clause-ends : goal.returns-clause-ends
-returns-clause-ends c = teardown_ends
-
-pub returns-clause-alone : goal.returns-clause-alone
-returns-clause-alone c = torn_by_teardown

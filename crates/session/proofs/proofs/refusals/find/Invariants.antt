@@ -1,6 +1,0 @@
-use Rattle.std.proofs.Common.{ℕ, ◌<◌}
-use Rattle.session.specs.Films.{IsFilmNamed}
-use Rattle.session.proofs.refusals.find.Given as goal
-
-abbrev pub invariant-loop-number : goal.invariant-loop-number
-invariant-loop-number l = (k : ℕ) → k < l.number → IsFilmNamed l.films l.name k → ⊥
