@@ -39,7 +39,7 @@ known-next {entries} {n} steps state (Halt number keep) Halted is here all = (
     let h = halting state number keep is in
     let known = known_more entries n state.held all in
     let that = holds-of (IsKnown entries (n + 1)) number state.held h.held known h.is in
-    all-halted (IsKnown entries (n + 1)) number keep state.held h.held h.is (record { inside = that.inside; admitted = that.admitted }) known
+    all-halted (IsKnown entries (n + 1)) number keep state.held h.is (record { inside = that.inside; admitted = that.admitted }) known
     )
 known-next steps state (Halt number keep) (Admitted start) is here all = absurd is
 known-next steps state (Halt number keep) (Overflow over booked asked) is here all = absurd is
@@ -97,9 +97,9 @@ open-inside steps entries number keep legal can =
     let known = holds-of (IsKnown entries (length entries)) number state.held h.held (known-after steps entries legal) h.is in
     omega (arith, known.inside, (split number state.held h.held h.is).number_is)
 
-pub open-entry : {entries : List Entry} {keep : ℕ} (steps : List CapStep) (number : ℕ) → IsLegal steps entries → CanHalt (state_after entries) number keep →
+pub open-entry : {steps : List CapStep} {entries : List Entry} {number keep : ℕ} → IsLegal steps entries → CanHalt (state_after entries) number keep →
     {e : Entry} → e ≡ get_or entries number e → IsOpenEntry entries number keep e
-open-entry {entries} {keep} steps number legal can {e} at =
+open-entry {steps} {entries} {number} {keep} legal can {e} at =
     let state = state_after entries in
     let h = halting state number keep can in
     let play = h.held.play in

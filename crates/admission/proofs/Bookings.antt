@@ -46,7 +46,7 @@ halted_state {segments} state number keep start t plan is =
     let becomes : map play_of (with_halted number keep state.held) ≡ front ++ cut_play start segments keep ∷ back =
     ap (map play_of) (parts.becomes keep) ∙ plays-split parts.before parts.after (halted_play keep h) in
     ap (λ (l : List Booked). booked_by l t + cut_at segments start keep t) becomes ∙ booked-cut front back segments start keep t plan
-    ∙ ap (λ (l : List Booked). booked_by l t) (sym (plays-around state number start segments h is refl))
+    ∙ ap (λ (l : List Booked). booked_by l t) (sym (plays-around state number start segments is refl))
 
 pub booked_halted : (steps : List CapStep) (xs : List Entry) (maker number keep start t : ℕ) (segments : List Segment) → IsLegal steps xs → IsPlan segments → IsAdmission xs number start segments →
     CanHalt (state_after xs) number keep → booked_after (xs ++ entry_of maker (Halt number keep) Halted ∷ []) t + cut_at segments start keep t ≡ booked_after xs t
@@ -85,9 +85,9 @@ start_is steps xs number start segments legal admission =
     omega (arith, answered.0, now_is, slot_is, latest)
 
 -- ---- what a look tells
-pub look_is : {xs : List Entry} {now booked : ℕ} (steps : List CapStep) (place slot at : ℕ) (none : Entry) → IsLegal steps xs → place < length xs → (get_or xs place none).command ≡ Look slot →
+pub look_is : {steps : List CapStep} {xs : List Entry} {slot now at booked : ℕ} (place : ℕ) (none : Entry) → IsLegal steps xs → place < length xs → (get_or xs place none).command ≡ Look slot →
     (get_or xs place none).answer ≡ Looked now at booked → (now ≡ latest_asked (take place xs)) × (at ≡ max now slot) × (booked ≡ booked_after (take place xs) at)
-look_is {xs} steps place slot at none legal inside command_is answer_is =
+look_is {steps} {xs} {slot} {at} place none legal inside command_is answer_is =
     let state = state_after (take place xs) in
     let C : Command → Type 0 = λ c. IsAnswer steps state c (get_or xs place none).answer in
     let A : Answer → Type 0 = λ a. IsAnswer steps state (Look slot) a in

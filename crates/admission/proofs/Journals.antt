@@ -46,11 +46,10 @@ open-halted state place number keep can =
     omega (arith, old, new, one)
 
 -- ---- one entry more
-pub kept-push : {calendar : Calendar} {xs ys : List Entry} {limit count room : ℕ} (new : Calendar) (e : Entry)
-    (more wide : ℕ) → IsKept calendar xs limit count room →
+pub kept-push : {calendar new : Calendar} {xs ys : List Entry} {limit count more room wide : ℕ} (e : Entry) → IsKept calendar xs limit count room →
     IsAnswered calendar.steps (state_after xs) e → ys ≡ xs ++ e ∷ [] → new.steps ≡ calendar.steps → Follows new (next_of (state_after xs) (length xs) e) →
     more ≡ open_plays (next_of (state_after xs) (length xs) e) → length xs + 1 + more ≤ limit → wide ≡ room → IsKept new ys limit more wide
-kept-push {calendar} {xs} {ys} new e more wide kept answered is steps follows more_is fits wide_is =
+kept-push {calendar} {new} {xs} {ys} {more} {wide} e kept answered is steps follows more_is fits wide_is =
     let state : state_after ys ≡ next_of (state_after xs) (length xs) e = ap state_after is ∙ state-push xs e in
     let L : List Entry → Type 0 = λ l. IsLegal calendar.steps l in
     let S : List CapStep → Type 0 = λ s. IsLegal s ys in
@@ -64,11 +63,11 @@ kept-push {calendar} {xs} {ys} new e more wide kept answered is steps follows mo
       reserved = omega (arith, wide_is, kept.reserved);
     }
 
-pub noted-push : {maker : ℕ} {xs ys : List Entry} {command : Command} {answer : Answer} {noted : Noted}
-    (steps same : List CapStep) (limit : ℕ) → IsLegal steps xs →
+pub noted-push : {steps same : List CapStep} {maker : ℕ} {xs ys : List Entry} {command : Command} {answer : Answer}
+    {noted : Noted} (limit : ℕ) → IsLegal steps xs →
     IsAnswer steps (state_after xs) command answer → noted.place ≡ length xs → noted.answer ≡ answer → ys ≡ xs ++ record { maker = maker; command = command; answer = answer } ∷ [] →
     same ≡ steps → IsNoted (record { steps = steps; limit = limit; entries = xs }) maker command noted (record { steps = same; limit = limit; entries = ys })
-noted-push {maker} {xs} {ys} {command} {answer} steps same limit legal is place told entries steps_are =
+noted-push {steps} {same} {maker} {xs} {ys} {command} {answer} limit legal is place told entries steps_are =
     let e : Answer → Entry = λ a. record { maker = maker; command = command; answer = a } in
     let L : List Entry → Type 0 = λ l. IsLegal steps l in
     let S : List CapStep → Type 0 = λ s. IsLegal s ys in

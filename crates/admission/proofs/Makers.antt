@@ -95,8 +95,8 @@ halt_is number (Play slot segments) same = absurd same
 halt_is number (Look slot) same = absurd same
 
 -- a play that is open among its maker's entries is open in the history
-pub open-own : {xs : List Entry} {keep : ℕ} (steps : List CapStep) (maker number : ℕ) → AreHaltsOwn xs → IsOpenAmong (made_by maker xs) number keep → IsStillOpen xs number keep
-open-own {xs} steps maker number own open_ =
+pub open-own : {xs : List Entry} {number keep : ℕ} (steps : List CapStep) (maker : ℕ) → AreHaltsOwn xs → IsOpenAmong (made_by maker xs) number keep → IsStillOpen xs number keep
+open-own {xs} {number} steps maker own open_ =
     let none : Placed = record { place = 0; entry = no_entry } in
     let made = all-made 0 maker xs open_.index none open_.inside in
     let admits = open_.admission none in
@@ -127,4 +127,4 @@ open-own {xs} steps maker number own open_ =
 
 pub can-own : (steps : List CapStep) (xs : List Entry) (maker number keep : ℕ) → IsLegal steps xs → AreHaltsOwn xs → IsOpenAmong (made_by maker xs) number keep →
     CanHalt (state_after xs) number keep
-can-own steps xs maker number keep legal own open_ = still-open steps xs number keep legal (open-own steps maker number own open_)
+can-own steps xs maker number keep legal own open_ = still-open steps xs number keep legal (open-own steps maker own open_)

@@ -16,9 +16,9 @@ use Rattle.admission.specs.Machine.{State, IsAnswer, booked_in, start_after}
 use Rattle.admission.specs.Histories.{IsLegal, state_after}
 use Rattle.admission.proofs.Runs.{legal-at, no_entry}
 
-same-overflow : {booked : ℕ → ℕ} {segments : List Segment} {b : Over} (capacity : ℕ → ℕ) (start : ℕ) (a : Over) → IsFirstOverflow 0 booked capacity start segments a →
+same-overflow : {booked capacity : ℕ → ℕ} {start : ℕ} {segments : List Segment} {a b : Over} → IsFirstOverflow 0 booked capacity start segments a →
     IsFirstOverflow 0 booked capacity start segments b → Overflow a.slot a.booked a.asked ≡ Overflow b.slot b.booked b.asked
-same-overflow {booked} {segments} {b} capacity start a x y =
+same-overflow {booked} {capacity} {start} {segments} {a} {b} x y =
     ap (λ (over : Over). Overflow over.slot over.booked over.asked) (one-overflow 0 start booked capacity segments a b x y)
 
 pub answer-once : (steps : List CapStep) (state : State) (command : Command) (a b : Answer) → IsAnswer steps state command a → IsAnswer steps state command b → a ≡ b
@@ -30,7 +30,7 @@ answer-once steps state (Play slot segments) (Overflow over booked asked) (Admit
     let R : ℕ → Type 0 = λ n. HasRoom 0 (booked_in state) (capacity_at steps) n segments in
     absurd (no-room 0 (start_after state slot) (booked_in state) (capacity_at steps) segments (record { slot = over; booked = booked; asked = asked }) x (subst R y.0 y.1))
 answer-once steps state (Play slot segments) (Overflow over booked asked) (Overflow other have want) x y =
-    same-overflow (capacity_at steps) (start_after state slot) (record { slot = over; booked = booked; asked = asked })
+    same-overflow
     x y
 answer-once steps state (Play slot segments) (Admitted start) Halted x y = absurd y
 answer-once steps state (Play slot segments) (Admitted start) (Looked now at booked) x y = absurd y
@@ -70,13 +70,13 @@ at_map : {Y : Type 0} (f : Entry → Y) (xs ys : List Entry) (n : ℕ) → map f
 at_map f xs ys n same inside within =
     sym (get_or-map f xs n no_entry (f no_entry) inside) ∙ ap (λ l. get_or l n (f no_entry)) same ∙ get_or-map f ys n no_entry (f no_entry) within
 
-same-front : {xs ys : List Entry} (steps : List CapStep) (n : ℕ) → IsLegal steps xs → IsLegal steps ys → map (λ (e : Entry). e.maker) xs ≡ map (λ (e : Entry). e.maker) ys →
+same-front : {steps : List CapStep} {xs ys : List Entry} (n : ℕ) → IsLegal steps xs → IsLegal steps ys → map (λ (e : Entry). e.maker) xs ≡ map (λ (e : Entry). e.maker) ys →
     map (λ (e : Entry). e.command) xs ≡ map (λ (e : Entry). e.command) ys → length xs ≡ length ys → n ≤ length xs → take n xs ≡ take n ys
-same-front steps zero legal other makers commands long few = refl
-same-front {xs} {ys} steps (suc n) legal other makers commands long few =
+same-front {steps} zero legal other makers commands long few = refl
+same-front {steps} {xs} {ys} (suc n) legal other makers commands long few =
     let inside : n < length xs = omega (arith, few) in
     let within : n < length ys = omega (arith, few, long) in
-    let before = same-front steps n legal other makers commands long (omega (arith, few)) in
+    let before = same-front n legal other makers commands long (omega (arith, few)) in
     let a = get_or xs n no_entry in
     let b = get_or ys n no_entry in
     let maker : a.maker ≡ b.maker = at_map (λ (e : Entry). e.maker) xs ys n makers inside within in
@@ -93,4 +93,4 @@ pub history-once : (steps : List CapStep) (xs ys : List Entry) → IsLegal steps
     map (λ (e : Entry). e.command) xs ≡ map (λ (e : Entry). e.command) ys → xs ≡ ys
 history-once steps xs ys legal other makers commands =
     let long : length xs ≡ length ys = sym (length-map xs (λ (e : Entry). e.maker)) ∙ ap length makers ∙ length-map ys (λ (e : Entry). e.maker) in
-    sym (take_all (length xs) xs (omega arith)) ∙ same-front steps (length xs) legal other makers commands long (omega arith) ∙ take_all (length xs) ys (omega (arith, long))
+    sym (take_all (length xs) xs (omega arith)) ∙ same-front (length xs) legal other makers commands long (omega arith) ∙ take_all (length xs) ys (omega (arith, long))

@@ -24,9 +24,9 @@ use Rattle.admission.proofs.Finds.{found-closed, found-new, found-next}
 numbers-below : (steps : List CapStep) (xs : List Entry) (n : ℕ) → IsLegal steps xs → n ≤ length xs → All (λ h. h.number < n) (state_after (take n xs)).held
 numbers-below steps xs n legal few = All-weaker (IsKnown xs n) (λ h. h.number < n) (λ h known. known.inside) (state_after (take n xs)).held (known-at steps xs n legal few)
 
-opened-here : {xs : List Entry} {segments : List Segment} (steps : List CapStep) (number start : ℕ) → IsLegal steps xs → IsAdmission xs number start segments →
+opened-here : {steps : List CapStep} {xs : List Entry} {number start : ℕ} {segments : List Segment} → IsLegal steps xs → IsAdmission xs number start segments →
     held_as number (state_after (take (suc number) xs)).held ≡ Some (admitted_play number start segments)
-opened-here {xs} {segments} steps number start legal admission =
+opened-here {steps} {xs} {number} {start} {segments} legal admission =
     let e = get_or xs number no_entry in
     let state = state_after (take number xs) in
     let found = admission_of e.command e.answer start segments (admission.admitted no_entry) in
@@ -34,13 +34,13 @@ opened-here {xs} {segments} steps number start legal admission =
     state-next xs number admission.inside ∙ ap (λ k. next_state state number k e.answer) found.1.0 ∙ ap (next_state state number (Play found.0 segments)) found.1.1 in
     ap (λ (s : State). held_as number s.held) next ∙ found-new number start segments state.held (numbers-below steps xs number legal (omega (arith, admission.inside)))
 
-pub stays-open : {xs : List Entry} {segments : List Segment} (steps : List CapStep) (number start k : ℕ) → IsLegal steps xs → IsAdmission xs number start segments →
+pub stays-open : {steps : List CapStep} {xs : List Entry} {number start : ℕ} {segments : List Segment} (k : ℕ) → IsLegal steps xs → IsAdmission xs number start segments →
     IsUnhalted xs number → number < k → k ≤ length xs → held_as number (state_after (take k xs)).held ≡ Some (admitted_play number start segments)
-stays-open steps number start zero legal admission unhalted less few = absurd (omega (arith, less))
-stays-open {xs} {segments} steps number start (suc j) legal admission unhalted less few = elim (cases_order j number) [
+stays-open {steps} {number} {start} zero legal admission unhalted less few = absurd (omega (arith, less))
+stays-open {steps} {xs} {number} {start} {segments} (suc j) legal admission unhalted less few = elim (cases_order j number) [
   | inl same ↦ (
       let H : ℕ → Type 0 = λ n. held_as number (state_after (take (suc n) xs)).held ≡ Some (admitted_play number start segments) in
-      subst H (sym same) (opened-here steps number start legal admission)
+      subst H (sym same) (opened-here legal admission)
       )
   | inr (inl before) ↦ absurd (omega (arith, less, before))
   | inr (inr after) ↦ (
@@ -48,7 +48,7 @@ stays-open {xs} {segments} steps number start (suc j) legal admission unhalted l
       let e = get_or xs j no_entry in
       ap (λ (s : State). held_as number s.held) (state-next xs j inside)
       ∙ found-next (state_after (take j xs)) j number (admitted_play number start segments) e.command e.answer (unhalted.each j no_entry inside)
-      (stays-open steps number start j legal admission unhalted after (omega (arith, few)))
+      (stays-open j legal admission unhalted after (omega (arith, few)))
       )
 ]
 
@@ -56,28 +56,29 @@ pub whole-after : (steps : List CapStep) (xs : List Entry) (number start : ℕ) 
     IsUnhalted xs number → held_as number (state_after xs).held ≡ Some (admitted_play number start segments)
 whole-after steps xs number start segments legal admission unhalted =
     let S : List Entry → Type 0 = λ l. held_as number (state_after l).held ≡ Some (admitted_play number start segments) in
-    subst S (take_all (length xs) xs (omega arith)) (stays-open steps number start (length xs) legal admission unhalted admission.inside (omega arith))
+    subst S (take_all (length xs) xs (omega arith)) (stays-open (length xs) legal admission unhalted admission.inside (omega arith))
 
-can-halt : (held : List Held) (number start keep : ℕ) (segments : List Segment) (now : ℕ) → held_as number held ≡ Some (admitted_play number start segments) → keep ≤ total_bytes segments →
+can-halt : {number keep : ℕ} (held : List Held) (start : ℕ) (segments : List Segment) (now : ℕ) → held_as number held ≡ Some (admitted_play number start segments) → keep ≤ total_bytes segments →
     CanHalt (record { now = now; held = held }) number keep
-can-halt held number start keep segments now is small =
+can-halt {number} {keep} held start segments now is small =
     let P : Option Held → Type 0 = λ o. IsSomeAnd o (λ (h : Held). (h.is_open ≡ true) × (keep ≤ total_bytes h.play.segments)) in
     subst P (sym is) (refl, small)
 
 pub still-open : (steps : List CapStep) (xs : List Entry) (number keep : ℕ) → IsLegal steps xs → IsStillOpen xs number keep → CanHalt (state_after xs) number keep
 still-open steps xs number keep legal still =
-    can-halt (state_after xs).held number still.start keep still.segments (state_after xs).now
+    can-halt (state_after xs).held still.start still.segments (state_after xs).now
     (whole-after steps xs number still.start still.segments legal still.admission still.unhalted) still.small
 
 -- and in the history that its entry ends
-pub opened-last : {xs : List Entry} (steps : List CapStep) (maker slot start keep : ℕ) (segments : List Segment) → IsLegal steps xs → keep ≤ total_bytes segments →
+pub opened-last : {steps : List CapStep} {xs : List Entry} {keep : ℕ} (maker slot start : ℕ)
+    (segments : List Segment) → IsLegal steps xs → keep ≤ total_bytes segments →
     CanHalt (state_after (xs ++ record { maker = maker; command = Play slot segments; answer = Admitted start } ∷ [])) (length xs) keep
-opened-last {xs} steps maker slot start keep segments legal small =
+opened-last {steps} {xs} {keep} maker slot start segments legal small =
     let e : Entry = record { maker = maker; command = Play slot segments; answer = Admitted start } in
     let S : List Entry → Type 0 = λ l. All (λ h. h.number < length xs) (state_after l).held in
     let below = subst S (take_all (length xs) xs (omega arith)) (numbers-below steps xs (length xs) legal (omega arith)) in
     let C : State → Type 0 = λ s. CanHalt s (length xs) keep in
-    subst C (sym (state-push xs e)) (can-halt ((state_after xs).held ++ admitted_play (length xs) start segments ∷ []) (length xs) start keep segments
+    subst C (sym (state-push xs e)) (can-halt ((state_after xs).held ++ admitted_play (length xs) start segments ∷ []) start segments
     (max (state_after xs).now slot) (found-new (length xs) start segments (state_after xs).held below) small)
 
 -- ---- it is closed from its halt on
@@ -86,36 +87,36 @@ record IsClosed (number : ℕ) (state : State) : Type 0 where
   is : held_as number state.held ≡ Some held
   closed_is : held.is_open ≡ false
 
-closed-here : (steps : List CapStep) (state : State) (place number : ℕ) (command : Command) (answer : Answer) → IsAnswer steps state command answer → Halts number command →
+closed-here : {number : ℕ} (steps : List CapStep) (state : State) (place : ℕ) (command : Command) (answer : Answer) → IsAnswer steps state command answer → Halts number command →
     IsClosed number (next_state state place command answer)
-closed-here steps state place number (Halt that keep) Halted is same =
+closed-here {number} steps state place (Halt that keep) Halted is same =
     let h = halting state that keep is in
     let here : held_as that (with_halted that keep state.held) ≡ Some (halted_play keep h.held) = found-closed that keep state.held h.held h.is in
     record { held = halted_play keep h.held; is = ap (λ n. held_as n (with_halted that keep state.held)) (sym same) ∙ here; closed_is = refl }
-closed-here steps state place number (Halt that keep) (Admitted start) is same = absurd is
-closed-here steps state place number (Halt that keep) (Overflow over booked asked) is same = absurd is
-closed-here steps state place number (Halt that keep) (Looked now at booked) is same = absurd is
-closed-here steps state place number (Play slot segments) answer is same = absurd same
-closed-here steps state place number (Look slot) answer is same = absurd same
+closed-here {number} steps state place (Halt that keep) (Admitted start) is same = absurd is
+closed-here {number} steps state place (Halt that keep) (Overflow over booked asked) is same = absurd is
+closed-here {number} steps state place (Halt that keep) (Looked now at booked) is same = absurd is
+closed-here {number} steps state place (Play slot segments) answer is same = absurd same
+closed-here {number} steps state place (Look slot) answer is same = absurd same
 
 -- what is closed isn't halted
-halted-once : {state : State} (steps : List CapStep) (number : ℕ) (command : Command) (answer : Answer) → IsAnswer steps state command answer → IsClosed number state → Halts number command → ⊥
-halted-once {state} steps number (Halt that keep) Halted is was same =
+halted-once : {state : State} {number : ℕ} (steps : List CapStep) (command : Command) (answer : Answer) → IsAnswer steps state command answer → IsClosed number state → Halts number command → ⊥
+halted-once {state} {number} steps (Halt that keep) Halted is was same =
     let h = halting state that keep is in
     let both : Some h.held ≡ Some was.held = sym h.is ∙ ap (λ n. held_as n state.held) same ∙ was.is in
     let one : h.held ≡ was.held = cc in
     let bad : true ≡ false = sym h.is_open ∙ ap (λ (x : Held). x.is_open) one ∙ was.closed_is in
     cc
-halted-once steps number (Halt that keep) (Admitted start) is was same = absurd is
-halted-once steps number (Halt that keep) (Overflow over booked asked) is was same = absurd is
-halted-once steps number (Halt that keep) (Looked now at booked) is was same = absurd is
-halted-once steps number (Play slot segments) answer is was same = same
-halted-once steps number (Look slot) answer is was same = same
+halted-once {number} steps (Halt that keep) (Admitted start) is was same = absurd is
+halted-once {number} steps (Halt that keep) (Overflow over booked asked) is was same = absurd is
+halted-once {number} steps (Halt that keep) (Looked now at booked) is was same = absurd is
+halted-once {number} steps (Play slot segments) answer is was same = same
+halted-once {number} steps (Look slot) answer is was same = same
 
 -- so it stays as it is
-closed-rest : {xs : List Entry} (steps : List CapStep) (number from k : ℕ) (h : Held) → IsLegal steps xs → h.is_open ≡ false →
+closed-rest : {steps : List CapStep} {xs : List Entry} {h : Held} (number from k : ℕ) → IsLegal steps xs → h.is_open ≡ false →
     held_as number (state_after (take from xs)).held ≡ Some h → from ≤ k → k ≤ length xs → held_as number (state_after (take k xs)).held ≡ Some h
-closed-rest {xs} steps number from k h legal closed_is is later few = elim (cases_order from k) [
+closed-rest {steps} {xs} {h} number from k legal closed_is is later few = elim (cases_order from k) [
   | inl same ↦ (let H : ℕ → Type 0 = λ n. held_as number (state_after (take n xs)).held ≡ Some h in subst H same is)
   | inr (inl before) ↦ closed-more steps xs number from k h legal closed_is is before few
   | inr (inr after) ↦ (let bad : ⊥ = omega (arith, later, after) in absurd bad)
@@ -132,14 +133,14 @@ closed-rest {xs} steps number from k h legal closed_is is later few = elim (case
           | inr (inl before) ↦ closed-more steps xs number from j h legal closed_is is before (omega (arith, few))
           | inr (inr after) ↦ (let bad : ⊥ = omega (arith, less, after) in absurd bad)
         ] in
-        let apart = halted-once steps number e.command e.answer (legal-at steps xs j legal (omega (arith, few))) (record { held = h; is = was; closed_is = closed_is }) in
+        let apart = halted-once steps e.command e.answer (legal-at steps xs j legal (omega (arith, few))) (record { held = h; is = was; closed_is = closed_is }) in
         ap (λ (s : State). held_as number s.held) (state-next xs j (omega (arith, few))) ∙ found-next (state_after (take j xs)) j number h e.command e.answer apart was
 
-closed-after : {xs : List Entry} (steps : List CapStep) (number i : ℕ) (h : Held) → IsLegal steps xs → h.is_open ≡ false → i < length xs →
+closed-after : {steps : List CapStep} {xs : List Entry} {h : Held} (number i : ℕ) → IsLegal steps xs → h.is_open ≡ false → i < length xs →
     held_as number (state_after (take (suc i) xs)).held ≡ Some h → held_as number (state_after xs).held ≡ Some h
-closed-after {xs} steps number i h legal closed_is inside is =
+closed-after {steps} {xs} {h} number i legal closed_is inside is =
     let S : List Entry → Type 0 = λ l. held_as number (state_after l).held ≡ Some h in
-    subst S (take_all (length xs) xs (omega arith)) (closed-rest steps number (suc i) (length xs) h legal closed_is is (omega (arith, inside)) (omega arith))
+    subst S (take_all (length xs) xs (omega arith)) (closed-rest number (suc i) (length xs) legal closed_is is (omega (arith, inside)) (omega arith))
 
 pub was-admitted : (steps : List CapStep) (xs : List Entry) (number : ℕ) (h : Held) → IsLegal steps xs → held_as number (state_after xs).held ≡ Some h →
     IsAdmission xs number h.play.start h.play.segments
@@ -148,13 +149,13 @@ was-admitted steps xs number h legal is =
     let N : ℕ → Type 0 = λ n. IsAdmission xs n h.play.start h.play.segments in
     subst N (split number (state_after xs).held h is).number_is (record { inside = known.inside; admitted = known.admitted })
 
-open-unhalted : {xs : List Entry} (steps : List CapStep) (number : ℕ) (h : Held) → IsLegal steps xs → held_as number (state_after xs).held ≡ Some h → h.is_open ≡ true → IsUnhalted xs number
-open-unhalted {xs} steps number h legal is is_open = record {
+open-unhalted : {steps : List CapStep} {xs : List Entry} {number : ℕ} {h : Held} → IsLegal steps xs → held_as number (state_after xs).held ≡ Some h → h.is_open ≡ true → IsUnhalted xs number
+open-unhalted {steps} {xs} {number} {h} legal is is_open = record {
   each = λ i none inside halts. (
       let e = get_or xs i no_entry in
       let H : Entry → Type 0 = λ x. Halts number x.command in
-      let here = closed-here steps (state_after (take i xs)) i number e.command e.answer (legal-at steps xs i legal inside) (subst H (get_or_default xs i none no_entry inside) halts) in
-      let later = closed-after steps number i here.held legal here.closed_is inside (ap (λ (s : State). held_as number s.held) (state-next xs i inside) ∙ here.is) in
+      let here = closed-here steps (state_after (take i xs)) i e.command e.answer (legal-at steps xs i legal inside) (subst H (get_or_default xs i none no_entry inside) halts) in
+      let later = closed-after number i legal here.closed_is inside (ap (λ (s : State). held_as number s.held) (state-next xs i inside) ∙ here.is) in
       let both : Some h ≡ Some here.held = sym is ∙ later in
       let one : h ≡ here.held = cc in
       let bad : true ≡ false = sym is_open ∙ ap (λ (x : Held). x.is_open) one ∙ here.closed_is in
@@ -169,16 +170,16 @@ can-still steps xs number keep legal can =
       start = h.held.play.start;
       segments = h.held.play.segments;
       admission = was-admitted steps xs number h.held legal h.is;
-      unhalted = open-unhalted steps number h.held legal h.is h.is_open;
+      unhalted = open-unhalted legal h.is h.is_open;
       small = h.small;
     }
 
 -- ---- a play that was halted
 -- the play that a halt may close is the one that was admitted, whole
-halted-whole : {xs : List Entry} {segments : List Segment} (steps : List CapStep) (number start keep n : ℕ)
-    (h : Held) → IsLegal steps xs → n ≤ length xs → IsAdmission xs number start segments →
+halted-whole : {steps : List CapStep} {xs : List Entry} {number start : ℕ} {segments : List Segment} {h : Held}
+    (keep n : ℕ) → IsLegal steps xs → n ≤ length xs → IsAdmission xs number start segments →
     held_as number (state_after (take n xs)).held ≡ Some h → h.is_open ≡ true → h ≡ admitted_play number start segments
-halted-whole {xs} {segments} steps number start keep n h legal few admission is is_open =
+halted-whole {steps} {xs} {number} {start} {segments} {h} keep n legal few admission is is_open =
     let state = state_after (take n xs) in
     let number_is = (split number state.held h is).number_is in
     let known = holds-of (IsKnown xs n) number state.held h (known-at steps xs n legal few) is in
@@ -193,10 +194,10 @@ halted-whole {xs} {segments} steps number start keep n h legal few admission is 
     let C : Bool → Held = λ b. record { number = number; play = whole_play start segments; is_open = b } in
     ap A number_is ∙ ap B play_is ∙ ap C is_open
 
-cut-here : {xs : List Entry} {keep : ℕ} {segments : List Segment} (steps : List CapStep) (number start i : ℕ) → IsLegal steps xs → i < length xs → IsAdmission xs number start segments →
+cut-here : {steps : List CapStep} {xs : List Entry} {number start keep : ℕ} {segments : List Segment} (i : ℕ) → IsLegal steps xs → i < length xs → IsAdmission xs number start segments →
     {command : Command} (answer : Answer) → command ≡ Halt number keep → IsAnswer steps (state_after (take i xs)) command answer →
     held_as number (next_state (state_after (take i xs)) i command answer).held ≡ Some (halted_play keep (admitted_play number start segments))
-cut-here {xs} {keep} {segments} steps number start i legal inside admission answer same is =
+cut-here {steps} {xs} {number} {start} {keep} {segments} i legal inside admission answer same is =
     let state = state_after (take i xs) in
     let I : Command → Type 0 = λ c. IsAnswer steps state c answer in
     ap (λ c. held_as number (next_state state i c answer).held) same ∙ closing answer (subst I same is)
@@ -206,7 +207,7 @@ cut-here {xs} {keep} {segments} steps number start i legal inside admission answ
     closing Halted can =
         let state = state_after (take i xs) in
         let h = halting state number keep can in
-        let whole : h.held ≡ admitted_play number start segments = halted-whole {xs = xs} {segments = segments} steps number start keep i h.held legal (omega (arith, inside)) admission h.is h.is_open in
+        let whole : h.held ≡ admitted_play number start segments = halted-whole keep i legal (omega (arith, inside)) admission h.is h.is_open in
         found-closed number keep state.held h.held h.is ∙ ap (λ (x : Held). Some (halted_play keep x)) whole
     closing (Admitted from) can = absurd can
     closing (Overflow over booked asked) can = absurd can
@@ -216,9 +217,9 @@ pub cut-after : (steps : List CapStep) (xs : List Entry) (number start keep i : 
     IsHalt xs i number keep → held_as number (state_after xs).held ≡ Some (halted_play keep (admitted_play number start segments))
 cut-after steps xs number start keep i segments legal admission halt =
     let e = get_or xs i no_entry in
-    closed-after steps number i (halted_play keep (admitted_play number start segments)) legal refl halt.inside
+    closed-after number i legal refl halt.inside
     (ap (λ (s : State). held_as number s.held) (state-next xs i halt.inside)
-    ∙ cut-here steps number start i legal halt.inside admission e.answer (halt.command_is no_entry) (legal-at steps xs i legal halt.inside))
+    ∙ cut-here i legal halt.inside admission e.answer (halt.command_is no_entry) (legal-at steps xs i legal halt.inside))
 
 -- a halt stands after the entry that admitted its play
 pub halt-later : (steps : List CapStep) (xs : List Entry) (number keep i : ℕ) → IsLegal steps xs → IsHalt xs i number keep → number < i

@@ -31,7 +31,7 @@ whole-next steps state place (Play slot segments) Halted is all = absurd is
 whole-next steps state place (Play slot segments) (Looked now at booked) is all = absurd is
 whole-next steps state place (Halt number keep) Halted is all = (
     let h = halting state number keep is in
-    all-halted IsWhole number keep state.held h.held h.is (record { whole = λ open_is. (let bad : ⊥ = cc in absurd bad) }) all
+    all-halted IsWhole number keep state.held h.is (record { whole = λ open_is. (let bad : ⊥ = cc in absurd bad) }) all
     )
 whole-next steps state place (Halt number keep) (Admitted start) is all = absurd is
 whole-next steps state place (Halt number keep) (Overflow over booked asked) is all = absurd is
@@ -56,9 +56,9 @@ booked-around before after h t =
     ap (λ l. booked_by l t) (plays-split before after h) ∙ sum_by-append (share_at t) (map play_of before) (h.play ∷ map play_of after)
     ∙ ap (λ n. booked_by (map play_of before) t + n) (sum_by-cons (share_at t) h.play (map play_of after))
 
-pub booked-halted : (state : State) (number keep t : ℕ) (h : Held) → held_as number state.held ≡ Some h → keep ≤ h.play.keep →
+pub booked-halted : {h : Held} (state : State) (number keep t : ℕ) → held_as number state.held ≡ Some h → keep ≤ h.play.keep →
     booked_by (map play_of (with_halted number keep state.held)) t ≤ booked_in state t
-booked-halted state number keep t h is less =
+booked-halted {h} state number keep t is less =
     let parts = split number state.held h is in
     let old : booked_in state t ≡ booked_by (map play_of parts.before) t + (share_at t h.play + booked_by (map play_of parts.after) t) =
     ap (λ l. booked_by (map play_of l) t) parts.was ∙ booked-around parts.before parts.after h t in
@@ -72,27 +72,27 @@ booked-opened state number start t segments =
     ap (λ l. booked_by l t) (map-append play_of state.held (admitted_play number start segments ∷ [])) ∙ sum_by_push (share_at t) (plays_of state) (whole_play start segments) in
     omega (arith, new, share-cut segments start (total_bytes segments) t)
 
-pub within-next : {state : State} (steps : List CapStep) (place : ℕ) (command : Command) (answer : Answer) → IsAnswer steps state command answer → All IsWhole state.held →
+pub within-next : {steps : List CapStep} {state : State} (place : ℕ) (command : Command) (answer : Answer) → IsAnswer steps state command answer → All IsWhole state.held →
     IsWithin steps state → IsWithin steps (next_state state place command answer)
-within-next {state} steps place (Play slot segments) (Admitted start) is all within = record {
+within-next {steps} {state} place (Play slot segments) (Admitted start) is all within = record {
   each = λ t. omega (arith, booked-opened state place start t segments, is.1.each t (omega arith));
 }
-within-next steps place (Play slot segments) (Overflow over booked asked) is all within = record { each = within.each }
-within-next steps place (Play slot segments) Halted is all within = absurd is
-within-next steps place (Play slot segments) (Looked now at booked) is all within = absurd is
-within-next {state} steps place (Halt number keep) Halted is all within = (
+within-next {steps} place (Play slot segments) (Overflow over booked asked) is all within = record { each = within.each }
+within-next {steps} place (Play slot segments) Halted is all within = absurd is
+within-next {steps} place (Play slot segments) (Looked now at booked) is all within = absurd is
+within-next {steps} {state} place (Halt number keep) Halted is all within = (
     let h = halting state number keep is in
     let whole = holds-of IsWhole number state.held h.held all h.is in
     let less : keep ≤ h.held.play.keep = omega (arith, whole.whole h.is_open, h.small) in
-    record { each = λ t. omega (arith, booked-halted state number keep t h.held h.is less, within.each t) }
+    record { each = λ t. omega (arith, booked-halted state number keep t h.is less, within.each t) }
     )
-within-next steps place (Halt number keep) (Admitted start) is all within = absurd is
-within-next steps place (Halt number keep) (Overflow over booked asked) is all within = absurd is
-within-next steps place (Halt number keep) (Looked now at booked) is all within = absurd is
-within-next steps place (Look slot) (Looked now at booked) is all within = within
-within-next steps place (Look slot) (Admitted start) is all within = absurd is
-within-next steps place (Look slot) (Overflow over booked asked) is all within = absurd is
-within-next steps place (Look slot) Halted is all within = absurd is
+within-next {steps} place (Halt number keep) (Admitted start) is all within = absurd is
+within-next {steps} place (Halt number keep) (Overflow over booked asked) is all within = absurd is
+within-next {steps} place (Halt number keep) (Looked now at booked) is all within = absurd is
+within-next {steps} place (Look slot) (Looked now at booked) is all within = within
+within-next {steps} place (Look slot) (Admitted start) is all within = absurd is
+within-next {steps} place (Look slot) (Overflow over booked asked) is all within = absurd is
+within-next {steps} place (Look slot) Halted is all within = absurd is
 
 -- ---- after a legal history
 pub record IsSound (steps : List CapStep) (state : State) : Type 0 where
@@ -109,7 +109,7 @@ sound-at steps xs (suc n) legal few =
     let S : State → Type 0 = λ s. IsSound steps s in
     subst S (sym (state-next xs n inside)) (record {
       whole = whole-next steps (state_after (take n xs)) n e.command e.answer answered before.whole;
-      within = within-next steps n e.command e.answer answered before.whole before.within;
+      within = within-next n e.command e.answer answered before.whole before.within;
     })
 
 pub sound-after : (steps : List CapStep) (xs : List Entry) → IsLegal steps xs → IsSound steps (state_after xs)

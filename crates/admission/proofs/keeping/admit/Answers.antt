@@ -14,7 +14,7 @@ returns-in-None-clause-answer c = λ state follows within. (
     let after : calendar.first < start = omega arith in
     let at : start ≡ start_after state c.args.slot = omega (arith, follows.now) in (
       at,
-      room-everywhere c.args.calendar.now.steps start within (c.advance.ensures.stands _ follows.stands) after
+      room-everywhere within (c.advance.ensures.stands _ follows.stands) after
           (subst R c.advance.ensures.profile c.in-None.ensures),
     )
     )
@@ -34,7 +34,7 @@ returns-in-Some-clause-answer c = λ state follows within. (
     let S : ℕ → Type 0 = λ n. IsFirstOverflow 0 (booked_in state) (capacity_at c.args.calendar.now.steps) n c.args.plan.now c.in-Some.over in
     let after : calendar.first < start = omega arith in
     let at : start ≡ start_after state c.args.slot = omega (arith, follows.now) in
-    subst S at (overflow-everywhere c.args.calendar.now.steps start c.in-Some.over within (c.advance.ensures.stands _ follows.stands) after
+    subst S at (overflow-everywhere within (c.advance.ensures.stands _ follows.stands) after
     (subst R c.advance.ensures.profile c.in-Some.ensures))
     )
 

@@ -16,38 +16,38 @@ bounds-entries-number c = open-inside c.args.calendar.now.steps c.args.entries.n
 pub unreachable-requires : goal.unreachable-requires
 unreachable-requires c =
     let entry = c.index-entries-number in
-    let found = open-entry c.args.calendar.now.steps c.args.number c.requires.legal c.requires.can entry.is in
+    let found = open-entry c.requires.legal c.requires.can entry.is in
     c.in_default.not-Play _ _ found.command_is
 
 pub unreachable-requires-in_default-answer : goal.unreachable-requires-in_default-answer
 unreachable-requires-in_default-answer c =
     let entry = c.index-entries-number in
-    let found = open-entry c.args.calendar.now.steps c.args.number c.requires.legal c.requires.can entry.is in
+    let found = open-entry c.requires.legal c.requires.can entry.is in
     c.in_default-answer.not-Admitted _ found.answer_is
 
 pub release-requires-clause-keep : goal.release-requires-clause-keep
 release-requires-clause-keep c =
     let entry = c.index-entries-number in
-    let found = open-entry c.args.calendar.now.steps c.args.number c.requires.legal c.requires.can entry.is in
+    let found = open-entry c.requires.legal c.requires.can entry.is in
     let plan : c.in-Play.plan ≡ found.held.play.segments = cc (c.in-Play.is, found.command_is) in
     omega (arith, found.small, ap total_bytes plan)
 
 pub release-requires-clause-booked : goal.release-requires-clause-booked
 release-requires-clause-booked c =
     let entry = c.index-entries-number in
-    let found = open-entry c.args.calendar.now.steps c.args.number c.requires.legal c.requires.can entry.is in
+    let found = open-entry c.requires.legal c.requires.can entry.is in
     let play = found.held.play in
     let plan : c.in-Play.plan ≡ play.segments = cc (c.in-Play.is, found.command_is) in
     let start : c.in-Admitted.start ≡ play.start = cc (c.in-Admitted.is, found.answer_is) in
     let same : play ≡ whole_play c.in-Admitted.start c.in-Play.plan =
     found.play_is ∙ ap (λ s. whole_play s play.segments) (sym start) ∙ ap (λ p. whole_play c.in-Admitted.start p) (sym plan) in
-    cut-allowed (state_after c.args.entries.now) c.args.number _ c.in-Admitted.start c.in-Play.plan found.held found.is same
+    cut-allowed (state_after c.args.entries.now) c.args.number _ c.in-Admitted.start c.in-Play.plan found.is same
     c.requires.follows.stands (λ before after. c.law_release.ensures c.args.calendar.now before after c.in-Play.plan c.in-Admitted.start c.args.keep c.segments-plan.ensures.plan)
 
 pub returns-clause-next : goal.returns-clause-next
 returns-clause-next c = λ place. (
     let entry = c.index-entries-number in
-    let found = open-entry c.args.calendar.now.steps c.args.number c.requires.legal c.requires.can entry.is in
+    let found = open-entry c.requires.legal c.requires.can entry.is in
     let play = found.held.play in
     let plan : c.in-Play.plan ≡ play.segments = cc (c.in-Play.is, found.command_is) in
     let start : c.in-Admitted.start ≡ play.start = cc (c.in-Admitted.is, found.answer_is) in
@@ -55,7 +55,7 @@ returns-clause-next c = λ place. (
     found.play_is ∙ ap (λ s. whole_play s play.segments) (sym start) ∙ ap (λ p. whole_play c.in-Admitted.start p) (sym plan) in
     record {
       now = c.release.ensures.now ∙ c.requires.follows.now;
-      stands = stands-halted c.release.new.self (state_after c.args.entries.now) c.args.number c.args.keep c.in-Admitted.start c.in-Play.plan
-          found.held found.is same c.requires.follows.stands c.release.ensures.stands;
+      stands = stands-halted (state_after c.args.entries.now) c.args.number c.args.keep c.in-Admitted.start c.in-Play.plan
+          found.is same c.requires.follows.stands c.release.ensures.stands;
     }
     )

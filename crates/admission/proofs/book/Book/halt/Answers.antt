@@ -32,7 +32,7 @@ invariant_of-self c =
     let can : CanHalt state c.args.number c.args.keep = subst C (sym c.self.view_is) c.requires in
     let fewer = open-halted state (length book.entries.items) c.args.number c.args.keep can in
     let F : List Entry → Type 0 = λ l. Follows c.give_back.new.calendar (next_state (state_after l) (length book.entries.items) (Halt c.args.number c.args.keep) Halted) in
-    kept-push c.give_back.new.calendar _ (book.live - 1) _ c.self.invariant
+    kept-push _ c.self.invariant
     can c.note.ensures.items c.give_back.ensures.steps (subst F c.as_slice.ensures.value (c.give_back.ensures.next (length book.entries.items)))
     (omega (arith, fewer, c.self.invariant.count_is)) (omega (arith, fewer, c.self.invariant.count_is, c.self.invariant.within)) c.note.ensures.room
 
@@ -43,5 +43,5 @@ returns-clause-noted c =
     let can : CanHalt (state_after book.entries.items) c.args.number c.args.keep = subst C (sym c.self.view_is) c.requires in
     let new : Journal = record { steps = c.give_back.new.calendar.steps; limit = book.limit; entries = c.note.new.entries.items } in
     let P : Journal → Type 0 = λ j. IsNoted j c.args.maker (Halt c.args.number c.args.keep) c.note.result new in
-    subst P c.self.view_is (noted-push book.calendar.steps c.give_back.new.calendar.steps book.limit
+    subst P c.self.view_is (noted-push book.limit
     c.self.invariant.legal can c.note.ensures.place c.note.ensures.answer c.note.ensures.items c.give_back.ensures.steps)

@@ -11,8 +11,8 @@ invariant_of-self c =
     let book = c.self.inside in
     let entries : length book.entries.items ≡ length c.args.self.now.entries = ap (λ (j : Journal). length j.entries) c.self.view_is in
     let count : open_count book.entries.items ≡ open_count c.args.self.now.entries = ap (λ (j : Journal). open_count j.entries) c.self.view_is in
-    kept-push book.calendar _ book.live _ c.self.invariant
-    (look-answer book.calendar.steps c.min-slot.result c.max-at.result
+    kept-push _ c.self.invariant
+    (look-answer book.calendar.steps c.min-slot.result
     c.self.invariant.follows c.now-now.ensures.value c.max-at.ensures c.booked_bytes-booked.ensures.value)
     c.note.ensures.items refl c.self.invariant.follows c.self.invariant.count_is
     (omega (arith, c.if-full-self.false, c.counts-full.ensures.full.entries_are, c.counts-full.ensures.full.live_is, c.self.invariant.count_is, entries, count)) c.note.ensures.room
@@ -25,8 +25,8 @@ returns-clause-noted c =
     let S : ℕ → Type 0 =
     λ n. IsNoted c.args.self.now c.args.maker (Look n) c.note.result (record { steps = book.calendar.steps; limit = book.limit; entries = c.note.new.entries.items }) in
     subst S c.min-slot.ensures
-    (subst P c.self.view_is (noted-push book.calendar.steps book.calendar.steps book.limit
+    (subst P c.self.view_is (noted-push book.limit
     c.self.invariant.legal
-    (look-answer book.calendar.steps c.min-slot.result c.max-at.result
+    (look-answer book.calendar.steps c.min-slot.result
     c.self.invariant.follows c.now-now.ensures.value c.max-at.ensures c.booked_bytes-booked.ensures.value)
     c.note.ensures.place c.note.ensures.answer c.note.ensures.items refl))

@@ -19,7 +19,7 @@ invariant_of-self c =
     let count : open_count book.entries.items ≡ open_count c.args.self.now.entries = ap (λ (j : Journal). open_count j.entries) c.self.view_is in
     let within = (sound-after book.calendar.steps book.entries.items c.self.invariant.legal).within in
     let answer = c.admit-answer.ensures.answer state c.self.invariant.follows within in
-    kept-push c.admit-answer.new.calendar _ (book.live + c.opened_by.result) _ c.self.invariant
+    kept-push _ c.self.invariant
     answer c.note.ensures.items c.admit-answer.ensures.steps (c.admit-answer.ensures.next state (length book.entries.items) c.self.invariant.follows)
     (omega (arith, open-asked book.calendar.steps state (length book.entries.items) c.min-slot.result c.args.plan c.admit-answer.result answer, c.opened_by.ensures, c.self.invariant.count_is))
     (omega (
@@ -44,7 +44,7 @@ returns-clause-noted c =
     let P : Journal → Type 0 = λ j. IsNoted j c.args.maker (Play c.min-slot.result c.args.plan) c.note.result new in
     let S : ℕ → Type 0 = λ n. IsNoted c.args.self.now c.args.maker (Play n c.args.plan) c.note.result new in
     subst S c.min-slot.ensures
-    (subst P c.self.view_is (noted-push book.calendar.steps c.admit-answer.new.calendar.steps book.limit
+    (subst P c.self.view_is (noted-push book.limit
     c.self.invariant.legal answer c.note.ensures.place c.note.ensures.answer c.note.ensures.items
     c.admit-answer.ensures.steps))
 
@@ -56,5 +56,5 @@ returns-clause-open c = λ start keep told small.
     let items : c.note.new.entries.items ≡ xs ++ E (Admitted start) ∷ [] = c.note.ensures.items ∙ ap (λ a. xs ++ E a ∷ []) answer in
     let C : List Entry → Type 0 = λ l. CanHalt (state_after l) (length xs) keep in
     let N : ℕ → Type 0 = λ n. CanHalt (state_after c.note.new.entries.items) n keep in
-    subst N (sym c.note.ensures.place) (subst C (sym items) (opened-last c.self.inside.calendar.steps c.args.maker c.min-slot.result start keep c.args.plan
+    subst N (sym c.note.ensures.place) (subst C (sym items) (opened-last c.args.maker c.min-slot.result start c.args.plan
     c.self.invariant.legal small))
