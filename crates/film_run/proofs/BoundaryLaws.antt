@@ -7,9 +7,9 @@ use Rattle.film_frames.specs.Runs.{run_of, pieces_in, run_pieces}
 use Rattle.film_frames.proofs.RunLemmas.{blocks_from-count}
 use Rattle.film_frames.proofs.SentLemmas.{run-begin}
 
-pub same-boundaries : (film : Film) (first end : ℕ) (one other : Identity) (place : ℕ) → first ≤ end → end ≤ length film.units.items
+pub same-boundaries : {place : ℕ} (film : Film) (first end : ℕ) (one other : Identity) → first ≤ end → end ≤ length film.units.items
     → IsBoundary (run_pieces (run_of film first end one)) place → IsBoundary (run_pieces (run_of film first end other)) place
-same-boundaries film first end one other place order within b =
+same-boundaries {place} film first end one other order within b =
     let a_run = run_of film first end one in
     let b_run = run_of film first end other in
     let a = run-begin film first end one a_run b.number (record { view = refl; order = order; within = within }) in

@@ -21,13 +21,13 @@ halt-within plan None keep halt = omega arith
 halt-within plan (Some last) keep halt = halt.2
 
 -- what was played was sent
-pub stop-ahead : {sizes : List ℕ} {timing : Timing} {plan : List Segment} (last : Option ℕ) (keep stop : ℕ) → IsWithinLimits sizes timing
+pub stop-ahead : {sizes : List ℕ} {timing : Timing} {plan : List Segment} {stop : ℕ} (last : Option ℕ) (keep : ℕ) → IsWithinLimits sizes timing
     → KeepsTo sizes timing plan → IsHalt plan last keep → IsStop plan last keep stop → stop < total_slots plan
     → used_before sizes timing stop ≤ timing.sent + keep
-stop-ahead {sizes} {timing} None keep stop limits keeps halt is inside =
+stop-ahead {sizes} {timing} {stop} None keep limits keeps halt is inside =
     let first : used_before sizes timing stop ≡ used_before sizes timing 0 = ap (used_before sizes timing) is in
     omega (arith, first, used_before-none sizes timing, limits.played_was_sent)
-stop-ahead {sizes} {timing} {plan} (Some last) keep stop limits keeps halt is inside =
+stop-ahead {sizes} {timing} {plan} {stop} (Some last) keep limits keeps halt is inside =
     elim (cases_lt 0 stop) [
       | inl some ↦
           let t = stop - 1 in
@@ -44,13 +44,13 @@ stop-ahead {sizes} {timing} {plan} (Some last) keep stop limits keeps halt is in
     ]
 
 -- what was sent and isn't played fits in the buffer
-pub stop-fits : {sizes : List ℕ} {timing : Timing} {plan : List Segment} (last : Option ℕ) (keep stop : ℕ) → IsWithinLimits sizes timing
+pub stop-fits : {sizes : List ℕ} {timing : Timing} {plan : List Segment} {stop : ℕ} (last : Option ℕ) (keep : ℕ) → IsWithinLimits sizes timing
     → KeepsTo sizes timing plan → IsHalt plan last keep → IsStop plan last keep stop → stop < total_slots plan
     → timing.sent + keep ≤ used_before sizes timing stop + timing.buffer
-stop-fits {sizes} {timing} None keep stop limits keeps halt is inside =
+stop-fits {sizes} {timing} {stop} None keep limits keeps halt is inside =
     let first : used_before sizes timing stop ≡ used_before sizes timing 0 = ap (used_before sizes timing) is in
     omega (arith, first, used_before-none sizes timing, limits.sent_fits_buffer)
-stop-fits {plan} (Some last) keep stop limits keeps halt is inside =
+stop-fits {plan} {stop} (Some last) keep limits keeps halt is inside =
     let below = keeps.below stop (omega (arith, keeps.slots)) in
     let rises = sum_through_rises plan is.0 stop (omega (arith, is.1.1)) in
     omega (arith, is.1.0.reached)
@@ -65,52 +65,52 @@ pub record IsHalting (sizes : List ℕ) (playback : Playback) (run : Run) (plan 
   pub planned : IsPlanOf sizes playback run plan
   pub halt : IsHalt plan last keep
 
-pub halting : {sizes : List ℕ} {playback : Playback} {run : Run} {plan : List Segment} {keep : ℕ} (last : Option ℕ)
+pub halting : {sizes : List ℕ} {playback : Playback} {run : Run} {plan : List Segment} {last : Option ℕ} {keep : ℕ}
     → IsPlayback playback → IsRun sizes run → Fits playback.buffer run → length sizes ≤ 4194304 → sum sizes ≤ 2 ^ 42 → IsPlanOf sizes playback run plan → IsHalt plan last keep
     → IsHalting sizes playback run plan last keep
-halting last plays is fits few small planned halt =
+halting {last} plays is fits few small planned halt =
     record { plays = plays; is = is; fits = fits; few = few; small = small; planned = planned; halt = halt }
 
-pub halting-limits : {sizes : List ℕ} {playback : Playback} {run : Run} {plan : List Segment} {keep : ℕ}
-    (last : Option ℕ)
+pub halting-limits : {sizes : List ℕ} {playback : Playback} {run : Run} {plan : List Segment} {last : Option ℕ}
+    {keep : ℕ}
     → IsHalting sizes playback run plan last keep → IsWithinLimits (rest_sizes sizes run) (timing_of playback run)
-halting-limits last h = limits h.plays h.is h.fits h.few h.small
+halting-limits {last} h = limits h.plays h.is h.fits h.few h.small
 
-pub halting-keeps : {sizes : List ℕ} {playback : Playback} {run : Run} {plan : List Segment} {keep : ℕ}
-    (last : Option ℕ)
+pub halting-keeps : {sizes : List ℕ} {playback : Playback} {run : Run} {plan : List Segment} {last : Option ℕ}
+    {keep : ℕ}
     → IsHalting sizes playback run plan last keep → KeepsTo (rest_sizes sizes run) (timing_of playback run) plan
-halting-keeps {sizes} {playback} {run} {plan} last h =
-    keeps-to (rest_sizes sizes run) (timing_of playback run) plan (halting-limits last h) h.planned
+halting-keeps {sizes} {playback} {run} {plan} {last} h =
+    keeps-to (rest_sizes sizes run) (timing_of playback run) plan (halting-limits h) h.planned
 
 -- what is kept is of the run
-pub kept-whole : {sizes : List ℕ} {playback : Playback} {run : Run} {plan : List Segment} {keep : ℕ}
-    (last : Option ℕ)
+pub kept-whole : {sizes : List ℕ} {playback : Playback} {run : Run} {plan : List Segment} {last : Option ℕ}
+    {keep : ℕ}
     → IsHalting sizes playback run plan last keep → run.sent + keep ≤ bytes_between sizes run.first_unit run.end_unit
-kept-whole {sizes} {playback} {run} {plan} {keep} last h = omega (
+kept-whole {sizes} {playback} {run} {plan} {last} {keep} h = omega (
   arith,
   halt-within plan last keep h.halt,
-  (halting-keeps last h).bytes,
+  (halting-keeps h).bytes,
   total-of-rest sizes playback run h.is,
 )
 
-pub kept-small : {sizes : List ℕ} {playback : Playback} {run : Run} {plan : List Segment} {keep : ℕ}
-    (last : Option ℕ)
+pub kept-small : {sizes : List ℕ} {playback : Playback} {run : Run} {plan : List Segment} {last : Option ℕ}
+    {keep : ℕ}
     → IsHalting sizes playback run plan last keep → run.sent + keep ≤ 2 ^ 42
-kept-small {sizes} {run} last h = omega (
+kept-small {sizes} {run} {last} h = omega (
   arith,
-  kept-whole last h,
+  kept-whole h,
   bytes-most sizes run.first_unit run.end_unit (omega (arith, h.is.order, h.is.rest)),
   h.small,
 )
 
 -- the last picture isn't used before the slot of the stop
-pub goes-on : {sizes : List ℕ} {playback : Playback} {run : Run} {plan : List Segment} {keep : ℕ} (last : Option ℕ)
+pub goes-on : {sizes : List ℕ} {playback : Playback} {run : Run} {plan : List Segment} {last : Option ℕ} {keep : ℕ}
     (from stop : ℕ)
     → IsHalting sizes playback run plan last keep → run.from_unit ≤ from → from < run.end_unit → stop < total_slots plan
     → due_slot (timing_of playback run) (from - run.from_unit) < stop → from + 1 < run.end_unit
-goes-on {sizes} {playback} {run} last from stop h order within inside used =
+goes-on {sizes} {playback} {run} {last} from stop h order within inside used =
     let count = length-between sizes run.from_unit run.end_unit h.is.within in
-    let keeps = halting-keeps last h in
+    let keeps = halting-keeps h in
     elim (cases_lt (from + 1) run.end_unit) [
       | inl less ↦ less
       | inr end ↦
@@ -137,20 +137,20 @@ played-by {sizes} {playback} {run} from stop plays is order within used unused =
     omega (arith, front, first, same, is.played_is, bytes-join sizes run.first_unit run.from_unit from is.order order)
 
 -- what is left is a run
-pub left-run : {sizes : List ℕ} {playback : Playback} {run : Run} {plan : List Segment} {keep : ℕ} (left : Run)
-    (last : Option ℕ) (stop : ℕ)
+pub left-run : {sizes : List ℕ} {playback : Playback} {run left : Run} {plan : List Segment} {last : Option ℕ}
+    {keep stop : ℕ}
     → IsHalting sizes playback run plan last keep → IsStop plan last keep stop → stop < total_slots plan
     → left.first_unit ≡ run.first_unit → left.end_unit ≡ run.end_unit → left.sent ≡ run.sent + keep
     → run.from_unit ≤ left.from_unit → left.from_unit < run.end_unit
     → left.played ≡ bytes_between sizes run.first_unit left.from_unit
     → bytes_between sizes run.first_unit left.from_unit ≡ used_before (rest_sizes sizes run) (timing_of playback run) stop
     → IsRun sizes left × Fits playback.buffer left
-left-run {sizes} {run} {keep} left last stop h stops inside first_is end_is sent_is not_back rest played_is used_is =
-    let within = halting-limits last h in
-    let keeps = halting-keeps last h in
-    let ahead = stop-ahead last keep stop within keeps h.halt stops inside in
-    let held = stop-fits last keep stop within keeps h.halt stops inside in
-    let whole = kept-whole last h in
+left-run {sizes} {run} {left} {last} {keep} {stop} h stops inside first_is end_is sent_is not_back rest played_is used_is =
+    let within = halting-limits h in
+    let keeps = halting-keeps h in
+    let ahead = stop-ahead last keep within keeps h.halt stops inside in
+    let held = stop-fits last keep within keeps h.halt stops inside in
+    let whole = kept-whole h in
     let all : bytes_between sizes left.first_unit left.end_unit ≡ bytes_between sizes run.first_unit run.end_unit =
     ap (λ f. bytes_between sizes f left.end_unit) first_is ∙ ap (λ e. bytes_between sizes run.first_unit e) end_is in
     let front = ap (λ f. bytes_between sizes f left.from_unit) first_is in (

@@ -24,18 +24,18 @@ reaches-once plan bytes one other is its =
     ]
 
 -- there is one slot of the stop
-pub stop-one : (plan : List Segment) (last : Option ℕ) (keep one other : ℕ) → IsStop plan last keep one → IsStop plan last keep other → one ≡ other
-stop-one plan None keep one other is its = is ∙ sym its
-stop-one plan (Some last) keep one other is its =
+pub stop-one : {one other : ℕ} (plan : List Segment) (last : Option ℕ) (keep : ℕ) → IsStop plan last keep one → IsStop plan last keep other → one ≡ other
+stop-one {one} {other} plan None keep is its = is ∙ sym its
+stop-one {one} {other} plan (Some last) keep is its =
     let below = reaches-once plan keep is.0 its.0 is.1.0 its.1.0 in
     let above = reaches-once plan keep its.0 is.0 its.1.0 is.1.0 in
     omega (arith, below, above, is.1.1, its.1.1)
 
-from-once : {sizes : List ℕ} {playback : Playback} {run : Run} {plan : List Segment} {keep : ℕ} (left other : Run)
-    (last : Option ℕ)
+from-once : {sizes : List ℕ} {playback : Playback} {run left other : Run} {plan : List Segment} {last : Option ℕ}
+    {keep : ℕ}
     → IsLeft sizes playback run plan last keep left → IsLeft sizes playback run plan last keep other → left.from_unit ≤ other.from_unit
-from-once {plan} {keep} left other last is its =
-    let stops = stop-one plan last keep is.stop its.stop is.stop_is its.stop_is in
+from-once {left} {other} {plan} {last} {keep} is its =
+    let stops = stop-one plan last keep is.stop_is its.stop_is in
     elim (cases_lt other.from_unit left.from_unit) [
       | inl less ↦ let used = is.used other.from_unit its.not_back less in absurd (omega (arith, used, its.unused, stops))
       | inr more ↦ more
@@ -44,9 +44,9 @@ from-once {plan} {keep} left other last is its =
 abbrev run-with : ℕ → ℕ → ℕ → ℕ → ℕ → Run
 run-with first end from sent played = record { first_unit = first; end_unit = end; from_unit = from; sent = sent; played = played }
 
-run-same : (one other : Run) → one.first_unit ≡ other.first_unit → one.end_unit ≡ other.end_unit → one.from_unit ≡ other.from_unit
+run-same : {one other : Run} → one.first_unit ≡ other.first_unit → one.end_unit ≡ other.end_unit → one.from_unit ≡ other.from_unit
     → one.sent ≡ other.sent → one.played ≡ other.played → one ≡ other
-run-same one other first end from sent played =
+run-same {one} {other} first end from sent played =
     let a : one ≡ run-with other.first_unit one.end_unit one.from_unit one.sent one.played = ap (λ n. run-with n one.end_unit one.from_unit one.sent one.played) first in
     let b = ap (λ n. run-with other.first_unit n one.from_unit one.sent one.played) end in
     let c = ap (λ n. run-with other.first_unit other.end_unit n one.sent one.played) from in
@@ -57,17 +57,17 @@ run-same one other first end from sent played =
 pub left-one : (sizes : List ℕ) (playback : Playback) (run left other : Run) (plan : List Segment) (last : Option ℕ) (keep : ℕ)
     → IsLeft sizes playback run plan last keep left → IsLeft sizes playback run plan last keep other → other ≡ left
 left-one sizes playback run left other plan last keep is its =
-    let stops = stop-one plan last keep its.stop is.stop its.stop_is is.stop_is in
-    let below = from-once left other last is its in
-    let above = from-once other left last its is in
-    run-same other left (its.first_is ∙ sym is.first_is) (its.end_is ∙ sym is.end_is) (omega arith) (its.sent_is ∙ sym is.sent_is)
+    let stops = stop-one plan last keep its.stop_is is.stop_is in
+    let below = from-once is its in
+    let above = from-once its is in
+    run-same (its.first_is ∙ sym is.first_is) (its.end_is ∙ sym is.end_is) (omega arith) (its.sent_is ∙ sym is.sent_is)
     (its.played_is ∙ ap (used_before (rest_sizes sizes run) (timing_of playback run)) stops ∙ sym is.played_is)
 
 -- the slot of the stop is one of the plan
-stop-inside : (plan : List Segment) (last : Option ℕ) (keep stop : ℕ) → 0 < total_slots plan
+stop-inside : {stop : ℕ} (plan : List Segment) (last : Option ℕ) (keep : ℕ) → 0 < total_slots plan
     → total_bytes plan ≤ sum_through plan (total_slots plan - 1) → IsHalt plan last keep → IsStop plan last keep stop → stop < total_slots plan
-stop-inside plan None keep stop some end halt is = omega arith
-stop-inside plan (Some last) keep stop some end halt is =
+stop-inside {stop} plan None keep some end halt is = omega arith
+stop-inside {stop} plan (Some last) keep some end halt is =
     elim (cases_lt (total_slots plan - 1) is.0) [
       | inl past ↦ let h = is.1.0.not_before (total_slots plan - 1) past in absurd (omega (arith, h, end, halt.2))
       | inr within ↦ omega (arith, halt.0, is.1.1)
@@ -90,7 +90,7 @@ halted-plays sizes playback run plan is = λ last keep left halt its.
     let use_at = ap (used_before rest timing) last_place in
     let sum_at = ap (sum_through plan) last_slot in
     let end : total_bytes plan ≤ sum_through plan (total_slots plan - 1) = omega (arith, above, whole_use, use_at, sum_at, keeps.bytes) in
-    let inside = stop-inside plan last keep its.stop some end halt its.stop_is in
+    let inside = stop-inside plan last keep some end halt its.stop_is in
     let within : left.from_unit < run.end_unit =
     elim (cases_lt left.from_unit run.end_unit) [
       | inl less ↦ less
@@ -110,7 +110,7 @@ halted-plays sizes playback run plan is = λ last keep left halt its.
       planned = is.plan_is;
       halt = halt;
     } in
-    let whole = left-run left last its.stop h its.stop_is inside its.first_is its.end_is its.sent_is its.not_back within (its.played_is ∙ sym played) played in
+    let whole = left-run h its.stop_is inside its.first_is its.end_is its.sent_is its.not_back within (its.played_is ∙ sym played) played in
     record { sizes_are = can.sizes_are; playback_is = can.playback_is; run_is = whole.0; fits = whole.1 }
 
 pub goes-on-after : (sizes : List ℕ) (playback : Playback) (run : Run) (plan : List Segment) → IsSending sizes playback run plan

@@ -13,9 +13,9 @@ use Rattle.film_run.specs.Runs.{EndsAtBoundary, IsNewRun, IsRun, bytes_between}
 use Rattle.film_run.specs.Seeks.{BeginsBy, IsAsked, IsEnd, IsGroupBy, IsReversed}
 use Rattle.film_run.proofs.SumLaws.{bytes-none}
 
-pub new-run : {sizes : List ℕ} {run : Run} (first end : ℕ) → first < end → end ≤ length sizes → run.first_unit ≡ first → run.end_unit ≡ end
+pub new-run : {sizes : List ℕ} {first end : ℕ} {run : Run} → first < end → end ≤ length sizes → run.first_unit ≡ first → run.end_unit ≡ end
     → run.from_unit ≡ first → run.sent ≡ 0 → run.played ≡ 0 → IsNewRun sizes first end run
-new-run {sizes} {run} first end some within first_is end_is from_is sent_is played_is =
+new-run {sizes} {first} {end} {run} some within first_is end_is from_is sent_is played_is =
     let none : bytes_between sizes run.first_unit run.from_unit ≡ 0 =
     subst (λ u. bytes_between sizes run.first_unit u ≡ 0) (first_is ∙ sym from_is) (bytes-none sizes run.first_unit) in
     let run_is : IsRun sizes run = record {
@@ -40,10 +40,10 @@ record Times (from : ℕ) (to : Option ℕ) (run : Run) (units : List PictureUni
   ends : IsEnd units unit_time to run.first_unit run.end_unit
   within : run.end_unit ≤ length units
 
-times-of : {to : Option ℕ} {run : Run} {units : List PictureUnit} {unit_time : ℕ} (from first end : ℕ) → ¬ BeginsBy unit_time from (length units)
+times-of : {from : ℕ} {to : Option ℕ} {run : Run} {units : List PictureUnit} {unit_time first end : ℕ} → ¬ BeginsBy unit_time from (length units)
     → IsGroupBy units unit_time from first → IsEnd units unit_time to first end → end ≤ length units → run.first_unit ≡ first → run.end_unit ≡ end
     → Times from to run units unit_time
-times-of {to} {run} {units} {unit_time} from first end rest begins ends within first_is end_is =
+times-of {from} {to} {run} {units} {unit_time} {first} {end} rest begins ends within first_is end_is =
     let P : ℕ → Type 0 = λ e. IsEnd units unit_time to first e in
     let Q : ℕ → Type 0 = λ f. IsEnd units unit_time to f run.end_unit in
     record {
@@ -53,12 +53,12 @@ times-of {to} {run} {units} {unit_time} from first end rest begins ends within f
       within = omega arith;
     }
 
-pub asked : {film : Film} {to : Option ℕ} {run : Run} {units : List PictureUnit} {unit_time : ℕ} (from first end : ℕ)
+pub asked : {film : Film} {from : ℕ} {to : Option ℕ} {run : Run} {units : List PictureUnit} {unit_time first end : ℕ}
     → units ≡ film.units.items → unit_time ≡ picture_time film.rate → ¬ IsReversed from to → ¬ BeginsBy unit_time from (length units)
     → IsGroupBy units unit_time from first → IsEnd units unit_time to first end → first < end → end ≤ length units
     → run.first_unit ≡ first → run.end_unit ≡ end → run.from_unit ≡ first → run.sent ≡ 0 → run.played ≡ 0 → IsAsked film from to run
-asked {film} {to} {run} {unit_time} from first end units_are time_is order rest begins ends some within first_is end_is from_is sent_is played_is =
-    let its = times-of from first end rest begins ends within first_is end_is in
+asked {film} {from} {to} {run} {unit_time} {first} {end} units_are time_is order rest begins ends some within first_is end_is from_is sent_is played_is =
+    let its = times-of rest begins ends within first_is end_is in
     let of_film : Times from to run film.units.items (picture_time film.rate) =
     subst (λ t. Times from to run film.units.items t) time_is (subst (λ l. Times from to run l unit_time) units_are its) in
     let count : length (film_sizes film.slice_starts.items film.units.items) ≡ length film.units.items = length-map film.units.items (λ u. wire_size film.slice_starts.items u) in
@@ -67,6 +67,6 @@ asked {film} {to} {run} {unit_time} from first end units_are time_is order rest 
       begins = of_film.begins;
       ends = of_film.ends;
       new =
-          new-run run.first_unit run.end_unit (omega arith) (omega (arith, of_film.within, count))
+          new-run (omega arith) (omega (arith, of_film.within, count))
           refl refl (from_is ∙ sym first_is) sent_is played_is;
     }

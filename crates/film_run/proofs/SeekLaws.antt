@@ -24,10 +24,10 @@ group-by {unit_time} {begin} {k} few some fits before starts le greatest =
           (before.all (other * unit_time) (begins-small other unit_time (omega (arith, its.within)) fits) by_then));
     }
 
-pub group-from : {units : List PictureUnit} {unit_time time after k : ℕ} (end place : ℕ) → length units ≤ 4194304 → unit_time ≤ 360000
+pub group-from : {units : List PictureUnit} {unit_time time end after place k : ℕ} → length units ≤ 4194304 → unit_time ≤ 360000
     → IsAfter time end → IsPlaceAfter (length units) after end unit_time place → place ≤ k → (StartsGroup units k ⊎ (k ≡ length units))
     → ((other : ℕ) → StartsGroup units other → place ≤ other → k ≤ other) → IsGroupFrom units unit_time time after k
-group-from {unit_time} {time} {k} end place few fits later its le group least = record {
+group-from {unit_time} {time} {end} {place} {k} few fits later its le group least = record {
   later = omega (arith, its.later);
   group = group;
   from_then = λ inside early.

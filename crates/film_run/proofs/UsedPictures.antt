@@ -12,19 +12,21 @@ use Rattle.film_run.specs.Pauses.{IsStop}
 use Rattle.film_run.specs.Laws.{AreUsedOnTime, CountsUsed, IsSending, IsUsedBy, use_slot}
 
 -- a picture that is used before the slot of the stop, and one that is used in it or later
-used-before-stop : (playback : Playback) (run : Run) (plan : List Segment) (last : Option ℕ) (keep stop unit : ℕ)
+used-before-stop : {stop : ℕ} (playback : Playback) (run : Run) (plan : List Segment) (last : Option ℕ)
+    (keep unit : ℕ)
     → IsStop plan last keep stop → use_slot playback run unit < stop → IsUsedBy playback run plan last keep unit
-used-before-stop playback run plan None keep stop unit is less = absurd (omega arith)
-used-before-stop playback run plan (Some last) keep stop unit is less =
+used-before-stop {stop} playback run plan None keep unit is less = absurd (omega arith)
+used-before-stop {stop} playback run plan (Some last) keep unit is less =
     elim (cases_lt (use_slot playback run unit) last) [
       | inl before ↦ inl before
       | inr from ↦ inr (is.1.0.not_before (use_slot playback run unit) (omega (arith, is.1.1)))
     ]
 
-unused-from-stop : (playback : Playback) (run : Run) (plan : List Segment) (last : Option ℕ) (keep stop unit : ℕ)
+unused-from-stop : {stop : ℕ} (playback : Playback) (run : Run) (plan : List Segment) (last : Option ℕ)
+    (keep unit : ℕ)
     → IsStop plan last keep stop → stop ≤ use_slot playback run unit → IsUsedBy playback run plan last keep unit → ⊥
-unused-from-stop playback run plan None keep stop unit is from its = its
-unused-from-stop playback run plan (Some last) keep stop unit is from its =
+unused-from-stop {stop} playback run plan None keep unit is from its = its
+unused-from-stop {stop} playback run plan (Some last) keep unit is from its =
     elim its [
       | inl before ↦ omega (arith, is.1.1)
       | inr early ↦
@@ -36,14 +38,14 @@ unused-from-stop playback run plan (Some last) keep stop unit is from its =
 pub counts-used : (sizes : List ℕ) (playback : Playback) (run : Run) (plan : List Segment) → IsSending sizes playback run plan
     → CountsUsed sizes playback run plan
 counts-used sizes playback run plan is = λ last keep left unit its at. (
-  λ before. used-before-stop playback run plan last keep its.stop unit its.stop_is (its.used unit at.from before),
+  λ before. used-before-stop playback run plan last keep unit its.stop_is (its.used unit at.from before),
   λ used.
       elim (cases_lt unit left.from_unit) [
         | inl before ↦ before
         | inr from ↦
             let some = is.can_play.playback_is.some_slot_units in
             let rises = due_rises (timing_of playback run) (left.from_unit - run.from_unit) (unit - run.from_unit) some (omega arith) in
-            absurd (unused-from-stop playback run plan last keep its.stop unit its.stop_is (omega (arith, its.unused)) used)
+            absurd (unused-from-stop playback run plan last keep unit its.stop_is (omega (arith, its.unused)) used)
       ],
 )
 

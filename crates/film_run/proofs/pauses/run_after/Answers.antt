@@ -9,9 +9,9 @@ use Rattle.film_run.proofs.pauses.run_after.Goals as goal
 pub overflow_add-left : goal.overflow_add-left
 overflow_add-left g c =
     let sizes = g.U.Units.sizes c.args.units.now in
-    let h = halting c.args.last
+    let h = halting
     c.requires.playback c.requires.run c.requires.fits c.count-count.ensures.few c.count-count.ensures.small c.requires.plan c.requires.halt in
-    omega (arith, kept-small c.args.last h)
+    omega (arith, kept-small h)
 
 pub overflow_add-left-in-loop-left : goal.overflow_add-left-in-loop-left
 overflow_add-left-in-loop-left g c =
@@ -23,7 +23,7 @@ overflow_add-left-in-loop-left g c =
 pub loop-left-preserved : goal.loop-left-preserved
 loop-left-preserved g c =
     let sizes = g.U.Units.sizes c.args.units.now in
-    let h = halting c.args.last
+    let h = halting
     c.requires.playback c.requires.run c.requires.fits c.count-count.ensures.few c.count-count.ensures.small c.requires.plan c.requires.halt in
     let used : due_slot (timing_of c.args.playback.now c.args.run.now) (c.loop-left.left.from_unit - c.args.run.now.from_unit) < c.stop_slot-stop.result = omega (arith, c.due_slot.ensures, c.loop-left-test.true) in
     let more = bytes-more sizes c.args.run.now.first_unit c.loop-left.left.from_unit (omega arith) (omega arith) in
@@ -33,7 +33,7 @@ loop-left-preserved g c =
       sent_is = c.loop-left.invariant.sent_is;
       from = omega arith;
       rest =
-          goes-on c.args.last c.loop-left.left.from_unit c.stop_slot-stop.result h
+          goes-on c.loop-left.left.from_unit c.stop_slot-stop.result h
           c.loop-left.invariant.from c.loop-left.invariant.rest c.stop_slot-stop.ensures.inside used;
       played = omega (arith, more, c.loop-left.invariant.played, c.wire_size.ensures);
       used = λ unit from less.
@@ -48,12 +48,12 @@ loop-left-preserved g c =
 pub returns : goal.returns
 returns g c =
     let sizes = g.U.Units.sizes c.args.units.now in
-    let h = halting c.args.last
+    let h = halting
     c.requires.playback c.requires.run c.requires.fits c.count-count.ensures.few c.count-count.ensures.small c.requires.plan c.requires.halt in
     let unused : c.stop_slot-stop.result ≤ due_slot (timing_of c.args.playback.now c.args.run.now) (c.loop-left.left.from_unit - c.args.run.now.from_unit) = omega (arith, c.due_slot.ensures, c.loop-left-test.false) in
     let played = played-by c.loop-left.left.from_unit c.stop_slot-stop.result c.requires.playback c.requires.run
     c.loop-left.invariant.from c.loop-left.invariant.rest c.loop-left.invariant.used unused in
-    let left = left-run c.loop-left.left c.args.last c.stop_slot-stop.result h c.stop_slot-stop.ensures.stop c.stop_slot-stop.ensures.inside
+    let left = left-run h c.stop_slot-stop.ensures.stop c.stop_slot-stop.ensures.inside
     c.loop-left.invariant.first_is c.loop-left.invariant.end_is c.loop-left.invariant.sent_is c.loop-left.invariant.from c.loop-left.invariant.rest c.loop-left.invariant.played played in
     record {
       left = record {

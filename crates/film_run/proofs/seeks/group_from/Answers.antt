@@ -3,6 +3,6 @@ use Rattle.film_run.proofs.seeks.group_from.Goals as goal
 
 pub returns : goal.returns
 returns c =
-    group-from c.units_after.result c.end_place-place.result
+    group-from
     c.requires.few c.requires.fits c.units_after.ensures.whole c.end_place-place.ensures
     c.group_after.ensures.after c.group_after.ensures.group c.group_after.ensures.first
