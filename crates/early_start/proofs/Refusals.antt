@@ -9,10 +9,10 @@ use Rattle.slot_calendar.proofs.Overflows.{no-room, overflow-once}
 use Rattle.early_start.specs.Offered.{AreRefusals, CanStart, Found, IsOffer, IsRefusal, IsStart}
 use Rattle.early_start.specs.declared.Tried.{Tried}
 
-pub refusals_more : {booked : ℕ → ℕ} {segments : List Segment} {xs : List Tried} (from : ℕ) (capacity : ℕ → ℕ)
-    (first : ℕ) (t : Tried) → AreRefusals from booked capacity segments first xs →
+pub refusals_more : {from : ℕ} {booked capacity : ℕ → ℕ} {segments : List Segment} {first : ℕ} {xs : List Tried}
+    {t : Tried} → AreRefusals from booked capacity segments first xs →
     t.start ≡ first + length xs → IsRefusal from booked capacity segments t → AreRefusals from booked capacity segments first (xs ++ t ∷ [])
-refusals_more {booked} {segments} {xs} from capacity first t all start refusal = record {
+refusals_more {from} {booked} {capacity} {segments} {first} {xs} {t} all start refusal = record {
   starts = λ i none below. elim (cases_order i (length xs)) [
     | inl same ↦ ap (λ (x : Tried). x.start) (at_end i none same) ∙ start ∙ ap (λ n. first + n) (sym same)
     | inr (inl less) ↦ ap (λ (x : Tried). x.start) (get_or_append_left xs (t ∷ []) none i less) ∙ all.starts i none less
@@ -29,8 +29,8 @@ refusals_more {booked} {segments} {xs} from capacity first t all start refusal =
     at_end i none same =
         get_or-append_right xs (t ∷ []) i i none (sym same) (omega arith) ∙ (let zero : i - i ≡ 0 = omega arith in ap (λ n. get_or (t ∷ []) n none) zero)
 
-refusal_once : {b : Tried} (from : ℕ) (booked capacity : ℕ → ℕ) (segments : List Segment) (a : Tried) → IsRefusal from booked capacity segments a → IsRefusal from booked capacity segments b → a.start ≡ b.start → a ≡ b
-refusal_once {b} from booked capacity segments a x y start =
+refusal_once : {from : ℕ} {booked capacity : ℕ → ℕ} {segments : List Segment} {a b : Tried} → IsRefusal from booked capacity segments a → IsRefusal from booked capacity segments b → a.start ≡ b.start → a ≡ b
+refusal_once {from} {booked} {capacity} {segments} {a} {b} x y start =
     let P : ℕ → Type 0 = λ n. IsFirstOverflow from booked capacity n segments a.over in
     let over : a.over ≡ b.over = overflow-once from b.start booked capacity segments a.over b.over (subst P start x) y in
     let S : ℕ → Tried = λ n. record { start = n; over = a.over } in
@@ -54,53 +54,53 @@ no_room_tried from booked capacity segments first tried start all begun before r
     no-room from t.start booked capacity segments t.over (all.refused i no_start inside) (subst (CanStart from booked capacity segments) (same ∙ sym (all.starts i no_start inside)) room)
 
 -- the start after those that were tried is no refusal
-nothing_next : (from : ℕ) (booked capacity : ℕ → ℕ) (segments : List Segment) (first wait n : ℕ) (o : Option ℕ) (t : Tried) → IsStart from booked capacity segments first wait n o → n ≤ wait →
+nothing_next : {from : ℕ} {booked capacity : ℕ → ℕ} {segments : List Segment} {wait n : ℕ} {t : Tried} (first : ℕ)
+    (o : Option ℕ) → IsStart from booked capacity segments first wait n o → n ≤ wait →
     t.start ≡ first + n → IsRefusal from booked capacity segments t → ⊥
-nothing_next from booked capacity segments first wait n None t is few start refusal = omega (arith, is, few)
-nothing_next from booked capacity segments first wait n (Some s) t is few start refusal =
+nothing_next {from} {capacity} first None is few start refusal = omega (arith, is, few)
+nothing_next {from} {booked} {capacity} {segments} {t} first (Some s) is few start refusal =
     no-room from t.start booked capacity segments t.over refusal (subst (CanStart from booked capacity segments) (is.1 ∙ sym start) is.2)
 
-pub few_tried : (from : ℕ) (booked capacity : ℕ → ℕ) (segments : List Segment) (first wait n : ℕ) (o : Option ℕ) → IsStart from booked capacity segments first wait n o → n ≤ wait + 1
-few_tried from booked capacity segments first wait n None is = omega (arith, is)
-few_tried from booked capacity segments first wait n (Some s) is = omega (arith, is.0)
+pub few_tried : {n : ℕ} (from : ℕ) (booked capacity : ℕ → ℕ) (segments : List Segment) (first wait : ℕ)
+    (o : Option ℕ) → IsStart from booked capacity segments first wait n o → n ≤ wait + 1
+few_tried from booked capacity segments first wait None is = omega (arith, is)
+few_tried from booked capacity segments first wait (Some s) is = omega (arith, is.0)
 
 -- none tries fewer
-not_fewer : {booked : ℕ → ℕ} {segments : List Segment} {b : Found} (from : ℕ) (capacity : ℕ → ℕ) (first : ℕ)
-    (a : Found) → a.wait ≡ b.wait → IsOffer from booked capacity segments first a → IsOffer from booked capacity segments first b →
+not_fewer : {from : ℕ} {booked capacity : ℕ → ℕ} {segments : List Segment} {first : ℕ} {a b : Found} → a.wait ≡ b.wait → IsOffer from booked capacity segments first a → IsOffer from booked capacity segments first b →
     length a.tried < length b.tried → ⊥
-not_fewer {booked} {segments} {b} from capacity first a wait x y less =
-    nothing_next from booked capacity segments first a.wait (length a.tried) a.start (get_or b.tried (length a.tried) no_start) x.start
-    (omega (arith, wait, less, few_tried from booked capacity segments first b.wait (length b.tried) b.start y.start))
+not_fewer {from} {booked} {capacity} {segments} {first} {a} {b} wait x y less =
+    nothing_next first a.start x.start
+    (omega (arith, wait, less, few_tried from booked capacity segments first b.wait b.start y.start))
     (y.refusals.starts (length a.tried) no_start less) (y.refusals.refused (length a.tried) no_start less)
 
-pub as_many : {booked : ℕ → ℕ} {segments : List Segment} {b : Found} (from : ℕ) (capacity : ℕ → ℕ) (first : ℕ)
-    (a : Found) → a.wait ≡ b.wait → IsOffer from booked capacity segments first a → IsOffer from booked capacity segments first b →
+pub as_many : {from : ℕ} {booked capacity : ℕ → ℕ} {segments : List Segment} {first : ℕ} {a b : Found} → a.wait ≡ b.wait → IsOffer from booked capacity segments first a → IsOffer from booked capacity segments first b →
     length a.tried ≡ length b.tried
-as_many {b} from capacity first a wait x y =
+as_many {from} {capacity} {first} {a} {b} wait x y =
     elim (cases_order (length a.tried) (length b.tried)) [
       | inl same ↦ same
-      | inr (inl less) ↦ absurd (not_fewer from capacity first a wait x y less)
-      | inr (inr more) ↦ absurd (not_fewer from capacity first b (sym wait) y x more)
+      | inr (inl less) ↦ absurd (not_fewer wait x y less)
+      | inr (inr more) ↦ absurd (not_fewer (sym wait) y x more)
     ]
 
-start_once : (from : ℕ) (booked capacity : ℕ → ℕ) (segments : List Segment) (first wait n : ℕ) (o p : Option ℕ) → IsStart from booked capacity segments first wait n o → IsStart from booked capacity segments first wait n p → o ≡ p
-start_once from booked capacity segments first wait n None None x y = refl
-start_once from booked capacity segments first wait n None (Some s) x y = let bad : ⊥ = omega (arith, x, y.0) in absurd bad
-start_once from booked capacity segments first wait n (Some s) None x y = let bad : ⊥ = omega (arith, y, x.0) in absurd bad
-start_once from booked capacity segments first wait n (Some s) (Some t) x y = ap (λ k. Some k) (x.1 ∙ sym y.1)
+start_once : {o p : Option ℕ} (from : ℕ) (booked capacity : ℕ → ℕ) (segments : List Segment) (first wait n : ℕ) → IsStart from booked capacity segments first wait n o → IsStart from booked capacity segments first wait n p → o ≡ p
+start_once {o = None} {p = None} from booked capacity segments first wait n x y = refl
+start_once {o = None} {p = Some s} from booked capacity segments first wait n x y = let bad : ⊥ = omega (arith, x, y.0) in absurd bad
+start_once {o = Some s} {p = None} from booked capacity segments first wait n x y = let bad : ⊥ = omega (arith, y, x.0) in absurd bad
+start_once {o = Some s} {p = Some t} from booked capacity segments first wait n x y = ap (λ k. Some k) (x.1 ∙ sym y.1)
 
 pub same_start : (from : ℕ) (booked capacity : ℕ → ℕ) (segments : List Segment) (first : ℕ) (a b : Found) → a.wait ≡ b.wait → IsOffer from booked capacity segments first a → IsOffer from booked capacity segments first b →
     a.start ≡ b.start
 same_start from booked capacity segments first a b wait x y =
     let W : ℕ → Type 0 = λ w. IsStart from booked capacity segments first w (length a.tried) a.start in
     let N : ℕ → Type 0 = λ n. IsStart from booked capacity segments first b.wait n a.start in
-    start_once from booked capacity segments first b.wait (length b.tried) a.start b.start (subst N (as_many from capacity first a wait x y) (subst W wait x.start)) y.start
+    start_once from booked capacity segments first b.wait (length b.tried) (subst N (as_many wait x y) (subst W wait x.start)) y.start
 
 pub same_tried : (from : ℕ) (booked capacity : ℕ → ℕ) (segments : List Segment) (first : ℕ) (a b : Found) → a.wait ≡ b.wait → IsOffer from booked capacity segments first a → IsOffer from booked capacity segments first b →
     a.tried ≡ b.tried
 same_tried from booked capacity segments first a b wait x y =
-    let many : length a.tried ≡ length b.tried = as_many from capacity first a wait x y in
+    let many : length a.tried ≡ length b.tried = as_many wait x y in
     same_lists a.tried b.tried many (λ k none below.
     let below' : k < length b.tried = omega (arith, many, below) in
-    refusal_once from booked capacity segments (get_or a.tried k none) (x.refusals.refused k none below) (y.refusals.refused k none below')
+    refusal_once (x.refusals.refused k none below) (y.refusals.refused k none below')
     (x.refusals.starts k none below ∙ sym (y.refusals.starts k none below')))
