@@ -22,23 +22,23 @@ framed-cons : (piece : List ℕ) (pieces : List (List ℕ)) → length (framed_b
 framed-cons piece pieces = ap length (flat_map-cons (λ (p : List ℕ). p) piece pieces) ∙ length-append piece (framed_bytes pieces)
 
 -- the least boundary past a first piece
-least-cons : {pieces : List (List ℕ)} (piece : List ℕ) (at place other number : ℕ) → 0 < at
+least-cons : {pieces : List (List ℕ)} {other : ℕ} (piece : List ℕ) (at place number : ℕ) → 0 < at
     → ((x : ℕ) → IsBoundary pieces x → at - length piece ≤ x → place ≤ x)
     → number ≤ length (piece ∷ pieces) → other ≡ begin_of (piece ∷ pieces) number → at ≤ other → length piece + place ≤ other
-least-cons piece at place other zero some least among is after = absurd (omega (arith, some, is, after))
-least-cons {pieces} piece at place other (suc k) some least among is after =
+least-cons {other} piece at place zero some least among is after = absurd (omega (arith, some, is, after))
+least-cons {pieces} {other} piece at place (suc k) some least among is after =
     let begins = begin-cons piece pieces k in
     let h = least (begin_of pieces k) (record { number = k; among = omega (arith, among); place_is = refl }) (omega (arith, begins, is, after)) in
     omega (arith, h, begins, is)
 
 -- the choice between the place and what the rest of the pieces give
-boundary-cons : {pieces : List (List ℕ)} (piece : List ℕ) (at : ℕ) (b : Bool) → (b ≡ true → at ≡ 0) → (b ≡ false → 0 < at)
+boundary-cons : {piece : List ℕ} {pieces : List (List ℕ)} {at : ℕ} {b : Bool} → (b ≡ true → at ≡ 0) → (b ≡ false → 0 < at)
     → IsBoundaryAfter pieces (at - length piece) (boundary_from pieces (at - length piece))
     → IsBoundaryAfter (piece ∷ pieces) at (cond b 0 (length piece + boundary_from pieces (at - length piece)))
-boundary-cons {pieces} piece at true none some rest =
+boundary-cons {piece} {pieces} {at} {b = true} none some rest =
     let P : ℕ → Type 0 = λ n. IsBoundaryAfter (piece ∷ pieces) n 0 in
     subst P (sym (none refl)) (boundary-zero (piece ∷ pieces))
-boundary-cons {pieces} piece at false none some rest =
+boundary-cons {piece} {pieces} {at} {b = false} none some rest =
     let place = boundary_from pieces (at - length piece) in
     let its : IsBoundary pieces place = rest.boundary in
     record {
@@ -48,7 +48,7 @@ boundary-cons {pieces} piece at false none some rest =
         place_is = ap (λ n. length piece + n) its.place_is ∙ sym (begin-cons piece pieces its.number);
       };
       after = omega (arith, rest.after);
-      least = λ other b h. least-cons piece at place other b.number (some refl) rest.least b.among b.place_is h;
+      least = λ other b h. least-cons piece at place b.number (some refl) rest.least b.among b.place_is h;
     }
 
 pub boundary-from : (pieces : List (List ℕ)) (at : ℕ) → at ≤ length (framed_bytes pieces) → IsBoundaryAfter pieces at (boundary_from pieces at)
@@ -58,7 +58,7 @@ boundary-from [] at within = record {
   least = λ other b h. omega arith;
 }
 boundary-from (piece ∷ pieces) at within =
-    boundary-cons piece at (eqb at 0) (eqb-true at 0) (λ no. let h : at ≡ 0 → ⊥ = eqb-false at 0 no in omega arith)
+    boundary-cons (eqb-true at 0) (λ no. let h : at ≡ 0 → ⊥ = eqb-false at 0 no in omega arith)
     (boundary-from pieces (at - length piece) (omega (arith, within, framed-cons piece pieces)))
 
 -- it is the only one
@@ -92,12 +92,12 @@ due-of-both plan a b keep due is =
 
 -- ---- a step that failed
 
-pub step-failed : {old : Pacing} {to : ℕ} {told_old told_new : Option (List Doing)} (stop : Bool) (slot : ℕ)
-    (pieces : List (List ℕ)) (before : ℕ) (plan : List Segment) (start keep passed due sent whole : ℕ)
+pub step-failed : {stop : Bool} {slot : ℕ} {old : Pacing} {to whole : ℕ} {told_old told_new : Option (List Doing)}
+    (pieces : List (List ℕ)) (before : ℕ) (plan : List Segment) (start keep passed due sent : ℕ)
     → pacing_of pieces before plan start keep passed due sent ≡ at_slot slot old → to ≡ step_end stop (pacing_of pieces before plan start keep passed due sent) → sent ≤ to
     → HasStopped (bytes_between pieces (before + sent) (before + to)) told_old told_new whole
     → HasFailed stop slot old (pacing_of pieces before plan start keep passed due (sent + whole)) told_old told_new
-step-failed {old} {to} {told_old} stop slot pieces before plan start keep passed due sent whole are end order stopped =
+step-failed {stop} {slot} {old} {to} {whole} {told_old} pieces before plan start keep passed due sent are end order stopped =
     let rest = drop (before + sent) (framed_bytes pieces) in
     let ends : to ≡ step_end stop (at_slot slot old) = end ∙ ap (λ (p : Pacing). step_end stop p) are in
     let begins : sent ≡ old.sent = ap (λ (p : Pacing). p.sent) are in

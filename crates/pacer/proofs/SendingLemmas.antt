@@ -14,15 +14,15 @@ told-more-twice None a b = refl
 told-more-twice (Some told) a b = ap (λ (l : List Doing). Some l) (append_assoc told a b)
 
 -- bytes, and further ones
-pub sends-more : {middle : Option (List Doing)} (old new : Option (List Doing)) (a b : List ℕ) → middle ≡ told_more old (sends a) → new ≡ told_more middle (sends b)
+pub sends-more : {middle new : Option (List Doing)} (old : Option (List Doing)) (a b : List ℕ) → middle ≡ told_more old (sends a) → new ≡ told_more middle (sends b)
     → new ≡ told_more old (sends (a ++ b))
-sends-more old new a b first then =
+sends-more {new} old a b first then =
     then ∙ ap (λ (t : Option (List Doing)). told_more t (sends b)) first ∙ told-more-twice old (sends a) (sends b)
     ∙ ap (λ (l : List Doing). told_more old l) (sym (map-append Sent a b))
 
 -- the first bytes of two texts, one after the other
-pub take-both : {d : List ℕ} (most : ℕ) (a b c : List ℕ) → c ≡ take most a → d ≡ take (most - length c) b → take most (a ++ b) ≡ c ++ d
-take-both most a b c first then =
+pub take-both : {c d : List ℕ} (most : ℕ) (a b : List ℕ) → c ≡ take most a → d ≡ take (most - length c) b → take most (a ++ b) ≡ c ++ d
+take-both {c} most a b first then =
     elim (cases_lt (length a) most) [
       | inl l ↦
           let whole : take most a ≡ a = take_all most a (omega arith) in
@@ -35,15 +35,15 @@ take-both most a b c first then =
     ]
 
 -- bytes in two sends
-pub both-sent : {middle : Option (List Doing)} (old new : Option (List Doing)) (all first then : List ℕ) → all ≡ first ++ then → middle ≡ told_more old (sends first)
+pub both-sent : {middle new : Option (List Doing)} {all : List ℕ} (old : Option (List Doing)) (first then : List ℕ) → all ≡ first ++ then → middle ≡ told_more old (sends first)
     → new ≡ told_more middle (sends then) → new ≡ told_more old (sends all)
-both-sent old new all first then are one other =
-    sends-more old new first then one other ∙ ap (λ (l : List ℕ). told_more old (sends l)) (sym are)
+both-sent {new} {all} old first then are one other =
+    sends-more old first then one other ∙ ap (λ (l : List ℕ). told_more old (sends l)) (sym are)
 
 -- the first of the two failed
-pub first-stopped : {old : Option (List Doing)} (new : Option (List Doing)) (all first then : List ℕ) → all ≡ first ++ then → IsFrontTold old new first → 0 < length first
+pub first-stopped : {old new : Option (List Doing)} {all : List ℕ} (first then : List ℕ) → all ≡ first ++ then → IsFrontTold old new first → 0 < length first
     → HasStopped all old new 0
-first-stopped {old} new all first then are front some =
+first-stopped {old} {new} {all} first then are front some =
     let out = front.0 in
     let size : length all ≡ length first + length then = ap length are ∙ length-append first then in
     record {
@@ -55,9 +55,9 @@ first-stopped {old} new all first then are front some =
     }
 
 -- the second of the two failed
-pub then-stopped : {old middle : Option (List Doing)} (new : Option (List Doing)) (all first then : List ℕ) → all ≡ first ++ then → middle ≡ told_more old (sends first)
+pub then-stopped : {old middle new : Option (List Doing)} {all : List ℕ} (first then : List ℕ) → all ≡ first ++ then → middle ≡ told_more old (sends first)
     → IsFrontTold middle new then → 0 < length then → HasStopped all old new (length first)
-then-stopped {old} new all first then are one front some =
+then-stopped {old} {new} {all} first then are one front some =
     let out = front.0 in
     let size : length all ≡ length first + length then = ap length are ∙ length-append first then in
     record {
@@ -65,7 +65,7 @@ then-stopped {old} new all first then are one front some =
       out = length first + out;
       out_least = omega arith;
       out_most = omega (arith, front.1.0, size);
-      told = sends-more old new first (take out then) one front.1.1
+      told = sends-more old first (take out then) one front.1.1
           ∙ ap (λ (l : List ℕ). told_more old (sends l)) (sym (take-append-add first then out) ∙ ap (λ (l : List ℕ). take (length first + out) l) (sym are));
     }
 
@@ -99,21 +99,21 @@ next-are pieces at most next is =
     ]
 
 -- one part more was sent
-pub more-sent : {pieces : List (List ℕ)} {middle : Option (List Doing)} (from at most : ℕ) (next : List ℕ)
-    (old new : Option (List Doing)) → IsNext pieces at next → from ≤ at
+pub more-sent : {pieces : List (List ℕ)} {at : ℕ} {next : List ℕ} {middle new : Option (List Doing)} (from most : ℕ)
+    (old : Option (List Doing)) → IsNext pieces at next → from ≤ at
     → middle ≡ told_more old (sends (bytes_between pieces from at)) → new ≡ told_more middle (sends (take most next))
     → new ≡ told_more old (sends (bytes_between pieces from (at + min (length next) most)))
-more-sent {pieces} from at most next old new is order first then =
-    sends-more old new (bytes_between pieces from at) (take most next) first then
+more-sent {pieces} {at} {next} {new} from most old is order first then =
+    sends-more old (bytes_between pieces from at) (take most next) first then
     ∙ ap (λ (l : List ℕ). told_more old (sends l)) (ap (λ (l : List ℕ). bytes_between pieces from at ++ l) (next-are pieces at most next is)
     ∙ between-join pieces from at (at + min (length next) most) order (omega arith))
 
 -- a part failed
-pub part-stopped : {pieces : List (List ℕ)} {old middle : Option (List Doing)} (from at to : ℕ) (next : List ℕ)
-    (new : Option (List Doing)) (whole : ℕ) → IsNext pieces at next → from ≤ at → at ≤ to
+pub part-stopped : {pieces : List (List ℕ)} {at : ℕ} {next : List ℕ} {old middle new : Option (List Doing)}
+    {whole : ℕ} (from to : ℕ) → IsNext pieces at next → from ≤ at → at ≤ to
     → to ≤ length (framed_bytes pieces) → middle ≡ told_more old (sends (bytes_between pieces from at)) → HasStopped (take (to - at) next) middle new whole
     → HasStopped (bytes_between pieces from to) old new (at - from + whole)
-part-stopped {pieces} {old} from at to next new whole is order then within first stopped =
+part-stopped {pieces} {at} {next} {old} {new} {whole} from to is order then within first stopped =
     let most = to - at in
     let end = at + min (length next) most in
     let are = next-are pieces at most next is in
@@ -131,7 +131,7 @@ part-stopped {pieces} {old} from at to next new whole is order then within first
       out = at - from + out;
       out_least = omega (arith, stopped.out_least);
       out_most = omega (arith, stopped.out_most, size, all, order, then);
-      told = sends-more old new (bytes_between pieces from at) (take out (take most next)) first stopped.told ∙ ap (λ (l : List ℕ). told_more old (sends l)) joined;
+      told = sends-more old (bytes_between pieces from at) (take out (take most next)) first stopped.told ∙ ap (λ (l : List ℕ). told_more old (sends l)) joined;
     }
 
 -- nothing yet
