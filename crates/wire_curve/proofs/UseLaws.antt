@@ -48,8 +48,8 @@ pub record AreFirstUses (sizes : List ℕ) (timing : Timing) (slots n : ℕ) (us
   pub each : (t : ℕ) → t < slots → get_or uses t 0 ≡ first_used_in sizes timing n t
 
 first_uses_at : {sizes : List ℕ} {timing : Timing} {slots n : ℕ} {uses : List ℕ} → AreFirstUses sizes timing slots n uses
-    → (s : ℕ) → s ≡ due_slot timing n → s < slots → get_or (set uses s (get_or uses s 0 + get_or sizes n 0)) s 0 ≡ first_used_in sizes timing (n + 1) s
-first_uses_at {sizes} {timing} {n} {uses} so_far s is in' =
+    → {s : ℕ} → s ≡ due_slot timing n → s < slots → get_or (set uses s (get_or uses s 0 + get_or sizes n 0)) s 0 ≡ first_used_in sizes timing (n + 1) s
+first_uses_at {sizes} {timing} {n} {uses} so_far {s} is in' =
     let here : s < length uses = omega (arith, so_far.slots_are) in
     let at_s = get_or-set_same uses s (get_or uses s 0 + get_or sizes n 0) 0 here in
     let more_s = sum_by-range_more (λ k. cond (eqb (due_slot timing k) s) (get_or sizes k 0) 0) n in
@@ -58,8 +58,8 @@ first_uses_at {sizes} {timing} {n} {uses} so_far s is in' =
     omega (arith, at_s, more_s, before_s, yes)
 
 first_uses_off : {sizes : List ℕ} {timing : Timing} {slots n : ℕ} {uses : List ℕ} → AreFirstUses sizes timing slots n uses
-    → (s : ℕ) → s ≡ due_slot timing n → (t : ℕ) → t < slots → t ≢ s → get_or (set uses s (get_or uses s 0 + get_or sizes n 0)) t 0 ≡ first_used_in sizes timing (n + 1) t
-first_uses_off {sizes} {timing} {n} {uses} so_far s is t lt other =
+    → {s : ℕ} → s ≡ due_slot timing n → (t : ℕ) → t < slots → t ≢ s → get_or (set uses s (get_or uses s 0 + get_or sizes n 0)) t 0 ≡ first_used_in sizes timing (n + 1) t
+first_uses_off {sizes} {timing} {n} {uses} so_far {s} is t lt other =
     let same_there = get_or-set_other uses s t (get_or uses s 0 + get_or sizes n 0) 0 other in
     let more = sum_by-range_more (λ k. cond (eqb (due_slot timing k) t) (get_or sizes k 0) 0) n in
     let before = so_far.each t lt in
@@ -67,11 +67,11 @@ first_uses_off {sizes} {timing} {n} {uses} so_far s is t lt other =
     omega (arith, same_there, more, before, no)
 
 pub first_uses_more : {sizes : List ℕ} {timing : Timing} {slots n : ℕ} {uses : List ℕ} → AreFirstUses sizes timing slots n uses
-    → (s : ℕ) → s ≡ due_slot timing n → s < slots → (t : ℕ) → t < slots → get_or (set uses s (get_or uses s 0 + get_or sizes n 0)) t 0 ≡ first_used_in sizes timing (n + 1) t
-first_uses_more {sizes} {timing} {n} {uses} so_far s is in' t lt =
+    → {s : ℕ} → s ≡ due_slot timing n → s < slots → (t : ℕ) → t < slots → get_or (set uses s (get_or uses s 0 + get_or sizes n 0)) t 0 ≡ first_used_in sizes timing (n + 1) t
+first_uses_more {sizes} {timing} {n} {uses} so_far {s} is in' t lt =
     elim (cases_eq t s) [
-      | inl same ↦ subst (λ u. get_or (set uses s (get_or uses s 0 + get_or sizes n 0)) u 0 ≡ first_used_in sizes timing (n + 1) u) (sym same) (first_uses_at so_far s is in')
-      | inr other ↦ first_uses_off so_far s is t lt other
+      | inl same ↦ subst (λ u. get_or (set uses s (get_or uses s 0 + get_or sizes n 0)) u 0 ≡ first_used_in sizes timing (n + 1) u) (sym same) (first_uses_at so_far is in')
+      | inr other ↦ first_uses_off so_far is t lt other
     ]
 
 -- the numbers after all pictures

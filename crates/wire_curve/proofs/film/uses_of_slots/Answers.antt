@@ -34,7 +34,7 @@ loop-picture-preserved c =
     rw read record {
       uses = record {
         slots_are = length-set uses slot _ ∙ so_far.slots_are;
-        each = first_uses_more so_far slot c.due_slot-slot.ensures lt;
+        each = first_uses_more so_far c.due_slot-slot.ensures lt;
       };
       total = omega (arith, more);
     }
