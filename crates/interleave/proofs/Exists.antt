@@ -152,7 +152,7 @@ request_with_head w head starts is fits =
     let its = body (take head w) in
     elim (cases_lt 65536 its.0) [
       | inl long ↦ inr (only_request w starts (λ n size inside. not_long w n size (long_body w head is fits (its.0, (long, its.1)))))
-      | inr small ↦ request_whole w (head + its.0) starts (whole_length w head its.0 is fits its.1 small)
+      | inr small ↦ request_whole w (head + its.0) starts (whole_length is fits its.1 small)
     ]
 
 request_decided : (w : List ℕ) → StartsRequest w → Decides w

@@ -17,13 +17,13 @@ found_head w k h e none = record {
 }
 
 -- a length that was read from the text at `at`
-pub read_value : {text_end : ℕ} (o : Option ℕ) (head text : List ℕ) (at next : ℕ) → IsLine head at text_end next →
+pub read_value : {head text : List ℕ} {at text_end next : ℕ} (o : Option ℕ) → IsLine head at text_end next →
     text ≡ without_blanks (slice_range head at text_end) →
     MatchOption o (65536 < written_length text) (λ n. (n ≤ 65536) × (n ≡ written_length text)) →
     MatchOption o (IsLongAt head at) (λ n. (n ≤ 65536) × IsWrittenAt head at n)
-read_value {text_end} None head text at next line same h =
+read_value {head} {text} {at} {text_end} {next} None line same h =
     (written_length text, (h, inl (record { text_end = text_end; next = next; line = line; written = ap written_length same })))
-read_value {text_end} (Some n) head text at next line same h =
+read_value {head} {text} {at} {text_end} {next} (Some n) line same h =
     (h.0, inl (record { text_end = text_end; next = next; line = line; written = rw (← same) (h.1) }))
 
 -- a line of that name has all its bytes of the name
@@ -45,8 +45,8 @@ pub no_line : (head : List ℕ) → ((k : ℕ) → k < length head → ¬ IsLeng
 no_line head none k = λ h. none k (omega (arith, name_within head k h)) h
 
 -- a request with a head and a body has their length
-pub whole_length : (w : List ℕ) (head body : ℕ) → IsHead w head → head ≤ 16384 → IsBodyLength (take head w) body → body ≤ 65536 → IsRequestLength w (head + body)
-whole_length w head body is_head fits is_body small = record {
+pub whole_length : {w : List ℕ} {head body : ℕ} → IsHead w head → head ≤ 16384 → IsBodyLength (take head w) body → body ≤ 65536 → IsRequestLength w (head + body)
+whole_length {w} {head} {body} is_head fits is_body small = record {
   head = head;
   body = body;
   is_head = is_head;

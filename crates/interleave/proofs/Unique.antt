@@ -38,8 +38,8 @@ head_once w a b x y =
     omega (arith, x.some, y.some)
 
 -- a line ends at one place
-pub line_once : {e n e' n' : ℕ} (w : List ℕ) (at : ℕ) → IsLine w at e n → IsLine w at e' n' → e ≡ e'
-line_once {n} {n'} w at a b =
+pub line_once : {w : List ℕ} {at e n e' n' : ℕ} → IsLine w at e n → IsLine w at e' n' → e ≡ e'
+line_once {w} {at} {n} {n'} a b =
     let next : n ≡ n' = elim (cases_order n n') [
       | inl same ↦ same
       | inr (inl less) ↦ absurd (b.first (n - 1) (omega (arith, a.after)) (omega (arith, a.after)) a.feed)
@@ -52,7 +52,7 @@ no_line_end w at e n line none = none (n - 1) (omega (arith, line.after)) (omega
 
 pub value_once : (w : List ℕ) (at a b : ℕ) → IsWrittenAt w at a → IsWrittenAt w at b → a ≡ b
 value_once w at a b (inl x) (inl y) =
-    let e : x.text_end ≡ y.text_end = line_once w at x.line y.line in
+    let e : x.text_end ≡ y.text_end = line_once x.line y.line in
     x.written ∙ rw e (sym y.written)
 value_once w at a b (inl x) (inr y) = absurd (no_line_end w at x.text_end x.next x.line y.0)
 value_once w at a b (inr x) (inl y) = absurd (no_line_end w at y.text_end y.next y.line x.0)
@@ -72,20 +72,20 @@ length_once w a b (inr x) (inl y) = absurd (x.0 y.at y.is_line)
 length_once w a b (inr x) (inr y) = x.1 ∙ sym y.1
 
 -- the body of the request in front has one length
-pub body_once : {h' b : ℕ} (w : List ℕ) (h a : ℕ) → IsHead w h → IsHead w h' → IsBodyLength (take h w) a → IsBodyLength (take h' w) b → a ≡ b
-body_once {h'} {b} w h a x y p q =
+pub body_once : {w : List ℕ} {h h' a b : ℕ} → IsHead w h → IsHead w h' → IsBodyLength (take h w) a → IsBodyLength (take h' w) b → a ≡ b
+body_once {w} {h} {h'} {a} {b} x y p q =
     let P : ℕ → Type 0 = λ k. IsBodyLength (take k w) a in
     length_once (take h' w) a b (subst P (head_once w h h' x y) p) q
 
 pub total_once : (w : List ℕ) (a b : ℕ) → IsRequestLength w a → IsRequestLength w b → a ≡ b
 total_once w a b x y =
     let head : x.head ≡ y.head = head_once w x.head y.head x.is_head y.is_head in
-    let body : x.body ≡ y.body = body_once w x.head x.body x.is_head y.is_head x.is_body y.is_body in
+    let body : x.body ≡ y.body = body_once x.is_head y.is_head x.is_body y.is_body in
     omega (arith, head, body, x.total_is, y.total_is)
 
 pub not_long : (w : List ℕ) (total : ℕ) → IsRequestLength w total → IsBodyTooLong w → ⊥
 not_long w total x y =
-    let body : x.body ≡ y.long.0 = body_once w x.head x.body x.is_head y.is_head x.is_body y.long.1.1 in
+    let body : x.body ≡ y.long.0 = body_once x.is_head y.is_head x.is_body y.long.1.1 in
     omega (arith, body, x.small, y.long.1.0)
 
 pub clash_ends_block : (w : List ℕ) (n : ℕ) → (0 < n) × AreLineEnds w n → StartsBlock w → ⊥

@@ -4,5 +4,5 @@ use Rattle.interleave.proofs.lengths.length_at.Goals as goal
 
 pub returns-in-Some : goal.returns-in-Some
 returns-in-Some c =
-    read_value _ c.args.head.now c.trim.result.now c.args.at _ c.in-Some.ensures.found
+    read_value {head = c.args.head.now} {text = c.trim.result.now} {at = c.args.at} {text_end = _} {next = _} _ c.in-Some.ensures.found
     (rw (c.trim.ensures) (search rules)) c.length_of_value.ensures
