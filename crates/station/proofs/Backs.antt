@@ -35,9 +35,9 @@ seat_of p = record {
   joined = p.joined;
 }
 
-pub back_seat : {seat : Sitting} (p taken back : Standing) (old new : Journal) → seat_of p ≡ seat → taken ≡ record p { seen = old.entries }
+pub back_seat : {taken back : Standing} {seat : Sitting} (p : Standing) (old new : Journal) → seat_of p ≡ seat → taken ≡ record p { seen = old.entries }
     → back ≡ record taken { seen = new.entries; mine = made_by taken.number new.entries } → seat_of back ≡ seat_after seat new
-back_seat p taken back old new v t n =
+back_seat {taken} {back} p old new v t n =
     ap seat_of n ∙ (ap (λ (x : Standing). seat_of (record x { seen = new.entries; mine = made_by x.number new.entries })) t
     ∙ ap (λ (s : Sitting). seat_after s new) v)
 
@@ -61,10 +61,9 @@ same_after seat old new at longer = record {
   longer = prefix_trans seat.seen old.entries new.entries at.longer longer;
 }
 
-pub entered_longer : {old : Journal} {maker : ℕ} {command : Command} {answer : Answer} (new : Journal)
-    (more place : ℕ) → IsEntered old new maker more command place answer
+pub entered_longer : {old new : Journal} {maker more : ℕ} {command : Command} {place : ℕ} {answer : Answer} → IsEntered old new maker more command place answer
     → IsPrefix old.entries new.entries
-entered_longer {maker} {command} {answer} new more place e =
+entered_longer {new} {maker} {more} {command} {place} {answer} e =
     let last : Entry = record { maker = maker; command = command; answer = answer } in (last ∷ [], sym (ap (λ (j : Journal). j.entries) e.noted.journal_is))
 
 pub full_longer : (old new : Journal) (more entries live_plays : ℕ) → IsFullFor old new more entries live_plays → IsPrefix old.entries new.entries
@@ -73,15 +72,15 @@ full_longer old new more entries live_plays f = subst (λ (j : Journal). IsPrefi
 pub play_longer : (r : Result Booking PlayRefused) (old new : Journal) (maker heard : ℕ) (plan : List Segment)
     → IfOk r (λ b. IsEntered old new maker 2 (play_of heard plan) b.number (Admitted b.start)) → IfErr r (IsPlayRefused old new maker heard plan)
     → IsPrefix old.entries new.entries
-play_longer (Ok b) old new maker heard plan is not = entered_longer new 2 b.number is
+play_longer (Ok b) old new maker heard plan is not = entered_longer is
 play_longer (Err (JournalFull back entries live_plays)) old new maker heard plan is not = full_longer old new 2 entries live_plays not.1
 play_longer (Err (PlayOverflow place slot booked asked)) old new maker heard plan is not =
-    entered_longer new 2 place not
+    entered_longer not
 
 pub look_longer : (r : Result Seen Full) (old new : Journal) (maker slot : ℕ)
     → IfOk r (λ l. IsEntered old new maker 1 (look_at slot) l.place (Looked l.now l.at l.booked)) → IfErr r (λ f. IsFullFor old new 1 f.entries f.live)
     → IsPrefix old.entries new.entries
-look_longer (Ok l) old new maker slot is not = entered_longer new 1 l.place is
+look_longer (Ok l) old new maker slot is not = entered_longer is
 look_longer (Err f) old new maker slot is not = full_longer old new 1 f.entries f.live not
 
 -- ---- a whole call: the seat took the turn, was lent the book, and gave it back
@@ -90,40 +89,41 @@ pub record IsVisit (seat : Sitting) (back : Standing) (lent new : Journal) (make
   pub back_is : seat_of back ≡ seat_after seat new
   pub maker_is : maker ≡ seat.number
 
-pub visit : {seat : Sitting} {old : Journal} {maker risen : ℕ} (p taken back : Standing) (lent last new : Journal) → seat_of p ≡ seat → taken ≡ record p { seen = old.entries }
+pub visit : {taken back : Standing} {seat : Sitting} {lent old last new : Journal} {maker risen : ℕ} (p : Standing) → seat_of p ≡ seat → taken ≡ record p { seen = old.entries }
     → back ≡ record taken { seen = last.entries; mine = made_by taken.number last.entries } → last ≡ new → lent ≡ old
     → IsPrefix p.seen old.entries → p.mine ≡ made_by p.number old.entries → (let t : Terms = record { steps = old.steps; limit = old.limit } in t) ≡ p.terms
     → maker ≡ risen → risen ≡ p.number → IsVisit seat back lent new maker
-visit {seat} {old} p taken back lent last new v t left last_is lent_is longer own terms maker_is risen_is = record {
+visit {taken} {back} {seat} {lent} {old} {last} {new} p v t left last_is lent_is longer own terms maker_is risen_is = record {
   at = subst (IsAt seat) (sym lent_is) (back_at p v longer own terms);
-  back_is = back_seat p taken back old new v t (left ∙ ap (λ (j : Journal). let q : Standing = record taken { seen = j.entries; mine = made_by taken.number j.entries } in q) last_is);
+  back_is = back_seat p old new v t (left ∙ ap (λ (j : Journal). let q : Standing = record taken { seen = j.entries; mine = made_by taken.number j.entries } in q) last_is);
   maker_is = maker_is ∙ (risen_is ∙ ap (λ (s : Sitting). s.number) v);
 }
 
-pub visit_same : {seat : Sitting} {maker : ℕ} (back : Standing) (lent new : Journal) → IsVisit seat back lent new maker → IsPrefix lent.entries new.entries → IsSameSeat seat (seat_of back)
-visit_same {seat} back lent new is longer = subst (IsSameSeat seat) (sym is.back_is) (same_after seat lent new is.at longer)
+pub visit_same : {seat : Sitting} {back : Standing} {lent new : Journal} {maker : ℕ} → IsVisit seat back lent new maker → IsPrefix lent.entries new.entries → IsSameSeat seat (seat_of back)
+visit_same {seat} {back} {lent} {new} is longer = subst (IsSameSeat seat) (sym is.back_is) (same_after seat lent new is.at longer)
 
-pub visit_made : {seat : Sitting} {maker : ℕ} {command : Command} {answer : Answer} (back : Standing)
-    (lent new : Journal) (more place : ℕ) → IsVisit seat back lent new maker
+pub visit_made : {seat : Sitting} {back : Standing} {lent new : Journal} {maker more : ℕ} {command : Command}
+    {place : ℕ} {answer : Answer} → IsVisit seat back lent new maker
     → IsEntered lent new maker more command place answer → Made seat (seat_of back) more command place answer
-visit_made {seat} {command} {answer} back lent new more place is e =
+visit_made {seat} {back} {lent} {new} {more} {command} {place} {answer} is e =
     subst (λ s. Made seat s more command place answer) (sym is.back_is)
-    (made new more place is.at (subst (λ k. IsEntered lent new k more command place answer) is.maker_is e))
+    (made is.at (subst (λ k. IsEntered lent new k more command place answer) is.maker_is e))
 
-pub visit_open : {seat : Sitting} {maker keep : ℕ} (back : Standing) (lent new : Journal) (heard number start : ℕ)
+pub visit_open : {seat : Sitting} {back : Standing} {lent new : Journal} {maker number start keep : ℕ} (heard : ℕ)
     (plan : List Segment) → IsVisit seat back lent new maker
     → IsEntered lent new maker 2 (play_of heard plan) number (Admitted start) → keep ≤ total_bytes plan → IsOpenAmong back.mine number keep
-visit_open {keep} back lent new heard number start plan is e small =
+visit_open {back} {lent} {new} {number} {start} {keep} heard plan is e small =
     subst (λ (s : Sitting). IsOpenAmong s.mine number keep) (sym is.back_is)
-    (opened new heard number start plan (subst (λ k. IsEntered lent new k 2 (play_of heard plan) number (Admitted start)) is.maker_is e) small)
+    (opened heard plan (subst (λ k. IsEntered lent new k 2 (play_of heard plan) number (Admitted start)) is.maker_is e) small)
 
-pub visit_refused : (seat : Sitting) (back : Standing) (lent new : Journal) (maker heard : ℕ) (plan : List Segment) (why : PlayRefused) → IsVisit seat back lent new maker
+pub visit_refused : {seat : Sitting} {back : Standing} {lent new : Journal} {maker : ℕ} (heard : ℕ)
+    (plan : List Segment) (why : PlayRefused) → IsVisit seat back lent new maker
     → IsPlayRefused lent new maker heard plan why → IsRefused seat (seat_of back) heard plan why
-visit_refused seat back lent new maker heard plan why is e =
+visit_refused {seat} {back} {lent} {new} heard plan why is e =
     subst (λ s. IsRefused seat s heard plan why) (sym is.back_is)
-    (refused_for {seat = seat} {old = lent} new heard plan why is.at (subst (λ k. IsPlayRefused lent new k heard plan why) is.maker_is e))
+    (refused_for new heard plan why is.at (subst (λ k. IsPlayRefused lent new k heard plan why) is.maker_is e))
 
-pub visit_full : {seat : Sitting} {maker entries live_plays : ℕ} (back : Standing) (lent new : Journal) (more : ℕ) → IsVisit seat back lent new maker
+pub visit_full : {seat : Sitting} {back : Standing} {lent new : Journal} {maker more entries live_plays : ℕ} → IsVisit seat back lent new maker
     → IsFullFor lent new more entries live_plays → IsFull seat (seat_of back) more entries live_plays
-visit_full {seat} {entries} {live_plays} back lent new more is f =
-    subst (λ s. IsFull seat s more entries live_plays) (sym is.back_is) (full_for new more is.at f)
+visit_full {seat} {back} {lent} {new} {more} {entries} {live_plays} is f =
+    subst (λ s. IsFull seat s more entries live_plays) (sym is.back_is) (full_for is.at f)

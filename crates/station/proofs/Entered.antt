@@ -22,10 +22,10 @@ use Rattle.station.specs.Seats.{Sitting}
 use Rattle.station.proofs.Halts.{halts-push}
 
 -- an entry keeps each play halted by its own maker
-pub halts-noted : {old : Journal} {maker : ℕ} {command : Command} {noted : Noted} (new : Journal) → IsNoted old maker command noted new
+pub halts-noted : {old new : Journal} {maker : ℕ} {command : Command} {noted : Noted} → IsNoted old maker command noted new
     → AreHaltsOwn old.entries → ((number keep : ℕ) (none : Entry) → command ≡ Halt number keep → maker ≡ (get_or old.entries number none).maker)
     → AreHaltsOwn new.entries
-halts-noted {old} {maker} {command} {noted} new e own mine =
+halts-noted {old} {new} {maker} {command} {noted} e own mine =
     let last : Entry = record { maker = maker; command = command; answer = noted.answer } in
     let entries : new.entries ≡ old.entries ++ last ∷ [] = ap (λ (j : Journal). j.entries) e.journal_is in
     subst AreHaltsOwn (sym entries) (halts-push new.steps old.entries last (subst (IsLegal new.steps) entries e.legal) own mine)
@@ -33,7 +33,7 @@ halts-noted {old} {maker} {command} {noted} new e own mine =
 -- so does a call that halts nothing, with or without an entry
 pub halts-told : {E : Type 0} (r : Result Noted E) (old new : Journal) (maker : ℕ) (command : Command) → is_halt command ≡ false
     → IfOk r (λ noted. IsNoted old maker command noted new) → OnErr r (new ≡ old) → AreHaltsOwn old.entries → AreHaltsOwn new.entries
-halts-told (Ok noted) old new maker command other is left own = halts-noted new is own
+halts-told (Ok noted) old new maker command other is left own = halts-noted is own
     (λ number keep none e. absurd (true≢false (sym (ap is_halt e) ∙ other)))
 halts-told (Err why) old new maker command other is left own = subst (λ (j : Journal). AreHaltsOwn j.entries) (sym left) own
 
@@ -48,9 +48,9 @@ pub record IsAt (seat : Sitting) (book : Journal) : Type 0 where
 abbrev pub seat_after : Sitting → Journal → Sitting
 seat_after seat book = record seat { seen = book.entries; mine = made_by seat.number book.entries }
 
-pub made : {seat : Sitting} {old : Journal} {command : Command} {answer : Answer} (new : Journal) (more place : ℕ) → IsAt seat old
+pub made : {seat : Sitting} {old new : Journal} {more : ℕ} {command : Command} {place : ℕ} {answer : Answer} → IsAt seat old
     → IsEntered old new seat.number more command place answer → Made seat (seat_after seat new) more command place answer
-made {seat} {old} {command} {answer} new more place at e =
+made {seat} {old} {new} {more} {command} {place} {answer} at e =
     let last : Entry = record { maker = seat.number; command = command; answer = answer } in
     let entries : new.entries ≡ old.entries ++ last ∷ [] = ap (λ (j : Journal). j.entries) e.noted.journal_is in record {
       before = old.entries;
@@ -63,9 +63,9 @@ made {seat} {old} {command} {answer} new more place at e =
       room = (let r = e.room in let l = at.limit in omega arith);
     }
 
-pub full_for : {seat : Sitting} {old : Journal} {entries live_plays : ℕ} (new : Journal) (more : ℕ) → IsAt seat old → IsFullFor old new more entries live_plays
+pub full_for : {seat : Sitting} {old new : Journal} {more entries live_plays : ℕ} → IsAt seat old → IsFullFor old new more entries live_plays
     → IsFull seat (seat_after seat new) more entries live_plays
-full_for {seat} {old} new more at f =
+full_for {seat} {old} {new} {more} at f =
     let same : new.entries ≡ old.entries = ap (λ (j : Journal). j.entries) f.left in record {
       mine = ap (made_by seat.number) same ∙ sym at.own;
       entries_are = f.entries_are ∙ ap (λ (xs : List Entry). length xs) (sym same);
@@ -76,5 +76,5 @@ full_for {seat} {old} new more at f =
 pub refused_for : {seat : Sitting} {old : Journal} (new : Journal) (heard : ℕ) (plan : List Segment)
     (why : PlayRefused) → IsAt seat old
     → IsPlayRefused old new seat.number heard plan why → IsRefused seat (seat_after seat new) heard plan why
-refused_for new heard plan (JournalFull back entries live_plays) at f = (f.0, full_for new 2 at f.1)
-refused_for new heard plan (PlayOverflow place slot booked asked) at e = made new 2 place at e
+refused_for new heard plan (JournalFull back entries live_plays) at f = (f.0, full_for at f.1)
+refused_for new heard plan (PlayOverflow place slot booked asked) at e = made at e

@@ -12,9 +12,9 @@ either_of : (P : List Entry → Type 0) (b : Bool) (xs ys : List Entry) → P xs
 either_of P true xs ys p q = q
 either_of P false xs ys p q = p
 
-pub joined : (pass other back : Standing) → IsSeat (seat_of pass) → IsSeat (seat_of other) → other.terms.steps ≡ pass.terms.steps → back ≡ after pass other
+pub joined : {back : Standing} (pass other : Standing) → IsSeat (seat_of pass) → IsSeat (seat_of other) → other.terms.steps ≡ pass.terms.steps → back ≡ after pass other
     → back.mine ≡ made_by back.number back.seen → IsSeat (seat_of back)
-joined pass other back p q steps is own = record {
+joined {back} pass other p q steps is own = record {
   legal = subst (λ (b : Standing). IsLegal b.terms.steps b.seen) (sym is)
       (either_of (IsLegal pass.terms.steps) (ltb (length pass.seen) (length other.seen)) pass.seen other.seen p.legal (subst (λ (s : List CapStep). IsLegal s other.seen) steps q.legal));
   halts = subst (λ (b : Standing). AreHaltsOwn b.seen) (sym is)

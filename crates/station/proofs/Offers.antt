@@ -6,17 +6,18 @@ use Rattle.early_start.specs.declared.Tried.{Tried}
 use Rattle.early_start.specs.Offered.{Found, IsOffer, IsStart}
 
 -- where another start than the first is found, or none, a start was tried
-some-tried : (from : ℕ) (booked capacity : ℕ → ℕ) (segments : List Segment) (first wait n : ℕ) (start : Option ℕ)
+some-tried : {first n : ℕ} {start : Option ℕ} (from : ℕ) (booked capacity : ℕ → ℕ) (segments : List Segment)
+    (wait : ℕ)
     → IsStart from booked capacity segments first wait n start → (start ≡ Some first → ⊥) → 0 < n
-some-tried from booked capacity segments first wait n None is other = omega (arith, is)
-some-tried from booked capacity segments first wait zero (Some s) is other = let same : s ≡ first = omega (arith, is.1) in absurd (other (ap (λ k. Some k) same))
-some-tried from booked capacity segments first wait (suc n) (Some s) is other = omega arith
+some-tried {first} {start = None} from booked capacity segments wait is other = omega (arith, is)
+some-tried {first} {n = zero} {start = Some s} from booked capacity segments wait is other = let same : s ≡ first = omega (arith, is.1) in absurd (other (ap (λ k. Some k) same))
+some-tried {first} {n = suc n} {start = Some s} from booked capacity segments wait is other = omega arith
 
 -- then the first of them is the offer's first start, and its slot the first without room
-pub first-refusal : {booked : ℕ → ℕ} {segments : List Segment} {found : Found} (from : ℕ) (capacity : ℕ → ℕ)
-    (first : ℕ) (none : Tried)
+pub first-refusal : {from : ℕ} {booked capacity : ℕ → ℕ} {segments : List Segment} {first : ℕ} {found : Found}
+    (none : Tried)
     → IsOffer from booked capacity segments first found → (found.start ≡ Some first → ⊥) → IsFirstOverflow from booked capacity first segments (get_or found.tried 0 none).over
-first-refusal {booked} {segments} {found} from capacity first none is other =
-    let some = some-tried from booked capacity segments first found.wait (length found.tried) found.start is.start other in
+first-refusal {from} {booked} {capacity} {segments} {first} {found} none is other =
+    let some = some-tried from booked capacity segments found.wait is.start other in
     let at : (get_or found.tried 0 none).start ≡ first = is.refusals.starts 0 none some ∙ omega arith in
     subst (λ (b : ℕ). IsFirstOverflow from booked capacity b segments (get_or found.tried 0 none).over) at (is.refusals.refused 0 none some)

@@ -23,9 +23,9 @@ halt_is number (Play slot segments) same = absurd same
 halt_is number (Look slot) same = absurd same
 
 -- no entry of a legal history halts a play that would come after it
-none-later : {xs : List Entry} {maker : ℕ} {d : Entry} (steps : List CapStep) (number : ℕ) → IsLegal steps xs → length xs ≤ number + 1 → (p : Placed) → IsAt 0 maker d xs p
+none-later : {steps : List CapStep} {xs : List Entry} {maker number : ℕ} {d : Entry} → IsLegal steps xs → length xs ≤ number + 1 → {p : Placed} → IsAt 0 maker d xs p
     → p.place < number → Halts number p.entry.command → ⊥
-none-later {xs} {d} steps number legal long p h before halts =
+none-later {steps} {xs} {number} {d} legal long {p} h before halts =
     let is = halt_is number p.entry.command halts in
     let halt : IsHalt xs h.at number is.0 = record {
       inside = h.inside;
@@ -34,9 +34,9 @@ none-later {xs} {d} steps number legal long p h before halts =
     let later : number < h.at = halt-later steps xs number is.0 h.at legal halt in
     omega (arith, h.place_is)
 
-pub opened : {maker keep : ℕ} {old : Journal} (new : Journal) (heard number start : ℕ) (plan : List Segment)
+pub opened : {new : Journal} {maker number start keep : ℕ} {old : Journal} (heard : ℕ) (plan : List Segment)
     → IsEntered old new maker 2 (play_of heard plan) number (Admitted start) → keep ≤ total_bytes plan → IsOpenAmong (made_by maker new.entries) number keep
-opened {maker} {keep} {old} new heard number start plan e small =
+opened {new} {maker} {number} {start} {keep} {old} heard plan e small =
     let last : Entry = record { maker = maker; command = play_of heard plan; answer = Admitted start } in
     let p : Placed = record { place = length old.entries; entry = last } in
     let mine : List Placed = made_by maker old.entries in
@@ -54,7 +54,7 @@ opened {maker} {keep} {old} new heard number start plan e small =
       admission = λ none. subst (λ (q : Placed). Admits q number start plan) (sym (get_or_push mine p none (length mine) refl)) record { place_is = sym place; admitted = refl };
       unhalted = All-push (λ (q : Placed). Halts number q.entry.command → ⊥) mine p
           (All-weaker (IsAt 0 maker last old.entries) (λ (q : Placed). Halts number q.entry.command → ⊥)
-          (λ q h. none-later new.steps number legal (omega arith) q record {
+          (λ q h. none-later legal (omega arith) record {
             at = h.at;
             inside = (let i = h.inside in omega arith);
             place_is = h.place_is;

@@ -15,4 +15,4 @@ returns-clause-kept c = λ steps entries heard slot start plan told found is sam
 pub returns-clause-refused : goal.returns-clause-refused
 returns-clause-refused c = λ steps entries heard plan told found none is other.
     subst (λ (b : ℕ). IsFirstOverflow 0 (booked_after entries) (capacity_at steps) b plan (get_or found.tried 0 none).over) is.first_is
-    (first-refusal 0 (capacity_at steps) told.first none is.offer other)
+    (first-refusal none is.offer other)

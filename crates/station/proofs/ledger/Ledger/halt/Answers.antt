@@ -20,6 +20,6 @@ halt-requires c =
 pub invariant_of-self : goal.invariant_of-self
 invariant_of-self c =
     let open_ = subst (λ (j : Journal). IsOpenAmong (made_by c.args.maker j.entries) c.args.number c.args.keep) (sym c.self.view_is) c.requires in
-    halts-noted c.halt.new.self c.halt.ensures.noted c.self.invariant
+    halts-noted c.halt.ensures.noted c.self.invariant
     (λ number keep none e. sym (maker-of c.self.inside.book.entries c.args.maker c.args.number c.args.keep none open_)
     ∙ ap (λ (k : ℕ). (get_or c.self.inside.book.entries k none).maker) (ap (halted_or 0) e))

@@ -5,13 +5,13 @@ use Rattle.station.proofs.station.Station.halt.Goals as goal
 
 pub returns-clause-same : goal.returns-clause-same
 returns-clause-same g c =
-    let is = visit c.seat.inside.pass c.enter-turn.result.pass c.leave.new.pass c.value.result.now _ c.halt-place.new.self c.seat.view_is c.enter-turn.ensures.pass
+    let is = visit c.seat.inside.pass c.seat.view_is c.enter-turn.ensures.pass
     c.leave.ensures c.value-2.ensures.value c.value.ensures.value c.enter-turn.ensures.longer c.enter-turn.ensures.own c.enter-turn.ensures.terms c.number-maker.ensures c.enter-turn.ensures.number in
-    visit_same c.leave.new.pass c.value.result.now c.halt-place.new.self is
-    (entered_longer c.halt-place.new.self 0 c.halt-place.result c.halt-place.ensures)
+    visit_same is
+    (entered_longer c.halt-place.ensures)
 
 pub returns-clause-made : goal.returns-clause-made
 returns-clause-made g c =
-    let is = visit c.seat.inside.pass c.enter-turn.result.pass c.leave.new.pass c.value.result.now _ c.halt-place.new.self c.seat.view_is c.enter-turn.ensures.pass
+    let is = visit c.seat.inside.pass c.seat.view_is c.enter-turn.ensures.pass
     c.leave.ensures c.value-2.ensures.value c.value.ensures.value c.enter-turn.ensures.longer c.enter-turn.ensures.own c.enter-turn.ensures.terms c.number-maker.ensures c.enter-turn.ensures.number in
-    visit_made c.leave.new.pass c.value.result.now c.halt-place.new.self 0 c.halt-place.result is c.halt-place.ensures
+    visit_made is c.halt-place.ensures

@@ -8,10 +8,10 @@ pub invariant_of-seat : goal.invariant_of-seat
 invariant_of-seat c =
     let steps = ap (λ (t : Terms). t.steps) c.join.ensures.terms in record {
       rests = ap (λ (p : Standing). p.has_turn) c.join.ensures.pass ∙ c.seat.invariant.rests;
-      sits = joined c.seat.inside.pass c.other.inside.pass c.join.new.pass c.seat.invariant.sits c.other.invariant.sits steps c.join.ensures.pass c.join.ensures.own;
+      sits = joined c.seat.inside.pass c.other.inside.pass c.seat.invariant.sits c.other.invariant.sits steps c.join.ensures.pass c.join.ensures.own;
     }
 
 pub returns-clause-kept : goal.returns-clause-kept
 returns-clause-kept c =
     let steps = ap (λ (t : Terms). t.steps) c.join.ensures.terms in
-    joined c.seat.inside.pass c.other.inside.pass c.join.new.pass c.seat.invariant.sits c.other.invariant.sits steps c.join.ensures.pass c.join.ensures.own
+    joined c.seat.inside.pass c.other.inside.pass c.seat.invariant.sits c.other.invariant.sits steps c.join.ensures.pass c.join.ensures.own

@@ -7,25 +7,25 @@ use Rattle.station.proofs.station.Station.look.Goals as goal
 
 pub returns-clause-same : goal.returns-clause-same
 returns-clause-same g c =
-    let is = visit c.seat.inside.pass c.enter-turn.result.pass c.leave.new.pass c.value.result.now _ c.look-told.new.self c.seat.view_is c.enter-turn.ensures.pass
+    let is = visit c.seat.inside.pass c.seat.view_is c.enter-turn.ensures.pass
     c.leave.ensures c.value-2.ensures.value c.value.ensures.value c.enter-turn.ensures.longer c.enter-turn.ensures.own c.enter-turn.ensures.terms c.number-maker.ensures c.enter-turn.ensures.number in
-    visit_same c.leave.new.pass c.value.result.now c.look-told.new.self is
+    visit_same is
     (look_longer c.look-told.result c.value.result.now c.look-told.new.self c.number-maker.result c.args.slot c.look-told.ensures.made c.look-told.ensures.full)
 
 pub returns-clause-made : goal.returns-clause-made
 returns-clause-made g c =
-    let is = visit c.seat.inside.pass c.enter-turn.result.pass c.leave.new.pass c.value.result.now _ c.look-told.new.self c.seat.view_is c.enter-turn.ensures.pass
+    let is = visit c.seat.inside.pass c.seat.view_is c.enter-turn.ensures.pass
     c.leave.ensures c.value-2.ensures.value c.value.ensures.value c.enter-turn.ensures.longer c.enter-turn.ensures.own c.enter-turn.ensures.terms c.number-maker.ensures c.enter-turn.ensures.number in
     IfOk-weaker c.look-told.result (λ l. IsEntered c.value.result.now c.look-told.new.self c.number-maker.result 1 (look_at c.args.slot) l.place (Looked l.now l.at l.booked))
     (λ l. Made c.args.seat.now (seat_of c.leave.new.pass) 1 (look_at c.args.slot) l.place (Looked l.now l.at l.booked))
-    (λ l e. visit_made c.leave.new.pass c.value.result.now c.look-told.new.self 1 l.place is e)
+    (λ l e. visit_made is e)
     c.look-told.ensures.made
 
 pub returns-clause-full : goal.returns-clause-full
 returns-clause-full g c =
-    let is = visit c.seat.inside.pass c.enter-turn.result.pass c.leave.new.pass c.value.result.now _ c.look-told.new.self c.seat.view_is c.enter-turn.ensures.pass
+    let is = visit c.seat.inside.pass c.seat.view_is c.enter-turn.ensures.pass
     c.leave.ensures c.value-2.ensures.value c.value.ensures.value c.enter-turn.ensures.longer c.enter-turn.ensures.own c.enter-turn.ensures.terms c.number-maker.ensures c.enter-turn.ensures.number in
     IfErr-weaker c.look-told.result (λ f. IsFullFor c.value.result.now c.look-told.new.self 1 f.entries f.live)
     (λ f. IsFull c.args.seat.now (seat_of c.leave.new.pass) 1 f.entries f.live)
-    (λ f e. visit_full c.leave.new.pass c.value.result.now c.look-told.new.self 1 is e)
+    (λ f e. visit_full is e)
     c.look-told.ensures.full

@@ -10,34 +10,34 @@ use Rattle.station.proofs.station.Station.play.Goals as goal
 
 pub returns-clause-same : goal.returns-clause-same
 returns-clause-same g c =
-    let is = visit c.seat.inside.pass c.enter-turn.result.pass c.leave.new.pass c.value.result.now _ c.play-told.new.self c.seat.view_is c.enter-turn.ensures.pass
+    let is = visit c.seat.inside.pass c.seat.view_is c.enter-turn.ensures.pass
     c.leave.ensures c.value-2.ensures.value c.value.ensures.value c.enter-turn.ensures.longer c.enter-turn.ensures.own c.enter-turn.ensures.terms c.number-maker.ensures c.enter-turn.ensures.number in
-    visit_same c.leave.new.pass c.value.result.now c.play-told.new.self is
+    visit_same is
     (play_longer c.play-told.result c.value.result.now c.play-told.new.self c.number-maker.result c.args.heard c.args.plan c.play-told.ensures.made c.play-told.ensures.refused)
 
 pub returns-clause-made : goal.returns-clause-made
 returns-clause-made g c =
-    let is = visit c.seat.inside.pass c.enter-turn.result.pass c.leave.new.pass c.value.result.now _ c.play-told.new.self c.seat.view_is c.enter-turn.ensures.pass
+    let is = visit c.seat.inside.pass c.seat.view_is c.enter-turn.ensures.pass
     c.leave.ensures c.value-2.ensures.value c.value.ensures.value c.enter-turn.ensures.longer c.enter-turn.ensures.own c.enter-turn.ensures.terms c.number-maker.ensures c.enter-turn.ensures.number in
     IfOk-weaker c.play-told.result (λ b. IsEntered c.value.result.now c.play-told.new.self c.number-maker.result 2 (play_of c.args.heard c.args.plan) b.number (Admitted b.start))
     (λ b. Made c.args.seat.now (seat_of c.leave.new.pass) 2 (play_of c.args.heard c.args.plan) b.number (Admitted b.start))
-    (λ b e. visit_made c.leave.new.pass c.value.result.now c.play-told.new.self 2 b.number is e)
+    (λ b e. visit_made is e)
     c.play-told.ensures.made
 
 pub returns-clause-open : goal.returns-clause-open
 returns-clause-open g c =
-    let is = visit c.seat.inside.pass c.enter-turn.result.pass c.leave.new.pass c.value.result.now _ c.play-told.new.self c.seat.view_is c.enter-turn.ensures.pass
+    let is = visit c.seat.inside.pass c.seat.view_is c.enter-turn.ensures.pass
     c.leave.ensures c.value-2.ensures.value c.value.ensures.value c.enter-turn.ensures.longer c.enter-turn.ensures.own c.enter-turn.ensures.terms c.number-maker.ensures c.enter-turn.ensures.number in
     IfOk-weaker c.play-told.result (λ b. IsEntered c.value.result.now c.play-told.new.self c.number-maker.result 2 (play_of c.args.heard c.args.plan) b.number (Admitted b.start))
     (λ b. (keep : ℕ) → keep ≤ total_bytes c.args.plan → IsOpenAmong c.leave.new.pass.mine b.number keep)
-    (λ b e keep small. visit_open c.leave.new.pass c.value.result.now c.play-told.new.self c.args.heard b.number b.start c.args.plan is e small)
+    (λ b e keep small. visit_open c.args.heard c.args.plan is e small)
     c.play-told.ensures.made
 
 pub returns-clause-refused : goal.returns-clause-refused
 returns-clause-refused g c =
-    let is = visit c.seat.inside.pass c.enter-turn.result.pass c.leave.new.pass c.value.result.now _ c.play-told.new.self c.seat.view_is c.enter-turn.ensures.pass
+    let is = visit c.seat.inside.pass c.seat.view_is c.enter-turn.ensures.pass
     c.leave.ensures c.value-2.ensures.value c.value.ensures.value c.enter-turn.ensures.longer c.enter-turn.ensures.own c.enter-turn.ensures.terms c.number-maker.ensures c.enter-turn.ensures.number in
     IfErr-weaker c.play-told.result (IsPlayRefused c.value.result.now c.play-told.new.self c.number-maker.result c.args.heard c.args.plan)
     (IsRefused c.args.seat.now (seat_of c.leave.new.pass) c.args.heard c.args.plan)
-    (λ why e. visit_refused c.args.seat.now c.leave.new.pass c.value.result.now c.play-told.new.self c.number-maker.result c.args.heard c.args.plan why is e)
+    (λ why e. visit_refused c.args.heard c.args.plan why is e)
     c.play-told.ensures.refused
