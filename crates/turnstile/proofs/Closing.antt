@@ -37,7 +37,7 @@ module _ {B : Type 0} (entries : B → List Entry) (terms_of : B → Terms) (ter
       → ((n : ℕ) → 0 < n → n ≤ v.splits → IsJoined v.joined n) → IsHome entries terms_of terms r.log s
   all_home s r id v live idle head all = ⊎_elim (λ (h : IsHome entries terms_of terms r.log s). h)
       (λ (a : IsAway r.log s).
-      let other : id ≢ a.place = λ e. idle_free v.stage idle a.ticket (ap (λ (u : View). u.stage) (one_at s.views v live.0 a.live.0 (sym e)) ∙ a.holds) in
+      let other : id ≢ a.place = λ e. idle_free v.stage idle a.ticket (ap (λ (u : View). u.stage) (one_at s.views live.0 a.live.0 (sym e)) ∙ a.holds) in
       let apart = r.apart id a.place v a.holder other live a.live in
       let few = (r.each a.place a.holder a.live).few in
       let count = (r.each id v live).first head in

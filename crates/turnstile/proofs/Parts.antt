@@ -37,11 +37,11 @@ at_either (x ∷ xs) ys (suc k) a e = at_either xs ys k a e
 none_there : {A : Type 0} (k : ℕ) (a : A) → get_elem? [] k ≡ some a → ⊥
 none_there k a e = some-ne-none a (sym e)
 
-longest : (b : Bool) (number : ℕ) (xs ys log : List Entry) → IsPrefix xs log → IsPrefix ys log → made_by number xs ≡ made_by number log
+longest : {b : Bool} {log : List Entry} (number : ℕ) (xs ys : List Entry) → IsPrefix xs log → IsPrefix ys log → made_by number xs ≡ made_by number log
     → (b ≡ true → length xs ≤ length ys) → (b ≡ false → length ys ≤ length xs)
     → IsPrefix (cond b ys xs) log × IsPrefix (cond b xs ys) (cond b ys xs) × (made_by number (cond b ys xs) ≡ made_by number log)
-longest true number xs ys log p q own less more = let h = prefix_shorter xs ys log p q (less refl) in (q, h, made_between number xs ys log h q own)
-longest false number xs ys log p q own less more = (p, prefix_shorter ys xs log q p (more refl), own)
+longest {b = true} {log} number xs ys p q own less more = let h = prefix_shorter xs ys log p q (less refl) in (q, h, made_between number xs h q own)
+longest {b = false} {log} number xs ys p q own less more = (p, prefix_shorter ys xs log q p (more refl), own)
 
 module _ {B : Type 0} (entries : B → List Entry) (terms_of : B → Terms) (terms : Terms) where
   abbrev St : Type 0
@@ -193,7 +193,7 @@ module _ {B : Type 0} (entries : B → List Entry) (terms_of : B → Terms) (ter
   longest_of : (s : St) (r : Rule s) (i j : ℕ) (v w : View) → IsLive s.views i v → IsLive s.views j w
       → IsPrefix (longer_list v.seen w.seen) r.log × IsPrefix (shorter_list v.seen w.seen) (longer_list v.seen w.seen) × (made_by v.number (longer_list v.seen w.seen) ≡ made_by v.number r.log)
   longest_of s r i j v w l k = let f = r.each i v l in let g = r.each j w k in
-      longest (ltb (length v.seen) (length w.seen)) v.number v.seen w.seen r.log f.seen g.seen (sym f.own ∙ f.mine)
+      longest v.number v.seen w.seen f.seen g.seen (sym f.own ∙ f.mine)
       (λ e. dite (dec_le (length v.seen) (length w.seen)) (λ le. le) (λ no_le. absurd (true≢false (sym e ∙ le-ltb _ _ (omega arith)))))
       (λ e. dite (dec_le (length w.seen) (length v.seen)) (λ le. le) (λ no_le. absurd (true≢false (sym (lt-ltb _ _ (omega arith)) ∙ e))))
 
@@ -209,8 +209,8 @@ module _ {B : Type 0} (entries : B → List Entry) (terms_of : B → Terms) (ter
     free = live_join (λ _ u. Free u.stage) s.views id other b x gone (idle_free b.stage bidle) (λ j u _ _ l. h.free j u l);
   }
   place_join s log id other v w b x apart live wlive idle widle bidle gone (inr a) =
-      let one : a.place ≢ id = λ e. idle_free v.stage idle a.ticket (ap (λ (u : View). u.stage) (one_at s.views v live.0 a.live.0 e) ∙ a.holds) in
-      let two : a.place ≢ other = λ e. idle_free w.stage widle a.ticket (ap (λ (u : View). u.stage) (one_at s.views w wlive.0 a.live.0 e) ∙ a.holds) in
+      let one : a.place ≢ id = λ e. idle_free v.stage idle a.ticket (ap (λ (u : View). u.stage) (one_at s.views live.0 a.live.0 e) ∙ a.holds) in
+      let two : a.place ≢ other = λ e. idle_free w.stage widle a.ticket (ap (λ (u : View). u.stage) (one_at s.views wlive.0 a.live.0 e) ∙ a.holds) in
       inr record {
         home = a.home;
         place = a.place;

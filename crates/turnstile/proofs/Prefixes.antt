@@ -71,8 +71,8 @@ nothing_last [] ys e = e
 nothing_last (x ∷ xs) ys e = absurd cc
 
 -- who has made as much at the end as at the beginning has made that much in between
-pub made_between : (maker : ℕ) (xs ys log : List Entry) → IsPrefix xs ys → IsPrefix ys log → made_by maker xs ≡ made_by maker log → made_by maker ys ≡ made_by maker log
-made_between maker xs ys log p q same =
+pub made_between : {ys log : List Entry} (maker : ℕ) (xs : List Entry) → IsPrefix xs ys → IsPrefix ys log → made_by maker xs ≡ made_by maker log → made_by maker ys ≡ made_by maker log
+made_between {ys} {log} maker xs p q same =
     let a : List Placed = made_from (0 + length xs) maker p.0 in let b : List Placed = made_from (0 + length ys) maker q.0 in
     let mid : made_by maker ys ≡ made_by maker xs ++ a = ap (made_by maker) (sym p.1) ∙ made_more maker 0 xs p.0 in
     let end : made_by maker log ≡ made_by maker ys ++ b = ap (made_by maker) (sym q.1) ∙ made_more maker 0 ys q.0 in

@@ -67,12 +67,12 @@ at_inside [] i a e = absurd (some-ne-none a (sym e))
 at_inside (x ∷ xs) zero a e = omega arith
 at_inside (x ∷ xs) (suc i) a e = let h = at_inside xs i a e in omega arith
 
-pub one_at : {A : Type 0} {i j : ℕ} {b : A} (l : List A) (a : A) → get_elem? l i ≡ some a → get_elem? l j ≡ some b → j ≡ i → a ≡ b
-one_at {b} l a at bt e = some-injective a b (sym at ∙ (ap (get_elem? l) (sym e) ∙ bt))
+pub one_at : {A : Type 0} {i j : ℕ} {a b : A} (l : List A) → get_elem? l i ≡ some a → get_elem? l j ≡ some b → j ≡ i → a ≡ b
+one_at {a} {b} l at bt e = some-injective a b (sym at ∙ (ap (get_elem? l) (sym e) ∙ bt))
 
-pub restage : {terms : Terms} {log : List Entry} {count served drawn served' drawn' : ℕ} {v : View} (st : Stage)
+pub restage : {terms : Terms} {log : List Entry} {count served drawn served' drawn' : ℕ} {v : View} {st : Stage}
     → Fits terms log count served drawn v → InTurn served' drawn' st → Fits terms log count served' drawn' (record v { stage = st })
-restage st f turn = record {
+restage f turn = record {
   terms_are = f.terms_are;
   told_terms = f.told_terms;
   seen = f.seen;
@@ -87,7 +87,7 @@ restage st f turn = record {
 
 pub refit : {terms : Terms} {log : List Entry} {count served drawn served' drawn' : ℕ} {v : View}
     → Fits terms log count served drawn v → InTurn served' drawn' v.stage → Fits terms log count served' drawn' v
-refit {v} f turn = restage v.stage f turn
+refit f turn = restage f turn
 
 module _ {B : Type 0} (entries : B → List Entry) (terms_of : B → Terms) (terms : Terms) where
   abbrev pub St : Type 0
@@ -149,7 +149,7 @@ module _ {B : Type 0} (entries : B → List Entry) (terms_of : B → Terms) (ter
     free = live_set (λ _ u. Free u.stage) s.views id w next (λ j u _ l. h.free j u l);
   }
   place_other log s id v w live idle next words (inr a) =
-      let other : a.place ≢ id = λ e. idle a.ticket (ap (λ (u : View). u.stage) (one_at s.views v live.0 a.live.0 e) ∙ a.holds) in inr record {
+      let other : a.place ≢ id = λ e. idle a.ticket (ap (λ (u : View). u.stage) (one_at s.views live.0 a.live.0 e) ∙ a.holds) in inr record {
         home = a.home;
         place = a.place;
         holder = a.holder;
@@ -185,7 +185,7 @@ module _ {B : Type 0} (entries : B → List Entry) (terms_of : B → Terms) (ter
             (ap (λ (ws : List ℕ). set ws 0 ((get_or ws 0 0 + 1) % 2 ^ 64)) r.words ∙ ap (λ (k : ℕ). k ∷ r.served % 2 ^ 64 ∷ length r.log % 2 ^ 64 ∷ []) (omega arith))
             (omega arith)
             r.makers
-            (restage (Waits r.drawn) f (omega arith, omega arith))
+            (restage f (omega arith, omega arith))
             (λ j u other l. let g = r.each j u l in let a = r.apart id j v u (λ e. other (sym e)) (at, left) l in let b = r.apart j id u v other l (at, left) in (
               refit g (turn_more r.served r.drawn u.stage g.turn),
               record { numbers = a.numbers; tickets = λ t here there. let h = ticket_low r.served r.drawn t u.stage g.turn there in let e : r.drawn ≡ t = here in let z = h.1 in omega arith; past = a.past },
@@ -200,7 +200,7 @@ module _ {B : Type 0} (entries : B → List Entry) (terms_of : B → Terms) (ter
       → IsHome entries terms_of terms r.log s
   at_home s r id v live t is now = ⊎_elim (λ (h : IsHome entries terms_of terms r.log s). h)
       (λ (a : IsAway r.log s).
-      let other : id ≢ a.place = λ e. waits_free v.stage t is a.ticket (ap (λ (u : View). u.stage) (one_at s.views v live.0 a.live.0 (sym e)) ∙ a.holds) in
+      let other : id ≢ a.place = λ e. waits_free v.stage t is a.ticket (ap (λ (u : View). u.stage) (one_at s.views live.0 a.live.0 (sym e)) ∙ a.holds) in
       let apart = r.apart id a.place v a.holder other live a.live in
       let turn : InTurn r.served r.drawn (Holds a.ticket) = subst (InTurn r.served r.drawn) a.holds (r.each a.place a.holder a.live).turn in
       absurd (apart.tickets r.served (subst (λ (st : Stage). IsTicket st r.served) (sym is) now) (subst (λ (st : Stage). IsTicket st r.served) (sym a.holds) turn.0)))
@@ -299,7 +299,7 @@ module _ {B : Type 0} (entries : B → List Entry) (terms_of : B → Terms) (ter
       let theirs : InTurn r.served r.drawn (Holds a.ticket) = subst (InTurn r.served r.drawn) a.holds (r.each a.place a.holder a.live).turn in
       let same : a.place ≡ id = dite (ℕ_discrete a.place id) (λ e. e) (λ (ne : a.place ≢ id). absurd ((r.apart a.place id a.holder v ne a.live live).tickets r.served
       (subst (λ (st : Stage). IsTicket st r.served) (sym a.holds) theirs.0) (subst (λ (st : Stage). IsTicket st r.served) (sym is) turn.0))) in
-      (a.home, ap (λ (u : View). u.seen) (one_at s.views v live.0 a.live.0 same) ∙ a.all, turn.0, turn.1))
+      (a.home, ap (λ (u : View). u.seen) (one_at s.views live.0 a.live.0 same) ∙ a.all, turn.0, turn.1))
       r.where_is
 
   -- another pass, once the list has an entry more
@@ -392,7 +392,7 @@ module _ {B : Type 0} (entries : B → List Entry) (terms_of : B → Terms) (ter
             (ap (λ (ws : List ℕ). set ws 1 ((get_or ws 1 0 + 1) % 2 ^ 64)) r.words ∙ ap (λ (k : ℕ). r.drawn % 2 ^ 64 ∷ k ∷ length r.log % 2 ^ 64 ∷ []) (omega arith))
             (omega arith)
             r.makers
-            (restage Idle f tt)
+            (restage f tt)
             (λ j u other l. let g = r.each j u l in let a = r.apart id j v u (λ e. other (sym e)) (at, left) l in let b = r.apart j id u v other l (at, left) in (
               refit g (turn_next r.served r.drawn u.stage g.turn (not_now j u other l)),
               record { numbers = a.numbers; tickets = λ x here there. absurd here; past = a.past },
