@@ -45,9 +45,9 @@ ascends-to steps i j profile later inside =
     omega (arith, ascends steps i (j - i) profile (omega (arith, inside)), same)
 
 -- the first i steps begin at or before the slot, step i after it
-pub capacity-before : {i u bytes : ℕ} (steps : List CapStep) (slot : ℕ) → IsProfile steps → i < length steps → ((k : ℕ) → k < i → (step_at steps k).from ≤ slot) →
+pub capacity-before : {steps : List CapStep} {i u bytes : ℕ} (slot : ℕ) → IsProfile steps → i < length steps → ((k : ℕ) → k < i → (step_at steps k).from ≤ slot) →
     ((k : ℕ) → k + 1 ≡ i → bytes ≡ (step_at steps k).bytes) → slot < (step_at steps i).from → slot ≤ u → u < (step_at steps i).from → IsCapacity steps u bytes
-capacity-before {i} steps slot profile inside begun bytes_are after from less =
+capacity-before {steps} {i} slot profile inside begun bytes_are after from less =
     elim (cases_lt 0 i) [
       | inl some ↦ record {
         index = i - 1;
@@ -64,9 +64,9 @@ capacity-before {i} steps slot profile inside begun bytes_are after from less =
     ]
 
 -- all steps begin at or before the slot
-pub capacity-last : {i u bytes : ℕ} (steps : List CapStep) (slot : ℕ) → IsProfile steps → length steps ≡ i → ((k : ℕ) → k < i → (step_at steps k).from ≤ slot) →
+pub capacity-last : {steps : List CapStep} {i u bytes : ℕ} (slot : ℕ) → IsProfile steps → length steps ≡ i → ((k : ℕ) → k < i → (step_at steps k).from ≤ slot) →
     ((k : ℕ) → k + 1 ≡ i → bytes ≡ (step_at steps k).bytes) → slot ≤ u → IsCapacity steps u bytes
-capacity-last {i} steps slot profile count begun bytes_are from = record {
+capacity-last {steps} {i} slot profile count begun bytes_are from = record {
   index = i - 1;
   inside = omega (arith, count, profile.some);
   begun = omega (arith, begun (i - 1) (omega (arith, count, profile.some)), from);

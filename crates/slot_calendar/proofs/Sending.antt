@@ -123,10 +123,10 @@ bytes-next segments i s inside is =
     ap total_bytes (front-next segments i s inside is) ∙ sum_by-append (λ x. x.bytes) (take i segments) (s ∷ []) ∙ ap (λ n. total_bytes (take i segments) + n) (one-bytes s)
 
 -- the first i + 1 segments ask for what the first i do and what segment i does
-pub asked-next : (segments : List Segment) (i : ℕ) (s : Segment) (start from t : ℕ) → i < length segments → s ≡ get_or segments i s →
+pub asked-next : {s : Segment} {from : ℕ} (segments : List Segment) (i start t : ℕ) → i < length segments → s ≡ get_or segments i s →
     from ≡ start + total_slots (take i segments) →
     asked_at (take (i + 1) segments) start t ≡ asked_at (take i segments) start t + asked_at (s ∷ []) from t
-asked-next segments i s start from t inside is at =
+asked-next {s} {from} segments i start t inside is at =
     ap (λ l. asked_at l start t) (front-next segments i s inside is) ∙ asked-append (take i segments) (s ∷ []) start t
     ∙ ap (λ n. asked_at (take i segments) start t + asked_at (s ∷ []) n t) (sym at)
 
@@ -137,11 +137,11 @@ asked-front segments i start t =
     ap (λ l. asked_at l start t) (sym (take-append-drop i segments)) ∙ asked-append (take i segments) (drop i segments) start t
 
 -- a slot of segment i
-pub asked-in : (segments : List Segment) (i : ℕ) (s : Segment) (start from t : ℕ) → i < length segments → s ≡ get_or segments i s →
+pub asked-in : {s : Segment} {from : ℕ} (segments : List Segment) (i start t : ℕ) → i < length segments → s ≡ get_or segments i s →
     from ≡ start + total_slots (take i segments) → from ≤ t → t < from + s.slots → asked_at segments start t ≡ asked_at (s ∷ []) from t
-asked-in segments i s start from t inside is at begun ends =
+asked-in {s} {from} segments i start t inside is at begun ends =
     let split = asked-front segments (i + 1) start t in
-    let front = asked-next segments i s start from t inside is at in
+    let front = asked-next segments i start t inside is at in
     let slots = slots-next segments i s inside is in
     let after : asked_at (drop (i + 1) segments) (start + total_slots (take (i + 1) segments)) t ≡ 0 =
     asked-before (drop (i + 1) segments) (start + total_slots (take (i + 1) segments)) t (omega (arith, slots, at, ends)) in
@@ -152,9 +152,9 @@ asked-in segments i s start from t inside is at begun ends =
 pub all-front : (segments : List Segment) (i : ℕ) → All (λ s. 1 ≤ s.slots) segments → All (λ s. 1 ≤ s.slots) (take i segments)
 all-front segments i some = All-take (λ s. 1 ≤ s.slots) i segments some
 
-pub over-append : (xs ys : List Segment) (start from keep left t : ℕ) → All (λ s. 1 ≤ s.slots) xs → from ≡ start + total_slots xs → left ≡ keep - total_bytes xs →
+pub over-append : {from left : ℕ} (xs ys : List Segment) (start keep t : ℕ) → All (λ s. 1 ≤ s.slots) xs → from ≡ start + total_slots xs → left ≡ keep - total_bytes xs →
     sent_before (xs ++ ys) start t - keep ≡ (sent_before xs start t - keep) + (sent_before ys from t - left)
-over-append xs ys start from keep left t some at rest =
+over-append {from} {left} xs ys start keep t some at rest =
     let whole : sent_before (xs ++ ys) start t ≡ sent_before xs start t + sent_before ys from t =
     sent-append xs ys start t ∙ ap (λ n. sent_before xs start t + sent_before ys n t) (sym at) in
     elim (cases_lt t from) [
@@ -168,13 +168,13 @@ over-append xs ys start from keep left t some at rest =
           )
     ]
 
-pub cut-append : (xs ys : List Segment) (start from keep left t : ℕ) → All (λ s. 1 ≤ s.slots) xs → from ≡ start + total_slots xs → left ≡ keep - total_bytes xs →
+pub cut-append : {from left : ℕ} (xs ys : List Segment) (start keep t : ℕ) → All (λ s. 1 ≤ s.slots) xs → from ≡ start + total_slots xs → left ≡ keep - total_bytes xs →
     cut_at (xs ++ ys) start keep t ≡ cut_at xs start keep t + cut_at ys from left t
-cut-append xs ys start from keep left t some at rest =
+cut-append {from} {left} xs ys start keep t some at rest =
     let x = sent-rises xs start t (t + 1) (omega arith) in
     let y = sent-rises ys from t (t + 1) (omega arith) in
-    let here = over-append xs ys start from keep left t some at rest in
-    let next = over-append xs ys start from keep left (t + 1) some at rest in
+    let here = over-append xs ys start keep t some at rest in
+    let next = over-append xs ys start keep (t + 1) some at rest in
     sum-parts (sent_before (xs ++ ys) start t - keep) (sent_before (xs ++ ys) start (t + 1) - keep)
     (sent_before xs start t - keep) (sent_before xs start (t + 1) - keep) (sent_before ys from t - left) (sent_before ys from (t + 1) - left)
     here next (omega (arith, x)) (omega (arith, y))
@@ -182,18 +182,18 @@ cut-append xs ys start from keep left t some at rest =
     sum-parts : (a b c d e f : ℕ) → a ≡ c + e → b ≡ d + f → c ≤ d → e ≤ f → b - a ≡ (d - c) + (f - e)
     sum-parts a b c d e f p q r s = omega arith
 
-pub cut-next : (segments : List Segment) (i : ℕ) (s : Segment) (start from keep left t : ℕ) → All (λ x. 1 ≤ x.slots) segments → i < length segments → s ≡ get_or segments i s →
+pub cut-next : {s : Segment} {from left : ℕ} (segments : List Segment) (i start keep t : ℕ) → All (λ x. 1 ≤ x.slots) segments → i < length segments → s ≡ get_or segments i s →
     from ≡ start + total_slots (take i segments) → left ≡ keep - total_bytes (take i segments) →
     cut_at (take (i + 1) segments) start keep t ≡ cut_at (take i segments) start keep t + cut_at (s ∷ []) from left t
-cut-next segments i s start from keep left t some inside is at rest =
+cut-next {s} {from} {left} segments i start keep t some inside is at rest =
     ap (λ l. cut_at l start keep t) (front-next segments i s inside is)
-    ∙ cut-append (take i segments) (s ∷ []) start from keep left t (all-front segments i some) at rest
+    ∙ cut-append (take i segments) (s ∷ []) start keep t (all-front segments i some) at rest
 
 pub cut-front : (segments : List Segment) (i start keep t : ℕ) → All (λ x. 1 ≤ x.slots) segments → cut_at (take i segments) start keep t ≤ cut_at segments start keep t
 cut-front segments i start keep t some =
     let whole : cut_at segments start keep t ≡ cut_at (take i segments) start keep t + cut_at (drop i segments) (start + total_slots (take i segments)) (keep - total_bytes (take i segments)) t =
     ap (λ l. cut_at l start keep t) (sym (take-append-drop i segments))
-    ∙ cut-append (take i segments) (drop i segments) start (start + total_slots (take i segments)) keep (keep - total_bytes (take i segments)) t (all-front segments i some) refl refl in
+    ∙ cut-append (take i segments) (drop i segments) start keep t (all-front segments i some) refl refl in
     omega (arith, whole)
 
 pub cut-before : (segments : List Segment) (start keep t : ℕ) → t < start → cut_at segments start keep t ≡ 0
@@ -237,17 +237,17 @@ asked-here {sent} segments from j was is =
     let next : sent_before segments from (from + j + 1) ≡ sent = ap (sent_before segments from) (let e : from + j + 1 ≡ from + (j + 1) = omega arith in e) ∙ is in
     omega (arith, was, next)
 
-pub cut-here : {before sent : ℕ} (segments : List Segment) (from keep j over : ℕ) → before ≡ sent_before segments from (from + j) - keep →
+pub cut-here : {before over sent : ℕ} (segments : List Segment) (from keep j : ℕ) → before ≡ sent_before segments from (from + j) - keep →
     sent_before segments from (from + (j + 1)) ≡ sent → over ≡ sent - keep → cut_at segments from keep (from + j) ≡ over - before
-cut-here {sent} segments from keep j over was is over_is =
+cut-here {over} {sent} segments from keep j was is over_is =
     let next : sent_before segments from (from + j + 1) ≡ sent = ap (sent_before segments from) (let e : from + j + 1 ≡ from + (j + 1) = omega arith in e) ∙ is in
     omega (arith, was, next, over_is)
 
 -- a sum of totals and bytes asked, one slot further
-pub raised-next : {by : ℕ} (first place : ℕ) (old mid new asked : ℕ → ℕ) → asked place ≡ by → new place ≡ mid place + by →
+pub raised-next : {place by : ℕ} (first : ℕ) (old mid new asked : ℕ → ℕ) → asked place ≡ by → new place ≡ mid place + by →
     ((t : ℕ) → first ≤ t → t ≢ place → new t ≡ mid t) → ((t : ℕ) → first ≤ t → t < place → mid t ≡ old t + asked t) → ((t : ℕ) → first ≤ t → place ≤ t → mid t ≡ old t) →
     {t : ℕ} → first ≤ t → t < place + 1 → new t ≡ old t + asked t
-raised-next first place old mid new asked by_is here others done rest {t} since less =
+raised-next {place} first old mid new asked by_is here others done rest {t} since less =
     elim (cases_eq t place) [
       | inl is ↦ (
           let at : new t ≡ new place = ap new is in
@@ -262,10 +262,10 @@ raised-next first place old mid new asked by_is here others done rest {t} since 
     before : (x y : ℕ) → x < y + 1 → x ≢ y → x < y
     before x y most apart = omega arith
 
-pub lowered-next : {by : ℕ} (first place : ℕ) (old mid new cut : ℕ → ℕ) → cut place ≡ by → (first ≤ place → new place + by ≡ mid place) →
+pub lowered-next : {place by : ℕ} (first : ℕ) (old mid new cut : ℕ → ℕ) → cut place ≡ by → (first ≤ place → new place + by ≡ mid place) →
     ((t : ℕ) → first ≤ t → t ≢ place → new t ≡ mid t) → ((t : ℕ) → first ≤ t → t < place → mid t + cut t ≡ old t) → ((t : ℕ) → first ≤ t → place ≤ t → mid t ≡ old t) →
     {t : ℕ} → first ≤ t → t < place + 1 → new t + cut t ≡ old t
-lowered-next first place old mid new cut by_is here others done rest {t} since less =
+lowered-next {place} first old mid new cut by_is here others done rest {t} since less =
     elim (cases_eq t place) [
       | inl is ↦ (
           let from : first ≤ place = omega (arith, is, since) in

@@ -65,21 +65,20 @@ booked-cut before after segments start keep t plan =
     omega (arith, booked-around before after (cut_play start segments keep) t, booked-around before after (whole_play start segments) t, share-whole segments start t plan, share-cut segments start keep t)
 
 -- ---- calendars and the lists that they stand for
-pub stands-push : {old : Entries} {plays : List Play} {segments : List Segment} (new : Entries) (start : ℕ) → IsPlan segments → new.first ≡ old.first →
+pub stands-push : {old new : Entries} {plays : List Play} {segments : List Segment} (start : ℕ) → IsPlan segments → new.first ≡ old.first →
     ((t : ℕ) → old.first ≤ t → booked_at new t ≡ booked_at old t + asked_at segments start t) → StandsFor old plays →
     StandsFor new (plays ++ whole_play start segments ∷ [])
-stands-push {old} {plays} {segments} new start plan first totals stands = record {
+stands-push {old} {new} {plays} {segments} start plan first totals stands = record {
   each = λ t from. (
       let since : old.first ≤ t = omega (arith, first, from) in
       totals t since ∙ ap (λ n. n + asked_at segments start t) (stands.each t since) ∙ sym (booked-push plays segments start t plan)
       );
 }
 
-pub stands-cut : {old : Entries} {segments : List Segment} (new : Entries) (before after : List Play)
-    (start keep : ℕ) → IsPlan segments → new.first ≡ old.first →
+pub stands-cut : {old new : Entries} {segments : List Segment} (before after : List Play) (start keep : ℕ) → IsPlan segments → new.first ≡ old.first →
     ((t : ℕ) → old.first ≤ t → booked_at new t + cut_at segments start keep t ≡ booked_at old t) → StandsFor old (before ++ whole_play start segments ∷ after) →
     StandsFor new (before ++ cut_play start segments keep ∷ after)
-stands-cut {old} {segments} new before after start keep plan first totals stands = record {
+stands-cut {old} {new} {segments} before after start keep plan first totals stands = record {
   each = λ t from. (
       let since : old.first ≤ t = omega (arith, first, from) in
       omega (arith, totals t since, stands.each t since, booked-cut before after segments start keep t plan)

@@ -47,8 +47,8 @@ total-past {n} xs first t pos len past =
     get_or_past (rotation (first % n) xs) (t - first) 0 (omega (arith, length-rotation xs (first % n) (omega (arith, len, below)), len, past))
 
 -- two slots of one turn have two places
-pub places_apart : {t : ℕ} (n first s : ℕ) → 0 < n → first ≤ s → s < first + n → first ≤ t → t < first + n → s % n ≡ t % n → s ≡ t
-places_apart {t} n first s pos s_from s_in t_from t_in same =
+pub places_apart : {s t : ℕ} (n first : ℕ) → 0 < n → first ≤ s → s < first + n → first ≤ t → t < first + n → s % n ≡ t % n → s ≡ t
+places_apart {s} {t} n first pos s_from s_in t_from t_in same =
     let whole_s : s / n * n + s % n ≡ s = div-add-mod' s n in
     let whole_t : t / n * n + t % n ≡ t = div-add-mod' t n in
     let less_s : s / n * n < (t / n + 1) * n = omega (arith, whole_s, whole_t, same) in
@@ -80,7 +80,7 @@ set-there {n} xs first slot t v pos len from inside since other =
     let len' : length (set xs (slot % n) v) ≡ n = length-set xs (slot % n) v ∙ len in
     elim (cases_lt t (first + n)) [
       | inl in_ring ↦ (
-          let apart : t % n ≢ slot % n = λ e. other (places_apart n first t pos since in_ring from inside e) in
+          let apart : t % n ≢ slot % n = λ e. other (places_apart n first pos since in_ring from inside e) in
           total-in (set xs (slot % n) v) first t pos len' since in_ring ∙ get_or-set_other xs (slot % n) (t % n) v 0 apart
           ∙ sym (total-in xs first t pos len since in_ring)
           )

@@ -28,7 +28,7 @@ loop-passed-preserved c =
       before_is = sym (c.sent_through-sent.ensures.sent c.args.from);
       first_is = c.raise.ensures.now ∙ i.invariant.first_is;
       stale_is = c.raise.ensures.stale ∙ i.invariant.stale_is;
-      done = λ t since less. raised-next first place old mid new (asked_at segments c.args.from) asked c.raise.ensures.at others i.invariant.done i.invariant.rest since (omega (arith, less, at));
+      done = λ t since less. raised-next first old mid new (asked_at segments c.args.from) asked c.raise.ensures.at others i.invariant.done i.invariant.rest since (omega (arith, less, at));
       rest = λ t since more. unchanged-next first place old mid new others i.invariant.rest since (omega (arith, more, at));
     }
 

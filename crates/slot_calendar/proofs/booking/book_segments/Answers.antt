@@ -9,7 +9,7 @@ book_segment-requires-clause-fits c = λ t from. (
     let segments = c.args.segments.now in
     let s : Segment = get_or segments i.segment-index (record { slots = 0; bytes = 0 }) in
     let since : c.args.ring.now.first ≤ t = omega (arith, from, i.invariant.first_is) in
-    let next = asked-next segments i.segment-index s c.args.start i.from t (omega arith) (search rules) i.invariant.from_is in
+    let next = asked-next {s = s} {from = i.from} segments i.segment-index c.args.start t (omega arith) (search rules) i.invariant.from_is in
     omega (arith, next, asked-front segments (i.segment-index + 1) c.args.start t, i.invariant.totals t since, c.requires.fits t since)
     )
 
@@ -25,7 +25,7 @@ loop-segment-preserved c =
       first_is = c.book_segment.ensures.now ∙ i.invariant.first_is;
       stale_is = c.book_segment.ensures.stale ∙ i.invariant.stale_is;
       totals = λ t since. (
-          let next = asked-next segments i.segment-index s c.args.start i.from t inside is i.invariant.from_is in
+          let next = asked-next segments i.segment-index c.args.start t inside is i.invariant.from_is in
           let added = c.book_segment.ensures.totals t (omega (arith, since, i.invariant.first_is)) in
           omega (arith, next, added, i.invariant.totals t since)
           );

@@ -18,7 +18,7 @@ give_back-requires c = λ from. (
     let segments = c.args.segment ∷ [] in
     let place = c.args.from + i.passed in
     let cut : cut_at segments c.args.from c.args.keep place ≡ c.saturating_sub-over.result - i.before =
-    cut-here segments c.args.from c.args.keep i.passed c.saturating_sub-over.result i.invariant.before_is (c.sent_through.ensures.sent c.args.from) c.saturating_sub-over.ensures in
+    cut-here segments c.args.from c.args.keep i.passed i.invariant.before_is (c.sent_through.ensures.sent c.args.from) c.saturating_sub-over.ensures in
     let since : c.args.ring.now.first ≤ place = omega (arith, from, i.invariant.first_is) in
     omega (arith, cut, c.requires.booked place since, i.invariant.rest place since (omega arith))
     )
@@ -34,14 +34,14 @@ loop-passed-preserved c =
     let mid = total_at i.ring.first i.ring.totals in
     let new = total_at c.give_back.new.ring.first c.give_back.new.ring.totals in
     let cut : cut_at segments c.args.from c.args.keep place ≡ by =
-    cut-here segments c.args.from c.args.keep i.passed c.saturating_sub-over.result i.invariant.before_is (c.sent_through.ensures.sent c.args.from) c.saturating_sub-over.ensures in
+    cut-here segments c.args.from c.args.keep i.passed i.invariant.before_is (c.sent_through.ensures.sent c.args.from) c.saturating_sub-over.ensures in
     let others : (t : ℕ) → first ≤ t → (t ≡ place → ⊥) → new t ≡ mid t = λ t since other. c.give_back.ensures.others t (omega (arith, since, i.invariant.first_is)) other in
     let here : first ≤ place → new place + by ≡ mid place = λ from. c.give_back.ensures.at (omega (arith, from, i.invariant.first_is)) in
     let at : c.args.from + (i.passed + 1) ≡ place + 1 = omega arith in
     record {
       before_is = c.saturating_sub-over.ensures ∙ ap (λ n. n - c.args.keep) (sym (c.sent_through.ensures.sent c.args.from));
       first_is = c.give_back.ensures.now ∙ i.invariant.first_is;
-      done = λ t since less. lowered-next first place old mid new (cut_at segments c.args.from c.args.keep) cut here others i.invariant.done i.invariant.rest since (omega (arith, less, at));
+      done = λ t since less. lowered-next first old mid new (cut_at segments c.args.from c.args.keep) cut here others i.invariant.done i.invariant.rest since (omega (arith, less, at));
       rest = λ t since more. unchanged-next first place old mid new others i.invariant.rest since (omega (arith, more, at));
     }
 

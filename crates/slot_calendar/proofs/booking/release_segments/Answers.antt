@@ -9,7 +9,7 @@ release_segment-requires-clause-booked c = λ t from. (
     let segments = c.args.segments.now in
     let s : Segment = get_or segments i.segment-index (record { slots = 0; bytes = 0 }) in
     let since : c.args.ring.now.first ≤ t = omega (arith, from, i.invariant.first_is) in
-    let next = cut-next segments i.segment-index s c.args.start i.from c.args.keep i.left t c.requires.plan.no_empty (omega arith) (search rules) i.invariant.from_is i.invariant.left_is in
+    let next = cut-next {s = s} {from = i.from} {left = i.left} segments i.segment-index c.args.start c.args.keep t c.requires.plan.no_empty (omega arith) (search rules) i.invariant.from_is i.invariant.left_is in
     omega (arith, next, cut-front segments (i.segment-index + 1) c.args.start c.args.keep t c.requires.plan.no_empty, i.invariant.totals t since, c.requires.booked t since)
     )
 
@@ -25,7 +25,7 @@ loop-segment-preserved c =
       left_is = omega (arith, i.invariant.left_is, bytes-next segments i.segment-index s inside is, c.saturating_sub-left.ensures);
       first_is = c.release_segment.ensures.now ∙ i.invariant.first_is;
       totals = λ t since. (
-          let next = cut-next segments i.segment-index s c.args.start i.from c.args.keep i.left t c.requires.plan.no_empty inside is i.invariant.from_is i.invariant.left_is in
+          let next = cut-next segments i.segment-index c.args.start c.args.keep t c.requires.plan.no_empty inside is i.invariant.from_is i.invariant.left_is in
           let taken = c.release_segment.ensures.totals t (omega (arith, since, i.invariant.first_is)) in
           omega (arith, next, taken, i.invariant.totals t since)
           );

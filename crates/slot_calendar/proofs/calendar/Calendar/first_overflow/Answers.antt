@@ -18,7 +18,7 @@ returns-in-Some c =
     let Q : Entries → Type 0 = λ e. IsOverflowIn i.from (i.from + s.slots) (booked_at e) (capacity_at e.steps) i.from (s ∷ []) over in
     let P : List Segment → Type 0 = λ l. IsFirstOverflow old.first (booked_at old) (capacity_at old.steps) c.args.start l over in
     subst P c.segments-segments.ensures.value
-    (first-overflow old.first (capacity_at old.steps) i.segment-index s c.args.start i.from over (omega arith) (search rules)
+    (first-overflow i.segment-index (omega arith) (search rules)
     i.invariant.from_is (omega (arith, i.invariant.from_is, c.requires.after)) i.invariant.fits (subst Q c.self.view_is c.in-Some.ensures))
 
 pub loop-segment-preserved : goal.loop-segment-preserved
@@ -32,7 +32,7 @@ loop-segment-preserved c =
     let Q : Entries → Type 0 = λ e. FitsIn i.from (i.from + s.slots) (booked_at e) (capacity_at e.steps) i.from (s ∷ []) in
     record {
       from_is = omega (arith, i.invariant.from_is, slots-next segments i.segment-index s inside is);
-      fits = fits-next old.first (booked_at old) (capacity_at old.steps) segments i.segment-index s c.args.start i.from inside is
+      fits = fits-next (booked_at old) segments i.segment-index c.args.start inside is
           i.invariant.from_is i.invariant.fits (subst Q c.self.view_is c.in_default.ensures);
     }
 
@@ -45,4 +45,4 @@ returns c =
     let all : total_slots (take i.segment-index segments) ≡ total_slots segments = ap total_slots (take_all i.segment-index segments c.loop-segment-test.false) in
     let P : List Segment → Type 0 = λ l. HasRoom old.first (booked_at old) (capacity_at old.steps) c.args.start l in
     subst P c.segments-segments.ensures.value
-    (room-all c.args.start i.from is (omega (arith, i.invariant.from_is, all)) i.invariant.fits)
+    (room-all is (omega (arith, i.invariant.from_is, all)) i.invariant.fits)
