@@ -13,12 +13,12 @@ use Rattle.rtp_pack.specs.Packets.{before_slice, full_packets, packets_from}
 pub not_both : (b : Bool) → b ≡ true → b ≡ false → ⊥
 not_both b holds fails = let bad : true ≡ false = sym holds ∙ fails in cc
 
-pub full-once : {b : ℕ} (start end a : ℕ) → start + 1380 * a < end → end ≤ start + 1380 * a + 1380 → start + 1380 * b < end → end ≤ start + 1380 * b + 1380 → a ≡ b
-full-once start end a p q r s = omega arith
+pub full-once : {a b : ℕ} (start end : ℕ) → start + 1380 * a < end → end ≤ start + 1380 * a + 1380 → start + 1380 * b < end → end ≤ start + 1380 * b + 1380 → a ≡ b
+full-once {a} start end p q r s = omega arith
 
-pub one-fill : {G : ℕ → List ℕ → Type 0} → ((last : ℕ) (a b : List ℕ) → G last a → G last b → a ≡ b) → (start end : ℕ) (a : List ℕ) {b : List ℕ} → Fills G start end a → Fills G start end b → a ≡ b
-one-fill {G} same start end a x y =
-    let full : x.full ≡ y.full = full-once start end x.full x.before x.within y.before y.within in
+pub one-fill : {G : ℕ → List ℕ → Type 0} → ((last : ℕ) (a b : List ℕ) → G last a → G last b → a ≡ b) → {start end : ℕ} {a b : List ℕ} → Fills G start end a → Fills G start end b → a ≡ b
+one-fill {G} same {start} {end} {a} x y =
+    let full : x.full ≡ y.full = full-once start end x.before x.within y.before y.within in
     let there : G (start + 1380 * y.full) x.rest = subst (λ k. G (start + 1380 * k) x.rest) full x.goes_on in
     let rest : x.rest ≡ y.rest = same (start + 1380 * y.full) x.rest y.rest there y.goes_on in
     x.filled ∙ ap (λ k. full_ends start k ++ x.rest) full ∙ ap (λ (r : List ℕ). full_ends start y.full ++ r) rest ∙ sym y.filled
@@ -26,11 +26,11 @@ one-fill {G} same start end a x y =
 pub one-cutting : (slices : List ℕ) (f : Filling) (a b : List ℕ) → Cuts f slices a → Cuts f slices b → a ≡ b
 one-cutting [] f a b x y = x ∙ sym y
 one-cutting (n ∷ slices) f a b (inl x) (inl y) =
-    one-fill (λ last p q. one-cutting slices (filling_after f n last) p q) f.from (f.at + n) a x.1 y.1
+    one-fill (λ last p q. one-cutting slices (filling_after f n last) p q) x.1 y.1
 one-cutting (n ∷ slices) f a b (inl x) (inr y) = absurd (not_both (goes_in f n) x.0 y.0)
 one-cutting (n ∷ slices) f a b (inr x) (inl y) = absurd (not_both (goes_in f n) y.0 x.0)
 one-cutting (n ∷ slices) f a b (inr x) (inr y) =
-    let rest : x.1.0 ≡ y.1.0 = one-fill (λ last p q. one-cutting slices (filling_after f n last) p q) f.at (f.at + n) x.1.0 x.1.1.1 y.1.1.1 in
+    let rest : x.1.0 ≡ y.1.0 = one-fill (λ last p q. one-cutting slices (filling_after f n last) p q) x.1.1.1 y.1.1.1 in
     x.1.1.0 ∙ ap (λ (r : List ℕ). f.at ∷ r) rest ∙ sym y.1.1.0
 
 -- ---- the packets' ends
@@ -59,9 +59,9 @@ full_before-less start end less = omega arith
 pub full_before-within : (start end : ℕ) → start < end → end ≤ start + 1380 * full_before start end + 1380
 full_before-within start end less = omega arith
 
-slice-fills : {G : ℕ → List ℕ → Type 0} (unit : PictureUnit) (start end : ℕ) (rest : List Packet) → start < end → G (last_start start end) (ends rest)
+slice-fills : {G : ℕ → List ℕ → Type 0} {start end : ℕ} (unit : PictureUnit) (rest : List Packet) → start < end → G (last_start start end) (ends rest)
     → Fills G start end (ends (full_packets unit true start (full_before start end) ++ rest))
-slice-fills unit start end rest less goes_on = record {
+slice-fills {start} {end} unit rest less goes_on = record {
   full = full_before start end;
   rest = ends rest;
   before = full_before-less start end less;
@@ -70,12 +70,13 @@ slice-fills unit start end rest less goes_on = record {
   goes_on = goes_on;
 }
 
-slice-begins : (G : ℕ → List ℕ → Type 0) (unit : PictureUnit) (f : Filling) (end : ℕ) (goes : Bool) (rest : List Packet) → f.from < end → f.at < end
+slice-begins : {goes : Bool} (G : ℕ → List ℕ → Type 0) (unit : PictureUnit) (f : Filling) (end : ℕ)
+    (rest : List Packet) → f.from < end → f.at < end
     → G (last_start (start_of goes f) end) (ends rest)
     → Begins (λ start left. Fills G start end left) goes f.from f.at (ends ((before_slice goes unit f ++ full_packets unit true (start_of goes f) (full_before (start_of goes f) end)) ++ rest))
-slice-begins G unit f end true rest from at goes_on = inl (refl, slice-fills unit f.from end rest from goes_on)
-slice-begins G unit f end false rest from at goes_on =
-    inr (refl, (ends (full_packets unit true f.at (full_before f.at end) ++ rest), (refl, slice-fills {G = G} unit f.at end rest at goes_on)))
+slice-begins {goes = true} G unit f end rest from at goes_on = inl (refl, slice-fills unit rest from goes_on)
+slice-begins {goes = false} G unit f end rest from at goes_on =
+    inr (refl, (ends (full_packets unit true f.at (full_before f.at end) ++ rest), (refl, slice-fills unit rest at goes_on)))
 
 pub start-less : (f : Filling) (n : ℕ) (goes : Bool) → f.from ≤ f.at → 0 < n → start_of goes f < f.at + n
 start-less f n true order some = omega arith
@@ -89,5 +90,5 @@ pub packets-cut : (unit : PictureUnit) (slices : List ℕ) (f : Filling) → f.f
 packets-cut unit [] f order some = refl
 packets-cut unit (n ∷ slices) f order some =
     let next = next-order f n order some.0 in
-    slice-begins (λ last rest. Cuts (filling_after f n last) slices rest) unit f (f.at + n) (goes_in f n) (packets_from unit (next_filling f n) slices) (omega (arith, some.0)) (omega (arith, some.0))
+    slice-begins (λ last rest. Cuts (filling_after f n last) slices rest) unit f (f.at + n) (packets_from unit (next_filling f n) slices) (omega (arith, some.0)) (omega (arith, some.0))
     (packets-cut unit slices (next_filling f n) (omega (arith, next)) some.1)

@@ -78,8 +78,8 @@ pub record Slice (to : ℕ) (all : List ℕ) (at next : ℕ) : Type 0 where
   pub no_start : (x : ℕ) → at < x → x < next → is_among x all ≡ false
   pub no_end : (x : ℕ) → at < x → x < next → is_among x (ends_to to all) ≡ false
 
-slice-known : {to : ℕ} (all : List ℕ) (s : ℕ) (left : List ℕ) (at : ℕ) → Agrees to all at (s ∷ left) → AreInOrder at (s ∷ left) to → Slice to all at (next_place to left)
-slice-known {to} all s left at agrees order =
+slice-known : {to : ℕ} {all : List ℕ} {s : ℕ} {left : List ℕ} {at : ℕ} → Agrees to all at (s ∷ left) → AreInOrder at (s ∷ left) to → Slice to all at (next_place to left)
+slice-known {to} {all} {s} {left} {at} agrees order =
     let next = next_place to left in
     record {
       starts = agrees.starts at (omega arith) ∙ or-left (eqb at s) (is_among at left) (eq-eqb at s (sym order.0));
@@ -90,8 +90,8 @@ slice-known {to} all s left at agrees order =
           ∙ or-neither (eqb x next) (is_among x (ends_to to left)) (ne_eqb x next (λ e. absurd (omega (arith, e, below)))) (ends-below left next to x order.1.1 (omega (arith, below)));
     }
 
-agrees-next : {to : ℕ} (all : List ℕ) (s : ℕ) (left : List ℕ) (at : ℕ) → Agrees to all at (s ∷ left) → AreInOrder at (s ∷ left) to → Agrees to all (next_place to left) left
-agrees-next {to} all s left at agrees order =
+agrees-next : {to : ℕ} {all : List ℕ} {s : ℕ} {left : List ℕ} {at : ℕ} → Agrees to all at (s ∷ left) → AreInOrder at (s ∷ left) to → Agrees to all (next_place to left) left
+agrees-next {to} {all} {s} {left} {at} agrees order =
     let next = next_place to left in
     record {
       starts = λ x above. agrees.starts x (omega (arith, above, order.1.0)) ∙ or-rest (eqb x s) (is_among x left) (ne_eqb x s (λ e. absurd (omega (arith, e, order.0, order.1.0, above))));
@@ -118,15 +118,15 @@ closed-right unit all f right =
     ∙ ap (λ b. packet unit f.from f.at (begins unit all f.from f.at) b) (sym right.end)
 
 -- a piece that lies in a slice but for its first byte at most
-no-begin : (unit : PictureUnit) (all : List ℕ) (at next x to : ℕ) → Slice unit.to all at next → unit.from < at → at < x → x < next → begins unit all x to ≡ false
-no-begin unit all at next x to slice before above below =
+no-begin : {all : List ℕ} {at next : ℕ} (unit : PictureUnit) (x to : ℕ) → Slice unit.to all at next → unit.from < at → at < x → x < next → begins unit all x to ≡ false
+no-begin {all} {at} {next} unit x to slice before above below =
     or-neither (is_among x all) (eqb x unit.from && ltb unit.head_end to) (slice.no_start x above below) (and-first (eqb x unit.from) (ltb unit.head_end to) (ne_eqb x unit.from (λ e. absurd (omega (arith, e, before, above)))))
 
-full-pieces : {begin : Bool} (unit : PictureUnit) (all : List ℕ) (at next start count : ℕ) → Slice unit.to all at next → unit.from < at
+full-pieces : {all : List ℕ} {at next : ℕ} {begin : Bool} (unit : PictureUnit) (start count : ℕ) → Slice unit.to all at next → unit.from < at
     → (0 < count → begins unit all start (start + 1380) ≡ begin) → (0 < count → at < start + 1380) → start + 1380 * count < next
     → full_packets unit begin start count ≡ piece_packets unit all start (full_ends start count)
-full-pieces unit all at next start zero slice before first above below = refl
-full-pieces {begin} unit all at next start (suc count) slice before first above below =
+full-pieces {all} {at} {next} unit start zero slice before first above below = refl
+full-pieces {all} {at} {next} {begin} unit start (suc count) slice before first above below =
     let some : 0 < suc count = omega arith in
     let inside : start + 1380 < next = omega (arith, below) in
     let after : at < start + 1380 = above some in
@@ -135,7 +135,7 @@ full-pieces {begin} unit all at next start (suc count) slice before first above 
     ∙ ap (λ b. packet unit start (start + 1380) (begins unit all start (start + 1380)) b) (sym (slice.no_end (start + 1380) after inside)) in
     ap (λ (p : Packet). p ∷ full_packets unit false (start + 1380) count) one
     ∙ ap (λ (l : List Packet). piece_packet unit all start (start + 1380) ∷ l)
-    (full-pieces unit all at next (start + 1380) count slice before (λ _. no-begin unit all at next (start + 1380) (start + 1380 + 1380) slice before after inside) (λ _. omega (arith, after)) (omega (arith, below)))
+    (full-pieces unit (start + 1380) count slice before (λ _. no-begin unit (start + 1380) (start + 1380 + 1380) slice before after inside) (λ _. omega (arith, after)) (omega (arith, below)))
 
 abbrev pub last_cut : ℕ → List ℕ → ℕ
 last_cut from [] = from
@@ -159,26 +159,26 @@ full-rest {rest} unit all start count full is =
     ∙ sym (pieces-append unit all (full_ends start count) (ends rest) start)
     ∙ sym (ap (λ (l : List ℕ). piece_packets unit all start l) (ends-append (full_packets unit true start count) rest ∙ ap (λ (l : List ℕ). l ++ ends rest) (ends-full unit true start count)))
 
-slice-rest : {unit : PictureUnit} {f : Filling} {rest : List Packet} (all : List ℕ) (goes : Bool) (count : ℕ) → Right unit all f
+slice-rest : {unit : PictureUnit} {all : List ℕ} {f : Filling} {rest : List Packet} (goes : Bool) (count : ℕ) → Right unit all f
     → full_packets unit true (start_of goes f) count ≡ piece_packets unit all (start_of goes f) (full_ends (start_of goes f) count)
     → rest ≡ piece_packets unit all (start_of goes f + 1380 * count) (ends rest)
     → (before_slice goes unit f ++ full_packets unit true (start_of goes f) count) ++ rest ≡ piece_packets unit all f.from (ends ((before_slice goes unit f ++ full_packets unit true (start_of goes f) count) ++ rest))
-slice-rest {unit} {f} all true count right full is = full-rest unit all f.from count full is
-slice-rest {unit} {f} {rest} all false count right full is =
+slice-rest {unit} {all} {f} true count right full is = full-rest unit all f.from count full is
+slice-rest {unit} {all} {f} {rest} false count right full is =
     ap (λ (p : Packet). p ∷ (full_packets unit true f.at count ++ rest)) (closed-right unit all f right)
     ∙ ap (λ (l : List Packet). piece_packet unit all f.from f.at ∷ l) (full-rest unit all f.at count full is)
 
 -- ---- where a slice begins
 
 -- a piece that goes on with a slice begins with it, or with a slice before it, or with the head
-begins-here : (unit : PictureUnit) (all : List ℕ) (from at x : ℕ) (holds : Holds) → unit.head_end ≤ at → begins unit all from at ≡ begins_slice holds → (holds ≡ HeadAlone → (from ≡ unit.from) × (at ≡ unit.head_end))
+begins-here : {from at : ℕ} {holds : Holds} (unit : PictureUnit) (all : List ℕ) (x : ℕ) → unit.head_end ≤ at → begins unit all from at ≡ begins_slice holds → (holds ≡ HeadAlone → (from ≡ unit.from) × (at ≡ unit.head_end))
     → (holds ≢ LastFragment) → at < x → begins unit all from x ≡ true
-begins-here unit all from at x HeadAlone after begin alone other above =
+begins-here {from} {at} {holds = HeadAlone} unit all x after begin alone other above =
     or-right (is_among from all) (eqb from unit.from && ltb unit.head_end x)
     (and-both (eqb from unit.from) (ltb unit.head_end x) (eq-eqb from unit.from (alone refl).0) (lt-ltb unit.head_end x (omega (arith, after, above))))
-begins-here unit all from at x Slices after begin alone other above =
+begins-here {from} {at} {holds = Slices} unit all x after begin alone other above =
     later (is_among from all) (eqb from unit.from) (ltb unit.head_end at) (ltb unit.head_end x) begin (λ _. lt-ltb unit.head_end x (omega (arith, after, above)))
-begins-here unit all from at x LastFragment after begin alone other above = absurd (other refl)
+begins-here {from} {at} {holds = LastFragment} unit all x after begin alone other above = absurd (other refl)
 
 not-last : (from at n : ℕ) (holds : Holds) (short : Bool) → cond short (goes_in_whole from at holds n) (goes_in_cut from at holds) ≡ true → holds ≢ LastFragment
 not-last from at n HeadAlone short e is = cc
@@ -186,10 +186,10 @@ not-last from at n Slices short e is = cc
 not-last from at n LastFragment true e is = true≢false (sym e)
 not-last from at n LastFragment false e is = true≢false (sym e)
 
-begins-start : {unit : PictureUnit} {f : Filling} (all : List ℕ) (n x : ℕ) (goes : Bool) → Right unit all f → is_among f.at all ≡ true → goes_in f n ≡ goes → f.at < x → begins unit all (start_of goes f) x ≡ true
-begins-start {unit} {f} all n x true right here e above =
-    begins-here unit all f.from f.at x f.holds right.after right.begin right.alone (not-last f.from f.at n f.holds (leb n 1380) e) above
-begins-start {unit} {f} all n x false right here e above = or-left (is_among f.at all) (eqb f.at unit.from && ltb unit.head_end x) here
+begins-start : {unit : PictureUnit} {all : List ℕ} {f : Filling} {goes : Bool} (n x : ℕ) → Right unit all f → is_among f.at all ≡ true → goes_in f n ≡ goes → f.at < x → begins unit all (start_of goes f) x ≡ true
+begins-start {unit} {all} {f} {goes = true} n x right here e above =
+    begins-here unit all x right.after right.begin right.alone (not-last f.from f.at n f.holds (leb n 1380) e) above
+begins-start {unit} {all} {f} {goes = false} n x right here e above = or-left (is_among f.at all) (eqb f.at unit.from && ltb unit.head_end x) here
 
 room-whole : (from at n count : ℕ) (holds : Holds) → goes_in_whole from at holds n ≡ true → from + 1380 * count < at + n → 0 < count → at < from + 1380
 room-whole from at n count HeadAlone e before some = absurd (omega (arith, leb-true (at + n) (from + 1380) e, before, some))
@@ -205,34 +205,34 @@ room-here : (from at n count : ℕ) (holds : Holds) (short : Bool) → cond shor
 room-here from at n count holds true e before some = room-whole from at n count holds e before some
 room-here from at n count holds false e before some = room-cut from at holds e
 
-pub start-room : (f : Filling) (n count : ℕ) (goes : Bool) → goes_in f n ≡ goes → start_of goes f + 1380 * count < f.at + n → 0 < count → f.at < start_of goes f + 1380
-start-room f n count true e before some = room-here f.from f.at n count f.holds (leb n 1380) e before some
-start-room f n count false e before some = omega arith
+pub start-room : {goes : Bool} (f : Filling) (n count : ℕ) → goes_in f n ≡ goes → start_of goes f + 1380 * count < f.at + n → 0 < count → f.at < start_of goes f + 1380
+start-room {goes = true} f n count e before some = room-here f.from f.at n count f.holds (leb n 1380) e before some
+start-room {goes = false} f n count e before some = omega arith
 
 -- ---- one slice, and all
 
 -- a short slice fills no piece, a longer one some
-pub none-full : {count : ℕ} (f : Filling) (n : ℕ) (goes : Bool) → leb n 1380 ≡ true → goes_in f n ≡ goes → start_of goes f + 1380 * count < f.at + n → count ≡ 0
-none-full f n true short e before =
+pub none-full : {count : ℕ} {goes : Bool} (f : Filling) (n : ℕ) → leb n 1380 ≡ true → goes_in f n ≡ goes → start_of goes f + 1380 * count < f.at + n → count ≡ 0
+none-full {goes = true} f n short e before =
     let fits = whole-fits f.from f.at n f.holds (sym (ap (λ b. cond b (goes_in_whole f.from f.at f.holds n) (goes_in_cut f.from f.at f.holds)) short) ∙ e) in
     omega (arith, fits, before)
-none-full f n false short e before = omega (arith, leb-true n 1380 short, before)
+none-full {goes = false} f n short e before = omega (arith, leb-true n 1380 short, before)
 
 some-full : (f : Filling) (n count : ℕ) (goes : Bool) → f.from ≤ f.at → leb n 1380 ≡ false → f.at + n ≤ start_of goes f + 1380 * count + 1380 → 0 < count
 some-full f n count true order long within = omega (arith, order, leb-false n 1380 long, within)
 some-full f n count false order long within = omega (arith, leb-false n 1380 long, within)
 
-next-begin : {unit : PictureUnit} {f : Filling} {goes : Bool} (all : List ℕ) (n count : ℕ) (short : Bool) → Right unit all f → Slice unit.to all f.at (f.at + n) → 0 < n → leb n 1380 ≡ short → goes_in f n ≡ goes
+next-begin : {unit : PictureUnit} {all : List ℕ} {f : Filling} {goes short : Bool} (n count : ℕ) → Right unit all f → Slice unit.to all f.at (f.at + n) → 0 < n → leb n 1380 ≡ short → goes_in f n ≡ goes
     → start_of goes f + 1380 * count < f.at + n → f.at + n ≤ start_of goes f + 1380 * count + 1380
     → begins unit all (start_of goes f + 1380 * count) (f.at + n) ≡ begins_slice (cond short Slices LastFragment)
-next-begin {unit} {f} {goes} all n count true right slice some is e before within =
-    let none : count ≡ 0 = none-full f n goes is e before in
+next-begin {unit} {all} {f} {goes} {short = true} n count right slice some is e before within =
+    let none : count ≡ 0 = none-full f n is e before in
     let start : start_of goes f + 1380 * count ≡ start_of goes f = omega (arith, none) in
-    ap (λ s. begins unit all s (f.at + n)) start ∙ begins-start all n (f.at + n) goes right slice.starts e (omega (arith, some))
-next-begin {unit} {f} {goes} all n count false right slice some is e before within =
+    ap (λ s. begins unit all s (f.at + n)) start ∙ begins-start n (f.at + n) right slice.starts e (omega (arith, some))
+next-begin {unit} {all} {f} {goes} {short = false} n count right slice some is e before within =
     let full : 0 < count = some-full f n count goes right.order is within in
-    let room = start-room f n count goes e before full in
-    no-begin unit all f.at (f.at + n) (start_of goes f + 1380 * count) (f.at + n) slice (omega (arith, right.first, right.after)) (omega (arith, room, full)) before
+    let room = start-room f n count e before full in
+    no-begin unit (start_of goes f + 1380 * count) (f.at + n) slice (omega (arith, right.first, right.after)) (omega (arith, room, full)) before
 
 held-ends : (short : Bool) → true ≡ ends_slice (cond short Slices LastFragment)
 held-ends true = refl
@@ -242,8 +242,8 @@ held-not_alone : (short : Bool) → cond short Slices LastFragment ≡ HeadAlone
 held-not_alone true e = cc
 held-not_alone false e = cc
 
-next-right : {unit : PictureUnit} {f : Filling} (all : List ℕ) (n : ℕ) → Right unit all f → Slice unit.to all f.at (f.at + n) → 0 < n → Right unit all (next_filling f n)
-next-right {f} all n right slice some =
+next-right : {unit : PictureUnit} {all : List ℕ} {f : Filling} (n : ℕ) → Right unit all f → Slice unit.to all f.at (f.at + n) → 0 < n → Right unit all (next_filling f n)
+next-right {all} {f} n right slice some =
     let goes = goes_in f n in
     let start = start_of goes f in
     let less = start-less f n goes right.order some in
@@ -251,31 +251,31 @@ next-right {f} all n right slice some =
     record {
       first = right.first;
       after = omega (arith, right.after);
-      begin = next-begin all n (full_before start (f.at + n)) (leb n 1380) right slice some refl refl before (full_before-within start (f.at + n) less);
+      begin = next-begin n (full_before start (f.at + n)) right slice some refl refl before (full_before-within start (f.at + n) less);
       end = slice.ends ∙ held-ends (leb n 1380);
       alone = λ e. absurd (held-not_alone (leb n 1380) e);
       order = omega (arith, before);
     }
 
-pub flags : {unit : PictureUnit} {f : Filling} (all left : List ℕ) → Right unit all f → Agrees unit.to all f.at left → AreInOrder f.at left unit.to
+pub flags : {unit : PictureUnit} {all left : List ℕ} {f : Filling} → Right unit all f → Agrees unit.to all f.at left → AreInOrder f.at left unit.to
     → packets_from unit f (lengths_to unit.to left) ≡ piece_packets unit all f.from (ends (packets_from unit f (lengths_to unit.to left)))
-flags {unit} {f} all [] right agrees order = ap (λ (p : Packet). p ∷ []) (closed-right unit all f right)
-flags {unit} {f} all (s ∷ left) right agrees order =
+flags {unit} {all} {left = []} {f} right agrees order = ap (λ (p : Packet). p ∷ []) (closed-right unit all f right)
+flags {unit} {all} {left = s ∷ left} {f} right agrees order =
     let next = next_place unit.to left in
     let n = next - s in
     let end : f.at + n ≡ next = omega (arith, order.0, order.1.0) in
     let some : 0 < n = omega (arith, order.0, order.1.0) in
-    let known : Slice unit.to all f.at (f.at + n) = subst (λ e. Slice unit.to all f.at e) (sym end) (slice-known all s left f.at agrees order) in
-    let after : Agrees unit.to all (f.at + n) left = subst (λ e. Agrees unit.to all e left) (sym end) (agrees-next all s left f.at agrees order) in
+    let known : Slice unit.to all f.at (f.at + n) = subst (λ e. Slice unit.to all f.at e) (sym end) (slice-known agrees order) in
+    let after : Agrees unit.to all (f.at + n) left = subst (λ e. Agrees unit.to all e left) (sym end) (agrees-next agrees order) in
     let ordered : AreInOrder (f.at + n) left unit.to = subst (λ e. AreInOrder e left unit.to) (sym end) order.1.1 in
     let goes = goes_in f n in
     let start = start_of goes f in
     let before = full_before-less start (f.at + n) (start-less f n goes right.order some) in
-    let full = full-pieces unit all f.at (f.at + n) start (full_before start (f.at + n)) known (omega (arith, right.first, right.after))
-    (λ more. begins-start all n (start + 1380) goes right known.starts refl (start-room f n (full_before start (f.at + n)) goes refl before more))
-    (λ more. start-room f n (full_before start (f.at + n)) goes refl before more) before in
-    slice-rest all goes (full_before start (f.at + n)) right full
-    (flags {unit = unit} {f = next_filling f n} all left (next-right {unit = unit} {f = f} all n right known some) after ordered)
+    let full = full-pieces unit start (full_before start (f.at + n)) known (omega (arith, right.first, right.after))
+    (λ more. begins-start n (start + 1380) right known.starts refl (start-room f n (full_before start (f.at + n)) refl before more))
+    (λ more. start-room f n (full_before start (f.at + n)) refl before more) before in
+    slice-rest goes (full_before start (f.at + n)) right full
+    (flags {unit = unit} {all = all} {left = left} {f = next_filling f n} (next-right {unit = unit} {all = all} {f = f} n right known some) after ordered)
 
 -- the first piece
 pub first-right : (unit : PictureUnit) (all : List ℕ) → unit.from < unit.head_end → AreInOrder unit.head_end all unit.to → Right unit all (first_piece unit.from unit.head_end)

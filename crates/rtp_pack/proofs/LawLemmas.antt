@@ -66,7 +66,7 @@ cuts-from [] f cuts order e = let P : List ℕ → Type 0 = λ l. AreFrom f.at l
 cuts-from (n ∷ slices) f cuts order (inl x) =
     let rest = cuts-from slices (filling_after f n (f.from + 1380 * x.1.full)) x.1.rest (omega (arith, x.1.before)) x.1.goes_on in
     let P : List ℕ → Type 0 = λ l. AreFrom f.at l in
-    subst P (sym x.1.filled) (from-full f.at f.from x.1.full x.1.rest (λ some. omega (arith, start-room f n x.1.full true x.0 x.1.before some)) (from-more f.at (f.at + n) x.1.rest (omega arith) rest))
+    subst P (sym x.1.filled) (from-full f.at f.from x.1.full x.1.rest (λ some. omega (arith, start-room f n x.1.full x.0 x.1.before some)) (from-more f.at (f.at + n) x.1.rest (omega arith) rest))
 cuts-from (n ∷ slices) f cuts order (inr x) =
     let fills = x.1.1.1 in
     let rest = cuts-from slices (filling_after f n (f.at + 1380 * fills.full)) fills.rest (omega (arith, fills.before)) fills.goes_on in
@@ -81,14 +81,14 @@ short-more : (slices : List ℕ) (at cut : ℕ) (cuts : List ℕ) → cut ≤ at
 short-more [] at cut cuts less uncut = tt
 short-more (n ∷ slices) at cut cuts less uncut = (λ short. (inl less, uncut.0 short), short-more slices (at + n) cut cuts (omega (arith, less)) uncut.1)
 
-short-full : (slices : List ℕ) (at start count : ℕ) (cuts : List ℕ) → start + 1380 * count ≤ at → AreShortUncut at slices cuts → AreShortUncut at slices (full_ends start count ++ cuts)
-short-full slices at start zero cuts less uncut = uncut
-short-full slices at start (suc count) cuts less uncut = short-more slices at (start + 1380) (full_ends (start + 1380) count ++ cuts) (omega (arith, less)) (short-full slices at (start + 1380) count cuts (omega (arith, less)) uncut)
+short-full : {at : ℕ} (slices : List ℕ) (start count : ℕ) (cuts : List ℕ) → start + 1380 * count ≤ at → AreShortUncut at slices cuts → AreShortUncut at slices (full_ends start count ++ cuts)
+short-full {at} slices start zero cuts less uncut = uncut
+short-full {at} slices start (suc count) cuts less uncut = short-more slices at (start + 1380) (full_ends (start + 1380) count ++ cuts) (omega (arith, less)) (short-full slices (start + 1380) count cuts (omega (arith, less)) uncut)
 
 -- a short slice ends in the piece in which it begins
 short-rest : {goes : Bool} (f : Filling) (n count : ℕ) (rest : List ℕ) → goes_in f n ≡ goes → start_of goes f + 1380 * count < f.at + n → AreFrom (f.at + n) rest → n ≤ 1380 → IsUncut f.at (f.at + n) (full_ends (start_of goes f) count ++ rest)
 short-rest {goes} f n count rest e before after short =
-    let none : count ≡ 0 = none-full f n goes (le-leb n 1380 short) e before in
+    let none : count ≡ 0 = none-full f n (le-leb n 1380 short) e before in
     let P : ℕ → Type 0 = λ k. IsUncut f.at (f.at + n) (full_ends (start_of goes f) k ++ rest) in
     subst P (sym none) (uncut-from f.at (f.at + n) rest after)
 
@@ -99,7 +99,7 @@ short-uncut (n ∷ slices) f cuts order (inl x) =
     let rest = short-uncut slices g x.1.rest (omega (arith, x.1.before)) x.1.goes_on in
     let after = cuts-from slices g x.1.rest (omega (arith, x.1.before)) x.1.goes_on in
     let P : List ℕ → Type 0 = λ l. AreShortUncut f.at (n ∷ slices) l in
-    subst P (sym x.1.filled) (λ short. short-rest f n x.1.full x.1.rest x.0 x.1.before after short, short-full slices (f.at + n) f.from x.1.full x.1.rest (omega (arith, x.1.before)) rest)
+    subst P (sym x.1.filled) (λ short. short-rest f n x.1.full x.1.rest x.0 x.1.before after short, short-full slices f.from x.1.full x.1.rest (omega (arith, x.1.before)) rest)
 short-uncut (n ∷ slices) f cuts order (inr x) =
     let fills = x.1.1.1 in
     let g = filling_after f n (f.at + 1380 * fills.full) in
@@ -109,7 +109,7 @@ short-uncut (n ∷ slices) f cuts order (inr x) =
     let Q : List ℕ → Type 0 = λ l. AreShortUncut f.at (n ∷ slices) (f.at ∷ l) in
     subst P (sym x.1.1.0) (subst Q (sym fills.filled) (
       λ short. (inl (omega arith), short-rest f n fills.full fills.rest x.0 fills.before after short),
-      short-more slices (f.at + n) f.at (full_ends f.at fills.full ++ fills.rest) (omega arith) (short-full slices (f.at + n) f.at fills.full fills.rest (omega (arith, fills.before)) rest),
+      short-more slices (f.at + n) f.at (full_ends f.at fills.full ++ fills.rest) (omega arith) (short-full slices f.at fills.full fills.rest (omega (arith, fills.before)) rest),
     ))
 
 -- ---- the last fragment ends its piece

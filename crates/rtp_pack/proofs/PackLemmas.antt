@@ -50,11 +50,11 @@ pub record Put (unit : PictureUnit) (starts : List ℕ) (i : ℕ) (next : Fillin
   pub in_order : AreInOrder next.at (drop (i + 1) starts) unit.to
   pub packets : out ++ packets_from unit next (lengths_to unit.to (drop (i + 1) starts)) ≡ whole
 
-pub put-slice : {unit : PictureUnit} {i : ℕ} (starts : List ℕ) (f next : Filling) (end : ℕ)
-    (before out whole : List Packet) → i < length starts → AreInOrder f.at (drop i starts) unit.to
+pub put-slice : {unit : PictureUnit} {starts : List ℕ} {i : ℕ} {next : Filling} {end : ℕ} {out whole : List Packet}
+    (f : Filling) (before : List Packet) → i < length starts → AreInOrder f.at (drop i starts) unit.to
     → end ≡ next_place unit.to (drop (i + 1) starts) → next ≡ next_filling f (end - f.at) → out ≡ before ++ slice_packets unit f (end - f.at)
     → before ++ packets_from unit f (lengths_to unit.to (drop i starts)) ≡ whole → Put unit starts i next out whole
-put-slice {unit} {i} starts f next end before out whole less order at_end at_next more is =
+put-slice {unit} {starts} {i} {next} {end} {out} {whole} f before less order at_end at_next more is =
     let here = at-slice unit.to starts i f.at less order in
     let ends : next.at ≡ f.at + (end - f.at) = ap (λ (g : Filling). g.at) at_next in
     let there : next_place unit.to (drop (i + 1) starts) ≡ next.at = omega (arith, here.least, at_end, ends) in
@@ -69,7 +69,8 @@ put-slice {unit} {i} starts f next end before out whole less order at_end at_nex
     }
 
 -- after the last slice the piece in hand is the last packet
-pub put-last : (unit : PictureUnit) (starts : List ℕ) (i : ℕ) (f : Filling) (before out whole : List Packet) → length starts ≤ i → out ≡ before ++ filling_packet unit f ∷ []
+pub put-last : {out whole : List Packet} (unit : PictureUnit) (starts : List ℕ) (i : ℕ) (f : Filling)
+    (before : List Packet) → length starts ≤ i → out ≡ before ++ filling_packet unit f ∷ []
     → before ++ packets_from unit f (lengths_to unit.to (drop i starts)) ≡ whole → out ≡ whole
-put-last unit starts i f before out whole past is all =
+put-last {out} {whole} unit starts i f before past is all =
     is ∙ ap (λ (l : List ℕ). before ++ packets_from unit f (lengths_to unit.to l)) (sym (drop_of_length-le starts past)) ∙ all

@@ -33,11 +33,11 @@ abbrev Reasons : (ℕ → Type 0) → (ℕ → ℕ → Type 0) → (ℕ → ℕ 
 Reasons Must Fits May =
     (start cut : ℕ) → May start cut → (cut ≡ start + 1380) ⊎ (Must cut ⊎ ((length : ℕ) × (Fits cut length × (start + 1380 < cut + length))))
 
-pieces-rise : (start end first : ℕ) (cuts : List ℕ) → ArePieces start cuts end → first < start → is_among first cuts ≡ true → ⊥
-pieces-rise start end first [] pieces less e = cc
-pieces-rise start end first (cut ∷ cuts) pieces less e =
+pieces-rise : {start : ℕ} (end first : ℕ) (cuts : List ℕ) → ArePieces start cuts end → first < start → is_among first cuts ≡ true → ⊥
+pieces-rise {start} end first [] pieces less e = cc
+pieces-rise {start} end first (cut ∷ cuts) pieces less e =
     let other : eqb first cut ≡ false = ne_eqb first cut (λ is. absurd (omega (arith, is, pieces.0, less))) in
-    pieces-rise cut end first cuts pieces.1.1 (omega (arith, less, pieces.0)) (sym (ap (λ b. b || is_among first cuts) other) ∙ e)
+    pieces-rise {start = cut} end first cuts pieces.1.1 (omega (arith, less, pieces.0)) (sym (ap (λ b. b || is_among first cuts) other) ∙ e)
 
 pieces-end : (start end : ℕ) (cuts : List ℕ) → ArePieces start cuts end → start ≤ end
 pieces-end start end [] pieces = omega (arith, pieces)
@@ -52,8 +52,8 @@ ends-next : (May : ℕ → ℕ → Type 0) (start cut : ℕ) (cuts : List ℕ) �
 ends-next May start cut [] ends_ = tt
 ends-next May start cut (next ∷ cuts) ends_ = ends_.1
 
-rest-next : {Must : ℕ → Type 0} {cuts : List ℕ} (Fits May : ℕ → ℕ → Type 0) (start end cut : ℕ) → Rest Must Fits May start end (cut ∷ cuts) → Rest Must Fits May cut end cuts
-rest-next {cuts} Fits May start end cut rest = record {
+rest-next : {Must : ℕ → Type 0} {Fits May : ℕ → ℕ → Type 0} {start end cut : ℕ} {cuts : List ℕ} → Rest Must Fits May start end (cut ∷ cuts) → Rest Must Fits May cut end cuts
+rest-next {Fits} {May} {start} {end} {cut} {cuts} rest = record {
   pieces = rest.pieces.1.1;
   short = λ place length fits. (rest.short place length fits).1;
   must = λ place after is. among-rest place cut cuts after (rest.must place (omega (arith, after, rest.pieces.0)) is);
@@ -65,30 +65,30 @@ cut-inside c d length (inl low) less inside = omega (arith, low, less)
 cut-inside c d length (inr high) less inside = omega (arith, high, inside)
 
 -- a cut of one list is no place that the other passes over
-passed-by : {Must : ℕ → Type 0} {d : ℕ} {bs : List ℕ} (Fits May : ℕ → ℕ → Type 0) (start end c : ℕ) → Rest Must Fits May start end (d ∷ bs) → start < c → c < d → (c ≡ start + 1380) ⊎ (Must c ⊎ ((length : ℕ) × (Fits c length × (start + 1380 < c + length)))) → ⊥
-passed-by Fits May start end c b some less (inl full) = omega (arith, full, less, b.pieces.1.0)
-passed-by {d} {bs} Fits May start end c b some less (inr (inl must)) =
+passed-by : {Must : ℕ → Type 0} {Fits May : ℕ → ℕ → Type 0} {start end c d : ℕ} {bs : List ℕ} → Rest Must Fits May start end (d ∷ bs) → start < c → c < d → (c ≡ start + 1380) ⊎ (Must c ⊎ ((length : ℕ) × (Fits c length × (start + 1380 < c + length)))) → ⊥
+passed-by {Fits} {May} {start} {end} {c} b some less (inl full) = omega (arith, full, less, b.pieces.1.0)
+passed-by {Fits} {May} {start} {end} {c} {d} {bs} b some less (inr (inl must)) =
     let there = b.must c some must in
     let other : eqb c d ≡ false = ne_eqb c d (λ is. absurd (omega (arith, is, less))) in
-    pieces-rise d end c bs b.pieces.1.1 less (sym (ap (λ e. e || is_among c bs) other) ∙ there)
-passed-by {d} Fits May start end c b some less (inr (inr fit)) =
+    pieces-rise end c bs b.pieces.1.1 less (sym (ap (λ e. e || is_among c bs) other) ∙ there)
+passed-by {Fits} {May} {start} {end} {c} {d} b some less (inr (inr fit)) =
     cut-inside c d fit.0 (b.short c fit.0 fit.1.0).0 less (omega (arith, fit.1.1, b.pieces.1.0))
 
-passed : {Must : ℕ → Type 0} {d : ℕ} {bs : List ℕ} (Fits May : ℕ → ℕ → Type 0) (start end c : ℕ) (cs : List ℕ) → Reasons Must Fits May → Rest Must Fits May start end (c ∷ cs) → Rest Must Fits May start end (d ∷ bs) → c < d → ⊥
-passed {d} {bs} Fits May start end c [] reasons a b less = omega (arith, a.pieces.1.1, less, pieces-end d end bs b.pieces.1.1)
-passed Fits May start end c (next ∷ cs) reasons a b less =
-    passed-by Fits May start end c b (omega (arith, a.pieces.0)) less (reasons start c a.ends.0)
+passed : {Must : ℕ → Type 0} {Fits May : ℕ → ℕ → Type 0} {start end c d : ℕ} {cs bs : List ℕ} → Reasons Must Fits May → Rest Must Fits May start end (c ∷ cs) → Rest Must Fits May start end (d ∷ bs) → c < d → ⊥
+passed {Fits} {May} {start} {end} {c} {d} {cs = []} {bs} reasons a b less = omega (arith, a.pieces.1.1, less, pieces-end d end bs b.pieces.1.1)
+passed {Must} {Fits} {May} {start} {end} {c} {cs = next ∷ cs} reasons a b less =
+    passed-by b (omega (arith, a.pieces.0)) less (reasons start c a.ends.0)
 
-one-rest : {Must : ℕ → Type 0} (Fits May : ℕ → ℕ → Type 0) (start end : ℕ) (cs bs : List ℕ) → Reasons Must Fits May → Rest Must Fits May start end cs → Rest Must Fits May start end bs → cs ≡ bs
-one-rest Fits May start end [] [] reasons a b = refl
-one-rest Fits May start end [] (d ∷ bs) reasons a b = absurd (omega (arith, a.pieces, b.pieces.0, pieces-end d end bs b.pieces.1.1))
-one-rest Fits May start end (c ∷ cs) [] reasons a b = absurd (omega (arith, b.pieces, a.pieces.0, pieces-end c end cs a.pieces.1.1))
-one-rest {Must} Fits May start end (c ∷ cs) (d ∷ bs) reasons a b = elim (cases_order c d) [
+one-rest : {Must : ℕ → Type 0} {Fits May : ℕ → ℕ → Type 0} {start end : ℕ} {cs bs : List ℕ} → Reasons Must Fits May → Rest Must Fits May start end cs → Rest Must Fits May start end bs → cs ≡ bs
+one-rest {Fits} {May} {start} {end} {cs = []} {bs = []} reasons a b = refl
+one-rest {Fits} {May} {start} {end} {cs = []} {bs = d ∷ bs} reasons a b = absurd (omega (arith, a.pieces, b.pieces.0, pieces-end d end bs b.pieces.1.1))
+one-rest {Fits} {May} {start} {end} {cs = c ∷ cs} {bs = []} reasons a b = absurd (omega (arith, b.pieces, a.pieces.0, pieces-end c end cs a.pieces.1.1))
+one-rest {Must} {Fits} {May} {start} {end} {cs = c ∷ cs} {bs = d ∷ bs} reasons a b = elim (cases_order c d) [
   | inl same ↦ (let P : ℕ → Type 0 = λ s. Rest Must Fits May s end bs in
-      let rest = one-rest Fits May c end cs bs reasons (rest-next Fits May start end c a) (subst P (sym same) (rest-next Fits May start end d b)) in
+      let rest = one-rest reasons (rest-next a) (subst P (sym same) (rest-next b)) in
       ap (λ n. n ∷ cs) same ∙ ap (λ (l : List ℕ). d ∷ l) rest)
-  | inr (inl less) ↦ absurd (passed Fits May start end c cs reasons a b less)
-  | inr (inr more) ↦ absurd (passed Fits May start end d bs reasons b a more)
+  | inr (inl less) ↦ absurd (passed reasons a b less)
+  | inr (inr more) ↦ absurd (passed reasons b a more)
 ]
 
 -- a slice that is short
@@ -110,7 +110,7 @@ the-rest from head_end slices cuts meets = record {
 
 pub one-meets : (from head_end : ℕ) (slices one other : List ℕ) → MeetsRules from head_end slices one → MeetsRules from head_end slices other → one ≡ other
 one-meets from head_end slices one other a b =
-    one-rest (Short head_end slices) (MayEnd from head_end slices) from (head_end + sum slices) one other (the-reasons from head_end slices) (the-rest from head_end slices one a) (the-rest from head_end slices other b)
+    one-rest (the-reasons from head_end slices) (the-rest from head_end slices one a) (the-rest from head_end slices other b)
 
 -- ---- the packer's list meets them
 
@@ -123,13 +123,13 @@ slice-after [] at place length is = absurd is
 slice-after (n ∷ slices) at place length (inl here) = omega (arith, here.0)
 slice-after (n ∷ slices) at place length (inr later) = omega (arith, slice-after slices (at + n) place length later)
 
-short-at : (slices : List ℕ) (at : ℕ) (cuts : List ℕ) → AreShortUncut at slices cuts → (place length : ℕ) → SliceAt at slices place length → length ≤ 1380 → IsUncut place (place + length) cuts
-short-at [] at cuts uncut place length is short = absurd is
-short-at (n ∷ slices) at cuts uncut place length (inl here) short =
+short-at : (slices : List ℕ) (at : ℕ) (cuts : List ℕ) → AreShortUncut at slices cuts → (place : ℕ) {length : ℕ} → SliceAt at slices place length → length ≤ 1380 → IsUncut place (place + length) cuts
+short-at [] at cuts uncut place is short = absurd is
+short-at (n ∷ slices) at cuts uncut place {length} (inl here) short =
     let P : ℕ → Type 0 = λ p. IsUncut p (p + length) cuts in
     let Q : ℕ → Type 0 = λ m. IsUncut at (at + m) cuts in
     subst P here.0 (subst Q here.1 (uncut.0 (omega (arith, here.1, short))))
-short-at (n ∷ slices) at cuts uncut place length (inr later) short = short-at slices (at + n) cuts uncut.1 place length later short
+short-at (n ∷ slices) at cuts uncut place {length} (inr later) short = short-at slices (at + n) cuts uncut.1 place {length = length} later short
 
 leb-not : (n : ℕ) → 1380 < n → leb n 1380 ≡ false
 leb-not n long = lt-leb n 1380 long
@@ -150,29 +150,29 @@ first-there : (place at : ℕ) (cuts : List ℕ) → at ≡ place → is_among p
 first-there place at cuts here = ap (λ b. b || is_among place cuts) (eq-eqb place at (sym here))
 
 -- a long slice begins with a piece where it doesn't go in
-begin-cut : (slices : List ℕ) (f : Filling) (cuts : List ℕ) → Cuts f slices cuts → (place length : ℕ) → SliceAt f.at slices place length → 1380 < length → (place ≡ f.at → goes_in f length ≡ false) → is_among place cuts ≡ true
-begin-cut [] f cuts e place length is long goes = absurd is
-begin-cut (n ∷ slices) f cuts (inl x) place length (inl here) long goes =
+begin-cut : (slices : List ℕ) (f : Filling) (cuts : List ℕ) → Cuts f slices cuts → {place length : ℕ} → SliceAt f.at slices place length → 1380 < length → (place ≡ f.at → goes_in f length ≡ false) → is_among place cuts ≡ true
+begin-cut [] f cuts e {place} is long goes = absurd is
+begin-cut (n ∷ slices) f cuts (inl x) {place} (inl here) long goes =
     absurd (not_both (goes_in f n) x.0 (ap (λ m. goes_in f m) here.1 ∙ goes (sym here.0)))
-begin-cut (n ∷ slices) f cuts (inl x) place length (inr later) long goes =
+begin-cut (n ∷ slices) f cuts (inl x) {place} {length} (inr later) long goes =
     let g = filling_after f n (f.from + 1380 * x.1.full) in
-    ap (λ (l : List ℕ). is_among place l) x.1.filled ∙ among-full place f.from x.1.full x.1.rest (begin-cut slices g x.1.rest x.1.goes_on place length later long (λ _. long-not g length long (held-is n)))
-begin-cut (n ∷ slices) f cuts (inr x) place length (inl here) long goes =
+    ap (λ (l : List ℕ). is_among place l) x.1.filled ∙ among-full place f.from x.1.full x.1.rest (begin-cut slices g x.1.rest x.1.goes_on {place = place} {length = length} later long (λ _. long-not g length long (held-is n)))
+begin-cut (n ∷ slices) f cuts (inr x) {place} (inl here) long goes =
     ap (λ (l : List ℕ). is_among place l) x.1.1.0 ∙ first-there place f.at x.1.0 here.0
-begin-cut (n ∷ slices) f cuts (inr x) place length (inr later) long goes =
+begin-cut (n ∷ slices) f cuts (inr x) {place} {length} (inr later) long goes =
     let fills = x.1.1.1 in
     let g = filling_after f n (f.at + 1380 * fills.full) in
     ap (λ (l : List ℕ). is_among place l) x.1.1.0
-    ∙ or-right (eqb place f.at) (is_among place x.1.0) (ap (λ (l : List ℕ). is_among place l) fills.filled ∙ among-full place f.at fills.full fills.rest (begin-cut slices g fills.rest fills.goes_on place length later long (λ _. long-not g length long (held-is n))))
+    ∙ or-right (eqb place f.at) (is_among place x.1.0) (ap (λ (l : List ℕ). is_among place l) fills.filled ∙ among-full place f.at fills.full fills.rest (begin-cut slices g fills.rest fills.goes_on later long (λ _. long-not g length long (held-is n))))
 
-end-by : (slices : List ℕ) (at : ℕ) (cuts : List ℕ) → DoLongEndPieces at slices cuts → (start length : ℕ) → SliceAt at slices start length → 1380 < length → is_among (start + length) cuts ≡ true
-end-by [] at cuts ends_ start length is long = absurd is
-end-by (n ∷ slices) at cuts ends_ start length (inl here) long = ap (λ p. is_among p cuts) (omega (arith, here.0, here.1)) ∙ ends_.0 (omega (arith, here.1, long))
-end-by (n ∷ slices) at cuts ends_ start length (inr later) long = end-by slices (at + n) cuts ends_.1 start length later long
+end-by : (slices : List ℕ) (at : ℕ) (cuts : List ℕ) → DoLongEndPieces at slices cuts → (start : ℕ) {length : ℕ} → SliceAt at slices start length → 1380 < length → is_among (start + length) cuts ≡ true
+end-by [] at cuts ends_ start is long = absurd is
+end-by (n ∷ slices) at cuts ends_ start (inl here) long = ap (λ p. is_among p cuts) (omega (arith, here.0, here.1)) ∙ ends_.0 (omega (arith, here.1, long))
+end-by (n ∷ slices) at cuts ends_ start {length} (inr later) long = end-by slices (at + n) cuts ends_.1 start {length = length} later long
 
 -- a long slice ends with a piece
-end-cut : (slices : List ℕ) (f : Filling) (cuts : List ℕ) → Cuts f slices cuts → (start length : ℕ) → SliceAt f.at slices start length → 1380 < length → is_among (start + length) cuts ≡ true
-end-cut slices f cuts cutting start length is long = end-by slices f.at cuts (long-ends slices f cuts cutting) start length is long
+end-cut : (slices : List ℕ) (f : Filling) (cuts : List ℕ) → Cuts f slices cuts → (start : ℕ) {length : ℕ} → SliceAt f.at slices start length → 1380 < length → is_among (start + length) cuts ≡ true
+end-cut slices f cuts cutting start is long = end-by slices f.at cuts (long-ends slices f cuts cutting) start is long
 
 -- each piece ends where it may
 record Reads (Must : ℕ → Type 0) (Begins : ℕ → ℕ → Type 0) (f : Filling) (slices : List ℕ) : Type 0 where
@@ -194,15 +194,15 @@ full-may Must Begins start (suc count) rest may =
     may-cons (MayBy Must Begins) start (start + 1380) (full_ends (start + 1380) count ++ rest) (inl refl) (full-may Must Begins (start + 1380) count rest (subst (λ s. MayAllEnd (MayBy Must Begins) s rest) (omega arith) may))
 
 -- why a slice doesn't go in
-why-short : {n : ℕ} (Must : ℕ → Type 0) (Begins : ℕ → ℕ → Type 0) (from at : ℕ) (holds : Holds) → n ≤ 1380 → Begins at n → (holds ≡ LastFragment → Must at) → goes_in_whole from at holds n ≡ false → MayBy Must Begins from at
-why-short {n} Must Begins from at HeadAlone short begins last goes = inr (inr (n, (begins, (short, leb-false (at + n) (from + 1380) goes))))
-why-short {n} Must Begins from at Slices short begins last goes = inr (inr (n, (begins, (short, leb-false (at + n) (from + 1380) goes))))
-why-short Must Begins from at LastFragment short begins last goes = inr (inl (last refl))
+why-short : {at n : ℕ} {holds : Holds} (Must : ℕ → Type 0) (Begins : ℕ → ℕ → Type 0) (from : ℕ) → n ≤ 1380 → Begins at n → (holds ≡ LastFragment → Must at) → goes_in_whole from at holds n ≡ false → MayBy Must Begins from at
+why-short {at} {n} {holds = HeadAlone} Must Begins from short begins last goes = inr (inr (n, (begins, (short, leb-false (at + n) (from + 1380) goes))))
+why-short {at} {n} {holds = Slices} Must Begins from short begins last goes = inr (inr (n, (begins, (short, leb-false (at + n) (from + 1380) goes))))
+why-short {at} {holds = LastFragment} Must Begins from short begins last goes = inr (inl (last refl))
 
-why : {Must : ℕ → Type 0} {f : Filling} {n : ℕ} {slices : List ℕ} (Begins : ℕ → ℕ → Type 0) → Reads Must Begins f (n ∷ slices) → goes_in f n ≡ false → MayBy Must Begins f.from f.at
-why {Must} {f} {n} Begins reads goes = elim (cases_lt 1380 n) [
+why : {Must : ℕ → Type 0} {Begins : ℕ → ℕ → Type 0} {f : Filling} {n : ℕ} {slices : List ℕ} → Reads Must Begins f (n ∷ slices) → goes_in f n ≡ false → MayBy Must Begins f.from f.at
+why {Must} {Begins} {f} {n} reads goes = elim (cases_lt 1380 n) [
   | inl long ↦ inr (inl (reads.long f.at n (inl (refl, refl)) long (λ _. goes)))
-  | inr short ↦ why-short Must Begins f.from f.at f.holds short (reads.begins f.at n (inl (refl, refl))) reads.last
+  | inr short ↦ why-short Must Begins f.from short (reads.begins f.at n (inl (refl, refl))) reads.last
       (sym (ap (λ b. cond b (goes_in_whole f.from f.at f.holds n) (goes_in_cut f.from f.at f.holds)) (le-leb n 1380 short)) ∙ goes)
 ]
 
@@ -213,26 +213,26 @@ last-by false n e is = leb-false n 1380 e
 last-long : (n : ℕ) → holds_after n ≡ LastFragment → 1380 < n
 last-long n is = last-by (leb n 1380) n refl is
 
-reads-next : {Must : ℕ → Type 0} {f : Filling} {n : ℕ} {slices : List ℕ} (Begins : ℕ → ℕ → Type 0) (last : ℕ) → 0 < n → Reads Must Begins f (n ∷ slices) → Reads Must Begins (filling_after f n last) slices
-reads-next {f} {n} {slices} Begins last some reads = record {
+reads-next : {Must : ℕ → Type 0} {Begins : ℕ → ℕ → Type 0} {f : Filling} {n : ℕ} {slices : List ℕ} (last : ℕ) → 0 < n → Reads Must Begins f (n ∷ slices) → Reads Must Begins (filling_after f n last) slices
+reads-next {Begins} {f} {n} {slices} last some reads = record {
   begins = λ place length is. reads.begins place length (inr is);
   long = λ place length is long goes. reads.long place length (inr is) long (λ here. absurd (omega (arith, here, some, slice-after slices (f.at + n) place length is)));
   long_end = λ start length is long. reads.long_end start length (inr is) long;
   last = λ is. reads.long_end f.at n (inl (refl, refl)) (last-long n is);
 }
 
-may-end : {Must : ℕ → Type 0} {f : Filling} (Begins : ℕ → ℕ → Type 0) (slices cuts : List ℕ) → AreSome slices → Reads Must Begins f slices → Cuts f slices cuts → MayAllEnd (MayBy Must Begins) f.from cuts
-may-end {Must} {f} Begins [] cuts some reads e = subst (λ (l : List ℕ). MayAllEnd (MayBy Must Begins) f.from l) (sym e) tt
-may-end {Must} {f} Begins (n ∷ slices) cuts some reads (inl x) =
+may-end : {Must : ℕ → Type 0} {Begins : ℕ → ℕ → Type 0} {slices : List ℕ} {f : Filling} (cuts : List ℕ) → AreSome slices → Reads Must Begins f slices → Cuts f slices cuts → MayAllEnd (MayBy Must Begins) f.from cuts
+may-end {Must} {Begins} {slices = []} {f} cuts some reads e = subst (λ (l : List ℕ). MayAllEnd (MayBy Must Begins) f.from l) (sym e) tt
+may-end {Must} {Begins} {slices = n ∷ slices} {f} cuts some reads (inl x) =
     let last = f.from + 1380 * x.1.full in
-    let rest = may-end {Must = Must} {f = filling_after f n last} Begins slices x.1.rest some.1 (reads-next {Must = Must} {f = f} {n = n} {slices = slices} Begins last some.0 reads) x.1.goes_on in
+    let rest = may-end {Must = Must} {Begins = Begins} {slices = slices} {f = filling_after f n last} x.1.rest some.1 (reads-next {Must = Must} {Begins = Begins} {f = f} {n = n} {slices = slices} last some.0 reads) x.1.goes_on in
     subst (λ (l : List ℕ). MayAllEnd (MayBy Must Begins) f.from l) (sym x.1.filled) (full-may Must Begins f.from x.1.full x.1.rest rest)
-may-end {Must} {f} Begins (n ∷ slices) cuts some reads (inr x) =
+may-end {Must} {Begins} {slices = n ∷ slices} {f} cuts some reads (inr x) =
     let fills = x.1.1.1 in
     let last = f.at + 1380 * fills.full in
-    let rest = may-end Begins slices fills.rest some.1 (reads-next Begins last some.0 reads) fills.goes_on in
+    let rest = may-end {Must = Must} {Begins = Begins} {slices = slices} {f = filling_after f n last} fills.rest some.1 (reads-next {Must = Must} {Begins = Begins} {f = f} {n = n} {slices = slices} last some.0 reads) fills.goes_on in
     let tail : MayAllEnd (MayBy Must Begins) f.at x.1.0 = subst (λ (l : List ℕ). MayAllEnd (MayBy Must Begins) f.at l) (sym fills.filled) (full-may Must Begins f.at fills.full fills.rest rest) in
-    subst (λ (l : List ℕ). MayAllEnd (MayBy Must Begins) f.from l) (sym x.1.1.0) (may-cons (MayBy Must Begins) f.from f.at x.1.0 (why Begins reads x.0) tail)
+    subst (λ (l : List ℕ). MayAllEnd (MayBy Must Begins) f.from l) (sym x.1.1.0) (may-cons (MayBy Must Begins) f.from f.at x.1.0 (why reads x.0) tail)
 
 may-cs : (from head_end : ℕ) (slices : List ℕ) (start cut : ℕ) → MayBy (IsCutPlace from head_end slices) (SliceAt head_end slices) start cut → MayEnd from head_end slices start cut
 may-cs from head_end slices start cut (inl full) = inl full
@@ -261,11 +261,11 @@ first-reads from head_end slices = record {
   last = λ is. cc;
 }
 
-long-cut : {head_end : ℕ} {slices : List ℕ} (from : ℕ) (cuts : List ℕ) → IsCutting from head_end slices cuts → (place : ℕ) → IsCutPlace from head_end slices place → is_among place cuts ≡ true
-long-cut {head_end} {slices} from cuts cutting place (inl b) =
-    begin-cut slices (first_piece from head_end) cuts cutting place b.length b.slice b.long (λ here. goes-head from head_end b.length b.long (b.apart here))
-long-cut {head_end} {slices} from cuts cutting place (inr e) =
-    ap (λ p. is_among p cuts) e.place_is ∙ end-cut slices (first_piece from head_end) cuts cutting e.start e.length e.slice e.long
+long-cut : {from head_end : ℕ} {slices : List ℕ} (cuts : List ℕ) → IsCutting from head_end slices cuts → (place : ℕ) → IsCutPlace from head_end slices place → is_among place cuts ≡ true
+long-cut {from} {head_end} {slices} cuts cutting place (inl b) =
+    begin-cut slices (first_piece from head_end) cuts cutting b.slice b.long (λ here. goes-head from head_end b.length b.long (b.apart here))
+long-cut {from} {head_end} {slices} cuts cutting place (inr e) =
+    ap (λ p. is_among p cuts) e.place_is ∙ end-cut slices (first_piece from head_end) cuts cutting e.start e.slice e.long
 
 pub cutting-meets : (from head_end : ℕ) (slices cuts : List ℕ) → from < head_end → head_end ≤ from + 1380 → HaveBytes slices → IsCutting from head_end slices cuts → MeetsRules from head_end slices cuts
 cutting-meets from head_end slices cuts some short have cutting =
@@ -274,9 +274,9 @@ cutting-meets from head_end slices cuts some short have cutting =
       pieces = pieces-cover slices f cuts (some, short) cutting;
       head = head-uncut from head_end cuts (cuts-from slices f cuts order cutting);
       short = short-at slices head_end cuts (short-uncut slices f cuts order cutting);
-      long = long-cut from cuts cutting;
+      long = long-cut cuts cutting;
       ends = may-map (MayBy (IsCutPlace from head_end slices) (SliceAt head_end slices)) (MayEnd from head_end slices) from cuts (may-cs from head_end slices)
-          (may-end (SliceAt head_end slices) slices cuts (some-bytes slices have) (first-reads from head_end slices) cutting);
+          (may-end cuts (some-bytes slices have) (first-reads from head_end slices) cutting);
     }
 
 no_unit : PictureUnit

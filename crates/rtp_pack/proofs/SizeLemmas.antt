@@ -23,24 +23,24 @@ pub record Kept (count from at : ℕ) (holds : Holds) : Type 0 where
   pub last : holds ≡ LastFragment → 20 * count ≤ at
 
 -- a short slice in the piece, or in the next
-short-here : {pieces : ℕ} {holds : Holds} (from at n full : ℕ) → Kept pieces from at holds → at + n ≤ from + 1380 → from + 1380 * full < at + n → Kept (pieces + (0 + full)) (from + 1380 * full) (at + n) Slices
-short-here {pieces} from at n full kept fits before =
+short-here : {pieces from at : ℕ} {holds : Holds} (n full : ℕ) → Kept pieces from at holds → at + n ≤ from + 1380 → from + 1380 * full < at + n → Kept (pieces + (0 + full)) (from + 1380 * full) (at + n) Slices
+short-here {pieces} {from} {at} n full kept fits before =
     let none : full ≡ 0 = omega arith in
     record { some = before; pieces = omega (arith, none, kept.pieces); whole = omega (arith, none, kept.whole); ended = omega (arith, none, kept.ended); last = λ e. cc }
 
-short-next : {pieces : ℕ} {holds : Holds} (from at n full : ℕ) → Kept pieces from at holds → n ≤ 1380 → 20 * pieces ≤ at + n → at + 1380 * full < at + n → Kept (pieces + (1 + full)) (at + 1380 * full) (at + n) Slices
-short-next {pieces} from at n full kept short room before =
+short-next : {pieces from at : ℕ} {holds : Holds} (n full : ℕ) → Kept pieces from at holds → n ≤ 1380 → 20 * pieces ≤ at + n → at + 1380 * full < at + n → Kept (pieces + (1 + full)) (at + 1380 * full) (at + n) Slices
+short-next {pieces} {from} {at} n full kept short room before =
     let none : full ≡ 0 = omega arith in
     record { some = before; pieces = omega (arith, none, kept.pieces, kept.some); whole = omega (arith, none, room); ended = omega (arith, none, kept.whole); last = λ e. cc }
 
 -- a longer slice in the piece, or in the next
-long-here : {pieces : ℕ} {holds : Holds} (from at n full : ℕ) → Kept pieces from at holds → 1380 < n → from + 1380 * full < at + n → at + n ≤ from + 1380 * full + 1380 → Kept (pieces + (0 + full)) (from + 1380 * full) (at + n) LastFragment
-long-here {pieces} from at n full kept long before within =
+long-here : {pieces from at : ℕ} {holds : Holds} (n full : ℕ) → Kept pieces from at holds → 1380 < n → from + 1380 * full < at + n → at + n ≤ from + 1380 * full + 1380 → Kept (pieces + (0 + full)) (from + 1380 * full) (at + n) LastFragment
+long-here {pieces} {from} {at} n full kept long before within =
     let some : 0 < full = omega (arith, kept.some) in
     record { some = before; pieces = omega (arith, kept.pieces); whole = omega (arith, some, kept.ended); ended = omega (arith, kept.ended); last = λ e. omega (arith, some, kept.ended) }
 
-long-next : {pieces : ℕ} {holds : Holds} (from at n full : ℕ) → Kept pieces from at holds → 1380 < n → at + 1380 * full < at + n → at + n ≤ at + 1380 * full + 1380 → Kept (pieces + (1 + full)) (at + 1380 * full) (at + n) LastFragment
-long-next {pieces} from at n full kept long before within =
+long-next : {pieces from at : ℕ} {holds : Holds} (n full : ℕ) → Kept pieces from at holds → 1380 < n → at + 1380 * full < at + n → at + n ≤ at + 1380 * full + 1380 → Kept (pieces + (1 + full)) (at + 1380 * full) (at + n) LastFragment
+long-next {pieces} {from} {at} n full kept long before within =
     let some : 0 < full = omega arith in
     record { some = before; pieces = omega (arith, kept.pieces, kept.some); whole = omega (arith, some, kept.whole); ended = omega (arith, kept.whole); last = λ e. omega (arith, some, kept.whole) }
 
@@ -50,18 +50,18 @@ whole-fits from at n Slices e = leb-true (at + n) (from + 1380) e
 whole-fits from at n LastFragment e = absurd (true≢false (sym e))
 
 -- where a short slice begins the next piece there is room for one more head
-whole-room : {pieces : ℕ} (from at n : ℕ) (holds : Holds) → Kept pieces from at holds → 4 ≤ n → goes_in_whole from at holds n ≡ false → 20 * pieces ≤ at + n
-whole-room from at n HeadAlone kept least e = omega (arith, leb-false (at + n) (from + 1380) e, kept.ended)
-whole-room from at n Slices kept least e = omega (arith, leb-false (at + n) (from + 1380) e, kept.ended)
-whole-room from at n LastFragment kept least e = omega (arith, kept.last refl)
+whole-room : {pieces from at : ℕ} {holds : Holds} (n : ℕ) → Kept pieces from at holds → 4 ≤ n → goes_in_whole from at holds n ≡ false → 20 * pieces ≤ at + n
+whole-room {from} {at} {holds = HeadAlone} n kept least e = omega (arith, leb-false (at + n) (from + 1380) e, kept.ended)
+whole-room {from} {at} {holds = Slices} n kept least e = omega (arith, leb-false (at + n) (from + 1380) e, kept.ended)
+whole-room {from} {at} {holds = LastFragment} n kept least e = omega (arith, kept.last refl)
 
-kept-slice : {pieces : ℕ} {holds : Holds} (from at n full : ℕ) (short goes : Bool) → Kept pieces from at holds → 4 ≤ n → leb n 1380 ≡ short → cond short (goes_in_whole from at holds n) (goes_in_cut from at holds) ≡ goes
+kept-slice : {pieces from at : ℕ} {holds : Holds} {short goes : Bool} (n full : ℕ) → Kept pieces from at holds → 4 ≤ n → leb n 1380 ≡ short → cond short (goes_in_whole from at holds n) (goes_in_cut from at holds) ≡ goes
     → cond goes from at + 1380 * full < at + n → at + n ≤ cond goes from at + 1380 * full + 1380
     → Kept (pieces + (cond goes 0 1 + full)) (cond goes from at + 1380 * full) (at + n) (cond short Slices LastFragment)
-kept-slice {holds} from at n full true true kept least e g before within = short-here from at n full kept (whole-fits from at n holds g) before
-kept-slice {holds} from at n full true false kept least e g before within = short-next from at n full kept (leb-true n 1380 e) (whole-room from at n holds kept least g) before
-kept-slice from at n full false true kept least e g before within = long-here from at n full kept (leb-false n 1380 e) before within
-kept-slice from at n full false false kept least e g before within = long-next from at n full kept (leb-false n 1380 e) before within
+kept-slice {from} {at} {holds} {short = true} {goes = true} n full kept least e g before within = short-here n full kept (whole-fits from at n holds g) before
+kept-slice {from} {at} {short = true} {goes = false} n full kept least e g before within = short-next n full kept (leb-true n 1380 e) (whole-room n kept least g) before
+kept-slice {from} {at} {short = false} {goes = true} n full kept least e g before within = long-here n full kept (leb-false n 1380 e) before within
+kept-slice {from} {at} {short = false} {goes = false} n full kept least e g before within = long-next n full kept (leb-false n 1380 e) before within
 
 abbrev pub IsKept : Measure → Type 0
 IsKept m = Kept m.pieces m.filling.from m.filling.at m.filling.holds
@@ -70,7 +70,7 @@ pub keeps-slice : (m : Measure) (n : ℕ) → IsKept m → 4 ≤ n → IsKept (w
 keeps-slice m n kept least =
     let f = m.filling in
     let less = start-less f n (goes_in f n) (omega (arith, kept.some)) (omega arith) in
-    kept-slice f.from f.at n (full_before (start_of (goes_in f n) f) (f.at + n)) (leb n 1380) (goes_in f n) kept least refl refl
+    kept-slice n (full_before (start_of (goes_in f n) f) (f.at + n)) kept least refl refl
     (full_before-less (start_of (goes_in f n) f) (f.at + n) less) (full_before-within (start_of (goes_in f n) f) (f.at + n) less)
 
 pub keeps-measure : (m : Measure) (n : ℕ) → IsMeasure m → 4 ≤ n → m.filling.at + n ≤ 2 ^ 40 → IsMeasure (with_slice m n)
@@ -155,48 +155,49 @@ abbrev pub Rest : Measure → Filling → List ℕ → List ℕ → Type 0
 Rest m g slices cuts = cuts_size g.from cuts + 20 * m.pieces + m.filling.from ≡ frames_of (with_slices m slices)
 
 -- a slice that begins at `start`: the frames of the full pieces, then the rest
-size-slice : {cuts : List ℕ} (start full pieces begins from : ℕ) (rest : List ℕ) (whole : ℕ) → cuts ≡ full_ends start full ++ rest
+size-slice : {cuts : List ℕ} {whole : ℕ} (start full pieces begins from : ℕ) (rest : List ℕ) → cuts ≡ full_ends start full ++ rest
     → cuts_size (start + 1380 * full) rest + 20 * (pieces + (begins + full)) + (from + 1380 * full) ≡ whole
     → cuts_size start cuts + 20 * (pieces + begins) + from ≡ whole
-size-slice {cuts} start full pieces begins from rest whole is e =
+size-slice {cuts} {whole} start full pieces begins from rest is e =
     let first : cuts_size start cuts ≡ 1400 * full + cuts_size (start + 1380 * full) rest = ap (λ (l : List ℕ). cuts_size start l) is ∙ size-full start full rest in
     omega (arith, first, e)
 
 -- the measure and the cuts of a slice that begins at `start`
-next-size : {g : Filling} {goes : Bool} {cuts : List ℕ} (m : Measure) (n base start place : ℕ) (slices : List ℕ) → IsMoved base m.filling g → start_of goes m.filling ≡ start → place ≡ base + start
+next-size : {g : Filling} {base start place : ℕ} {goes : Bool} {cuts : List ℕ} (m : Measure) (n : ℕ)
+    (slices : List ℕ) → IsMoved base m.filling g → start_of goes m.filling ≡ start → place ≡ base + start
     → goes_in m.filling n ≡ goes
     → ((m' : Measure) (g' : Filling) (rest : List ℕ) → IsMoved base m'.filling g' → m'.filling.from ≤ m'.filling.at → Cuts g' slices rest → Rest m' g' slices rest)
     → Fills (λ last rest. Cuts (filling_after g n last) slices rest) place (g.at + n) cuts
     → cuts_size place cuts + 20 * (m.pieces + cond goes 0 1) + start ≡ frames_of (with_slices (with_slice m n) slices)
-next-size {g} {goes} m n base start place slices is at_start at_place at_goes more fills =
+next-size {g} {base} {start} {place} {goes} m n slices is at_start at_place at_goes more fills =
     let f = m.filling in
     let all : start_of (goes_in f n) f ≡ start = ap (λ b. start_of b f) at_goes ∙ at_start in
     let less : start < f.at + n = omega (arith, is.at, at_place, fills.before) in
     let full : fills.full ≡ full_before start (f.at + n) =
-    full-once start (f.at + n) fills.full (omega (arith, is.at, at_place, fills.before)) (omega (arith, is.at, at_place, fills.within))
+    full-once start (f.at + n) (omega (arith, is.at, at_place, fills.before)) (omega (arith, is.at, at_place, fills.within))
     (full_before-less start (f.at + n) less) (full_before-within start (f.at + n) less) in
     let last : last_start (start_of (goes_in f n) f) (f.at + n) ≡ start + 1380 * fills.full = ap (λ s. last_start s (f.at + n)) all ∙ ap (λ k. start + 1380 * k) (sym full) in
     let pieces : slice_pieces f n ≡ cond goes 0 1 + fills.full =
     ap (λ b. cond b 0 1 + full_before (start_of (goes_in f n) f) (f.at + n)) at_goes ∙ ap (λ s. cond goes 0 1 + full_before s (f.at + n)) all ∙ ap (λ k. cond goes 0 1 + k) (sym full) in
     let rest = more (with_slice m n) (filling_after g n (place + 1380 * fills.full)) fills.rest
     (record { from = omega (arith, at_place, last); at = omega (arith, is.at); holds = refl }) (omega (arith, last, fills.before, is.at, at_place)) fills.goes_on in
-    size-slice place fills.full m.pieces (cond goes 0 1) start fills.rest (frames_of (with_slices (with_slice m n) slices)) fills.filled
+    size-slice place fills.full m.pieces (cond goes 0 1) start fills.rest fills.filled
     (omega (arith, rest, last, pieces))
 
-pub size-from : {g : Filling} (slices : List ℕ) (base : ℕ) (m : Measure) (cuts : List ℕ) → IsMoved base m.filling g → m.filling.from ≤ m.filling.at → Cuts g slices cuts → Rest m g slices cuts
-size-from {g} [] base m cuts is order e =
+pub size-from : {base : ℕ} {g : Filling} (slices : List ℕ) (m : Measure) (cuts : List ℕ) → IsMoved base m.filling g → m.filling.from ≤ m.filling.at → Cuts g slices cuts → Rest m g slices cuts
+size-from {base} {g} [] m cuts is order e =
     let size : cuts_size g.from cuts ≡ 20 + (g.at - g.from) = ap (λ (l : List ℕ). cuts_size g.from l) e ∙ omega arith in
     omega (arith, size, is.from, is.at, order)
-size-from {g} (n ∷ slices) base m cuts is order (inl x) =
-    let rest = next-size {g = g} {goes = true} {cuts = cuts} m n base m.filling.from g.from slices is refl is.from (sym (goes-moved base n m.filling g is) ∙ x.0) (λ m' g' rest moved less cut. size-from {g = g'} slices base m' rest moved less cut) x.1 in
+size-from {base} {g} (n ∷ slices) m cuts is order (inl x) =
+    let rest = next-size m n slices is refl is.from (sym (goes-moved base n m.filling g is) ∙ x.0) (λ m' g' rest moved less cut. size-from slices m' rest moved less cut) x.1 in
     omega (arith, rest)
-size-from {g} (n ∷ slices) base m cuts is order (inr x) =
-    let rest = next-size m n base m.filling.at g.at slices is refl is.at (sym (goes-moved base n m.filling g is) ∙ x.0) (λ m' g' rest moved less cut. size-from slices base m' rest moved less cut) x.1.1.1 in
+size-from {base} {g} (n ∷ slices) m cuts is order (inr x) =
+    let rest = next-size m n slices is refl is.at (sym (goes-moved base n m.filling g is) ∙ x.0) (λ m' g' rest moved less cut. size-from slices m' rest moved less cut) x.1.1.1 in
     let first : cuts_size g.from cuts ≡ 20 + (g.at - g.from) + cuts_size g.at x.1.0 = ap (λ (l : List ℕ). cuts_size g.from l) x.1.1.0 in
     omega (arith, rest, first, is.from, is.at, order)
 
 -- the frames of a unit
 pub size-unit : (head : ℕ) (slices : List ℕ) (from : ℕ) (cuts : List ℕ) → IsCutting from (from + head) slices cuts → frames_of (measure_of head slices) ≡ cuts_size from cuts
 size-unit head slices from cuts cutting =
-    let all = size-from slices from (measure_from_head head) cuts (record { from = omega arith; at = refl; holds = refl }) (omega arith) cutting in
+    let all = size-from slices (measure_from_head head) cuts (record { from = omega arith; at = refl; holds = refl }) (omega arith) cutting in
     omega (arith, all)

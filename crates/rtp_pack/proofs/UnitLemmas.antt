@@ -40,7 +40,7 @@ packets-are starts unit laid =
     record {
       cuts = ends packets;
       cutting = packets-cut unit (unit_lengths starts unit) f (omega (arith, laid.head)) (long-some (unit_lengths starts unit) (lengths-long (unit_starts starts unit) unit.head_end unit.to laid.in_order));
-      pieces = flags (unit_starts starts unit) (unit_starts starts unit) (first-right unit (unit_starts starts unit) laid.head laid.in_order)
+      pieces = flags (first-right unit (unit_starts starts unit) laid.head laid.in_order)
           (record { starts = λ x h. refl; ends = λ x h. refl }) laid.in_order;
     }
 

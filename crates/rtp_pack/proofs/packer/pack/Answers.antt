@@ -16,7 +16,7 @@ pub loop-index-preserved : goal.loop-index-preserved
 loop-index-preserved c =
     let unit = c.args.unit.now in
     let starts = take (unit.first_slice + unit.slices - unit.first_slice) (drop unit.first_slice c.args.slice_starts.now) in
-    let put = put-slice {unit = unit} {i = c.loop-index.index} starts c.loop-index.filling c.in_ok-filling.filling c.slice_end-end.result c.loop-index.packets.items c.put_slice.new.packets.items _
+    let put = put-slice {unit = unit} {starts = starts} {i = c.loop-index.index} {next = c.in_ok-filling.filling} {end = c.slice_end-end.result} {out = c.put_slice.new.packets.items} {whole = _} c.loop-index.filling c.loop-index.packets.items
     c.loop-index-test.true c.loop-index.invariant.in_order c.slice_end-end.ensures c.in_ok-filling.ensures.filling c.in_ok-filling.ensures.packets c.loop-index.invariant.packets in
     record { order = c.in_ok-filling.ensures.order; in_order = put.in_order; packets = put.packets }
 
@@ -24,7 +24,7 @@ pub returns-clause-list : goal.returns-clause-list
 returns-clause-list c =
     let unit = c.args.unit.now in
     let starts = take (unit.first_slice + unit.slices - unit.first_slice) (drop unit.first_slice c.args.slice_starts.now) in
-    put-last unit starts c.loop-index.index c.loop-index.filling c.loop-index.packets.items c.close.new.packets.items (unit_packets c.args.slice_starts.now unit) c.loop-index-test.false c.in_ok-close.ensures c.loop-index.invariant.packets
+    put-last unit starts c.loop-index.index c.loop-index.filling c.loop-index.packets.items c.loop-index-test.false c.in_ok-close.ensures c.loop-index.invariant.packets
 
 pub returns-clause-rules : goal.returns-clause-rules
 returns-clause-rules c =
