@@ -80,10 +80,10 @@ unit-carries film starts unit laid =
     ∙ ap (λ (l : List ℕ). l ++ carried film (map (λ p. Frame unit p) (unit_packets starts unit))) (reports-carry film unit unit.starts_group)
     ∙ packets-carry film unit (unit_packets starts unit) unit.from unit.to (packets-cover starts unit laid)
 
-chained-le : {to : ℕ} (end : ℕ) (starts : List ℕ) (units : List PictureUnit) (from : ℕ) → AreLaid end starts units → AreChained from units to → from ≤ to
-chained-le end starts [] from laid chained = omega (arith, chained)
-chained-le end starts (unit ∷ units) from laid chained =
-    omega (arith, chained.0, unit-le starts unit laid.0.1, chained-le end starts units unit.to laid.1 chained.1)
+chained-le : {from to : ℕ} (end : ℕ) (starts : List ℕ) (units : List PictureUnit) → AreLaid end starts units → AreChained from units to → from ≤ to
+chained-le {from} end starts [] laid chained = omega (arith, chained)
+chained-le {from} {to} end starts (unit ∷ units) laid chained =
+    omega (arith, chained.0, unit-le starts unit laid.0.1, chained-le {from = unit.to} {to = to} end starts units laid.1 chained.1)
 
 units-carry : (film starts : List ℕ) (end : ℕ) (units : List PictureUnit) (from to : ℕ) → AreLaid end starts units → AreChained from units to
     → carried film (pieces_of starts units) ≡ take (to - from) (drop from film)
@@ -95,7 +95,7 @@ units-carry film starts end (unit ∷ units) from to laid chained =
     ∙ ap (λ (l : List ℕ). l ++ carried film (pieces_of starts units)) (unit-carries film starts unit laid.0.1)
     ∙ ap (λ (l : List ℕ). take (unit.to - unit.from) (drop unit.from film) ++ l) (units-carry film starts end units unit.to to laid.1 chained.1)
     ∙ ap (λ n. take (unit.to - n) (drop n film) ++ take (to - unit.to) (drop unit.to film)) chained.0
-    ∙ ranges-join film from unit.to to (omega (arith, chained.0, unit-le starts unit laid.0.1)) (chained-le end starts units unit.to laid.1 chained.1)
+    ∙ ranges-join film from unit.to to (omega (arith, chained.0, unit-le starts unit laid.0.1)) (chained-le end starts units laid.1 chained.1)
 
 -- ---- units among those of a film
 
@@ -109,18 +109,18 @@ laid-take end starts units zero laid = tt
 laid-take end starts [] (suc n) laid = tt
 laid-take end starts (unit ∷ units) (suc n) laid = (laid.0, laid-take end starts units n laid.1)
 
-chained-drop : (units : List PictureUnit) (from to n : ℕ) (first : PictureUnit) → slice_get units n ≡ Some first → AreChained from units to → AreChained first.from (drop n units) to
-chained-drop [] from to n first at chained = cc
-chained-drop (unit ∷ units) from to zero first at chained =
+chained-drop : {first : PictureUnit} (units : List PictureUnit) (from to n : ℕ) → slice_get units n ≡ Some first → AreChained from units to → AreChained first.from (drop n units) to
+chained-drop {first} [] from to n at chained = cc
+chained-drop {first} (unit ∷ units) from to zero at chained =
     let P : PictureUnit → Type 0 = λ u. AreChained u.from (unit ∷ units) to in
     let same : unit ≡ first = cc in subst P same (refl, chained.1)
-chained-drop (unit ∷ units) from to (suc n) first at chained = chained-drop units unit.to to n first at chained.1
+chained-drop {first} (unit ∷ units) from to (suc n) at chained = chained-drop units unit.to to n at chained.1
 
-chained-take : (units : List PictureUnit) (from to n : ℕ) (last : PictureUnit) → slice_get units n ≡ Some last → AreChained from units to → AreChained from (take (suc n) units) last.to
-chained-take [] from to n last at chained = cc
-chained-take (unit ∷ units) from to zero last at chained =
+chained-take : {last : PictureUnit} (units : List PictureUnit) (from to n : ℕ) → slice_get units n ≡ Some last → AreChained from units to → AreChained from (take (suc n) units) last.to
+chained-take {last} [] from to n at chained = cc
+chained-take {last} (unit ∷ units) from to zero at chained =
     let same : unit ≡ last = cc in (chained.0, ap (λ (u : PictureUnit). u.to) same)
-chained-take (unit ∷ units) from to (suc n) last at chained = (chained.0, chained-take units unit.to to n last at chained.1)
+chained-take {last} (unit ∷ units) from to (suc n) at chained = (chained.0, chained-take {last = last} units unit.to to n at chained.1)
 
 pub get-drop : (units : List PictureUnit) (n k : ℕ) → slice_get (drop n units) k ≡ slice_get units (n + k)
 get-drop units zero k = ap (λ m. slice_get units m) (let e : k ≡ 0 + k = omega arith in e)
@@ -136,10 +136,10 @@ comes-back film first_unit end_unit identity first last order first_at last_at =
     let starts = film.slice_starts.items in
     let end = length film.bytes.items in
     let n = end_unit - first_unit - 1 in
-    let from = chained-drop units (film-from film) end first_unit first first_at (film-in_order film) in
+    let from = chained-drop units (film-from film) end first_unit first_at (film-in_order film) in
     let here : first_unit + n ≡ end_unit - 1 = omega (arith, order) in
     let at : slice_get (drop first_unit units) n ≡ Some last = get-drop units first_unit n ∙ ap (λ m. slice_get units m) here ∙ last_at in
-    let part = chained-take (drop first_unit units) first.from end n last at from in
+    let part = chained-take (drop first_unit units) first.from end n at from in
     let count : suc n ≡ end_unit - first_unit = omega (arith, order) in
     let P : ℕ → Type 0 = λ m. AreChained first.from (take m (drop first_unit units)) last.to in
     let laid = laid-take end starts (drop first_unit units) (end_unit - first_unit) (laid-drop end starts units first_unit (laid-film film)) in

@@ -59,7 +59,7 @@ have-sizes run sound = record {
   count = blocks_from-count run 0 0 (pieces_in run);
   each = λ k piece at.
       let its = sound-at run.film (pieces_in run) k piece at sound in
-      let bytes = blocks_from-at run 0 0 (pieces_in run) k piece at in
+      let bytes = blocks_from-at run 0 0 (pieces_in run) k at in
       let long : length (get_or (run_pieces run) k []) ≡ wire_of piece =
       ap (λ (l : List ℕ). length l) bytes ∙ piece-length run (0 + frames_in (take k (pieces_in run))) _ piece its in
       subst (λ n. HasPieceSize piece n) (sym long) (piece-size run.film piece its);

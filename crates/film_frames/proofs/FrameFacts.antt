@@ -22,21 +22,21 @@ is-run-of f run view units =
     record { is = is; count = count.0; within = count.1; short = all-short film }
 
 -- the bytes and the frames of its first pieces are those of its film's from the run's first one on
-pub wire-from : {f : Inside} {run : Run} (first piece : ℕ) → IsRunOf f run → piece ≤ length (pieces_in run)
+pub wire-from : {f : Inside} {run : Run} {first : ℕ} (piece : ℕ) → IsRunOf f run → piece ≤ length (pieces_in run)
     → first ≡ length (front_pieces f.stored.now.film f.first_unit)
     → wire_in (take (first + piece) (film_pieces f.stored.now.film))
     ≡ wire_in (take first (film_pieces f.stored.now.film)) + wire_in (take piece (pieces_in run))
-wire-from {f} first piece has within at =
+wire-from {f} {first} piece has within at =
     let film = f.stored.now.film in
     let sum = run-wire piece has.is within (ap (λ n. n + piece) at) in
     let from = ap (λ n. wire_in (take n (film_pieces film))) at in
     omega (arith, sum, from)
 
-pub frames-from : {f : Inside} {run : Run} (first piece : ℕ) → IsRunOf f run → piece ≤ length (pieces_in run)
+pub frames-from : {f : Inside} {run : Run} {first : ℕ} (piece : ℕ) → IsRunOf f run → piece ≤ length (pieces_in run)
     → first ≡ length (front_pieces f.stored.now.film f.first_unit)
     → frames_in (take (first + piece) (film_pieces f.stored.now.film))
     ≡ frames_in (take first (film_pieces f.stored.now.film)) + frames_in (take piece (pieces_in run))
-frames-from {f} first piece has within at =
+frames-from {f} {first} piece has within at =
     let film = f.stored.now.film in
     let sum = run-frames piece has.is within (ap (λ n. n + piece) at) in
     let from = ap (λ n. frames_in (take n (film_pieces film))) at in

@@ -29,8 +29,8 @@ count_ended-within pieces at k have within =
 pub count-among : (run : Run) (at k : ℕ) → HaveEnded (run_pieces run) at k → at < length (framed_bytes (run_pieces run)) → k < length (pieces_in run)
 count-among run at k have within = omega (arith, count_ended-within (run_pieces run) at k have within, blocks_from-count run 0 0 (pieces_in run))
 
-pub boundary-count_ended : {pieces : List (List ℕ)} {k : ℕ} (at place : ℕ) → HaveEnded pieces (at - 1) k → 0 < at → at ≤ length (framed_bytes pieces) → place ≡ begin_of pieces (k + 1) → IsBoundaryAfter pieces at place
-boundary-count_ended {pieces} {k} at place have some within is =
+pub boundary-count_ended : {pieces : List (List ℕ)} {at k place : ℕ} → HaveEnded pieces (at - 1) k → 0 < at → at ≤ length (framed_bytes pieces) → place ≡ begin_of pieces (k + 1) → IsBoundaryAfter pieces at place
+boundary-count_ended {pieces} {at} {k} {place} have some within is =
     let inside = count_ended-within pieces (at - 1) k have (omega (arith, some, within)) in
     record {
       boundary = record { number = k + 1; among = omega (arith, inside); place_is = is };
@@ -43,9 +43,9 @@ boundary-count_ended {pieces} {k} at place have some within is =
     }
 
 -- the rest of the piece in which a place lies is next, and ends at a boundary
-pub rest-next : {pieces : List (List ℕ)} {k : ℕ} {bytes : List ℕ} (at : ℕ) → HaveEnded pieces at k → at < length (framed_bytes pieces) → bytes ≡ drop (at - begin_of pieces k) (get_or pieces k [])
+pub rest-next : {pieces : List (List ℕ)} {at k : ℕ} {bytes : List ℕ} → HaveEnded pieces at k → at < length (framed_bytes pieces) → bytes ≡ drop (at - begin_of pieces k) (get_or pieces k [])
     → IsNext pieces at bytes × (at + length bytes ≡ begin_of pieces (k + 1))
-rest-next {pieces} {k} {bytes} at have within are =
+rest-next {pieces} {at} {k} {bytes} have within are =
     let inside = count_ended-within pieces at k have within in
     let more = begin-more pieces k inside in
     let next = have.next inside in
@@ -55,7 +55,7 @@ rest-next {pieces} {k} {bytes} at have within are =
     let count : length (drop o piece) ≡ n = omega (arith, length-drop o piece, more, next, have.last) in
     let long : length bytes ≡ n = ap (λ (l : List ℕ). length l) are ∙ count in
     let whole : bytes ≡ take n (drop o piece) = are ∙ sym (take_all n (drop o piece) (omega (arith, count))) in
-    (next-found at k n inside have.last (omega (arith, next)) (omega (arith, next)) whole, omega (arith, long, next))
+    (next-found k n inside have.last (omega (arith, next)) (omega (arith, next)) whole, omega (arith, long, next))
 
 -- ---- the bytes of a report or a frame from a place on
 
@@ -91,10 +91,10 @@ frame-rest film block p o long order within inside =
     ]
 
 -- the same where the range of the heads and the payload are known by equations
-pub frame-part : {bytes : List ℕ} {high : ℕ} (film block : List ℕ) (p : Packet) (o low : ℕ) → length block ≡ 52 → p.from ≤ p.to → p.to ≤ length film → o ≤ 20 + (p.to - p.from) → low ≡ min o 20 → high ≡ max o 20
+pub frame-part : {bytes : List ℕ} {low high : ℕ} (film block : List ℕ) (p : Packet) (o : ℕ) → length block ≡ 52 → p.from ≤ p.to → p.to ≤ length film → o ≤ 20 + (p.to - p.from) → low ≡ min o 20 → high ≡ max o 20
     → bytes ≡ take (p.to - (p.from + (high - 20))) (drop (p.from + (high - 20)) film)
     → (take (20 - low) (drop low block) ++ bytes ≡ drop o (take 20 block ++ payload film p)) × ((20 - low) + length bytes + o ≡ 20 + (p.to - p.from))
-frame-part {bytes} {high} film block p o low long order within inside low_is high_is are =
+frame-part {bytes} {low} {high} film block p o long order within inside low_is high_is are =
     let at = p.from + (high - 20) in
     let count : length bytes ≡ p.to - at = ap (λ (l : List ℕ). length l) are ∙ length-take-le (p.to - at) (drop at film) (omega (arith, length-drop at film, within)) in (
       ap (λ (l : List ℕ). take (20 - low) (drop low block) ++ l) are
@@ -113,14 +113,14 @@ pub record IsIn (run : Run) (at k : ℕ) (piece : Piece) : Type 0 where
   pub begins : begin_of (run_pieces run) k ≤ at
   pub number : k < length (run_pieces run)
 
-pub is-in : {run : Run} {k : ℕ} (at : ℕ) (piece : Piece) → HaveEnded (run_pieces run) at k → at < length (framed_bytes (run_pieces run)) → slice_get (pieces_in run) k ≡ Some piece → IsSound run.film piece → IsIn run at k piece
-is-in {run} {k} at piece have within found sound =
+pub is-in : {run : Run} {at k : ℕ} {piece : Piece} → HaveEnded (run_pieces run) at k → at < length (framed_bytes (run_pieces run)) → slice_get (pieces_in run) k ≡ Some piece → IsSound run.film piece → IsIn run at k piece
+is-in {run} {at} {k} {piece} have within found sound =
     let pieces = run_pieces run in
     let number = count_ended-within pieces at k have within in
     let frames : 0 + frames_in (take k (pieces_in run)) ≡ frames_in (take k (pieces_in run)) = omega arith in
     let octets : 0 + octets_in (take k (pieces_in run)) ≡ octets_in (take k (pieces_in run)) = omega arith in
     let bytes : get_or pieces k [] ≡ piece_bytes run (frames_in (take k (pieces_in run))) (octets_in (take k (pieces_in run))) piece =
-    blocks_from-at run 0 0 (pieces_in run) k piece found
+    blocks_from-at run 0 0 (pieces_in run) k found
     ∙ ap (λ n. piece_bytes run n (0 + octets_in (take k (pieces_in run))) piece) frames
     ∙ ap (λ n. piece_bytes run (frames_in (take k (pieces_in run))) n piece) octets in
     let long : length (get_or pieces k []) ≡ wire_of piece = ap (λ (l : List ℕ). length l) bytes ∙ piece-length run (frames_in (take k (pieces_in run))) (octets_in (take k (pieces_in run))) piece sound in

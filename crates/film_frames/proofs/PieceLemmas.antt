@@ -44,12 +44,12 @@ pub cover-le : (packets : List Packet) (from to : ℕ) → DoCover from packets 
 cover-le [] from to cover = omega (arith, cover)
 cover-le (p ∷ packets) from to cover = omega (arith, cover.1.0, cover-le packets p.to to cover.1.1.1)
 
-frames-sound : (film : List ℕ) (unit : PictureUnit) (starts cuts : List ℕ) (from to : ℕ) → to ≤ length film → DoCover from (piece_packets unit starts from cuts) to
+frames-sound : {to : ℕ} (film : List ℕ) (unit : PictureUnit) (starts cuts : List ℕ) (from : ℕ) → to ≤ length film → DoCover from (piece_packets unit starts from cuts) to
     → AreSound film (map (λ p. Frame unit p) (piece_packets unit starts from cuts))
-frames-sound film unit starts [] from to short cover = tt
-frames-sound film unit starts (cut ∷ cuts) from to short cover =
+frames-sound film unit starts [] from short cover = tt
+frames-sound {to} film unit starts (cut ∷ cuts) from short cover =
     let rest = cover-le (piece_packets unit starts cut cuts) cut to cover.1.1.1 in
-    (record { some = cover.1.0; short = cover.1.1.0; within = omega (arith, rest, short); formed = refl }, frames-sound film unit starts cuts cut to short cover.1.1.1)
+    (record { some = cover.1.0; short = cover.1.1.0; within = omega (arith, rest, short); formed = refl }, frames-sound film unit starts cuts cut short cover.1.1.1)
 
 reports-sound : (film : List ℕ) (unit : PictureUnit) (starts : Bool) → AreSound film (cond starts (Report unit ∷ []) [])
 reports-sound film unit true = (tt, tt)
@@ -60,7 +60,7 @@ unit-sound film starts unit laid short =
     let are = packets-are starts unit laid in
     let P : List Packet → Type 0 = λ l. AreSound film (map (λ p. Frame unit p) l) in
     let Q : List Packet → Type 0 = λ l. DoCover unit.from l unit.to in
-    let frames = frames-sound film unit (unit_starts starts unit) are.cuts unit.from unit.to short (subst Q are.pieces (packets-cover starts unit laid)) in
+    let frames = frames-sound film unit (unit_starts starts unit) are.cuts unit.from short (subst Q are.pieces (packets-cover starts unit laid)) in
     sound-append film (unit_reports unit) (map (λ p. Frame unit p) (unit_packets starts unit)) (reports-sound film unit unit.starts_group) (subst P (sym are.pieces) frames)
 
 -- ---- the bytes of a unit on the wire

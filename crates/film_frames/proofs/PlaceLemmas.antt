@@ -53,29 +53,29 @@ units-following end starts (unit ∷ units) from to laid chained =
     let both = following-append unit.from unit.to to (unit_pieces starts unit) (pieces_of starts units) (unit-following starts unit laid.0.1) rest in
     subst (λ n. AreFollowing n (pieces_of starts (unit ∷ units)) to) chained.0 (subst (λ l. AreFollowing unit.from l to) (sym (pieces-cons starts unit units)) both)
 
-from-at : (pieces : List Piece) (from to k reports : ℕ) (piece : Piece) → AreFollowing from pieces to → slice_get pieces k ≡ Some piece → frames_in (take k pieces) + reports ≡ k
+from-at : {k : ℕ} {piece : Piece} (pieces : List Piece) (from to reports : ℕ) → AreFollowing from pieces to → slice_get pieces k ≡ Some piece → frames_in (take k pieces) + reports ≡ k
     → from_of piece + 20 * frames_in (take k pieces) + 52 * reports ≡ from + wire_in (take k pieces)
-from-at [] from to k reports piece are at count = cc
-from-at (first ∷ pieces) from to zero reports piece are at count =
+from-at {piece} [] from to reports are at count = cc
+from-at {k = zero} {piece} (first ∷ pieces) from to reports are at count =
     let same : first ≡ piece = cc in
     omega (arith, ap from_of same, are.0, count)
-from-at (Report unit ∷ pieces) from to (suc k) reports piece are at count =
+from-at {k = suc k} {piece} (Report unit ∷ pieces) from to reports are at count =
     let frames = sum_by-cons count_of (Report unit) (take k pieces) in
     let wire = sum_by-cons wire_of (Report unit) (take k pieces) in
     let few = frames-few pieces k in
-    let rest = from-at pieces unit.from to k (reports - 1) piece are.1.1 at (omega (arith, count, frames, few)) in
+    let rest = from-at {k = k} {piece = piece} pieces unit.from to (reports - 1) are.1.1 at (omega (arith, count, frames, few)) in
     omega (arith, rest, are.0, frames, wire, count, few)
-from-at (Frame unit p ∷ pieces) from to (suc k) reports piece are at count =
+from-at {k = suc k} {piece} (Frame unit p ∷ pieces) from to reports are at count =
     let frames = sum_by-cons count_of (Frame unit p) (take k pieces) in
     let wire = sum_by-cons wire_of (Frame unit p) (take k pieces) in
-    let rest = from-at pieces p.to to k reports piece are.1.1 at (omega (arith, count, frames)) in
+    let rest = from-at pieces p.to to reports are.1.1 at (omega (arith, count, frames)) in
     omega (arith, rest, are.0, are.1.0, frames, wire)
 
 -- ---- of a film
 
-first-from : (units : List PictureUnit) (from to : ℕ) (first : PictureUnit) → AreChained from units to → 0 < length units → first ≡ get_or units 0 first → first.from ≡ from
-first-from [] from to first chained some is = absurd (omega (arith, some))
-first-from (unit ∷ units) from to first chained some is = ap (λ (u : PictureUnit). u.from) is ∙ chained.0
+first-from : {from : ℕ} {first : PictureUnit} (units : List PictureUnit) (to : ℕ) → AreChained from units to → 0 < length units → first ≡ get_or units 0 first → first.from ≡ from
+first-from {from} {first} [] to chained some is = absurd (omega (arith, some))
+first-from {from} {first} (unit ∷ units) to chained some is = ap (λ (u : PictureUnit). u.from) is ∙ chained.0
 
 some-units : (starts : List ℕ) (units : List PictureUnit) (k : ℕ) → k < length (pieces_of starts units) → 0 < length units
 some-units starts [] k h = absurd (omega (arith, h))
@@ -84,14 +84,14 @@ some-units starts (unit ∷ units) k h = omega arith
 pub film-some : (film : Film) (number : ℕ) → number < length (film_pieces film) → 0 < length film.units.items
 film-some film number h = some-units film.slice_starts.items film.units.items number h
 
-pub film-payload : (film : Film) (number reports : ℕ) (first : PictureUnit) (piece : Piece) → number < length (film_pieces film) → first ≡ get_or film.units.items 0 first
+pub film-payload : {number : ℕ} {first : PictureUnit} {piece : Piece} (film : Film) (reports : ℕ) → number < length (film_pieces film) → first ≡ get_or film.units.items 0 first
     → slice_get (film_pieces film) number ≡ Some piece → frames_in (take number (film_pieces film)) + reports ≡ number
     → from_of piece + 20 * frames_in (take number (film_pieces film)) + 52 * reports ≡ first.from + wire_in (take number (film_pieces film))
-film-payload film number reports first piece h is at count =
+film-payload {number} {first} {piece} film reports h is at count =
     let chained = film-in_order film in
-    let from = first-from film.units.items (film-from film) (length film.bytes.items) first chained (film-some film number h) is in
+    let from = first-from film.units.items (length film.bytes.items) chained (film-some film number h) is in
     let are = units-following (length film.bytes.items) film.slice_starts.items film.units.items (film-from film) (length film.bytes.items) (laid-film film) chained in
-    from-at (film_pieces film) (film-from film) (length film.bytes.items) number reports piece are at count ∙ ap (λ n. n + wire_in (take number (film_pieces film))) (sym from)
+    from-at (film_pieces film) (film-from film) (length film.bytes.items) reports are at count ∙ ap (λ n. n + wire_in (take number (film_pieces film))) (sym from)
 
 heads-le : (pieces : List Piece) (k reports : ℕ) → k ≤ length pieces → frames_in (take k pieces) + reports ≡ k
     → 20 * frames_in (take k pieces) + 52 * reports ≤ wire_in (take k pieces)
@@ -107,10 +107,10 @@ heads-le (Frame unit p ∷ pieces) (suc k) reports h count =
     let wire = sum_by-cons wire_of (Frame unit p) (take k pieces) in
     omega (arith, heads-le pieces k reports (omega (arith, h)) (omega (arith, count, frames)), frames, wire)
 
-chained-le : {to : ℕ} (end : ℕ) (starts : List ℕ) (units : List PictureUnit) (from : ℕ) → AreLaid end starts units → AreChained from units to → from ≤ to
-chained-le end starts [] from laid chained = omega (arith, chained)
-chained-le end starts (unit ∷ units) from laid chained =
-    omega (arith, chained.0, unit-le starts unit laid.0.1, chained-le end starts units unit.to laid.1 chained.1)
+chained-le : {from to : ℕ} (end : ℕ) (starts : List ℕ) (units : List PictureUnit) → AreLaid end starts units → AreChained from units to → from ≤ to
+chained-le {from} end starts [] laid chained = omega (arith, chained)
+chained-le {from} {to} end starts (unit ∷ units) laid chained =
+    omega (arith, chained.0, unit-le starts unit laid.0.1, chained-le {from = unit.to} {to = to} end starts units laid.1 chained.1)
 
 -- what is known of the place of a piece of a film, by its number, the frames before it and the place of the film's first unit
 pub record HasPlace (number frames place first : ℕ) : Type 0 where
@@ -119,14 +119,14 @@ pub record HasPlace (number frames place first : ℕ) : Type 0 where
   pub most : place ≤ 2 ^ 42
   pub low : first ≤ 2 ^ 40
 
-pub film-place : {frames : ℕ} (film : Film) (number place : ℕ) (first : PictureUnit) → number < length (film_pieces film) → first ≡ get_or film.units.items 0 first
+pub film-place : {number frames place : ℕ} {first : PictureUnit} (film : Film) → number < length (film_pieces film) → first ≡ get_or film.units.items 0 first
     → frames ≡ frames_in (take number (film_pieces film)) → place ≡ wire_in (take number (film_pieces film)) → HasPlace number frames place first.from
-film-place {frames} film number place first h is frames_is place_is =
+film-place {number} {frames} {place} {first} film h is frames_is place_is =
     let pieces = film_pieces film in
     let chained = film-in_order film in
     let few : frames ≤ number = omega (arith, frames_is, frames-few pieces number) in
-    let from = first-from film.units.items (film-from film) (length film.bytes.items) first chained (film-some film number h) is in
-    let low = chained-le (length film.bytes.items) film.slice_starts.items film.units.items (film-from film) (laid-film film) chained in
+    let from = first-from film.units.items (length film.bytes.items) chained (film-some film number h) is in
+    let low = chained-le (length film.bytes.items) film.slice_starts.items film.units.items (laid-film film) chained in
     record {
       few = few;
       heads = omega (arith, frames_is, place_is, heads-le pieces number (number - frames) (omega (arith, h)) (omega (arith, frames_is, few)));

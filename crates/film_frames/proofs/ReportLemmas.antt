@@ -18,7 +18,7 @@ count_ended-before : (run : Run) (k : ℕ) (unit : PictureUnit) → slice_get (p
 count_ended-before run k unit at =
     let pieces = run_pieces run in
     let within : k < length pieces = omega (arith, slice_get_within (pieces_in run) k (Report unit) at, blocks_from-count run 0 0 (pieces_in run)) in
-    let long : length (get_or pieces k []) ≡ 52 = ap (λ (l : List ℕ). length l) (blocks_from-at run 0 0 (pieces_in run) k (Report unit) at) in
+    let long : length (get_or pieces k []) ≡ 52 = ap (λ (l : List ℕ). length l) (blocks_from-at run 0 0 (pieces_in run) k at) in
     count_ended-is pieces (begin_of pieces k) k (record {
       among = omega (arith, within);
       last = omega arith;
@@ -32,7 +32,7 @@ reports-count run = λ k unit at.
     let o : 0 + octets_in (take k (pieces_in run)) ≡ octets_in (take k (pieces_in run)) = omega arith in
     let frames : 0 + frames_in (take k (pieces_in run)) ≡ frames_before run (begin_of (run_pieces run) k) = f ∙ ap (λ n. frames_in (take n (pieces_in run))) before in
     let octets : 0 + octets_in (take k (pieces_in run)) ≡ octets_before run (begin_of (run_pieces run) k) = o ∙ ap (λ n. octets_in (take n (pieces_in run))) before in
-    blocks_from-at run 0 0 (pieces_in run) k (Report unit) at
+    blocks_from-at run 0 0 (pieces_in run) k at
     ∙ ap (λ n. piece_bytes run n (0 + octets_in (take k (pieces_in run))) (Report unit)) frames
     ∙ ap (λ n. piece_bytes run (frames_before run (begin_of (run_pieces run) k)) n (Report unit)) octets
 
@@ -53,5 +53,5 @@ piece-channel run frames octets (Frame unit p) = refl
 
 pub on-channels : (run : Run) → AreOnChannels run
 on-channels run = λ k piece at.
-    ap (λ (l : List ℕ). slice_index l 1) (blocks_from-at run 0 0 (pieces_in run) k piece at)
+    ap (λ (l : List ℕ). slice_index l 1) (blocks_from-at run 0 0 (pieces_in run) k at)
     ∙ piece-channel run (0 + frames_in (take k (pieces_in run))) (0 + octets_in (take k (pieces_in run))) piece

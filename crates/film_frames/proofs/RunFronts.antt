@@ -108,5 +108,5 @@ heads-back run source = λ k unit packet is.
     let frames = frames_in (take k (pieces_in run)) in
     let head = packet_head run.identity (picture_time run.rate) unit packet frames in
     let none : 0 + frames ≡ frames = omega arith in
-    ap (λ (l : List ℕ). head_of (drop 4 l)) (blocks_from-at run 0 0 (pieces_in run) k (Frame unit packet) is ∙ ap (λ n. piece_bytes run n (0 + octets_in (take k (pieces_in run))) (Frame unit packet)) none)
+    ap (λ (l : List ℕ). head_of (drop 4 l)) (blocks_from-at run 0 0 (pieces_in run) k is ∙ ap (λ n. piece_bytes run n (0 + octets_in (take k (pieces_in run))) (Frame unit packet)) none)
     ∙ head-by head.marker head.sequence head.timestamp head.ssrc head.video (payload run.film packet) (omega arith) (omega arith) source

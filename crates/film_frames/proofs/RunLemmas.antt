@@ -46,16 +46,16 @@ blocks_from-begin run frames octets pieces k sound =
     length-flat_map (λ (p : List ℕ). p) (take k (blocks_from run frames octets pieces)) ∙ blocks_from-sum run frames octets pieces k sound
 
 -- the bytes of the piece of a number
-pub blocks_from-at : (run : Run) (frames octets : ℕ) (pieces : List Piece) (k : ℕ) (piece : Piece) → slice_get pieces k ≡ Some piece
+pub blocks_from-at : {piece : Piece} (run : Run) (frames octets : ℕ) (pieces : List Piece) (k : ℕ) → slice_get pieces k ≡ Some piece
     → get_or (blocks_from run frames octets pieces) k [] ≡ piece_bytes run (frames + frames_in (take k pieces)) (octets + octets_in (take k pieces)) piece
-blocks_from-at run frames octets [] k piece at = cc
-blocks_from-at run frames octets (first ∷ pieces) zero piece at =
+blocks_from-at {piece} run frames octets [] k at = cc
+blocks_from-at {piece} run frames octets (first ∷ pieces) zero at =
     let same : first ≡ piece = cc in
     let f : frames ≡ frames + 0 = omega arith in
     let o : octets ≡ octets + 0 = omega arith in
     ap (λ p. piece_bytes run frames octets p) same ∙ ap (λ n. piece_bytes run n octets piece) f ∙ ap (λ n. piece_bytes run (frames + 0) n piece) o
-blocks_from-at run frames octets (first ∷ pieces) (suc k) piece at =
-    let rest = blocks_from-at run (frames + count_of first) (octets + octets_of first) pieces k piece at in
+blocks_from-at {piece} run frames octets (first ∷ pieces) (suc k) at =
+    let rest = blocks_from-at run (frames + count_of first) (octets + octets_of first) pieces k at in
     let f : frames + count_of first + frames_in (take k pieces) ≡ frames + frames_in (first ∷ take k pieces) = omega (arith, sum_by-cons count_of first (take k pieces)) in
     let o : octets + octets_of first + octets_in (take k pieces) ≡ octets + octets_in (first ∷ take k pieces) = omega (arith, sum_by-cons octets_of first (take k pieces)) in
     rest
@@ -78,9 +78,9 @@ frames-le (Frame unit p ∷ pieces) = omega (arith, frames-le pieces, sum_by-con
 
 -- ---- the pieces that have ended
 
-pub have-count_ended : {pieces : List (List ℕ)} {upto k : ℕ} (base : ℕ) (ends : List ℕ) (at : ℕ) → AreEnds base pieces ends → k ≤ length ends → upto ≤ at → (upto < at → upto ≡ length (framed_bytes pieces))
+pub have-count_ended : {base : ℕ} {pieces : List (List ℕ)} {ends : List ℕ} {at upto k : ℕ} → AreEnds base pieces ends → k ≤ length ends → upto ≤ at → (upto < at → upto ≡ length (framed_bytes pieces))
     → ((j : ℕ) → j < k → get_or ends j 0 < base + upto + 1) → (k < length ends → base + upto + 1 ≤ get_or ends k 0) → HaveEnded pieces at k
-have-count_ended {pieces} {upto} {k} base ends at are among least cut below from = record {
+have-count_ended {base} {pieces} {ends} {at} {upto} {k} are among least cut below from = record {
   among = omega (arith, among, are.count);
   last = elim (cases_lt 0 k) [
     | inl l ↦

@@ -57,9 +57,9 @@ between film first_unit end_unit identity run is =
     subst P is.view (between-of film first_unit end_unit identity is.order)
 
 -- sums over the first pieces of the run and all before them
-sum-between : {n : ℕ} (f : Piece → ℕ) (before middle rest all : List Piece) (k : ℕ) → all ≡ before ++ (middle ++ rest) → k ≤ length middle → n ≡ length before + k
+sum-between : {all : List Piece} {n : ℕ} (f : Piece → ℕ) (before middle rest : List Piece) (k : ℕ) → all ≡ before ++ (middle ++ rest) → k ≤ length middle → n ≡ length before + k
     → sum_by f (take n all) ≡ sum_by f (take (length before) all) + sum_by f (take k middle)
-sum-between f before middle rest all k split short is =
+sum-between {all} f before middle rest k split short is =
     let front_is : take (length before) all ≡ before = ap (λ (l : List Piece). take (length before) l) split ∙ take_at before (middle ++ rest) (length before) refl in
     let first : take (length before + k) (before ++ (middle ++ rest)) ≡ before ++ take k middle =
     take-append-add before (middle ++ rest) k ∙ ap (λ (l : List Piece). before ++ l) (take-append-le k middle rest short) in
@@ -97,13 +97,13 @@ pub run-wire : {film : Film} {first_unit end_unit : ℕ} {identity : Identity} {
     → wire_in (take n (film_pieces film)) ≡ wire_in (take (length (front_pieces film first_unit)) (film_pieces film)) + wire_in (take k (pieces_in run))
 run-wire {film} {first_unit} {end_unit} {identity} {run} k is short at =
     let lies = between film first_unit end_unit identity run is in
-    sum-between wire_of (front_pieces film first_unit) (pieces_in run) lies.rest (film_pieces film) k lies.all short at
+    sum-between wire_of (front_pieces film first_unit) (pieces_in run) lies.rest k lies.all short at
 
 pub run-frames : {film : Film} {first_unit end_unit : ℕ} {identity : Identity} {run : Run} {n : ℕ} (k : ℕ) → IsRun film first_unit end_unit identity run → k ≤ length (pieces_in run) → n ≡ length (front_pieces film first_unit) + k
     → frames_in (take n (film_pieces film)) ≡ frames_in (take (length (front_pieces film first_unit)) (film_pieces film)) + frames_in (take k (pieces_in run))
 run-frames {film} {first_unit} {end_unit} {identity} {run} k is short at =
     let lies = between film first_unit end_unit identity run is in
-    sum-between count_of (front_pieces film first_unit) (pieces_in run) lies.rest (film_pieces film) k lies.all short at
+    sum-between count_of (front_pieces film first_unit) (pieces_in run) lies.rest k lies.all short at
 
 pub run-begin : (film : Film) (first_unit end_unit : ℕ) (identity : Identity) (run : Run) (k : ℕ) → IsRun film first_unit end_unit identity run → begin_of (run_pieces run) k ≡ wire_in (take k (pieces_in run))
 run-begin film first_unit end_unit identity run k is = blocks_from-begin run 0 0 (pieces_in run) k (between film first_unit end_unit identity run is).sound
@@ -118,11 +118,11 @@ run-piece {film} {first_unit} {end_unit} {identity} {run} k is within at =
     ∙ get-front (pieces_in run) lies.rest k within
 
 -- the ends of the run's pieces
-pub run-ends : {film : Film} {first_unit end_unit : ℕ} {identity : Identity} {run : Run} (first end base : ℕ)
-    (ends : List ℕ) → IsRun film first_unit end_unit identity run
+pub run-ends : {film : Film} {first_unit end_unit : ℕ} {identity : Identity} {run : Run} {first end base : ℕ}
+    {ends : List ℕ} → IsRun film first_unit end_unit identity run
     → first ≡ length (front_pieces film first_unit) → end ≡ length (front_pieces film end_unit) → base ≡ wire_in (take first (film_pieces film))
     → length ends ≡ end - first → ((k : ℕ) → k < end - first → get_or ends k 0 ≡ wire_in (take (first + k + 1) (film_pieces film))) → AreEnds base (run_pieces run) ends
-run-ends {film} {first_unit} {end_unit} {identity} {run} first end base ends is first_is end_is base_is count each =
+run-ends {film} {first_unit} {end_unit} {identity} {run} {first} {end} {base} {ends} is first_is end_is base_is count each =
     let counts = run-count film first_unit end_unit identity run is in
     let pieces = blocks_from-count run 0 0 (pieces_in run) in
     record {

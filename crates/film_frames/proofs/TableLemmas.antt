@@ -61,10 +61,10 @@ push-last [] piece its (suc k) is h = cc
 push-last (first ∷ pieces) piece its zero is h = absurd (omega (arith, h))
 push-last (first ∷ pieces) piece its (suc k) is h = push-last pieces piece its k is (omega (arith, h))
 
-rows-push : {units : List PictureUnit} {row : Row} (pieces : List Piece) (piece : Piece) (rows : List Row) → length rows ≡ length pieces → IsRow units row piece
+rows-push : {units : List PictureUnit} {piece : Piece} {row : Row} (pieces : List Piece) (rows : List Row) → length rows ≡ length pieces → IsRow units row piece
     → ((k : ℕ) (some : Row) (its : Piece) → slice_get pieces k ≡ Some its → IsRow units (get_or rows k some) its)
     → (k : ℕ) (some : Row) {its : Piece} → slice_get (pieces ++ piece ∷ []) k ≡ Some its → IsRow units (get_or (rows ++ row ∷ []) k some) its
-rows-push {units} {row} pieces piece rows count is each k some {its} at =
+rows-push {units} {piece} {row} pieces rows count is each k some {its} at =
     elim (cases_lt k (length pieces)) [
       | inl l ↦
           let P : Row → Type 0 = λ r. IsRow units r its in
@@ -76,12 +76,12 @@ rows-push {units} {row} pieces piece rows count is each k some {its} at =
           subst P (sym (get_or_push rows row some k (omega (arith, count, last)))) (subst Q (push-last pieces piece its k at last) is)
     ]
 
-pub table-push : {units : List PictureUnit} {pieces : List Piece} {row : Row} {old : FrameTable} (piece : Piece)
-    (new : FrameTable) (end : ℕ) → IsTable units pieces old → IsRow units row piece
+pub table-push : {units : List PictureUnit} {pieces : List Piece} {piece : Piece} {row : Row} {old new : FrameTable}
+    {end : ℕ} → IsTable units pieces old → IsRow units row piece
     → new.places.items ≡ old.places.items ++ end ∷ [] → new.rows.items ≡ old.rows.items ++ row ∷ [] → new.reports.items ≡ with_report (length old.rows.items) piece old.reports.items
     → end ≡ get_or old.places.items (length old.rows.items) 0 + wire_of piece
     → IsTable units (pieces ++ piece ∷ []) new
-table-push {units} {pieces} {row} {old} piece new end is its places rows reports end_is =
+table-push {units} {pieces} {piece} {row} {old} {new} {end} is its places rows reports end_is =
     let last = is.rows_count in
     let place : get_or old.places.items (length old.rows.items) 0 ≡ get_or old.places.items (length pieces) 0 = ap (λ n. get_or old.places.items n 0) last in
     let wires : AreSums wire_of pieces old.places.items = record { count = is.places_count; each = is.place } in
@@ -94,23 +94,23 @@ table-push {units} {pieces} {row} {old} piece new end is its places rows reports
       rows_count = ap length rows ∙ length_push old.rows.items row ∙ ap (λ n. n + 1) last ∙ sym (length_push pieces piece);
       place = w_new.each;
       reports = reports ∙ ap (λ l. with_report (length old.rows.items) piece l) is.reports ∙ reports-push 0 (length old.rows.items) pieces piece (omega (arith, last));
-      row = subst R (sym rows) (rows-push pieces piece old.rows.items last its is.row);
+      row = subst R (sym rows) (rows-push pieces old.rows.items last its is.row);
     }
 
 -- ---- the pieces before a unit, in a table of a film
 
-pub front-count : {film : Film} (table : FrameTable) (unit first : ℕ) → IsTableOf film table → unit ≤ length film.units.items → first ≡ get_or table.firsts.items unit first
+pub front-count : {film : Film} {table : FrameTable} {first : ℕ} (unit : ℕ) → IsTableOf film table → unit ≤ length film.units.items → first ≡ get_or table.firsts.items unit first
     → (first ≡ length (front_pieces film unit)) × (length (front_pieces film unit) < length table.places.items)
-front-count {film} table unit first is h read =
+front-count {film} {table} {first} unit is h read =
     let count : first ≡ length (front_pieces film unit) = get_or_read table.firsts.items unit first (omega (arith, h, is.firsts.count)) read 0 ∙ is.firsts.first unit h in
     let all : length (film_pieces film) ≡ length (front_pieces film unit) + length (pieces_of film.slice_starts.items (drop unit film.units.items)) =
     ap (λ (l : List Piece). length l) (front-back film unit) ∙ length-append (front_pieces film unit) (pieces_of film.slice_starts.items (drop unit film.units.items)) in
     (count, omega (arith, all, is.pieces.places_count))
 
-pub front-place : {film : Film} (table : FrameTable) (unit first place : ℕ) → IsTableOf film table → unit ≤ length film.units.items → first ≡ get_or table.firsts.items unit first
+pub front-place : {film : Film} {table : FrameTable} {first place : ℕ} (unit : ℕ) → IsTableOf film table → unit ≤ length film.units.items → first ≡ get_or table.firsts.items unit first
     → place ≡ get_or table.places.items first place → place ≡ wire_in (front_pieces film unit)
-front-place {film} table unit first place is h read its =
-    let at = front-count table unit first is h read in
+front-place {film} {table} {first} {place} unit is h read its =
+    let at = front-count unit is h read in
     let pieces = film_pieces film in
     let n = length (front_pieces film unit) in
     get_or_read table.places.items first place (omega (arith, at.0, at.1)) its 0
@@ -145,10 +145,10 @@ pub record IsReadBack (film : Film) (row : Row) (from to : ℕ) (pieces : List P
   pub size : to ≡ from + wire_of piece
   pub sound : IsSound film.bytes.items piece
 
-pub read-back : {film : Film} {row : Row} {to : ℕ} (table : FrameTable) (number from : ℕ) → IsTableOf film table → number < length (film_pieces film)
+pub read-back : {film : Film} {table : FrameTable} {number : ℕ} {row : Row} {from to : ℕ} → IsTableOf film table → number < length (film_pieces film)
     → row ≡ get_or table.rows.items number row → from ≡ get_or table.places.items number 0 → to ≡ get_or table.places.items (number + 1) 0
     → IsReadBack film row from to (film_pieces film) number
-read-back {film} {row} table number from is h its from_is to_is =
+read-back {film} {table} {number} {row} {from} is h its from_is to_is =
     let pieces = film_pieces film in
     let some = some-at pieces number h in
     let P : Row → Type 0 = λ r. IsRow film.units.items r some.0 in
@@ -164,16 +164,16 @@ pub wire-least : (film : List ℕ) (piece : Piece) → IsSound film piece → 20
 wire-least film (Report unit) sound = omega arith
 wire-least film (Frame unit its) sound = omega arith
 
-frame-from : (film : List ℕ) (report : Bool) (unit : PictureUnit) (its : Packet) (piece : Piece) → cond report (Report unit) (Frame unit its) ≡ piece → report ≡ false → IsSound film piece → its.to ≤ length film
-frame-from film true unit its piece same frame sound = cc
-frame-from film false unit its (Report other) same frame sound = cc
-frame-from film false unit its (Frame other that) same frame sound =
+frame-from : {report : Bool} {piece : Piece} (film : List ℕ) (unit : PictureUnit) (its : Packet) → cond report (Report unit) (Frame unit its) ≡ piece → report ≡ false → IsSound film piece → its.to ≤ length film
+frame-from {report = true} {piece} film unit its same frame sound = cc
+frame-from {report = false} {piece = Report other} film unit its same frame sound = cc
+frame-from {report = false} {piece = Frame other that} film unit its same frame sound =
     let P : Packet → Type 0 = λ p. p.to ≤ length film in
     let e : that ≡ its = cc in subst P e sound.within
 
 pub row-within : (film : Film) (row : Row) (piece : Piece) → IsRow film.units.items row piece → IsSound film.bytes.items piece → row.report ≡ false → from_of piece + wire_of piece ≤ length film.bytes.items + 20
 row-within film row piece is sound frame =
-    let to = frame-from film.bytes.items row.report (unit_of piece) (packet (unit_of piece) (from_of piece) (from_of piece + (wire_of piece - 20)) row.begin row.end) piece is.piece_is frame sound in
+    let to = frame-from film.bytes.items (unit_of piece) (packet (unit_of piece) (from_of piece) (from_of piece + (wire_of piece - 20)) row.begin row.end) is.piece_is frame sound in
     omega (arith, to, wire-least film.bytes.items piece sound)
 
 pub film-short : (film : Film) → length film.bytes.items ≤ 2 ^ 40
@@ -181,9 +181,9 @@ film-short film = film-bytes film.bytes.items film.grammar.accepted
 
 -- ---- how many pieces there are
 
-pub count-more : {unit : PictureUnit} {packets : List Packet} (film : Film) (number one : ℕ) → one ≡ length (unit_reports unit) → slice_get film.units.items number ≡ Some unit → packets ≡ unit_packets film.slice_starts.items unit
+pub count-more : {one : ℕ} {unit : PictureUnit} {packets : List Packet} (film : Film) (number : ℕ) → one ≡ length (unit_reports unit) → slice_get film.units.items number ≡ Some unit → packets ≡ unit_packets film.slice_starts.items unit
     → length (front_pieces film (number + 1)) ≡ length (front_pieces film number) + (length packets + one)
-count-more {unit} {packets} film number one one_is at is =
+count-more {one} {unit} {packets} film number one_is at is =
     let frames = map (λ p. Frame unit p) (unit_packets film.slice_starts.items unit) in
     let all = ap (λ (l : List Piece). length l) (front-more film number unit at) ∙ length-append (front_pieces film number) (unit_pieces film.slice_starts.items unit) in
     let mapped : length frames ≡ length packets = length-map (unit_packets film.slice_starts.items unit) (λ p. Frame unit p) ∙ ap (λ (l : List Packet). length l) (sym is) in

@@ -79,20 +79,20 @@ trace-total ends sizes seen is =
     ]
 
 -- the last end is the length of all
-pub trace-last-now : {sizes : List ℕ} (kept ends : List ℕ) → ends ≡ kept → differences 0 kept ≡ sizes → IsTrace kept → 0 < length ends → get_or ends (length ends - 1) 0 ≡ length (framed_bytes (zero_frames sizes))
-trace-last-now {sizes} kept ends now seen is some =
+pub trace-last-now : {kept ends sizes : List ℕ} → ends ≡ kept → differences 0 kept ≡ sizes → IsTrace kept → 0 < length ends → get_or ends (length ends - 1) 0 ≡ length (framed_bytes (zero_frames sizes))
+trace-last-now {kept} {ends} {sizes} now seen is some =
     let are = trace-track kept ends sizes now seen is in
     let last = length ends - 1 in
     let same : begin_of (zero_frames sizes) (last + 1) ≡ begin_of (zero_frames sizes) (length (zero_frames sizes)) = ap (λ n. begin_of (zero_frames sizes) n) (omega (arith, some, are.count)) in
     omega (arith, are.each last (omega (arith, some)), same, begin-all (zero_frames sizes))
 
 -- zero bytes up to an end of a frame are next
-pub zeros-next : {bytes : List ℕ} (sizes ends : List ℕ) (at k n end : ℕ) → AreEnds 0 (zero_frames sizes) ends → k < length ends → ((j : ℕ) → j < k → get_or ends j 0 < at + 1)
+pub zeros-next : {ends : List ℕ} {at end : ℕ} {bytes : List ℕ} (sizes : List ℕ) (k n : ℕ) → AreEnds 0 (zero_frames sizes) ends → k < length ends → ((j : ℕ) → j < k → get_or ends j 0 < at + 1)
     → end ≡ get_or ends k 0 → at < end → 1 ≤ n → at + n ≤ end → bytes ≡ replicate {A = ℕ} n 0 → IsNext (zero_frames sizes) at bytes
-zeros-next sizes ends at k n end are within below is later some fits zeros =
+zeros-next {ends} {at} {end} sizes k n are within below is later some fits zeros =
     let pieces = zero_frames sizes in
     let inside : k < length pieces = omega (arith, within, are.count) in
-    let begins = found-begins 0 ends at k are within (λ j h. omega (arith, below j h)) in
+    let begins = found-begins at k are within (λ j h. omega (arith, below j h)) in
     let piece : get_or pieces k [] ≡ replicate {A = ℕ} (get_or sizes k 0) 0 = get_or-map (λ size. replicate {A = ℕ} size 0) sizes k 0 [] (omega (arith, inside, length-map sizes (λ size. replicate {A = ℕ} size 0))) in
     let count : length (get_or pieces k []) ≡ get_or sizes k 0 = ap length piece ∙ length-replicate {A = ℕ} (get_or sizes k 0) 0 in
     let o = at - begin_of pieces k in
@@ -102,7 +102,7 @@ zeros-next sizes ends at k n end are within below is later some fits zeros =
     ap (λ (l : List ℕ). take n (drop o l)) piece
     ∙ ap (λ (l : List ℕ). take n l) (drop-replicate {X = ℕ} o (get_or sizes k 0) 0)
     ∙ take-replicate {X = ℕ} n (get_or sizes k 0 - o) 0 (omega (arith, begins, more, its, is, fits, count)) in
-    next-found at k n inside begins some (omega (arith, its, is, fits)) (zeros ∙ sym same)
+    next-found k n inside begins some (omega (arith, its, is, fits)) (zeros ∙ sym same)
 
 -- one more sum
 pub sum-more : (sizes : List ℕ) (k : ℕ) → k < length sizes → sum (take (k + 1) sizes) ≡ sum (take k sizes) + get_or sizes k 0
@@ -124,9 +124,9 @@ pub record IsSummed (sizes now : List ℕ) (total number : ℕ) : Type 0 where
   pub done : (k : ℕ) → k < number → get_or now k 0 ≡ sum (take (k + 1) sizes)
   pub left : (k : ℕ) → number ≤ k → get_or now k 0 ≡ get_or sizes k 0
 
-pub summed-more : {sizes now : List ℕ} {size : ℕ} (end number : ℕ) → number < length sizes → IsSummed sizes now end number → size ≡ get_or now number size
+pub summed-more : {sizes now : List ℕ} {end number size : ℕ} → number < length sizes → IsSummed sizes now end number → size ≡ get_or now number size
     → (end + size ≤ sum sizes) × IsSummed sizes (set now number (end + size)) (end + size) (number + 1)
-summed-more {sizes} {now} {size} end number h is read =
+summed-more {sizes} {now} {end} {number} {size} h is read =
     let its : size ≡ get_or sizes number 0 = get_or_read now number size (omega (arith, h, is.len)) read 0 ∙ is.left number (omega arith) in
     let more : end + size ≡ sum (take (number + 1) sizes) = omega (arith, its, is.end, sum-more sizes number h) in (
       omega (arith, its, is.end, sum-within sizes number h),

@@ -42,9 +42,9 @@ ends-rise base pieces ends are = IsNonDecreasingBy-from_default (λ x. x) ends 0
     omega (arith, are.each i (omega (arith, h, l)), are.each j l, begin-le pieces (i + 1) (j + 1) (omega (arith, h))))
 
 -- a search's answer is a piece's number, where not all ends lie below the place
-pub found : {pieces : List (List ℕ)} (base : ℕ) (ends : List ℕ) (at k : ℕ) → AreEnds base pieces ends → 0 < at → at ≤ length (framed_bytes pieces)
+pub found : {base : ℕ} {pieces : List (List ℕ)} {ends : List ℕ} (at k : ℕ) → AreEnds base pieces ends → 0 < at → at ≤ length (framed_bytes pieces)
     → k ≤ length ends → ((j : ℕ) → j < k → get_or ends j 0 < base + at) → k < length ends
-found {pieces} base ends at k are some within count below =
+found {base} {pieces} {ends} at k are some within count below =
     elim (cases_lt k (length ends)) [
       | inl l ↦ l
       | inr g ↦
@@ -62,9 +62,9 @@ found {pieces} base ends at k are some within count below =
     ]
 
 -- the piece whose end is the first that isn't below a place ends at the least boundary that is at least it
-pub boundary-found : {pieces : List (List ℕ)} (base : ℕ) (ends : List ℕ) (at k : ℕ) → AreEnds base pieces ends → 0 < at → k < length ends
+pub boundary-found : {base : ℕ} {pieces : List (List ℕ)} {ends : List ℕ} {at : ℕ} (k : ℕ) → AreEnds base pieces ends → 0 < at → k < length ends
     → ((j : ℕ) → j < k → get_or ends j 0 < base + at) → base + at ≤ get_or ends k 0 → IsBoundaryAfter pieces at (get_or ends k 0 - base)
-boundary-found {pieces} base ends at k are some within below from =
+boundary-found {base} {pieces} {ends} {at} k are some within below from =
     let end = are.each k within in
     record {
       boundary = record { number = k + 1; among = omega (arith, within, are.count); place_is = omega (arith, end) };
@@ -117,9 +117,9 @@ bytes-within pieces k o n within fits =
     ∙ take-append-le n (drop o piece) rest (omega (arith, fits, length-drop o piece))
 
 -- bytes of the piece in which a place lies, from that place on, are next
-pub next-found : {pieces : List (List ℕ)} {bytes : List ℕ} (at k n : ℕ) → k < length pieces → begin_of pieces k ≤ at → 1 ≤ n → at + n ≤ begin_of pieces (k + 1)
+pub next-found : {pieces : List (List ℕ)} {at : ℕ} {bytes : List ℕ} (k n : ℕ) → k < length pieces → begin_of pieces k ≤ at → 1 ≤ n → at + n ≤ begin_of pieces (k + 1)
     → bytes ≡ take n (drop (at - begin_of pieces k) (get_or pieces k [])) → IsNext pieces at bytes
-next-found {pieces} {bytes} at k n within begins some ends are =
+next-found {pieces} {at} {bytes} k n within begins some ends are =
     let o = at - begin_of pieces k in
     let more = begin-more pieces k within in
     let fits : o + n ≤ length (get_or pieces k []) = omega (arith, begins, ends, more) in
@@ -136,9 +136,9 @@ next-found {pieces} {bytes} at k n within begins some ends are =
     }
 
 -- where the piece begins that a search finds
-pub found-begins : {pieces : List (List ℕ)} (base : ℕ) (ends : List ℕ) (at k : ℕ) → AreEnds base pieces ends → k < length ends
+pub found-begins : {base : ℕ} {pieces : List (List ℕ)} {ends : List ℕ} (at k : ℕ) → AreEnds base pieces ends → k < length ends
     → ((j : ℕ) → j < k → get_or ends j 0 < base + at + 1) → begin_of pieces k ≤ at
-found-begins {pieces} base ends at k are within below =
+found-begins {base} {pieces} {ends} at k are within below =
     elim (cases_lt 0 k) [
       | inl l ↦
           let last = below (k - 1) (omega (arith, l)) in

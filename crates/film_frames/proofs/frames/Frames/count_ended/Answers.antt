@@ -13,7 +13,7 @@ ends-are : (c : After-ends) → AreEnds c.place.result (run_pieces c.args.self.n
 ends-are c =
     let f = c.self.inside in
     let has = is-run-of c.self.inside c.args.self.now c.self.view_is c.self.invariant in
-    run-ends c.first_piece-first.result c.first_piece-end.result c.place.result c.ends.result.now has.is
+    run-ends has.is
     c.first_piece-first.ensures c.first_piece-end.ensures c.place.ensures c.ends.ensures.count c.ends.ensures.each
 
 pub place-requires : goal.place-requires
@@ -50,7 +50,7 @@ ends_below-requires c = ends-rise c.place.result (run_pieces c.args.self.now) c.
 
 pub returns-clause-count_ended : goal.returns-clause-count_ended
 returns-clause-count_ended c =
-    have-count_ended c.place.result c.ends.result.now c.args.at
+    have-count_ended
     (ends-are (goal.at.returns-clause-count_ended c).After-ends) c.ends_below.ensures.count (omega (arith, c.min.ensures))
     (λ cut. omega (arith, c.min.ensures, c.total.ensures, cut)) (λ j h. c.ends_below.ensures.below j h) (λ h. c.ends_below.ensures.from c.ends_below.result (omega arith) h)
 

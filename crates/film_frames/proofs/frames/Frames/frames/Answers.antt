@@ -20,9 +20,9 @@ frames-requires-2 c =
 pub overflow_sub-result : goal.overflow_sub-result
 overflow_sub-result c =
     let has = is-run-of c.self.inside c.args.self.now c.self.view_is c.self.invariant in
-    omega (arith, c.frames.ensures, c.frames-2.ensures, frames-from c.first_piece-first.result c.args.piece has c.requires c.first_piece-first.ensures)
+    omega (arith, c.frames.ensures, c.frames-2.ensures, frames-from c.args.piece has c.requires c.first_piece-first.ensures)
 
 pub returns : goal.returns
 returns c =
     let has = is-run-of c.self.inside c.args.self.now c.self.view_is c.self.invariant in
-    omega (arith, c.frames.ensures, c.frames-2.ensures, frames-from c.first_piece-first.result c.args.piece has c.requires c.first_piece-first.ensures)
+    omega (arith, c.frames.ensures, c.frames-2.ensures, frames-from c.args.piece has c.requires c.first_piece-first.ensures)

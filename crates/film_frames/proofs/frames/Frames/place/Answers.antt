@@ -21,12 +21,12 @@ place-requires-2 c =
 pub overflow_sub-result : goal.overflow_sub-result
 overflow_sub-result c =
     let has = is-run-of c.self.inside c.args.self.now c.self.view_is c.self.invariant in
-    omega (arith, c.place.ensures, c.place-2.ensures, wire-from c.first_piece-first.result c.args.piece has c.requires c.first_piece-first.ensures)
+    omega (arith, c.place.ensures, c.place-2.ensures, wire-from c.args.piece has c.requires c.first_piece-first.ensures)
 
 pub returns-clause-wire : goal.returns-clause-wire
 returns-clause-wire c =
     let has = is-run-of c.self.inside c.args.self.now c.self.view_is c.self.invariant in
-    omega (arith, c.place.ensures, c.place-2.ensures, wire-from c.first_piece-first.result c.args.piece has c.requires c.first_piece-first.ensures)
+    omega (arith, c.place.ensures, c.place-2.ensures, wire-from c.args.piece has c.requires c.first_piece-first.ensures)
 
 pub returns-clause-begin : goal.returns-clause-begin
 returns-clause-begin c =

@@ -29,61 +29,61 @@ pub payload-requires-clause-front : goal.payload-requires-clause-front
 payload-requires-clause-front c =
     let run = c.args.self.now in
     let k = c.count_ended-number.result in
-    let lies = is-in {run = run} {k = k} c.args.at (Frame c.in-Frame.unit c.in-Frame.packet) c.count_ended-number.ensures.count_ended c.requires c.in-Frame.ensures.piece c.in-Frame.ensures.sound in
+    let lies = is-in {run = run} {at = c.args.at} {k = k} {piece = Frame c.in-Frame.unit c.in-Frame.packet} c.count_ended-number.ensures.count_ended c.requires c.in-Frame.ensures.piece c.in-Frame.ensures.sound in
     omega (arith, lies.inside, c.place.ensures.begin, c.max.ensures, c.in-Frame.ensures.sound.some)
 
 pub returns-in-Report-clause-order : goal.returns-in-Report-clause-order
 returns-in-Report-clause-order c =
     let run = c.args.self.now in
     let k = c.count_ended-number.result in
-    let lies = is-in {run = run} {k = k} c.args.at (Report c.in-Report.unit) c.count_ended-number.ensures.count_ended c.requires c.in-Report.ensures.piece c.in-Report.ensures.sound in
+    let lies = is-in {run = run} {at = c.args.at} {k = k} {piece = Report c.in-Report.unit} c.count_ended-number.ensures.count_ended c.requires c.in-Report.ensures.piece c.in-Report.ensures.sound in
     omega (arith, lies.inside, c.place.ensures.begin)
 
 pub returns-in-Report-clause-bytes : goal.returns-in-Report-clause-bytes
 returns-in-Report-clause-bytes c =
     let run = c.args.self.now in
     let k = c.count_ended-number.result in
-    let lies = is-in {run = run} {k = k} c.args.at (Report c.in-Report.unit) c.count_ended-number.ensures.count_ended c.requires c.in-Report.ensures.piece c.in-Report.ensures.sound in
+    let lies = is-in {run = run} {at = c.args.at} {k = k} {piece = Report c.in-Report.unit} c.count_ended-number.ensures.count_ended c.requires c.in-Report.ensures.piece c.in-Report.ensures.sound in
     let o = c.args.at - c.place.result in
     let long : length c.report.result ≡ 52 = ap (λ (l : List ℕ). length l) c.report.ensures in
     let rest = report-rest c.report.result o long (omega (arith, lies.inside, c.place.ensures.begin)) in
     let same : drop o c.report.result ≡ drop (c.args.at - begin_of (run_pieces run) k) (get_or (run_pieces run) k []) =
     ap (λ (l : List ℕ). drop o l) (c.report.ensures ∙ sym lies.bytes) ∙ ap (λ n. drop (c.args.at - n) (get_or (run_pieces run) k [])) c.place.ensures.begin in
-    (rest-next {pieces = run_pieces run} {k = k} {bytes = take (52 - o) (drop o c.report.result) ++ []} c.args.at c.count_ended-number.ensures.count_ended c.requires (rest ∙ same)).0
+    (rest-next {pieces = run_pieces run} {at = c.args.at} {k = k} {bytes = take (52 - o) (drop o c.report.result) ++ []} c.count_ended-number.ensures.count_ended c.requires (rest ∙ same)).0
 
 pub returns-in-Report-clause-whole : goal.returns-in-Report-clause-whole
 returns-in-Report-clause-whole c =
     let run = c.args.self.now in
     let k = c.count_ended-number.result in
-    let lies = is-in {run = run} {k = k} c.args.at (Report c.in-Report.unit) c.count_ended-number.ensures.count_ended c.requires c.in-Report.ensures.piece c.in-Report.ensures.sound in
+    let lies = is-in {run = run} {at = c.args.at} {k = k} {piece = Report c.in-Report.unit} c.count_ended-number.ensures.count_ended c.requires c.in-Report.ensures.piece c.in-Report.ensures.sound in
     ends-boundary (run_pieces run) k _ lies.number (omega (arith, lies.inside, lies.ends, lies.begins, c.place.ensures.begin))
 
 pub returns-in-Frame-clause-bytes : goal.returns-in-Frame-clause-bytes
 returns-in-Frame-clause-bytes c =
     let run = c.args.self.now in
     let k = c.count_ended-number.result in
-    let lies = is-in {run = run} {k = k} c.args.at (Frame c.in-Frame.unit c.in-Frame.packet) c.count_ended-number.ensures.count_ended c.requires c.in-Frame.ensures.piece c.in-Frame.ensures.sound in
+    let lies = is-in {run = run} {at = c.args.at} {k = k} {piece = Frame c.in-Frame.unit c.in-Frame.packet} c.count_ended-number.ensures.count_ended c.requires c.in-Frame.ensures.piece c.in-Frame.ensures.sound in
     let p = c.in-Frame.packet in
     let cut = c.in-Frame.ensures.sound in
     let o = c.args.at - c.place.result in
     let block = c.put_heads.new.head in
-    let part = frame-part {bytes = c.payload.result.now} {high = c.max.result} run.film block p o c.min.result c.payload.array_long (omega (arith, cut.some)) cut.within (omega (arith, lies.inside, c.place.ensures.begin))
+    let part = frame-part {bytes = c.payload.result.now} {low = c.min.result} {high = c.max.result} run.film block p o c.payload.array_long (omega (arith, cut.some)) cut.within (omega (arith, lies.inside, c.place.ensures.begin))
     c.min.ensures c.max.ensures c.payload.ensures in
     let whole = c.put_heads.ensures (octets_in (take k (pieces_in run))) in
     let same : drop o (take 20 block ++ payload run.film p) ≡ drop (c.args.at - begin_of (run_pieces run) k) (get_or (run_pieces run) k []) =
     ap (λ (l : List ℕ). drop o l) (whole ∙ sym lies.bytes) ∙ ap (λ n. drop (c.args.at - n) (get_or (run_pieces run) k [])) c.place.ensures.begin in
-    (rest-next {pieces = run_pieces run} {k = k} {bytes = take (20 - c.min.result) (drop c.min.result block) ++ c.payload.result.now} c.args.at c.count_ended-number.ensures.count_ended c.requires (part.0 ∙ same)).0
+    (rest-next {pieces = run_pieces run} {at = c.args.at} {k = k} {bytes = take (20 - c.min.result) (drop c.min.result block) ++ c.payload.result.now} c.count_ended-number.ensures.count_ended c.requires (part.0 ∙ same)).0
 
 pub returns-in-Frame-clause-whole : goal.returns-in-Frame-clause-whole
 returns-in-Frame-clause-whole c =
     let run = c.args.self.now in
     let k = c.count_ended-number.result in
-    let lies = is-in {run = run} {k = k} c.args.at (Frame c.in-Frame.unit c.in-Frame.packet) c.count_ended-number.ensures.count_ended c.requires c.in-Frame.ensures.piece c.in-Frame.ensures.sound in
+    let lies = is-in {run = run} {at = c.args.at} {k = k} {piece = Frame c.in-Frame.unit c.in-Frame.packet} c.count_ended-number.ensures.count_ended c.requires c.in-Frame.ensures.piece c.in-Frame.ensures.sound in
     let p = c.in-Frame.packet in
     let cut = c.in-Frame.ensures.sound in
     let o = c.args.at - c.place.result in
     let block = c.put_heads.new.head in
-    let part = frame-part {bytes = c.payload.result.now} {high = c.max.result} run.film block p o c.min.result c.payload.array_long (omega (arith, cut.some)) cut.within (omega (arith, lies.inside, c.place.ensures.begin))
+    let part = frame-part {bytes = c.payload.result.now} {low = c.min.result} {high = c.max.result} run.film block p o c.payload.array_long (omega (arith, cut.some)) cut.within (omega (arith, lies.inside, c.place.ensures.begin))
     c.min.ensures c.max.ensures c.payload.ensures in
     ends-boundary (run_pieces run) k _ lies.number (omega (arith, part.1, lies.inside, lies.ends, lies.begins, c.place.ensures.begin))
 

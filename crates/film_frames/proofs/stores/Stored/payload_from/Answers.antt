@@ -10,32 +10,32 @@ overflow_sub-reports c =
 
 pub overflow_mul-result : goal.overflow_mul-result
 overflow_mul-result c =
-    let its = film-place c.args.self.now.film c.args.number c.place.result c.index.result.now c.requires c.index.ensures c.frames-frames.ensures c.place.ensures in
+    let its = film-place c.args.self.now.film c.requires c.index.ensures c.frames-frames.ensures c.place.ensures in
     omega (arith, its.few, its.heads, its.most, its.low)
 
 pub overflow_sub-result : goal.overflow_sub-result
 overflow_sub-result c =
-    let its = film-place c.args.self.now.film c.args.number c.place.result c.index.result.now c.requires c.index.ensures c.frames-frames.ensures c.place.ensures in
+    let its = film-place c.args.self.now.film c.requires c.index.ensures c.frames-frames.ensures c.place.ensures in
     omega (arith, its.few, its.heads, its.most, its.low)
 
 pub overflow_mul-result-2 : goal.overflow_mul-result-2
 overflow_mul-result-2 c =
-    let its = film-place c.args.self.now.film c.args.number c.place.result c.index.result.now c.requires c.index.ensures c.frames-frames.ensures c.place.ensures in
+    let its = film-place c.args.self.now.film c.requires c.index.ensures c.frames-frames.ensures c.place.ensures in
     omega (arith, its.few, its.heads, its.most, its.low)
 
 pub overflow_sub-result-2 : goal.overflow_sub-result-2
 overflow_sub-result-2 c =
-    let its = film-place c.args.self.now.film c.args.number c.place.result c.index.result.now c.requires c.index.ensures c.frames-frames.ensures c.place.ensures in
+    let its = film-place c.args.self.now.film c.requires c.index.ensures c.frames-frames.ensures c.place.ensures in
     omega (arith, its.few, its.heads, its.most, its.low)
 
 pub overflow_add-result : goal.overflow_add-result
 overflow_add-result c =
-    let its = film-place c.args.self.now.film c.args.number c.place.result c.index.result.now c.requires c.index.ensures c.frames-frames.ensures c.place.ensures in
+    let its = film-place c.args.self.now.film c.requires c.index.ensures c.frames-frames.ensures c.place.ensures in
     omega (arith, its.few, its.heads, its.most, its.low)
 
 pub returns : goal.returns
 returns c = λ piece at.
     let film = c.args.self.now.film in
-    let its = film-place film c.args.number c.place.result c.index.result.now c.requires c.index.ensures c.frames-frames.ensures c.place.ensures in
-    let all = film-payload film c.args.number (c.args.number - c.frames-frames.result) c.index.result.now piece c.requires c.index.ensures at (omega (arith, its.few, c.frames-frames.ensures)) in
+    let its = film-place film c.requires c.index.ensures c.frames-frames.ensures c.place.ensures in
+    let all = film-payload film (c.args.number - c.frames-frames.result) c.requires c.index.ensures at (omega (arith, its.few, c.frames-frames.ensures)) in
     omega (arith, all, its.few, its.heads, c.frames-frames.ensures, c.place.ensures)

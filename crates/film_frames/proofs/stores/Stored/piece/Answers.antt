@@ -10,32 +10,32 @@ use Rattle.film_frames.proofs.stores.Stored.piece.Goals as goal
 pub overflow_sub-size : goal.overflow_sub-size
 overflow_sub-size c =
     let film = c.args.self.now.film in
-    let back = read-back c.args.self.now.table c.args.number c.place-2.result c.args.self.now.table_is c.requires c.row-row.ensures c.place-2.ensures c.place.ensures in
+    let back = read-back c.args.self.now.table_is c.requires c.row-row.ensures c.place-2.ensures c.place.ensures in
     omega (arith, back.size)
 
 pub index-requires : goal.index-requires
 index-requires c =
     let film = c.args.self.now.film in
-    let back = read-back c.args.self.now.table c.args.number c.place-2.result c.args.self.now.table_is c.requires c.row-row.ensures c.place-2.ensures c.place.ensures in
+    let back = read-back c.args.self.now.table_is c.requires c.row-row.ensures c.place-2.ensures c.place.ensures in
     omega (arith, slice_get_within film.units.items c.row-row.result.unit (unit_of back.piece) back.is_row.unit, c.unit.ensures, film.units.ok)
 
 pub piece-requires-clause-least : goal.piece-requires-clause-least
 piece-requires-clause-least c =
     let film = c.args.self.now.film in
-    let back = read-back c.args.self.now.table c.args.number c.place-2.result c.args.self.now.table_is c.requires c.row-row.ensures c.place-2.ensures c.place.ensures in
+    let back = read-back c.args.self.now.table_is c.requires c.row-row.ensures c.place-2.ensures c.place.ensures in
     omega (arith, back.size, wire-least film.bytes.items back.piece back.sound)
 
 pub piece-requires-clause-most : goal.piece-requires-clause-most
 piece-requires-clause-most c = λ frame.
     let film = c.args.self.now.film in
-    let back = read-back c.args.self.now.table c.args.number c.place-2.result c.args.self.now.table_is c.requires c.row-row.ensures c.place-2.ensures c.place.ensures in
+    let back = read-back c.args.self.now.table_is c.requires c.row-row.ensures c.place-2.ensures c.place.ensures in
     omega (arith, back.size, film-short film, c.payload_from-from.ensures back.piece back.at, row-within film c.row-row.result back.piece back.is_row back.sound frame)
 
 pub returns : goal.returns
 returns c =
     let film = c.args.self.now.film in
     let row = c.row-row.result in
-    let back = read-back c.args.self.now.table c.args.number c.place-2.result c.args.self.now.table_is c.requires c.row-row.ensures c.place-2.ensures c.place.ensures in
+    let back = read-back c.args.self.now.table_is c.requires c.row-row.ensures c.place-2.ensures c.place.ensures in
     let unit : c.index.result.now ≡ unit_of back.piece =
     let found = get_or_from_slice_get film.units.items row.unit (unit_of back.piece) c.index.result.now back.is_row.unit in
     let read = c.index.ensures in

@@ -7,14 +7,14 @@ use Rattle.film_frames.proofs.traces.TraceTrack.new.Goals as goal
 pub overflow_add-end : goal.overflow_add-end
 overflow_add-end c =
     let is = c.loop-number.invariant in
-    let more = summed-more c.loop-number.end c.loop-number.number (omega (arith, c.loop-number-test.true, c.len-number-end.ensures, c.args.sizes.ok))
+    let more = summed-more (omega (arith, c.loop-number-test.true, c.len-number-end.ensures, c.args.sizes.ok))
     (record { len = is.len; end = is.end; done = is.done; left = is.left }) c.index.ensures in
     omega (arith, more.0, c.requires)
 
 pub loop-number-preserved : goal.loop-number-preserved
 loop-number-preserved c =
     let is = c.loop-number.invariant in
-    let more = summed-more c.loop-number.end c.loop-number.number (omega (arith, c.loop-number-test.true, c.len-number-end.ensures, c.args.sizes.ok))
+    let more = summed-more (omega (arith, c.loop-number-test.true, c.len-number-end.ensures, c.args.sizes.ok))
     (record { len = is.len; end = is.end; done = is.done; left = is.left }) c.index.ensures in
     record { len = more.1.len; end = more.1.end; done = more.1.done; left = more.1.left }
 

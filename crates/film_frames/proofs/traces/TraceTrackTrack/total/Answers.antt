@@ -6,4 +6,4 @@ pub returns-in-Some : goal.returns-in-Some
 returns-in-Some c =
     let ends = c.deref.result.now in
     let last = got ends (length ends - 1) c.in-Some.end.now c.in-Some.ensures.value in
-    last.1 ∙ trace-last-now c.self.inside.ends.items ends c.deref.ensures.value c.self.view_is c.self.invariant (omega (arith, last.0))
+    last.1 ∙ trace-last-now c.deref.ensures.value c.self.view_is c.self.invariant (omega (arith, last.0))
