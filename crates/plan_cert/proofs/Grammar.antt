@@ -61,8 +61,8 @@ pub record IsNext (text : List ℕ) (k : ℕ) (line after : List ℕ) : Type 0 w
   pub left : drop (k + 1) (lines_of text).whole ≡ (lines_of after).whole
   pub rest : (lines_of text).rest ≡ (lines_of after).rest
 
-pub next_is : {k : ℕ} {rest after : List ℕ} (text line : List ℕ) → HasRead text k rest → IsCut 10 rest line after → IsNext text k line after
-next_is {k} {rest} {after} text line read cut =
+pub next_is : {text : List ℕ} {k : ℕ} {rest line after : List ℕ} → HasRead text k rest → IsCut 10 rest line after → IsNext text k line after
+next_is {text} {k} {rest} {line} {after} read cut =
     let lines : lines_of rest ≡ record { whole = line ∷ (lines_of after).whole; rest = (lines_of after).rest } = ap lines_of cut.text_is ∙ lines-cut line after cut.not_in_front in
     let left : drop k (lines_of text).whole ≡ line ∷ (lines_of after).whole = read.left ∙ ap (λ ls. ls.whole) lines in
     let count : length (drop k (lines_of text).whole) ≡ length (lines_of after).whole + 1 = ap length left ∙ omega arith in
@@ -75,9 +75,9 @@ next_is {k} {rest} {after} text line read cut =
     }
 
 -- one line more
-pub read_more : {k : ℕ} {rest after : List ℕ} (text line : List ℕ) → HasRead text k rest → IsCut 10 rest line after → MayStand k line → HasRead text (k + 1) after
-read_more {k} {after} text line read cut stands =
-    let next = next_is text line read cut in
+pub read_more : {text : List ℕ} {k : ℕ} {rest line after : List ℕ} → HasRead text k rest → IsCut 10 rest line after → MayStand k line → HasRead text (k + 1) after
+read_more {text} {k} {line} {after} read cut stands =
+    let next = next_is read cut in
     record {
       within = omega (arith, next.inside);
       left = next.left;
@@ -93,20 +93,20 @@ breaks_missing text k rest read none =
     record { before = read.before; here = inl (omega (arith, count, length-drop k (lines_of text).whole, read.within)) }
 
 -- line k may not be there
-pub breaks_here : {k : ℕ} {rest after : List ℕ} (text line : List ℕ) → HasRead text k rest → IsCut 10 rest line after →
+pub breaks_here : {text : List ℕ} {k : ℕ} {rest line after : List ℕ} → HasRead text k rest → IsCut 10 rest line after →
     (MayStand k line → ⊥) → (MayEnd k line → ⊥) → BreaksAt (lines_of text) k
-breaks_here {k} text line read cut no_stand no_end =
-    let next = next_is text line read cut in
+breaks_here {text} {k} {line} read cut no_stand no_end =
+    let next = next_is read cut in
     record {
       before = read.before;
       here = inr (next.inside, (λ stands. no_stand (subst (λ l. MayStand k l) next.line_is stands)), (λ ends. no_end (subst (λ l. MayEnd k l) next.line_is ends)));
     }
 
 -- something stands after the end
-pub goes_after_end : {k : ℕ} {rest after : List ℕ} (text line : List ℕ) → HasRead text k rest → IsCut 10 rest line after →
+pub goes_after_end : {text : List ℕ} {k : ℕ} {rest line after : List ℕ} → HasRead text k rest → IsCut 10 rest line after →
     MayEnd k line → after ≢ [] → IsAfterEnd (lines_of text) (k + 1)
-goes_after_end {k} {after} text line read cut ends some =
-    let next = next_is text line read cut in
+goes_after_end {text} {k} {line} {after} read cut ends some =
+    let next = next_is read cut in
     let count : length (drop (k + 1) (lines_of text).whole) ≡ length (lines_of after).whole = ap length next.left in
     record {
       last = k;
@@ -152,10 +152,10 @@ not_one_more k line over (Bytes n i number) = omega (arith, i)
 not_one_more k line over (Piece s i few piece) = omega (arith, over, few)
 
 -- the text of the head, put together from its lines
-pub head_text : {title rest slots_line rest2 bytes_line : List ℕ} (text rest3 : List ℕ) (slots bytes : ℕ) →
+pub head_text : {text title rest slots_line rest2 bytes_line : List ℕ} (rest3 : List ℕ) (slots bytes : ℕ) →
     text ≡ title ++ 10 ∷ rest → title ≡ codes "smooth 1" → rest ≡ slots_line ++ 10 ∷ rest2 → slots_line ≡ codes "slots " ++ decimal slots →
     rest2 ≡ bytes_line ++ 10 ∷ rest3 → bytes_line ≡ codes "bytes " ++ decimal bytes → text ≡ cert_head slots bytes ++ rest3
-head_text {rest} {rest2} text rest3 slots bytes cut1 title_is cut2 slots_is cut3 bytes_is =
+head_text {text} {rest} {rest2} rest3 slots bytes cut1 title_is cut2 slots_is cut3 bytes_is =
     let third : rest2 ≡ (codes "bytes " ++ decimal bytes) ++ 10 ∷ rest3 = cut3 ∙ ap (λ l. l ++ 10 ∷ rest3) bytes_is in
     let second : rest ≡ (codes "slots " ++ decimal slots) ++ 10 ∷ ((codes "bytes " ++ decimal bytes) ++ 10 ∷ rest3) =
     cut2 ∙ ap (λ l. l ++ 10 ∷ rest2) slots_is ∙ ap (λ r. (codes "slots " ++ decimal slots) ++ 10 ∷ r) third in
@@ -165,9 +165,9 @@ head_text {rest} {rest2} text rest3 slots bytes cut1 title_is cut2 slots_is cut3
     first ∙ joined
 
 -- one more segment's line
-pub piece_text : {rest : List ℕ} (text line after : List ℕ) (segments : List Segment) (s : Segment) → text ≡ flat_map segment_line segments ++ rest →
+pub piece_text : {text rest line : List ℕ} (after : List ℕ) (segments : List Segment) (s : Segment) → text ≡ flat_map segment_line segments ++ rest →
     rest ≡ line ++ 10 ∷ after → line ≡ segment_words s → text ≡ flat_map segment_line (segments ++ s ∷ []) ++ after
-piece_text text line after segments s so_far cut words =
+piece_text {text} {line} after segments s so_far cut words =
     let whole : text ≡ flat_map segment_line segments ++ (segment_words s ++ 10 ∷ after) =
     so_far ∙ ap (λ r. flat_map segment_line segments ++ r) (cut ∙ ap (λ l. l ++ 10 ∷ after) words) in
     let more : flat_map segment_line (segments ++ s ∷ []) ≡ flat_map segment_line segments ++ (segment_line s ++ []) = flat_map-append segment_line segments (s ∷ []) in
@@ -179,12 +179,12 @@ piece_text text line after segments s so_far cut words =
     whole ∙ sym joined
 
 -- the end
-pub end_text : {rest after : List ℕ} (text line : List ℕ) (segments : List Segment) → text ≡ flat_map segment_line segments ++ rest →
+pub end_text : {text rest line after : List ℕ} (segments : List Segment) → text ≡ flat_map segment_line segments ++ rest →
     rest ≡ line ++ 10 ∷ after → line ≡ codes "end" → after ≡ [] → text ≡ flat_map segment_line segments ++ codes "end\n"
-end_text {after} text line segments so_far cut words none =
+end_text {text} {line} {after} segments so_far cut words none =
     so_far ∙ ap (λ r. flat_map segment_line segments ++ r) (cut ∙ ap (λ l. l ++ 10 ∷ after) words ∙ ap (λ b. codes "end" ++ 10 ∷ b) none)
 
-pub whole_text : {rest : List ℕ} (text : List ℕ) (slots bytes : ℕ) (segments : List Segment) → text ≡ cert_head slots bytes ++ rest →
+pub whole_text : {text rest : List ℕ} (slots bytes : ℕ) (segments : List Segment) → text ≡ cert_head slots bytes ++ rest →
     rest ≡ flat_map segment_line segments ++ codes "end\n" → text ≡ cert_head slots bytes ++ flat_map segment_line segments ++ codes "end\n"
-whole_text text slots bytes segments head body =
+whole_text {text} slots bytes segments head body =
     head ∙ ap (λ r. cert_head slots bytes ++ r) body ∙ sym (append_assoc (cert_head slots bytes) (flat_map segment_line segments) (codes "end\n"))

@@ -62,7 +62,7 @@ lines-certificate slots bytes segments small_slots small_bytes small =
     let third = (codes "bytes " ++ decimal bytes) ++ 10 ∷ body in
     let second = (codes "slots " ++ decimal slots) ++ 10 ∷ third in
     let shape : codes "smooth 1" ++ 10 ∷ second ≡ cert_head slots bytes ++ body =
-    head_text (codes "smooth 1" ++ 10 ∷ second) body slots bytes refl refl refl refl refl refl in
+    head_text body slots bytes refl refl refl refl refl refl in
     let whole : cert_head slots bytes ++ flat_map segment_line segments ++ codes "end\n" ≡ codes "smooth 1" ++ 10 ∷ second =
     append_assoc (cert_head slots bytes) (flat_map segment_line segments) (codes "end\n") ∙ sym shape in
     let clean_slots = All-append (λ b. b ≢ 10) (codes "slots ") (decimal slots) (no_lf_by (codes "slots ") refl) (number_clean slots small_slots) in
@@ -136,11 +136,11 @@ length-body : (segments : List Segment) → length (body_of segments) ≡ length
 length-body segments = length-append (map segment_words segments) (codes "end" ∷ []) ∙ ap (λ n. n + 1) (length-map segments segment_words)
 
 stands : {segments : List Segment} (slots bytes : ℕ) → slots ≤ 2 ^ 42 → bytes ≤ 2 ^ 42 → AreSmall segments →
-    (i : ℕ) → i < 3 + length segments → MayStand i (line_at (lines_are slots bytes segments) i)
-stands slots bytes small_slots small_bytes small zero few = Title refl refl
-stands slots bytes small_slots small_bytes small (suc zero) few = Slots slots refl (record { small = small_slots; words = refl })
-stands slots bytes small_slots small_bytes small (suc (suc zero)) few = Bytes bytes refl (record { small = small_bytes; words = refl })
-stands {segments} slots bytes small_slots small_bytes small (suc (suc (suc j))) few =
+    {i : ℕ} → i < 3 + length segments → MayStand i (line_at (lines_are slots bytes segments) i)
+stands slots bytes small_slots small_bytes small {i = zero} few = Title refl refl
+stands slots bytes small_slots small_bytes small {i = suc zero} few = Slots slots refl (record { small = small_slots; words = refl })
+stands slots bytes small_slots small_bytes small {i = suc (suc zero)} few = Bytes bytes refl (record { small = small_bytes; words = refl })
+stands {segments} slots bytes small_slots small_bytes small {i = suc (suc (suc j))} few =
     let s : Segment = get_or segments j (pair 0 0) in
     let inside : j < length segments = omega (arith, few) in
     let inside' : j < length (map segment_words segments) = omega (arith, inside, length-map segments segment_words) in
@@ -162,7 +162,7 @@ no_break {segments} slots bytes small_slots small_bytes small {i} breaks =
     elim breaks.here [
       | inl over ↦ end_is_no_piece last (line_at (lines_are slots bytes segments) last) (omega arith) at_last (breaks.before last (omega (arith, over, length-body segments)))
       | inr bad ↦ elim (cases_lt i (3 + length segments)) [
-        | inl inside ↦ bad.1 (stands slots bytes small_slots small_bytes small i inside)
+        | inl inside ↦ bad.1 (stands slots bytes small_slots small_bytes small inside)
         | inr after ↦ (
             let is : i ≡ 3 + length segments = omega (arith, after, bad.0, length-body segments) in
             bad.2 (record { after_head = omega (arith, is); words = ends slots bytes segments i is })
@@ -174,7 +174,7 @@ nothing_after : {segments : List Segment} (slots bytes : ℕ) → slots ≤ 2 ^ 
 nothing_after {segments} slots bytes small_slots small_bytes small after =
     elim (cases_lt after.last (3 + length segments)) [
       | inl inside ↦ end_is_no_piece after.last (line_at (lines_are slots bytes segments) after.last) after.ends.after_head after.ends.words
-          (stands slots bytes small_slots small_bytes small after.last inside)
+          (stands slots bytes small_slots small_bytes small inside)
       | inr over ↦ elim after.more [
         | inl more ↦ omega (arith, more, over, after.last_is, length-body segments)
         | inr some ↦ some refl
@@ -204,14 +204,14 @@ certificate_has_no_bad_line text slots bytes segments line cert bad =
     ]
 
 -- so a certificate is read, and as its own segments
-pub exact_reading : (text : List ℕ) (read : Result CertText CertRead) → IfOk read (λ cert. IsCertificate text cert.slots cert.bytes cert.segments.items) →
+pub exact_reading : {text : List ℕ} (read : Result CertText CertRead) → IfOk read (λ cert. IsCertificate text cert.slots cert.bytes cert.segments.items) →
     IfErr read (IsRefused text) → (slots bytes : ℕ) (segments : List Segment) → IsCertificate text slots bytes segments →
     MatchResult read (λ cert. cert.segments.items ≡ segments) (λ refusal. refusal ≡ NoMemory)
-exact_reading text (Ok cert) good bad slots bytes segments certificate =
+exact_reading {text} (Ok cert) good bad slots bytes segments certificate =
     let same = one_text (total_slots cert.segments.items) (total_bytes cert.segments.items) cert.segments.items (total_slots segments) (total_bytes segments) segments
     (omega (arith, good.slots_are, good.small_slots)) (omega (arith, good.bytes_are, good.small_bytes)) good.small.small
     (omega (arith, certificate.slots_are, certificate.small_slots)) (omega (arith, certificate.bytes_are, certificate.small_bytes)) certificate.small.small
     (sym good.text_is ∙ certificate.text_is) in
     same.segments_are
-exact_reading text (Err (BadCert line)) good bad slots bytes segments certificate = absurd (certificate_has_no_bad_line text slots bytes segments line certificate bad)
-exact_reading text (Err NoMemory) good bad slots bytes segments certificate = refl
+exact_reading {text} (Err (BadCert line)) good bad slots bytes segments certificate = absurd (certificate_has_no_bad_line text slots bytes segments line certificate bad)
+exact_reading {text} (Err NoMemory) good bad slots bytes segments certificate = refl

@@ -35,7 +35,7 @@ text_lines segments =
     let whole : cert_text segments ≡ cert_head (total_slots segments) (total_bytes segments) ++ body =
     append_assoc (cert_head (total_slots segments) (total_bytes segments)) (flat_map segment_line segments) (codes "end\n")
     ∙ ap (λ l. cert_head (total_slots segments) (total_bytes segments) ++ l) (body_lines segments) in
-    whole ∙ sym (head_text (ended (codes "smooth 1") ++ second) body (total_slots segments) (total_bytes segments)
+    whole ∙ sym (head_text body (total_slots segments) (total_bytes segments)
     refl refl (append_assoc slots (codes "\n") third) refl (append_assoc bytes (codes "\n") body) refl)
 
 pub one_list : (segments others : List Segment) → IsNamed segments → IsNamed others → cert_text segments ≡ cert_text others → segments ≡ others

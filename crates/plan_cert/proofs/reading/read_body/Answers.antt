@@ -17,14 +17,14 @@ returns-then-is_text-clause-refused c = λ whole read.
     let k = 3 + c.loop-count.count in
     let ends : MayEnd k c.in-Some.line.now = record { after_head = omega arith; words = c.is_text.ensures.0 c.if-is_text.true } in
     let some : c.in-Some.after.now ≢ [] = λ e. both_ways c.is_empty.result c.if-is_empty.false (c.is_empty.ensures ∙ eq-eqb (length c.in-Some.after.now) 0 (ap length e)) in
-    (k + 1, omega arith, inr (inl (goes_after_end whole c.in-Some.line.now (c.loop-count.invariant.read whole read) c.in-Some.ensures ends some)))
+    (k + 1, omega arith, inr (inl (goes_after_end (c.loop-count.invariant.read whole read) c.in-Some.ensures ends some)))
 
 pub returns-in_default-segment_in-clause-refused : goal.returns-in_default-segment_in-clause-refused
 returns-in_default-segment_in-clause-refused c = λ whole read.
     let k = 3 + c.loop-count.count in (
       k,
       omega arith,
-      inl (breaks_here whole c.in-Some.line.now (c.loop-count.invariant.read whole read) c.in-Some.ensures
+      inl (breaks_here (c.loop-count.invariant.read whole read) c.in-Some.ensures
           (not_piece c.loop-count.count c.in-Some.line.now c.in_default-segment_in.ensures) (λ ends. both_ways c.is_text.result c.if-is_text.false (c.is_text.ensures.1 ends.words))),
     )
 
@@ -33,7 +33,7 @@ returns-then-count-eq-MAX_SEGMENTS-clause-refused c = λ whole read.
     let k = 3 + c.loop-count.count in (
       k,
       omega arith,
-      inl (breaks_here whole c.in-Some.line.now (c.loop-count.invariant.read whole read) c.in-Some.ensures
+      inl (breaks_here (c.loop-count.invariant.read whole read) c.in-Some.ensures
           (not_one_more c.loop-count.count c.in-Some.line.now c.if-count-eq-MAX_SEGMENTS.true) (λ ends. both_ways c.is_text.result c.if-is_text.false (c.is_text.ensures.1 ends.words))),
     )
 
@@ -49,11 +49,11 @@ loop-count-preserved c =
       counted = ap length items ∙ length_push c.loop-count.segments.items s ∙ ap (λ n. n + 1) inv.counted;
       small = rw items (All-push (λ x. (x.slots ≤ 2 ^ 42) × (x.bytes ≤ 2 ^ 42)) c.loop-count.segments.items s inv.small
           (c.in-Some-segment_in.ensures.few_slots, c.in-Some-segment_in.ensures.few_bytes));
-      text_is = rw items (piece_text c.args.text.now c.in-Some.line.now c.in-Some.after.now c.loop-count.segments.items s
+      text_is = rw items (piece_text c.in-Some.after.now c.loop-count.segments.items s
           inv.text_is c.in-Some.ensures.text_is c.in-Some-segment_in.ensures.words);
       read = λ whole read.
           let next : HasRead whole (3 + c.loop-count.count + 1) c.in-Some.after.now =
-          read_more whole c.in-Some.line.now (inv.read whole read) c.in-Some.ensures
+          read_more (inv.read whole read) c.in-Some.ensures
           (Piece s (omega arith) (omega arith) c.in-Some-segment_in.ensures) in
           let place : 3 + c.loop-count.count + 1 ≡ 3 + (c.loop-count.count + 1) = omega arith in
           subst (λ n. HasRead whole n c.in-Some.after.now) place next;
