@@ -52,8 +52,8 @@ unfolding picture_words
 picture_words-more words k = ap (picture_words words) (add-one k)
 
 -- a byte more of a body
-pub body-step : {was : List ℕ} {d : ℕ} (start : List ℕ) (words left : ℕ → ℕ) (i : ℕ) → was ≡ start ++ body_of words i → left ≡ after i words → d ≡ left 0 % 128 → was ++ (128 + d) ∷ [] ≡ start ++ body_of words (i + 1)
-body-step {d} start words left i bytes rest drawn =
+pub body-step : {was : List ℕ} {left : ℕ → ℕ} {d : ℕ} (start : List ℕ) (words : ℕ → ℕ) (i : ℕ) → was ≡ start ++ body_of words i → left ≡ after i words → d ≡ left 0 % 128 → was ++ (128 + d) ∷ [] ≡ start ++ body_of words (i + 1)
+body-step {left} {d} start words i bytes rest drawn =
     let byte : d ≡ words i % 128 =
     drawn ∙ ap (λ (w : ℕ → ℕ). w 0 % 128) rest ∙ ap (λ n. n % 128) (after-at i words 0) ∙ ap (λ n. words n % 128) (omega arith) in
     ap (λ (l : List ℕ). l ++ (128 + d) ∷ []) bytes ∙ append_assoc start (body_of words i) ((128 + d) ∷ [])

@@ -27,15 +27,15 @@ trace_size-drawn words left k rest =
     ap (λ n. cond (eqb (k % 12) 0) 4 1 * (200 + n % 1800)) (ap (λ (w : ℕ → ℕ). w 0) rest ∙ after-at k words 0 ∙ ap words same)
 
 -- a line more
-pub line-step : {was : List ℕ} {size : ℕ} (words left : ℕ → ℕ) (k : ℕ) → was ≡ concat (λ n. decimal (trace_size words n) ++ 10 ∷ []) k → left ≡ after k words → size ≡ cond (eqb (k % 12) 0) 4 1 * (200 + left 0 % 1800) → was ++ (decimal size ++ 10 ∷ []) ≡ concat (λ n. decimal (trace_size words n) ++ 10 ∷ []) (k + 1)
-line-step {size} words left k lines rest drawn =
+pub line-step : {was : List ℕ} {left : ℕ → ℕ} {size : ℕ} (words : ℕ → ℕ) (k : ℕ) → was ≡ concat (λ n. decimal (trace_size words n) ++ 10 ∷ []) k → left ≡ after k words → size ≡ cond (eqb (k % 12) 0) 4 1 * (200 + left 0 % 1800) → was ++ (decimal size ++ 10 ∷ []) ≡ concat (λ n. decimal (trace_size words n) ++ 10 ∷ []) (k + 1)
+line-step {left} {size} words k lines rest drawn =
     ap (λ (l : List ℕ). l ++ (decimal size ++ 10 ∷ [])) lines
     ∙ ap (λ n. concat (λ n. decimal (trace_size words n) ++ 10 ∷ []) k ++ (decimal n ++ 10 ∷ [])) (drawn ∙ trace_size-drawn words left k rest)
     ∙ sym (concat-more (λ n. decimal (trace_size words n) ++ 10 ∷ []) k)
 
 -- a size more
-pub size-step : {was : List ℕ} {size : ℕ} (words left : ℕ → ℕ) (k : ℕ) → was ≡ map (trace_size words) (range_with_len 0 k) → left ≡ after k words → size ≡ cond (eqb (k % 12) 0) 4 1 * (200 + left 0 % 1800) → was ++ size ∷ [] ≡ map (trace_size words) (range_with_len 0 (k + 1))
-size-step {size} words left k sizes rest drawn =
+pub size-step : {was : List ℕ} {left : ℕ → ℕ} {size : ℕ} (words : ℕ → ℕ) (k : ℕ) → was ≡ map (trace_size words) (range_with_len 0 k) → left ≡ after k words → size ≡ cond (eqb (k % 12) 0) 4 1 * (200 + left 0 % 1800) → was ++ size ∷ [] ≡ map (trace_size words) (range_with_len 0 (k + 1))
+size-step {left} {size} words k sizes rest drawn =
     ap (λ (l : List ℕ). l ++ size ∷ []) sizes
     ∙ ap (λ n. map (trace_size words) (range_with_len 0 k) ++ n ∷ []) (drawn ∙ trace_size-drawn words left k rest)
     ∙ sym (map-range_with_len_more (trace_size words) 0 k k (omega arith))

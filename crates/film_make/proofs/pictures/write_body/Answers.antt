@@ -9,6 +9,6 @@ loop-i-init c = record { bytes = none-added _ _ (body_of-none _); left = sym (af
 pub loop-i-preserved : goal.loop-i-preserved
 loop-i-preserved c = record {
   bytes = c.in_ok-push.ensures.items
-      ∙ body-step _ _ _ _ c.loop-i.invariant.bytes c.loop-i.invariant.left c.draw.ensures.value;
+      ∙ body-step _ _ _ c.loop-i.invariant.bytes c.loop-i.invariant.left c.draw.ensures.value;
   left = c.draw.ensures.left ∙ after-step _ _ _ c.loop-i.invariant.left;
 }

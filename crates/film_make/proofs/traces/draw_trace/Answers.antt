@@ -13,6 +13,6 @@ loop-index-init c = record {
 pub loop-index-preserved : goal.loop-index-preserved
 loop-index-preserved c = record {
   bytes = c.in_ok-write_line.ensures
-      ∙ line-step _ _ _ c.loop-index.invariant.bytes c.loop-index.invariant.left c.next_size.ensures.value;
+      ∙ line-step _ _ c.loop-index.invariant.bytes c.loop-index.invariant.left c.next_size.ensures.value;
   left = c.next_size.ensures.left ∙ after-step _ _ _ c.loop-index.invariant.left;
 }
