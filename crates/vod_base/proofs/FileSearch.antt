@@ -26,19 +26,19 @@ stored_step items name i item h e =
     named_step (map file_of items) name i (file_of item) (rw length-map h)
     (get_or-map file_of items i item ∙ ap file_of (sym e))
 
-pub stored_here : {files : List File} (items : List (String Global × Vec ℕ Global)) (name : List ℕ) (i : ℕ)
-    (item : String Global × Vec ℕ Global) →
+pub stored_here : {files : List File} {item : String Global × Vec ℕ Global}
+    (items : List (String Global × Vec ℕ Global)) (name : List ℕ) (i : ℕ) →
     files ≡ map file_of items → i < length items → item ≡ get_or items i item → bytes_eq (string_bytes item.0) name ≡ true →
     file_named (drop i files) name ≡ Some item.1.items
-stored_here items name i item are h e same =
+stored_here {item} items name i are h e same =
     let step = stored_step items name i item h e in
     rw are (step ∙ ap (λ b. if b then Some item.1.items else file_named (drop (i + 1) (map file_of items)) name) same)
 
-pub stored_after : {files : List File} (items : List (String Global × Vec ℕ Global)) (name : List ℕ) (i : ℕ)
-    (item : String Global × Vec ℕ Global) →
+pub stored_after : {files : List File} {item : String Global × Vec ℕ Global}
+    (items : List (String Global × Vec ℕ Global)) (name : List ℕ) (i : ℕ) →
     files ≡ map file_of items → i < length items → item ≡ get_or items i item → bytes_eq (string_bytes item.0) name ≡ false →
     file_named (drop i files) name ≡ file_named (drop (i + 1) files) name
-stored_after items name i item are h e other =
+stored_after {item} items name i are h e other =
     let step = stored_step items name i item h e in
     rw are (step ∙ ap (λ b. if b then Some item.1.items else file_named (drop (i + 1) (map file_of items)) name) other)
 

@@ -87,23 +87,23 @@ feed_line front text rest free last =
           ∙ ap (λ n. get_or whole n 0) there ∙ cr));
     }
 
-next_isnt_earlier : {bytes : List ℕ} {after : ℕ} (at one other next : ℕ) → IsLine bytes at one next → IsLine bytes at other after → next < after → ⊥
-next_isnt_earlier at one other next is are earlier =
+next_isnt_earlier : {bytes : List ℕ} {at one other next after : ℕ} → IsLine bytes at one next → IsLine bytes at other after → next < after → ⊥
+next_isnt_earlier {at} {one} {other} {next} is are earlier =
     are.first (next - 1) (omega (arith, is.after)) (omega (arith, is.after)) is.feed
 
-same_next : {bytes : List ℕ} {after : ℕ} (at one other next : ℕ) → IsLine bytes at one next → IsLine bytes at other after → next ≡ after
-same_next {after} at one other next is are =
+same_next : {bytes : List ℕ} {at one other next after : ℕ} → IsLine bytes at one next → IsLine bytes at other after → next ≡ after
+same_next {at} {one} {other} {next} {after} is are =
     elim (cases_lt next after) [
-      | inl earlier ↦ absurd (next_isnt_earlier at one other next is are earlier)
+      | inl earlier ↦ absurd (next_isnt_earlier is are earlier)
       | inr late ↦ elim (cases_lt after next) [
-        | inl later ↦ absurd (next_isnt_earlier at other one after are is later)
+        | inl later ↦ absurd (next_isnt_earlier are is later)
         | inr early ↦ omega arith
       ]
     ]
 
 pub one_line : (bytes : List ℕ) (at one other next after : ℕ) → IsLine bytes at one next → IsLine bytes at other after → (one ≡ other) × (next ≡ after)
 one_line bytes at one other next after is are =
-    let same = same_next at one other next is are in
+    let same = same_next is are in
     let end : ℕ → ℕ = λ n. if nat_lt (at + 1) n && (get_or bytes (n - 2) 0 == 13) then n - 2 else n - 1 in
     (is.text ∙ ap end same ∙ sym are.text, same)
 

@@ -11,7 +11,7 @@ returns-then-eq c =
     let same : bytes_eq (string_bytes c.loop-file_name-item.result.0) c.args.name.now ≡ true =
     rw (← c.as_str.ensures.value) (sym (c.if-eq.ensures {u = tt})) in
     let here = stored_here c.deref-file_name-items.result.now c.args.name.now c.loop-file_name.file_name-index
-    c.loop-file_name-item.result are c.loop-file_name-test.true c.loop-file_name-item.is same in
+    are c.loop-file_name-test.true c.loop-file_name-item.is same in
     rw c.as_slice.ensures.value (sym (c.loop-file_name.invariant ∙ here))
 
 pub loop-file_name-preserved : goal.loop-file_name-preserved
@@ -22,7 +22,7 @@ loop-file_name-preserved c =
     rw (← c.as_str.ensures.value) (sym (c.if-eq.ensures {u = tt})) in
     c.loop-file_name.invariant
     ∙ stored_after c.deref-file_name-items.result.now c.args.name.now c.loop-file_name.file_name-index
-    c.loop-file_name-item.result are c.loop-file_name-test.true c.loop-file_name-item.is other
+    are c.loop-file_name-test.true c.loop-file_name-item.is other
 
 pub returns : goal.returns
 returns c =
