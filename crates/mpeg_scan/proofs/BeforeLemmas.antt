@@ -25,7 +25,7 @@ pub older : (Has : ℕ → ℕ → Type 0) (c : Code) (past : List Code) (at : �
     Knows Has (c ∷ past) at → Spaced (c ∷ past) → Knows Has past c.place
 older Has c past at k spaced = record {
   there = λ place kind has. k.there place kind (inr has);
-  below = all-below past c.place spaced.1 spaced.0;
+  below = all-below past spaced.1 spaced.0;
   back = λ place kind has before.
       older-back c past place kind before
       (k.back place kind has (omega (arith, before, k.below c.place c.kind (inl (refl, refl)))));
@@ -44,37 +44,37 @@ pub data Where (Has : ℕ → ℕ → Type 0) (c : Code) (place kind : ℕ) : Ty
   here : c.place ≡ place → c.kind ≡ kind → Where Has c place kind
   earlier : place < c.place → Where Has c place kind
 
-where-by : {kind : ℕ} (Has : ℕ → ℕ → Type 0) (c : Code) (past : List Code) (place : ℕ) →
+where-by : {Has : ℕ → ℕ → Type 0} {c : Code} {place kind : ℕ} (past : List Code) →
     Spaced (c ∷ past) → HasCode place kind (c ∷ past) → Where Has c place kind
-where-by Has c past place spaced (inl new) = here new.0 new.1
-where-by {kind} Has c past place spaced (inr old) =
-    earlier (all-below past c.place spaced.1 spaced.0 place kind old)
+where-by {Has} {c} {place} past spaced (inl new) = here new.0 new.1
+where-by {Has} {c} {place} {kind} past spaced (inr old) =
+    earlier (all-below past spaced.1 spaced.0 place kind old)
 
-pub where-is : {past : List Code} (Has : ℕ → ℕ → Type 0) (c : Code) (at : ℕ) →
-    Knows Has (c ∷ past) at → Spaced (c ∷ past) → (place : ℕ) {kind : ℕ} → Has place kind → place < at →
+pub where-is : {Has : ℕ → ℕ → Type 0} {c : Code} {past : List Code} {at : ℕ} →
+    Knows Has (c ∷ past) at → Spaced (c ∷ past) → {place kind : ℕ} → Has place kind → place < at →
     Where Has c place kind
-where-is {past} Has c at k spaced place {kind} has before =
-    where-by Has c past place spaced (k.back place kind has before)
+where-is {Has} {c} {past} {at} k spaced {place} {kind} has before =
+    where-by past spaced (k.back place kind has before)
 
 -- none in front of the latest code, and that one isn't such: none
-pub none-with : {past : List Code} (Has : ℕ → ℕ → Type 0) (c : Code) (at from : ℕ) (OfKind : ℕ → Type 0) → Knows Has (c ∷ past) at → Spaced (c ∷ past) → (OfKind c.kind → ⊥) →
+pub none-with : {Has : ℕ → ℕ → Type 0} {c : Code} {past : List Code} {at from : ℕ} {OfKind : ℕ → Type 0} → Knows Has (c ∷ past) at → Spaced (c ∷ past) → (OfKind c.kind → ⊥) →
     NoneIn Has from c.place OfKind → NoneIn Has from at OfKind
-none-with Has c at from OfKind k spaced other none place kind has after before is =
-    elim (where-is Has c at k spaced place has before) [
+none-with {Has} {c} {at} {from} {OfKind} k spaced other none place kind has after before is =
+    elim (where-is k spaced has before) [
       | here e m ↦ other (subst OfKind (sym m) is)
       | earlier below ↦ none place kind has after below is
     ]
 
 -- the same from the latest code on
-none-from : {past : List Code} (Has : ℕ → ℕ → Type 0) (c : Code) (at : ℕ) (OfKind : ℕ → Type 0) →
+none-from : {Has : ℕ → ℕ → Type 0} {c : Code} {past : List Code} {at : ℕ} (OfKind : ℕ → Type 0) →
     Knows Has (c ∷ past) at → Spaced (c ∷ past) → (OfKind c.kind → ⊥) → NoneIn Has c.place at OfKind
-none-from Has c at OfKind k spaced other =
-    none-with Has c at c.place OfKind k spaced other (λ place kind has after before is.
+none-from {Has} {c} {at} OfKind k spaced other =
+    none-with k spaced other (λ place kind has after before is.
     absurd (omega (arith, after, before)))
 
-pub none-after : {past : List Code} (Has : ℕ → ℕ → Type 0) (c : Code) (at : ℕ) (OfKind : ℕ → Type 0) → Knows Has (c ∷ past) at → Spaced (c ∷ past) → NoneIn Has (c.place + 1) at OfKind
-none-after Has c at OfKind k spaced place kind has after before is =
-    elim (where-is Has c at k spaced place has before) [
+pub none-after : {Has : ℕ → ℕ → Type 0} {c : Code} {past : List Code} {at : ℕ} (OfKind : ℕ → Type 0) → Knows Has (c ∷ past) at → Spaced (c ∷ past) → NoneIn Has (c.place + 1) at OfKind
+none-after {Has} {c} {at} OfKind k spaced place kind has after before is =
+    elim (where-is k spaced has before) [
       | here e m ↦ absurd (omega (arith, e, after))
       | earlier below ↦ absurd (omega (arith, below, after))
     ]
@@ -86,14 +86,14 @@ pub latest-new : (Has : ℕ → ℕ → Type 0) (c : Code) (past : List Code) (a
 latest-new Has c past at k spaced = record {
   code = has-new Has c past at k;
   before = new-below Has c past at k;
-  last = none-after Has c at AnyKind k spaced;
+  last = none-after AnyKind k spaced;
 }
 
-pub latest-is : {past : List Code} {kind : ℕ} (Has : ℕ → ℕ → Type 0) (c : Code) (at place : ℕ) →
+pub latest-is : {Has : ℕ → ℕ → Type 0} {c : Code} {past : List Code} {at place kind : ℕ} →
     Knows Has (c ∷ past) at → Spaced (c ∷ past) → IsLatest Has place kind at → (c.place ≡ place)
     × (c.kind ≡ kind)
-latest-is {past} Has c at place k spaced l =
-    elim (where-is Has c at k spaced place l.code l.before) [
+latest-is {Has} {c} {past} {at} {place} k spaced l =
+    elim (where-is k spaced l.code l.before) [
       | here e m ↦ (e, m)
       | earlier below ↦ absurd
           (l.last c.place c.kind (has-new Has c past at k) (omega (arith, below))
@@ -111,16 +111,15 @@ pub kind-slice : (kind : ℕ) → IsSliceKind kind → is_slice kind ≡ true
 kind-slice kind is =
     and_from (leb 1 kind) (leb kind 0xaf) (le-leb 1 kind is.0) (le-leb kind 0xaf is.1)
 
-head-by : {A C : Type 0} (a b c : Bool) (B : Type 0) → (a ≡ true → A) → (b ≡ true → B) → (c ≡ true → C) →
+head-by : {a b c : Bool} {A B C : Type 0} → (a ≡ true → A) → (b ≡ true → B) → (c ≡ true → C) →
     (a || (b || c)) ≡ true → A ⊎ (B ⊎ C)
-head-by true b c B one two three e = inl (one refl)
-head-by false true c B one two three e = inr (inl (two refl))
-head-by false false true B one two three e = inr (inr (three refl))
-head-by false false false B one two three e = absurd (false≢true e)
+head-by {a = true} {c} {B} one two three e = inl (one refl)
+head-by {a = false} {b = true} {c} {B} one two three e = inr (inl (two refl))
+head-by {a = false} {b = false} {c = true} {B} one two three e = inr (inr (three refl))
+head-by {a = false} {b = false} {c = false} {B} one two three e = absurd (false≢true e)
 
 pub head-kind : (kind : ℕ) → is_head kind ≡ true → IsHeadKind kind
-head-kind kind e = head-by (eqb kind 0) (eqb kind 0xb3) (eqb kind 0xb8) (kind ≡
-    0xb3) (eqb-true kind 0) (eqb-true kind 0xb3) (eqb-true kind 0xb8) e
+head-kind kind e = head-by (eqb-true kind 0) (eqb-true kind 0xb3) (eqb-true kind 0xb8) e
 
 pub kind-head : (kind : ℕ) → IsHeadKind kind → is_head kind ≡ true
 kind-head kind (inl e) = ap is_head e
@@ -144,75 +143,75 @@ pub record HasSlice (Has : ℕ → ℕ → Type 0) (at : ℕ) : Type 0 where
   pub before : place < at
   pub none : NoneIn Has place at IsHeadKind
 
-slice-by : {past : List Code} (h s : Bool) (n : ℕ) (Has : ℕ → ℕ → Type 0) (c : Code) (at : ℕ) →
+slice-by : {h s : Bool} {Has : ℕ → ℕ → Type 0} {c : Code} {past : List Code} {at : ℕ} (n : ℕ) →
     is_head c.kind ≡ h → is_slice c.kind ≡ s → Knows Has (c ∷ past) at → Spaced (c ∷ past)
     → (0 < n → HasSlice Has c.place) → 0 < cond h 0 (cond s (n + 1) n) → HasSlice Has at
-slice-by true s n Has c at head slice k spaced before some = absurd (omega (arith, some))
-slice-by {past} false true n Has c at head slice k spaced before some = record {
+slice-by {h = true} {s} {Has} {c} {at} n head slice k spaced before some = absurd (omega (arith, some))
+slice-by {h = false} {s = true} {Has} {c} {past} {at} n head slice k spaced before some = record {
   place = c.place;
   code = (c.kind, (has-new Has c past at k, slice-kind c.kind slice));
   before = new-below Has c past at k;
-  none = none-from Has c at IsHeadKind k spaced (no-head c.kind head);
+  none = none-from IsHeadKind k spaced (no-head c.kind head);
 }
-slice-by {past} false false n Has c at head slice k spaced before some =
+slice-by {h = false} {s = false} {Has} {c} {past} {at} n head slice k spaced before some =
     let it = before some in record {
       place = it.place;
       code = it.code;
       before = omega (arith, it.before, new-below Has c past at k);
-      none = none-with Has c at it.place IsHeadKind k spaced (no-head c.kind head) it.none;
+      none = none-with k spaced (no-head c.kind head) it.none;
     }
 
 pub slice-there : (Has : ℕ → ℕ → Type 0) (past : List Code) (at : ℕ) → Knows Has past at →
     Spaced past → 0 < slices_of past → HasSlice Has at
 slice-there Has [] at k spaced some = absurd (omega (arith, some))
 slice-there Has (c ∷ past) at k spaced some =
-    slice-by (is_head c.kind) (is_slice c.kind) (slices_of past) Has c at refl refl k spaced
+    slice-by (slices_of past) refl refl k spaced
     (slice-there Has past c.place (older Has c past at k spaced) spaced.1) some
 
 -- ---- the latest unit's head
 
-not-open-by : (Has : ℕ → ℕ → Type 0) (unit at : ℕ) → (s : HasSlice Has at) → s.place < unit →
+not-open-by : {Has : ℕ → ℕ → Type 0} {unit at : ℕ} → (s : HasSlice Has at) → s.place < unit →
     unit < at → BeginsUnit Has unit → ⊥
-not-open-by Has unit at s far below (inl first) =
+not-open-by {Has} {at} s far below (inl first) =
     absurd (omega (arith, far, first.1 s.place s.code.0 s.code.1.0))
-not-open-by Has unit at s far below (inr it) =
+not-open-by {Has} {unit} {at} s far below (inr it) =
     s.none unit it.0.0 it.0.1.0 (omega (arith, far)) below it.0.1.1
 
 pub not-open : (Has : ℕ → ℕ → Type 0) (unit at : ℕ) → HasSlice Has at → IsOpenHead Has unit at → ⊥
 not-open Has unit at s o = elim (cases_lt s.place unit) [
-  | inl far ↦ not-open-by Has unit at s far o.before o.begins
+  | inl far ↦ not-open-by s far o.before o.begins
   | inr near ↦ o.no_slice s.place s.code.0 s.code.1.0 near s.before s.code.1.1
 ]
 
 -- no slice stands in front of a head that is open, after the head before it
-not-between : (Has : ℕ → ℕ → Type 0) (u v s : ℕ) → u < v → s < u → NoneIn Has s v IsHeadKind →
+not-between : {Has : ℕ → ℕ → Type 0} {u v s : ℕ} → u < v → s < u → NoneIn Has s v IsHeadKind →
     StandsThere Has s IsSliceKind → BeginsUnit Has u → ⊥
-not-between Has u v s less far none slice (inl first) =
+not-between {Has} {s} less far none slice (inl first) =
     absurd (omega (arith, far, first.1 s slice.0 slice.1.0))
-not-between Has u v s less far none slice (inr it) =
+not-between {Has} {u} {s} less far none slice (inr it) =
     none u it.0.0 it.0.1.0 (omega (arith, far)) less it.0.1.1
 
 begins-stands : (Has : ℕ → ℕ → Type 0) (u : ℕ) → BeginsUnit Has u → StandsThere Has u AnyKind
 begins-stands Has u (inl first) = first.0
 begins-stands Has u (inr it) = (it.0.0, (it.0.1.0, tt))
 
-not-after : {u : ℕ} (Has : ℕ → ℕ → Type 0) (v at : ℕ) → u < v → v < at → IsOpenHead Has u at →
+not-after : {Has : ℕ → ℕ → Type 0} {u v at : ℕ} → u < v → v < at → IsOpenHead Has u at →
     BeginsUnit Has v → ⊥
-not-after {u} Has v at less below o (inl first) =
+not-after {Has} {u} {at} less below o (inl first) =
     let has = begins-stands Has u o.begins in omega (arith, less, first.1 u has.0 has.1.0)
-not-after {u} Has v at less below o (inr it) =
+not-after {Has} {u} {at} less below o (inr it) =
     let s = it.1.0 in
     let slice = it.1.1.0.0 in elim (cases_lt s u) [
-      | inl far ↦ not-between Has u v s less far it.1.1.1 slice o.begins
+      | inl far ↦ not-between less far it.1.1.1 slice o.begins
       | inr near ↦ o.no_slice s slice.0 slice.1.0 near (omega (arith, it.1.1.0.1, below)) slice.1.1
     ]
 
 pub one-head : (Has : ℕ → ℕ → Type 0) (u v at : ℕ) → IsOpenHead Has u at → IsOpenHead Has v at →
     u ≡ v
 one-head Has u v at one other = elim (cases_lt u v) [
-  | inl less ↦ absurd (not-after Has v at less other.before one other.begins)
+  | inl less ↦ absurd (not-after less other.before one other.begins)
   | inr more ↦ elim (cases_lt v u) [
-    | inl less ↦ absurd (not-after Has u at less one.before other one.begins)
+    | inl less ↦ absurd (not-after less one.before other one.begins)
     | inr same ↦ omega (arith, more, same)
   ]
 ]
@@ -224,28 +223,28 @@ none-left false true n e is = absurd (omega (arith, e))
 none-left false false n e is = (refl, e)
 
 -- a code that isn't a slice keeps a head open
-open-with : {past : List Code} {unit : ℕ} (Has : ℕ → ℕ → Type 0) (c : Code) (at : ℕ) →
+open-with : {Has : ℕ → ℕ → Type 0} {c : Code} {past : List Code} {at unit : ℕ} →
     Knows Has (c ∷ past) at → Spaced (c ∷ past) → (IsSliceKind c.kind → ⊥) →
     IsOpenHead Has unit c.place → IsOpenHead Has unit at
-open-with {past} {unit} Has c at k spaced other o = record {
+open-with {Has} {c} {past} {at} k spaced other o = record {
   begins = o.begins;
   before = omega (arith, o.before, new-below Has c past at k);
-  no_slice = none-with Has c at unit IsSliceKind k spaced other o.no_slice;
+  no_slice = none-with k spaced other o.no_slice;
 }
 
-not-slice-by : (h s : Bool) (n kind : ℕ) → is_head kind ≡ h → is_slice kind ≡ s →
+not-slice-by : {h s : Bool} {kind : ℕ} (n : ℕ) → is_head kind ≡ h → is_slice kind ≡ s →
     cond h 0 (cond s (n + 1) n) ≡ 0 → IsSliceKind kind → ⊥
-not-slice-by true s n kind head slice e = head-no-slice kind head
-not-slice-by false s n kind head slice e = no-slice kind (slice ∙ (none-left false s n e refl).0)
+not-slice-by {h = true} {s} {kind} n head slice e = head-no-slice kind head
+not-slice-by {h = false} {s} {kind} n head slice e = no-slice kind (slice ∙ (none-left false s n e refl).0)
 
 -- a code that begins a unit
-open-new : {past : List Code} (Has : ℕ → ℕ → Type 0) (c : Code) (at : ℕ) → Knows Has (c ∷ past) at →
+open-new : {Has : ℕ → ℕ → Type 0} {c : Code} {past : List Code} {at : ℕ} → Knows Has (c ∷ past) at →
     Spaced (c ∷ past) → (IsSliceKind c.kind → ⊥) → BeginsUnit Has c.place →
     IsOpenHead Has c.place at
-open-new {past} Has c at k spaced other begins = record {
+open-new {Has} {c} {past} {at} k spaced other begins = record {
   begins = begins;
   before = new-below Has c past at k;
-  no_slice = none-from Has c at IsSliceKind k spaced other;
+  no_slice = none-from IsSliceKind k spaced other;
 }
 
 -- the first code
@@ -265,35 +264,34 @@ left-zero true s n e b = elim (cases_lt 0 n) [
 ]
 left-zero false s n e b = (none-left false s n e refl).1
 
-open-by : {past : List Code} {unit : ℕ} (b : Bool) (Has : ℕ → ℕ → Type 0) (c : Code) (at : ℕ) →
+open-by : {b : Bool} {Has : ℕ → ℕ → Type 0} {c : Code} {past : List Code} {at unit : ℕ} →
     (is_head c.kind && ltb 0 (slices_of past)) ≡ b → Knows Has (c ∷ past) at → Spaced (c ∷ past) →
     slices_of (c ∷ past) ≡ 0
     → (slices_of past ≡ 0 → IsOpenHead Has unit c.place) → IsOpenHead Has (cond b c.place unit) at
-open-by {past} true Has c at e k spaced none before =
+open-by {b = true} {Has} {c} {past} {at} e k spaced none before =
     let parts = and_parts (is_head c.kind) (ltb 0 (slices_of past)) e in
     let s = slice-there Has past c.place (older Has c past at k spaced) spaced.1
     (ltb-true 0 (slices_of past) parts.1) in
-    open-new Has c at k spaced (head-no-slice c.kind parts.0)
+    open-new k spaced (head-no-slice c.kind parts.0)
     (inr (
       (c.kind, (has-new Has c past at k, head-kind c.kind parts.0)),
       (s.place, ((s.code, s.before), s.none)),
     ))
-open-by {past} false Has c at e k spaced none before =
-    open-with Has c at k spaced
-    (not-slice-by (is_head c.kind) (is_slice c.kind) (slices_of past) c.kind refl refl none)
+open-by {b = false} {Has} {c} {past} {at} e k spaced none before =
+    open-with k spaced
+    (not-slice-by (slices_of past) refl refl none)
     (before (left-zero (is_head c.kind) (is_slice c.kind) (slices_of past) none e))
 
-pub open-head : (Has : ℕ → ℕ → Type 0) (c : Code) (past : List Code) (at : ℕ) →
+pub open-head : {Has : ℕ → ℕ → Type 0} {c : Code} {past : List Code} {at : ℕ} →
     Knows Has (c ∷ past) at → Spaced (c ∷ past) → slices_of (c ∷ past) ≡ 0 →
     IsOpenHead Has (unit_of (c ∷ past)) at
-open-head Has c [] at k spaced none =
-    open-new Has c at k spaced
-    (not-slice-by (is_head c.kind) (is_slice c.kind) 0 c.kind refl refl none)
+open-head {Has} {c} {past = []} {at} k spaced none =
+    open-new k spaced
+    (not-slice-by 0 refl refl none)
     (inl ((c.kind, (has-new Has c [] at k, tt)), firsts Has c at k))
-open-head Has c (d ∷ past) at k spaced none =
-    open-by (is_head c.kind
-    && ltb 0 (slices_of (d ∷ past))) Has c at refl k spaced none
-    (λ zero_is. open-head Has d past c.place (older Has c (d ∷ past) at k spaced) spaced.1 zero_is)
+open-head {Has} {c} {past = d ∷ past} {at} k spaced none =
+    open-by refl k spaced none
+    (λ zero_is. open-head (older Has c (d ∷ past) at k spaced) spaced.1 zero_is)
 
 -- ---- the picture in the latest unit's head
 
@@ -301,38 +299,38 @@ abbrev pub PictureThere : (ℕ → ℕ → Type 0) → ℕ → ℕ → Option He
 PictureThere Has unit at None = NoneIn Has unit at IsPicture
 PictureThere Has unit at (Some h) = IsItsPicture Has unit h.place at
 
-picture-with : {past : List Code} (Has : ℕ → ℕ → Type 0) (c : Code) (at unit : ℕ) (o : Option Header) →
+picture-with : {Has : ℕ → ℕ → Type 0} {c : Code} {past : List Code} {at : ℕ} (unit : ℕ) (o : Option Header) →
     Knows Has (c ∷ past) at → Spaced (c ∷ past) → (c.kind ≡ 0 → ⊥) →
     PictureThere Has unit c.place o → PictureThere Has unit at o
-picture-with Has c at unit None k spaced other none =
-    none-with Has c at unit IsPicture k spaced other none
-picture-with {past} Has c at unit (Some h) k spaced other p = record {
+picture-with {Has} {c} {at} unit None k spaced other none =
+    none-with k spaced other none
+picture-with {Has} {c} {past} {at} unit (Some h) k spaced other p = record {
   code = p.code;
   after = p.after;
   before = omega (arith, p.before, new-below Has c past at k);
-  last = none-with Has c at (h.place + 1) IsPicture k spaced other p.last;
+  last = none-with k spaced other p.last;
 }
 
-picture-by : {past : List Code} (z b : Bool) (Has : ℕ → ℕ → Type 0) (c : Code) (at unit : ℕ) (o : Option Header) → eqb c.kind 0 ≡ z →
+picture-by : {z b : Bool} {Has : ℕ → ℕ → Type 0} {c : Code} {past : List Code} {at unit : ℕ} (o : Option Header) → eqb c.kind 0 ≡ z →
     Knows Has (c ∷ past) at → Spaced (c ∷ past)
     → (b ≡ false → PictureThere Has unit c.place o) → (b ≡ false → unit ≤ c.place) →
     PictureThere Has (cond b c.place unit) at (cond z (Some (header_of c)) (cond b None o))
-picture-by {past} true true Has c at unit o is k spaced before low = record {
+picture-by {z = true} {b = true} {Has} {c} {past} {at} o is k spaced before low = record {
   code = subst (λ m. Has c.place m) (eqb-true c.kind 0 is) (has-new Has c past at k);
   after = omega arith;
   before = new-below Has c past at k;
-  last = none-after Has c at IsPicture k spaced;
+  last = none-after IsPicture k spaced;
 }
-picture-by {past} true false Has c at unit o is k spaced before low = record {
+picture-by {z = true} {b = false} {Has} {c} {past} {at} o is k spaced before low = record {
   code = subst (λ m. Has c.place m) (eqb-true c.kind 0 is) (has-new Has c past at k);
   after = low refl;
   before = new-below Has c past at k;
-  last = none-after Has c at IsPicture k spaced;
+  last = none-after IsPicture k spaced;
 }
-picture-by false true Has c at unit o is k spaced before low =
-    none-from Has c at IsPicture k spaced (λ e. false≢true (sym is ∙ eq-eqb c.kind 0 e))
-picture-by false false Has c at unit o is k spaced before low =
-    picture-with Has c at unit o k spaced (λ e.
+picture-by {z = false} {b = true} {Has} {c} {at} o is k spaced before low =
+    none-from IsPicture k spaced (λ e. false≢true (sym is ∙ eq-eqb c.kind 0 e))
+picture-by {z = false} {b = false} {Has} {c} {at} {unit} o is k spaced before low =
+    picture-with unit o k spaced (λ e.
     false≢true (sym is ∙ eq-eqb c.kind 0 e)) (before refl)
 
 unit-below-by : (b : Bool) (m n at : ℕ) → m < at → n < at → cond b m n < at
@@ -356,18 +354,18 @@ pub picture-there : (Has : ℕ → ℕ → Type 0) (c : Code) (past : List Code)
     Knows Has (c ∷ past) at → Spaced (c ∷ past) →
     PictureThere Has (unit_of (c ∷ past)) at (picture_of (c ∷ past))
 picture-there Has c [] at k spaced =
-    picture-by (eqb c.kind 0) true Has c at 0 None refl k spaced (λ e.
+    picture-by {z = eqb c.kind 0} {b = true} {Has = Has} {c = c} {past = []} {at = at} {unit = 0} None refl k spaced (λ e.
     absurd (true≢false e)) (λ e. absurd (true≢false e))
 picture-there Has c (d ∷ past) at k spaced =
     let k' = older Has c (d ∷ past) at k spaced in
-    picture-by (eqb c.kind 0) (begins_unit c (d ∷ past)) Has c at (unit_of (d ∷ past))
+    picture-by
     (picture_of (d ∷ past)) refl k spaced
     (λ _. picture-there Has d past c.place k' spaced.1) (λ _.
     omega (arith, unit-below Has d past c.place k' spaced.1))
 
-pub one-picture : {unit q : ℕ} (Has : ℕ → ℕ → Type 0) (p at : ℕ) → IsItsPicture Has unit p at →
+pub one-picture : {Has : ℕ → ℕ → Type 0} {unit p q at : ℕ} → IsItsPicture Has unit p at →
     IsItsPicture Has unit q at → p ≡ q
-one-picture {q} Has p at one other = elim (cases_lt p q) [
+one-picture {Has} {p} {q} {at} one other = elim (cases_lt p q) [
   | inl less ↦ absurd (one.last q 0 other.code (omega (arith, less)) other.before refl)
   | inr more ↦ elim (cases_lt q p) [
     | inl less ↦ absurd (other.last p 0 one.code (omega (arith, less)) one.before refl)

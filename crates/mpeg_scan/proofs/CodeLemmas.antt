@@ -7,23 +7,23 @@ use Rattle.mpeg_scan.specs.Texts.{text_with}
 use Rattle.mpeg_scan.specs.Codes.{back, latest_prefix, after_one, after_zero, next_prefix}
 
 -- p1, p0: the byte is 1, 0; a1, a0: so is the one before it; z1, z2: the two before that are 0
-table : (p1 p0 a1 a0 z1 z2 : Bool) → (p1 ≡ true → p0 ≡ false) → (a1 ≡ true → a0 ≡ false) → cond (p1 && (a0 && z1)) Whole (cond (p0 && a0) Zeros (cond p0 Zero Nothing)) ≡ cond p1 (after_one (cond (a1 && (z1 && z2)) Whole (cond (a0 && z1) Zeros (cond a0 Zero Nothing)))) (cond p0 (after_zero (cond (a1 && (z1 && z2)) Whole (cond (a0 && z1) Zeros (cond a0 Zero Nothing)))) Nothing)
-table true true a1 a0 z1 z2 p a = absurd (false≢true (sym (p refl)))
-table true false true true z1 z2 p a = absurd (false≢true (sym (a refl)))
-table true false true false true true p a = refl
-table true false true false true false p a = refl
-table true false true false false z2 p a = refl
-table true false false true true z2 p a = refl
-table true false false true false z2 p a = refl
-table true false false false z1 z2 p a = refl
-table false true true true z1 z2 p a = absurd (false≢true (sym (a refl)))
-table false true true false true true p a = refl
-table false true true false true false p a = refl
-table false true true false false z2 p a = refl
-table false true false true true z2 p a = refl
-table false true false true false z2 p a = refl
-table false true false false z1 z2 p a = refl
-table false false a1 a0 z1 z2 p a = refl
+table : {p1 p0 a1 a0 : Bool} (z1 z2 : Bool) → (p1 ≡ true → p0 ≡ false) → (a1 ≡ true → a0 ≡ false) → cond (p1 && (a0 && z1)) Whole (cond (p0 && a0) Zeros (cond p0 Zero Nothing)) ≡ cond p1 (after_one (cond (a1 && (z1 && z2)) Whole (cond (a0 && z1) Zeros (cond a0 Zero Nothing)))) (cond p0 (after_zero (cond (a1 && (z1 && z2)) Whole (cond (a0 && z1) Zeros (cond a0 Zero Nothing)))) Nothing)
+table {p1 = true} {p0 = true} z1 z2 p a = absurd (false≢true (sym (p refl)))
+table {p1 = true} {p0 = false} {a1 = true} {a0 = true} z1 z2 p a = absurd (false≢true (sym (a refl)))
+table {p1 = true} {p0 = false} {a1 = true} {a0 = false} true true p a = refl
+table {p1 = true} {p0 = false} {a1 = true} {a0 = false} true false p a = refl
+table {p1 = true} {p0 = false} {a1 = true} {a0 = false} false z2 p a = refl
+table {p1 = true} {p0 = false} {a1 = false} {a0 = true} true z2 p a = refl
+table {p1 = true} {p0 = false} {a1 = false} {a0 = true} false z2 p a = refl
+table {p1 = true} {p0 = false} {a1 = false} {a0 = false} z1 z2 p a = refl
+table {p1 = false} {p0 = true} {a1 = true} {a0 = true} z1 z2 p a = absurd (false≢true (sym (a refl)))
+table {p1 = false} {p0 = true} {a1 = true} {a0 = false} true true p a = refl
+table {p1 = false} {p0 = true} {a1 = true} {a0 = false} true false p a = refl
+table {p1 = false} {p0 = true} {a1 = true} {a0 = false} false z2 p a = refl
+table {p1 = false} {p0 = true} {a1 = false} {a0 = true} true z2 p a = refl
+table {p1 = false} {p0 = true} {a1 = false} {a0 = true} false z2 p a = refl
+table {p1 = false} {p0 = true} {a1 = false} {a0 = false} z1 z2 p a = refl
+table {p1 = false} {p0 = false} z1 z2 p a = refl
 
 apart : (x : ℕ) → eqb x 1 ≡ true → eqb x 0 ≡ false
 apart x e = ap (λ n. eqb n 0) (eqb-true x 1 e)
@@ -31,7 +31,7 @@ apart x e = ap (λ n. eqb n 0) (eqb-true x 1 e)
 pub matched-more : (x : ℕ) (r : List ℕ) → latest_prefix (x ∷ r) ≡ next_prefix (latest_prefix r) x
 unfolding latest_prefix
 matched-more x r =
-    table (eqb x 1) (eqb x 0) (eqb (back r 0) 1) (eqb (back r 0) 0) (eqb (back r 1) 0) (eqb (back r 2) 0) (apart x) (apart (back r 0))
+    table (eqb (back r 1) 0) (eqb (back r 2) 0) (apart x) (apart (back r 0))
 
 pub noted-by : (b : Bool) (text : List ℕ) (x : ℕ) → ltb (length text) 5 ≡ b → text_with text x ≡ cond b (text ++ x ∷ []) text
 unfolding text_with

@@ -82,8 +82,8 @@ group-agrees pictures all before starts k agrees = record {
 }
 
 -- a slice
-first-agrees : {pictures n before : ℕ} {has : Bool} {k : Count} (all : ℕ) (starts : Bool) → Agrees pictures has all n before starts k → n ≡ 0 → has ≡ true → Agrees pictures has (all + 1) (n + 1) before starts k
-first-agrees all starts agrees none with_picture = record {
+first-agrees : {pictures all n before : ℕ} {has starts : Bool} {k : Count} → Agrees pictures has all n before starts k → n ≡ 0 → has ≡ true → Agrees pictures has (all + 1) (n + 1) before starts k
+first-agrees {all} {starts} agrees none with_picture = record {
   units = agrees.units;
   ended = λ e. absurd (omega arith);
   open_slice = λ more. omega (arith, agrees.ended none);
@@ -92,8 +92,8 @@ first-agrees all starts agrees none with_picture = record {
   sliced = λ more. with_picture;
 }
 
-later-agrees : {pictures n before : ℕ} {has : Bool} {k : Count} (all : ℕ) (starts : Bool) → Agrees pictures has all n before starts k → 0 < n → Agrees pictures has (all + 1) (n + 1) before starts (record k { slices = k.slices + 1 })
-later-agrees all starts agrees some = record {
+later-agrees : {pictures all n before : ℕ} {has starts : Bool} {k : Count} → Agrees pictures has all n before starts k → 0 < n → Agrees pictures has (all + 1) (n + 1) before starts (record k { slices = k.slices + 1 })
+later-agrees {all} {starts} agrees some = record {
   units = agrees.units;
   ended = λ e. absurd (omega arith);
   open_slice = λ more. omega (arith, agrees.open_slice some);
@@ -110,19 +110,19 @@ pub record Counted (k : Count) (calls : List Call) (pictures : ℕ) (has : Bool)
   pub agrees : Agrees pictures has all n before starts count
 
 -- in a head without slices, and without a picture
-none-left : {pictures n before : ℕ} {has : Bool} {k : Count} (all : ℕ) (starts : Bool) → Agrees pictures has all n before starts k → n ≡ 0 → Agrees pictures has all 0 before starts k
-none-left {pictures} {before} {has} {k} all starts agrees none =
+none-left : {pictures all n before : ℕ} {has starts : Bool} {k : Count} → Agrees pictures has all n before starts k → n ≡ 0 → Agrees pictures has all 0 before starts k
+none-left {pictures} {all} {before} {has} {starts} {k} agrees none =
     subst (λ m. Agrees pictures has all m before starts k) none agrees
 
-bare : {pictures n before : ℕ} {has : Bool} {k : Count} (all : ℕ) (starts : Bool) → Agrees pictures has all n before starts k → n ≡ 0 → has ≡ false → Agrees pictures false all 0 before starts k
-bare {pictures} {before} {k} all starts agrees none alone =
-    subst (λ b. Agrees pictures b all 0 before starts k) alone (none-left all starts agrees none)
+bare : {pictures all n before : ℕ} {has starts : Bool} {k : Count} → Agrees pictures has all n before starts k → n ≡ 0 → has ≡ false → Agrees pictures false all 0 before starts k
+bare {pictures} {all} {before} {starts} {k} agrees none alone =
+    subst (λ b. Agrees pictures b all 0 before starts k) alone (none-left agrees none)
 
-group-bare : {pictures n before : ℕ} {has : Bool} {k : Count} (all : ℕ) (starts : Bool) → Agrees pictures has all n before starts k → n ≡ 0 → has ≡ false → Agrees pictures has all 0 pictures true k
-group-bare {pictures} {before} {k} all starts agrees none alone =
-    subst (λ b. Agrees pictures b all 0 pictures true k) (sym alone) (group-agrees pictures all before starts k (bare all starts agrees none alone))
+group-bare : {pictures all n before : ℕ} {has starts : Bool} {k : Count} → Agrees pictures has all n before starts k → n ≡ 0 → has ≡ false → Agrees pictures has all 0 pictures true k
+group-bare {pictures} {all} {before} {starts} {k} agrees none alone =
+    subst (λ b. Agrees pictures b all 0 pictures true k) (sym alone) (group-agrees pictures all before starts k (bare agrees none alone))
 
-raw-count : {pictures n before : ℕ} {has : Bool} {k : Count} (t0 t3 t8 s q : Bool) (all : ℕ) (starts : Bool)
+raw-count : {t0 t8 s q : Bool} {pictures all n before : ℕ} {has starts : Bool} {k : Count} (t3 : Bool)
     (unit slice place : ℕ) (u : PictureUnit)
     → Agrees pictures has all n before starts k → (q ≡ true → 0 < n) → (q ≡ false → n ≡ 0)
     → (s ≡ true → (t0 || (t3 || t8)) ≡ false) → (t8 ≡ true → t0 ≡ false)
@@ -130,21 +130,21 @@ raw-count : {pictures n before : ℕ} {has : Bool} {k : Count} (t0 t3 t8 s q : B
     → u.first_slice ≡ all - n → u.slices ≡ n → u.starts_group ≡ starts → u.presentation ≡ before + u.temporal
     → Counted k (cond s (cond (not q) (head_call unit place ∷ []) (slice_call slice place ∷ [])) (cond ((t0 || (t3 || t8)) && q) (slice_call slice place ∷ unit_call u ∷ []) []))
     (cond t0 (pictures + 1) pictures) (cond t0 true (cond ((t0 || (t3 || t8)) && q) false has)) (cond s (all + 1) all) (cond (t0 || (t3 || t8)) 0 (cond s (n + 1) n)) (cond t8 pictures before) (cond t8 true (cond ((t0 || (t3 || t8)) && q) false starts))
-raw-count true t3 t8 true q all starts unit slice place u agrees some none apart other alone with_picture first slices group shown = absurd (true≢false (apart refl))
-raw-count false true t8 true q all starts unit slice place u agrees some none apart other alone with_picture first slices group shown = absurd (true≢false (apart refl))
-raw-count false false true true q all starts unit slice place u agrees some none apart other alone with_picture first slices group shown = absurd (true≢false (apart refl))
-raw-count {k} false false false true true all starts unit slice place u agrees some none apart other alone with_picture first slices group shown = record { count = record k { slices = k.slices + 1 }; told = refl; agrees = later-agrees all starts agrees (some refl) }
-raw-count {k} false false false true false all starts unit slice place u agrees some none apart other alone with_picture first slices group shown = record { count = k; told = refl; agrees = first-agrees all starts agrees (none refl) (with_picture refl refl) }
-raw-count true t3 true false q all starts unit slice place u agrees some none apart other alone with_picture first slices group shown = absurd (true≢false (other refl))
-raw-count {pictures} {n} {before} {has} {k} true t3 false false true all starts unit slice place u agrees some none apart other alone with_picture first slices group shown = record { count = after_unit k starts; told = unit-counted pictures all n before has starts k slice place u agrees (some refl) first slices group shown; agrees = picture-agrees pictures all before false (after_unit k starts) (unit-agrees pictures all n before has starts k agrees (some refl)) }
-raw-count {pictures} {n} {before} {has} {k} false true true false true all starts unit slice place u agrees some none apart other alone with_picture first slices group shown = record { count = after_unit k starts; told = unit-counted pictures all n before has starts k slice place u agrees (some refl) first slices group shown; agrees = group-agrees pictures all before false (after_unit k starts) (unit-agrees pictures all n before has starts k agrees (some refl)) }
-raw-count {pictures} {n} {before} {has} {k} false false true false true all starts unit slice place u agrees some none apart other alone with_picture first slices group shown = record { count = after_unit k starts; told = unit-counted pictures all n before has starts k slice place u agrees (some refl) first slices group shown; agrees = group-agrees pictures all before false (after_unit k starts) (unit-agrees pictures all n before has starts k agrees (some refl)) }
-raw-count {pictures} {n} {before} {has} {k} false true false false true all starts unit slice place u agrees some none apart other alone with_picture first slices group shown = record { count = after_unit k starts; told = unit-counted pictures all n before has starts k slice place u agrees (some refl) first slices group shown; agrees = unit-agrees pictures all n before has starts k agrees (some refl) }
-raw-count {pictures} {before} {k} true t3 false false false all starts unit slice place u agrees some none apart other alone with_picture first slices group shown = record { count = k; told = refl; agrees = picture-agrees pictures all before starts k (bare all starts agrees (none refl) (alone refl refl)) }
-raw-count {k} false true true false false all starts unit slice place u agrees some none apart other alone with_picture first slices group shown = record { count = k; told = refl; agrees = group-bare all starts agrees (none refl) (alone refl refl) }
-raw-count {k} false false true false false all starts unit slice place u agrees some none apart other alone with_picture first slices group shown = record { count = k; told = refl; agrees = group-bare all starts agrees (none refl) (alone refl refl) }
-raw-count {k} false true false false false all starts unit slice place u agrees some none apart other alone with_picture first slices group shown = record { count = k; told = refl; agrees = none-left all starts agrees (none refl) }
-raw-count {k} false false false false q all starts unit slice place u agrees some none apart other alone with_picture first slices group shown = record { count = k; told = refl; agrees = agrees }
+raw-count {t0 = true} {s = true} {all} {starts} t3 unit slice place u agrees some none apart other alone with_picture first slices group shown = absurd (true≢false (apart refl))
+raw-count {t0 = false} {s = true} {all} {starts} true unit slice place u agrees some none apart other alone with_picture first slices group shown = absurd (true≢false (apart refl))
+raw-count {t0 = false} {t8 = true} {s = true} {all} {starts} false unit slice place u agrees some none apart other alone with_picture first slices group shown = absurd (true≢false (apart refl))
+raw-count {t0 = false} {t8 = false} {s = true} {q = true} {all} {starts} {k} false unit slice place u agrees some none apart other alone with_picture first slices group shown = record { count = record k { slices = k.slices + 1 }; told = refl; agrees = later-agrees agrees (some refl) }
+raw-count {t0 = false} {t8 = false} {s = true} {q = false} {all} {starts} {k} false unit slice place u agrees some none apart other alone with_picture first slices group shown = record { count = k; told = refl; agrees = first-agrees agrees (none refl) (with_picture refl refl) }
+raw-count {t0 = true} {t8 = true} {s = false} {all} {starts} t3 unit slice place u agrees some none apart other alone with_picture first slices group shown = absurd (true≢false (other refl))
+raw-count {t0 = true} {t8 = false} {s = false} {q = true} {pictures} {all} {n} {before} {has} {starts} {k} t3 unit slice place u agrees some none apart other alone with_picture first slices group shown = record { count = after_unit k starts; told = unit-counted pictures all n before has starts k slice place u agrees (some refl) first slices group shown; agrees = picture-agrees pictures all before false (after_unit k starts) (unit-agrees pictures all n before has starts k agrees (some refl)) }
+raw-count {t0 = false} {t8 = true} {s = false} {q = true} {pictures} {all} {n} {before} {has} {starts} {k} true unit slice place u agrees some none apart other alone with_picture first slices group shown = record { count = after_unit k starts; told = unit-counted pictures all n before has starts k slice place u agrees (some refl) first slices group shown; agrees = group-agrees pictures all before false (after_unit k starts) (unit-agrees pictures all n before has starts k agrees (some refl)) }
+raw-count {t0 = false} {t8 = true} {s = false} {q = true} {pictures} {all} {n} {before} {has} {starts} {k} false unit slice place u agrees some none apart other alone with_picture first slices group shown = record { count = after_unit k starts; told = unit-counted pictures all n before has starts k slice place u agrees (some refl) first slices group shown; agrees = group-agrees pictures all before false (after_unit k starts) (unit-agrees pictures all n before has starts k agrees (some refl)) }
+raw-count {t0 = false} {t8 = false} {s = false} {q = true} {pictures} {all} {n} {before} {has} {starts} {k} true unit slice place u agrees some none apart other alone with_picture first slices group shown = record { count = after_unit k starts; told = unit-counted pictures all n before has starts k slice place u agrees (some refl) first slices group shown; agrees = unit-agrees pictures all n before has starts k agrees (some refl) }
+raw-count {t0 = true} {t8 = false} {s = false} {q = false} {pictures} {all} {before} {starts} {k} t3 unit slice place u agrees some none apart other alone with_picture first slices group shown = record { count = k; told = refl; agrees = picture-agrees pictures all before starts k (bare agrees (none refl) (alone refl refl)) }
+raw-count {t0 = false} {t8 = true} {s = false} {q = false} {all} {starts} {k} true unit slice place u agrees some none apart other alone with_picture first slices group shown = record { count = k; told = refl; agrees = group-bare agrees (none refl) (alone refl refl) }
+raw-count {t0 = false} {t8 = true} {s = false} {q = false} {all} {starts} {k} false unit slice place u agrees some none apart other alone with_picture first slices group shown = record { count = k; told = refl; agrees = group-bare agrees (none refl) (alone refl refl) }
+raw-count {t0 = false} {t8 = false} {s = false} {q = false} {all} {starts} {k} true unit slice place u agrees some none apart other alone with_picture first slices group shown = record { count = k; told = refl; agrees = none-left agrees (none refl) }
+raw-count {t0 = false} {t8 = false} {s = false} {all} {starts} {k} false unit slice place u agrees some none apart other alone with_picture first slices group shown = record { count = k; told = refl; agrees = agrees }
 
 -- ---- all codes
 
@@ -199,7 +199,7 @@ code-count c d past k e agrees =
     let q = ltb 0 n in
     let u = unit_at t c.place in
     let none = λ (h : q ≡ false). empty-count n h in
-    let raw = raw-count (eqb c.kind 0) (eqb c.kind 0xb3) (eqb c.kind 0xb8) (is_slice c.kind) q (all_slices_of older) (starts_group older) t.unit t.slice c.place u agrees (ltb-true 0 n) none (slice-apart c.kind) (λ group. ap (λ m. eqb m 0) (eqb-true c.kind 0xb8 group))
+    let raw = raw-count (eqb c.kind 0xb3) t.unit t.slice c.place u agrees (ltb-true 0 n) none (slice-apart c.kind) (λ group. ap (λ m. eqb m 0) (eqb-true c.kind 0xb8 group))
     (λ head bare. second-none t c.kind (second-accepted t c.place c.kind e) head (none bare)) (λ slice bare. first-some t c.place c.kind (first_slice-accepted t c.place c.kind e) slice (none bare)) refl refl refl refl in
     let calls : List Call = cond (is_slice c.kind) (cond (not q) (head_call t.unit c.place ∷ []) (slice_call t.slice c.place ∷ [])) (cond (is_head c.kind && q) (slice_call t.slice c.place ∷ unit_call u ∷ []) []) in
     let with_has = subst (λ b. Counted k calls (pictures_of (c ∷ older)) b (all_slices_of (c ∷ older)) (slices_of (c ∷ older)) (before_group_of (c ∷ older)) (cond (eqb c.kind 0xb8) true (cond (is_head c.kind && q) false (starts_group older)))) (sym (some-cond (eqb c.kind 0) (is_head c.kind && q) (header_of c) (picture_of older))) raw in

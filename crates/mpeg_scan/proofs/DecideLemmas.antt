@@ -51,11 +51,11 @@ cond-none : (b : Bool) (h : FilmFault) → cond b (Some h) None ≡ None → b �
 cond-none true h e = absurd (none-some h (sym e))
 cond-none false h e = refl
 
-pub both-cond : {Q : FilmFault → Type 0} {b : Bool} {o : Option FilmFault} (P : FilmFault → Type 0) (h : FilmFault) →
+pub both-cond : {P Q : FilmFault → Type 0} {b : Bool} {h : FilmFault} {o : Option FilmFault} →
     (b ≡ true → P h)
     → ((g : FilmFault) → P g → (b ≡ true) × (g ≡ h)) → (b ≡ false → Decides Q o)
     → Decides (Otherwise P Q) (cond b (Some h) o)
-both-cond {Q} {b} {o} P h one other rest =
+both-cond {P} {Q} {b} {h} {o} one other rest =
     subst (λ (v : Option FilmFault). Decides (Otherwise P Q) v) (cond-otherwise b h o)
     (both P Q (cond b (Some h) None) o (decide P b h one other) (λ none. rest (cond-none b h none)))
 

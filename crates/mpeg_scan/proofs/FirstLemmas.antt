@@ -41,17 +41,17 @@ first-true [] s first = refl
 first-true (u ∷ units) s first = first
 
 -- one code more, over plain values: s, h, b8: it is a slice, a head code, a group header; e: no slice so far
-raw-first : {st : Bool} (s h b8 q e : Bool) (units : List PictureUnit) (unit : PictureUnit) (a b c d : ℕ) → (s ≡ true → h ≡ false) → (s ≡ true → b8 ≡ false) → unit.starts_group ≡ st → FirstStarts units st
+raw-first : {s h b8 st : Bool} (q e : Bool) (units : List PictureUnit) (unit : PictureUnit) (a b c d : ℕ) → (s ≡ true → h ≡ false) → (s ≡ true → b8 ≡ false) → unit.starts_group ≡ st → FirstStarts units st
     → FirstStarts (units ++ units_in (cond s (cond e (head_call a b ∷ []) (slice_call c d ∷ [])) (cond (h && q) (slice_call c d ∷ unit_call unit ∷ []) []))) (cond (b8 || false) true (cond (h && q) false st))
-raw-first true true b8 q e units unit a b c d apart other is first = absurd (true≢false (apart refl))
-raw-first true false true q e units unit a b c d apart other is first = absurd (true≢false (other refl))
-raw-first {st} true false false q true units unit a b c d apart other is first = first-same units st first
-raw-first {st} true false false q false units unit a b c d apart other is first = first-same units st first
-raw-first {st} false true b8 true e units unit a b c d apart other is first = first-more units unit st (cond (b8 || false) true false) first is
-raw-first {st} false true true false e units unit a b c d apart other is first = first-true units st first
-raw-first {st} false true false false e units unit a b c d apart other is first = first-same units st first
-raw-first {st} false false true q e units unit a b c d apart other is first = first-true units st first
-raw-first {st} false false false q e units unit a b c d apart other is first = first-same units st first
+raw-first {s = true} {h = true} q e units unit a b c d apart other is first = absurd (true≢false (apart refl))
+raw-first {s = true} {h = false} {b8 = true} q e units unit a b c d apart other is first = absurd (true≢false (other refl))
+raw-first {s = true} {h = false} {b8 = false} {st} q true units unit a b c d apart other is first = first-same units st first
+raw-first {s = true} {h = false} {b8 = false} {st} q false units unit a b c d apart other is first = first-same units st first
+raw-first {s = false} {h = true} {b8} {st} true e units unit a b c d apart other is first = first-more units unit st (cond (b8 || false) true false) first is
+raw-first {s = false} {h = true} {b8 = true} {st} false e units unit a b c d apart other is first = first-true units st first
+raw-first {s = false} {h = true} {b8 = false} {st} false e units unit a b c d apart other is first = first-same units st first
+raw-first {s = false} {h = false} {b8 = true} {st} q e units unit a b c d apart other is first = first-true units st first
+raw-first {s = false} {h = false} {b8 = false} {st} q e units unit a b c d apart other is first = first-same units st first
 
 head-other : (a b c : Bool) → (a || (b || c)) ≡ false → c ≡ false
 head-other true b c e = absurd (true≢false e)
@@ -67,7 +67,7 @@ unfolding calls_at
 first-step c d past units first =
     let older : List Code = d ∷ past in
     let t = tally_of older in
-    raw-first (is_slice c.kind) (is_head c.kind) (eqb c.kind 0xb8) (ltb 0 (slices_of older)) (eqb (slices_of older) 0) units (unit_at t c.place) t.unit c.place t.slice c.place (slice-apart c.kind) (slice-other c.kind) refl first
+    raw-first (ltb 0 (slices_of older)) (eqb (slices_of older) 0) units (unit_at t c.place) t.unit c.place t.slice c.place (slice-apart c.kind) (slice-other c.kind) refl first
 
 first-code : (c : Code) → c.kind ≡ 0xb3 → FirstStarts (units_in (calls_at (tally_of []) c.place c.kind)) (starts_group (c ∷ []))
 unfolding calls_at
@@ -117,8 +117,8 @@ film-starts bytes rate units starts film =
 pub film-some : (bytes : List ℕ) (rate : ℕ) (units : List PictureUnit) (starts : List ℕ) → IsFilm bytes rate units starts → 0 < length units
 film-some bytes rate units starts film = starts-some units (film-starts bytes rate units starts film)
 
-pub film-group : {bytes : List ℕ} {rate : ℕ} {units : List PictureUnit} (starts : List ℕ) → IsFilm bytes rate units starts → (unit : PictureUnit) → slice_get units 0 ≡ Some unit → unit.starts_group ≡ true
-film-group {bytes} {rate} {units} starts film = starts-first units (film-starts bytes rate units starts film)
+pub film-group : {bytes : List ℕ} {rate : ℕ} {units : List PictureUnit} {starts : List ℕ} → IsFilm bytes rate units starts → (unit : PictureUnit) → slice_get units 0 ≡ Some unit → unit.starts_group ≡ true
+film-group {bytes} {rate} {units} {starts} film = starts-first units (film-starts bytes rate units starts film)
 
 -- ---- the first sequence header
 
@@ -142,7 +142,7 @@ unfolding first_in
 first-least c [] place kind spaced (inl new) = omega (arith, new.0)
 first-least c [] place kind spaced (inr old) = absurd old
 first-least c (d ∷ past) place kind spaced (inl new) =
-    omega (arith, new.0, first-least d past d.place d.kind spaced.1 (inl (refl, refl)), all-below (d ∷ past) c.place spaced.1 spaced.0 d.place d.kind (inl (refl, refl)))
+    omega (arith, new.0, first-least d past d.place d.kind spaced.1 (inl (refl, refl)), all-below (d ∷ past) spaced.1 spaced.0 d.place d.kind (inl (refl, refl)))
 first-least c (d ∷ past) place kind spaced (inr old) = first-least d past place kind spaced.1 old
 
 pub first_in-kind : (c : Code) (past : List Code) → first_fault (c ∷ past) ≡ None → (first_in c past).kind ≡ 0xb3
@@ -213,7 +213,7 @@ codes-begin bytes (c ∷ past) codes accepted ended texts =
     let place : first_of (c ∷ past) ≡ f.place = first_in-place c past in
     let has : HasCode f.place 0xb3 (codes_of r) =
     subst (λ (l : List Code). HasCode f.place 0xb3 l) (sym codes) (subst (λ k. HasCode f.place k (c ∷ past)) (first_in-kind c past accepted) (first_in-has c past)) in
-    let byte : get_or f.text 3 0 ≡ get_or bytes (f.place + 4 + 3) 0 = text-byte bytes r text.stop f 3 (at-bytes bytes) (omega arith) (omega (arith, text.long)) text.is long in
+    let byte : get_or f.text 3 0 ≡ get_or bytes (f.place + 4 + 3) 0 = text-byte bytes 3 (at-bytes bytes) (omega arith) (omega (arith, text.long)) text.is long in
     let here : f.place + 4 + 3 ≡ f.place + 7 = omega arith in
     let rate : rate_of (c ∷ past) ≡ get_or bytes (f.place + 7) 0 % 16 =
     first_in-rate c past n accepted judged ∙ ap (λ b. b % 16) (byte ∙ ap (λ i. get_or bytes i 0) here) in

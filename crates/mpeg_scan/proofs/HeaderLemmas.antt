@@ -50,9 +50,9 @@ pub data RateIs (Has : ℕ → ℕ → Type 0) (bytes : List ℕ) (place rate : 
   no_rate : rate ≡ 0 → NoneIn Has 0 place IsSequence → RateIs Has bytes place rate
   its_rate : FirstRate Has bytes place rate → RateIs Has bytes place rate
 
-first-sequence : {q : ℕ} (Has : ℕ → ℕ → Type 0) (p : ℕ) → Has p 0xb3 → NoneIn Has 0 p IsSequence →
+first-sequence : {Has : ℕ → ℕ → Type 0} {p q : ℕ} → Has p 0xb3 → NoneIn Has 0 p IsSequence →
     Has q 0xb3 → NoneIn Has 0 q IsSequence → p ≡ q
-first-sequence {q} Has p one none other never = elim (cases_lt p q) [
+first-sequence {Has} {p} {q} one none other never = elim (cases_lt p q) [
   | inl less ↦ absurd (never p 0xb3 one (omega arith) less refl)
   | inr more ↦ elim (cases_lt q p) [
     | inl less ↦ absurd (none q 0xb3 other (omega arith) less refl)
@@ -81,11 +81,11 @@ rate-whole a b l e (inr (inr is)) =
 not-equal : (m n : ℕ) → eqb m n ≡ false → m ≡ n → ⊥
 not-equal m n e is = true≢false (sym (eq-eqb m n is) ∙ e)
 
-other-rate : {bytes : List ℕ} {rate : ℕ} (Has : ℕ → ℕ → Type 0) (place : ℕ) →
+other-rate : {Has : ℕ → ℕ → Type 0} {bytes : List ℕ} {place rate : ℕ} →
     RateIs Has bytes place rate → 0 < rate → (picture_rate bytes place ≡ rate → ⊥) →
     IsOtherRate Has bytes place
-other-rate Has place (no_rate none never) some other = absurd (omega (arith, none, some))
-other-rate Has place (its_rate r) some other = record {
+other-rate {Has} {place} (no_rate none never) some other = absurd (omega (arith, none, some))
+other-rate {Has} {place} (its_rate r) some other = record {
   first = r.first;
   code = r.code;
   none = r.none;
@@ -99,28 +99,28 @@ rate-other : (Has : ℕ → ℕ → Type 0) (bytes : List ℕ) (place rate : ℕ
 rate-other Has bytes place rate (no_rate none never) o =
     absurd (never o.first 0xb3 o.code (omega arith) o.before refl)
 rate-other Has bytes place rate (its_rate r) o =
-    let same = first-sequence Has r.first r.code r.none o.code o.none in
+    let same = first-sequence r.code r.none o.code o.none in
     (omega (arith, r.some), λ e. o.other (e ∙ r.is ∙ ap (picture_rate bytes) same))
 
-bad-rate : {bytes : List ℕ} {rate its : ℕ} (Has : ℕ → ℕ → Type 0) (place : ℕ) →
+bad-rate : {Has : ℕ → ℕ → Type 0} {bytes : List ℕ} {place rate its : ℕ} →
     its ≡ picture_rate bytes place → RateIs Has bytes place rate → (its ≡ 0)
     ⊎ ((8 < its) ⊎ ((0 < rate) × (its ≡ rate → ⊥)))
     → (picture_rate bytes place ≡ 0)
     ⊎ ((8 < picture_rate bytes place) ⊎ IsOtherRate Has bytes place)
-bad-rate Has place is known (inl none) = inl (sym is ∙ none)
-bad-rate Has place is known (inr (inl many)) = inr (inl (subst (λ n. 8 < n) is many))
-bad-rate Has place is known (inr (inr other)) =
-    inr (inr (other-rate Has place known other.0 (λ e. other.1 (is ∙ e))))
+bad-rate {Has} {place} is known (inl none) = inl (sym is ∙ none)
+bad-rate {Has} {place} is known (inr (inl many)) = inr (inl (subst (λ n. 8 < n) is many))
+bad-rate {Has} {place} is known (inr (inr other)) =
+    inr (inr (other-rate known other.0 (λ e. other.1 (is ∙ e))))
 
-rate-bad : {bytes : List ℕ} {rate its : ℕ} (Has : ℕ → ℕ → Type 0) (place : ℕ) →
+rate-bad : {Has : ℕ → ℕ → Type 0} {bytes : List ℕ} {place rate its : ℕ} →
     its ≡ picture_rate bytes place → RateIs Has bytes place rate
     → (picture_rate bytes place ≡ 0)
     ⊎ ((8 < picture_rate bytes place) ⊎ IsOtherRate Has bytes place)
     → (eqb its 0 ≡ true) ⊎ ((ltb 8 its ≡ true) ⊎ ((ltb 0 rate ≡ true) × (eqb its rate ≡ false)))
-rate-bad {its} Has place is known (inl none) = inl (eq-eqb its 0 (is ∙ none))
-rate-bad {its} Has place is known (inr (inl many)) =
+rate-bad {Has} {place} {its} is known (inl none) = inl (eq-eqb its 0 (is ∙ none))
+rate-bad {Has} {place} {its} is known (inr (inl many)) =
     inr (inl (lt-ltb 8 its (subst (λ n. 8 < n) (sym is) many)))
-rate-bad {bytes} {rate} {its} Has place is known (inr (inr o)) =
+rate-bad {Has} {bytes} {place} {rate} {its} is known (inr (inr o)) =
     let other = rate-other Has bytes place rate known o in
     inr (inr (lt-ltb 0 rate other.0, ne_eqb its rate (λ e. other.1 (sym is ∙ e))))
 
@@ -141,38 +141,38 @@ pub record Header (Has : ℕ → ℕ →
   pub fits : Fits bytes at c
   pub rate_is : RateIs Has bytes c.place rate
 
-kind-is : {bytes : List ℕ} {past : List Code} {rate kind : ℕ} (Has : ℕ → ℕ → Type 0) (c : Code) (at place : ℕ) →
+kind-is : {Has : ℕ → ℕ → Type 0} {bytes : List ℕ} {c : Code} {past : List Code} {at rate place kind : ℕ} →
     Header Has bytes c past at rate → IsLatest Has place kind at → (c.place ≡ place)
     × (c.kind ≡ kind)
-kind-is Has c at place h l =
-    latest-is Has c at place h.knows h.spaced l
+kind-is {Has} {c} {at} {place} h l =
+    latest-is h.knows h.spaced l
 
-latest-kind : {bytes : List ℕ} {past : List Code} {rate kind : ℕ} (Has : ℕ → ℕ → Type 0) (c : Code) (at : ℕ) →
+latest-kind : {Has : ℕ → ℕ → Type 0} {bytes : List ℕ} {c : Code} {past : List Code} {at rate kind : ℕ} →
     Header Has bytes c past at rate → c.kind ≡ kind → IsLatest Has c.place kind at
-latest-kind {past} Has c at h is =
+latest-kind {Has} {c} {past} {at} h is =
     subst (λ k. IsLatest Has c.place k at) is (latest-new Has c past at h.knows h.spaced)
 
-no-rate : {bytes : List ℕ} {past : List Code} {rate : ℕ} (Has : ℕ → ℕ → Type 0) (c : Code) (at : ℕ) →
+no-rate : {Has : ℕ → ℕ → Type 0} {bytes : List ℕ} {c : Code} {past : List Code} {at rate : ℕ} →
     Header Has bytes c past at rate → (c.kind ≡ 0xb3 → ⊥) → (f : FilmFault) →
     IsBadRate Has bytes at f → ⊥
-no-rate Has c at h other f p =
-    other (kind-is Has c at p.place h p.latest).1
+no-rate {Has} {c} {at} h other f p =
+    other (kind-is h p.latest).1
 
-no-type : {bytes : List ℕ} {past : List Code} {rate : ℕ} (Has : ℕ → ℕ → Type 0) (c : Code) (at : ℕ) →
+no-type : {Has : ℕ → ℕ → Type 0} {bytes : List ℕ} {c : Code} {past : List Code} {at rate : ℕ} →
     Header Has bytes c past at rate → (c.kind ≡ 0 → ⊥) → (f : FilmFault) →
     IsBadType Has bytes at f → ⊥
-no-type Has c at h other f p =
-    other (kind-is Has c at p.place h p.latest).1
+no-type {Has} {c} {at} h other f p =
+    other (kind-is h p.latest).1
 
 -- the fewest bytes of a header
-short-new : {bytes : List ℕ} {past : List Code} {rate kind : ℕ} (Has : ℕ → ℕ → Type 0) (c : Code) (at : ℕ) →
+short-new : {Has : ℕ → ℕ → Type 0} {bytes : List ℕ} {c : Code} {past : List Code} {at rate kind : ℕ} →
     Header Has bytes c past at rate → c.kind ≡ kind → IsHeadKind kind →
     at < c.place + header_bytes bytes c.place kind →
     IsShortHeader Has bytes at (ShortHeader c.place)
-short-new {kind} Has c at h is head short = record {
+short-new {Has} {c} {at} {kind} h is head short = record {
   place = c.place;
   kind = kind;
-  latest = latest-kind Has c at h is;
+  latest = latest-kind h is;
   head = head;
   short = short;
   is = refl;
@@ -182,11 +182,11 @@ record ShortHere (bytes : List ℕ) (c : Code) (at : ℕ) (f : FilmFault) : Type
   short : at < c.place + header_bytes bytes c.place c.kind
   is : f ≡ ShortHeader c.place
 
-short-here : {bytes : List ℕ} {past : List Code} {rate : ℕ} (Has : ℕ → ℕ → Type 0) (c : Code) (at : ℕ) →
+short-here : {Has : ℕ → ℕ → Type 0} {bytes : List ℕ} {c : Code} {past : List Code} {at rate : ℕ} →
     Header Has bytes c past at rate → (f : FilmFault) → IsShortHeader Has bytes at f →
     ShortHere bytes c at f
-short-here {bytes} Has c at h f p =
-    let same = kind-is Has c at p.place h p.latest in record {
+short-here {Has} {bytes} {c} {at} h f p =
+    let same = kind-is h p.latest in record {
       short = subst (λ k.
           at < c.place
           + header_bytes bytes c.place k) (sym same.1) (subst (λ v.
@@ -194,9 +194,9 @@ short-here {bytes} Has c at h f p =
       is = p.is ∙ ap ShortHeader (sym same.0);
     }
 
-short-at : {bytes : List ℕ} {kind : ℕ} {f : FilmFault} (c : Code) (at : ℕ) → c.kind ≡ kind →
+short-at : {bytes : List ℕ} {c : Code} {at kind : ℕ} {f : FilmFault} → c.kind ≡ kind →
     ShortHere bytes c at f → at < c.place + header_bytes bytes c.place kind
-short-at {bytes} c at is s =
+short-at {bytes} {c} {at} is s =
     subst (λ k. at < c.place + header_bytes bytes c.place k) is s.short
 
 abbrev Refused : (ℕ → ℕ → Type 0) → List ℕ → ℕ → Option FilmFault → Type 0
@@ -208,13 +208,12 @@ sequence-decides : (Has : ℕ → ℕ →
     → Refused Has bytes at
     (cond (ltb (at - c.place) 12) (Some (ShortHeader c.place)) (rate_fault rate c))
 sequence-decides Has bytes c past at rate h is =
-    let short = short-here Has c at h in
-    both-cond {Q = Otherwise (IsBadRate Has bytes at) (IsBadType Has bytes at)} {b = ltb (at - c.place) 12} {o = rate_fault rate c} (IsShortHeader Has bytes at)
-    (ShortHeader c.place)
-    (λ e. short-new {bytes = bytes} {past = past} {rate = rate} {kind = 0xb3} Has c at h is (inr (inl refl))
+    let short = short-here h in
+    both-cond {P = IsShortHeader Has bytes at} {Q = Otherwise (IsBadRate Has bytes at) (IsBadType Has bytes at)} {b = ltb (at - c.place) 12} {h = ShortHeader c.place} {o = rate_fault rate c}
+    (λ e. short-new {Has = Has} {bytes = bytes} {c = c} {past = past} {at = at} {rate = rate} {kind = 0xb3} h is (inr (inl refl))
     (omega (arith, ltb-true (at - c.place) 12 e)))
     (λ g p. (
-      lt-ltb (at - c.place) 12 (omega (arith, short-at {bytes = bytes} {kind = 0xb3} {f = g} c at is (short g p))),
+      lt-ltb (at - c.place) 12 (omega (arith, short-at {bytes = bytes} {c = c} {at = at} {kind = 0xb3} {f = g} is (short g p))),
       (short g p).is,
     ))
     (λ e. let far : c.place + 12 ≤ at = omega (arith, ltb-false (at - c.place) 12 e) in
@@ -225,41 +224,40 @@ sequence-decides Has bytes c past at rate h is =
     || (ltb 0 rate && not (eqb (rate_code c) rate)))) (BadRate c.place (rate_code c))
     (λ t. record {
       place = c.place;
-      latest = latest-kind {bytes = bytes} {past = past} {rate = rate} {kind = 0xb3} Has c at h is;
-      bad = bad-rate {bytes = bytes} {rate = rate} {its = rate_code c} Has c.place its h.rate_is
+      latest = latest-kind {Has = Has} {bytes = bytes} {c = c} {past = past} {at = at} {rate = rate} {kind = 0xb3} h is;
+      bad = bad-rate {Has = Has} {bytes = bytes} {place = c.place} {rate = rate} {its = rate_code c} its h.rate_is
           (rate-tests (rate_code c) rate
           (rate-parts (eqb (rate_code c) 0) (ltb 8 (rate_code c)) (ltb 0 rate)
           (eqb (rate_code c) rate) t));
       is = ap (BadRate c.place) its;
     })
-    (λ g p. let same = kind-is {bytes = bytes} {past = past} {rate = rate} {kind = 0xb3} Has c at p.place h p.latest in (
+    (λ g p. let same = kind-is {Has = Has} {bytes = bytes} {c = c} {past = past} {at = at} {rate = rate} {place = p.place} {kind = 0xb3} h p.latest in (
       rate-whole (eqb (rate_code c) 0) (ltb 8 (rate_code c)) (ltb 0 rate) (eqb (rate_code c) rate)
-          (rate-bad {bytes = bytes} {rate = rate} {its = rate_code c} Has c.place its h.rate_is
+          (rate-bad {Has = Has} {bytes = bytes} {place = c.place} {rate = rate} {its = rate_code c} its h.rate_is
           (subst (λ v. (picture_rate bytes v ≡ 0)
           ⊎ ((8 < picture_rate bytes v) ⊎ IsOtherRate Has bytes v)) (sym same.0) p.bad)),
       p.is ∙ ap (λ v. BadRate v (picture_rate bytes v)) (sym same.0) ∙ ap (BadRate c.place)
           (sym its),
     )))
-    (no-type Has c at h (λ e. absurd (omega (arith, e, is)))))
+    (no-type h (λ e. absurd (omega (arith, e, is)))))
 
 group-decides : (Has : ℕ → ℕ →
     Type 0) (bytes : List ℕ) (c : Code) (past : List Code) (at rate : ℕ) →
     Header Has bytes c past at rate → c.kind ≡ 0xb8
     → Refused Has bytes at (cond (ltb (at - c.place) 8) (Some (ShortHeader c.place)) None)
 group-decides Has bytes c past at rate h is =
-    let short = short-here Has c at h in
-    both-cond {Q = Otherwise (IsBadRate Has bytes at) (IsBadType Has bytes at)} {b = ltb (at - c.place) 8} {o = None} (IsShortHeader Has bytes at)
-    (ShortHeader c.place)
-    (λ e. short-new {bytes = bytes} {past = past} {rate = rate} {kind = 0xb8} Has c at h is (inr (inr refl))
+    let short = short-here h in
+    both-cond {P = IsShortHeader Has bytes at} {Q = Otherwise (IsBadRate Has bytes at) (IsBadType Has bytes at)} {b = ltb (at - c.place) 8} {h = ShortHeader c.place} {o = None}
+    (λ e. short-new {Has = Has} {bytes = bytes} {c = c} {past = past} {at = at} {rate = rate} {kind = 0xb8} h is (inr (inr refl))
     (omega (arith, ltb-true (at - c.place) 8 e)))
     (λ g p. (
-      lt-ltb (at - c.place) 8 (omega (arith, short-at {bytes = bytes} {kind = 0xb8} {f = g} c at is (short g p))),
+      lt-ltb (at - c.place) 8 (omega (arith, short-at {bytes = bytes} {c = c} {at = at} {kind = 0xb8} {f = g} is (short g p))),
       (short g p).is,
     ))
     (λ _. none-of (Otherwise (IsBadRate Has bytes at) (IsBadType Has bytes at))
     (neither (IsBadRate Has bytes at) (IsBadType Has bytes at)
-    (no-rate Has c at h (λ e.
-    absurd (omega (arith, e, is)))) (no-type Has c at h (λ e.
+    (no-rate h (λ e.
+    absurd (omega (arith, e, is)))) (no-type h (λ e.
     absurd (omega (arith, e, is))))))
 
 type-good : (t : ℕ) → (leb 1 t && leb t 4) ≡ false → (t ≡ 0) ⊎ (4 < t)
@@ -331,27 +329,26 @@ less-room : (b : Bool) (place at : ℕ) → at < place + cond b 9 8 → at - pla
 less-room true place at e = omega (arith, e)
 less-room false place at e = omega (arith, e)
 
-picture-decides : (Has : ℕ → ℕ →
-    Type 0) (bytes : List ℕ) (c : Code) (past : List Code) (at rate : ℕ) →
+picture-decides : {Has : ℕ → ℕ → Type 0} {bytes : List ℕ} {c : Code} {past : List Code} {at rate : ℕ} →
     Header Has bytes c past at rate → c.kind ≡ 0 → Refused Has bytes at (picture_fault c at)
-picture-decides Has bytes c past at rate h is =
-    let short = short-here Has c at h in
+picture-decides {Has} {bytes} {c} {at} h is =
+    let short = short-here h in
     let d = at - c.place in
     let t = type_of c in
     let its = picture_coding_type bytes c.place in
     let Rate = IsBadRate Has bytes at in
     let Kind = IsBadType Has bytes at in
-    let never = no-rate Has c at h (λ e. absurd (omega (arith, e, is))) in
+    let never = no-rate h (λ e. absurd (omega (arith, e, is))) in
     let same = λ (more : 8 ≤ at - c.place). type-fits bytes at c h.fits (omega (arith, more)) in
     let twice = λ (more : 8 ≤ at - c.place). ap has_vectors (same more) in
     let test = ltb d 8 || (has_vectors t && ltb d 9) in
     let good = leb 1 t && leb t 4 in
-    both-cond {Q = Otherwise Rate Kind} {b = test} {o = cond good None (Some (BadType c.place))} (IsShortHeader Has bytes at) (ShortHeader c.place)
-    (λ e. short-new {bytes = bytes} {past = past} {rate = rate} {kind = 0} Has c at h is (inl refl)
+    both-cond
+    (λ e. short-new h is (inl refl)
     (room (has_vectors its) c.place at (fewer (has_vectors t) (has_vectors its) d twice e)))
     (λ g p. (
       few (has_vectors t) (has_vectors its) d twice
-          (less-room (has_vectors its) c.place at (short-at {bytes = bytes} {kind = 0} {f = g} c at is (short g p))),
+          (less-room (has_vectors its) c.place at (short-at is (short g p))),
       (short g p).is,
     ))
     (λ e. let far : 8 ≤ at - c.place = ltb-false d 8 (or_parts (ltb d 8) (has_vectors t
@@ -361,11 +358,11 @@ picture-decides Has bytes c past at rate h is =
     (decide Kind (not good) (BadType c.place)
     (λ n. record {
       place = c.place;
-      latest = latest-kind {bytes = bytes} {past = past} {rate = rate} {kind = 0} Has c at h is;
+      latest = latest-kind h is;
       bad = subst (λ v. (v ≡ 0) ⊎ (4 < v)) (same far) (type-good t (not-parts good n));
       is = refl;
     })
-    (λ g p. let here = kind-is {bytes = bytes} {past = past} {rate = rate} {kind = 0} Has c at p.place h p.latest in (
+    (λ g p. let here = kind-is h p.latest in (
       not_from_false good (type-bad good t refl (subst (λ v. (v ≡ 0)
           ⊎ (4 < v)) (sym (same far)) (subst (λ v. (picture_coding_type bytes v ≡ 0)
           ⊎ (4 < picture_coding_type bytes v)) (sym here.0) p.bad))),
@@ -374,41 +371,40 @@ picture-decides Has bytes c past at rate h is =
 
 -- ---- any header
 
-other-decides : (Has : ℕ → ℕ →
-    Type 0) (bytes : List ℕ) (c : Code) (past : List Code) (at rate : ℕ) →
+other-decides : {Has : ℕ → ℕ → Type 0} {bytes : List ℕ} {c : Code} {past : List Code} {at rate : ℕ} →
     Header Has bytes c past at rate → (IsHeadKind c.kind → ⊥) → (f : FilmFault) →
     HeaderRefusal Has bytes at f → ⊥
-other-decides Has bytes c past at rate h other =
+other-decides {Has} {bytes} {c} {at} h other =
     neither (IsShortHeader Has bytes at)
     (Otherwise (IsBadRate Has bytes at) (IsBadType Has bytes at))
     (λ f p. other (subst IsHeadKind
-    (sym (kind-is Has c at p.place h p.latest).1) p.head))
+    (sym (kind-is h p.latest).1) p.head))
     (neither (IsBadRate Has bytes at) (IsBadType Has bytes at)
-    (no-rate Has c at h (λ e.
-    other (inr (inl e)))) (no-type Has c at h (λ e. other (inl e))))
+    (no-rate h (λ e.
+    other (inr (inl e)))) (no-type h (λ e. other (inl e))))
 
-kinds-decide : {bytes : List ℕ} {past : List Code} {rate : ℕ} (three eight zero_is : Bool) (Has : ℕ → ℕ → Type 0)
-    (c : Code) (at : ℕ) → eqb c.kind 0xb3 ≡ three →
+kinds-decide : {three eight zero_is : Bool} {Has : ℕ → ℕ → Type 0} {bytes : List ℕ} {c : Code} {past : List Code}
+    {at rate : ℕ} → eqb c.kind 0xb3 ≡ three →
     eqb c.kind 0xb8 ≡ eight → eqb c.kind 0 ≡ zero_is → Header Has bytes c past at rate
     → Refused Has bytes at
     (cond three (cond (ltb (at - c.place) 12) (Some (ShortHeader c.place)) (rate_fault rate c))
     (cond eight (cond (ltb (at - c.place) 8) (Some (ShortHeader c.place)) None)
     (cond zero_is (picture_fault c at) None)))
-kinds-decide {bytes} {past} {rate} true eight zero_is Has c at a b z h =
+kinds-decide {three = true} {Has} {bytes} {c} {past} {at} {rate} a b z h =
     sequence-decides Has bytes c past at rate h (eqb-true c.kind 0xb3 a)
-kinds-decide {bytes} {past} {rate} false true zero_is Has c at a b z h =
+kinds-decide {three = false} {eight = true} {Has} {bytes} {c} {past} {at} {rate} a b z h =
     group-decides Has bytes c past at rate h (eqb-true c.kind 0xb8 b)
-kinds-decide {bytes} {past} {rate} false false true Has c at a b z h =
-    picture-decides Has bytes c past at rate h (eqb-true c.kind 0 z)
-kinds-decide {bytes} {past} {rate} false false false Has c at a b z h =
+kinds-decide {three = false} {eight = false} {zero_is = true} {Has} {c} {at} a b z h =
+    picture-decides h (eqb-true c.kind 0 z)
+kinds-decide {three = false} {eight = false} {zero_is = false} {Has} {bytes} {c} {at} a b z h =
     none-of (HeaderRefusal Has bytes at)
-    (other-decides Has bytes c past at rate h (no-kind c.kind a b z))
+    (other-decides h (no-kind c.kind a b z))
 
-pub header-decides : {bytes : List ℕ} {past : List Code} {rate : ℕ} (Has : ℕ → ℕ → Type 0) (c : Code) (at : ℕ) →
+pub header-decides : {Has : ℕ → ℕ → Type 0} {bytes : List ℕ} {c : Code} {past : List Code} {at rate : ℕ} →
     Header Has bytes c past at rate → Refused Has bytes at (header_fault rate c at)
-header-decides Has c at h =
-    kinds-decide (eqb c.kind 0xb3) (eqb c.kind 0xb8)
-    (eqb c.kind 0) Has c at refl refl refl h
+header-decides {Has} {c} {at} h =
+    kinds-decide
+    refl refl refl h
 
 -- ---- the header before a place
 
@@ -417,17 +413,17 @@ pub record Same (bytes r : List ℕ) : Type 0 where
   pub byte : (i : ℕ) → at_byte r i ≡ get_or bytes i 256
   pub long : length r ≡ length bytes
 
-text-fits : {bytes : List ℕ} {to : ℕ} (r : List ℕ) (stop : ℕ) (c : Code) → Same bytes r → TextIs r stop c →
+text-fits : {bytes r : List ℕ} {stop to : ℕ} {c : Code} → Same bytes r → TextIs r stop c →
     to ≤ stop → Fits bytes to c
-text-fits {bytes} r stop c same text far k small below =
-    text-byte bytes r stop c k same.byte small (omega (arith, below, far)) text same.long
+text-fits {bytes} {r} {stop} {c} same text far k small below =
+    text-byte bytes k same.byte small (omega (arith, below, far)) text same.long
 
-rate-known : {bytes : List ℕ} (Has : ℕ → ℕ → Type 0) (r : List ℕ) (past : List Code) (at : ℕ) → Same bytes r →
+rate-known : {Has : ℕ → ℕ → Type 0} {bytes r : List ℕ} {past : List Code} {at : ℕ} → Same bytes r →
     Knows Has past at → Spaced past → TextsAre r (at + 4) past → first_fault past ≡ None →
     latest_fault past at ≡ None → RateIs Has bytes at (rate_of past)
-rate-known Has r [] at same k spaced texts accepted judged =
+rate-known {Has} {r} {past = []} {at} same k spaced texts accepted judged =
     no_rate refl (λ place kind has after before is. absurd (k.back place kind has before))
-rate-known {bytes} Has r (c ∷ past) at same k spaced texts accepted judged =
+rate-known {Has} {bytes} {r} {past = c ∷ past} {at} same k spaced texts accepted judged =
     let first = first_in c past in
     let has = first_in-has c past in
     let text = first_in-text r c past at (at + 4) accepted judged (omega arith) texts in
@@ -445,15 +441,15 @@ rate-known {bytes} Has r (c ∷ past) at same k spaced texts accepted judged =
           );
       before = k.below first.place first.kind has;
       is = first_in-rate c past at accepted judged ∙ rate-fits bytes text.stop first
-          (text-fits r text.stop first same text.is (omega arith))
+          (text-fits same text.is (omega arith))
           (omega (arith, text.long));
       some = rate.0;
     })
 
-pub latest-decides : {bytes : List ℕ} (Has : ℕ → ℕ → Type 0) (r : List ℕ) (past : List Code) (at stop : ℕ) →
+pub latest-decides : {Has : ℕ → ℕ → Type 0} {bytes r : List ℕ} {past : List Code} {at stop : ℕ} →
     Same bytes r → Knows Has past at → Spaced past → TextsAre r stop past → at ≤ stop →
     first_fault past ≡ None → Decides (HeaderRefusal Has bytes at) (latest_fault past at)
-latest-decides {bytes} Has r [] at stop same k spaced texts far accepted =
+latest-decides {Has} {bytes} {r} {past = []} {at} {stop} same k spaced texts far accepted =
     none-of (HeaderRefusal Has bytes at)
     (neither (IsShortHeader Has bytes at)
     (Otherwise (IsBadRate Has bytes at) (IsBadType Has bytes at))
@@ -461,12 +457,12 @@ latest-decides {bytes} Has r [] at stop same k spaced texts far accepted =
     (neither (IsBadRate Has bytes at) (IsBadType Has bytes at) (λ f p.
     k.back p.place 0xb3 p.latest.code p.latest.before) (λ f p.
     k.back p.place 0 p.latest.code p.latest.before)))
-latest-decides Has r (c ∷ past) at stop same k spaced texts far accepted =
-    header-decides Has c at (record {
+latest-decides {Has} {r} {past = c ∷ past} {at} {stop} same k spaced texts far accepted =
+    header-decides (record {
       knows = k;
       spaced = spaced;
-      fits = text-fits r stop c same texts.0 far;
-      rate_is = rate-known Has r past c.place same
+      fits = text-fits same texts.0 far;
+      rate_is = rate-known same
           (older Has c past at k spaced) spaced.1 texts.1 (accepted-older c past accepted)
           (older-judged c past accepted);
     })

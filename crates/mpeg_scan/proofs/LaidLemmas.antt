@@ -28,8 +28,8 @@ in_order-more (s ∷ []) head at b order least = (order.0, (order.1.0, (refl, (l
 in_order-more (s ∷ (next ∷ cur)) head at b order least = (order.0, (order.1.0, in_order-more (next ∷ cur) next at b order.1.1 least))
 
 -- the slices of a unit, after those before it
-own-slices : {cur : List ℕ} {n : ℕ} (before rest : List ℕ) (first : ℕ) → first ≡ length before → n ≡ length cur → take n (drop first ((before ++ cur) ++ rest)) ≡ cur
-own-slices {cur} {n} before rest first f m =
+own-slices : {cur : List ℕ} {first n : ℕ} (before rest : List ℕ) → first ≡ length before → n ≡ length cur → take n (drop first ((before ++ cur) ++ rest)) ≡ cur
+own-slices {cur} {first} {n} before rest f m =
     ap (λ (l : List ℕ). take n (drop first l)) (append_assoc before cur rest)
     ∙ ap (λ i. take n (drop i (before ++ (cur ++ rest)))) f
     ∙ ap (λ (l : List ℕ). take n l) (drop-append_seam before (cur ++ rest))
@@ -106,13 +106,13 @@ unit-fits unit from head_end at n e =
       some = ltb-true 0 n counts.1;
     }
 
-unit-laid : {unit : PictureUnit} {head_end n : ℕ} {past : List ℕ} (from at : ℕ) (rest : List ℕ) → UnitFits unit from head_end at n → unit.first_slice + unit.slices ≡ length past → Inside from head_end at n past → IsLaid (past ++ rest) unit
-unit-laid {unit} {head_end} {past} from at rest fits count inside =
+unit-laid : {unit : PictureUnit} {from head_end at n : ℕ} {past : List ℕ} (rest : List ℕ) → UnitFits unit from head_end at n → unit.first_slice + unit.slices ≡ length past → Inside from head_end at n past → IsLaid (past ++ rest) unit
+unit-laid {unit} {from} {head_end} {at} {past} rest fits count inside =
     let all : length past ≡ length inside.before + length inside.cur = ap length inside.past_is ∙ length-append inside.before inside.cur in
     let cur : unit.slices ≡ length inside.cur = fits.slices ∙ inside.count in
     let first : unit.first_slice ≡ length inside.before = omega (arith, all, cur, count) in
     let starts : inside.cur ≡ unit_starts (past ++ rest) unit =
-    sym (ap (λ (l : List ℕ). take unit.slices (drop unit.first_slice (l ++ rest))) inside.past_is ∙ own-slices inside.before rest unit.first_slice first cur) in
+    sym (ap (λ (l : List ℕ). take unit.slices (drop unit.first_slice (l ++ rest))) inside.past_is ∙ own-slices inside.before rest first cur) in
     let order : AreInOrder unit.head_end inside.cur unit.to =
     subst (λ h. AreInOrder h inside.cur unit.to) (sym fits.head) (subst (λ t. AreInOrder head_end inside.cur t) (sym fits.end) inside.in_order) in
     record {
@@ -157,7 +157,7 @@ part-laid (unit_call unit ∷ calls) (within from head_end at n) k to past parts
     let agrees = count-fits (eqb (unit.first_slice + unit.slices) k.slices && eqb unit.presentation (group_of k unit + unit.temporal))
     (record { units = k.units + 1; slices = k.slices; before_group = group_of k unit }) calls counts in
     let count = eqb-true (unit.first_slice + unit.slices) k.slices (and_parts (eqb (unit.first_slice + unit.slices) k.slices) (eqb unit.presentation (group_of k unit + unit.temporal)) agrees.0).0 in (
-      (subst (λ p. p ≤ to) (sym (unit-fits unit from head_end at n fits.0).end) (part-below calls (between at) to fits.1), unit-laid from at (slices_in calls) (unit-fits unit from head_end at n fits.0) (count ∙ slices) stands),
+      (subst (λ p. p ≤ to) (sym (unit-fits unit from head_end at n fits.0).end) (part-below calls (between at) to fits.1), unit-laid (slices_in calls) (unit-fits unit from head_end at n fits.0) (count ∙ slices) stands),
       part-laid calls (between at) (record { units = k.units + 1; slices = k.slices; before_group = group_of k unit }) to past fits.1 agrees.1 slices tt,
     )
 

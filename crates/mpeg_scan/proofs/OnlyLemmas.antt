@@ -76,26 +76,26 @@ kind-back D = refl
 kind-same : (k l : Kind) → type_number k ≡ type_number l → k ≡ l
 kind-same k l e = sym (kind-back k) ∙ ap kind_of e ∙ kind-back l
 
-count-same : {OfKind : ℕ → Type 0} {to n : ℕ} (Has : ℕ → ℕ → Type 0) (from m : ℕ) →
+count-same : {Has : ℕ → ℕ → Type 0} {OfKind : ℕ → Type 0} {from to m n : ℕ} →
     Counts Has OfKind from to m → Counts Has OfKind from to n → m ≡ n
-count-same Has from m c d =
+count-same {Has} {from} {m} c d =
     omega (arith, d.most c.places c.are, c.long, c.most d.places d.are, d.long)
 
 order-of : (bytes : List ℕ) (u : PictureUnit) → IsUnitOf bytes u → u.from < u.head_end
 order-of bytes u is = omega (arith, is.picture.after, is.picture.before)
 
-head-not-less : (bytes : List ℕ) (u v : PictureUnit) → IsUnitOf bytes u → IsUnitOf bytes v →
+head-not-less : {bytes : List ℕ} {u v : PictureUnit} → IsUnitOf bytes u → IsUnitOf bytes v →
     u.from ≡ v.from → u.head_end < v.head_end → ⊥
-head-not-less bytes u v one other from less =
+head-not-less {bytes} {u} one other from less =
     other.head u.head_end one.head_ends.0 one.head_ends.1.0
     (omega (arith, from, order-of bytes u one)) less one.head_ends.1.1
 
 head-same : (bytes : List ℕ) (u v : PictureUnit) → IsUnitOf bytes u → IsUnitOf bytes v →
     u.from ≡ v.from → u.head_end ≡ v.head_end
 head-same bytes u v one other from = elim (cases_lt u.head_end v.head_end) [
-  | inl less ↦ absurd (head-not-less bytes u v one other from less)
+  | inl less ↦ absurd (head-not-less one other from less)
   | inr more ↦ elim (cases_lt v.head_end u.head_end) [
-    | inl less ↦ absurd (head-not-less bytes v u other one (sym from) less)
+    | inl less ↦ absurd (head-not-less other one (sym from) less)
     | inr same ↦ omega (arith, more, same)
   ]
 ]
@@ -104,40 +104,40 @@ head-same bytes u v one other from = elim (cases_lt u.head_end v.head_end) [
 abbrev Ends : List ℕ → ℕ → Type 0
 Ends bytes to = (to ≡ length bytes) ⊎ StandsThere (StandsAt bytes) to IsHeadKind
 
-end-not-less : {bytes : List ℕ} (u v : PictureUnit) → IsUnitOf bytes u → IsUnitOf bytes v →
+end-not-less : {bytes : List ℕ} {u v : PictureUnit} → IsUnitOf bytes u → IsUnitOf bytes v →
     u.head_end ≡ v.head_end → Ends bytes u.to → v.to ≤ length bytes → u.to < v.to → ⊥
-end-not-less u v one other head (inl end) low less = omega (arith, end, low, less)
-end-not-less u v one other head (inr code) low less =
+end-not-less one other head (inl end) low less = omega (arith, end, low, less)
+end-not-less {u} one other head (inr code) low less =
     other.slices u.to code.0 code.1.0 (omega (arith, head, one.rest)) less code.1.1
 
-end-same : {bytes : List ℕ} (u v : PictureUnit) → IsUnitOf bytes u → IsUnitOf bytes v →
+end-same : {bytes : List ℕ} {u v : PictureUnit} → IsUnitOf bytes u → IsUnitOf bytes v →
     u.head_end ≡ v.head_end → Ends bytes u.to → Ends bytes v.to → u.to ≤ length bytes →
     v.to ≤ length bytes → u.to ≡ v.to
-end-same u v one other head ends also low under = elim (cases_lt u.to v.to) [
-  | inl less ↦ absurd (end-not-less u v one other head ends under less)
+end-same {u} {v} one other head ends also low under = elim (cases_lt u.to v.to) [
+  | inl less ↦ absurd (end-not-less one other head ends under less)
   | inr more ↦ elim (cases_lt v.to u.to) [
-    | inl less ↦ absurd (end-not-less v u other one (sym head) also low less)
+    | inl less ↦ absurd (end-not-less other one (sym head) also low less)
     | inr same ↦ omega (arith, more, same)
   ]
 ]
 
-stands-same : {bytes : List ℕ} {to kind : ℕ} (from at end : ℕ) → from ≡ at → to ≡ end →
+stands-same : {bytes : List ℕ} {from to at end kind : ℕ} → from ≡ at → to ≡ end →
     StandsIn (StandsAt bytes) from to kind → StandsIn (StandsAt bytes) at end kind
-stands-same from at end from_is to_is it = record {
+stands-same {from} {at} {end} from_is to_is it = record {
   place = it.place;
   code = it.code;
   after = omega (arith, from_is, it.after);
   before = omega (arith, to_is, it.before);
 }
 
-group-same : {bytes : List ℕ} {to : ℕ} (from at end : ℕ) → from ≡ at → to ≡ end →
+group-same : {bytes : List ℕ} {from to at end : ℕ} → from ≡ at → to ≡ end →
     IsFirstCode (StandsAt bytes) from
     ⊎ StandsIn (StandsAt bytes) from to 0xb8 → IsFirstCode (StandsAt bytes) at
     ⊎ StandsIn (StandsAt bytes) at end 0xb8
-group-same {bytes} from at end from_is to_is (inl first) =
+group-same {bytes} {from} {at} {end} from_is to_is (inl first) =
     inl (subst (λ p. IsFirstCode (StandsAt bytes) p) from_is first)
-group-same from at end from_is to_is (inr it) =
-    inr (stands-same from at end from_is to_is it)
+group-same {from} {at} {end} from_is to_is (inr it) =
+    inr (stands-same from_is to_is it)
 
 units-same : {bytes : List ℕ} {u v : PictureUnit} (number group : ℕ) → IsUnitOf bytes u →
     IsUnitOf bytes v → u.from ≡ v.from → Ends bytes u.to → Ends bytes v.to → u.to ≤ length bytes →
@@ -147,7 +147,7 @@ units-same : {bytes : List ℕ} {u v : PictureUnit} (number group : ℕ) → IsU
 units-same {bytes} {u} {v} number group one other from ends also low under shown known =
     let Has = StandsAt bytes in
     let head = head-same bytes u v one other from in
-    let to = end-same u v one other head ends also low under in
+    let to = end-same one other head ends also low under in
     let place : other.picture.place ≡
     one.picture.place =
     one.picture.only other.picture.place other.picture.code
@@ -161,20 +161,20 @@ units-same {bytes} {u} {v} number group one other from ends also low under shown
     (λ (k : Kind). vector_fields bytes one.picture.place k) kind ∙ sym its.vectors in
     let sequence : u.has_sequence ≡ v.has_sequence = bool-same u.has_sequence v.has_sequence
     (λ e. other.sequence.1
-    (stands-same u.from v.from v.head_end from head (one.sequence.0 e)))
+    (stands-same from head (one.sequence.0 e)))
     (λ e. one.sequence.1
-    (stands-same v.from u.from u.head_end (sym from) (sym head)
+    (stands-same (sym from) (sym head)
     (other.sequence.0 e))) in
     let starts : u.starts_group ≡ v.starts_group = bool-same u.starts_group v.starts_group
     (λ e. other.group.1
-    (group-same u.from v.from v.head_end from head (one.group.0 e)))
-    (λ e. one.group.1 (group-same v.from u.from u.head_end (sym from) (sym head)
+    (group-same from head (one.group.0 e)))
+    (λ e. one.group.1 (group-same (sym from) (sym head)
     (other.group.0 e))) in
     let slices : u.slices ≡
-    v.slices = count-same Has v.head_end u.slices (subst (λ p.
+    v.slices = count-same (subst (λ p.
     Counts Has IsSliceKind v.head_end p u.slices) to (subst (λ p.
     Counts Has IsSliceKind p u.to u.slices) head one.own)) other.own in
-    let all = count-same Has 0 (u.first_slice + u.slices) (subst (λ p.
+    let all = count-same (subst (λ p.
     Counts Has IsSliceKind 0 p (u.first_slice + u.slices)) to one.all) other.all in
     let first : u.first_slice ≡ v.first_slice = omega (arith, all, slices) in
     let presentation : u.presentation ≡
@@ -211,37 +211,37 @@ not-at-end : (bytes : List ℕ) (from : ℕ) (u : PictureUnit) → IsUnitOf byte
     from ≡ length bytes → ⊥
 not-at-end bytes from u is same end = omega (arith, same, end, is.begins.1.0.fits)
 
-lists-same : (bytes : List ℕ) (from number group : ℕ) (us vs : List PictureUnit) → All bytes us →
+lists-same : {us vs : List PictureUnit} (bytes : List ℕ) (from number group : ℕ) → All bytes us →
     All bytes vs → AreChained from us (length bytes) → AreChained from vs (length bytes) →
     ArePresented number group us → ArePresented number group vs → us ≡ vs
-lists-same bytes from number group [] [] one other chained also shown known = refl
-lists-same bytes from number group [] (v ∷ vs) one other chained also shown known =
+lists-same {us = []} {vs = []} bytes from number group one other chained also shown known = refl
+lists-same {us = []} {vs = v ∷ vs} bytes from number group one other chained also shown known =
     absurd (not-at-end bytes from v other.0 also.0 chained)
-lists-same bytes from number group (u ∷ us) [] one other chained also shown known =
+lists-same {us = u ∷ us} {vs = []} bytes from number group one other chained also shown known =
     absurd (not-at-end bytes from u one.0 chained.0 also)
-lists-same bytes from number group (u ∷ us) (v ∷ vs) one other chained also shown known =
-    let e : u ≡ v = units-same number group one.0 other.0 (chained.0 ∙ sym also.0)
+lists-same {us = u ∷ us} {vs = v ∷ vs} bytes from number group one other chained also shown known =
+    let e : u ≡ v = units-same {bytes = bytes} {u = u} {v = v} number group one.0 other.0 (chained.0 ∙ sym also.0)
     (chain-ends bytes u.to us one.1 chained.1) (chain-ends bytes v.to vs other.1 also.1)
     (chain-low bytes u.to us one.1 chained.1)
     (chain-low bytes v.to vs other.1 also.1) shown.0 known.0 in
     let rest : us ≡ vs =
-    lists-same bytes v.to (number + 1) (cond v.starts_group number group) us vs one.1 other.1
+    lists-same {us = us} {vs = vs} bytes v.to (number + 1) (cond v.starts_group number group) one.1 other.1
     (subst (λ (w : PictureUnit). AreChained w.to us (length bytes)) e chained.1) also.1
     (subst (λ (w : PictureUnit). ArePresented (number
     + 1) (cond w.starts_group number group) us) e shown.1) known.1 in
     ap (λ (w : PictureUnit). w ∷ us) e ∙ ap (λ (l : List PictureUnit). v ∷ l) rest
 
-one-first : {q : ℕ} (bytes : List ℕ) (p : ℕ) → StandsThere (StandsAt bytes) p AnyKind →
+one-first : {bytes : List ℕ} {p q : ℕ} → StandsThere (StandsAt bytes) p AnyKind →
     IsFirstCode (StandsAt bytes) p → StandsThere (StandsAt bytes) q AnyKind →
     IsFirstCode (StandsAt bytes) q → p ≡ q
-one-first {q} bytes p here first there also =
+one-first {p} {q} here first there also =
     omega (arith, first q there.0 there.1.0, also p here.0 here.1.0)
 
 pub one-list : (bytes : List ℕ) (units others : List PictureUnit) → AreUnitsOf bytes units →
     AreUnitsOf bytes others → units ≡ others
 one-list bytes units others one other =
-    let from = one-first bytes other.from other.code other.first one.code one.first in
-    lists-same bytes one.from 0 0 units others (all-of bytes units one.each)
+    let from = one-first other.code other.first one.code one.first in
+    lists-same bytes one.from 0 0 (all-of bytes units one.each)
     (all-of bytes others other.each)
     one.chained (subst (λ p.
     AreChained p others (length bytes)) from other.chained) one.presented other.presented
@@ -254,6 +254,6 @@ film-units_of bytes rate units starts film =
       code = first.0;
       first = first.1;
       chained = film-chained bytes rate units starts film;
-      each = film-standard starts film;
+      each = film-standard film;
       presented = film-presented bytes rate units starts film;
     }

@@ -107,25 +107,25 @@ abbrev pub Below : Code → List Code → Type 0
 Below c past = (place kind : ℕ) → HasCode place kind past → place < c.place
 
 -- a code of that kind that is not the new one
-seq-more : {k : ℕ} (c : Code) (past : List Code) (from : ℕ) (seq : Bool) → (c.kind ≡ k → ⊥) → ((place : ℕ) → HasCode place k past → from ≤ place → seq ≡ true) → (place : ℕ) → HasCode place k (c ∷ past) → from ≤ place → seq ≡ true
-seq-more c past from seq other set place (inl new) after = absurd (other new.1)
-seq-more c past from seq other set place (inr old) after = set place old after
+seq-more : {k : ℕ} {seq : Bool} (c : Code) (past : List Code) (from : ℕ) → (c.kind ≡ k → ⊥) → ((place : ℕ) → HasCode place k past → from ≤ place → seq ≡ true) → (place : ℕ) → HasCode place k (c ∷ past) → from ≤ place → seq ≡ true
+seq-more {seq} c past from other set place (inl new) after = absurd (other new.1)
+seq-more {seq} c past from other set place (inr old) after = set place old after
 
 -- ---- the picture as codes come
 
-pictured-only : {its : ℕ} (c : Code) (past : List Code) (from place : ℕ) → (c.kind ≡ 0 → ⊥) → ((other : ℕ) → HasCode other 0 past → from ≤ other → other ≡ its) → HasCode place 0 (c ∷ past) → from ≤ place → place ≡ its
-pictured-only c past from place other only (inl new) after = absurd (other new.1)
-pictured-only c past from place other only (inr old) after = only place old after
+pictured-only : {place its : ℕ} (c : Code) (past : List Code) (from : ℕ) → (c.kind ≡ 0 → ⊥) → ((other : ℕ) → HasCode other 0 past → from ≤ other → other ≡ its) → HasCode place 0 (c ∷ past) → from ≤ place → place ≡ its
+pictured-only {place} c past from other only (inl new) after = absurd (other new.1)
+pictured-only {place} c past from other only (inr old) after = only place old after
 
-picture-more : (c : Code) (past : List Code) (from head_end n m : ℕ) (o : Option Header) → (IsHeadKind c.kind → ⊥) → (0 < m → 0 < n) → PictureIs past from head_end n o → PictureIs (c ∷ past) from head_end m o
-picture-more c past from head_end n m None other grows none = none-more c past from Zero (λ e. other (inl e)) none
-picture-more c past from head_end n m (Some h) other grows is = record {
+picture-more : {n m : ℕ} (c : Code) (past : List Code) (from head_end : ℕ) (o : Option Header) → (IsHeadKind c.kind → ⊥) → (0 < m → 0 < n) → PictureIs past from head_end n o → PictureIs (c ∷ past) from head_end m o
+picture-more {m} c past from head_end None other grows none = none-more c past from Zero (λ e. other (inl e)) none
+picture-more {m} c past from head_end (Some h) other grows is = record {
   code = is.code;
   member = inr is.member;
   kind = is.kind;
   header = is.header;
   after = is.after;
-  only = λ place has after. pictured-only c past from place (λ e. other (inl e)) is.only has after;
+  only = λ place has after. pictured-only c past from (λ e. other (inl e)) is.only has after;
   last = none-more c past (is.code.place + 1) IsHeadKind other is.last;
   before = λ some. is.before (grows some);
 }
@@ -139,29 +139,29 @@ picture-first c past from head_end n (Some h) below other some is = record {
   kind = is.kind;
   header = is.header;
   after = is.after;
-  only = λ place has after. pictured-only c past from place (λ e. other (inl e)) is.only has after;
+  only = λ place has after. pictured-only c past from (λ e. other (inl e)) is.only has after;
   last = none-more c past (is.code.place + 1) IsHeadKind other is.last;
   before = λ _. below is.code.place 0 (subst (λ k. HasCode is.code.place k past) is.kind (member-has is.code past is.member));
 }
 
-new-only : (c : Code) (past : List Code) (from place : ℕ) → NoneFrom past from Zero → HasCode place 0 (c ∷ past) → from ≤ place → place ≡ c.place
-new-only c past from place none (inl new) after = sym new.0
-new-only c past from place none (inr old) after = absurd (none place 0 old after refl)
+new-only : {from place : ℕ} (c : Code) (past : List Code) → NoneFrom past from Zero → HasCode place 0 (c ∷ past) → from ≤ place → place ≡ c.place
+new-only {from} {place} c past none (inl new) after = sym new.0
+new-only {from} {place} c past none (inr old) after = absurd (none place 0 old after refl)
 
-new-last : (c : Code) (past : List Code) (place kind : ℕ) → Below c past → HasCode place kind (c ∷ past) → c.place + 1 ≤ place → ⊥
-new-last c past place kind below (inl new) far = omega (arith, new.0, far)
-new-last c past place kind below (inr old) far = omega (arith, below place kind old, far)
+new-last : {place kind : ℕ} (c : Code) (past : List Code) → Below c past → HasCode place kind (c ∷ past) → c.place + 1 ≤ place → ⊥
+new-last {place} c past below (inl new) far = omega (arith, new.0, far)
+new-last {place} {kind} c past below (inr old) far = omega (arith, below place kind old, far)
 
 -- a picture
-picture-new : {past : List Code} {head_end : ℕ} (c : Code) (from : ℕ) → Below c past → c.kind ≡ 0 → from ≤ c.place → NoneFrom past from Zero → Pictured (c ∷ past) from head_end 0 (header_of c)
-picture-new {past} c from below zero_kind after none = record {
+picture-new : {c : Code} {past : List Code} {from head_end : ℕ} → Below c past → c.kind ≡ 0 → from ≤ c.place → NoneFrom past from Zero → Pictured (c ∷ past) from head_end 0 (header_of c)
+picture-new {c} {past} {from} below zero_kind after none = record {
   code = c;
   member = inl refl;
   kind = zero_kind;
   header = refl;
   after = after;
-  only = λ place has far. new-only c past from place none has far;
-  last = λ place kind has far is. new-last c past place kind below has far;
+  only = λ place has far. new-only c past none has far;
+  last = λ place kind has far is. new-last c past below has far;
   before = λ some. absurd (omega (arith, some));
 }
 
@@ -170,118 +170,117 @@ picture-new {past} c from below zero_kind after none = record {
 later-code : (c : Code) (past : List Code) (k : ℕ) → (place : ℕ) × (HasCode place 0xb3 past × (k ≤ place)) → (place : ℕ) × (HasCode place 0xb3 (c ∷ past) × (k ≤ place))
 later-code c past k (place, has) = (place, (inr has.0, has.1))
 
-firsts-more : (c : Code) (past : List Code) (from place kind : ℕ) → from ≤ c.place → Firsts past from → HasCode place kind (c ∷ past) → from ≤ place
-firsts-more c past from place kind after firsts (inl new) = omega (arith, new.0, after)
-firsts-more c past from place kind after firsts (inr old) = firsts place kind old
+firsts-more : {from place kind : ℕ} (c : Code) (past : List Code) → from ≤ c.place → Firsts past from → HasCode place kind (c ∷ past) → from ≤ place
+firsts-more {from} {place} c past after firsts (inl new) = omega (arith, new.0, after)
+firsts-more {from} {place} {kind} c past after firsts (inr old) = firsts place kind old
 
 later-group : (c : Code) (past : List Code) (from : ℕ) → from ≤ c.place → Firsts past from ⊎ ((place : ℕ) × (HasCode place 0xb8 past × (from ≤ place))) → Firsts (c ∷ past) from ⊎ ((place : ℕ) × (HasCode place 0xb8 (c ∷ past) × (from ≤ place)))
-later-group c past from after (inl firsts) = inl (λ place kind has. firsts-more c past from place kind after firsts has)
+later-group c past from after (inl firsts) = inl (λ place kind has. firsts-more c past after firsts has)
 later-group c past from after (inr (place, has)) = inr (place, (inr has.0, has.1))
 
-head-old : (c : Code) (past : List Code) (from head_end place kind : ℕ) → head_end ≤ c.place → ((p k : ℕ) → HasCode p k past → from ≤ p → p < head_end → IsSliceKind k → ⊥) → HasCode place kind (c ∷ past) → from ≤ place → place < head_end → IsSliceKind kind → ⊥
-head-old c past from head_end place kind far none (inl new) after before is = omega (arith, new.0, far, before)
-head-old c past from head_end place kind far none (inr old) after before is = none place kind old after before is
+head-old : {place kind : ℕ} (c : Code) (past : List Code) (from head_end : ℕ) → head_end ≤ c.place → ((p k : ℕ) → HasCode p k past → from ≤ p → p < head_end → IsSliceKind k → ⊥) → HasCode place kind (c ∷ past) → from ≤ place → place < head_end → IsSliceKind kind → ⊥
+head-old {place} c past from head_end far none (inl new) after before is = omega (arith, new.0, far, before)
+head-old {place} {kind} c past from head_end far none (inr old) after before is = none place kind old after before is
 
-head-other : (c : Code) (past : List Code) (from head_end place kind : ℕ) → (IsSliceKind c.kind → ⊥) → ((p k : ℕ) → HasCode p k past → from ≤ p → p < head_end → IsSliceKind k → ⊥) → HasCode place kind (c ∷ past) → from ≤ place → place < head_end → IsSliceKind kind → ⊥
-head-other c past from head_end place kind other none (inl new) after before is = other (subst (λ k. IsSliceKind k) (sym new.1) is)
-head-other c past from head_end place kind other none (inr old) after before is = none place kind old after before is
+head-other : {place kind : ℕ} (c : Code) (past : List Code) (from head_end : ℕ) → (IsSliceKind c.kind → ⊥) → ((p k : ℕ) → HasCode p k past → from ≤ p → p < head_end → IsSliceKind k → ⊥) → HasCode place kind (c ∷ past) → from ≤ place → place < head_end → IsSliceKind kind → ⊥
+head-other {place} c past from head_end other none (inl new) after before is = other (subst (λ k. IsSliceKind k) (sym new.1) is)
+head-other {place} {kind} c past from head_end other none (inr old) after before is = none place kind old after before is
 
-head-first : (c : Code) (past : List Code) (from place kind : ℕ) → NoneFrom past from IsSliceKind → HasCode place kind (c ∷ past) → from ≤ place → place < c.place → IsSliceKind kind → ⊥
-head-first c past from place kind none (inl new) after before is = omega (arith, new.0, before)
-head-first c past from place kind none (inr old) after before is = none place kind old after is
+head-first : {from place kind : ℕ} (c : Code) (past : List Code) → NoneFrom past from IsSliceKind → HasCode place kind (c ∷ past) → from ≤ place → place < c.place → IsSliceKind kind → ⊥
+head-first {from} {place} c past none (inl new) after before is = omega (arith, new.0, before)
+head-first {from} {place} {kind} c past none (inr old) after before is = none place kind old after is
 
 -- a slice after others of its unit
-later-slice : {past : List Code} {head_end n : ℕ} {o : Option Header} {grp : Bool} (c : Code) (from : ℕ) (seq : Bool) → Below c past → IsSliceKind c.kind → 0 < n → Open past from head_end n o seq grp → Open (c ∷ past) from head_end (n + 1) o seq grp
-later-slice {past} {head_end} {n} {o} {grp} c from seq below slice some open_ =
+later-slice : (c : Code) (past : List Code) (from head_end n : ℕ) (o : Option Header) (seq grp : Bool) → Below c past → IsSliceKind c.kind → 0 < n → Open past from head_end n o seq grp → Open (c ∷ past) from head_end (n + 1) o seq grp
+later-slice c past from head_end n o seq grp below slice some open_ =
     let other = λ (h : IsHeadKind c.kind). apart c.kind slice h in
     let after : from ≤ c.place = omega (arith, below from open_.begins.0 open_.begins.1.0) in
     let far : head_end ≤ c.place = omega (arith, below head_end (open_.head_ends some).0 (open_.head_ends some).1.0) in
     record {
       begins = (open_.begins.0, (inr open_.begins.1.0, open_.begins.1.1));
       bare = λ none. absurd (omega (arith, none));
-      head = λ _ place kind has from_ before is. head-old c past from head_end place kind far (open_.head some) has from_ before is;
+      head = λ _ place kind has from_ before is. head-old c past from head_end far (open_.head some) has from_ before is;
       head_ends = λ _. ((open_.head_ends some).0, (inr (open_.head_ends some).1.0, (open_.head_ends some).1.1));
       order = λ _. open_.order some;
       some = λ _. open_.some some;
       sliced = λ _. none-more c past head_end IsHeadKind other (open_.sliced some);
-      picture_is = picture-more c past from head_end n (n + 1) o other (λ _. some) open_.picture_is;
+      picture_is = picture-more c past from head_end o other (λ _. some) open_.picture_is;
       seq_there = λ e. later-code c past from (open_.seq_there e);
-      seq_set = seq-more c past from seq (λ e. other (inr (inl e))) open_.seq_set;
+      seq_set = seq-more c past from (λ e. other (inr (inl e))) open_.seq_set;
       grp_there = λ e. later-group c past from after (open_.grp_there e);
-      grp_set = seq-more c past from grp (λ e. other (inr (inr e))) open_.grp_set;
+      grp_set = seq-more c past from (λ e. other (inr (inr e))) open_.grp_set;
       grp_first = λ firsts. open_.grp_first (λ place kind has. firsts place kind (inr has));
     }
 
 -- the first slice of its unit
-first-slice : {past : List Code} {head_end n : ℕ} {o : Option Header} {grp : Bool} (c : Code) (from : ℕ) (seq : Bool) → Below c past → IsSliceKind c.kind → n ≡ 0 → is_some o ≡ true → Open past from head_end n o seq grp → Open (c ∷ past) from c.place (n + 1) o seq grp
-first-slice {past} {head_end} {n} {o} {grp} c from seq below slice none with_picture open_ =
+first-slice : (c : Code) (past : List Code) (from head_end n : ℕ) (o : Option Header) (seq grp : Bool) → Below c past → IsSliceKind c.kind → n ≡ 0 → is_some o ≡ true → Open past from head_end n o seq grp → Open (c ∷ past) from c.place (n + 1) o seq grp
+first-slice c past from head_end n o seq grp below slice none with_picture open_ =
     let other = λ (h : IsHeadKind c.kind). apart c.kind slice h in
     let after : from < c.place = below from open_.begins.0 open_.begins.1.0 in
     record {
       begins = (open_.begins.0, (inr open_.begins.1.0, open_.begins.1.1));
       bare = λ e. absurd (omega (arith, e));
-      head = λ _ place kind has from_ before is. head-first c past from place kind (open_.bare none) has from_ before is;
+      head = λ _ place kind has from_ before is. head-first c past (open_.bare none) has from_ before is;
       head_ends = λ _. (c.kind, (inl (refl, refl), slice));
       order = λ _. after;
       some = λ _. with_picture;
       sliced = λ _. none-new c past IsHeadKind below other;
       picture_is = picture-first c past from head_end n o below other with_picture open_.picture_is;
       seq_there = λ e. later-code c past from (open_.seq_there e);
-      seq_set = seq-more c past from seq (λ e. other (inr (inl e))) open_.seq_set;
+      seq_set = seq-more c past from (λ e. other (inr (inl e))) open_.seq_set;
       grp_there = λ e. later-group c past from (omega (arith, after)) (open_.grp_there e);
-      grp_set = seq-more c past from grp (λ e. other (inr (inr e))) open_.grp_set;
+      grp_set = seq-more c past from (λ e. other (inr (inr e))) open_.grp_set;
       grp_first = λ firsts. open_.grp_first (λ place kind has. firsts place kind (inr has));
     }
 
 -- a code that is neither a head's nor a slice's
-other-code : {past : List Code} {head_end n : ℕ} {o : Option Header} {grp : Bool} (c : Code) (from : ℕ) (seq : Bool) → Below c past → (IsHeadKind c.kind → ⊥) → (IsSliceKind c.kind → ⊥) → Open past from head_end n o seq grp → Open (c ∷ past) from head_end n o seq grp
-other-code {past} {head_end} {n} {o} {grp} c from seq below other no_slice open_ =
+other-code : (c : Code) (past : List Code) (from head_end n : ℕ) (o : Option Header) (seq grp : Bool) → Below c past → (IsHeadKind c.kind → ⊥) → (IsSliceKind c.kind → ⊥) → Open past from head_end n o seq grp → Open (c ∷ past) from head_end n o seq grp
+other-code c past from head_end n o seq grp below other no_slice open_ =
     let after : from ≤ c.place = omega (arith, below from open_.begins.0 open_.begins.1.0) in
     record {
       begins = (open_.begins.0, (inr open_.begins.1.0, open_.begins.1.1));
       bare = λ none. none-more c past from IsSliceKind no_slice (open_.bare none);
-      head = λ some place kind has from_ before is. head-other c past from head_end place kind no_slice (open_.head some) has from_ before is;
+      head = λ some place kind has from_ before is. head-other c past from head_end no_slice (open_.head some) has from_ before is;
       head_ends = λ some. ((open_.head_ends some).0, (inr (open_.head_ends some).1.0, (open_.head_ends some).1.1));
       order = open_.order;
       some = open_.some;
       sliced = λ some. none-more c past head_end IsHeadKind other (open_.sliced some);
-      picture_is = picture-more c past from head_end n n o other (λ some. some) open_.picture_is;
+      picture_is = picture-more c past from head_end o other (λ some. some) open_.picture_is;
       seq_there = λ e. later-code c past from (open_.seq_there e);
-      seq_set = seq-more c past from seq (λ e. other (inr (inl e))) open_.seq_set;
+      seq_set = seq-more c past from (λ e. other (inr (inl e))) open_.seq_set;
       grp_there = λ e. later-group c past from after (open_.grp_there e);
-      grp_set = seq-more c past from grp (λ e. other (inr (inr e))) open_.grp_set;
+      grp_set = seq-more c past from (λ e. other (inr (inr e))) open_.grp_set;
       grp_first = λ firsts. open_.grp_first (λ place kind has. firsts place kind (inr has));
     }
 
 -- ---- a code of a head, by the tests on its kind
 
-picture-head : (t0 : Bool) (c : Code) (past : List Code) (from head_end n : ℕ) (o : Option Header) → Below c past → (t0 ≡ true → c.kind ≡ 0) → (c.kind ≡ 0 → t0 ≡ true) → from ≤ c.place → is_some o ≡ false → PictureIs past from head_end n o → PictureIs (c ∷ past) from head_end 0 (cond t0 (Some (header_of c)) o)
-picture-head t0 c past from head_end n (Some h) below is set after none picture = absurd (true≢false none)
-picture-head true c past from head_end n None below is set after none picture = picture-new {past = past} {head_end = head_end} c from below (is refl) after picture
-picture-head false c past from head_end n None below is set after none picture = none-more c past from Zero (λ e. false≢true (set e)) picture
+picture-head : {t0 : Bool} {from : ℕ} (c : Code) (past : List Code) (head_end n : ℕ) (o : Option Header) → Below c past → (t0 ≡ true → c.kind ≡ 0) → (c.kind ≡ 0 → t0 ≡ true) → from ≤ c.place → is_some o ≡ false → PictureIs past from head_end n o → PictureIs (c ∷ past) from head_end 0 (cond t0 (Some (header_of c)) o)
+picture-head {from} c past head_end n (Some h) below is set after none picture = absurd (true≢false none)
+picture-head {t0 = true} {from} c past head_end n None below is set after none picture = picture-new below (is refl) after picture
+picture-head {t0 = false} {from} c past head_end n None below is set after none picture = none-more c past from Zero (λ e. false≢true (set e)) picture
 
-flag-there : {k : ℕ} (t seq : Bool) (c : Code) (past : List Code) (from : ℕ) → from ≤ c.place → (t ≡ true → c.kind ≡ k) → (seq ≡ true → (place : ℕ) × (HasCode place k past × (from ≤ place))) → cond t true seq ≡ true → (place : ℕ) × (HasCode place k (c ∷ past) × (from ≤ place))
-flag-there true seq c past from after is there e = (c.place, (inl (refl, is refl), after))
-flag-there false seq c past from after is there e = let old = there e in (old.0, (inr old.1.0, old.1.1))
+flag-there : {t seq : Bool} {k : ℕ} (c : Code) (past : List Code) (from : ℕ) → from ≤ c.place → (t ≡ true → c.kind ≡ k) → (seq ≡ true → (place : ℕ) × (HasCode place k past × (from ≤ place))) → cond t true seq ≡ true → (place : ℕ) × (HasCode place k (c ∷ past) × (from ≤ place))
+flag-there {t = true} {seq} c past from after is there e = (c.place, (inl (refl, is refl), after))
+flag-there {t = false} {seq} c past from after is there e = let old = there e in (old.0, (inr old.1.0, old.1.1))
 
-flag-set : {k : ℕ} (t seq : Bool) (c : Code) (past : List Code) (from : ℕ) → (c.kind ≡ k → t ≡ true) → ((place : ℕ) → HasCode place k past → from ≤ place → seq ≡ true) → (place : ℕ) → HasCode place k (c ∷ past) → from ≤ place → cond t true seq ≡ true
-flag-set true seq c past from set there place has after = refl
-flag-set false seq c past from set there place (inl new) after = absurd (false≢true (set new.1))
-flag-set false seq c past from set there place (inr old) after = there place old after
+flag-set : {t seq : Bool} {k : ℕ} (c : Code) (past : List Code) (from : ℕ) → (c.kind ≡ k → t ≡ true) → ((place : ℕ) → HasCode place k past → from ≤ place → seq ≡ true) → (place : ℕ) → HasCode place k (c ∷ past) → from ≤ place → cond t true seq ≡ true
+flag-set {t = true} {seq} c past from set there place has after = refl
+flag-set {t = false} {seq} c past from set there place (inl new) after = absurd (false≢true (set new.1))
+flag-set {t = false} {seq} c past from set there place (inr old) after = there place old after
 
-group-there : {grp : Bool} (t : Bool) (c : Code) (past : List Code) (from : ℕ) → from ≤ c.place → (t ≡ true → c.kind ≡ 0xb8) → (grp ≡ true → Firsts past from ⊎ ((place : ℕ) × (HasCode place 0xb8 past × (from ≤ place)))) → cond t true grp ≡ true → Firsts (c ∷ past) from ⊎ ((place : ℕ) × (HasCode place 0xb8 (c ∷ past) × (from ≤ place)))
-group-there true c past from after is there e = inr (c.place, (inl (refl, is refl), after))
-group-there false c past from after is there e = later-group c past from after (there e)
+group-there : {t grp : Bool} {from : ℕ} (c : Code) (past : List Code) → from ≤ c.place → (t ≡ true → c.kind ≡ 0xb8) → (grp ≡ true → Firsts past from ⊎ ((place : ℕ) × (HasCode place 0xb8 past × (from ≤ place)))) → cond t true grp ≡ true → Firsts (c ∷ past) from ⊎ ((place : ℕ) × (HasCode place 0xb8 (c ∷ past) × (from ≤ place)))
+group-there {t = true} {from} c past after is there e = inr (c.place, (inl (refl, is refl), after))
+group-there {t = false} {from} c past after is there e = later-group c past from after (there e)
 
 set-first : (t grp : Bool) → grp ≡ true → cond t true grp ≡ true
 set-first true grp e = refl
 set-first false grp e = e
 
 -- in the head of the latest unit
-more-head : {t0 t3 t8 : Bool} {past : List Code} {head_end n : ℕ} {o : Option Header} {grp : Bool} (c : Code)
-    (from : ℕ) (seq : Bool) → Below c past → Kinds t0 t3 t8 false c.kind → IsHeadKind c.kind → n ≡ 0 → is_some o ≡ false → Open past from head_end n o seq grp
+more-head : (t0 t3 t8 : Bool) (c : Code) (past : List Code) (from head_end n : ℕ) (o : Option Header) (seq grp : Bool) → Below c past → Kinds t0 t3 t8 false c.kind → IsHeadKind c.kind → n ≡ 0 → is_some o ≡ false → Open past from head_end n o seq grp
     → Open (c ∷ past) from head_end 0 (cond t0 (Some (header_of c)) o) (cond t3 true seq) (cond t8 true grp)
-more-head {t0} {t3} {t8} {past} {head_end} {n} {o} {grp} c from seq below kinds head none bare open_ =
+more-head t0 t3 t8 c past from head_end n o seq grp below kinds head none bare open_ =
     let after : from ≤ c.place = omega (arith, below from open_.begins.0 open_.begins.1.0) in
     record {
       begins = (open_.begins.0, (inr open_.begins.1.0, open_.begins.1.1));
@@ -291,20 +290,20 @@ more-head {t0} {t3} {t8} {past} {head_end} {n} {o} {grp} c from seq below kinds 
       order = λ some. absurd (omega (arith, some));
       some = λ some. absurd (omega (arith, some));
       sliced = λ some. absurd (omega (arith, some));
-      picture_is = picture-head t0 c past from head_end n o below kinds.zero_is kinds.is_zero after bare open_.picture_is;
-      seq_there = flag-there t3 seq c past from after kinds.three_is open_.seq_there;
-      seq_set = flag-set t3 seq c past from kinds.is_three open_.seq_set;
-      grp_there = group-there t8 c past from after kinds.eight_is open_.grp_there;
-      grp_set = flag-set t8 grp c past from kinds.is_eight open_.grp_set;
+      picture_is = picture-head c past head_end n o below kinds.zero_is kinds.is_zero after bare open_.picture_is;
+      seq_there = flag-there c past from after kinds.three_is open_.seq_there;
+      seq_set = flag-set c past from kinds.is_three open_.seq_set;
+      grp_there = group-there c past after kinds.eight_is open_.grp_there;
+      grp_set = flag-set c past from kinds.is_eight open_.grp_set;
       grp_first = λ firsts. set-first t8 grp (open_.grp_first (λ place kind has. firsts place kind (inr has)));
     }
 
 nothing-there : (c : Code) (past : List Code) (k : ℕ) → Below c past → (place : ℕ) → HasCode place k past → c.place ≤ place → false ≡ true
 nothing-there c past k below place has after = absurd (omega (arith, below place k has, after))
 
-picture-begun : (t0 : Bool) (c : Code) (past : List Code) (head_end : ℕ) → Below c past → (t0 ≡ true → c.kind ≡ 0) → (c.kind ≡ 0 → t0 ≡ true) → PictureIs (c ∷ past) c.place head_end 0 (cond t0 (Some (header_of c)) None)
-picture-begun true c past head_end below is set = picture-new {past = past} {head_end = head_end} c c.place below (is refl) (omega arith) (λ place kind has after _. omega (arith, below place kind has, after))
-picture-begun false c past head_end below is set = none-new c past Zero below (λ e. false≢true (set e))
+picture-begun : {t0 : Bool} (c : Code) (past : List Code) (head_end : ℕ) → Below c past → (t0 ≡ true → c.kind ≡ 0) → (c.kind ≡ 0 → t0 ≡ true) → PictureIs (c ∷ past) c.place head_end 0 (cond t0 (Some (header_of c)) None)
+picture-begun {t0 = true} c past head_end below is set = picture-new below (is refl) (omega arith) (λ place kind has after _. omega (arith, below place kind has, after))
+picture-begun {t0 = false} c past head_end below is set = none-new c past Zero below (λ e. false≢true (set e))
 
 begun-flag : (t : Bool) (c : Code) (past : List Code) (k : ℕ) → (t ≡ true → c.kind ≡ k) → cond t true false ≡ true → (place : ℕ) × (HasCode place k (c ∷ past) × (c.place ≤ place))
 begun-flag true c past k is e = (c.place, (inl (refl, is refl), omega arith))
@@ -314,10 +313,9 @@ begun-group : (t : Bool) (c : Code) (past : List Code) → (t ≡ true → c.kin
 begun-group t c past is e = inr (begun-flag t c past 0xb8 is e)
 
 -- a new unit
-new-unit : {t0 t3 t8 : Bool} {past : List Code} {head_end n : ℕ} {o : Option Header} {grp : Bool} (c : Code)
-    (from : ℕ) (seq : Bool) → Below c past → Kinds t0 t3 t8 false c.kind → IsHeadKind c.kind → Open past from head_end n o seq grp
+new-unit : (t0 t3 t8 : Bool) (c : Code) (past : List Code) (from head_end n : ℕ) (o : Option Header) (seq grp : Bool) → Below c past → Kinds t0 t3 t8 false c.kind → IsHeadKind c.kind → Open past from head_end n o seq grp
     → Open (c ∷ past) c.place head_end 0 (cond t0 (Some (header_of c)) None) (cond t3 true false) (cond t8 true false)
-new-unit {t0} {t3} {t8} {past} {head_end} c from seq below kinds head open_ =
+new-unit t0 t3 t8 c past from head_end n o seq grp below kinds head open_ =
     record {
       begins = (c.kind, (inl (refl, refl), head));
       bare = λ _. none-new c past IsSliceKind below (λ slice. apart c.kind slice head);
@@ -326,11 +324,11 @@ new-unit {t0} {t3} {t8} {past} {head_end} c from seq below kinds head open_ =
       order = λ some. absurd (omega (arith, some));
       some = λ some. absurd (omega (arith, some));
       sliced = λ some. absurd (omega (arith, some));
-      picture_is = picture-begun t0 c past head_end below kinds.zero_is kinds.is_zero;
+      picture_is = picture-begun c past head_end below kinds.zero_is kinds.is_zero;
       seq_there = begun-flag t3 c past 0xb3 kinds.three_is;
-      seq_set = flag-set t3 false c past c.place kinds.is_three (nothing-there c past 0xb3 below);
+      seq_set = flag-set c past c.place kinds.is_three (nothing-there c past 0xb3 below);
       grp_there = begun-group t8 c past kinds.eight_is;
-      grp_set = flag-set t8 false c past c.place kinds.is_eight (nothing-there c past 0xb8 below);
+      grp_set = flag-set c past c.place kinds.is_eight (nothing-there c past 0xb8 below);
       grp_first = λ firsts. absurd (omega (arith, below from open_.begins.0 open_.begins.1.0, firsts from open_.begins.0 (inr open_.begins.1.0)));
     }
 
@@ -370,24 +368,24 @@ no-head kind kinds (inl e) = false≢true (kinds.is_zero e)
 no-head kind kinds (inr (inl e)) = false≢true (kinds.is_three e)
 no-head kind kinds (inr (inr e)) = false≢true (kinds.is_eight e)
 
-pub step-open : {past : List Code} {head_end n : ℕ} {o : Option Header} {grp : Bool} (t0 t3 t8 s q e : Bool)
-    (c : Code) (from : ℕ) (seq : Bool)
+pub step-open : {t0 t3 t8 s q e : Bool} {c : Code} {past : List Code} {from head_end n : ℕ} {o : Option Header}
+    {seq grp : Bool}
     → Kinds t0 t3 t8 s c.kind → Below c past → (q ≡ true → 0 < n) → (q ≡ false → n ≡ 0) → (e ≡ true → n ≡ 0) → (e ≡ false → 0 < n)
     → ((t0 || (t3 || t8)) ≡ true → n ≡ 0 → is_some o ≡ false) → (s ≡ true → n ≡ 0 → is_some o ≡ true) → Open past from head_end n o seq grp
     → Open (c ∷ past) (cond ((t0 || (t3 || t8)) && q) c.place from) (cond (s && e) c.place head_end) (cond (t0 || (t3 || t8)) 0 (cond s (n + 1) n))
     (cond t0 (Some (header_of c)) (cond ((t0 || (t3 || t8)) && q) None o)) (cond t3 true (cond ((t0 || (t3 || t8)) && q) false seq)) (cond (t8 || false) true (cond ((t0 || (t3 || t8)) && q) false grp))
-step-open true t3 t8 true q e c from seq kinds below some none zero_ more alone with_ open_ = absurd (apart c.kind (kinds.slice_is refl) (inl (kinds.zero_is refl)))
-step-open false true t8 true q e c from seq kinds below some none zero_ more alone with_ open_ = absurd (apart c.kind (kinds.slice_is refl) (inr (inl (kinds.three_is refl))))
-step-open false false true true q e c from seq kinds below some none zero_ more alone with_ open_ = absurd (apart c.kind (kinds.slice_is refl) (inr (inr (kinds.eight_is refl))))
-step-open false false false true q true c from seq kinds below some none zero_ more alone with_ open_ = first-slice c from seq below (kinds.slice_is refl) (zero_ refl) (with_ refl (zero_ refl)) open_
-step-open false false false true q false c from seq kinds below some none zero_ more alone with_ open_ = later-slice c from seq below (kinds.slice_is refl) (more refl) open_
-step-open false false false false q e c from seq kinds below some none zero_ more alone with_ open_ = other-code c from seq below (λ h. no-head c.kind kinds h) (λ slice. false≢true (kinds.is_slice slice)) open_
-step-open true true t8 false q e c from seq kinds below some none zero_ more alone with_ open_ = absurd (omega (arith, kinds.zero_is refl, kinds.three_is refl))
-step-open true false true false q e c from seq kinds below some none zero_ more alone with_ open_ = absurd (omega (arith, kinds.zero_is refl, kinds.eight_is refl))
-step-open true false false false true e c from seq kinds below some none zero_ more alone with_ open_ = new-unit c from seq below kinds (inl (kinds.zero_is refl)) open_
-step-open true false false false false e c from seq kinds below some none zero_ more alone with_ open_ = more-head c from seq below kinds (inl (kinds.zero_is refl)) (none refl) (alone refl (none refl)) open_
-step-open false true true false q e c from seq kinds below some none zero_ more alone with_ open_ = absurd (omega (arith, kinds.three_is refl, kinds.eight_is refl))
-step-open false true false false true e c from seq kinds below some none zero_ more alone with_ open_ = new-unit c from seq below kinds (inr (inl (kinds.three_is refl))) open_
-step-open false true false false false e c from seq kinds below some none zero_ more alone with_ open_ = more-head c from seq below kinds (inr (inl (kinds.three_is refl))) (none refl) (alone refl (none refl)) open_
-step-open false false true false true e c from seq kinds below some none zero_ more alone with_ open_ = new-unit c from seq below kinds (inr (inr (kinds.eight_is refl))) open_
-step-open false false true false false e c from seq kinds below some none zero_ more alone with_ open_ = more-head c from seq below kinds (inr (inr (kinds.eight_is refl))) (none refl) (alone refl (none refl)) open_
+step-open {t0 = true} {s = true} {c} {from} {seq} kinds below some none zero_ more alone with_ open_ = absurd (apart c.kind (kinds.slice_is refl) (inl (kinds.zero_is refl)))
+step-open {t0 = false} {t3 = true} {s = true} {c} {from} {seq} kinds below some none zero_ more alone with_ open_ = absurd (apart c.kind (kinds.slice_is refl) (inr (inl (kinds.three_is refl))))
+step-open {t0 = false} {t3 = false} {t8 = true} {s = true} {c} {from} {seq} kinds below some none zero_ more alone with_ open_ = absurd (apart c.kind (kinds.slice_is refl) (inr (inr (kinds.eight_is refl))))
+step-open {t0 = false} {t3 = false} {t8 = false} {s = true} {e = true} {c} {past} {from} {head_end = he} {n} {o} {seq} {grp} kinds below some none zero_ more alone with_ open_ = first-slice c past from he n o seq grp below (kinds.slice_is refl) (zero_ refl) (with_ refl (zero_ refl)) open_
+step-open {t0 = false} {t3 = false} {t8 = false} {s = true} {e = false} {c} {past} {from} {head_end = he} {n} {o} {seq} {grp} kinds below some none zero_ more alone with_ open_ = later-slice c past from he n o seq grp below (kinds.slice_is refl) (more refl) open_
+step-open {t0 = false} {t3 = false} {t8 = false} {s = false} {c} {past} {from} {head_end = he} {n} {o} {seq} {grp} kinds below some none zero_ more alone with_ open_ = other-code c past from he n o seq grp below (λ h. no-head c.kind kinds h) (λ slice. false≢true (kinds.is_slice slice)) open_
+step-open {t0 = true} {t3 = true} {s = false} {c} {from} {seq} kinds below some none zero_ more alone with_ open_ = absurd (omega (arith, kinds.zero_is refl, kinds.three_is refl))
+step-open {t0 = true} {t3 = false} {t8 = true} {s = false} {c} {from} {seq} kinds below some none zero_ more alone with_ open_ = absurd (omega (arith, kinds.zero_is refl, kinds.eight_is refl))
+step-open {t0 = true} {t3 = false} {t8 = false} {s = false} {q = true} {c} {past} {from} {head_end = he} {n} {o} {seq} {grp} kinds below some none zero_ more alone with_ open_ = new-unit true false false c past from he n o seq grp below kinds (inl (kinds.zero_is refl)) open_
+step-open {t0 = true} {t3 = false} {t8 = false} {s = false} {q = false} {c} {past} {from} {head_end = he} {n} {o} {seq} {grp} kinds below some none zero_ more alone with_ open_ = more-head true false false c past from he n o seq grp below kinds (inl (kinds.zero_is refl)) (none refl) (alone refl (none refl)) open_
+step-open {t0 = false} {t3 = true} {t8 = true} {s = false} {c} {from} {seq} kinds below some none zero_ more alone with_ open_ = absurd (omega (arith, kinds.three_is refl, kinds.eight_is refl))
+step-open {t0 = false} {t3 = true} {t8 = false} {s = false} {q = true} {c} {past} {from} {head_end = he} {n} {o} {seq} {grp} kinds below some none zero_ more alone with_ open_ = new-unit false true false c past from he n o seq grp below kinds (inr (inl (kinds.three_is refl))) open_
+step-open {t0 = false} {t3 = true} {t8 = false} {s = false} {q = false} {c} {past} {from} {head_end = he} {n} {o} {seq} {grp} kinds below some none zero_ more alone with_ open_ = more-head false true false c past from he n o seq grp below kinds (inr (inl (kinds.three_is refl))) (none refl) (alone refl (none refl)) open_
+step-open {t0 = false} {t3 = false} {t8 = true} {s = false} {q = true} {c} {past} {from} {head_end = he} {n} {o} {seq} {grp} kinds below some none zero_ more alone with_ open_ = new-unit false false true c past from he n o seq grp below kinds (inr (inr (kinds.eight_is refl))) open_
+step-open {t0 = false} {t3 = false} {t8 = true} {s = false} {q = false} {c} {past} {from} {head_end = he} {n} {o} {seq} {grp} kinds below some none zero_ more alone with_ open_ = more-head false false true c past from he n o seq grp below kinds (inr (inr (kinds.eight_is refl))) (none refl) (alone refl (none refl)) open_

@@ -13,7 +13,7 @@ use Rattle.mpeg_scan.proofs.CountLemmas.{film-numbered}
 
 codes-fall : (past : List Code) (at : ℕ) → Spaced past → AreFalling past
 codes-fall [] at spaced = tt
-codes-fall (c ∷ past) at spaced = (all-below past c.place spaced.1 spaced.0, codes-fall past c.place spaced.1)
+codes-fall (c ∷ past) at spaced = (all-below past spaced.1 spaced.0, codes-fall past c.place spaced.1)
 
 pub codes-falling : (r : List ℕ) → AreFalling (codes_of r)
 codes-falling r = codes-fall (codes_of r) (length r) (placed-codes r).spaced

@@ -68,17 +68,17 @@ front-nonzero xs n bound nonzero k within zero_there =
     let below : k < n = omega (arith, length-take-le n xs bound) in
     nonzero k below (sym (get_or-take n xs k 0 below) ∙ zero_there)
 
-skipped : (s : Progress) (r xs : List ℕ) (n : ℕ) → n ≤ length xs → ((k : ℕ) → k < n → get_or xs k 0 ≡ 0 → ⊥) → (s.prefix ≡ Nothing) × (is_text_full s.latest ≡ true) → HasRead s r → Quiet r (read r (take n xs)) (length (take n xs))
-skipped s r xs n bound nonzero quiet kept =
+skipped : {s : Progress} {r : List ℕ} (xs : List ℕ) (n : ℕ) → n ≤ length xs → ((k : ℕ) → k < n → get_or xs k 0 ≡ 0 → ⊥) → (s.prefix ≡ Nothing) × (is_text_full s.latest ≡ true) → HasRead s r → Quiet r (read r (take n xs)) (length (take n xs))
+skipped {s} {r} xs n bound nonzero quiet kept =
     quiet-run (take n xs) r (front-nonzero xs n bound nonzero) (sym kept.prefix ∙ quiet.0)
     (sym (ap is_text_full kept.latest) ∙ quiet.1)
 
-pub skipped-same : (s : Progress) (r xs : List ℕ) (n : ℕ) → n ≤ length xs → ((k : ℕ) → k < n → get_or xs k 0 ≡ 0 → ⊥) → (s.prefix ≡ Nothing) × (is_text_full s.latest ≡ true) → HasRead s r → codes_of (read r (take n xs)) ≡ codes_of r
-skipped-same s r xs n bound nonzero quiet kept = (skipped s r xs n bound nonzero quiet kept).same
+pub skipped-same : {s : Progress} {r : List ℕ} (xs : List ℕ) (n : ℕ) → n ≤ length xs → ((k : ℕ) → k < n → get_or xs k 0 ≡ 0 → ⊥) → (s.prefix ≡ Nothing) × (is_text_full s.latest ≡ true) → HasRead s r → codes_of (read r (take n xs)) ≡ codes_of r
+skipped-same {s} {r} xs n bound nonzero quiet kept = (skipped xs n bound nonzero quiet kept).same
 
-pub skipped-kept : (s : Progress) (r xs : List ℕ) (n : ℕ) → n ≤ length xs → ((k : ℕ) → k < n → get_or xs k 0 ≡ 0 → ⊥) → (s.prefix ≡ Nothing) × (is_text_full s.latest ≡ true) → HasRead s r → HasRead (skipped_scan s n) (read r (take n xs))
-skipped-kept s r xs n bound nonzero quiet kept =
-    let run = skipped s r xs n bound nonzero quiet kept in record {
+pub skipped-kept : {s : Progress} {r : List ℕ} (xs : List ℕ) (n : ℕ) → n ≤ length xs → ((k : ℕ) → k < n → get_or xs k 0 ≡ 0 → ⊥) → (s.prefix ≡ Nothing) × (is_text_full s.latest ≡ true) → HasRead s r → HasRead (skipped_scan s n) (read r (take n xs))
+skipped-kept {s} {r} xs n bound nonzero quiet kept =
+    let run = skipped xs n bound nonzero quiet kept in record {
       fed = omega (arith, run.more, length-take-le n xs bound, kept.fed);
       prefix = quiet.0 ∙ sym run.none;
       latest = kept.latest ∙ ap latest_of (sym run.same);

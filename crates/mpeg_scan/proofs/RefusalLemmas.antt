@@ -74,10 +74,10 @@ kind-decides Has past at kind c =
     let first = not (not (is_none_yet past)) in
     let three = eqb kind 0xb3 in
     let rest = cond (first && not three) (Some NoSequence) None in
-    both-cond System (SystemCode at)
+    both-cond
     (λ e. ((kind, (c.code, leb-true 0xb9 kind e)), refl))
     (λ g p. (le-leb 0xb9 kind (subst (λ k. 0xb9 ≤ k) (c.one p.0.0 p.0.1.0) p.0.1.1), p.1))
-    (λ _. both-cond Extension (Mpeg2 at)
+    (λ _. both-cond
     (λ e. (subst (λ k. Has at k) (eqb-true kind 0xb5 e) c.code, refl))
     (λ g p. (eq-eqb kind 0xb5 (sym (c.one 0xb5 p.0)), p.1))
     (λ _. decide Lacks (first && not three) NoSequence
@@ -105,9 +105,9 @@ positive zero e = absurd (true≢false e)
 positive (suc n) e = omega arith
 
 -- the latest unit has no slice
-slices-left : {past : List Code} {unit : ℕ} (Has : ℕ → ℕ → Type 0) (at : ℕ) → Knows Has past at →
+slices-left : {Has : ℕ → ℕ → Type 0} {past : List Code} {at unit : ℕ} → Knows Has past at →
     Spaced past → eqb (slices_of past) 0 ≡ false → IsOpenHead Has unit at → ⊥
-slices-left {past} {unit} Has at k spaced some o =
+slices-left {Has} {past} {at} {unit} k spaced some o =
     not-open Has unit at (slice-there Has past at k spaced (positive (slices_of past) some)) o
 
 -- the picture of an open head decides
@@ -127,7 +127,7 @@ picture-slices Has at unit (Some h) head picture = λ f. (
     is = sym (same_Some (PictureWithoutSlices h.place) f e);
   },
   λ p. let same = one-head Has p.unit unit at p.open_head head in
-      let its = one-picture Has p.place at (subst (λ u.
+      let its = one-picture (subst (λ u.
       IsItsPicture Has u p.place at) same p.picture) picture in
       ap (λ (v : ℕ). Some (PictureWithoutSlices v)) (sym its) ∙ ap Some (sym p.is),
 )
@@ -148,7 +148,7 @@ slices-decide Has [] at k spaced none =
     none-of (LacksSlices Has at) (λ f p. begins-after Has at p.unit k p.open_head)
 slices-decide Has (d ∷ past) at k spaced none =
     picture-slices Has at (unit_of (d ∷ past)) (picture_of (d ∷ past))
-    (open-head Has d past at k spaced none) (picture-there Has d past at k spaced)
+    (open-head k spaced none) (picture-there Has d past at k spaced)
 
 second-decides : (Has : ℕ → ℕ → Type 0) (past : List Code) (at kind : ℕ) → AtCode Has past at kind →
     Decides (SecondRefusal Has at) (second_fault (tally_of past) kind)
@@ -161,16 +161,16 @@ second-decides Has past at kind c =
     (slices-decide Has past at c.knows c.spaced (eqb-true (slices_of past) 0 parts.1)))
     (λ e f p. elim (and_cases (is_head kind) (eqb (slices_of past) 0) e) [
       | inl other ↦ no-head kind other (subst IsHeadKind (c.one p.0.0 p.0.1.0) p.0.1.1)
-      | inr some ↦ slices-left Has at c.knows c.spaced some p.1.open_head
+      | inr some ↦ slices-left c.knows c.spaced some p.1.open_head
     ])
 
 -- ---- a unit's first slice
 
-head-decides : {t_unit : ℕ} (Has : ℕ → ℕ → Type 0) (at : ℕ) (past : List Code) (o : Option Header) →
+head-decides : {Has : ℕ → ℕ → Type 0} {t_unit at : ℕ} (past : List Code) (o : Option Header) →
     unit_of past ≡ t_unit → IsOpenHead Has t_unit at → PictureThere Has t_unit at o
     → Decides (Otherwise (LacksPicture Has at) (IsLongHead Has at))
     (head_fault (tally_of past) at o)
-head-decides {t_unit = unit} Has at past None is head none =
+head-decides {Has} {t_unit = unit} {at} past None is head none =
     subst (λ u. Decides (Otherwise (LacksPicture Has at) (IsLongHead Has at))
     (Some (HeadWithoutPicture u))) (sym is)
     (λ f. (
@@ -192,7 +192,7 @@ head-decides {t_unit = unit} Has at past None is head none =
         }))
       ],
     ))
-head-decides {t_unit = unit} Has at past (Some h) is head picture =
+head-decides {Has} {t_unit = unit} {at} past (Some h) is head picture =
     subst (λ u. Decides (Otherwise (LacksPicture Has at) (IsLongHead Has at))
     (cond (ltb 1380 (at - u)) (Some (HeadTooLong u)) None)) (sym is)
     (only-second (LacksPicture Has at) (IsLongHead Has at)
@@ -216,9 +216,9 @@ lacks-none Has at never =
     neither (LacksPicture Has at) (IsLongHead Has at) (λ f p. never p.unit p.open_head) (λ f p.
     never p.unit p.open_head)
 
-not-both : {kind : ℕ} (Has : ℕ → ℕ → Type 0) (at : ℕ) → AtCode Has [] at kind →
+not-both : {Has : ℕ → ℕ → Type 0} {at kind : ℕ} → AtCode Has [] at kind →
     kind_fault (tally_of []) at kind ≡ None → is_slice kind ≡ true → IsFirstCode Has at → ⊥
-not-both {kind} Has at c none slice first =
+not-both {Has} {at} {kind} c none slice first =
     let is = slice-kind kind slice in
     no-more (KindRefusal Has at) (kind_fault (tally_of []) at kind)
     (kind-decides Has [] at kind c) none NoSequence
@@ -234,7 +234,7 @@ three-first : (Has : ℕ → ℕ → Type 0) (at kind : ℕ) → AtCode Has [] a
     kind_fault (tally_of []) at kind ≡ None → is_slice kind ≡ true → ⊥
 three-first Has at kind c none slice =
     let first : IsFirstCode Has at = first-of-none Has [] at c.knows refl in
-    not-both Has at c none slice first
+    not-both c none slice first
 
 slice-decides : (Has : ℕ → ℕ → Type 0) (past : List Code) (at kind : ℕ) → AtCode Has past at kind →
     kind_fault (tally_of past) at kind ≡ None →
@@ -252,13 +252,13 @@ slice-decides Has (d ∷ past) at kind c none =
     decide-with (StandsThere Has at IsSliceKind)
     (Otherwise (LacksPicture Has at) (IsLongHead Has at)) (head_fault (tally_of all) at o)
     (kind, (c.code, slice-kind kind parts.0))
-    (head-decides Has at all o refl
-    (open-head Has d past at c.knows c.spaced (eqb-true (slices_of all) 0 parts.1))
+    (head-decides all o refl
+    (open-head c.knows c.spaced (eqb-true (slices_of all) 0 parts.1))
     (picture-there Has d past at c.knows c.spaced)))
     (λ e f p. elim (and_cases (is_slice kind) (eqb (slices_of all) 0) e) [
       | inl other ↦ no-slice kind other (subst IsSliceKind (c.one p.0.0 p.0.1.0) p.0.1.1)
       | inr some ↦ lacks-none Has at (λ unit o.
-          slices-left Has at c.knows c.spaced some o) f p.1
+          slices-left c.knows c.spaced some o) f p.1
     ])
 
 -- ---- the number of pictures
@@ -266,7 +266,7 @@ slice-decides Has (d ∷ past) at kind c none =
 group-test : (Has : ℕ → ℕ → Type 0) (past : List Code) (at : ℕ) → Knows Has past at → Spaced past →
     leb 1024 (pictures_of past - before_group_of past) ≡ true → IsLongGroup Has at (GroupTooLong at)
 group-test Has past at k spaced e =
-    let it = codes-since Has is_group past at group-tests k spaced in record {
+    let it = codes-since group-tests k spaced in record {
       from = it.from;
       pictures = (
         it.places,
@@ -286,11 +286,11 @@ group-test Has past at k spaced e =
       is = refl;
     }
 
-test-group : {past : List Code} {f : FilmFault} (Has : ℕ → ℕ → Type 0) (at : ℕ) →
+test-group : {Has : ℕ → ℕ → Type 0} {past : List Code} {at : ℕ} {f : FilmFault} →
     Knows Has past at → Spaced past → IsLongGroup Has at f →
     leb 1024 (pictures_of past - before_group_of past) ≡ true
-test-group {past} Has at k spaced p =
-    let most = most-since Has is_group past p.from at p.pictures.0
+test-group {Has} {past} {at} k spaced p =
+    let most = most-since p.pictures.0
     group-tests k spaced p.pictures.1.0
     (λ place kind has after before is.
     p.none place kind has after before (eqb-true kind 0xb8 is)) in
@@ -300,10 +300,10 @@ test-group {past} Has at k spaced p =
 film-test : (Has : ℕ → ℕ → Type 0) (past : List Code) (at : ℕ) → Knows Has past at → Spaced past →
     leb 4194304 (pictures_of past) ≡ true → HasPictures Has 0 at 4194304
 film-test Has past at k spaced e =
-    let it = codes-since Has is_nothing past at picture-tests k spaced in (
+    let it = codes-since picture-tests k spaced in (
       it.places,
       (
-        codes-from Has IsPicture it.from 0 at it.places (λ place has far before.
+        codes-from it.places (λ place has far before.
             omega arith) it.are,
         omega
             (arith, it.long, since-all past, leb-true 4194304 (pictures_of past) e),
@@ -313,7 +313,7 @@ film-test Has past at k spaced e =
 test-film : (Has : ℕ → ℕ → Type 0) (past : List Code) (at : ℕ) → Knows Has past at → Spaced past →
     HasPictures Has 0 at 4194304 → leb 4194304 (pictures_of past) ≡ true
 test-film Has past at k spaced p =
-    let most = most-since Has is_nothing past 0 at p.0
+    let most = most-since p.0
     picture-tests k spaced p.1.0
     (λ place kind has after before is. false≢true is) in
     le-leb 4194304 (pictures_of past) (omega (arith, most, since-all past, p.1.1))
@@ -327,9 +327,9 @@ count-decides Has past at kind c =
     decide-if (CountRefusal Has at) (eqb kind 0) o
     (λ e. decide-with (Has at 0) (Otherwise (IsLongGroup Has at) (IsLongFilm Has at)) o (subst (λ k.
     Has at k) (eqb-true kind 0 e) c.code)
-    (both-cond (IsLongGroup Has at) (GroupTooLong at)
+    (both-cond
     (λ t. group-test Has past at c.knows c.spaced t)
-    (λ g p. (test-group Has at c.knows c.spaced p, p.is))
+    (λ g p. (test-group c.knows c.spaced p, p.is))
     (λ _. decide (IsLongFilm Has at) many TooLong (λ t.
     (film-test Has past at c.knows c.spaced t, refl)) (λ g p.
     (test-film Has past at c.knows c.spaced p.0, p.1)))))
@@ -347,7 +347,7 @@ code-decides Has bytes r past at kind same c texts accepted =
     (Otherwise (KindRefusal Has at)
     (Otherwise (SecondRefusal Has at) (Otherwise (SliceRefusal Has at) (CountRefusal Has at))))
     (latest_fault past at) (code_fault t at kind)
-    (latest-decides Has r past at (at + 4) same c.knows c.spaced texts (omega arith) accepted)
+    (latest-decides same c.knows c.spaced texts (omega arith) accepted)
     (λ _. both (KindRefusal Has at)
     (Otherwise (SecondRefusal Has at) (Otherwise (SliceRefusal Has at) (CountRefusal Has at)))
     (kind_fault t at kind)

@@ -33,9 +33,9 @@ record Film (Has : ℕ → ℕ →
   texts : TextsAre r stop past
   far : end ≤ stop
 
-film-older : {bytes : List ℕ} {past : List Code} (Has : ℕ → ℕ → Type 0) (r : List ℕ) (c : Code) (end stop : ℕ) →
+film-older : {Has : ℕ → ℕ → Type 0} {bytes r : List ℕ} {c : Code} {past : List Code} {end stop : ℕ} →
     Film Has bytes r (c ∷ past) end stop → Film Has bytes r past c.place (c.place + 4)
-film-older {past} Has r c end stop film = record {
+film-older {Has} {r} {c} {past} {end} {stop} film = record {
   same = film.same;
   single = film.single;
   knows = older Has c past end film.knows film.spaced;
@@ -45,10 +45,10 @@ film-older {past} Has r c end stop film = record {
 }
 
 -- the latest code is judged
-latest-code : {bytes : List ℕ} {past : List Code} (Has : ℕ → ℕ → Type 0) (r : List ℕ) (c : Code) (end stop : ℕ) →
+latest-code : {Has : ℕ → ℕ → Type 0} {bytes r : List ℕ} {c : Code} {past : List Code} {end stop : ℕ} →
     Film Has bytes r (c ∷ past) end stop → first_fault past ≡ None →
     Decides (CodeRefusal Has bytes c.place) (fault_at past c.place c.kind)
-latest-code {bytes} {past} Has r c end stop film accepted =
+latest-code {Has} {bytes} {r} {c} {past} {end} {stop} film accepted =
     let code = has-new Has c past end film.knows in
     code-decides Has bytes r past c.place c.kind film.same (record {
       knows = older Has c past end film.knows film.spaced;
@@ -69,13 +69,13 @@ all-clear Has bytes r [] end stop film accepted other code before g refused =
     film.knows.back other code.0 code.1.0 before
 all-clear Has bytes r (c ∷ past) end stop film accepted other code before g refused =
     let before_that = accepted-older c past accepted in
-    elim (where-is Has c end film.knows film.spaced other code.1.0 before) [
+    elim (where-is film.knows film.spaced code.1.0 before) [
       | here e m ↦ no-more (CodeRefusal Has bytes c.place) (fault_at past c.place c.kind)
-          (latest-code Has r c end stop film before_that)
+          (latest-code film before_that)
           (otherwise-second (first_fault past) (fault_at past c.place c.kind) accepted) g
           (subst (λ v. CodeRefusal Has bytes v g) (sym e) refused)
       | earlier far ↦ all-clear Has bytes r past c.place (c.place
-          + 4) (film-older Has r c end stop film) before_that other code far g refused
+          + 4) (film-older film) before_that other code far g refused
     ]
 
 -- the first of the codes before a place that is refused
@@ -86,13 +86,13 @@ record FirstBefore (Has : ℕ → ℕ → Type 0) (bytes : List ℕ) (end : ℕ)
   refused : CodeRefusal Has bytes at f
   first : Clear Has bytes at
 
-first-step : {b : Option FilmFault} {bytes : List ℕ} {past : List Code} (o : Option FilmFault) (Has : ℕ → ℕ → Type 0)
-    (r : List ℕ) (c : Code) (end stop : ℕ) →
+first-step : {o b : Option FilmFault} {Has : ℕ → ℕ → Type 0} {bytes r : List ℕ} {c : Code} {past : List Code}
+    {end stop : ℕ} →
     Film Has bytes r (c ∷ past) end stop
     → Decides (FirstBefore Has bytes c.place) o →
     (o ≡ None → Decides (CodeRefusal Has bytes c.place) b) →
     (o ≡ None → Clear Has bytes c.place) → Decides (FirstBefore Has bytes end) (first_refusal o b)
-first-step {bytes} {past} None Has r c end stop film one new clear f = (
+first-step {o = None} {Has} {bytes} {r} {c} {past} {end} {stop} film one new clear f = (
   λ e. record {
     at = c.place;
     code = (c.kind, (has-new Has c past end film.knows, tt));
@@ -100,12 +100,12 @@ first-step {bytes} {past} None Has r c end stop film one new clear f = (
     refused = (new refl f).0 e;
     first = clear refl;
   },
-  λ p. elim (where-is Has c end film.knows film.spaced p.at p.code.1.0 p.before) [
+  λ p. elim (where-is film.knows film.spaced p.code.1.0 p.before) [
     | here e m ↦ (new refl f).1 (subst (λ v. CodeRefusal Has bytes v f) (sym e) p.refused)
     | earlier far ↦ absurd (clear refl p.at p.code far f p.refused)
   ],
 )
-first-step {past} (Some g) Has r c end stop film one new clear f = (
+first-step {o = Some g} {Has} {r} {c} {past} {end} {stop} film one new clear f = (
   λ e. let it = (one f).0 e in record {
     at = it.at;
     code = it.code;
@@ -113,7 +113,7 @@ first-step {past} (Some g) Has r c end stop film one new clear f = (
     refused = it.refused;
     first = it.first;
   },
-  λ p. elim (where-is Has c end film.knows film.spaced p.at p.code.1.0 p.before) [
+  λ p. elim (where-is film.knows film.spaced p.code.1.0 p.before) [
     | here e m ↦ (let it = (one g).0 refl in absurd
         (p.first it.at it.code (omega (arith, it.before, e)) g it.refused))
     | earlier far ↦ (one f).1 (record {
@@ -132,19 +132,19 @@ unfolding first_fault
 first-decides Has bytes r [] end stop film =
     none-of (FirstBefore Has bytes end) (λ f p. film.knows.back p.at p.code.0 p.code.1.0 p.before)
 first-decides Has bytes r (c ∷ past) end stop film =
-    let before = film-older Has r c end stop film in
-    first-step (first_fault past) Has r c end stop film
+    let before = film-older film in
+    first-step film
     (first-decides Has bytes r past c.place (c.place + 4) before)
-    (λ none. latest-code Has r c end stop film none) (λ none.
+    (λ none. latest-code film none) (λ none.
     all-clear Has bytes r past c.place (c.place + 4) before none)
 
 -- ---- the end
 
-open-decides : {unit : ℕ} (Has : ℕ → ℕ → Type 0) (end : ℕ) (past : List Code) (o : Option Header) →
+open-decides : {Has : ℕ → ℕ → Type 0} {end unit : ℕ} (past : List Code) (o : Option Header) →
     unit_of past ≡ unit → IsOpenHead Has unit end → PictureThere Has unit end o
     → Decides (Otherwise (LacksSlices Has end) (LacksPicture Has end))
     (Some (open_fault (tally_of past) o))
-open-decides {unit} Has end past None is head none =
+open-decides {Has} {end} {unit} past None is head none =
     subst (λ u. Decides (Otherwise (LacksSlices Has end) (LacksPicture Has end))
     (Some (HeadWithoutPicture u))) (sym is)
     (only-second (LacksSlices Has end) (LacksPicture Has end) (Some (HeadWithoutPicture unit))
@@ -159,25 +159,25 @@ open-decides {unit} Has end past None is head none =
       λ p. ap (λ u. Some (HeadWithoutPicture u))
           (one-head Has unit p.unit end head p.open_head) ∙ ap Some (sym p.is),
     )))
-open-decides {unit} Has end past (Some h) is head picture =
+open-decides {Has} {end} {unit} past (Some h) is head picture =
     only-first (LacksSlices Has end) (LacksPicture Has end) (Some (left_without_slices h))
     (picture-slices Has end unit (Some h) head picture)
     (λ f p. p.none h.place 0 picture.code (subst (λ u.
     u ≤ h.place)
     (one-head Has unit p.unit end head p.open_head) picture.after) picture.before refl)
 
-unfinished : {past : List Code} (b : Bool) (Has : ℕ → ℕ → Type 0) (c : Code) (end : ℕ) →
+unfinished : {b : Bool} {Has : ℕ → ℕ → Type 0} {c : Code} {past : List Code} {end : ℕ} →
     ltb 0 (slices_of (c ∷ past)) ≡ b → Knows Has (c ∷ past) end → Spaced (c ∷ past)
     → Decides (Otherwise (LacksSlices Has end) (LacksPicture Has end))
     (cond b None (Some (open_fault (tally_of (c ∷ past)) (picture_of (c ∷ past)))))
-unfinished {past} true Has c end some k spaced =
+unfinished {b = true} {Has} {c} {past} {end} some k spaced =
     let s = slice-there Has (c ∷ past) end k spaced (ltb-true 0 (slices_of (c ∷ past)) some) in
     none-of (Otherwise (LacksSlices Has end) (LacksPicture Has end))
     (neither (LacksSlices Has end) (LacksPicture Has end)
     (λ f p. not-open Has p.unit end s p.open_head) (λ f p. not-open Has p.unit end s p.open_head))
-unfinished {past} false Has c end some k spaced =
-    open-decides Has end (c ∷ past) (picture_of (c ∷ past)) refl
-    (open-head Has c past end k spaced (omega (arith, ltb-false 0 (slices_of (c ∷ past)) some)))
+unfinished {b = false} {Has} {c} {past} {end} some k spaced =
+    open-decides (c ∷ past) (picture_of (c ∷ past)) refl
+    (open-head k spaced (omega (arith, ltb-false 0 (slices_of (c ∷ past)) some)))
     (picture-there Has c past end k spaced)
 
 last-decides : (Has : ℕ → ℕ → Type 0) (past : List Code) (end : ℕ) → Knows Has past end →
@@ -202,7 +202,7 @@ last-decides Has (c ∷ past) end k spaced all =
     only-second (LacksCodes Has) (Otherwise (LacksSlices Has end) (LacksPicture Has end))
     (last_fault (tally_of (c ∷ past)))
     (λ f p. p.0 c.place c.kind (has-new Has c past end k))
-    (unfinished (ltb 0 (slices_of (c ∷ past))) Has c end refl k spaced)
+    (unfinished refl k spaced)
 
 end-decides : (Has : ℕ → ℕ → Type 0) (bytes r : List ℕ) (past : List Code) (end stop : ℕ) →
     Film Has bytes r past end stop → ((place kind : ℕ) → Has place kind → place < end) →
@@ -213,7 +213,7 @@ end-decides Has bytes r past end stop film all accepted =
     both (HeaderRefusal Has bytes end)
     (Otherwise (LacksCodes Has) (Otherwise (LacksSlices Has end) (LacksPicture Has end)))
     (latest_fault past end) (last_fault (tally_of past))
-    (latest-decides Has r past end stop film.same film.knows film.spaced film.texts film.far
+    (latest-decides film.same film.knows film.spaced film.texts film.far
     accepted)
     (λ _. last-decides Has past end film.knows film.spaced all)
 
@@ -265,7 +265,7 @@ codes-decide bytes =
       single = one-kind bytes;
       knows = record {
         there = λ place kind has. (codes-stand bytes place kind).0 has;
-        below = all-below past n placed.spaced (room-after past (latest_prefix r) n placed.room);
+        below = all-below past placed.spaced (room-after past (latest_prefix r) n placed.room);
         back = λ place kind has before. (codes-stand bytes place kind).1 has;
       };
       spaced = placed.spaced;
@@ -286,10 +286,10 @@ film-decides bytes =
     let judged = first_refusal (first_fault (codes_of r)) (end_fault (codes_of r) (length r)) in
     let Codes = Otherwise (FirstRefusal (StandsAt bytes) bytes)
     (EndRefusal (StandsAt bytes) bytes (length bytes)) in
-    both-cond (IsEmptyFilm bytes) Empty
+    both-cond
     (λ e. (sym long ∙ eqb-true (length r) 0 e, refl))
     (λ g p. (eq-eqb (length r) 0 (long ∙ p.0), p.1))
-    (λ _. both-cond (IsLargeFilm bytes) TooLong
+    (λ _. both-cond
     (λ e. (subst (λ n. 2 ^ 40 < n) long (ltb-true (2 ^ 40) (length r) e), refl))
     (λ g p. (lt-ltb (2 ^ 40) (length r) (subst (λ n. 2 ^ 40 < n) (sym long) p.0), p.1))
     (λ _. codes-decide bytes))

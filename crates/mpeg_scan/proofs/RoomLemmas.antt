@@ -74,8 +74,8 @@ whole-length Zeros e = absurd (false≢true e)
 whole-length Whole e = refl
 
 -- before a code there is room
-pub room-before : {n : Progress} (s : Progress) (x place : ℕ) → is_whole s.prefix ≡ true → n ≡ scan_with_byte s x → place ≡ s.fed - 3 → IsAhead s → HasRoom (tally_now n) place
-room-before s x place whole is at room =
+pub room-before : {s n : Progress} {place : ℕ} (x : ℕ) → is_whole s.prefix ≡ true → n ≡ scan_with_byte s x → place ≡ s.fed - 3 → IsAhead s → HasRoom (tally_now n) place
+room-before {s} {place} x whole is at room =
     let same = same-noted s.latest s.tally x in
     let three = whole-length s.prefix whole in
     subst (λ (v : Progress). HasRoom (tally_now v) place) (sym is) (record {
@@ -90,12 +90,12 @@ unfolding code_judgement
 code_judgement-code latest tally place kind e =
     otherwise-second (latest_header_fault latest tally.rate place) (code_fault (tally_with latest tally) place kind) e
 
-begun-by : (a b q k : Bool) (place : ℕ) → k ≡ false → cond a (Some (SystemCode place)) (cond b (Some (Mpeg2 place)) (cond (not q && not k) (Some NoSequence) None)) ≡ None → q ≡ true
-begun-by true b q k place other e = absurd (cc)
-begun-by false true q k place other e = absurd (cc)
-begun-by false false true k place other e = refl
-begun-by false false false true place other e = absurd (true≢false other)
-begun-by false false false false place other e = absurd (cc)
+begun-by : {q k : Bool} (a b : Bool) (place : ℕ) → k ≡ false → cond a (Some (SystemCode place)) (cond b (Some (Mpeg2 place)) (cond (not q && not k) (Some NoSequence) None)) ≡ None → q ≡ true
+begun-by true b place other e = absurd (cc)
+begun-by false true place other e = absurd (cc)
+begun-by {q = true} false false place other e = refl
+begun-by {q = false} {k = true} false false place other e = absurd (true≢false other)
+begun-by {q = false} {k = false} false false place other e = absurd (cc)
 
 slice-kind : (kind : ℕ) → is_slice kind ≡ true → (1 ≤ kind) × (kind ≤ 0xaf)
 slice-kind kind slice =
@@ -104,12 +104,12 @@ slice-kind kind slice =
 
 code-begun : (t : Tally) (place kind : ℕ) → code_fault t place kind ≡ None → is_slice kind ≡ true → t.begun ≡ true
 code-begun t place kind e slice =
-    begun-by (leb 0xb9 kind) (eqb kind 0xb5) t.begun (eqb kind 0xb3) place (ne_eqb kind 0xb3 (λ is. absurd (omega (arith, (slice-kind kind slice).1))))
+    begun-by (leb 0xb9 kind) (eqb kind 0xb5) place (ne_eqb kind 0xb3 (λ is. absurd (omega (arith, (slice-kind kind slice).1))))
     (otherwise-first (kind_fault t place kind) (first_refusal (second_fault t kind) (first_refusal (first_slice_fault t place kind) (count_fault t place kind))) e)
 
 -- a unit's first slice: the head before it has 1 to 1,380 bytes
-pub head-some : {t : Tally} (latest : Option Code) (tally : Tally) (place kind : ℕ) → code_judgement latest tally place kind ≡ None → t ≡ tally_with latest tally → HasRoom (tally_with latest tally) place → is_slice kind ≡ true → t.unit < place
-head-some {t} latest tally place kind e is room slice =
+pub head-some : {t : Tally} {place : ℕ} (latest : Option Code) (tally : Tally) (kind : ℕ) → code_judgement latest tally place kind ≡ None → t ≡ tally_with latest tally → HasRoom (tally_with latest tally) place → is_slice kind ≡ true → t.unit < place
+head-some {t} {place} latest tally kind e is room slice =
     let unit : t.unit ≡ (tally_with latest tally).unit = ap (λ (v : Tally). v.unit) is in
     omega (arith, unit, room.unit (code-begun (tally_with latest tally) place kind (code_judgement-code latest tally place kind e) slice))
 
@@ -140,22 +140,22 @@ length-slice kind slice =
     let other = ne_eqb kind 0 (λ none. absurd (omega (arith, (slice-kind kind slice).0))) in
     length-no_zero (eqb kind 1) (eqb kind 0) other
 
-unit-by : (q h : Bool) (place unit l fed : ℕ) → l ≤ 1 → place + 3 ≤ fed → (q ≡ true → unit + 3 ≤ place) → cond (not q || h) place unit + 3 + l ≤ fed + 1
-unit-by true true place unit l fed short at before = omega (arith, short, at)
-unit-by true false place unit l fed short at before = omega (arith, short, at, before refl)
-unit-by false h place unit l fed short at before = omega (arith, short, at)
+unit-by : {q : Bool} (h : Bool) (place unit l fed : ℕ) → l ≤ 1 → place + 3 ≤ fed → (q ≡ true → unit + 3 ≤ place) → cond (not q || h) place unit + 3 + l ≤ fed + 1
+unit-by {q = true} true place unit l fed short at before = omega (arith, short, at)
+unit-by {q = true} false place unit l fed short at before = omega (arith, short, at, before refl)
+unit-by {q = false} h place unit l fed short at before = omega (arith, short, at)
 
-slice-by : (s h : Bool) (place slice n l fed : ℕ) → l ≤ 1 → (s ≡ true → l ≡ 0) → place + 3 ≤ fed → (0 < n → slice + 4 ≤ place) → 0 < cond h 0 (cond s (one_more n) n) → cond s place slice + 4 + l ≤ fed + 1
-slice-by true h place slice n l fed short none at before some = omega (arith, none refl, at)
-slice-by false true place slice n l fed short none at before some = absurd (omega (arith, some))
-slice-by false false place slice n l fed short none at before some = omega (arith, short, at, before some)
+slice-by : {s : Bool} {l : ℕ} (h : Bool) (place slice n fed : ℕ) → l ≤ 1 → (s ≡ true → l ≡ 0) → place + 3 ≤ fed → (0 < n → slice + 4 ≤ place) → 0 < cond h 0 (cond s (one_more n) n) → cond s place slice + 4 + l ≤ fed + 1
+slice-by {s = true} {l} h place slice n fed short none at before some = omega (arith, none refl, at)
+slice-by {s = false} {l} true place slice n fed short none at before some = absurd (omega (arith, some))
+slice-by {s = false} {l} false place slice n fed short none at before some = omega (arith, short, at, before some)
 
 code-ahead : (t : Tally) (place kind fed : ℕ) → place + 3 ≤ fed → HasRoom t place → HasRoomAhead (fed + 1) (next_prefix Whole kind) (Some (record { place = place; kind = kind; text = [] })) t
 unfolding next
 code-ahead t place kind fed at room = record {
   read = omega (arith, length-kind kind, at);
-  unit = λ b. unit-by t.begun (is_head kind && ltb 0 t.slices) place t.unit (prefix_length (next_prefix Whole kind)) fed (length-kind kind) at room.unit;
-  slice = λ some. slice-by (is_slice kind) (is_head kind) place t.slice t.slices (prefix_length (next_prefix Whole kind)) fed (length-kind kind) (length-slice kind) at room.slice some;
+  unit = λ b. unit-by (is_head kind && ltb 0 t.slices) place t.unit (prefix_length (next_prefix Whole kind)) fed (length-kind kind) at room.unit;
+  slice = λ some. slice-by (is_head kind) place t.slice t.slices fed (length-kind kind) (length-slice kind) at room.slice some;
 }
 
 whole-is : (p : Prefix) → is_whole p ≡ true → p ≡ Whole
@@ -164,9 +164,9 @@ whole-is Zero e = absurd (false≢true e)
 whole-is Zeros e = absurd (false≢true e)
 whole-is Whole e = refl
 
-pub coded-ahead : {n : Progress} (s m : Progress) (x place : ℕ) → is_whole s.prefix ≡ true → n ≡ scan_with_byte s x → place ≡ s.fed - 3 → m ≡ scan_with_code n place x → IsAhead s → IsAhead m
-coded-ahead {n} s m x place whole noted at is room =
-    let before = room-before s x place whole noted at room in
+pub coded-ahead : {s n m : Progress} {place : ℕ} (x : ℕ) → is_whole s.prefix ≡ true → n ≡ scan_with_byte s x → place ≡ s.fed - 3 → m ≡ scan_with_code n place x → IsAhead s → IsAhead m
+coded-ahead {s} {n} {m} {place} x whole noted at is room =
+    let before = room-before x whole noted at room in
     let three = whole-length s.prefix whole in
     let fed : n.fed ≡ s.fed + 1 = ap (λ (v : Progress). v.fed) noted in
     let prefix : n.prefix ≡ next_prefix Whole x = ap (λ (v : Progress). v.prefix) noted ∙ ap (λ p. next_prefix p x) (whole-is s.prefix whole) in
@@ -182,8 +182,8 @@ coded-awaits Ready n m x place is awaits =
 
 -- ---- as a run is passed over
 
-pub skipped-ahead : (s n : Progress) (count : ℕ) → n.fed ≡ s.fed + count → n.prefix ≡ s.prefix → n.latest ≡ s.latest → n.tally ≡ s.tally → IsAhead s → IsAhead n
-skipped-ahead s n count fed prefix latest tally room =
+pub skipped-ahead : {s n : Progress} (count : ℕ) → n.fed ≡ s.fed + count → n.prefix ≡ s.prefix → n.latest ≡ s.latest → n.tally ≡ s.tally → IsAhead s → IsAhead n
+skipped-ahead {s} {n} count fed prefix latest tally room =
     let P : Prefix → Type 0 = λ p. HasRoomAhead n.fed p n.latest n.tally in
     let L : Option Code → Type 0 = λ o. HasRoomAhead n.fed s.prefix o n.tally in
     let T : Tally → Type 0 = λ t. HasRoomAhead n.fed s.prefix s.latest t in

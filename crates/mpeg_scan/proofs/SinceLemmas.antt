@@ -34,17 +34,17 @@ pub record Since (Has : ℕ → ℕ → Type 0) (OfKind : ℕ → Type 0) (ends 
   pub long : length places ≡ count
   pub none : NoneIn Has from at (Ends ends)
 
-codes-later : (Has : ℕ → ℕ → Type 0) (OfKind : ℕ → Type 0) (from at to : ℕ) (places : List ℕ) →
+codes-later : {at to : ℕ} (Has : ℕ → ℕ → Type 0) (OfKind : ℕ → Type 0) (from : ℕ) (places : List ℕ) →
     at ≤ to → AreCodes Has OfKind from at places → AreCodes Has OfKind from to places
-codes-later Has OfKind from at to [] far are = tt
-codes-later Has OfKind from at to (p ∷ places) far are =
+codes-later {at} Has OfKind from [] far are = tt
+codes-later {at} Has OfKind from (p ∷ places) far are =
     ((are.0.0, (are.0.1.0, omega (arith, are.0.1.1, far))), are.1)
 
-since-by : {n : ℕ} {OfKind : ℕ → Type 0} {counts : ℕ → Bool} {past : List Code} (z b : Bool) (Has : ℕ → ℕ → Type 0)
-    (ends : ℕ → Bool) (c : Code) (at : ℕ) → Tests OfKind counts ends → counts c.kind ≡ z →
+since-by : {z b : Bool} {n : ℕ} {Has : ℕ → ℕ → Type 0} {OfKind : ℕ → Type 0} {counts ends : ℕ → Bool} {c : Code}
+    {past : List Code} {at : ℕ} → Tests OfKind counts ends → counts c.kind ≡ z →
     ends c.kind ≡ b → Knows Has (c ∷ past) at → Spaced (c ∷ past)
     → Since Has OfKind ends c.place n → Since Has OfKind ends at (cond z (n + 1) (cond b 0 n))
-since-by {past} true b Has ends c at tests is end k spaced it = record {
+since-by {z = true} {Has} {ends} {c} {past} {at} tests is end k spaced it = record {
   from = it.from;
   low = omega (arith, it.low, new-below Has c past at k);
   places = c.place ∷ it.places;
@@ -56,32 +56,31 @@ since-by {past} true b Has ends c at tests is end k spaced it = record {
     it.are,
   );
   long = omega (arith, it.long);
-  none = none-with Has c at it.from (Ends ends) k spaced (λ e.
+  none = none-with k spaced (λ e.
       true≢false (sym e ∙ tests.apart c.kind is)) it.none;
 }
-since-by {past} false true Has ends c at tests is end k spaced it = record {
+since-by {z = false} {b = true} {Has} {ends} {c} {past} {at} tests is end k spaced it = record {
   from = c.place + 1;
   low = omega (arith, new-below Has c past at k);
   places = [];
   are = tt;
   long = refl;
-  none = none-after Has c at (Ends ends) k spaced;
+  none = none-after (Ends ends) k spaced;
 }
-since-by {OfKind} {past} false false Has ends c at tests is end k spaced it = record {
+since-by {z = false} {b = false} {Has} {OfKind} {ends} {c} {past} {at} tests is end k spaced it = record {
   from = it.from;
   low = omega (arith, it.low, new-below Has c past at k);
   places = it.places;
-  are = codes-later Has OfKind it.from c.place at it.places
+  are = codes-later Has OfKind it.from it.places
       (omega (arith, new-below Has c past at k)) it.are;
   long = it.long;
-  none = none-with Has c at it.from (Ends ends) k spaced (λ e.
+  none = none-with k spaced (λ e.
       true≢false (sym e ∙ end)) it.none;
 }
 
-pub codes-since : {OfKind : ℕ → Type 0} {counts : ℕ → Bool} (Has : ℕ → ℕ → Type 0) (ends : ℕ → Bool)
-    (past : List Code) (at : ℕ) → Tests OfKind counts ends → Knows Has past at → Spaced past →
+pub codes-since : {Has : ℕ → ℕ → Type 0} {OfKind : ℕ → Type 0} {counts ends : ℕ → Bool} {past : List Code} {at : ℕ} → Tests OfKind counts ends → Knows Has past at → Spaced past →
     Since Has OfKind ends at (since counts ends past)
-codes-since Has ends [] at tests k spaced = record {
+codes-since {Has} {ends} {past = []} {at} tests k spaced = record {
   from = 0;
   low = omega arith;
   places = [];
@@ -89,10 +88,10 @@ codes-since Has ends [] at tests k spaced = record {
   long = refl;
   none = λ place kind has after before is. absurd (k.back place kind has before);
 }
-codes-since {counts} Has ends (c ∷ past) at tests k spaced =
-    since-by (counts c.kind) (ends c.kind)
-    Has ends c at tests refl refl k spaced
-    (codes-since Has ends past c.place tests (older Has c past at k spaced) spaced.1)
+codes-since {Has} {OfKind} {ends} {past = c ∷ past} {at} tests k spaced =
+    since-by
+    tests refl refl k spaced
+    (codes-since tests (older Has c past at k spaced) spaced.1)
 
 -- and there are no more of them
 most-old : (z b : Bool) (n m : ℕ) → (b ≡ true → ⊥) → m ≤ n → m ≤ cond z (n + 1) (cond b 0 n)
@@ -104,34 +103,34 @@ most-new : (z b : Bool) (n m : ℕ) → z ≡ true → m ≤ n → suc m ≤ con
 most-new true b n m is low = omega (arith, low)
 most-new false b n m is low = absurd (false≢true is)
 
-none-until : (Has : ℕ → ℕ → Type 0) (from to at : ℕ) (OfKind : ℕ → Type 0) → to ≤ at →
+none-until : {Has : ℕ → ℕ → Type 0} {from to at : ℕ} {OfKind : ℕ → Type 0} → to ≤ at →
     NoneIn Has from at OfKind → NoneIn Has from to OfKind
-none-until Has from to at OfKind far none place kind has after before is =
+none-until {Has} {from} {at} far none place kind has after before is =
     none place kind has after (omega (arith, before, far)) is
 
-pub most-since : {OfKind : ℕ → Type 0} {counts : ℕ → Bool} (Has : ℕ → ℕ → Type 0) (ends : ℕ → Bool)
-    (past : List Code) (from at : ℕ) (places : List ℕ) → Tests OfKind counts ends →
+pub most-since : {Has : ℕ → ℕ → Type 0} {OfKind : ℕ → Type 0} {counts ends : ℕ → Bool} {past : List Code}
+    {from at : ℕ} (places : List ℕ) → Tests OfKind counts ends →
     Knows Has past at → Spaced past → AreCodes Has OfKind from at places →
     NoneIn Has from at (Ends ends) → length places ≤ since counts ends past
-most-since Has ends past from at [] tests k spaced are none = omega arith
-most-since Has ends [] from at (p ∷ places) tests k spaced are none =
+most-since {Has} {ends} {from} {at} [] tests k spaced are none = omega arith
+most-since {Has} {ends} {past = []} {from} {at} (p ∷ places) tests k spaced are none =
     absurd (k.back p are.0.0.0 are.0.0.1.0 are.0.1.1)
-most-since {OfKind} {counts} Has ends (c ∷ past) from at (p ∷ places) tests k spaced are none =
+most-since {Has} {OfKind} {counts} {ends} {past = c ∷ past} {from} {at} (p ∷ places) tests k spaced are none =
     let k' = older Has c past at k spaced in
     let below = new-below Has c past at k in
-    elim (where-is Has c at k spaced p are.0.0.1.0 are.0.1.1) [
+    elim (where-is k spaced are.0.0.1.0 are.0.1.1) [
       | here e m ↦ most-new (counts c.kind) (ends c.kind) (since counts ends past) (length places)
           (tests.is c.kind (subst OfKind (sym m) are.0.0.1.1))
-          (most-since Has ends past from c.place places tests k' spaced.1 (subst (λ v.
+          (most-since places tests k' spaced.1 (subst (λ v.
           AreCodes Has OfKind from v places) (sym e) are.1)
-          (none-until Has from c.place at (Ends ends) (omega (arith, below)) none))
+          (none-until (omega (arith, below)) none))
       | earlier far ↦ most-old (counts c.kind) (ends c.kind) (since counts ends past)
           (length (p ∷ places))
           (λ e. none c.place c.kind (has-new Has c past at k)
           (omega (arith, are.0.1.0, far)) below e)
-          (most-since Has ends past from c.place (p ∷ places) tests k' spaced.1
+          (most-since (p ∷ places) tests k' spaced.1
           ((are.0.0, (are.0.1.0, far)), are.1)
-          (none-until Has from c.place at (Ends ends) (omega (arith, below)) none))
+          (none-until (omega (arith, below)) none))
     ]
 
 -- ---- pictures
@@ -162,18 +161,18 @@ picture-tests = record {
   apart = λ kind e. refl;
 }
 
-group-by : (z b : Bool) (p q n : ℕ) → (z ≡ true → b ≡ false) → p ≡ q + n →
+group-by : {z b : Bool} {p : ℕ} (q n : ℕ) → (z ≡ true → b ≡ false) → p ≡ q + n →
     cond z (p + 1) p ≡ cond b p q + cond z (n + 1) (cond b 0 n)
-group-by true true p q n apart e = absurd (true≢false (apart refl))
-group-by true false p q n apart e = omega (arith, e)
-group-by false true p q n apart e = omega arith
-group-by false false p q n apart e = e
+group-by {z = true} {b = true} {p} q n apart e = absurd (true≢false (apart refl))
+group-by {z = true} {b = false} {p} q n apart e = omega (arith, e)
+group-by {z = false} {b = true} {p} q n apart e = omega arith
+group-by {z = false} {b = false} {p} q n apart e = e
 
 pub since-group : (past : List Code) →
     pictures_of past ≡ before_group_of past + since is_picture is_group past
 since-group [] = refl
 since-group (c ∷ past) =
-    group-by (eqb c.kind 0) (eqb c.kind 0xb8) (pictures_of past) (before_group_of past)
+    group-by (before_group_of past)
     (since is_picture is_group past) (group-tests.apart c.kind) (since-group past)
 
 pub since-all : (past : List Code) → since is_picture is_nothing past ≡ pictures_of past
@@ -217,33 +216,33 @@ few-slices (c ∷ past) =
     (few-slices past)
 
 -- from a place on which none of them stands before
-pub codes-from : (Has : ℕ → ℕ → Type 0) (OfKind : ℕ → Type 0) (from low to : ℕ) (places : List ℕ) →
+pub codes-from : {Has : ℕ → ℕ → Type 0} {OfKind : ℕ → Type 0} {from low to : ℕ} (places : List ℕ) →
     ((place : ℕ) → StandsThere Has place OfKind → from ≤ place → place < to → low ≤ place) →
     AreCodes Has OfKind from to places → AreCodes Has OfKind low to places
-codes-from Has OfKind from low to [] after are = tt
-codes-from Has OfKind from low to (p ∷ places) after are = (
+codes-from {Has} {from} {low} [] after are = tt
+codes-from {Has} {OfKind} {from} {low} (p ∷ places) after are = (
   (are.0.0, (after p are.0.0 are.0.1.0 are.0.1.1, are.0.1.1)),
-  codes-from Has OfKind from low p places (λ place has far before.
+  codes-from {Has = Has} {OfKind = OfKind} {from = from} {low = low} {to = p} places (λ place has far before.
       after place has far (omega (arith, before, are.0.1.1))) are.1,
 )
 
 -- the slices of the latest unit, whose first one stands at a place
-pub own-slices : {past : List Code} {head_end : ℕ} (Has : ℕ → ℕ → Type 0) (at : ℕ) → Knows Has past at →
+pub own-slices : {Has : ℕ → ℕ → Type 0} {past : List Code} {head_end at : ℕ} → Knows Has past at →
     Spaced past → NoneIn Has head_end at IsHeadKind
     → ((from : ℕ) → NoneIn Has from at IsHeadKind → (place : ℕ) →
     StandsThere Has place IsSliceKind → from ≤ place → place < at → head_end ≤ place)
     → Counts Has IsSliceKind head_end at (slices_of past)
-own-slices {past} {head_end} Has at k spaced none first =
-    let it = codes-since Has is_head past at unit-tests k spaced in record {
+own-slices {Has} {past} {at} k spaced none first =
+    let it = codes-since unit-tests k spaced in record {
       places = it.places;
-      are = codes-from Has IsSliceKind it.from head_end at it.places
+      are = codes-from it.places
           (first it.from (λ place kind has after before is.
           it.none place kind has after before (kind-head kind is))) it.are;
       long = it.long ∙ since-slices past;
       most = λ others are. omega (
         arith,
         since-slices past,
-        most-since Has is_head past head_end at others unit-tests k spaced are
+        most-since others unit-tests k spaced are
             (λ place kind has after before is.
             none place kind has after before (head-kind kind is)),
       );
@@ -252,38 +251,38 @@ own-slices {past} {head_end} Has at k spaced none first =
 pub all-slices : (Has : ℕ → ℕ → Type 0) (past : List Code) (at : ℕ) → Knows Has past at →
     Spaced past → Counts Has IsSliceKind 0 at (all_slices_of past)
 all-slices Has past at k spaced =
-    let it = codes-since Has is_nothing past at slice-tests k spaced in
+    let it = codes-since slice-tests k spaced in
     record {
       places = it.places;
-      are = codes-from Has IsSliceKind it.from 0 at it.places (λ place has far before.
+      are = codes-from it.places (λ place has far before.
           omega arith) it.are;
       long = it.long ∙ since-every past;
       most = λ others are. omega (
         arith,
         since-every past,
-        most-since Has is_nothing past 0 at others slice-tests k spaced are
+        most-since others slice-tests k spaced are
             (λ place kind has after before is. false≢true is),
       );
     }
 
 -- ---- the same codes of two lists before a place
-codes-same : (A B : ℕ → ℕ → Type 0) (OfKind : ℕ → Type 0) (from to : ℕ) (places : List ℕ) →
+codes-same : {A B : ℕ → ℕ → Type 0} {to : ℕ} (OfKind : ℕ → Type 0) (from : ℕ) (places : List ℕ) →
     ((place kind : ℕ) → place < to → A place kind → B place kind) →
     AreCodes A OfKind from to places → AreCodes B OfKind from to places
-codes-same A B OfKind from to [] same are = tt
-codes-same A B OfKind from to (p ∷ places) same are = (
+codes-same {B} OfKind from [] same are = tt
+codes-same {A} {B} OfKind from (p ∷ places) same are = (
   ((are.0.0.0, (same p are.0.0.0 are.0.1.1 are.0.0.1.0, are.0.0.1.1)), are.0.1),
-  codes-same A B OfKind from p places (λ place kind before has.
+  codes-same {A = A} {B = B} {to = p} OfKind from places (λ place kind before has.
       same place kind (omega (arith, before, are.0.1.1)) has) are.1,
 )
 
-pub counts-same : {A : ℕ → ℕ → Type 0} {OfKind : ℕ → Type 0} {to count : ℕ} (B : ℕ → ℕ → Type 0) (from : ℕ) →
+pub counts-same : {A B : ℕ → ℕ → Type 0} {OfKind : ℕ → Type 0} {from to count : ℕ} →
     ((place kind : ℕ) → place < to → A place kind → B place kind) →
     ((place kind : ℕ) → place < to → B place kind → A place kind)
     → Counts A OfKind from to count → Counts B OfKind from to count
-counts-same {A} {OfKind} {to} B from same back c = record {
+counts-same {A} {B} {OfKind} {from} same back c = record {
   places = c.places;
-  are = codes-same A B OfKind from to c.places same c.are;
+  are = codes-same OfKind from c.places same c.are;
   long = c.long;
-  most = λ others are. c.most others (codes-same B A OfKind from to others back are);
+  most = λ others are. c.most others (codes-same OfKind from others back are);
 }

@@ -36,20 +36,20 @@ some-count n e = elim (cases_Bool (ltb 0 n)) [
 ]
 
 -- one code more, over plain values: s, h: it is a slice, a head code; e, q: the unit has no slice, or some, so far
-raw-slices : {places : List ℕ} (s h e q : Bool) (n slice at a b : ℕ) (unit : PictureUnit) (before : List ℕ) → (s ≡ true → h ≡ false) → eqb n 0 ≡ e → (e ≡ true → q ≡ false) → (e ≡ false → q ≡ true)
+raw-slices : {s h e q : Bool} {places : List ℕ} (n slice at a b : ℕ) (unit : PictureUnit) (before : List ℕ) → (s ≡ true → h ≡ false) → eqb n 0 ≡ e → (e ≡ true → q ≡ false) → (e ≡ false → q ≡ true)
     → before ++ cond e [] (slice ∷ []) ≡ places
     → (before ++ slices_in (cond s (cond e (head_call a b ∷ []) (slice_call slice at ∷ [])) (cond (h && q) (slice_call slice at ∷ unit_call unit ∷ []) [])))
     ++ pending (cond h 0 (cond s (n + 1) n)) (cond s at slice) ≡ cond s (places ++ at ∷ []) places
-raw-slices true true e q n slice at a b unit before apart en none some is = absurd (true≢false (apart refl))
-raw-slices true false true q n slice at a b unit before apart en none some is =
+raw-slices {s = true} {h = true} n slice at a b unit before apart en none some is = absurd (true≢false (apart refl))
+raw-slices {s = true} {h = false} {e = true} n slice at a b unit before apart en none some is =
     ap (λ l. (before ++ []) ++ l) (pending-some (n + 1) at (omega arith)) ∙ ap (λ l. l ++ at ∷ []) is
-raw-slices true false false q n slice at a b unit before apart en none some is =
+raw-slices {s = true} {h = false} {e = false} n slice at a b unit before apart en none some is =
     ap (λ l. (before ++ slice ∷ []) ++ l) (pending-some (n + 1) at (omega arith)) ∙ ap (λ l. l ++ at ∷ []) is
-raw-slices false true true true n slice at a b unit before apart en none some is = absurd (true≢false (none refl))
-raw-slices false true true false n slice at a b unit before apart en none some is = append-nil (before ++ []) ∙ is
-raw-slices false true false true n slice at a b unit before apart en none some is = append-nil (before ++ slice ∷ []) ∙ is
-raw-slices false true false false n slice at a b unit before apart en none some is = absurd (false≢true (some refl))
-raw-slices false false e q n slice at a b unit before apart en none some is =
+raw-slices {s = false} {h = true} {e = true} {q = true} n slice at a b unit before apart en none some is = absurd (true≢false (none refl))
+raw-slices {s = false} {h = true} {e = true} {q = false} n slice at a b unit before apart en none some is = append-nil (before ++ []) ∙ is
+raw-slices {s = false} {h = true} {e = false} {q = true} n slice at a b unit before apart en none some is = append-nil (before ++ slice ∷ []) ∙ is
+raw-slices {s = false} {h = true} {e = false} {q = false} n slice at a b unit before apart en none some is = absurd (false≢true (some refl))
+raw-slices {s = false} {h = false} {e} n slice at a b unit before apart en none some is =
     ap (λ v. (before ++ []) ++ cond v [] (slice ∷ [])) en ∙ ap (λ l. l ++ cond e [] (slice ∷ [])) (append-nil before) ∙ is
 
 step-slices : (c : Code) (past : List Code) → slices_in (calls_of past) ++ pending (slices_of past) (slice_of past) ≡ slice_places past
@@ -57,7 +57,7 @@ step-slices : (c : Code) (past : List Code) → slices_in (calls_of past) ++ pen
 unfolding calls_at
 step-slices c past is =
     let n = slices_of past in
-    raw-slices (is_slice c.kind) (is_head c.kind) (eqb n 0) (ltb 0 n) n (slice_of past) c.place (tally_of past).unit c.place (unit_at (tally_of past) c.place) (slices_in (calls_of past))
+    raw-slices n (slice_of past) c.place (tally_of past).unit c.place (unit_at (tally_of past) c.place) (slices_in (calls_of past))
     (slice-apart c.kind) refl (none-count n) (some-count n) is
 
 told-slices : (past : List Code) → slices_in (calls_of past) ++ pending (slices_of past) (slice_of past) ≡ slice_places past
@@ -106,17 +106,17 @@ kind-slice kind is = and_from (leb 1 kind) (leb kind 0xaf) (le-leb 1 kind is.0) 
 abbrev ThereIn : List Code → ℕ → Type 0
 ThereIn past place = (kind : ℕ) × (HasCode place kind past × IsSliceKind kind)
 
-there-by : (b : Bool) (c : Code) (past : List Code) (place : ℕ) (places : List ℕ) → is_slice c.kind ≡ b → (IsAmong place places → ThereIn past place)
+there-by : {b : Bool} {place : ℕ} (c : Code) (past : List Code) (places : List ℕ) → is_slice c.kind ≡ b → (IsAmong place places → ThereIn past place)
     → IsAmong place (cond b (places ++ c.place ∷ []) places) → ThereIn (c ∷ past) place
-there-by false c past place places is older among = let it = older among in (it.0, (inr it.1.0, it.1.1))
-there-by true c past place places is older among = elim (among-parts place c.place places among) [
+there-by {b = false} {place} c past places is older among = let it = older among in (it.0, (inr it.1.0, it.1.1))
+there-by {b = true} {place} c past places is older among = elim (among-parts place c.place places among) [
   | inl a ↦ let it = older a in (it.0, (inr it.1.0, it.1.1))
   | inr e ↦ (c.kind, (inl (e, refl), slice-kind c.kind is))
 ]
 
 among-there : (past : List Code) (place : ℕ) → IsAmong place (slice_places past) → ThereIn past place
 among-there [] place among = absurd among
-among-there (c ∷ past) place among = there-by (is_slice c.kind) c past place (slice_places past) refl (among-there past place) among
+among-there (c ∷ past) place among = there-by c past (slice_places past) refl (among-there past place) among
 
 older-among : (b : Bool) (place last : ℕ) (places : List ℕ) → IsAmong place places → IsAmong place (cond b (places ++ last ∷ []) places)
 older-among true place last places among = among-left place places (last ∷ []) among

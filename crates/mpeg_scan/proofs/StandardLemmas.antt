@@ -50,8 +50,8 @@ open-codes c (d ∷ past) accepted spaced =
     let t = tally_of older in
     let n = slices_of older in
     let fault = code-accepted c older accepted in
-    step-open (eqb c.kind 0) (eqb c.kind 0xb3) (eqb c.kind 0xb8) (is_slice c.kind) (ltb 0 n) (eqb n 0) c (unit_of older) (has_sequence older)
-    (kinds-of c.kind) (all-below older c.place spaced.1 spaced.0) (ltb-true 0 n) (empty-count n) (eqb-true n 0) (none-some n)
+    step-open
+    (kinds-of c.kind) (all-below older spaced.1 spaced.0) (ltb-true 0 n) (empty-count n) (eqb-true n 0) (none-some n)
     (λ head none. second-none t c.kind (second-accepted t c.place c.kind fault) head none)
     (λ slice none. first-some t c.place c.kind (first_slice-accepted t c.place c.kind fault) slice none)
     (open-codes d past (accepted-older c older accepted) spaced.1)
@@ -76,8 +76,8 @@ pub record Closed (past : List Code) (unit : PictureUnit) : Type 0 where
   pub head_some : unit.from < unit.head_end
   pub rest_some : unit.head_end < unit.to
 
-close-picture : {past : List Code} {unit : PictureUnit} {n : ℕ} (h : Header) → 0 < n → unit.temporal ≡ h.temporal → unit.kind ≡ kind_of h.coding → unit.vectors ≡ h.vectors → Pictured past unit.from unit.head_end n h → HasPicture (Has past) (CodeFields past) unit
-close-picture {past} h some temporal kind vectors is = record {
+close-picture : {past : List Code} {unit : PictureUnit} {n : ℕ} {h : Header} → 0 < n → unit.temporal ≡ h.temporal → unit.kind ≡ kind_of h.coding → unit.vectors ≡ h.vectors → Pictured past unit.from unit.head_end n h → HasPicture (Has past) (CodeFields past) unit
+close-picture {past} {h} some temporal kind vectors is = record {
   place = is.code.place;
   code = subst (λ k. HasCode is.code.place k past) is.kind (member-has is.code past is.member);
   after = is.after;
@@ -95,26 +95,25 @@ close-picture {past} h some temporal kind vectors is = record {
   };
 }
 
-in-head : {past : List Code} {n : ℕ} {o : Option Header} {grp : Bool} (unit : PictureUnit) (place kind : ℕ)
-    (seq : Bool) → Open past unit.from unit.head_end n o seq grp → 0 < n → HasCode place kind past → IsHeadKind kind → place < unit.head_end
-in-head unit place kind seq open_ some has head = elim (cases_lt place unit.head_end) [
+in-head : {past : List Code} {n place kind : ℕ} {o : Option Header} {seq grp : Bool} (unit : PictureUnit) → Open past unit.from unit.head_end n o seq grp → 0 < n → HasCode place kind past → IsHeadKind kind → place < unit.head_end
+in-head {place} {kind} {seq} unit open_ some has head = elim (cases_lt place unit.head_end) [
   | inl before ↦ before
   | inr after ↦ absurd (open_.sliced some place kind has after head)
 ]
 
 group-closed : {past : List Code} {n : ℕ} {o : Option Header} (unit : PictureUnit) → Open past unit.from unit.head_end n o unit.has_sequence unit.starts_group → 0 < n → Firsts past unit.from ⊎ ((place : ℕ) × (HasCode place 0xb8 past × (unit.from ≤ place))) → IsFirstCode (Has past) unit.from ⊎ StandsIn (Has past) unit.from unit.head_end 0xb8
 group-closed unit open_ some (inl firsts) = inl firsts
-group-closed unit open_ some (inr it) = inr (record { place = it.0; code = it.1.0; after = it.1.1; before = in-head unit it.0 0xb8 unit.has_sequence open_ some it.1.0 (inr (inr refl)) })
+group-closed unit open_ some (inr it) = inr (record { place = it.0; code = it.1.0; after = it.1.1; before = in-head unit open_ some it.1.0 (inr (inr refl)) })
 
 group-open : (past : List Code) (unit : PictureUnit) (n : ℕ) (o : Option Header) → Open past unit.from unit.head_end n o unit.has_sequence unit.starts_group → IsFirstCode (Has past) unit.from ⊎ StandsIn (Has past) unit.from unit.head_end 0xb8 → unit.starts_group ≡ true
 group-open past unit n o open_ (inl firsts) = open_.grp_first firsts
 group-open past unit n o open_ (inr it) = open_.grp_set it.place it.code it.after
 
-close-by : {past : List Code} {unit : PictureUnit} {n : ℕ} (o : Option Header) → Open past unit.from unit.head_end n o unit.has_sequence unit.starts_group → 0 < n
+close-by : {past : List Code} {unit : PictureUnit} {n : ℕ} {o : Option Header} → Open past unit.from unit.head_end n o unit.has_sequence unit.starts_group → 0 < n
     → unit.temporal ≡ (unwrap_or o no_header).temporal → unit.kind ≡ kind_of (unwrap_or o no_header).coding → unit.vectors ≡ (unwrap_or o no_header).vectors
     → ((place kind : ℕ) → HasCode place kind past → place < unit.to) → Counts (Has past) IsSliceKind unit.head_end unit.to unit.slices → Counts (Has past) IsSliceKind 0 unit.to (unit.first_slice + unit.slices) → Closed past unit
-close-by None open_ some temporal kind vectors below own all = absurd (false≢true (open_.some some))
-close-by {past} {unit} {n} (Some h) open_ some temporal kind vectors below own all = record {
+close-by {o = None} open_ some temporal kind vectors below own all = absurd (false≢true (open_.some some))
+close-by {past} {unit} {n} {o = Some h} open_ some temporal kind vectors below own all = record {
   unit_is = record {
     begins = open_.begins;
     head = open_.head some;
@@ -123,9 +122,9 @@ close-by {past} {unit} {n} (Some h) open_ some temporal kind vectors below own a
     own = own;
     all = all;
     slices = λ place k has after before is. open_.sliced some place k has after is;
-    picture = close-picture h some temporal kind vectors open_.picture_is;
+    picture = close-picture some temporal kind vectors open_.picture_is;
     sequence = (
-      λ e. let it = open_.seq_there e in record { place = it.0; code = it.1.0; after = it.1.1; before = in-head unit it.0 0xb3 unit.has_sequence open_ some it.1.0 (inr (inl refl)) },
+      λ e. let it = open_.seq_there e in record { place = it.0; code = it.1.0; after = it.1.1; before = in-head unit open_ some it.1.0 (inr (inl refl)) },
       λ it. open_.seq_set it.place it.code it.after,
     );
     group = (
@@ -138,8 +137,8 @@ close-by {past} {unit} {n} (Some h) open_ some temporal kind vectors below own a
 }
 
 -- the slices after the latest head are those from its first slice on
-own-first : (past : List Code) (to from place : ℕ) → OpenOf past → 0 < slices_of past → ((place kind : ℕ) → HasCode place kind past → place < to) → NoneIn (Has past) from to IsHeadKind → StandsThere (Has past) place IsSliceKind → from ≤ place → head_end_of past ≤ place
-own-first past to from place open_ some below none slice far = elim (cases_lt place (head_end_of past)) [
+own-first : {past : List Code} {to from place : ℕ} → OpenOf past → 0 < slices_of past → ((place kind : ℕ) → HasCode place kind past → place < to) → NoneIn (Has past) from to IsHeadKind → StandsThere (Has past) place IsSliceKind → from ≤ place → head_end_of past ≤ place
+own-first {past} {from} {place} open_ some below none slice far = elim (cases_lt place (head_end_of past)) [
   | inl less ↦ elim (cases_lt (unit_of past) from) [
     | inl after ↦ absurd (open_.head some place slice.0 slice.1.0 (omega (arith, after, far)) less slice.1.1)
     | inr before ↦ absurd (let head = open_.begins in none (unit_of past) head.0 head.1.0 before (below (unit_of past) head.0 head.1.0) head.1.1)
@@ -151,26 +150,26 @@ close : (past : List Code) (to : ℕ) → OpenOf past → Spaced past → 0 < sl
 close past to open_ spaced some below =
     let k : Knows (Has past) past to = record { there = λ place kind has. has; below = below; back = λ place kind has before. has } in
     let count : all_slices_of past ≡ all_slices_of past - slices_of past + slices_of past = omega (arith, few-slices past) in
-    close-by (picture_of past) open_ some refl refl refl below
-    (own-slices (Has past) to k spaced (λ place kind has after before is. open_.sliced some place kind has after is)
-    (λ from none place slice far before. own-first past to from place open_ some below none slice far))
+    close-by open_ some refl refl refl below
+    (own-slices k spaced (λ place kind has after before is. open_.sliced some place kind has after is)
+    (λ from none place slice far before. own-first open_ some below none slice far))
     (subst (λ n. Counts (Has past) IsSliceKind 0 to n) count (all-slices (Has past) past to k spaced))
 
 -- ---- it stays so as codes come
 
-none-grows : (c : Code) (past : List Code) (from to : ℕ) (OfKind : ℕ → Type 0) → to ≤ c.place → NoneIn (Has past) from to OfKind → NoneIn (Has (c ∷ past)) from to OfKind
-none-grows c past from to OfKind far none place kind (inl new) after before is = omega (arith, new.0, far, before)
-none-grows c past from to OfKind far none place kind (inr old) after before is = none place kind old after before is
+none-grows : {from to : ℕ} {OfKind : ℕ → Type 0} (c : Code) (past : List Code) → to ≤ c.place → NoneIn (Has past) from to OfKind → NoneIn (Has (c ∷ past)) from to OfKind
+none-grows {from} c past far none place kind (inl new) after before is = omega (arith, new.0, far, before)
+none-grows {from} c past far none place kind (inr old) after before is = none place kind old after before is
 
 stands-grows : (c : Code) (past : List Code) (from to kind : ℕ) → StandsIn (Has past) from to kind → StandsIn (Has (c ∷ past)) from to kind
 stands-grows c past from to kind it = record { place = it.place; code = inr it.code; after = it.after; before = it.before }
 
-shrinks-by : {to kind : ℕ} (c : Code) (past : List Code) (from place : ℕ) → to ≤ c.place → HasCode place kind (c ∷ past) → from ≤ place → place < to → StandsIn (Has past) from to kind
-shrinks-by c past from place far (inl new) after before = absurd (omega (arith, new.0, far, before))
-shrinks-by c past from place far (inr old) after before = record { place = place; code = old; after = after; before = before }
+shrinks-by : {from to kind place : ℕ} (c : Code) (past : List Code) → to ≤ c.place → HasCode place kind (c ∷ past) → from ≤ place → place < to → StandsIn (Has past) from to kind
+shrinks-by {from} {place} c past far (inl new) after before = absurd (omega (arith, new.0, far, before))
+shrinks-by {from} {place} c past far (inr old) after before = record { place = place; code = old; after = after; before = before }
 
-stands-shrinks : {to kind : ℕ} (c : Code) (past : List Code) (from : ℕ) → to ≤ c.place → StandsIn (Has (c ∷ past)) from to kind → StandsIn (Has past) from to kind
-stands-shrinks {to} {kind} c past from far it = shrinks-by {to = to} {kind = kind} c past from it.place far it.code it.after it.before
+stands-shrinks : {from to kind : ℕ} (c : Code) (past : List Code) → to ≤ c.place → StandsIn (Has (c ∷ past)) from to kind → StandsIn (Has past) from to kind
+stands-shrinks {from} c past far it = shrinks-by c past far it.code it.after it.before
 
 only-grows : {its : ℕ} (c : Code) (past : List Code) (from to : ℕ) → to ≤ c.place → ((other : ℕ) → HasCode other 0 past → from ≤ other → other < to → other ≡ its) → (other : ℕ) → HasCode other 0 (c ∷ past) → from ≤ other → other < to → other ≡ its
 only-grows c past from to far only other (inl new) after before = absurd (omega (arith, new.0, far, before))
@@ -186,15 +185,15 @@ group-grows c past from to far (inr it) = inr (stands-grows c past from to 0xb8 
 
 group-shrinks : (c : Code) (past : List Code) (from to : ℕ) → to ≤ c.place → IsFirstCode (Has (c ∷ past)) from ⊎ StandsIn (Has (c ∷ past)) from to 0xb8 → IsFirstCode (Has past) from ⊎ StandsIn (Has past) from to 0xb8
 group-shrinks c past from to far (inl firsts) = inl (λ place kind has. firsts place kind (inr has))
-group-shrinks c past from to far (inr it) = inr (stands-shrinks c past from far it)
+group-shrinks c past from to far (inr it) = inr (stands-shrinks c past far it)
 
-counts-back : (c : Code) (past : List Code) (to place kind : ℕ) → to ≤ c.place → place < to → HasCode place kind (c ∷ past) → HasCode place kind past
-counts-back c past to place kind far before (inl new) = absurd (omega (arith, new.0, far, before))
-counts-back c past to place kind far before (inr old) = old
+counts-back : {place kind : ℕ} (c : Code) (past : List Code) (to : ℕ) → to ≤ c.place → place < to → HasCode place kind (c ∷ past) → HasCode place kind past
+counts-back {place} c past to far before (inl new) = absurd (omega (arith, new.0, far, before))
+counts-back {place} c past to far before (inr old) = old
 
-counts-grow : {to count : ℕ} (c : Code) (past : List Code) (from : ℕ) → to ≤ c.place → Counts (Has past) IsSliceKind from to count → Counts (Has (c ∷ past)) IsSliceKind from to count
-counts-grow {to} c past from far =
-    counts-same (Has (c ∷ past)) from (λ place kind before has. inr has) (λ place kind before has. counts-back c past to place kind far before has)
+counts-grow : {from to count : ℕ} (c : Code) (past : List Code) → to ≤ c.place → Counts (Has past) IsSliceKind from to count → Counts (Has (c ∷ past)) IsSliceKind from to count
+counts-grow {from} {to} c past far =
+    counts-same (λ place kind before has. inr has) (λ place kind before has. counts-back c past to far before has)
 
 closed-grows : (c : Code) (past : List Code) (unit : PictureUnit) → unit.to ≤ c.place → Closed past unit → Closed (c ∷ past) unit
 closed-grows c past unit far closed =
@@ -205,22 +204,22 @@ closed-grows c past unit far closed =
     record {
       unit_is = record {
         begins = (u.begins.0, (inr u.begins.1.0, u.begins.1.1));
-        head = none-grows c past unit.from unit.head_end IsSliceKind head_far u.head;
+        head = none-grows c past head_far u.head;
         head_ends = (u.head_ends.0, (inr u.head_ends.1.0, u.head_ends.1.1));
         rest = u.rest;
-        own = counts-grow c past unit.head_end far u.own;
-        all = counts-grow c past 0 far u.all;
-        slices = none-grows c past unit.head_end unit.to IsHeadKind far u.slices;
+        own = counts-grow c past far u.own;
+        all = counts-grow c past far u.all;
+        slices = none-grows c past far u.slices;
         picture = record {
           place = p.place;
           code = inr p.code;
           after = p.after;
           before = p.before;
           only = only-grows c past unit.from unit.head_end head_far p.only;
-          last = none-grows c past (p.place + 1) unit.head_end IsHeadKind head_far p.last;
+          last = none-grows c past head_far p.last;
           fields = record { code = p.fields.code; member = inr p.fields.member; zero_is = p.fields.zero_is; place_is = p.fields.place_is; temporal = p.fields.temporal; kind = p.fields.kind; vectors = p.fields.vectors };
         };
-        sequence = (λ e. stands-grows c past unit.from unit.head_end 0xb3 (u.sequence.0 e), λ it. u.sequence.1 (stands-shrinks c past unit.from head_far it));
+        sequence = (λ e. stands-grows c past unit.from unit.head_end 0xb3 (u.sequence.0 e), λ it. u.sequence.1 (stands-shrinks c past head_far it));
         group = (λ e. group-grows c past unit.from unit.head_end from_far (u.group.0 e), λ it. u.group.1 (group-shrinks c past unit.from unit.head_end head_far it));
       };
       head_some = closed.head_some;
@@ -249,16 +248,16 @@ all-later past at to (unit ∷ units) far all = ((all.0.0, omega (arith, far, al
 all-at : {past : List Code} {unit : PictureUnit} (at : ℕ) (units : List PictureUnit) (k : ℕ) → slice_get units k ≡ Some unit → AllClosed past at units → Closed past unit
 all-at at [] k is all = cc
 all-at {past} {unit} at (u ∷ units) zero is all = let same : u ≡ unit = cc in subst (λ (v : PictureUnit). Closed past v) same all.0.0
-all-at at (u ∷ units) (suc k) is all = all-at at units k is all.1
+all-at {past} {unit} at (u ∷ units) (suc k) is all = all-at {past = past} {unit = unit} at units k is all.1
 
 -- the unit that ends at a code, over plain values
-closed-call : {past : List Code} {unit : PictureUnit} (s h q e : Bool) (c : Code) (a b x y : ℕ) → (s ≡ true → h ≡ false) → (h ≡ true → q ≡ true → Closed (c ∷ past) unit × (unit.to ≤ c.place))
+closed-call : {s h q : Bool} {c : Code} {past : List Code} {unit : PictureUnit} (e : Bool) (a b x y : ℕ) → (s ≡ true → h ≡ false) → (h ≡ true → q ≡ true → Closed (c ∷ past) unit × (unit.to ≤ c.place))
     → AllClosed (c ∷ past) c.place (units_in (cond s (cond e (head_call a b ∷ []) (slice_call x y ∷ [])) (cond (h && q) (slice_call x y ∷ unit_call unit ∷ []) [])))
-closed-call true h q true c a b x y apart closed = tt
-closed-call true h q false c a b x y apart closed = tt
-closed-call false true true e c a b x y apart closed = (closed refl refl, tt)
-closed-call false true false e c a b x y apart closed = tt
-closed-call false false q e c a b x y apart closed = tt
+closed-call {s = true} {h} {c} true a b x y apart closed = tt
+closed-call {s = true} {h} {c} false a b x y apart closed = tt
+closed-call {s = false} {h = true} {q = true} {c} e a b x y apart closed = (closed refl refl, tt)
+closed-call {s = false} {h = true} {q = false} {c} e a b x y apart closed = tt
+closed-call {s = false} {h = false} {c} e a b x y apart closed = tt
 
 closed-step : (c d : Code) (past : List Code) → OpenOf (d ∷ past) → Spaced (d ∷ past) → Below c (d ∷ past) → AllClosed (c ∷ (d ∷ past)) c.place (units_in (calls_at (tally_of (d ∷ past)) c.place c.kind))
 unfolding calls_at
@@ -266,7 +265,7 @@ closed-step c d past open_ spaced below =
     let older : List Code = d ∷ past in
     let t = tally_of older in
     let unit = unit_at t c.place in
-    closed-call (is_slice c.kind) (is_head c.kind) (ltb 0 (slices_of older)) (eqb (slices_of older) 0) c t.unit c.place t.slice c.place (slice-apart c.kind)
+    closed-call (eqb (slices_of older) 0) t.unit c.place t.slice c.place (slice-apart c.kind)
     (λ head some. (closed-grows c older unit (omega arith) (close older c.place open_ spaced (ltb-true 0 (slices_of older) some) below), omega arith))
 
 closed-first : (c : Code) → c.kind ≡ 0xb3 → AllClosed (c ∷ []) c.place (units_in (calls_at (tally_of []) c.place c.kind))
@@ -280,7 +279,7 @@ told-closed c [] accepted spaced =
 told-closed c (d ∷ past) accepted spaced =
     let older : List Code = d ∷ past in
     let calls = calls_at (tally_of older) c.place c.kind in
-    let below = all-below older c.place spaced.1 spaced.0 in
+    let below = all-below older spaced.1 spaced.0 in
     let before = told-closed d past (accepted-older c older accepted) spaced.1 in
     subst (λ (l : List PictureUnit). AllClosed (c ∷ older) c.place l) (sym (ap units_in (told-cons c older) ∙ units_in-append (calls_of older) calls))
     (all-append (c ∷ older) c.place (units_in (calls_of older)) (units_in calls) (all-grow c older d.place (units_in (calls_of older)) (omega (arith, below d.place d.kind (inl (refl, refl)))) before)
@@ -292,7 +291,7 @@ whole-closed [] n accepted ended spaced after = absurd (omega (arith, ended-none
 whole-closed (c ∷ past) n accepted ended spaced after =
     let all : List Code = c ∷ past in
     let some = ended-none (tally_of all) (otherwise-second (latest_fault all n) (last_fault (tally_of all)) ended) in
-    let below = all-below all n spaced after in
+    let below = all-below all spaced after in
     let last : AllClosed all n (units_in (unit_end (tally_of all) n)) = ((close all n (open-codes c past accepted spaced) spaced some below, omega arith), tt) in
     subst (λ (l : List PictureUnit). AllClosed all n l) (sym (units_in-append (calls_of all) (unit_end (tally_of all) n)))
     (all-append all n (units_in (calls_of all)) (units_in (unit_end (tally_of all) n)) (all-later all c.place n (units_in (calls_of all)) (omega (arith, below c.place c.kind (inl (refl, refl)))) (told-closed c past accepted spaced)) last)
@@ -308,18 +307,18 @@ record CodeText (r : List ℕ) (c : Code) : Type 0 where
   judged : header_fault rate c end ≡ None
   far : end ≤ stop
 
-code-text : {its : Code} (r : List ℕ) (c : Code) (past : List Code) (end stop : ℕ) → first_fault (c ∷ past) ≡ None → latest_fault (c ∷ past) end ≡ None → end ≤ stop → TextsAre r stop (c ∷ past) → Member its (c ∷ past) → CodeText r its
-code-text r c past end stop accepted judged far texts (inl same) =
+code-text : {r : List ℕ} {c its : Code} {stop : ℕ} (past : List Code) (end : ℕ) → first_fault (c ∷ past) ≡ None → latest_fault (c ∷ past) end ≡ None → end ≤ stop → TextsAre r stop (c ∷ past) → Member its (c ∷ past) → CodeText r its
+code-text {r} {c} {stop} past end accepted judged far texts (inl same) =
     subst (λ (v : Code). CodeText r v) same (record { stop = stop; end = end; rate = rate_of past; is = texts.0; judged = judged; far = far })
-code-text r c [] end stop accepted judged far texts (inr m) = absurd m
-code-text r c (d ∷ past) end stop accepted judged far texts (inr m) =
-    code-text r d past c.place (c.place + 4) (accepted-older c (d ∷ past) accepted) (older-judged c (d ∷ past) accepted) (omega arith) texts.1 m
+code-text {r} {c} {stop} [] end accepted judged far texts (inr m) = absurd m
+code-text {r} {c} {its} {stop} (d ∷ past) end accepted judged far texts (inr m) =
+    code-text {r = r} {c = d} {its = its} {stop = c.place + 4} past c.place (accepted-older c (d ∷ past) accepted) (older-judged c (d ∷ past) accepted) (omega arith) texts.1 m
 
-picture-judged : (a b z : Bool) (f g h : Option FilmFault) → a ≡ false → b ≡ false → z ≡ true → cond a f (cond b g (cond z h None)) ≡ None → h ≡ None
-picture-judged true b z f g h na nb is e = absurd (true≢false na)
-picture-judged false true z f g h na nb is e = absurd (true≢false nb)
-picture-judged false false true f g h na nb is e = e
-picture-judged false false false f g h na nb is e = absurd (false≢true is)
+picture-judged : {a b z : Bool} {h : Option FilmFault} (f g : Option FilmFault) → a ≡ false → b ≡ false → z ≡ true → cond a f (cond b g (cond z h None)) ≡ None → h ≡ None
+picture-judged {a = true} {h} f g na nb is e = absurd (true≢false na)
+picture-judged {a = false} {b = true} {h} f g na nb is e = absurd (true≢false nb)
+picture-judged {a = false} {b = false} {z = true} {h} f g na nb is e = e
+picture-judged {a = false} {b = false} {z = false} {h} f g na nb is e = absurd (false≢true is)
 
 type-judged : (b : Bool) (f : FilmFault) → cond b None (Some f) ≡ None → b ≡ true
 type-judged true f e = refl
@@ -345,7 +344,7 @@ nine-by false b none is = absurd (false≢true is)
 
 picture-long : (rate : ℕ) (c : Code) (end : ℕ) → c.kind ≡ 0 → header_fault rate c end ≡ None → PictureLong c end
 picture-long rate c end is e =
-    let judged = picture-judged (eqb c.kind 0xb3) (eqb c.kind 0xb8) (eqb c.kind 0) (cond (ltb (end - c.place) 12) (Some (ShortHeader c.place)) (rate_fault rate c)) (cond (ltb (end - c.place) 8) (Some (ShortHeader c.place)) None) (picture_fault c end)
+    let judged = picture-judged (cond (ltb (end - c.place) 12) (Some (ShortHeader c.place)) (rate_fault rate c)) (cond (ltb (end - c.place) 8) (Some (ShortHeader c.place)) None)
     (ne_eqb c.kind 0xb3 (λ k. absurd (omega (arith, is, k)))) (ne_eqb c.kind 0xb8 (λ k. absurd (omega (arith, is, k)))) (eq-eqb c.kind 0 is) e in
     let parts = some-cond-none (ltb (end - c.place) 8 || ((eqb (type_of c) 2 || eqb (type_of c) 3) && ltb (end - c.place) 9)) (ShortHeader c.place) (cond (leb 1 (type_of c) && leb (type_of c) 4) None (Some (BadType c.place))) judged in
     let lengths = or_parts (ltb (end - c.place) 8) ((eqb (type_of c) 2 || eqb (type_of c) 3) && ltb (end - c.place) 9) parts.0 in
@@ -383,25 +382,25 @@ record TypeFits (t : ℕ) (bytes : List ℕ) (place forward backward : ℕ) : Ty
   number : type_number (kind_of t) ≡ t
   vectors : vectors_by t forward backward ≡ vector_fields bytes place (kind_of t)
 
-type-fits : {t : ℕ} {bytes : List ℕ} {backward : ℕ} (place forward : ℕ) → FourTypes t → ((t ≡ 2) ⊎ (t ≡ 3) → (forward ≡ get_or bytes (place + 7) 0 % 8 * 2 + get_or bytes (place + 8) 0 / 128) × (backward ≡ get_or bytes (place + 8) 0 / 8 % 16)) → TypeFits t bytes place forward backward
-type-fits {bytes} {backward} place forward (one_type e) both = subst (λ m. TypeFits m bytes place forward backward) (sym e) (record { number = refl; vectors = refl })
-type-fits {bytes} {backward} place forward (two_type e) both = subst (λ m. TypeFits m bytes place forward backward) (sym e) (record { number = refl; vectors = (both (inl e)).0 })
-type-fits {bytes} {backward} place forward (three_type e) both =
+type-fits : {t : ℕ} {bytes : List ℕ} {place forward backward : ℕ} → FourTypes t → ((t ≡ 2) ⊎ (t ≡ 3) → (forward ≡ get_or bytes (place + 7) 0 % 8 * 2 + get_or bytes (place + 8) 0 / 128) × (backward ≡ get_or bytes (place + 8) 0 / 8 % 16)) → TypeFits t bytes place forward backward
+type-fits {bytes} {place} {forward} {backward} (one_type e) both = subst (λ m. TypeFits m bytes place forward backward) (sym e) (record { number = refl; vectors = refl })
+type-fits {bytes} {place} {forward} {backward} (two_type e) both = subst (λ m. TypeFits m bytes place forward backward) (sym e) (record { number = refl; vectors = (both (inl e)).0 })
+type-fits {bytes} {place} {forward} {backward} (three_type e) both =
     let its = both (inr e) in subst (λ m. TypeFits m bytes place forward backward) (sym e) (record { number = refl; vectors = ap (λ b. b * 16 + forward) its.1 ∙ ap (λ f. (get_or bytes (place + 8) 0 / 8 % 16) * 16 + f) its.0 })
-type-fits {bytes} {backward} place forward (four_type e) both = subst (λ m. TypeFits m bytes place forward backward) (sym e) (record { number = refl; vectors = refl })
+type-fits {bytes} {place} {forward} {backward} (four_type e) both = subst (λ m. TypeFits m bytes place forward backward) (sym e) (record { number = refl; vectors = refl })
 
 -- the fields of a picture's code are those of its header's bytes
-fields-fit : {bytes : List ℕ} {unit : PictureUnit} (r : List ℕ) (c : Code) (place : ℕ) → r ≡ read [] bytes → c.kind ≡ 0 → c.place ≡ place → unit.temporal ≡ temporal_of c → unit.kind ≡ kind_of (type_of c) → unit.vectors ≡ vectors_of c → CodeText r c → HasFields bytes place unit
-fields-fit {bytes} r c place is zero_kind at temporal kind vectors text =
+fields-fit : (bytes r : List ℕ) (c : Code) (place : ℕ) (unit : PictureUnit) → r ≡ read [] bytes → c.kind ≡ 0 → c.place ≡ place → unit.temporal ≡ temporal_of c → unit.kind ≡ kind_of (type_of c) → unit.vectors ≡ vectors_of c → CodeText r c → HasFields bytes place unit
+fields-fit bytes r c place unit is zero_kind at temporal kind vectors text =
     let long = picture-long text.rate c text.end zero_kind text.judged in
     let count : length r ≡ length bytes = ap length is ∙ length-read bytes [] ∙ omega arith in
     let same = λ (i : ℕ). ap (λ (l : List ℕ). at_byte l i) is ∙ at-bytes bytes i in
-    let here = λ (k p : ℕ) (small : k < 5) (far : c.place + 4 + k < text.stop) (where_ : c.place + 4 + k ≡ p). text-byte bytes r text.stop c k same small far text.is count ∙ ap (λ i. get_or bytes i 0) where_ in
+    let here = λ (k p : ℕ) (small : k < 5) (far : c.place + 4 + k < text.stop) (where_ : c.place + 4 + k ≡ p). text-byte bytes k same small far text.is count ∙ ap (λ i. get_or bytes i 0) where_ in
     let b0 : get_or c.text 0 0 ≡ get_or bytes (place + 4) 0 = here 0 (place + 4) (omega arith) (omega (arith, long.eight, text.far)) (omega (arith, at)) in
     let b1 : get_or c.text 1 0 ≡ get_or bytes (place + 5) 0 = here 1 (place + 5) (omega arith) (omega (arith, long.eight, text.far)) (omega (arith, at)) in
     let b3 : get_or c.text 3 0 ≡ get_or bytes (place + 7) 0 = here 3 (place + 7) (omega arith) (omega (arith, long.eight, text.far)) (omega (arith, at)) in
     let type_is : type_of c ≡ get_or bytes (place + 5) 0 / 8 % 8 = ap (λ b. b / 8 % 8) b1 in
-    let fits = type-fits place (forward_of c) (four-types (type_of c) long.low long.high)
+    let fits = type-fits {bytes = bytes} {place = place} (four-types (type_of c) long.low long.high)
     (λ two. let b4 : get_or c.text 4 0 ≡ get_or bytes (place + 8) 0 = here 4 (place + 8) (omega arith) (omega (arith, long.nine two, text.far)) (omega (arith, at)) in
     (ap (λ b. b % 8 * 2 + get_or c.text 4 0 / 128) b3 ∙ ap (λ b. get_or bytes (place + 7) 0 % 8 * 2 + b / 128) b4, ap (λ b. b / 8 % 16) b4)) in
     record {
@@ -411,22 +410,22 @@ fields-fit {bytes} r c place is zero_kind at temporal kind vectors text =
     }
 
 -- a unit over these codes is one over the bytes
-none-bytes : {bytes : List ℕ} (past : List Code) (from to : ℕ) (OfKind : ℕ → Type 0) → ((place kind : ℕ) → HasCode place kind past ↔ StandsAt bytes place kind) → NoneIn (Has past) from to OfKind → NoneIn (StandsAt bytes) from to OfKind
-none-bytes past from to OfKind both none place kind has after before is = none place kind ((both place kind).1 has) after before is
+none-bytes : {bytes : List ℕ} {from to : ℕ} {OfKind : ℕ → Type 0} (past : List Code) → ((place kind : ℕ) → HasCode place kind past ↔ StandsAt bytes place kind) → NoneIn (Has past) from to OfKind → NoneIn (StandsAt bytes) from to OfKind
+none-bytes {from} past both none place kind has after before is = none place kind ((both place kind).1 has) after before is
 
-stands-bytes : {bytes : List ℕ} {to k : ℕ} (past : List Code) (from : ℕ) → ((place kind : ℕ) → HasCode place kind past ↔ StandsAt bytes place kind) → StandsIn (Has past) from to k → StandsIn (StandsAt bytes) from to k
-stands-bytes {k} past from both it = record { place = it.place; code = (both it.place k).0 it.code; after = it.after; before = it.before }
+stands-bytes : {bytes : List ℕ} {from to k : ℕ} (past : List Code) → ((place kind : ℕ) → HasCode place kind past ↔ StandsAt bytes place kind) → StandsIn (Has past) from to k → StandsIn (StandsAt bytes) from to k
+stands-bytes {from} {k} past both it = record { place = it.place; code = (both it.place k).0 it.code; after = it.after; before = it.before }
 
-stands-codes : {bytes : List ℕ} {to k : ℕ} (past : List Code) (from : ℕ) → ((place kind : ℕ) → HasCode place kind past ↔ StandsAt bytes place kind) → StandsIn (StandsAt bytes) from to k → StandsIn (Has past) from to k
-stands-codes {k} past from both it = record { place = it.place; code = (both it.place k).1 it.code; after = it.after; before = it.before }
+stands-codes : {bytes : List ℕ} {from to k : ℕ} (past : List Code) → ((place kind : ℕ) → HasCode place kind past ↔ StandsAt bytes place kind) → StandsIn (StandsAt bytes) from to k → StandsIn (Has past) from to k
+stands-codes {from} {k} past both it = record { place = it.place; code = (both it.place k).1 it.code; after = it.after; before = it.before }
 
 group-bytes : (bytes : List ℕ) (past : List Code) (from to : ℕ) → ((place kind : ℕ) → HasCode place kind past ↔ StandsAt bytes place kind) → IsFirstCode (Has past) from ⊎ StandsIn (Has past) from to 0xb8 → IsFirstCode (StandsAt bytes) from ⊎ StandsIn (StandsAt bytes) from to 0xb8
 group-bytes bytes past from to both (inl firsts) = inl (λ place kind has. firsts place kind ((both place kind).1 has))
-group-bytes bytes past from to both (inr it) = inr (stands-bytes past from both it)
+group-bytes bytes past from to both (inr it) = inr (stands-bytes past both it)
 
 group-codes : (bytes : List ℕ) (past : List Code) (from to : ℕ) → ((place kind : ℕ) → HasCode place kind past ↔ StandsAt bytes place kind) → IsFirstCode (StandsAt bytes) from ⊎ StandsIn (StandsAt bytes) from to 0xb8 → IsFirstCode (Has past) from ⊎ StandsIn (Has past) from to 0xb8
 group-codes bytes past from to both (inl firsts) = inl (λ place kind has. firsts place kind ((both place kind).0 has))
-group-codes bytes past from to both (inr it) = inr (stands-codes past from both it)
+group-codes bytes past from to both (inr it) = inr (stands-codes past both it)
 
 unit-bytes : (bytes : List ℕ) (past : List Code) (unit : PictureUnit) → ((place kind : ℕ) → HasCode place kind past ↔ StandsAt bytes place kind) → ((c : Code) → Member c past → CodeText (read [] bytes) c) → Closed past unit → IsUnitOf bytes unit
 unit-bytes bytes past unit both texts closed =
@@ -435,22 +434,22 @@ unit-bytes bytes past unit both texts closed =
     let f = p.fields in
     record {
       begins = (u.begins.0, ((both unit.from u.begins.0).0 u.begins.1.0, u.begins.1.1));
-      head = none-bytes past unit.from unit.head_end IsSliceKind both u.head;
+      head = none-bytes past both u.head;
       head_ends = (u.head_ends.0, ((both unit.head_end u.head_ends.0).0 u.head_ends.1.0, u.head_ends.1.1));
       rest = u.rest;
-      own = counts-same (StandsAt bytes) unit.head_end (λ place kind before has. (both place kind).0 has) (λ place kind before has. (both place kind).1 has) u.own;
-      all = counts-same (StandsAt bytes) 0 (λ place kind before has. (both place kind).0 has) (λ place kind before has. (both place kind).1 has) u.all;
-      slices = none-bytes past unit.head_end unit.to IsHeadKind both u.slices;
+      own = counts-same (λ place kind before has. (both place kind).0 has) (λ place kind before has. (both place kind).1 has) u.own;
+      all = counts-same (λ place kind before has. (both place kind).0 has) (λ place kind before has. (both place kind).1 has) u.all;
+      slices = none-bytes past both u.slices;
       picture = record {
         place = p.place;
         code = (both p.place 0).0 p.code;
         after = p.after;
         before = p.before;
         only = λ other has after before. p.only other ((both other 0).1 has) after before;
-        last = none-bytes past (p.place + 1) unit.head_end IsHeadKind both p.last;
-        fields = fields-fit (read [] bytes) f.code p.place refl f.zero_is f.place_is f.temporal f.kind f.vectors (texts f.code f.member);
+        last = none-bytes past both p.last;
+        fields = fields-fit bytes (read [] bytes) f.code p.place unit refl f.zero_is f.place_is f.temporal f.kind f.vectors (texts f.code f.member);
       };
-      sequence = (λ e. stands-bytes past unit.from both (u.sequence.0 e), λ it. u.sequence.1 (stands-codes past unit.from both it));
+      sequence = (λ e. stands-bytes past both (u.sequence.0 e), λ it. u.sequence.1 (stands-codes past both it));
       group = (λ e. group-bytes bytes past unit.from unit.head_end both (u.group.0 e), λ it. u.group.1 (group-codes bytes past unit.from unit.head_end both it));
     }
 
@@ -458,10 +457,10 @@ whole-texts : (r : List ℕ) (past : List Code) (n : ℕ) → first_fault past �
 unfolding end_fault
 whole-texts r [] n accepted ended texts c m = absurd m
 whole-texts r (d ∷ past) n accepted ended texts c m =
-    code-text r d past n n accepted (otherwise-first (latest_fault (d ∷ past) n) (last_fault (tally_of (d ∷ past))) ended) (omega arith) texts m
+    code-text past n accepted (otherwise-first (latest_fault (d ∷ past) n) (last_fault (tally_of (d ∷ past))) ended) (omega arith) texts m
 
-pub film-standard : {bytes : List ℕ} {rate : ℕ} {units : List PictureUnit} (starts : List ℕ) → IsFilm bytes rate units starts → (k : ℕ) {unit : PictureUnit} → slice_get units k ≡ Some unit → IsUnitOf bytes unit
-film-standard {bytes} {units} starts film k {unit} is =
+pub film-standard : {bytes : List ℕ} {rate : ℕ} {units : List PictureUnit} {starts : List ℕ} → IsFilm bytes rate units starts → (k : ℕ) {unit : PictureUnit} → slice_get units k ≡ Some unit → IsUnitOf bytes unit
+film-standard {bytes} {units} {starts} film k {unit} is =
     let r = read [] bytes in
     let past = codes_of r in
     let none = accepted-whole r film.accepted in

@@ -107,16 +107,16 @@ code_fault-older c past e =
     let last = otherwise-second (second_fault t c.kind) (first_refusal (first_slice_fault t c.place c.kind) (count_fault t c.place c.kind)) rest in
     otherwise-second (first_slice_fault t c.place c.kind) (count_fault t c.place c.kind) last
 
-counted : (b g q : Bool) (p place : ℕ) → leb 4194304 p ≡ q → cond b (cond g (Some (GroupTooLong place)) (cond q (Some TooLong) None)) None ≡ None → p ≤ 4194304 → cond b (p + 1) p ≤ 4194304
-counted false g q p place test none bound = bound
-counted true true q p place test none bound = absurd (cc)
-counted true false true p place test none bound = absurd (cc)
-counted true false false p place test none bound = omega (arith, leb-false 4194304 p test)
+counted : {q : Bool} (b g : Bool) (p place : ℕ) → leb 4194304 p ≡ q → cond b (cond g (Some (GroupTooLong place)) (cond q (Some TooLong) None)) None ≡ None → p ≤ 4194304 → cond b (p + 1) p ≤ 4194304
+counted false g p place test none bound = bound
+counted true true p place test none bound = absurd (cc)
+counted {q = true} true false p place test none bound = absurd (cc)
+counted {q = false} true false p place test none bound = omega (arith, leb-false 4194304 p test)
 
 pub pictures-bound : (past : List Code) → first_fault past ≡ None → pictures_of past ≤ 4194304
 pictures-bound [] e = omega arith
 pictures-bound (c ∷ past) e =
-    counted (eqb c.kind 0) (leb 1024 (pictures_of past - before_group_of past)) (leb 4194304 (pictures_of past)) (pictures_of past) c.place refl (code_fault-older c past e)
+    counted (eqb c.kind 0) (leb 1024 (pictures_of past - before_group_of past)) (pictures_of past) c.place refl (code_fault-older c past e)
     (pictures-bound past (accepted-older c past e))
 
 -- ---- the tally with the latest code
@@ -166,8 +166,8 @@ fed-plain s r x kept plain =
     }
 
 -- what the scanner judges a code by, once its byte is noted
-pub code_judgement-next : (s : Progress) (r : List ℕ) (x place kind : ℕ) → HasRead s r → length r < 2 ^ 42 → code_judgement (scan_with_byte s x).latest s.tally place kind ≡ fault_at (note_latest (codes_of r) x) place kind
-code_judgement-next s r x place kind kept short =
+pub code_judgement-next : {s : Progress} {r : List ℕ} (x place kind : ℕ) → HasRead s r → length r < 2 ^ 42 → code_judgement (scan_with_byte s x).latest s.tally place kind ≡ fault_at (note_latest (codes_of r) x) place kind
+code_judgement-next {s} {r} x place kind kept short =
     let past = note_latest (codes_of r) x in
     ap (λ (l : Option Code). code_judgement l s.tally place kind) (ap (option_map (λ c. note c x)) kept.latest ∙ sym (latest-note (codes_of r) x))
     ∙ ap (λ (t : Tally). code_judgement (latest_of past) t place kind) (kept.tally ∙ ap tally_of (sym (older-note (codes_of r) x)))
@@ -189,10 +189,10 @@ pub first_fault-at : (s : Progress) (r : List ℕ) (x : ℕ) → HasRead s r →
 first_fault-at s r x kept short whole =
     let past = note_latest (codes_of r) x in
     ap first_fault (codes-code x r whole) ∙ first_fault-code past (length r - 3) x (note-accepted r x kept.accepted)
-    ∙ ap (λ n. fault_at past (n - 3) x) (sym kept.fed) ∙ sym (code_judgement-next s r x (s.fed - 3) x kept short)
+    ∙ ap (λ n. fault_at past (n - 3) x) (sym kept.fed) ∙ sym (code_judgement-next x (s.fed - 3) x kept short)
 
-pub fed-code : {x : ℕ} (s : Progress) (r : List ℕ) → HasRead s r → length r < 2 ^ 42 → is_whole (latest_prefix r) ≡ true → code_judgement (scan_with_byte s x).latest s.tally (s.fed - 3) x ≡ None → HasRead (scan_with_code (scan_with_byte s x) (s.fed - 3) x) (x ∷ r)
-fed-code {x} s r kept short whole none =
+pub fed-code : {s : Progress} {r : List ℕ} {x : ℕ} → HasRead s r → length r < 2 ^ 42 → is_whole (latest_prefix r) ≡ true → code_judgement (scan_with_byte s x).latest s.tally (s.fed - 3) x ≡ None → HasRead (scan_with_code (scan_with_byte s x) (s.fed - 3) x) (x ∷ r)
+fed-code {s} {r} {x} kept short whole none =
     let codes = codes-code x r whole in
     let past = note_latest (codes_of r) x in record {
       fed = omega (arith, kept.fed);
@@ -220,39 +220,39 @@ told-at s r x kept short whole =
 
 -- ---- as the code takes a byte
 
-whole-read : {b : Bool} (s : Progress) (r : List ℕ) (w : Bool) → HasRead s r → w ≡ b → w ≡ is_whole s.prefix → is_whole (latest_prefix r) ≡ b
-whole-read s r w kept test is = sym (is ∙ ap is_whole kept.prefix) ∙ test
+whole-read : {s : Progress} {r : List ℕ} {b w : Bool} → HasRead s r → w ≡ b → w ≡ is_whole s.prefix → is_whole (latest_prefix r) ≡ b
+whole-read {s} {r} {w} kept test is = sym (is ∙ ap is_whole kept.prefix) ∙ test
 
 short-read : (s : Progress) (r : List ℕ) → HasRead s r → s.fed < 2 ^ 41 → length r < 2 ^ 42
 short-read s r kept short = omega (arith, kept.fed)
 
-pub taken-plain : {n : Progress} {x : ℕ} (s : Progress) (r : List ℕ) (w : Bool) → w ≡ false → w ≡ is_whole s.prefix → n ≡ scan_with_byte s x → HasRead s r → HasRead n (x ∷ r)
-taken-plain {x} s r w test is noted kept =
-    subst (λ (v : Progress). HasRead v (x ∷ r)) (sym noted) (fed-plain s r x kept (whole-read s r w kept test is))
+pub taken-plain : {s n : Progress} {r : List ℕ} {x : ℕ} {w : Bool} → w ≡ false → w ≡ is_whole s.prefix → n ≡ scan_with_byte s x → HasRead s r → HasRead n (x ∷ r)
+taken-plain {s} {r} {x} {w} test is noted kept =
+    subst (λ (v : Progress). HasRead v (x ∷ r)) (sym noted) (fed-plain s r x kept (whole-read kept test is))
 
-pub taken-code : {n : Progress} {x : ℕ} (s m : Progress) (r : List ℕ) (place : ℕ) (w : Bool) → s.fed < 2 ^ 41 → w ≡ true → w ≡ is_whole s.prefix → n ≡ scan_with_byte s x → place ≡ s.fed - 3 → (code_judgement n.latest n.tally place x ≡ None) × (m ≡ scan_with_code n place x) → HasRead s r → HasRead m (x ∷ r)
-taken-code {x} s m r place w short test is noted at h kept =
+pub taken-code : {s n m : Progress} {r : List ℕ} {x place : ℕ} {w : Bool} → s.fed < 2 ^ 41 → w ≡ true → w ≡ is_whole s.prefix → n ≡ scan_with_byte s x → place ≡ s.fed - 3 → (code_judgement n.latest n.tally place x ≡ None) × (m ≡ scan_with_code n place x) → HasRead s r → HasRead m (x ∷ r)
+taken-code {s} {m} {r} {x} {place} {w} short test is noted at h kept =
     let none : code_judgement (scan_with_byte s x).latest s.tally (s.fed - 3) x ≡ None =
     sym (ap (λ (v : Progress). code_judgement v.latest v.tally place x) noted ∙ ap (λ p. code_judgement (scan_with_byte s x).latest s.tally p x) at) ∙ h.0 in
     let became : m ≡ scan_with_code (scan_with_byte s x) (s.fed - 3) x =
     h.1 ∙ ap (λ (v : Progress). scan_with_code v place x) noted ∙ ap (λ p. scan_with_code (scan_with_byte s x) p x) at in
-    subst (λ (v : Progress). HasRead v (x ∷ r)) (sym became) (fed-code s r kept (short-read s r kept short) (whole-read s r w kept test is) none)
+    subst (λ (v : Progress). HasRead v (x ∷ r)) (sym became) (fed-code kept (short-read s r kept short) (whole-read kept test is) none)
 
-pub taken-fault : {n : Progress} {f : FilmFault} (s : Progress) (r : List ℕ) (x place : ℕ) (w : Bool) → s.fed < 2 ^ 41 → w ≡ true → w ≡ is_whole s.prefix → n ≡ scan_with_byte s x → place ≡ s.fed - 3 → code_judgement n.latest n.tally place x ≡ Some f → HasRead s r → first_fault (codes_of (x ∷ r)) ≡ Some f
-taken-fault s r x place w short test is noted at h kept =
-    first_fault-at s r x kept (short-read s r kept short) (whole-read s r w kept test is)
+pub taken-fault : {s n : Progress} {r : List ℕ} {place : ℕ} {w : Bool} {f : FilmFault} (x : ℕ) → s.fed < 2 ^ 41 → w ≡ true → w ≡ is_whole s.prefix → n ≡ scan_with_byte s x → place ≡ s.fed - 3 → code_judgement n.latest n.tally place x ≡ Some f → HasRead s r → first_fault (codes_of (x ∷ r)) ≡ Some f
+taken-fault {s} {r} {place} {w} x short test is noted at h kept =
+    first_fault-at s r x kept (short-read s r kept short) (whole-read kept test is)
     ∙ sym (ap (λ (v : Progress). code_judgement v.latest v.tally place x) noted ∙ ap (λ p. code_judgement (scan_with_byte s x).latest s.tally p x) at) ∙ h
 
-pub taken-calls : {n : Progress} (s : Progress) (r : List ℕ) (x place : ℕ) (w : Bool) → s.fed < 2 ^ 41 → w ≡ true → w ≡ is_whole s.prefix → n ≡ scan_with_byte s x → place ≡ s.fed - 3 → HasRead s r → (calls : List Call) → (calls ++ calls_of (codes_of r)) ++ calls_at (tally_with n.latest n.tally) place x ≡ calls ++ calls_of (codes_of (x ∷ r))
-taken-calls {n} s r x place w short test is noted at kept calls =
+pub taken-calls : {s n : Progress} {r : List ℕ} {place : ℕ} {w : Bool} (x : ℕ) → s.fed < 2 ^ 41 → w ≡ true → w ≡ is_whole s.prefix → n ≡ scan_with_byte s x → place ≡ s.fed - 3 → HasRead s r → (calls : List Call) → (calls ++ calls_of (codes_of r)) ++ calls_at (tally_with n.latest n.tally) place x ≡ calls ++ calls_of (codes_of (x ∷ r))
+taken-calls {s} {n} {r} {place} {w} x short test is noted at kept calls =
     append_assoc calls (calls_of (codes_of r)) (calls_at (tally_with n.latest n.tally) place x)
     ∙ ap (λ (v : Progress). calls ++ (calls_of (codes_of r) ++ calls_at (tally_with v.latest v.tally) place x)) noted
     ∙ ap (λ p. calls ++ (calls_of (codes_of r) ++ calls_at (tally_with (scan_with_byte s x).latest s.tally) p x)) at
-    ∙ ap (λ (l : List Call). calls ++ l) (sym (told-at s r x kept (short-read s r kept short) (whole-read s r w kept test is)))
+    ∙ ap (λ (l : List Call). calls ++ l) (sym (told-at s r x kept (short-read s r kept short) (whole-read kept test is)))
 
-pub taken-none : (s : Progress) (r : List ℕ) (x : ℕ) (w : Bool) → w ≡ false → w ≡ is_whole s.prefix → HasRead s r → (calls : List Call) → calls ++ calls_of (codes_of r) ≡ calls ++ calls_of (codes_of (x ∷ r))
-taken-none s r x w test is kept calls =
-    ap (λ (l : List Call). calls ++ l) (sym (told-plain x r (whole-read s r w kept test is)))
+pub taken-none : {s : Progress} {r : List ℕ} {w : Bool} (x : ℕ) → w ≡ false → w ≡ is_whole s.prefix → HasRead s r → (calls : List Call) → calls ++ calls_of (codes_of r) ≡ calls ++ calls_of (codes_of (x ∷ r))
+taken-none {s} {r} {w} x test is kept calls =
+    ap (λ (l : List Call). calls ++ l) (sym (told-plain x r (whole-read kept test is)))
 
 -- ---- the film's end
 

@@ -35,11 +35,11 @@ three true = omega arith
 three false = omega arith
 
 -- their places rise
-pub all-below : (past : List Code) (at : ℕ) → Spaced past → After at past → (place kind : ℕ) → HasCode place kind past → place < at
-all-below [] at spaced after place kind has = absurd has
-all-below (d ∷ past) at spaced after place kind (inl new) = omega (arith, three (eqb d.kind 0), after, new.0)
-all-below (d ∷ past) at spaced after place kind (inr old) =
-    omega (arith, three (eqb d.kind 0), after, all-below past d.place spaced.1 spaced.0 place kind old)
+pub all-below : {at : ℕ} (past : List Code) → Spaced past → After at past → (place kind : ℕ) → HasCode place kind past → place < at
+all-below {at} [] spaced after place kind has = absurd has
+all-below {at} (d ∷ past) spaced after place kind (inl new) = omega (arith, three (eqb d.kind 0), after, new.0)
+all-below {at} (d ∷ past) spaced after place kind (inr old) =
+    omega (arith, three (eqb d.kind 0), after, all-below {at = d.place} past spaced.1 spaced.0 place kind old)
 
 either-before : (b : Bool) (m n at : ℕ) → m + 3 ≤ at → n + 3 ≤ at → cond b m n + 3 ≤ at
 either-before true m n at h i = h
@@ -56,15 +56,15 @@ span-slice d slice =
     let low : 1 ≤ d.kind = leb-true 1 d.kind (and_parts (leb 1 d.kind) (leb d.kind 0xaf) slice).0 in
     ap (λ b. cond b 3 4) (ne_eqb d.kind 0 (λ none. absurd (omega arith)))
 
-slice-case : (h s : Bool) (n p q at : ℕ) → (s ≡ true → p + 4 ≤ at) → (0 < n → q + 4 ≤ at) → 0 < cond h 0 (cond s (n + 1) n) → cond s p q + 4 ≤ at
-slice-case true s n p q at here before some = absurd (omega arith)
-slice-case false true n p q at here before some = here refl
-slice-case false false n p q at here before some = before some
+slice-case : {s : Bool} (h : Bool) (n p q at : ℕ) → (s ≡ true → p + 4 ≤ at) → (0 < n → q + 4 ≤ at) → 0 < cond h 0 (cond s (n + 1) n) → cond s p q + 4 ≤ at
+slice-case {s} true n p q at here before some = absurd (omega arith)
+slice-case {s = true} false n p q at here before some = here refl
+slice-case {s = false} false n p q at here before some = before some
 
 pub slice-before : (past : List Code) (at : ℕ) → Spaced past → After at past → 0 < slices_of past → slice_of past + 4 ≤ at
 slice-before [] at spaced after some = absurd (omega arith)
 slice-before (d ∷ past) at spaced after some =
-    slice-case (is_head d.kind) (is_slice d.kind) (slices_of past) d.place (slice_of past) at (λ slice. omega (arith, span-slice d slice, after))
+    slice-case (is_head d.kind) (slices_of past) d.place (slice_of past) at (λ slice. omega (arith, span-slice d slice, after))
     (λ more. omega (arith, three (eqb d.kind 0), after, slice-before past d.place spaced.1 spaced.0 more)) some
 
 -- ---- one code
@@ -92,8 +92,8 @@ takes-slice : (unit head_end slice m place : ℕ) (calls : List Call) → slice 
 takes-slice unit head_end slice m place calls apart =
     ap (λ b. parts_after (cond b (Some (within unit head_end place (m + 1))) None) calls) (and_from (eqb slice slice) (leb (slice + 4) place) (eq-eqb slice slice refl) (le-leb (slice + 4) place apart))
 
-takes-unit : {unit head_end n : ℕ} (m place : ℕ) (u : PictureUnit) → u.from ≡ unit → u.head_end ≡ head_end → u.to ≡ place → u.slices ≡ n → n ≡ m + 1 → parts_after (Some (within unit head_end place (m + 1))) (unit_call u ∷ []) ≡ Some (between place)
-takes-unit {unit} {head_end} m place u from head to slices some =
+takes-unit : {unit head_end place n : ℕ} (m : ℕ) (u : PictureUnit) → u.from ≡ unit → u.head_end ≡ head_end → u.to ≡ place → u.slices ≡ n → n ≡ m + 1 → parts_after (Some (within unit head_end place (m + 1))) (unit_call u ∷ []) ≡ Some (between place)
+takes-unit {unit} {head_end} {place} m u from head to slices some =
     ap (λ b. parts_after (cond b (Some (between place)) None) []) (and_from ((eqb u.from unit && (eqb u.head_end head_end && eqb u.to place))) (eqb u.slices (m + 1) && ltb 0 (m + 1))
     (and_from (eqb u.from unit) (eqb u.head_end head_end && eqb u.to place) (eq-eqb u.from unit from) (and_from (eqb u.head_end head_end) (eqb u.to place) (eq-eqb u.head_end head_end head) (eq-eqb u.to place to)))
     (and_from (eqb u.slices (m + 1)) (ltb 0 (m + 1)) (eq-eqb u.slices (m + 1) (slices ∙ some)) (lt-ltb 0 (m + 1) (omega arith))))
@@ -127,7 +127,7 @@ raw-step false true n unit head_end slice place u apart head spaced from head_at
     ap (λ (p : Part). parts_after (Some p) (cond (ltb 0 n) (slice_call slice place ∷ unit_call u ∷ []) [])) (part_by-some n some.0 unit head_end slice some.1)
     ∙ ap (λ b. parts_after (Some (within unit head_end slice some.0)) (cond b (slice_call slice place ∷ unit_call u ∷ []) [])) (lt-ltb 0 n (omega (arith, some.1)))
     ∙ takes-slice unit head_end slice some.0 place (unit_call u ∷ []) (spaced (omega (arith, some.1)))
-    ∙ takes-unit some.0 place u from head_at to slices some.1
+    ∙ takes-unit some.0 u from head_at to slices some.1
     ∙ sym (ap (λ b. Some (part_by 0 (cond b place unit) head_end slice)) (lt-ltb 0 n (omega (arith, some.1))) ∙ ap (λ (p : Part). Some p) (part_by-none 0 place head_end slice refl))
 raw-step false false n unit head_end slice place u apart head spaced from head_at to slices count = refl
 
@@ -359,7 +359,7 @@ end-step past n some apart = elim (count-cases (slices_of past)) [
   | inl none ↦ absurd (omega arith)
   | inr more ↦ ap (λ (p : Part). parts_after (Some p) (unit_end (tally_of past) n)) (part_by-some (slices_of past) more.0 (unit_of past) (head_end_of past) (slice_of past) more.1)
       ∙ takes-slice (unit_of past) (head_end_of past) (slice_of past) more.0 n (unit_call (unit_at (tally_of past) n) ∷ []) apart
-      ∙ takes-unit more.0 n (unit_at (tally_of past) n) refl refl refl refl more.1
+      ∙ takes-unit more.0 (unit_at (tally_of past) n) refl refl refl refl more.1
 ]
 
 whole-tiles : (past : List Code) (n : ℕ) → first_fault past ≡ None → end_fault past n ≡ None → Spaced past → After n past → parts_after (Some (between (first_of past))) (calls_of past ++ unit_end (tally_of past) n) ≡ Some (between n)

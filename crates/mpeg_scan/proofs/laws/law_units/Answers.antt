@@ -13,7 +13,7 @@ returns c =
     let starts = film.slice_starts.items in
     record {
       some = film-some bytes film.rate units starts film.grammar;
-      group = film-group starts film.grammar;
+      group = film-group film.grammar;
       begins = film-begins bytes film.rate units starts film.grammar;
       chained = (first_of (codes_of (read [] bytes)), film-chained bytes film.rate units starts film.grammar);
       within = λ k u is. (laid-at (length bytes) starts units k u is (film-laid bytes film.rate units starts film.grammar)).0;

@@ -7,7 +7,7 @@ use Rattle.mpeg_scan.proofs.progress.Progress.take_byte.Goals as goal
 
 pub take_code-requires-clause-room : goal.take_code-requires-clause-room
 take_code-requires-clause-room g c =
-    room-before c.args.self.now c.args.byte c.saturating_sub-place.result (sym c.is_whole-whole.ensures ∙ c.if-whole.true) c.note.ensures c.saturating_sub-place.ensures c.requires.room
+    room-before c.args.byte (sym c.is_whole-whole.ensures ∙ c.if-whole.true) c.note.ensures c.saturating_sub-place.ensures c.requires.room
 
 pub take_code-requires-clause-ready : goal.take_code-requires-clause-ready
 take_code-requires-clause-ready g c =
@@ -15,19 +15,19 @@ take_code-requires-clause-ready g c =
 
 pub returns-then-whole-clause-kept : goal.returns-then-whole-clause-kept
 returns-then-whole-clause-kept g c =
-    on_ok_weaker c.take_code.result (λ h r kept. taken-code _ _ r _ _ (omega arith) c.if-whole.true c.is_whole-whole.ensures c.note.ensures c.saturating_sub-place.ensures h kept) c.take_code.ensures.taken
+    on_ok_weaker c.take_code.result (λ h r kept. taken-code (omega arith) c.if-whole.true c.is_whole-whole.ensures c.note.ensures c.saturating_sub-place.ensures h kept) c.take_code.ensures.taken
 
 pub returns-then-whole-clause-told : goal.returns-then-whole-clause-told
 returns-then-whole-clause-told g c =
-    on_ok_weaker c.take_code.result (λ h r calls kept heard. subst (λ (l : List Call). g.F.Found.heard c.take_code.new.found l) (taken-calls _ r c.args.byte _ _ (omega arith) c.if-whole.true c.is_whole-whole.ensures c.note.ensures c.saturating_sub-place.ensures kept calls) (h _ heard)) c.take_code.ensures.told
+    on_ok_weaker c.take_code.result (λ h r calls kept heard. subst (λ (l : List Call). g.F.Found.heard c.take_code.new.found l) (taken-calls c.args.byte (omega arith) c.if-whole.true c.is_whole-whole.ensures c.note.ensures c.saturating_sub-place.ensures kept calls) (h _ heard)) c.take_code.ensures.told
 
 pub returns-then-whole-clause-fault : goal.returns-then-whole-clause-fault
 returns-then-whole-clause-fault g c =
-    λ f is r kept. taken-fault _ r c.args.byte _ _ (omega arith) c.if-whole.true c.is_whole-whole.ensures c.note.ensures c.saturating_sub-place.ensures (c.take_code.ensures.fault f is) kept
+    λ f is r kept. taken-fault c.args.byte (omega arith) c.if-whole.true c.is_whole-whole.ensures c.note.ensures c.saturating_sub-place.ensures (c.take_code.ensures.fault f is) kept
 
 pub returns-then-whole-clause-room : goal.returns-then-whole-clause-room
 returns-then-whole-clause-room g c =
-    on_ok_weaker c.take_code.result (λ h. coded-ahead c.args.self.now c.take_code.new.self c.args.byte c.saturating_sub-place.result (sym c.is_whole-whole.ensures ∙ c.if-whole.true) c.note.ensures c.saturating_sub-place.ensures h.1 c.requires.room) c.take_code.ensures.taken
+    on_ok_weaker c.take_code.result (λ h. coded-ahead c.args.byte (sym c.is_whole-whole.ensures ∙ c.if-whole.true) c.note.ensures c.saturating_sub-place.ensures h.1 c.requires.room) c.take_code.ensures.taken
 
 pub returns-then-whole-clause-ready : goal.returns-then-whole-clause-ready
 returns-then-whole-clause-ready g c =
@@ -35,11 +35,11 @@ returns-then-whole-clause-ready g c =
 
 pub returns-else-whole-clause-kept : goal.returns-else-whole-clause-kept
 returns-else-whole-clause-kept g c =
-    λ r kept. taken-plain _ r _ c.if-whole.false c.is_whole-whole.ensures c.note.ensures kept
+    λ r kept. taken-plain c.if-whole.false c.is_whole-whole.ensures c.note.ensures kept
 
 pub returns-else-whole-clause-told : goal.returns-else-whole-clause-told
 returns-else-whole-clause-told g c =
-    λ r calls kept heard. subst (λ (l : List Call). g.F.Found.heard c.args.found.now l) (taken-none _ r c.args.byte _ c.if-whole.false c.is_whole-whole.ensures kept calls) heard
+    λ r calls kept heard. subst (λ (l : List Call). g.F.Found.heard c.args.found.now l) (taken-none c.args.byte c.if-whole.false c.is_whole-whole.ensures kept calls) heard
 
 pub returns-else-whole-clause-room : goal.returns-else-whole-clause-room
 returns-else-whole-clause-room g c = noted-ahead c.args.self.now c.note.new.self c.args.byte c.note.ensures c.requires.room

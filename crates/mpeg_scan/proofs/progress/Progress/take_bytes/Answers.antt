@@ -16,7 +16,7 @@ loop-at-preserved g c =
     let n = c.skip-at.result in record {
       within = omega (arith, i.within, c.skip-at.ensures.bound, length-rest piece at);
       fed = omega (arith, i.fed, c.skip-at.ensures.fed);
-      room = skipped-ahead c.loop-at.self c.skip-at.new.self n c.skip-at.ensures.fed c.skip-at.ensures.prefix c.skip-at.ensures.latest c.skip-at.ensures.tally i.room;
+      room = skipped-ahead n c.skip-at.ensures.fed c.skip-at.ensures.prefix c.skip-at.ensures.latest c.skip-at.ensures.tally i.room;
       ready = skipped-awaits (g.F.Found.ready_at c.loop-at.found) c.loop-at.self c.skip-at.new.self c.skip-at.ensures.latest c.skip-at.ensures.tally i.ready;
       kept = λ r kept. subst (λ (q : List ℕ). HasRead c.skip-at.new.self q) (read-run r piece at n) (c.skip-at.ensures.kept (read r (take at piece)) (i.kept r kept));
       told = λ r calls kept heard. subst (λ (l : List Call). g.F.Found.heard c.loop-at.found l) (told-run r piece at n calls (c.skip-at.ensures.quiet (read r (take at piece)) (i.kept r kept))) (i.told r calls kept heard);
@@ -53,7 +53,7 @@ take_byte-requires g c =
     let i = c.loop-at.invariant in
     let n = c.skip-at.result in record {
       short = omega (arith, i.fed, c.skip-at.ensures.fed);
-      room = skipped-ahead c.loop-at.self c.skip-at.new.self n c.skip-at.ensures.fed c.skip-at.ensures.prefix c.skip-at.ensures.latest c.skip-at.ensures.tally i.room;
+      room = skipped-ahead n c.skip-at.ensures.fed c.skip-at.ensures.prefix c.skip-at.ensures.latest c.skip-at.ensures.tally i.room;
       ready = skipped-awaits (g.F.Found.ready_at c.loop-at.found) c.loop-at.self c.skip-at.new.self c.skip-at.ensures.latest c.skip-at.ensures.tally i.ready;
     }
 
