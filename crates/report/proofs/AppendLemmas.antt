@@ -17,8 +17,8 @@ front_of_first before text next after cut = record {
 }
 
 -- after the whole first text, a front of the second one
-front_of_second : {before mid after : List ℕ} (text next : List ℕ) → mid ≡ before ++ text → HasFrontOf mid next after → HasFrontOf before (text ++ next) after
-front_of_second {before} text next whole cut = record {
+front_of_second : {before next mid after : List ℕ} (text : List ℕ) → mid ≡ before ++ text → HasFrontOf mid next after → HasFrontOf before (text ++ next) after
+front_of_second {before} {next} text whole cut = record {
   front = text ++ cut.front;
   rest = cut.rest;
   text_is = ap (λ (l : List ℕ). text ++ l) cut.text_is ∙ sym (append_assoc text cut.front cut.rest);
@@ -29,29 +29,29 @@ front_of_second {before} text next whole cut = record {
 pub both : (before text next mid after : List ℕ) → mid ≡ before ++ text → after ≡ mid ++ next → after ≡ before ++ (text ++ next)
 both before text next mid after first second = second ∙ ap (λ (l : List ℕ). l ++ next) first ∙ append_assoc before text next
 
-after_first : {before mid after : List ℕ} (text next : List ℕ) (r : Answer) → mid ≡ before ++ text → IsAppended mid next after r → IsAppended before (text ++ next) after r
-after_first {before} {mid} {after} text next (Ok done) whole more = record { whole = both before text next mid after whole more.whole; cut = tt }
-after_first text next (Err e) whole more = record { whole = tt; cut = front_of_second text next whole more.cut }
+after_first : {before next mid after : List ℕ} {r : Answer} (text : List ℕ) → mid ≡ before ++ text → IsAppended mid next after r → IsAppended before (text ++ next) after r
+after_first {before} {next} {mid} {after} {r = Ok done} text whole more = record { whole = both before text next mid after whole more.whole; cut = tt }
+after_first {next} {r = Err e} text whole more = record { whole = tt; cut = front_of_second text whole more.cut }
 
 -- after the whole first text, the second one is appended
 pub then_appended : {before next mid after : List ℕ} {r : Answer} → (text : List ℕ) → mid ≡ before ++ text → IsAppended mid next after r → IsAppended before (text ++ next) after r
-then_appended text whole more = after_first text _ _ whole more
+then_appended text whole more = after_first text whole more
 
 -- a text that was cut stays so, whatever was to follow
 pub cut_before : {before text after : List ℕ} {e : NoMemory} → (next : List ℕ) → IsAppended before text after (Err e) → IsAppended before (text ++ next) after (Err e)
 cut_before next cut = record { whole = tt; cut = front_of_first _ _ next _ cut.cut }
 
-handed : {before after : List ℕ} {e : NoMemory} (text : List ℕ) (r : Answer) → IsErr r → IsAppended before text after (Err e) → IsAppended before text after r
-handed text (Ok done) none cut = absurd (false≢true none)
-handed text (Err other) none cut = record { whole = tt; cut = cut.cut }
+handed : {before text after : List ℕ} {e : NoMemory} {r : Answer} → IsErr r → IsAppended before text after (Err e) → IsAppended before text after r
+handed {text} {r = Ok done} none cut = absurd (false≢true none)
+handed {text} {r = Err other} none cut = record { whole = tt; cut = cut.cut }
 
 -- want of memory is handed on
 pub handed_on : {before text after : List ℕ} {e : NoMemory} (r : Answer) → IsErr r → IsAppended before text after (Err e) → IsAppended before text after r
-handed_on r none cut = handed _ r none cut
+handed_on r none cut = handed none cut
 
-same_text : {before after : List ℕ} (text whole : List ℕ) (r : Answer) → text ≡ whole → IsAppended before text after r → IsAppended before whole after r
-same_text {before} {after} text whole r same done = subst (λ (l : List ℕ). IsAppended before l after r) same done
+same_text : {before text whole after : List ℕ} {r : Answer} → text ≡ whole → IsAppended before text after r → IsAppended before whole after r
+same_text {before} {text} {whole} {after} {r} same done = subst (λ (l : List ℕ). IsAppended before l after r) same done
 
 -- the same text in other words
 pub appended_as : {before text whole after : List ℕ} {r : Answer} → text ≡ whole → IsAppended before text after r → IsAppended before whole after r
-appended_as same done = same_text _ _ _ same done
+appended_as same done = same_text same done

@@ -82,11 +82,11 @@ all_booked bytes Q a (suc n) each =
     pick true is others = All-cons Q a rest (each a (omega arith) (omega arith) (ltb-true 0 (bytes a) is)) others
     pick false is others = others
 
-pub booked_stands : (bytes : ℕ → ℕ) (slot a n : ℕ) → a ≤ slot → slot < a + n → 0 < bytes slot → Contains (booked_among bytes (range_with_len a n)) slot
-booked_stands bytes slot a zero after inside some = absurd (omega arith)
-booked_stands bytes slot a (suc n) after inside some = elim (cases_lt a slot) [
+pub booked_stands : {slot : ℕ} (bytes : ℕ → ℕ) (a n : ℕ) → a ≤ slot → slot < a + n → 0 < bytes slot → Contains (booked_among bytes (range_with_len a n)) slot
+booked_stands {slot} bytes a zero after inside some = absurd (omega arith)
+booked_stands {slot} bytes a (suc n) after inside some = elim (cases_lt a slot) [
   | inl later ↦ over (nat_lt 0 (bytes a))
-      (booked_stands bytes slot (a + 1) n (omega arith) (omega arith) some)
+      (booked_stands bytes (a + 1) n (omega arith) (omega arith) some)
   | inr first ↦ (
       let here : a ≡ slot = omega arith in
       let booked : 0 < bytes a = subst (λ t. 0 < bytes t) (sym here) some in
@@ -108,8 +108,8 @@ all_map P f [] each = All-nil P
 all_map P f (x ∷ xs) each = All-cons P (f x) (map f xs) (All-head (λ t. P (f t)) x xs each) (all_map P f xs (All-tail (λ t. P (f t)) x xs each))
 
 -- ---- what a line tells
-same_words : {b t : ℕ} (s c : ℕ) → s < 2 ^ 64 → b < 2 ^ 64 → t < 2 ^ 64 → c < 2 ^ 64 → slot_words s b ≡ slot_words t c → (s ≡ t) × (b ≡ c)
-same_words {b} {t} s c small few small' few' e =
+same_words : {s b t c : ℕ} → s < 2 ^ 64 → b < 2 ^ 64 → t < 2 ^ 64 → c < 2 ^ 64 → slot_words s b ≡ slot_words t c → (s ≡ t) × (b ≡ c)
+same_words {s} {b} {t} {c} small few small' few' e =
     let tail : ℕ → List ℕ = λ n. codes "booked=" ++ decimal n in
     let shape : (m n : ℕ) → slot_words m n ≡ codes "at " ++ (decimal m ++ 32 ∷ (codes "booked=" ++ decimal n)) = λ m n. append_assoc (codes "at ") (decimal m) (field (codes " booked=") n) in
     let rest : decimal s ++ 32 ∷ (codes "booked=" ++ decimal b) ≡ decimal t ++ 32 ∷ (codes "booked=" ++ decimal c) =
@@ -126,25 +126,25 @@ pub few_slots : (from : ℕ) (bytes : ℕ → ℕ) → AreBookings from bytes �
 few_slots from bytes kept short =
     all_booked bytes (IsFew bytes) from ring_slots (λ t after inside some. (omega (arith, kept.first_small, inside, short), omega (arith, kept.few t after)))
 
-tells_all : {bytes : ℕ → ℕ} (from slot booked : ℕ) → slot < 2 ^ 64 → booked < 2 ^ 64 → AreBookings from bytes → ring_slots < 2 ^ 62 → All (TellsOf from bytes slot booked) (map (words_at bytes) (booked_slots from bytes))
-tells_all {bytes} from slot booked small few kept short =
+tells_all : {from : ℕ} {bytes : ℕ → ℕ} {slot booked : ℕ} → slot < 2 ^ 64 → booked < 2 ^ 64 → AreBookings from bytes → ring_slots < 2 ^ 62 → All (TellsOf from bytes slot booked) (map (words_at bytes) (booked_slots from bytes))
+tells_all {from} {bytes} {slot} {booked} small few kept short =
     all_map (TellsOf from bytes slot booked) (words_at bytes) (booked_slots from bytes)
     (all_booked bytes (λ t. TellsOf from bytes slot booked (words_at bytes t)) from ring_slots (λ t after inside some e.
-    let same = same_words slot (bytes t) small few (omega (arith, kept.first_small, inside, short)) (omega (arith, kept.few t after)) (sym e) in
+    let same = same_words small few (omega (arith, kept.first_small, inside, short)) (omega (arith, kept.few t after)) (sym e) in
     (same.1 ∙ ap bytes (sym same.0), omega (arith, some, same.1), omega (arith, after, same.0))))
 
-pub line_stands : {bytes : ℕ → ℕ} (from slot : ℕ) → AreBookings from bytes → ring_slots < 2 ^ 62 → from ≤ slot → slot < from + ring_slots → 0 < bytes slot →
+pub line_stands : {from : ℕ} {bytes : ℕ → ℕ} (slot : ℕ) → AreBookings from bytes → ring_slots < 2 ^ 62 → from ≤ slot → slot < from + ring_slots → 0 < bytes slot →
     Contains (calendar_lines from bytes) (words_at bytes slot)
-line_stands {bytes} from slot kept short after inside some =
+line_stands {from} {bytes} slot kept short after inside some =
     let slots = map (words_at bytes) (booked_slots from bytes) in
     let line = words_at bytes slot in
-    let stands = contains_map (words_at bytes) (booked_slots from bytes) slot (booked_stands bytes slot from ring_slots after inside some) in
+    let stands = contains_map (words_at bytes) (booked_slots from bytes) slot (booked_stands bytes from ring_slots after inside some) in
     subst (λ (ls : List (List ℕ)). Contains ls line) (sym (lines-calendar from bytes (omega (arith, kept.first_small)) (few_slots from bytes kept short)))
     (Contains-append_right (first_words from ∷ []) (slots ++ codes "end" ∷ []) line (Contains-append_left slots (codes "end" ∷ []) line stands))
 
-pub line_tells : {bytes : ℕ → ℕ} {booked : ℕ} (from slot : ℕ) → AreBookings from bytes → ring_slots < 2 ^ 62 → slot < 2 ^ 64 → booked < 2 ^ 64 →
+pub line_tells : {from : ℕ} {bytes : ℕ → ℕ} {slot booked : ℕ} → AreBookings from bytes → ring_slots < 2 ^ 62 → slot < 2 ^ 64 → booked < 2 ^ 64 →
     Contains (calendar_lines from bytes) (slot_words slot booked) → (booked ≡ bytes slot) × (0 < booked) × (from ≤ slot)
-line_tells {bytes} {booked} from slot kept short small few stands =
+line_tells {from} {bytes} {slot} {booked} kept short small few stands =
     let P = TellsOf from bytes slot booked in
     let line = slot_words slot booked in
     let slots = map (words_at bytes) (booked_slots from bytes) in
@@ -152,7 +152,7 @@ line_tells {bytes} {booked} from slot kept short small few stands =
     let no_end : P (codes "end") = λ e. absurd (let first : 101 ≡ 97 = ap (λ (l : List ℕ). get_or l 0 0) e in omega (arith, first)) in
     let tells : All P (lines_told from bytes) =
     All-cons P (first_words from) (slots ++ codes "end" ∷ []) no_first
-    (All-append P slots (codes "end" ∷ []) (tells_all from slot booked small few kept short) (All-cons P (codes "end") [] no_end (All-nil P))) in
+    (All-append P slots (codes "end" ∷ []) (tells_all small few kept short) (All-cons P (codes "end") [] no_end (All-nil P))) in
     let among : Contains (lines_told from bytes) line =
     subst (λ (ls : List (List ℕ)). Contains ls line) (lines-calendar from bytes (omega (arith, kept.first_small)) (few_slots from bytes kept short)) stands in
     All-get_or P (lines_told from bytes) among.0 line among.1 tells among.2

@@ -10,9 +10,9 @@ use Rattle.report.proofs.laws.law_slot_lines.Goals as goal
 short : ring_slots < 2 ^ 62
 short = omega (arith, ring-is)
 
-tells : {told : ℕ} {booked : ℕ → ℕ} (from slot : ℕ) → AreBookings from booked → slot < 2 ^ 64 → told < 2 ^ 64 →
+tells : {from slot told : ℕ} {booked : ℕ → ℕ} → AreBookings from booked → slot < 2 ^ 64 → told < 2 ^ 64 →
     Contains (calendar_lines from booked) (slot_words slot told) → (told ≡ booked slot) × (0 < told) × (from ≤ slot)
-tells from slot are small few stands = line_tells from slot are short small few stands
+tells {from} {slot} are small few stands = line_tells are short small few stands
 
 pub returns-clause-stands : goal.returns-clause-stands
 returns-clause-stands c = λ from slot booked are begun some.
@@ -20,13 +20,13 @@ returns-clause-stands c = λ from slot booked are begun some.
       | inl inside ↦ inside
       | inr past ↦ absurd (omega (arith, are.past slot past, some))
     ] in
-    line_stands from slot are short begun inside some
+    line_stands slot are short begun inside some
 
 pub returns-clause-tells : goal.returns-clause-tells
-returns-clause-tells c = λ from slot told booked are small few stands. (tells from slot are small few stands).0
+returns-clause-tells c = λ from slot told booked are small few stands. (tells are small few stands).0
 
 pub returns-clause-some : goal.returns-clause-some
-returns-clause-some c = λ from slot told booked are small few stands. (tells from slot are small few stands).1
+returns-clause-some c = λ from slot told booked are small few stands. (tells are small few stands).1
 
 pub returns-clause-begun : goal.returns-clause-begun
-returns-clause-begun c = λ from slot told booked are small few stands. (tells from slot are small few stands).2
+returns-clause-begun c = λ from slot told booked are small few stands. (tells are small few stands).2
