@@ -81,16 +81,16 @@ zeros_front (suc (suc (suc n))) (suc m) l s e =
     omega (arith, zeros_front (suc (suc n)) m l s (tail_same 0 0 (0 ∷ 0 ∷ (replicate n 0 ++ l)) (with_prefix m s) e))
 
 -- a byte other than 00 after bytes 00 isn't where a prefix can have it
-bad_no_prefix : (n m byte : ℕ) (l s : List ℕ) → replicate n 0 ++ byte ∷ l ≡ with_prefix m s → byte ≢ 0 → (byte ≡ 1 → n < 2) → ⊥
-bad_no_prefix zero zero byte l s e some early = some (head_same byte 0 l (0 ∷ 1 ∷ s) e)
-bad_no_prefix zero (suc m) byte l s e some early = some (head_same byte 0 l (with_prefix m s) e)
-bad_no_prefix (suc zero) zero byte l s e some early = some (head_same byte 0 l (1 ∷ s) (tail_same 0 0 (byte ∷ l) (0 ∷ 1 ∷ s) e))
-bad_no_prefix (suc (suc zero)) zero byte l s e some early =
+bad_no_prefix : {byte : ℕ} (n m : ℕ) (l s : List ℕ) → replicate n 0 ++ byte ∷ l ≡ with_prefix m s → byte ≢ 0 → (byte ≡ 1 → n < 2) → ⊥
+bad_no_prefix {byte} zero zero l s e some early = some (head_same byte 0 l (0 ∷ 1 ∷ s) e)
+bad_no_prefix {byte} zero (suc m) l s e some early = some (head_same byte 0 l (with_prefix m s) e)
+bad_no_prefix {byte} (suc zero) zero l s e some early = some (head_same byte 0 l (1 ∷ s) (tail_same 0 0 (byte ∷ l) (0 ∷ 1 ∷ s) e))
+bad_no_prefix {byte} (suc (suc zero)) zero l s e some early =
     let one : byte ≡ 1 = head_same byte 1 l s (tail_same 0 0 (byte ∷ l) (1 ∷ s) (tail_same 0 0 (0 ∷ byte ∷ l) (0 ∷ 1 ∷ s) e)) in omega (arith, early one)
-bad_no_prefix (suc (suc (suc n))) zero byte l s e some early =
+bad_no_prefix {byte} (suc (suc (suc n))) zero l s e some early =
     zero_one (replicate n 0 ++ byte ∷ l) s (tail_same 0 0 (0 ∷ (replicate n 0 ++ byte ∷ l)) (1 ∷ s) (tail_same 0 0 (0 ∷ 0 ∷ (replicate n 0 ++ byte ∷ l)) (0 ∷ 1 ∷ s) e))
-bad_no_prefix (suc n) (suc m) byte l s e some early =
-    bad_no_prefix n m byte l s (tail_same 0 0 (replicate n 0 ++ byte ∷ l) (with_prefix m s) e) some (λ one. omega (arith, early one))
+bad_no_prefix {byte} (suc n) (suc m) l s e some early =
+    bad_no_prefix n m l s (tail_same 0 0 (replicate n 0 ++ byte ∷ l) (with_prefix m s) e) some (λ one. omega (arith, early one))
 
 -- bytes 00 and another byte
 zeros_no_bad : (n m byte : ℕ) (l : List ℕ) → replicate n 0 ≡ replicate m 0 ++ byte ∷ l → byte ≢ 0 → ⊥
@@ -99,11 +99,11 @@ zeros_no_bad zero (suc m) byte l e some = let bad : 0 ≡ length (0 ∷ (replica
 zeros_no_bad (suc n) zero byte l e some = some (sym (head_same 0 byte (replicate n 0) l e))
 zeros_no_bad (suc n) (suc m) byte l e some = zeros_no_bad n m byte l (tail_same 0 0 (replicate n 0) (replicate m 0 ++ byte ∷ l) e) some
 
-bad_once : (n m a b : ℕ) (r s : List ℕ) → replicate n 0 ++ a ∷ r ≡ replicate m 0 ++ b ∷ s → a ≢ 0 → b ≢ 0 → n ≡ m
-bad_once zero zero a b r s e x y = refl
-bad_once zero (suc m) a b r s e x y = absurd (x (head_same a 0 r (replicate m 0 ++ b ∷ s) e))
-bad_once (suc n) zero a b r s e x y = absurd (y (sym (head_same 0 b (replicate n 0 ++ a ∷ r) s e)))
-bad_once (suc n) (suc m) a b r s e x y = let more = bad_once n m a b r s (tail_same 0 0 (replicate n 0 ++ a ∷ r) (replicate m 0 ++ b ∷ s) e) x y in omega (arith, more)
+bad_once : {n m : ℕ} (a b : ℕ) (r s : List ℕ) → replicate n 0 ++ a ∷ r ≡ replicate m 0 ++ b ∷ s → a ≢ 0 → b ≢ 0 → n ≡ m
+bad_once {n = zero} {m = zero} a b r s e x y = refl
+bad_once {n = zero} {m = suc m} a b r s e x y = absurd (x (head_same a 0 r (replicate m 0 ++ b ∷ s) e))
+bad_once {n = suc n} {m = zero} a b r s e x y = absurd (y (sym (head_same 0 b (replicate n 0 ++ a ∷ r) s e)))
+bad_once {n = suc n} {m = suc m} a b r s e x y = let more = bad_once {n = n} {m = m} a b r s (tail_same 0 0 (replicate n 0 ++ a ∷ r) (replicate m 0 ++ b ∷ s) e) x y in omega (arith, more)
 
 -- the bytes after an item's prefix
 abbrev rest_of : Item → List ℕ
@@ -126,15 +126,15 @@ pub record IsSameItem (a b : Item) (x y : List ℕ) : Type 0 where
   pub item : a ≡ b
   pub rest : x ≡ y
 
-rests_once : (chosen : Option ℕ) (a b : Item) (x y : List ℕ) → IsItem chosen a → IsItem chosen b → zeros_of a ≡ zeros_of b → rest_of a ++ x ≡ rest_of b ++ y → IsSameItem a b x y
-rests_once chosen (Pack n r) (Pack m s) x y p q zeros e =
+rests_once : {a b : Item} {x y : List ℕ} (chosen : Option ℕ) → IsItem chosen a → IsItem chosen b → zeros_of a ≡ zeros_of b → rest_of a ++ x ≡ rest_of b ++ y → IsSameItem a b x y
+rests_once {a = Pack n r} {b = Pack m s} {x} {y} chosen p q zeros e =
     let same = front_once r s x y (tail_same 186 186 (r ++ x) (s ++ y) e) (p.eight ∙ sym q.eight) in
     record { item = ap (λ k. Pack k r) zeros ∙ ap (λ (l : List ℕ). Pack m l) same.0; rest = same.1 }
-rests_once chosen (Pack n r) (Packet m kind high low s) x y p q zeros e =
+rests_once {a = Pack n r} {b = Packet m kind high low s} {x} {y} chosen p q zeros e =
     absurd (let bad : 186 ≡ kind = head_same 186 kind (r ++ x) (high ∷ low ∷ (s ++ y)) e in omega (arith, bad, q.kind_is))
-rests_once chosen (Packet n kind high low r) (Pack m s) x y p q zeros e =
+rests_once {a = Packet n kind high low r} {b = Pack m s} {x} {y} chosen p q zeros e =
     absurd (let bad : kind ≡ 186 = head_same kind 186 (high ∷ low ∷ (r ++ x)) (s ++ y) e in omega (arith, bad, p.kind_is))
-rests_once chosen (Packet n k h l r) (Packet m k' h' l' s) x y p q zeros e =
+rests_once {a = Packet n k h l r} {b = Packet m k' h' l' s} {x} {y} chosen p q zeros e =
     let kind : k ≡ k' = head_same k k' (h ∷ l ∷ (r ++ x)) (h' ∷ l' ∷ (s ++ y)) e in
     let e1 : h ∷ l ∷ (r ++ x) ≡ h' ∷ l' ∷ (s ++ y) = tail_same k k' (h ∷ l ∷ (r ++ x)) (h' ∷ l' ∷ (s ++ y)) e in
     let high : h ≡ h' = head_same h h' (l ∷ (r ++ x)) (l' ∷ (s ++ y)) e1 in
@@ -146,44 +146,44 @@ rests_once chosen (Packet n k h l r) (Packet m k' h' l' s) x y p q zeros e =
       rest = same.1;
     }
 
-pub item_once : (chosen : Option ℕ) (a b : Item) (x y : List ℕ) → IsItem chosen a → IsItem chosen b → item_bytes a ++ x ≡ item_bytes b ++ y → IsSameItem a b x y
-item_once chosen a b x y p q e =
+pub item_once : {a b : Item} {x y : List ℕ} (chosen : Option ℕ) → IsItem chosen a → IsItem chosen b → item_bytes a ++ x ≡ item_bytes b ++ y → IsSameItem a b x y
+item_once {a} {b} {x} {y} chosen p q e =
     let both : with_prefix (zeros_of a) (rest_of a ++ x) ≡ with_prefix (zeros_of b) (rest_of b ++ y) =
     sym (ap (λ (l : List ℕ). l ++ x) (item_prefixed a) ∙ prefixed_more (zeros_of a) (rest_of a) x) ∙ e ∙ ap (λ (l : List ℕ). l ++ y) (item_prefixed b) ∙ prefixed_more (zeros_of b) (rest_of b) y in
     let same = prefix_once (zeros_of a) (zeros_of b) (rest_of a ++ x) (rest_of b ++ y) both in
-    rests_once chosen a b x y p q same.zeros same.rest
+    rests_once chosen p q same.zeros same.rest
 
 -- an item, from its prefix
-from_prefix : (a : Item) (x t : List ℕ) (m : ℕ) (s : List ℕ) → item_bytes a ++ x ≡ t → t ≡ with_prefix m s → AreSamePrefix (zeros_of a) m (rest_of a ++ x) s
-from_prefix a x t m s e is =
+from_prefix : {t : List ℕ} {m : ℕ} {s : List ℕ} (a : Item) (x : List ℕ) → item_bytes a ++ x ≡ t → t ≡ with_prefix m s → AreSamePrefix (zeros_of a) m (rest_of a ++ x) s
+from_prefix {m} {s} a x e is =
     prefix_once (zeros_of a) m (rest_of a ++ x) s (sym (ap (λ (l : List ℕ). l ++ x) (item_prefixed a) ∙ prefixed_more (zeros_of a) (rest_of a) x) ∙ e ∙ is)
 
 as_prefixed : (a : Item) (x t : List ℕ) → item_bytes a ++ x ≡ t → t ≡ with_prefix (zeros_of a) (rest_of a ++ x)
 as_prefixed a x t e = sym e ∙ ap (λ (l : List ℕ). l ++ x) (item_prefixed a) ∙ prefixed_more (zeros_of a) (rest_of a) x
 
 -- an item's kind is BA or above
-kind_of_item : (chosen : Option ℕ) (a : Item) (x s : List ℕ) (kind : ℕ) → IsItem chosen a → rest_of a ++ x ≡ kind ∷ s → 186 ≤ kind
-kind_of_item chosen (Pack n r) x s kind p e = omega (arith, head_same 186 kind (r ++ x) s e)
-kind_of_item chosen (Packet n k h l r) x s kind p e = omega (arith, p.kind_is, head_same k kind (h ∷ l ∷ (r ++ x)) s e)
+kind_of_item : {s : List ℕ} {kind : ℕ} (chosen : Option ℕ) (a : Item) (x : List ℕ) → IsItem chosen a → rest_of a ++ x ≡ kind ∷ s → 186 ≤ kind
+kind_of_item {s} {kind} chosen (Pack n r) x p e = omega (arith, head_same 186 kind (r ++ x) s e)
+kind_of_item {s} {kind} chosen (Packet n k h l r) x p e = omega (arith, p.kind_is, head_same k kind (h ∷ l ∷ (r ++ x)) s e)
 
 -- no item stands where the stream ends
-pub item_no_end : (chosen : Option ℕ) (a : Item) (x t : List ℕ) → IsItem chosen a → item_bytes a ++ x ≡ t → IsEnd t → ⊥
-item_no_end chosen a x t p e (inl z) = zeros_no_prefix z.count (zeros_of a) (rest_of a ++ x) (sym z.are ∙ as_prefixed a x t e)
-item_no_end chosen a x t p e (inr c) =
-    let kind = kind_of_item chosen a x c.rest 185 p (from_prefix a x t c.zeros (185 ∷ c.rest) e c.is).rest in omega (arith, kind)
+pub item_no_end : {t : List ℕ} (chosen : Option ℕ) (a : Item) (x : List ℕ) → IsItem chosen a → item_bytes a ++ x ≡ t → IsEnd t → ⊥
+item_no_end {t} chosen a x p e (inl z) = zeros_no_prefix z.count (zeros_of a) (rest_of a ++ x) (sym z.are ∙ as_prefixed a x t e)
+item_no_end chosen a x p e (inr c) =
+    let kind = kind_of_item chosen a x p (from_prefix a x e c.is).rest in omega (arith, kind)
 
 -- nor where a fault does
-mark_other : (chosen : Option ℕ) (a : Item) (x rest : List ℕ) (mark : ℕ) → IsItem chosen a → rest_of a ++ x ≡ 186 ∷ mark ∷ rest → mark / 16 ≢ 2 → ⊥
-mark_other chosen (Pack n []) x rest mark p e other = omega (arith, p.eight)
-mark_other chosen (Pack n (b ∷ r)) x rest mark p e other =
+mark_other : {rest : List ℕ} {mark : ℕ} (chosen : Option ℕ) (a : Item) (x : List ℕ) → IsItem chosen a → rest_of a ++ x ≡ 186 ∷ mark ∷ rest → mark / 16 ≢ 2 → ⊥
+mark_other chosen (Pack n []) x p e other = omega (arith, p.eight)
+mark_other {rest} {mark} chosen (Pack n (b ∷ r)) x p e other =
     other (ap (λ k. k / 16) (sym (head_same b mark (r ++ x) rest (tail_same 186 186 (b ∷ (r ++ x)) (mark ∷ rest) e))) ∙ p.mark)
-mark_other chosen (Packet n k h l r) x rest mark p e other = omega (arith, p.kind_is, head_same k 186 (h ∷ l ∷ (r ++ x)) (mark ∷ rest) e)
+mark_other {rest} {mark} chosen (Packet n k h l r) x p e other = omega (arith, p.kind_is, head_same k 186 (h ∷ l ∷ (r ++ x)) (mark ∷ rest) e)
 
 -- a content that stands whole has a header
-content_bad : (chosen : Option ℕ) (a : Item) (x front rest : List ℕ) (kind high low : ℕ) → IsItem chosen a → rest_of a ++ x ≡ kind ∷ high ∷ low ∷ (front ++ rest) → 187 ≤ kind →
+content_bad : {kind high low : ℕ} (chosen : Option ℕ) (a : Item) (x front rest : List ℕ) → IsItem chosen a → rest_of a ++ x ≡ kind ∷ high ∷ low ∷ (front ++ rest) → 187 ≤ kind →
     is_chosen (choose chosen kind) kind ≡ true → length front ≤ high * 256 + low → ((more : List ℕ) → length front + length more ≡ high * 256 + low → video_in (front ++ more) ≡ None) → ⊥
-content_bad chosen (Pack n r) x front rest kind high low p e kind_is is within none = omega (arith, kind_is, head_same 186 kind (r ++ x) (high ∷ low ∷ (front ++ rest)) e)
-content_bad chosen (Packet n k h l r) x front rest kind high low p e kind_is is within none =
+content_bad {kind} {high} {low} chosen (Pack n r) x front rest p e kind_is is within none = omega (arith, kind_is, head_same 186 kind (r ++ x) (high ∷ low ∷ (front ++ rest)) e)
+content_bad {kind} {high} {low} chosen (Packet n k h l r) x front rest p e kind_is is within none =
     let kinds : k ≡ kind = head_same k kind (h ∷ l ∷ (r ++ x)) (high ∷ low ∷ (front ++ rest)) e in
     let e1 : h ∷ l ∷ (r ++ x) ≡ high ∷ low ∷ (front ++ rest) = tail_same k kind (h ∷ l ∷ (r ++ x)) (high ∷ low ∷ (front ++ rest)) e in
     let highs : h ≡ high = head_same h high (l ∷ (r ++ x)) (low ∷ (front ++ rest)) e1 in
@@ -201,22 +201,22 @@ content_bad chosen (Packet n k h l r) x front rest kind high low p e kind_is is 
     let wrong : false ≡ true = bad in
     cc
 
-fault_no_item : (chosen : Option ℕ) (start : ℕ) (a : Item) (x t : List ℕ) (fault : SystemFault) → IsItem chosen a → item_bytes a ++ x ≡ t → IsFault chosen start t fault → ⊥
-fault_no_item chosen start a x t (NotPack place) p e f = mark_other chosen a x f.rest f.mark p (from_prefix a x t f.zeros (186 ∷ f.mark ∷ f.rest) e f.is).rest f.other
-fault_no_item chosen start a x t (BadCode place) p e (inl f) =
-    bad_no_prefix f.count (zeros_of a) f.byte f.rest (rest_of a ++ x) (sym f.is ∙ as_prefixed a x t e) f.some f.early
-fault_no_item chosen start a x t (BadCode place) p e (inr f) =
-    let kind = kind_of_item chosen a x f.rest f.kind p (from_prefix a x t f.zeros (f.kind ∷ f.rest) e f.is).rest in omega (arith, kind, f.low)
-fault_no_item chosen start a x t (BadPacket place) p e f =
-    content_bad chosen a x f.front f.rest f.kind f.high f.low p (from_prefix a x t f.zeros (f.kind ∷ f.high ∷ f.low ∷ (f.front ++ f.rest)) e f.is).rest f.kind_is f.chosen_is f.within f.none
-fault_no_item chosen start a x t (Truncated place) p e f =
-    let same = item_once chosen a f.item (x ++ f.lacking) [] p f.is_item
+fault_no_item : {t : List ℕ} (chosen : Option ℕ) (start : ℕ) (a : Item) (x : List ℕ) (fault : SystemFault) → IsItem chosen a → item_bytes a ++ x ≡ t → IsFault chosen start t fault → ⊥
+fault_no_item chosen start a x (NotPack place) p e f = mark_other chosen a x p (from_prefix a x e f.is).rest f.other
+fault_no_item {t} chosen start a x (BadCode place) p e (inl f) =
+    bad_no_prefix f.count (zeros_of a) f.rest (rest_of a ++ x) (sym f.is ∙ as_prefixed a x t e) f.some f.early
+fault_no_item chosen start a x (BadCode place) p e (inr f) =
+    let kind = kind_of_item chosen a x p (from_prefix a x e f.is).rest in omega (arith, kind, f.low)
+fault_no_item chosen start a x (BadPacket place) p e f =
+    content_bad chosen a x f.front f.rest p (from_prefix a x e f.is).rest f.kind_is f.chosen_is f.within f.none
+fault_no_item chosen start a x (Truncated place) p e f =
+    let same = item_once chosen p f.is_item
     (sym (append_assoc (item_bytes a) x f.lacking) ∙ ap (λ (l : List ℕ). l ++ f.lacking) e ∙ sym f.is ∙ sym (append-nil (item_bytes f.item))) in
     omega (arith, ap length same.rest, length-append x f.lacking, f.some)
 
 -- where the stream ends or a fault stands
-kinds_once : (t : List ℕ) (z w k j : ℕ) (r s : List ℕ) → t ≡ with_prefix z (k ∷ r) → t ≡ with_prefix w (j ∷ s) → (z ≡ w) × (k ≡ j)
-kinds_once t z w k j r s a b =
+kinds_once : {t : List ℕ} {z w k j : ℕ} (r s : List ℕ) → t ≡ with_prefix z (k ∷ r) → t ≡ with_prefix w (j ∷ s) → (z ≡ w) × (k ≡ j)
+kinds_once {z} {w} {k} {j} r s a b =
     let same = prefix_once z w (k ∷ r) (j ∷ s) (sym a ∙ b) in
     (same.zeros, head_same k j r s same.rest)
 
@@ -232,66 +232,66 @@ cut_prefixed : (chosen : Option ℕ) (start : ℕ) (t : List ℕ) (place : ℕ) 
 cut_prefixed chosen start t place f = front_prefixed t f.lacking (rest_of f.item) (zeros_of f.item) (sym f.is ∙ item_prefixed f.item) f.begun
 
 -- a fault that bytes show stands in no front of an item
-cut_shows_none : (chosen : Option ℕ) (start : ℕ) (t : List ℕ) (place : ℕ) (fault : SystemFault) → LacksEnd chosen start t place → IsShown fault → IsFault chosen start t fault → ⊥
-cut_shows_none chosen start t place fault cut shown f =
-    fault_no_item chosen start cut.item [] (t ++ cut.lacking) fault cut.is_item (append-nil (item_bytes cut.item) ∙ cut.is) (fault_stays chosen start t cut.lacking fault shown f)
+cut_shows_none : {chosen : Option ℕ} {start : ℕ} {t : List ℕ} {place : ℕ} (fault : SystemFault) → LacksEnd chosen start t place → IsShown fault → IsFault chosen start t fault → ⊥
+cut_shows_none {chosen} {start} {t} {place} fault cut shown f =
+    fault_no_item chosen start cut.item [] fault cut.is_item (append-nil (item_bytes cut.item) ∙ cut.is) (fault_stays chosen start t cut.lacking fault shown f)
 
 -- an end is no fault
 pub end_no_fault : (chosen : Option ℕ) (start : ℕ) (t : List ℕ) (fault : SystemFault) → IsEnd t → IsFault chosen start t fault → ⊥
 end_no_fault chosen start t (NotPack place) (inl z) f = zeros_no_prefix z.count f.zeros (186 ∷ f.mark ∷ f.rest) (sym z.are ∙ f.is)
-end_no_fault chosen start t (NotPack place) (inr c) f = let bad = (kinds_once t c.zeros f.zeros 185 186 c.rest (f.mark ∷ f.rest) c.is f.is).1 in omega (arith, bad)
+end_no_fault chosen start t (NotPack place) (inr c) f = let bad = (kinds_once c.rest (f.mark ∷ f.rest) c.is f.is).1 in omega (arith, bad)
 end_no_fault chosen start t (BadCode place) (inl z) (inl f) = zeros_no_bad z.count f.count f.byte f.rest (sym z.are ∙ f.is) f.some
 end_no_fault chosen start t (BadCode place) (inl z) (inr f) = zeros_no_prefix z.count f.zeros (f.kind ∷ f.rest) (sym z.are ∙ f.is)
-end_no_fault chosen start t (BadCode place) (inr c) (inl f) = bad_no_prefix f.count c.zeros f.byte f.rest (185 ∷ c.rest) (sym f.is ∙ c.is) f.some f.early
-end_no_fault chosen start t (BadCode place) (inr c) (inr f) = let bad = (kinds_once t c.zeros f.zeros 185 f.kind c.rest f.rest c.is f.is).1 in omega (arith, bad, f.low)
+end_no_fault chosen start t (BadCode place) (inr c) (inl f) = bad_no_prefix f.count c.zeros f.rest (185 ∷ c.rest) (sym f.is ∙ c.is) f.some f.early
+end_no_fault chosen start t (BadCode place) (inr c) (inr f) = let bad = (kinds_once c.rest f.rest c.is f.is).1 in omega (arith, bad, f.low)
 end_no_fault chosen start t (BadPacket place) (inl z) f = zeros_no_prefix z.count f.zeros (f.kind ∷ f.high ∷ f.low ∷ (f.front ++ f.rest)) (sym z.are ∙ f.is)
 end_no_fault chosen start t (BadPacket place) (inr c) f =
-    let bad = (kinds_once t c.zeros f.zeros 185 f.kind c.rest (f.high ∷ f.low ∷ (f.front ++ f.rest)) c.is f.is).1 in omega (arith, bad, f.kind_is)
+    let bad = (kinds_once c.rest (f.high ∷ f.low ∷ (f.front ++ f.rest)) c.is f.is).1 in omega (arith, bad, f.kind_is)
 end_no_fault chosen start t (Truncated place) (inl z) f = zeros_no_prefix z.count (zeros_of f.item) (drop (zeros_of f.item + 3) t) (sym z.are ∙ cut_prefixed chosen start t place f)
 end_no_fault chosen start t (Truncated place) (inr c) f =
-    item_no_end chosen f.item [] (t ++ f.lacking) f.is_item (append-nil (item_bytes f.item) ∙ f.is)
+    item_no_end chosen f.item [] f.is_item (append-nil (item_bytes f.item) ∙ f.is)
     (inr (record { zeros = c.zeros; rest = c.rest ++ f.lacking; is = ap (λ (l : List ℕ). l ++ f.lacking) c.is ∙ prefixed_more c.zeros (185 ∷ c.rest) f.lacking }))
 
 -- one fault stands there
-places_same : (start place place' n m : ℕ) → place ≡ start + n → place' ≡ start + m → n ≡ m → place ≡ place'
-places_same start place place' n m a b e = omega (arith, a, b, e)
+places_same : {place place' n m : ℕ} (start : ℕ) → place ≡ start + n → place' ≡ start + m → n ≡ m → place ≡ place'
+places_same {place} {m} start a b e = omega (arith, a, b, e)
 
-fault_once : (chosen : Option ℕ) (start : ℕ) (t : List ℕ) (one other : SystemFault) → IsFault chosen start t one → IsFault chosen start t other → one ≡ other
-fault_once chosen start t (NotPack p) (NotPack q) f g =
-    ap NotPack (places_same start p q f.zeros g.zeros f.place_is g.place_is (kinds_once t f.zeros g.zeros 186 186 (f.mark ∷ f.rest) (g.mark ∷ g.rest) f.is g.is).0)
-fault_once chosen start t (NotPack p) (BadCode q) f (inl g) = absurd (bad_no_prefix g.count f.zeros g.byte g.rest (186 ∷ f.mark ∷ f.rest) (sym g.is ∙ f.is) g.some g.early)
-fault_once chosen start t (NotPack p) (BadCode q) f (inr g) = absurd (let bad = (kinds_once t f.zeros g.zeros 186 g.kind (f.mark ∷ f.rest) g.rest f.is g.is).1 in omega (arith, bad, g.low))
-fault_once chosen start t (NotPack p) (BadPacket q) f g =
-    absurd (let bad = (kinds_once t f.zeros g.zeros 186 g.kind (f.mark ∷ f.rest) (g.high ∷ g.low ∷ (g.front ++ g.rest)) f.is g.is).1 in omega (arith, bad, g.kind_is))
-fault_once chosen start t (NotPack p) (Truncated q) f g = absurd (cut_shows_none chosen start t q (NotPack p) g tt f)
-fault_once chosen start t (BadCode p) (NotPack q) (inl f) g = absurd (bad_no_prefix f.count g.zeros f.byte f.rest (186 ∷ g.mark ∷ g.rest) (sym f.is ∙ g.is) f.some f.early)
-fault_once chosen start t (BadCode p) (NotPack q) (inr f) g = absurd (let bad = (kinds_once t f.zeros g.zeros f.kind 186 f.rest (g.mark ∷ g.rest) f.is g.is).1 in omega (arith, bad, f.low))
-fault_once chosen start t (BadCode p) (BadCode q) (inl f) (inl g) =
-    ap BadCode (places_same start p q f.count g.count f.place_is g.place_is (bad_once f.count g.count f.byte g.byte f.rest g.rest (sym f.is ∙ g.is) f.some g.some))
-fault_once chosen start t (BadCode p) (BadCode q) (inl f) (inr g) = absurd (bad_no_prefix f.count g.zeros f.byte f.rest (g.kind ∷ g.rest) (sym f.is ∙ g.is) f.some f.early)
-fault_once chosen start t (BadCode p) (BadCode q) (inr f) (inl g) = absurd (bad_no_prefix g.count f.zeros g.byte g.rest (f.kind ∷ f.rest) (sym g.is ∙ f.is) g.some g.early)
-fault_once chosen start t (BadCode p) (BadCode q) (inr f) (inr g) =
-    ap BadCode (places_same start p q f.zeros g.zeros f.place_is g.place_is (kinds_once t f.zeros g.zeros f.kind g.kind f.rest g.rest f.is g.is).0)
-fault_once chosen start t (BadCode p) (BadPacket q) (inl f) g =
-    absurd (bad_no_prefix f.count g.zeros f.byte f.rest (g.kind ∷ g.high ∷ g.low ∷ (g.front ++ g.rest)) (sym f.is ∙ g.is) f.some f.early)
-fault_once chosen start t (BadCode p) (BadPacket q) (inr f) g =
-    absurd (let bad = (kinds_once t f.zeros g.zeros f.kind g.kind f.rest (g.high ∷ g.low ∷ (g.front ++ g.rest)) f.is g.is).1 in omega (arith, bad, f.low, g.kind_is))
-fault_once chosen start t (BadCode p) (Truncated q) f g = absurd (cut_shows_none chosen start t q (BadCode p) g tt f)
-fault_once chosen start t (BadPacket p) (NotPack q) f g =
-    absurd (let bad = (kinds_once t f.zeros g.zeros f.kind 186 (f.high ∷ f.low ∷ (f.front ++ f.rest)) (g.mark ∷ g.rest) f.is g.is).1 in omega (arith, bad, f.kind_is))
-fault_once chosen start t (BadPacket p) (BadCode q) f (inl g) =
-    absurd (bad_no_prefix g.count f.zeros g.byte g.rest (f.kind ∷ f.high ∷ f.low ∷ (f.front ++ f.rest)) (sym g.is ∙ f.is) g.some g.early)
-fault_once chosen start t (BadPacket p) (BadCode q) f (inr g) =
-    absurd (let bad = (kinds_once t f.zeros g.zeros f.kind g.kind (f.high ∷ f.low ∷ (f.front ++ f.rest)) g.rest f.is g.is).1 in omega (arith, bad, g.low, f.kind_is))
-fault_once chosen start t (BadPacket p) (BadPacket q) f g =
-    ap BadPacket (places_same start p q f.zeros g.zeros f.place_is g.place_is
-    (kinds_once t f.zeros g.zeros f.kind g.kind (f.high ∷ f.low ∷ (f.front ++ f.rest)) (g.high ∷ g.low ∷ (g.front ++ g.rest)) f.is g.is).0)
-fault_once chosen start t (BadPacket p) (Truncated q) f g = absurd (cut_shows_none chosen start t q (BadPacket p) g tt f)
-fault_once chosen start t (Truncated p) (NotPack q) f g = absurd (cut_shows_none chosen start t p (NotPack q) f tt g)
-fault_once chosen start t (Truncated p) (BadCode q) f g = absurd (cut_shows_none chosen start t p (BadCode q) f tt g)
-fault_once chosen start t (Truncated p) (BadPacket q) f g = absurd (cut_shows_none chosen start t p (BadPacket q) f tt g)
-fault_once chosen start t (Truncated p) (Truncated q) f g =
-    ap Truncated (places_same start p q (zeros_of f.item) (zeros_of g.item) f.place_is g.place_is
+fault_once : {one other : SystemFault} (chosen : Option ℕ) (start : ℕ) (t : List ℕ) → IsFault chosen start t one → IsFault chosen start t other → one ≡ other
+fault_once {one = NotPack p} {other = NotPack q} chosen start t f g =
+    ap NotPack (places_same start f.place_is g.place_is (kinds_once (f.mark ∷ f.rest) (g.mark ∷ g.rest) f.is g.is).0)
+fault_once {one = NotPack p} {other = BadCode q} chosen start t f (inl g) = absurd (bad_no_prefix g.count f.zeros g.rest (186 ∷ f.mark ∷ f.rest) (sym g.is ∙ f.is) g.some g.early)
+fault_once {one = NotPack p} {other = BadCode q} chosen start t f (inr g) = absurd (let bad = (kinds_once (f.mark ∷ f.rest) g.rest f.is g.is).1 in omega (arith, bad, g.low))
+fault_once {one = NotPack p} {other = BadPacket q} chosen start t f g =
+    absurd (let bad = (kinds_once (f.mark ∷ f.rest) (g.high ∷ g.low ∷ (g.front ++ g.rest)) f.is g.is).1 in omega (arith, bad, g.kind_is))
+fault_once {one = NotPack p} {other = Truncated q} chosen start t f g = absurd (cut_shows_none (NotPack p) g tt f)
+fault_once {one = BadCode p} {other = NotPack q} chosen start t (inl f) g = absurd (bad_no_prefix f.count g.zeros f.rest (186 ∷ g.mark ∷ g.rest) (sym f.is ∙ g.is) f.some f.early)
+fault_once {one = BadCode p} {other = NotPack q} chosen start t (inr f) g = absurd (let bad = (kinds_once f.rest (g.mark ∷ g.rest) f.is g.is).1 in omega (arith, bad, f.low))
+fault_once {one = BadCode p} {other = BadCode q} chosen start t (inl f) (inl g) =
+    ap BadCode (places_same start f.place_is g.place_is (bad_once f.byte g.byte f.rest g.rest (sym f.is ∙ g.is) f.some g.some))
+fault_once {one = BadCode p} {other = BadCode q} chosen start t (inl f) (inr g) = absurd (bad_no_prefix f.count g.zeros f.rest (g.kind ∷ g.rest) (sym f.is ∙ g.is) f.some f.early)
+fault_once {one = BadCode p} {other = BadCode q} chosen start t (inr f) (inl g) = absurd (bad_no_prefix g.count f.zeros g.rest (f.kind ∷ f.rest) (sym g.is ∙ f.is) g.some g.early)
+fault_once {one = BadCode p} {other = BadCode q} chosen start t (inr f) (inr g) =
+    ap BadCode (places_same start f.place_is g.place_is (kinds_once f.rest g.rest f.is g.is).0)
+fault_once {one = BadCode p} {other = BadPacket q} chosen start t (inl f) g =
+    absurd (bad_no_prefix f.count g.zeros f.rest (g.kind ∷ g.high ∷ g.low ∷ (g.front ++ g.rest)) (sym f.is ∙ g.is) f.some f.early)
+fault_once {one = BadCode p} {other = BadPacket q} chosen start t (inr f) g =
+    absurd (let bad = (kinds_once f.rest (g.high ∷ g.low ∷ (g.front ++ g.rest)) f.is g.is).1 in omega (arith, bad, f.low, g.kind_is))
+fault_once {one = BadCode p} {other = Truncated q} chosen start t f g = absurd (cut_shows_none (BadCode p) g tt f)
+fault_once {one = BadPacket p} {other = NotPack q} chosen start t f g =
+    absurd (let bad = (kinds_once (f.high ∷ f.low ∷ (f.front ++ f.rest)) (g.mark ∷ g.rest) f.is g.is).1 in omega (arith, bad, f.kind_is))
+fault_once {one = BadPacket p} {other = BadCode q} chosen start t f (inl g) =
+    absurd (bad_no_prefix g.count f.zeros g.rest (f.kind ∷ f.high ∷ f.low ∷ (f.front ++ f.rest)) (sym g.is ∙ f.is) g.some g.early)
+fault_once {one = BadPacket p} {other = BadCode q} chosen start t f (inr g) =
+    absurd (let bad = (kinds_once (f.high ∷ f.low ∷ (f.front ++ f.rest)) g.rest f.is g.is).1 in omega (arith, bad, g.low, f.kind_is))
+fault_once {one = BadPacket p} {other = BadPacket q} chosen start t f g =
+    ap BadPacket (places_same start f.place_is g.place_is
+    (kinds_once (f.high ∷ f.low ∷ (f.front ++ f.rest)) (g.high ∷ g.low ∷ (g.front ++ g.rest)) f.is g.is).0)
+fault_once {one = BadPacket p} {other = Truncated q} chosen start t f g = absurd (cut_shows_none (BadPacket p) g tt f)
+fault_once {one = Truncated p} {other = NotPack q} chosen start t f g = absurd (cut_shows_none (NotPack q) f tt g)
+fault_once {one = Truncated p} {other = BadCode q} chosen start t f g = absurd (cut_shows_none (BadCode q) f tt g)
+fault_once {one = Truncated p} {other = BadPacket q} chosen start t f g = absurd (cut_shows_none (BadPacket q) f tt g)
+fault_once {one = Truncated p} {other = Truncated q} chosen start t f g =
+    ap Truncated (places_same start f.place_is g.place_is
     (prefix_once (zeros_of f.item) (zeros_of g.item) (drop (zeros_of f.item + 3) t) (drop (zeros_of g.item + 3) t) (sym (cut_prefixed chosen start t p f) ∙ cut_prefixed chosen start t q g)).zeros)
 
 -- what no item stands in front of
@@ -300,11 +300,11 @@ Stops chosen t = (a : Item) (x : List ℕ) → IsItem chosen a → item_bytes a 
 
 end_stops : (chosen : Option ℕ) (t : List ℕ) → IsEnd t → Stops chosen t
 unfolding Stops
-end_stops chosen t end = λ a x p e. item_no_end chosen a x t p e end
+end_stops chosen t end = λ a x p e. item_no_end chosen a x p e end
 
 fault_stops : (chosen : Option ℕ) (start : ℕ) (t : List ℕ) (fault : SystemFault) → IsFault chosen start t fault → Stops chosen t
 unfolding Stops
-fault_stops chosen start t fault f = λ a x p e. fault_no_item chosen start a x t fault p e f
+fault_stops chosen start t fault f = λ a x p e. fault_no_item chosen start a x fault p e f
 
 -- one list of items
 record AreSame (items items' : List Item) (t t' : List ℕ) : Type 0 where
@@ -318,7 +318,7 @@ items_once chosen [] [] t t' p q e s s' = record { items_are = refl; tail_is = e
 items_once chosen [] (y ∷ ys) t t' p q e s s' = absurd (s y (bytes_of ys ++ t') q.0 (sym (append_assoc (item_bytes y) (bytes_of ys) t') ∙ sym e))
 items_once chosen (x ∷ xs) [] t t' p q e s s' = absurd (s' x (bytes_of xs ++ t) p.0 (sym (append_assoc (item_bytes x) (bytes_of xs) t) ∙ e))
 items_once chosen (x ∷ xs) (y ∷ ys) t t' p q e s s' =
-    let same = item_once chosen x y (bytes_of xs ++ t) (bytes_of ys ++ t') p.0 q.0
+    let same = item_once chosen p.0 q.0
     (sym (append_assoc (item_bytes x) (bytes_of xs) t) ∙ e ∙ append_assoc (item_bytes y) (bytes_of ys) t') in
     let next : chosen_next chosen y ≡ chosen_next chosen x = ap (chosen_next chosen) (sym same.item) in
     let more = items_once (chosen_next chosen x) xs ys t t' p.1 (subst (λ c. AreItems c ys) next q.1) same.rest s (subst (λ c. Stops (chosen_after c ys) t') next s') in
@@ -345,6 +345,6 @@ pub refused_once : (bytes : List ℕ) (one other : SystemFault) → IsRefused by
 refused_once bytes one other a b =
     let same = items_once None a.items b.items a.tail b.tail a.are b.are (sym a.bytes_are ∙ b.bytes_are)
     (fault_stops (chosen_after None a.items) (length (bytes_of a.items)) a.tail one a.fault_is) (fault_stops (chosen_after None b.items) (length (bytes_of b.items)) b.tail other b.fault_is) in
-    fault_once (chosen_after None b.items) (length (bytes_of b.items)) b.tail one other
+    fault_once (chosen_after None b.items) (length (bytes_of b.items)) b.tail
     (subst (λ (zs : List Item). IsFault (chosen_after None zs) (length (bytes_of zs)) b.tail one) same.items_are
     (subst (λ (l : List ℕ). IsFault (chosen_after None a.items) (length (bytes_of a.items)) l one) same.tail_is a.fault_is)) b.fault_is

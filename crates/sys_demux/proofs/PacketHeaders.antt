@@ -68,19 +68,19 @@ size_starts size stamp video (inl none) stamp_is =
 size_starts [] stamp video (inr h) stamp_is = absurd (omega (arith, h.0))
 size_starts (b ∷ rest) stamp video (inr h) stamp_is = (b, (rest ++ stamp ++ video, (refl, omega (arith, h.1))))
 
-stuffing_read : (most count : ℕ) (bytes : List ℕ) (video : List ℕ) (first : ℕ) (rest : List ℕ) → count ≤ most → bytes ≡ first ∷ rest → first < 128 → from_size bytes ≡ Some video →
+stuffing_read : {bytes video : List ℕ} {first : ℕ} {rest : List ℕ} (most count : ℕ) → count ≤ most → bytes ≡ first ∷ rest → first < 128 → from_size bytes ≡ Some video →
     from_stuffing most (replicate count 255 ++ bytes) ≡ Some video
-stuffing_read most zero bytes video first rest few is low read =
+stuffing_read {first} {rest} most zero few is low read =
     ap (from_stuffing most) is ∙ stuffing_other most first rest (ne_eqb first 255 (λ e. omega (arith, e, low))) ∙ ap from_size (sym is) ∙ read
-stuffing_read zero (suc count) bytes video first rest few is low read = absurd (omega (arith, few))
-stuffing_read (suc most) (suc count) bytes video first rest few is low read = stuffing_read most count bytes video first rest (omega (arith, few)) is low read
+stuffing_read {first} zero (suc count) few is low read = absurd (omega (arith, few))
+stuffing_read {first} (suc most) (suc count) few is low read = stuffing_read most count (omega (arith, few)) is low read
 
 header_read : (content video : List ℕ) → HasHeader content video → video_in content ≡ Some video
 unfolding video_in
 header_read content video h =
     let starts = size_starts h.size h.stamp video h.size_is h.stamp_is in
     ap (from_stuffing 16) h.is
-    ∙ stuffing_read 16 h.stuffing (h.size ++ h.stamp ++ video) video starts.0 starts.1.0 h.few starts.1.1.0 starts.1.1.1 (size_read h.size h.stamp video h.size_is h.stamp_is)
+    ∙ stuffing_read 16 h.stuffing h.few starts.1.1.0 starts.1.1.1 (size_read h.size h.stamp video h.size_is h.stamp_is)
 
 -- ---- a header that is read stands there
 

@@ -25,9 +25,9 @@ pub length-prefixed : (zeros : ℕ) (rest : List ℕ) → length (with_prefix ze
 length-prefixed zeros rest = length-append (replicate zeros 0) (0 ∷ 0 ∷ 1 ∷ rest) ∙ omega (arith, length-replicate {A = ℕ} zeros 0)
 
 -- bytes 00
-pub zeros_more : (chosen : Option ℕ) (zeros byte least : ℕ) (now : Option ℕ) (part kept : List ℕ) → IsAtZeros chosen zeros now part kept → byte ≡ 0 → least ≡ min zeros 1 →
+pub zeros_more : {chosen : Option ℕ} {zeros byte least : ℕ} {now : Option ℕ} {part kept : List ℕ} → IsAtZeros chosen zeros now part kept → byte ≡ 0 → least ≡ min zeros 1 →
     IsAtZeros chosen (least + 1) now (part ++ byte ∷ []) kept
-zeros_more chosen _ byte least now part kept h zero_is least_is = record {
+zeros_more {byte} {kept} h zero_is least_is = record {
   count = h.count + 1;
   are = ap (λ (l : List ℕ). l ++ byte ∷ []) h.are ∙ ap (λ b. replicate h.count 0 ++ b ∷ []) zero_is ∙ replicate_more h.count 0;
   zeros_are = omega (arith, least_is, h.zeros_are);
@@ -36,9 +36,9 @@ zeros_more chosen _ byte least now part kept h zero_is least_is = record {
 }
 
 -- a prefix after two of them or more
-pub zeros_prefix : (chosen : Option ℕ) (zeros byte at start : ℕ) (now : Option ℕ) (part kept : List ℕ) → IsAtZeros chosen zeros now part kept → byte ≡ 1 → 2 ≤ zeros → at ≡ start + length part →
+pub zeros_prefix : {chosen : Option ℕ} {zeros byte at start : ℕ} {now : Option ℕ} {part kept : List ℕ} → IsAtZeros chosen zeros now part kept → byte ≡ 1 → 2 ≤ zeros → at ≡ start + length part →
     IsAtPrefix start (at - 2) [] now chosen (part ++ byte ∷ []) kept
-zeros_prefix chosen _ byte at start now part kept h one many at_is =
+zeros_prefix {byte} {at} {start} {part} {kept} h one many at_is =
     let two : 2 ≤ h.count = omega (arith, many, h.zeros_are) in
     let size : length part ≡ h.count = ap length h.are ∙ length-replicate {A = ℕ} h.count 0 in
     let split : replicate {A = ℕ} h.count 0 ≡ replicate (h.count - 2) 0 ++ (0 ∷ 0 ∷ []) =
@@ -52,9 +52,9 @@ zeros_prefix chosen _ byte at start now part kept h one many at_is =
     }
 
 -- a pack header
-pub pack_begins : (chosen : Option ℕ) (start place mark : ℕ) (now : Option ℕ) (part kept : List ℕ) → IsAtPrefix start place (186 ∷ []) now chosen part kept → mark / 16 ≡ 2 →
+pub pack_begins : {chosen : Option ℕ} {start place : ℕ} {now : Option ℕ} {part kept : List ℕ} (mark : ℕ) → IsAtPrefix start place (186 ∷ []) now chosen part kept → mark / 16 ≡ 2 →
     IsAtRest chosen start place now (part ++ mark ∷ []) kept 7 (λ rest. [])
-pack_begins chosen start place mark now part kept h is =
+pack_begins {start} {place} {part} {kept} mark h is =
     let grown : part ++ mark ∷ [] ≡ with_prefix h.zeros (186 ∷ mark ∷ []) = ap (λ (l : List ℕ). l ++ mark ∷ []) h.are ∙ prefixed_more h.zeros (186 ∷ []) (mark ∷ []) in
     record {
       zeros = h.zeros;
@@ -72,9 +72,10 @@ pack_begins chosen start place mark now part kept h is =
     }
 
 -- a whole packet of another kind
-other_done : (before : Option ℕ) (kind high low : ℕ) (start place : ℕ) (now : Option ℕ) (part kept rest : List ℕ) → (h : IsAtPrefix start place (kind ∷ high ∷ []) now (choose before kind) part kept) → 187 ≤ kind →
+other_done : {before : Option ℕ} {kind high start place : ℕ} {now : Option ℕ} {part kept : List ℕ} (low : ℕ)
+    (rest : List ℕ) → (h : IsAtPrefix start place (kind ∷ high ∷ []) now (choose before kind) part kept) → 187 ≤ kind →
     is_chosen (choose before kind) kind ≡ false → length rest ≡ high * 256 + low → IsDone before h.zeros now ((part ++ low ∷ []) ++ rest) kept
-other_done before kind high low start place now part kept rest h kind_is other long = record {
+other_done {before} {kind} {high} {start} {place} {kept} low rest h kind_is other long = record {
   item = Packet h.zeros kind high low rest;
   is_item = record { kind_is = kind_is; length_is = long; header = λ chosen. absurd (both_ways (is_chosen (choose before kind) kind) other chosen) };
   bytes_are = sym (ap (λ (l : List ℕ). (l ++ low ∷ []) ++ rest) h.are ∙ ap (λ (l : List ℕ). l ++ rest) (prefixed_more h.zeros (kind ∷ high ∷ []) (low ∷ [])) ∙ prefixed_more h.zeros (kind ∷ high ∷ low ∷ []) rest);
@@ -83,16 +84,17 @@ other_done before kind high low start place now part kept rest h kind_is other l
   video_is = cond-false (is_chosen (choose before kind) kind) (unwrap_or (video_in rest) []) [] other ∙ sym h.none;
 }
 
-length_more : (part rest : List ℕ) (zeros kind high low : ℕ) → part ≡ with_prefix zeros (kind ∷ high ∷ []) → zeros + 3 ≤ length (part ++ low ∷ [])
-length_more part rest zeros kind high low are = omega (arith, ap length are, length-prefixed zeros (kind ∷ high ∷ []), length-append part (low ∷ []))
+length_more : {part : List ℕ} (rest : List ℕ) (zeros kind high low : ℕ) → part ≡ with_prefix zeros (kind ∷ high ∷ []) → zeros + 3 ≤ length (part ++ low ∷ [])
+length_more {part} rest zeros kind high low are = omega (arith, ap length are, length-prefixed zeros (kind ∷ high ∷ []), length-append part (low ∷ []))
 
-pub length_passed : (before : Option ℕ) (kind high low total : ℕ) (start place : ℕ) (now : Option ℕ) (part kept : List ℕ) → IsAtPrefix start place (kind ∷ high ∷ []) now (choose before kind) part kept → 187 ≤ kind →
+pub length_passed : {before : Option ℕ} {kind high total start place : ℕ} {now : Option ℕ} {part kept : List ℕ}
+    (low : ℕ) → IsAtPrefix start place (kind ∷ high ∷ []) now (choose before kind) part kept → 187 ≤ kind →
     is_chosen (choose before kind) kind ≡ false → total ≡ high * 256 + low → LeadsTo before start place now (part ++ low ∷ []) kept (cond (total == 0) (Zeros 0) (Pass total))
-length_passed before kind high low total start place now part kept h kind_is other total_is =
+length_passed {before} {kind} {high} {total} {start} {place} {now} {part} {kept} low h kind_is other total_is =
     elim (cases_eq total 0) [
       | inl none ↦ (
           let empty : part ++ low ∷ [] ≡ (part ++ low ∷ []) ++ [] = sym (append-nil (part ++ low ∷ [])) in
-          let done = other_done before kind high low start place now part kept [] h kind_is other (omega (arith, none, total_is)) in
+          let done = other_done low [] h kind_is other (omega (arith, none, total_is)) in
           inr (
             h.zeros,
             (
@@ -104,10 +106,10 @@ length_passed before kind high low total start place now part kept h kind_is oth
       | inr some ↦ (
           let at_rest : IsAtRest before start place now (part ++ low ∷ []) kept total (λ rest. []) = record {
             zeros = h.zeros;
-            begun = length_more part [] h.zeros kind high low h.are;
+            begun = length_more [] h.zeros kind high low h.are;
             some = omega (arith, some);
             ends = λ rest long. subst (λ (l : List ℕ). IsDone before h.zeros now ((part ++ low ∷ []) ++ rest) l) (sym (append-nil kept))
-                (other_done before kind high low start place now part kept rest h kind_is other (long ∙ total_is));
+                (other_done low rest h kind_is other (long ∙ total_is));
             place_is = h.place_is;
           } in
           inl (subst (λ s. IsPart before start place now (part ++ low ∷ []) kept s) (sym (cond-false (total == 0) (Zeros 0) (Pass total) (ne_eqb total 0 some))) at_rest)
@@ -157,13 +159,14 @@ length_header before kind high low total start place now part kept h kind_is cho
     })
 
 -- one byte more of a content
-front_more : (zeros kind high low byte : ℕ) (part front : List ℕ) → part ≡ with_prefix zeros (kind ∷ high ∷ low ∷ front) → part ++ byte ∷ [] ≡ with_prefix zeros (kind ∷ high ∷ low ∷ (front ++ byte ∷ []))
-front_more zeros kind high low byte part front are = ap (λ (l : List ℕ). l ++ byte ∷ []) are ∙ prefixed_more zeros (kind ∷ high ∷ low ∷ front) (byte ∷ [])
+front_more : {part : List ℕ} (zeros kind high low byte : ℕ) (front : List ℕ) → part ≡ with_prefix zeros (kind ∷ high ∷ low ∷ front) → part ++ byte ∷ [] ≡ with_prefix zeros (kind ∷ high ∷ low ∷ (front ++ byte ∷ []))
+front_more zeros kind high low byte front are = ap (λ (l : List ℕ). l ++ byte ∷ []) are ∙ prefixed_more zeros (kind ∷ high ∷ low ∷ front) (byte ∷ [])
 
 -- a byte that no content has there
-pub header_bad : (chosen : Option ℕ) (start place byte left : ℕ) (now : Option ℕ) (part kept : List ℕ) (header : Header) → IsAtHeader chosen start place now part kept header (left + 1) →
+pub header_bad : {chosen : Option ℕ} {start place left : ℕ} {now : Option ℕ} {part kept : List ℕ} {header : Header}
+    (byte : ℕ) → IsAtHeader chosen start place now part kept header (left + 1) →
     ((rest : List ℕ) → length rest ≡ left → video_from header (byte ∷ rest) ≡ None) → LeadsTo chosen start place now (part ++ byte ∷ []) kept (Failed (BadPacket place))
-header_bad chosen start place byte left now part kept header h none =
+header_bad {chosen} {start} {place} {left} {part} {kept} {header} byte h none =
     let size : length (h.front ++ byte ∷ []) ≡ length h.front + 1 = length-append h.front (byte ∷ []) in
     let bad : IsBadPacket chosen start (part ++ byte ∷ []) place = record {
       zeros = h.zeros;
@@ -172,7 +175,7 @@ header_bad chosen start place byte left now part kept header h none =
       low = h.low;
       front = h.front ++ byte ∷ [];
       rest = [];
-      is = front_more h.zeros h.kind h.high h.low byte part h.front h.are ∙ ap (λ (l : List ℕ). with_prefix h.zeros (h.kind ∷ h.high ∷ h.low ∷ l)) (sym (append-nil (h.front ++ byte ∷ [])));
+      is = front_more h.zeros h.kind h.high h.low byte h.front h.are ∙ ap (λ (l : List ℕ). with_prefix h.zeros (h.kind ∷ h.high ∷ h.low ∷ l)) (sym (append-nil (h.front ++ byte ∷ [])));
       kind_is = h.kind_is;
       chosen_is = h.chosen_is;
       within = omega (arith, size, h.length_is);
@@ -184,9 +187,10 @@ header_bad chosen start place byte left now part kept header h none =
     inl (bad, h.none, tt)
 
 -- a whole packet of the chosen kind
-chosen_done : (chosen : Option ℕ) (start place byte left : ℕ) (now : Option ℕ) (part kept rest video : List ℕ) (header : Header) → (h : IsAtHeader chosen start place now part kept header (left + 1)) →
+chosen_done : {chosen : Option ℕ} {start place left : ℕ} {now : Option ℕ} {part kept video : List ℕ}
+    {header : Header} (byte : ℕ) (rest : List ℕ) → (h : IsAtHeader chosen start place now part kept header (left + 1)) →
     length rest ≡ left → video_from header (byte ∷ rest) ≡ Some video → IsDone chosen h.zeros now ((part ++ byte ∷ []) ++ rest) (kept ++ video)
-chosen_done chosen start place byte left now part kept rest video header h long is =
+chosen_done {chosen} {start} {place} {left} {kept} {video} {header} byte rest h long is =
     let content = (h.front ++ byte ∷ []) ++ rest in
     let found : video_in content ≡ Some video = ap video_in (append_assoc h.front (byte ∷ []) rest) ∙ h.video_is (byte ∷ rest) (omega (arith, long)) ∙ is in
     let P : Option (List ℕ) → Type 0 = IsSome in
@@ -197,7 +201,7 @@ chosen_done chosen start place byte left now part kept rest video header h long 
         length_is = omega (arith, length-append (h.front ++ byte ∷ []) rest, length-append h.front (byte ∷ []), long, h.length_is);
         header = λ _. subst P (sym found) refl;
       };
-      bytes_are = sym (ap (λ (l : List ℕ). l ++ rest) (front_more h.zeros h.kind h.high h.low byte part h.front h.are) ∙ prefixed_more h.zeros (h.kind ∷ h.high ∷ h.low ∷ (h.front ++ byte ∷ [])) rest);
+      bytes_are = sym (ap (λ (l : List ℕ). l ++ rest) (front_more h.zeros h.kind h.high h.low byte h.front h.are) ∙ prefixed_more h.zeros (h.kind ∷ h.high ∷ h.low ∷ (h.front ++ byte ∷ [])) rest);
       zeros_are = refl;
       next_is = sym h.now_is;
       video_is = cond-true (is_chosen (choose chosen h.kind) h.kind) (unwrap_or (video_in content) []) [] h.chosen_is ∙ ap (λ o. unwrap_or o []) found ∙ sym (ap (λ (l : List ℕ). l ++ video) h.none);
@@ -207,9 +211,10 @@ after_none : (rest : List ℕ) → after_bytes 0 rest ≡ Some rest
 after_none rest = cond-true (nat_le 0 (length rest)) (Some (drop 0 rest)) None (grind (arith, nat_tests))
 
 -- a byte after which the header goes on
-goes_on : (chosen : Option ℕ) (start place byte left : ℕ) (now : Option ℕ) (part kept : List ℕ) (header next : Header) → IsAtHeader chosen start place now part kept header (left + 1) →
+goes_on : {chosen : Option ℕ} {start place left : ℕ} {now : Option ℕ} {part kept : List ℕ} {header next : Header}
+    (byte : ℕ) → IsAtHeader chosen start place now part kept header (left + 1) →
     ((rest : List ℕ) → length rest ≡ left → video_from header (byte ∷ rest) ≡ video_from next rest) → IsAtHeader chosen start place now (part ++ byte ∷ []) kept next left
-goes_on chosen start place byte left now part kept header next h same =
+goes_on {start} {place} {left} {kept} {header} {next} byte h same =
     let size : length (h.front ++ byte ∷ []) ≡ length h.front + 1 = length-append h.front (byte ∷ []) in
     record {
       zeros = h.zeros;
@@ -217,7 +222,7 @@ goes_on chosen start place byte left now part kept header next h same =
       high = h.high;
       low = h.low;
       front = h.front ++ byte ∷ [];
-      are = front_more h.zeros h.kind h.high h.low byte part h.front h.are;
+      are = front_more h.zeros h.kind h.high h.low byte h.front h.are;
       kind_is = h.kind_is;
       chosen_is = h.chosen_is;
       length_is = omega (arith, size, h.length_is);
@@ -228,12 +233,13 @@ goes_on chosen start place byte left now part kept header next h same =
     }
 
 -- a byte after which the video begins
-video_begins : (chosen : Option ℕ) (start place byte left : ℕ) (now : Option ℕ) (part kept : List ℕ) (header : Header) → IsAtHeader chosen start place now part kept header (left + 1) →
+video_begins : {chosen : Option ℕ} {start place left : ℕ} {now : Option ℕ} {part kept : List ℕ} {header : Header}
+    (byte : ℕ) → IsAtHeader chosen start place now part kept header (left + 1) →
     ((rest : List ℕ) → length rest ≡ left → video_from header (byte ∷ rest) ≡ Some rest) → LeadsTo chosen start place now (part ++ byte ∷ []) kept (cond (left == 0) (Zeros 0) (Video left))
-video_begins chosen start place byte left now part kept header h same =
+video_begins {chosen} {start} {place} {left} {now} {part} {kept} {header} byte h same =
     elim (cases_eq left 0) [
       | inl none ↦ (
-          let done = chosen_done chosen start place byte left now part kept [] [] header h (sym none) (same [] (sym none)) in
+          let done = chosen_done byte [] h (sym none) (same [] (sym none)) in
           inr (
             h.zeros,
             (
@@ -248,33 +254,35 @@ video_begins chosen start place byte left now part kept header h same =
             zeros = h.zeros;
             begun = omega (arith, ap length h.are, length-prefixed h.zeros (h.kind ∷ h.high ∷ h.low ∷ h.front), length-append part (byte ∷ []));
             some = omega (arith, some);
-            ends = λ rest long. chosen_done chosen start place byte left now part kept rest rest header h long (same rest long);
+            ends = λ rest long. chosen_done byte rest h long (same rest long);
             place_is = h.place_is;
           } in
           inl (subst (λ s. IsPart chosen start place now (part ++ byte ∷ []) kept s) (sym (cond-false (left == 0) (Zeros 0) (Video left) (ne_eqb left 0 some))) at_rest)
           )
     ]
 
-pub header_leads : (chosen : Option ℕ) (start place byte left : ℕ) (now : Option ℕ) (part kept : List ℕ) (header next : Header) → IsAtHeader chosen start place now part kept header (left + 1) →
+pub header_leads : {chosen : Option ℕ} {start place left : ℕ} {now : Option ℕ} {part kept : List ℕ} {header : Header}
+    (byte : ℕ) (next : Header) → IsAtHeader chosen start place now part kept header (left + 1) →
     ((rest : List ℕ) → length rest ≡ left → video_from header (byte ∷ rest) ≡ video_from next rest) → LeadsTo chosen start place now (part ++ byte ∷ []) kept (place_in next left)
-header_leads chosen start place byte left now part kept header (Stuffing count) h same = inl (goes_on chosen start place byte left now part kept header (Stuffing count) h same)
-header_leads chosen start place byte left now part kept header Second h same = inl (goes_on chosen start place byte left now part kept header Second h same)
-header_leads chosen start place byte left now part kept header Stamp h same = inl (goes_on chosen start place byte left now part kept header Stamp h same)
-header_leads chosen start place byte left now part kept header (Rest count) h same =
+header_leads {start} {place} {left} {kept} {header} byte (Stuffing count) h same = inl (goes_on byte h same)
+header_leads {start} {place} {left} {kept} {header} byte Second h same = inl (goes_on byte h same)
+header_leads {start} {place} {left} {kept} {header} byte Stamp h same = inl (goes_on byte h same)
+header_leads {chosen} {start} {place} {left} {now} {part} {kept} {header} byte (Rest count) h same =
     elim (cases_eq count 0) [
       | inl whole ↦ (
-          let at_video = video_begins chosen start place byte left now part kept header h (λ rest long. same rest long ∙ ap (λ n. after_bytes n rest) whole ∙ after_none rest) in
+          let at_video = video_begins byte h (λ rest long. same rest long ∙ ap (λ n. after_bytes n rest) whole ∙ after_none rest) in
           subst (λ s. LeadsTo chosen start place now (part ++ byte ∷ []) kept s) (sym (cond-true (count == 0) (cond (left == 0) (Zeros 0) (Video left)) (InHeader (Rest count) left) (eq-eqb count 0 whole))) at_video
           )
       | inr some ↦
           subst (λ s. LeadsTo chosen start place now (part ++ byte ∷ []) kept s) (sym (cond-false (count == 0) (cond (left == 0) (Zeros 0) (Video left)) (InHeader (Rest count) left) (ne_eqb count 0 some)))
-          (inl (goes_on chosen start place byte left now part kept header (Rest count) h same))
+          (inl (goes_on byte h same))
     ]
 
 -- bytes of an item that are passed over or video
-pub rest_leads : (chosen : Option ℕ) (start place left count : ℕ) (now : Option ℕ) (part kept taken : List ℕ) → IsAtRest chosen start place now part kept left (λ rest. []) → length taken ≡ count → count ≤ left →
+pub rest_leads : {chosen : Option ℕ} {start place left count : ℕ} {now : Option ℕ} {part kept : List ℕ}
+    (taken : List ℕ) → IsAtRest chosen start place now part kept left (λ rest. []) → length taken ≡ count → count ≤ left →
     LeadsTo chosen start place now (part ++ taken) kept (cond (left - count == 0) (Zeros 0) (Pass (left - count)))
-rest_leads chosen start place left count now part kept taken h size within =
+rest_leads {chosen} {start} {place} {left} {count} {now} {part} {kept} taken h size within =
     elim (cases_eq (left - count) 0) [
       | inl none ↦ (
           let done = h.ends taken (omega (arith, size, within, none)) in
@@ -292,9 +300,10 @@ rest_leads chosen start place left count now part kept taken h size within =
           )
     ]
 
-pub video_leads : (chosen : Option ℕ) (start place left count : ℕ) (now : Option ℕ) (part kept taken : List ℕ) → IsAtRest chosen start place now part kept left (λ rest. rest) → length taken ≡ count → count ≤ left →
+pub video_leads : {chosen : Option ℕ} {start place left count : ℕ} {now : Option ℕ} {part kept : List ℕ}
+    (taken : List ℕ) → IsAtRest chosen start place now part kept left (λ rest. rest) → length taken ≡ count → count ≤ left →
     LeadsTo chosen start place now (part ++ taken) (kept ++ taken) (cond (left - count == 0) (Zeros 0) (Video (left - count)))
-video_leads chosen start place left count now part kept taken h size within =
+video_leads {chosen} {start} {place} {left} {count} {now} {part} {kept} taken h size within =
     elim (cases_eq (left - count) 0) [
       | inl none ↦ inr (h.zeros, (h.ends taken (omega (arith, size, within, none)), cond-true (left - count == 0) (Zeros 0) (Video (left - count)) (eq-eqb (left - count) 0 none)))
       | inr some ↦ (
@@ -312,8 +321,8 @@ video_leads chosen start place left count now part kept taken h size within =
     ]
 
 -- the first byte of a packet's length
-pub high_more : (start place kind byte : ℕ) (now wanted : Option ℕ) (part kept : List ℕ) → IsAtPrefix start place (kind ∷ []) now wanted part kept → IsAtPrefix start place (kind ∷ byte ∷ []) now wanted (part ++ byte ∷ []) kept
-high_more start place kind byte now wanted part kept h = record {
+pub high_more : {start place kind byte : ℕ} {now wanted : Option ℕ} {part kept : List ℕ} → IsAtPrefix start place (kind ∷ []) now wanted part kept → IsAtPrefix start place (kind ∷ byte ∷ []) now wanted (part ++ byte ∷ []) kept
+high_more {start} {place} {kind} {byte} {kept} h = record {
   zeros = h.zeros;
   are = ap (λ (l : List ℕ). l ++ byte ∷ []) h.are ∙ prefixed_more h.zeros (kind ∷ []) (byte ∷ []);
   place_is = h.place_is;

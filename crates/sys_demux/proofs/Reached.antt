@@ -46,9 +46,9 @@ bytes_more : (items : List Item) (item : Item) → bytes_of (items ++ item ∷ [
 bytes_more items item = flat_map-append item_bytes items (item ∷ []) ∙ ap (λ (l : List ℕ). bytes_of items ++ l) (append-nil (item_bytes item))
 
 -- a part that leads to a state, after items
-pub reached_leads : (items : List Item) (place : ℕ) (now : Option ℕ) (part kept : List ℕ) (state : Place) → AreItems None items →
+pub reached_leads : {place : ℕ} {now : Option ℕ} {part kept : List ℕ} {state : Place} (items : List Item) → AreItems None items →
     LeadsTo (chosen_after None items) (length (bytes_of items)) place now part kept state → IsReached state place now (bytes_of items ++ part) (video_of None items ++ kept)
-reached_leads items place now part kept state are (inl is) = record {
+reached_leads {place} {part} {kept} items are (inl is) = record {
   items = items;
   part = part;
   kept = kept;
@@ -57,7 +57,7 @@ reached_leads items place now part kept state are (inl is) = record {
   video_is = refl;
   is_part = is;
 }
-reached_leads items place now part kept state are (inr done) =
+reached_leads {place} {now} {part} {kept} items are (inr done) =
     let d = done.1.0 in
     let all = items ++ d.item ∷ [] in
     let at_zeros : IsAtZeros (chosen_after None all) 0 now [] [] = record {
@@ -78,28 +78,28 @@ reached_leads items place now part kept state are (inr done) =
     }
 
 -- bytes more
-pub step : (state next : Place) (place place' : ℕ) (now now' : Option ℕ) (seen video bytes more : List ℕ) → IsReached state place now seen video →
+pub step : {state next : Place} {place place' : ℕ} {now now' : Option ℕ} {seen video : List ℕ} (bytes more : List ℕ) → IsReached state place now seen video →
     ((chosen : Option ℕ) (start : ℕ) (part kept : List ℕ) → start + length part ≡ length seen → IsPart chosen start place now part kept state → LeadsTo chosen start place' now' (part ++ bytes) (kept ++ more) next) →
     IsReached next place' now' (seen ++ bytes) (video ++ more)
-step state next place place' now now' seen video bytes more r leads =
+step {next} {place} {place'} {now'} {seen} {video} bytes more r leads =
     let size : length (bytes_of r.items) + length r.part ≡ length seen = sym (ap length r.seen_is ∙ length-append (bytes_of r.items) r.part) in
-    let after = reached_leads r.items place' now' (r.part ++ bytes) (r.kept ++ more) next r.are
+    let after = reached_leads r.items r.are
     (leads (chosen_after None r.items) (length (bytes_of r.items)) r.part r.kept size r.is_part) in
     let seen_is : bytes_of r.items ++ (r.part ++ bytes) ≡ seen ++ bytes = sym (append_assoc (bytes_of r.items) r.part bytes) ∙ ap (λ (l : List ℕ). l ++ bytes) (sym r.seen_is) in
     let video_is : video_of None r.items ++ (r.kept ++ more) ≡ video ++ more = sym (append_assoc (video_of None r.items) r.kept more) ∙ ap (λ (l : List ℕ). l ++ more) (sym r.video_is) in
     subst (λ (s : List ℕ). IsReached next place' now' s (video ++ more)) seen_is (subst (λ (v : List ℕ). IsReached next place' now' (bytes_of r.items ++ (r.part ++ bytes)) v) video_is after)
 
 -- one byte more, and no video
-pub step_byte : (state next : Place) (place place' : ℕ) (now now' : Option ℕ) (seen video : List ℕ) (byte : ℕ) → IsReached state place now seen video →
+pub step_byte : {state next : Place} {place place' : ℕ} {now now' : Option ℕ} {seen video : List ℕ} (byte : ℕ) → IsReached state place now seen video →
     ((chosen : Option ℕ) (start : ℕ) (part kept : List ℕ) → start + length part ≡ length seen → IsPart chosen start place now part kept state → LeadsTo chosen start place' now' (part ++ byte ∷ []) kept next) →
     IsReached next place' now' (seen ++ byte ∷ []) video
-step_byte state next place place' now now' seen video byte r leads =
-    let more = step state next place place' now now' seen video (byte ∷ []) [] r (λ chosen start part kept size is.
+step_byte {next} {place} {place'} {now'} {seen} {video} byte r leads =
+    let more = step (byte ∷ []) [] r (λ chosen start part kept size is.
     subst (λ (k : List ℕ). LeadsTo chosen start place' now' (part ++ byte ∷ []) k next) (sym (append-nil kept)) (leads chosen start part kept size is)) in
     subst (λ (v : List ℕ). IsReached next place' now' (seen ++ byte ∷ []) v) (append-nil video) more
 
-pub moved : (state state' : Place) (place place' : ℕ) (now now' : Option ℕ) (seen video : List ℕ) → state ≡ state' → place ≡ place' → now ≡ now' → IsReached state' place' now' seen video → IsReached state place now seen video
-moved state state' place place' now now' seen video s p n r =
+pub moved : {state state' : Place} {place place' : ℕ} {now now' : Option ℕ} {seen video : List ℕ} → state ≡ state' → place ≡ place' → now ≡ now' → IsReached state' place' now' seen video → IsReached state place now seen video
+moved {state'} {place} {place'} {now} {seen} {video} s p n r =
     subst (λ x. IsReached x place now seen video) (sym s) (subst (λ x. IsReached state' x now seen video) (sym p) (subst (λ x. IsReached state' place' x seen video) (sym n) r))
 
 -- a fault that bytes show stays
@@ -149,8 +149,8 @@ fault_stays chosen start tail more (BadPacket place) shown f = record {
 }
 fault_stays chosen start tail more (Truncated place) shown f = absurd shown
 
-pub failed_refused : (fault : SystemFault) (place : ℕ) (now : Option ℕ) (seen video more : List ℕ) → IsReached (Failed fault) place now seen video → IsRefused (seen ++ more) fault
-failed_refused fault place now seen video more r = record {
+pub failed_refused : {fault : SystemFault} {place : ℕ} {now : Option ℕ} {seen video : List ℕ} (more : List ℕ) → IsReached (Failed fault) place now seen video → IsRefused (seen ++ more) fault
+failed_refused {fault} {place} {seen} more r = record {
   items = r.items;
   tail = r.part ++ more;
   are = r.are;
@@ -197,9 +197,9 @@ can_end (Rest count) left enough = record {
   is = cond-true (nat_le count (length (replicate left 0))) (Some (drop count (replicate left 0))) None (le-leb count (length (replicate left 0)) (omega (arith, length-replicate {A = ℕ} left 0, enough)));
 }
 
-header_cut : (chosen : Option ℕ) (start place : ℕ) (now : Option ℕ) (part kept : List ℕ) (header : Header) (left : ℕ) → IsAtHeader chosen start place now part kept header left →
+header_cut : {chosen : Option ℕ} {start place : ℕ} {now : Option ℕ} {part kept : List ℕ} {header : Header} {left : ℕ} → IsAtHeader chosen start place now part kept header left →
     0 < least_rest header → least_rest header ≤ left → LacksEnd chosen start part place
-header_cut chosen start place now part kept header left h some enough =
+header_cut {start} {place} {kept} {header} {left} h some enough =
     let end = can_end header left enough in
     let found : video_in (h.front ++ end.rest) ≡ Some end.video = h.video_is end.rest end.long ∙ end.is in
     record {
@@ -216,8 +216,9 @@ header_cut chosen start place now part kept header left h some enough =
       place_is = h.place_is;
     }
 
-rest_cut : (chosen : Option ℕ) (start place : ℕ) (now : Option ℕ) (part kept : List ℕ) (left : ℕ) (video : List ℕ → List ℕ) → IsAtRest chosen start place now part kept left video → LacksEnd chosen start part place
-rest_cut chosen start place now part kept left video h =
+rest_cut : {chosen : Option ℕ} {start place : ℕ} {now : Option ℕ} {part kept : List ℕ} {left : ℕ}
+    {video : List ℕ → List ℕ} → IsAtRest chosen start place now part kept left video → LacksEnd chosen start part place
+rest_cut {start} {place} {kept} {left} h =
     let size = length-replicate {A = ℕ} left 0 in
     let d = h.ends (replicate left 0) size in
     record {
@@ -233,9 +234,10 @@ rest_cut chosen start place now part kept left video h =
 pack_whole : IsPack (32 ∷ replicate 7 0)
 pack_whole = record { eight = refl; mark = refl }
 
-prefix_cut : (chosen : Option ℕ) (start place : ℕ) (now wanted : Option ℕ) (rest lacking part kept : List ℕ) (item : ℕ → Item) → IsAtPrefix start place rest now wanted part kept →
+prefix_cut : {chosen : Option ℕ} {start place : ℕ} {now wanted : Option ℕ} {rest part kept : List ℕ}
+    (lacking : List ℕ) (item : ℕ → Item) → IsAtPrefix start place rest now wanted part kept →
     ((zeros : ℕ) → IsItem chosen (item zeros)) → ((zeros : ℕ) → zeros_of (item zeros) ≡ zeros) → ((zeros : ℕ) → item_bytes (item zeros) ≡ with_prefix zeros (rest ++ lacking)) → 0 < length lacking → LacksEnd chosen start part place
-prefix_cut chosen start place now wanted rest lacking part kept item h is zeros_are bytes some = record {
+prefix_cut {start} {place} {rest} {kept} lacking item h is zeros_are bytes some = record {
   item = item h.zeros;
   lacking = lacking;
   is_item = is h.zeros;
@@ -254,58 +256,59 @@ packet_whole chosen kind high kind_is = record {
 }
 
 -- the stream ends inside an item
-inside_cut : (chosen : Option ℕ) (start place : ℕ) (now : Option ℕ) (part kept : List ℕ) (state : Place) (fault : SystemFault) → is_sound state ≡ true → IsPart chosen start place now part kept state →
+inside_cut : {fault : SystemFault} (chosen : Option ℕ) (start place : ℕ) (now : Option ℕ) (part kept : List ℕ)
+    (state : Place) → is_sound state ≡ true → IsPart chosen start place now part kept state →
     end_fault state place ≡ Some fault → IsFault chosen start part fault
-inside_cut chosen start place now part kept (Zeros zeros) fault sound is ends = absurd (none-some fault ends)
-inside_cut chosen start place now part kept Kind fault sound is ends =
+inside_cut {fault} chosen start place now part kept (Zeros zeros) sound is ends = absurd (none-some fault ends)
+inside_cut {fault} chosen start place now part kept Kind sound is ends =
     subst (λ f. IsFault chosen start part f) (same_Some (Truncated place) fault ends)
-    (prefix_cut chosen start place now chosen [] (186 ∷ 32 ∷ replicate 7 0) part kept (λ zeros. Pack zeros (32 ∷ replicate 7 0)) is (λ zeros. pack_whole) (λ zeros. refl) (λ zeros. refl) (omega arith))
-inside_cut chosen start place now part kept Mark fault sound is ends =
+    (prefix_cut (186 ∷ 32 ∷ replicate 7 0) (λ zeros. Pack zeros (32 ∷ replicate 7 0)) is (λ zeros. pack_whole) (λ zeros. refl) (λ zeros. refl) (omega arith))
+inside_cut {fault} chosen start place now part kept Mark sound is ends =
     subst (λ f. IsFault chosen start part f) (same_Some (Truncated place) fault ends)
-    (prefix_cut chosen start place now chosen (186 ∷ []) (32 ∷ replicate 7 0) part kept (λ zeros. Pack zeros (32 ∷ replicate 7 0)) is (λ zeros. pack_whole) (λ zeros. refl) (λ zeros. refl) (omega arith))
-inside_cut chosen start place now part kept (High kind) fault sound is ends =
+    (prefix_cut (32 ∷ replicate 7 0) (λ zeros. Pack zeros (32 ∷ replicate 7 0)) is (λ zeros. pack_whole) (λ zeros. refl) (λ zeros. refl) (omega arith))
+inside_cut {fault} chosen start place now part kept (High kind) sound is ends =
     subst (λ f. IsFault chosen start part f) (same_Some (Truncated place) fault ends)
-    (prefix_cut chosen start place now (choose chosen kind) (kind ∷ []) (0 ∷ 1 ∷ 15 ∷ replicate (0 * 256) 0) part kept (λ zeros. Packet zeros kind 0 1 (15 ∷ replicate (0 * 256) 0)) is.0 (λ zeros. packet_whole chosen kind 0 is.1)
+    (prefix_cut (0 ∷ 1 ∷ 15 ∷ replicate (0 * 256) 0) (λ zeros. Packet zeros kind 0 1 (15 ∷ replicate (0 * 256) 0)) is.0 (λ zeros. packet_whole chosen kind 0 is.1)
     (λ zeros. refl) (λ zeros. refl) (omega arith))
-inside_cut chosen start place now part kept (Low kind high) fault sound is ends =
+inside_cut {fault} chosen start place now part kept (Low kind high) sound is ends =
     subst (λ f. IsFault chosen start part f) (same_Some (Truncated place) fault ends)
-    (prefix_cut chosen start place now (choose chosen kind) (kind ∷ high ∷ []) (1 ∷ 15 ∷ replicate (high * 256) 0) part kept (λ zeros. Packet zeros kind high 1 (15 ∷ replicate (high * 256) 0)) is.0 (λ zeros. packet_whole chosen kind high is.1)
+    (prefix_cut (1 ∷ 15 ∷ replicate (high * 256) 0) (λ zeros. Packet zeros kind high 1 (15 ∷ replicate (high * 256) 0)) is.0 (λ zeros. packet_whole chosen kind high is.1)
     (λ zeros. refl) (λ zeros. refl) (omega arith))
-inside_cut chosen start place now part kept (InHeader header left) fault sound is ends =
+inside_cut {fault} chosen start place now part kept (InHeader header left) sound is ends =
     let enough = sound_header header left sound in
-    subst (λ f. IsFault chosen start part f) (same_Some (Truncated place) fault ends) (header_cut chosen start place now part kept header left is enough.0 enough.1)
-inside_cut chosen start place now part kept (Pass left) fault sound is ends =
-    subst (λ f. IsFault chosen start part f) (same_Some (Truncated place) fault ends) (rest_cut chosen start place now part kept left (λ rest. []) is)
-inside_cut chosen start place now part kept (Video left) fault sound is ends =
-    subst (λ f. IsFault chosen start part f) (same_Some (Truncated place) fault ends) (rest_cut chosen start place now part kept left (λ rest. rest) is)
-inside_cut chosen start place now part kept End fault sound is ends = absurd (none-some fault ends)
-inside_cut chosen start place now part kept (Failed other) fault sound is ends = subst (λ f. IsFault chosen start part f) (same_Some other fault ends) is.0
+    subst (λ f. IsFault chosen start part f) (same_Some (Truncated place) fault ends) (header_cut is enough.0 enough.1)
+inside_cut {fault} chosen start place now part kept (Pass left) sound is ends =
+    subst (λ f. IsFault chosen start part f) (same_Some (Truncated place) fault ends) (rest_cut is)
+inside_cut {fault} chosen start place now part kept (Video left) sound is ends =
+    subst (λ f. IsFault chosen start part f) (same_Some (Truncated place) fault ends) (rest_cut is)
+inside_cut {fault} chosen start place now part kept End sound is ends = absurd (none-some fault ends)
+inside_cut {fault} chosen start place now part kept (Failed other) sound is ends = subst (λ f. IsFault chosen start part f) (same_Some other fault ends) is.0
 
-pub ended_refused : (state : Place) (place : ℕ) (now : Option ℕ) (seen video : List ℕ) (fault : SystemFault) → is_sound state ≡ true → IsReached state place now seen video → end_fault state place ≡ Some fault → IsRefused seen fault
-ended_refused state place now seen video fault sound r ends = record {
+pub ended_refused : {state : Place} {place : ℕ} {now : Option ℕ} {seen video : List ℕ} {fault : SystemFault} → is_sound state ≡ true → IsReached state place now seen video → end_fault state place ≡ Some fault → IsRefused seen fault
+ended_refused {state} {place} {now} sound r ends = record {
   items = r.items;
   tail = r.part;
   are = r.are;
   bytes_are = r.seen_is;
-  fault_is = inside_cut (chosen_after None r.items) (length (bytes_of r.items)) place now r.part r.kept state fault sound r.is_part ends;
+  fault_is = inside_cut (chosen_after None r.items) (length (bytes_of r.items)) place now r.part r.kept state sound r.is_part ends;
 }
 
 -- the stream ends where it may
-at_end : (chosen : Option ℕ) (start place : ℕ) (now : Option ℕ) (part kept : List ℕ) (state : Place) → IsPart chosen start place now part kept state → end_fault state place ≡ None → IsEnd part × (kept ≡ [])
-at_end chosen start place now part kept (Zeros zeros) is ends = (inl (record { count = is.count; are = is.are }), is.none)
-at_end chosen start place now part kept Kind is ends = absurd (none-some (Truncated place) (sym ends))
-at_end chosen start place now part kept Mark is ends = absurd (none-some (Truncated place) (sym ends))
-at_end chosen start place now part kept (High kind) is ends = absurd (none-some (Truncated place) (sym ends))
-at_end chosen start place now part kept (Low kind high) is ends = absurd (none-some (Truncated place) (sym ends))
-at_end chosen start place now part kept (InHeader header left) is ends = absurd (none-some (Truncated place) (sym ends))
-at_end chosen start place now part kept (Pass left) is ends = absurd (none-some (Truncated place) (sym ends))
-at_end chosen start place now part kept (Video left) is ends = absurd (none-some (Truncated place) (sym ends))
-at_end chosen start place now part kept End is ends = (inr (record { zeros = is.zeros; rest = is.rest; is = is.are }), is.none)
-at_end chosen start place now part kept (Failed fault) is ends = absurd (none-some fault (sym ends))
+at_end : {part kept : List ℕ} (chosen : Option ℕ) (start place : ℕ) (now : Option ℕ) (state : Place) → IsPart chosen start place now part kept state → end_fault state place ≡ None → IsEnd part × (kept ≡ [])
+at_end {kept} chosen start place now (Zeros zeros) is ends = (inl (record { count = is.count; are = is.are }), is.none)
+at_end {kept} chosen start place now Kind is ends = absurd (none-some (Truncated place) (sym ends))
+at_end {kept} chosen start place now Mark is ends = absurd (none-some (Truncated place) (sym ends))
+at_end {kept} chosen start place now (High kind) is ends = absurd (none-some (Truncated place) (sym ends))
+at_end {kept} chosen start place now (Low kind high) is ends = absurd (none-some (Truncated place) (sym ends))
+at_end {kept} chosen start place now (InHeader header left) is ends = absurd (none-some (Truncated place) (sym ends))
+at_end {kept} chosen start place now (Pass left) is ends = absurd (none-some (Truncated place) (sym ends))
+at_end {kept} chosen start place now (Video left) is ends = absurd (none-some (Truncated place) (sym ends))
+at_end {kept} chosen start place now End is ends = (inr (record { zeros = is.zeros; rest = is.rest; is = is.are }), is.none)
+at_end {kept} chosen start place now (Failed fault) is ends = absurd (none-some fault (sym ends))
 
-pub ended_system : (state : Place) (place : ℕ) (now : Option ℕ) (seen video : List ℕ) → IsReached state place now seen video → end_fault state place ≡ None → IsSystem seen video
-ended_system state place now seen video r ends =
-    let end = at_end (chosen_after None r.items) (length (bytes_of r.items)) place now r.part r.kept state r.is_part ends in
+pub ended_system : {state : Place} {place : ℕ} {now : Option ℕ} {seen video : List ℕ} → IsReached state place now seen video → end_fault state place ≡ None → IsSystem seen video
+ended_system {state} {place} {now} r ends =
+    let end = at_end (chosen_after None r.items) (length (bytes_of r.items)) place now state r.is_part ends in
     record {
       items = r.items;
       tail = r.part;

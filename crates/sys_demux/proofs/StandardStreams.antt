@@ -159,9 +159,10 @@ video_item chosen front stream content video read = record {
   header = λ _. subst (λ (o : Option (List ℕ)). IsSome o) (sym read) refl;
 }
 
-video_read : (first : Option ℕ) (front stream stuffing : ℕ) (buffer : Option Buffer) (stamps : Stamps) (video : List ℕ) → Fits first → IsVideoPacket stream stuffing buffer stamps video →
+video_read : {first : Option ℕ} {front stream stuffing : ℕ} {buffer : Option Buffer} {stamps : Stamps}
+    {video : List ℕ} → Fits first → IsVideoPacket stream stuffing buffer stamps video →
     IsRead first (VideoPacket front stream stuffing buffer stamps video)
-video_read None front stream stuffing buffer stamps video fits is =
+video_read {first = None} {front} {stream} {stuffing} {buffer} {stamps} {video} fits is =
     let content = content_of stuffing buffer stamps video in
     let read = content_read stream stuffing buffer stamps video is in
     let kind = video_kind stream in
@@ -174,7 +175,7 @@ video_read None front stream stuffing buffer stamps video fits is =
           ∙ ap (λ o. unwrap_or o []) read;
       fits = is.stream_fits;
     }
-video_read (Some number) front stream stuffing buffer stamps video fits is =
+video_read {first = Some number} {front} {stream} {stuffing} {buffer} {stamps} {video} fits is =
     let content = content_of stuffing buffer stamps video in
     let read = content_read stream stuffing buffer stamps video is in
     let kind = video_kind stream in
@@ -194,7 +195,7 @@ video_read (Some number) front stream stuffing buffer stamps video fits is =
 
 pub element_read : (first : Option ℕ) (element : Element) → Fits first → IsElement element → IsRead first element
 element_read first (PackHeader front clock_reference mux_rate) fits is = pack_read first front clock_reference mux_rate fits is.0
-element_read first (VideoPacket front stream stuffing buffer stamps video) fits is = video_read first front stream stuffing buffer stamps video fits is
+element_read first (VideoPacket front stream stuffing buffer stamps video) fits is = video_read fits is
 element_read first (OtherPacket front kind content) fits is = other_read first front kind content fits is.0
 
 -- ---- all of them

@@ -27,13 +27,13 @@ record IsStripped (chosen : Option ℕ) (items items' : List Item) (l t : List �
   bytes : l ≡ bytes_of more ++ t
   video : video_of chosen items' ≡ video_of chosen items ++ video_of (chosen_after chosen items) more
 
-strip : (chosen : Option ℕ) (items items' : List Item) (l t : List ℕ) → AreItems chosen items → AreItems chosen items' → bytes_of items ++ l ≡ bytes_of items' ++ t → IsEnd t → IsStripped chosen items items' l t
-strip chosen [] items' l t p q e end = record { more = items'; are = q; bytes = e; video = refl }
-strip chosen (x ∷ xs) [] l t p q e end = absurd (item_no_end chosen x (bytes_of xs ++ l) t p.0 (sym (append_assoc (item_bytes x) (bytes_of xs) l) ∙ e) end)
-strip chosen (x ∷ xs) (y ∷ ys) l t p q e end =
-    let same = item_once chosen x y (bytes_of xs ++ l) (bytes_of ys ++ t) p.0 q.0 (sym (append_assoc (item_bytes x) (bytes_of xs) l) ∙ e ∙ append_assoc (item_bytes y) (bytes_of ys) t) in
+strip : {chosen : Option ℕ} {items items' : List Item} {l t : List ℕ} → AreItems chosen items → AreItems chosen items' → bytes_of items ++ l ≡ bytes_of items' ++ t → IsEnd t → IsStripped chosen items items' l t
+strip {items = []} {items'} {l} p q e end = record { more = items'; are = q; bytes = e; video = refl }
+strip {chosen} {items = x ∷ xs} {items' = []} {l} p q e end = absurd (item_no_end chosen x (bytes_of xs ++ l) p.0 (sym (append_assoc (item_bytes x) (bytes_of xs) l) ∙ e) end)
+strip {chosen} {items = x ∷ xs} {items' = y ∷ ys} {l} {t} p q e end =
+    let same = item_once chosen p.0 q.0 (sym (append_assoc (item_bytes x) (bytes_of xs) l) ∙ e ∙ append_assoc (item_bytes y) (bytes_of ys) t) in
     let next : chosen_next chosen y ≡ chosen_next chosen x = ap (chosen_next chosen) (sym same.item) in
-    let rest = strip (chosen_next chosen x) xs ys l t p.1 (subst (λ c. AreItems c ys) next q.1) same.rest end in
+    let rest = strip {chosen = chosen_next chosen x} {items = xs} {items' = ys} {l = l} {t = t} p.1 (subst (λ c. AreItems c ys) next q.1) same.rest end in
     record {
       more = rest.more;
       are = rest.are;
@@ -47,9 +47,10 @@ none_begins : (kept whole : List ℕ) → kept ≡ [] → Begins kept whole
 none_begins kept whole none = record { rest = whole; is = sym (ap (λ (l : List ℕ). l ++ whole) none) }
 
 -- an item of which some bytes are to come
-short_rest : (chosen : Option ℕ) (start place : ℕ) (now : Option ℕ) (part kept more t : List ℕ) (left : ℕ) (video : List ℕ → List ℕ) (items : List Item) → IsAtRest chosen start place now part kept left video →
+short_rest : {chosen : Option ℕ} {start place : ℕ} {now : Option ℕ} {part kept t : List ℕ} {left : ℕ}
+    {video : List ℕ → List ℕ} (more : List ℕ) (items : List Item) → IsAtRest chosen start place now part kept left video →
     length more < left → AreItems chosen items → part ++ more ≡ bytes_of items ++ t → IsEnd t → Begins kept (video_of chosen items)
-short_rest chosen start place now part kept more t left video [] h less are e end =
+short_rest {chosen} {start} {place} {part} {kept} {t} {left} more [] h less are e end =
     let pad : List ℕ = replicate (left - length more) 0 in
     let size : length pad ≡ left - length more = length-replicate {A = ℕ} (left - length more) 0 in
     let d = h.ends (more ++ pad) (omega (arith, length-append more pad, size, less)) in
@@ -63,59 +64,62 @@ short_rest chosen start place now part kept more t left video [] h less are e en
       place_is = h.place_is ∙ ap (λ n. start + n) (sym d.zeros_are);
     } in
     absurd (end_no_fault chosen start t (Truncated place) end (subst (λ (l : List ℕ). LacksEnd chosen start l place) e cut))
-short_rest chosen start place now part kept more t left video (y ∷ ys) h less are e end =
+short_rest {chosen} {start} {place} {part} {kept} {t} {left} more (y ∷ ys) h less are e end =
     let pad : List ℕ = replicate (left - length more) 0 in
     let size : length pad ≡ left - length more = length-replicate {A = ℕ} (left - length more) 0 in
     let d = h.ends (more ++ pad) (omega (arith, length-append more pad, size, less)) in
-    let same = item_once chosen d.item y [] ((bytes_of ys ++ t) ++ pad) d.is_item are.0
+    let same = item_once chosen d.is_item are.0
     (append-nil (item_bytes d.item) ∙ d.bytes_are ∙ sym (append_assoc part more pad) ∙ ap (λ (l : List ℕ). l ++ pad) (e ∙ append_assoc (item_bytes y) (bytes_of ys) t) ∙ append_assoc (item_bytes y) (bytes_of ys ++ t) pad) in
     absurd (omega (arith, ap length same.rest, length-append (bytes_of ys ++ t) pad, size, less))
 
-long_rest : (chosen : Option ℕ) (start place : ℕ) (now : Option ℕ) (part kept more t : List ℕ) (left : ℕ) (video : List ℕ → List ℕ) (items : List Item) → IsAtRest chosen start place now part kept left video →
+long_rest : {chosen : Option ℕ} {start place : ℕ} {now : Option ℕ} {part kept t : List ℕ} {left : ℕ}
+    {video : List ℕ → List ℕ} (more : List ℕ) (items : List Item) → IsAtRest chosen start place now part kept left video →
     left ≤ length more → AreItems chosen items → part ++ more ≡ bytes_of items ++ t → IsEnd t → Begins kept (video_of chosen items)
-long_rest chosen start place now part kept more t left video [] h enough are e end =
+long_rest {chosen} {start} {place} {part} {kept} {left} more [] h enough are e end =
     let d = h.ends (take left more) (length-take-le left more enough) in
     let whole : item_bytes d.item ++ drop left more ≡ part ++ more =
     ap (λ (l : List ℕ). l ++ drop left more) d.bytes_are ∙ append_assoc part (take left more) (drop left more) ∙ ap (λ (l : List ℕ). part ++ l) (take-append-drop left more) in
-    absurd (item_no_end chosen d.item (drop left more) t d.is_item (whole ∙ e) end)
-long_rest chosen start place now part kept more t left video (y ∷ ys) h enough are e end =
+    absurd (item_no_end chosen d.item (drop left more) d.is_item (whole ∙ e) end)
+long_rest {chosen} {start} {place} {part} {kept} {t} {left} {video} more (y ∷ ys) h enough are e end =
     let d = h.ends (take left more) (length-take-le left more enough) in
     let whole : item_bytes d.item ++ drop left more ≡ part ++ more =
     ap (λ (l : List ℕ). l ++ drop left more) d.bytes_are ∙ append_assoc part (take left more) (drop left more) ∙ ap (λ (l : List ℕ). part ++ l) (take-append-drop left more) in
-    let same = item_once chosen d.item y (drop left more) (bytes_of ys ++ t) d.is_item are.0 (whole ∙ e ∙ append_assoc (item_bytes y) (bytes_of ys) t) in
+    let same = item_once chosen d.is_item are.0 (whole ∙ e ∙ append_assoc (item_bytes y) (bytes_of ys) t) in
     record {
       rest = video (take left more) ++ video_of (chosen_next chosen y) ys;
       is = ap (λ (v : List ℕ). v ++ video_of (chosen_next chosen y) ys) (ap (item_video chosen) (sym same.item) ∙ d.video_is)
           ∙ append_assoc kept (video (take left more)) (video_of (chosen_next chosen y) ys);
     }
 
-rest_begins : (chosen : Option ℕ) (start place : ℕ) (now : Option ℕ) (part kept more t : List ℕ) (left : ℕ) (video : List ℕ → List ℕ) (items : List Item) → IsAtRest chosen start place now part kept left video →
+rest_begins : {chosen : Option ℕ} {start place : ℕ} {now : Option ℕ} {part kept t : List ℕ} {left : ℕ}
+    {video : List ℕ → List ℕ} (more : List ℕ) (items : List Item) → IsAtRest chosen start place now part kept left video →
     AreItems chosen items → part ++ more ≡ bytes_of items ++ t → IsEnd t → Begins kept (video_of chosen items)
-rest_begins chosen start place now part kept more t left video items h are e end =
+rest_begins {start} {place} {kept} {left} more items h are e end =
     elim (cases_lt (length more) left) [
-      | inl less ↦ short_rest chosen start place now part kept more t left video items h less are e end
-      | inr enough ↦ long_rest chosen start place now part kept more t left video items h enough are e end
+      | inl less ↦ short_rest more items h less are e end
+      | inr enough ↦ long_rest more items h enough are e end
     ]
 
-part_begins : (chosen : Option ℕ) (start place : ℕ) (now : Option ℕ) (part kept more t : List ℕ) (state : Place) (items : List Item) → IsPart chosen start place now part kept state →
+part_begins : {kept t : List ℕ} (chosen : Option ℕ) (start place : ℕ) (now : Option ℕ) (part more : List ℕ)
+    (state : Place) (items : List Item) → IsPart chosen start place now part kept state →
     AreItems chosen items → part ++ more ≡ bytes_of items ++ t → IsEnd t → Begins kept (video_of chosen items)
-part_begins chosen start place now part kept more t (Zeros zeros) items h are e end = none_begins kept (video_of chosen items) h.none
-part_begins chosen start place now part kept more t Kind items h are e end = none_begins kept (video_of chosen items) h.none
-part_begins chosen start place now part kept more t Mark items h are e end = none_begins kept (video_of chosen items) h.none
-part_begins chosen start place now part kept more t (High kind) items h are e end = none_begins kept (video_of chosen items) h.0.none
-part_begins chosen start place now part kept more t (Low kind high) items h are e end = none_begins kept (video_of chosen items) h.0.none
-part_begins chosen start place now part kept more t (InHeader header left) items h are e end = none_begins kept (video_of chosen items) h.none
-part_begins chosen start place now part kept more t (Pass left) items h are e end = rest_begins chosen start place now part kept more t left (λ rest. []) items h are e end
-part_begins chosen start place now part kept more t (Video left) items h are e end = rest_begins chosen start place now part kept more t left (λ rest. rest) items h are e end
-part_begins chosen start place now part kept more t End items h are e end = none_begins kept (video_of chosen items) h.none
-part_begins chosen start place now part kept more t (Failed fault) items h are e end = none_begins kept (video_of chosen items) h.1
+part_begins {kept} chosen start place now part more (Zeros zeros) items h are e end = none_begins kept (video_of chosen items) h.none
+part_begins {kept} chosen start place now part more Kind items h are e end = none_begins kept (video_of chosen items) h.none
+part_begins {kept} chosen start place now part more Mark items h are e end = none_begins kept (video_of chosen items) h.none
+part_begins {kept} chosen start place now part more (High kind) items h are e end = none_begins kept (video_of chosen items) h.0.none
+part_begins {kept} chosen start place now part more (Low kind high) items h are e end = none_begins kept (video_of chosen items) h.0.none
+part_begins {kept} chosen start place now part more (InHeader header left) items h are e end = none_begins kept (video_of chosen items) h.none
+part_begins {kept} chosen start place now part more (Pass left) items h are e end = rest_begins more items h are e end
+part_begins {kept} chosen start place now part more (Video left) items h are e end = rest_begins more items h are e end
+part_begins {kept} chosen start place now part more End items h are e end = none_begins kept (video_of chosen items) h.none
+part_begins {kept} chosen start place now part more (Failed fault) items h are e end = none_begins kept (video_of chosen items) h.1
 
-pub video_begins : (state : Place) (place : ℕ) (now : Option ℕ) (seen video more whole : List ℕ) → IsReached state place now seen video → IsSystem (seen ++ more) whole → (rest : List ℕ) × (whole ≡ video ++ rest)
-video_begins state place now seen video more whole r system =
+pub video_begins : {state : Place} {place : ℕ} {now : Option ℕ} {seen video whole : List ℕ} (more : List ℕ) → IsReached state place now seen video → IsSystem (seen ++ more) whole → (rest : List ℕ) × (whole ≡ video ++ rest)
+video_begins {state} {place} {now} {whole} more r system =
     let bytes : bytes_of r.items ++ (r.part ++ more) ≡ bytes_of system.items ++ system.tail =
     sym (append_assoc (bytes_of r.items) r.part more) ∙ ap (λ (l : List ℕ). l ++ more) (sym r.seen_is) ∙ system.bytes_are in
-    let known = strip None r.items system.items (r.part ++ more) system.tail r.are system.are bytes system.end in
-    let begins = part_begins (chosen_after None r.items) (length (bytes_of r.items)) place now r.part r.kept more system.tail state known.more r.is_part known.are known.bytes system.end in (
+    let known = strip r.are system.are bytes system.end in
+    let begins = part_begins (chosen_after None r.items) (length (bytes_of r.items)) place now r.part more state known.more r.is_part known.are known.bytes system.end in (
       begins.rest,
       system.video_is ∙ known.video ∙ ap (λ (l : List ℕ). video_of None r.items ++ l) begins.is ∙ sym (append_assoc (video_of None r.items) r.kept begins.rest)
           ∙ ap (λ (l : List ℕ). l ++ begins.rest) (sym r.video_is),

@@ -3,4 +3,4 @@ use Rattle.sys_demux.proofs.laws.law_video_begins.Goals as goal
 
 pub returns : goal.returns
 returns c = λ seen video more whole was.
-    video_begins c.args.unwrapper.now.place c.args.unwrapper.now.item c.args.unwrapper.now.chosen seen video more whole was.reached
+    video_begins more was.reached

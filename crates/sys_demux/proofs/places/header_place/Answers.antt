@@ -4,9 +4,9 @@ use Rattle.sys_demux.proofs.Parts.{header_bad, header_leads}
 use Rattle.sys_demux.proofs.places.header_place.Goals as goal
 
 pub returns-in-None-clause-next : goal.returns-in-None-clause-next
-returns-in-None-clause-next c = λ chosen now start part kept h. header_bad chosen start c.args.item c.args.byte c.args.left now part kept c.args.header h c.in-None.ensures
+returns-in-None-clause-next c = λ chosen now start part kept h. header_bad c.args.byte h c.in-None.ensures
 
 pub returns-in-Some-clause-next : goal.returns-in-Some-clause-next
 returns-in-Some-clause-next c = λ chosen now start part kept h.
     subst (λ s. LeadsTo chosen start c.args.item now (part ++ c.args.byte ∷ []) kept s) (sym c.header_goes_on.ensures.place)
-    (header_leads chosen start c.args.item c.args.byte c.args.left now part kept c.args.header c.in-Some.next h c.in-Some.ensures.1)
+    (header_leads c.args.byte c.in-Some.next h c.in-Some.ensures.1)

@@ -8,7 +8,7 @@ pub returns-then-not-is_chosen-clause-next : goal.returns-then-not-is_chosen-cla
 returns-then-not-is_chosen-clause-next c = λ before start part kept h kind_is.
     let other = ap (λ o. is_chosen o c.args.kind) (sym h.now_is) ∙ sym c.is_chosen.ensures ∙ c.if-not-is_chosen.true in
     subst (λ s. LeadsTo before start c.args.item c.args.chosen (part ++ c.args.low ∷ []) kept s) (sym c.pass.ensures)
-    (length_passed before c.args.kind c.args.high c.args.low (c.from.result * 256 + c.from-2.result) start c.args.item c.args.chosen part kept h kind_is other (omega (arith, c.from.ensures, c.from-2.ensures)))
+    (length_passed c.args.low h kind_is other (omega (arith, c.from.ensures, c.from-2.ensures)))
 
 pub returns-then-length-eq0-clause-next : goal.returns-then-length-eq0-clause-next
 returns-then-length-eq0-clause-next c = λ before start part kept h kind_is.

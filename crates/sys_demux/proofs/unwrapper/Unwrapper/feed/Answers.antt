@@ -11,7 +11,7 @@ use Rattle.sys_demux.proofs.unwrapper.Unwrapper.feed.Goals as goal
 pub returns-in-Failed-clause-fault : goal.returns-in-Failed-clause-fault
 returns-in-Failed-clause-fault c = λ seen video was more.
     let u = c.args.self.now in
-    let refused = failed_refused c.in-Failed.fault u.item u.chosen seen video (c.args.piece.now ++ more) (subst (λ s. IsReached s u.item u.chosen seen video) c.in-Failed.is was.reached) in
+    let refused = failed_refused (c.args.piece.now ++ more) (subst (λ s. IsReached s u.item u.chosen seen video) c.in-Failed.is was.reached) in
     subst (λ (l : List ℕ). IsRefused l c.in-Failed.fault) (sym (append_assoc seen c.args.piece.now more)) refused
 
 pub returns-in-Failed-place-clause-fault : goal.returns-in-Failed-place-clause-fault
@@ -19,7 +19,7 @@ returns-in-Failed-place-clause-fault c = λ seen video was more.
     let n = c.take.new.self in
     let piece = c.args.piece.now in
     let next = c.take.ensures.next seen video was in
-    let refused = failed_refused c.in-Failed-place.fault n.item n.chosen (seen ++ get_or piece 0 0 ∷ []) video (drop 1 piece ++ more)
+    let refused = failed_refused (drop 1 piece ++ more)
     (subst (λ s. IsReached s n.item n.chosen (seen ++ get_or piece 0 0 ∷ []) video) c.in-Failed-place.is next.reached) in
     subst (λ (l : List ℕ). IsRefused l c.in-Failed-place.fault) (first_taken seen piece more c.requires.some) refused
 
@@ -36,13 +36,13 @@ returns-in-Pass-clause-next c = λ seen video was.
     let few : count ≤ left = omega (arith, c.min-taken.ensures, c.from.ensures) in
     let within : count ≤ length piece = omega (arith, c.min-taken.ensures) in
     let size : length (take count piece) ≡ count = length-take-le count piece within in
-    let next = step (Pass left) (cond (left - count == 0) (Zeros 0) (Pass (left - count))) u.item u.item u.chosen u.chosen seen video (take count piece) []
+    let next = step (take count piece) []
     (subst (λ s. IsReached s u.item u.chosen seen video) c.in-Pass.is was.reached)
     (λ chosen start part kept at is. subst (λ (k : List ℕ). LeadsTo chosen start u.item u.chosen (part ++ take count piece) k (cond (left - count == 0) (Zeros 0) (Pass (left - count)))) (sym (append-nil kept))
-    (rest_leads chosen start u.item left count u.chosen part kept (take count piece) is size few)) in
+    (rest_leads (take count piece) is size few)) in
     record {
       count = omega (arith, was.count, c.skip.ensures.fed, size, length-append seen (take count piece));
-      reached = moved n.place (cond (left - count == 0) (Zeros 0) (Pass (left - count))) n.item u.item n.chosen u.chosen (seen ++ take count piece) (video ++ [])
+      reached = moved
           (c.skip.ensures.place ∙ c.pass.ensures) c.skip.ensures.item c.skip.ensures.chosen next;
     }
 
@@ -56,12 +56,12 @@ returns-in-Video-clause-next c = λ seen video was.
     let few : count ≤ left = omega (arith, c.min-taken-in-Video.ensures, c.from-in-Video.ensures) in
     let within : count ≤ length piece = omega (arith, c.min-taken-in-Video.ensures) in
     let size : length (take count piece) ≡ count = length-take-le count piece within in
-    let next = step (Video left) (cond (left - count == 0) (Zeros 0) (Video (left - count))) u.item u.item u.chosen u.chosen seen video (take count piece) (take count piece)
+    let next = step (take count piece) (take count piece)
     (subst (λ s. IsReached s u.item u.chosen seen video) c.in-Video.is was.reached)
-    (λ chosen start part kept at is. video_leads chosen start u.item left count u.chosen part kept (take count piece) is size few) in
+    (λ chosen start part kept at is. video_leads (take count piece) is size few) in
     record {
       count = omega (arith, was.count, c.skip-in-Video.ensures.fed, size, length-append seen (take count piece));
-      reached = moved n.place (cond (left - count == 0) (Zeros 0) (Video (left - count))) n.item u.item n.chosen u.chosen (seen ++ take count piece) (video ++ take count piece)
+      reached = moved
           (c.skip-in-Video.ensures.place ∙ c.video.ensures) c.skip-in-Video.ensures.item c.skip-in-Video.ensures.chosen next;
     }
 

@@ -17,31 +17,31 @@ returns-clause-next c = λ seen video was.
     let byte = c.args.byte in
     let reached : IsReached c.match-self.place c.match-self.item c.match-self.chosen (seen ++ byte ∷ []) video = elim c.match-self.branch [
       | in-Zeros w ↦
-          moved c.match-self.place w.zeros_next-place.result c.match-self.item (u.fed - 2) c.match-self.chosen u.chosen (seen ++ byte ∷ []) video w.place-is (w.item-is ∙ w.saturating_sub-item.ensures) w.chosen-is
-          (step_byte (Zeros w.in-Zeros.zeros) w.zeros_next-place.result u.item (u.fed - 2) u.chosen u.chosen seen video byte (subst (λ s. IsReached s u.item u.chosen seen video) w.in-Zeros.is was.reached)
+          moved w.place-is (w.item-is ∙ w.saturating_sub-item.ensures) w.chosen-is
+          (step_byte byte (subst (λ s. IsReached s u.item u.chosen seen video) w.in-Zeros.is was.reached)
           (λ chosen start part kept size is. inl (w.zeros_next-place.ensures.next chosen u.chosen start part kept is (was.count ∙ sym size))))
       | in-Kind w ↦
-          moved c.match-self.place w.kind_next-place.result c.match-self.item u.item c.match-self.chosen (choose u.chosen byte) (seen ++ byte ∷ []) video w.place-is w.item-is (w.chosen-is ∙ w.choose-chosen.ensures)
-          (step_byte Kind w.kind_next-place.result u.item u.item u.chosen (choose u.chosen byte) seen video byte (subst (λ s. IsReached s u.item u.chosen seen video) w.in-Kind.is was.reached)
+          moved w.place-is w.item-is (w.chosen-is ∙ w.choose-chosen.ensures)
+          (step_byte byte (subst (λ s. IsReached s u.item u.chosen seen video) w.in-Kind.is was.reached)
           (λ chosen start part kept size is. inl (w.kind_next-place.ensures.next chosen u.chosen start part kept is)))
       | in-Mark w ↦
-          moved c.match-self.place w.mark_next-place.result c.match-self.item u.item c.match-self.chosen u.chosen (seen ++ byte ∷ []) video w.place-is w.item-is w.chosen-is
-          (step_byte Mark w.mark_next-place.result u.item u.item u.chosen u.chosen seen video byte (subst (λ s. IsReached s u.item u.chosen seen video) w.in-Mark.is was.reached)
+          moved w.place-is w.item-is w.chosen-is
+          (step_byte byte (subst (λ s. IsReached s u.item u.chosen seen video) w.in-Mark.is was.reached)
           (λ chosen start part kept size is. inl (w.mark_next-place.ensures.next chosen u.chosen start part kept is)))
       | in-High w ↦
-          moved c.match-self.place (Low w.in-High.kind byte) c.match-self.item u.item c.match-self.chosen u.chosen (seen ++ byte ∷ []) video w.place-is w.item-is w.chosen-is
-          (step_byte (High w.in-High.kind) (Low w.in-High.kind byte) u.item u.item u.chosen u.chosen seen video byte (subst (λ s. IsReached s u.item u.chosen seen video) w.in-High.is was.reached)
-          (λ chosen start part kept size is. inl (high_more start u.item w.in-High.kind byte u.chosen (choose chosen w.in-High.kind) part kept is.0, is.1)))
+          moved w.place-is w.item-is w.chosen-is
+          (step_byte byte (subst (λ s. IsReached s u.item u.chosen seen video) w.in-High.is was.reached)
+          (λ chosen start part kept size is. inl (high_more is.0, is.1)))
       | in-Low w ↦
-          moved c.match-self.place w.length_next-place.result c.match-self.item u.item c.match-self.chosen u.chosen (seen ++ byte ∷ []) video w.place-is w.item-is w.chosen-is
-          (step_byte (Low w.in-Low.kind w.in-Low.high) w.length_next-place.result u.item u.item u.chosen u.chosen seen video byte (subst (λ s. IsReached s u.item u.chosen seen video) w.in-Low.is was.reached)
+          moved w.place-is w.item-is w.chosen-is
+          (step_byte byte (subst (λ s. IsReached s u.item u.chosen seen video) w.in-Low.is was.reached)
           (λ chosen start part kept size is. w.length_next-place.ensures.next chosen start part kept is.0 is.1))
       | in-InHeader w ↦
           (let sound : is_sound (InHeader w.in-InHeader.header w.in-InHeader.left) ≡ true = subst (λ s. is_sound s ≡ true) w.in-InHeader.is u.sound in
           let enough = sound_header w.in-InHeader.header w.in-InHeader.left sound in
           let back : w.in-InHeader.left ≡ w.in-InHeader.left - 1 + 1 = omega (arith, enough.0, enough.1) in
-          moved c.match-self.place w.header_place-place.result c.match-self.item u.item c.match-self.chosen u.chosen (seen ++ byte ∷ []) video w.place-is w.item-is w.chosen-is
-          (step_byte (InHeader w.in-InHeader.header w.in-InHeader.left) w.header_place-place.result u.item u.item u.chosen u.chosen seen video byte (subst (λ s. IsReached s u.item u.chosen seen video) w.in-InHeader.is was.reached)
+          moved w.place-is w.item-is w.chosen-is
+          (step_byte byte (subst (λ s. IsReached s u.item u.chosen seen video) w.in-InHeader.is was.reached)
           (λ chosen start part kept size is. w.header_place-place.ensures.next chosen u.chosen start part kept
           (subst (λ n. IsAtHeader chosen start u.item u.chosen part kept w.in-InHeader.header n) back is))))
     ] in
