@@ -19,24 +19,23 @@ use Rattle.conn.specs.Parts.{AreServed, AreTold, HasServedOne, IsUntouched, fres
 use Rattle.conn.proofs.Sighting.{told_none}
 
 -- what a connection told at its end is what it told before, and more
-told_after : {new : Option (List Doing)} (session : Standing) (old : Option (List Doing)) (seat next : Sitting)
-    (report : ConnReport) → HasServedConnection session old new seat next report →
+told_after : {session : Standing} {old new : Option (List Doing)} {seat next : Sitting} {report : ConnReport} → HasServedConnection session old new seat next report →
     (doings : List Doing) × (new ≡ told_more old doings)
-told_after {new} session old seat next report (inl from) =
+told_after {new} {next} (inl from) =
     (rounds_doings from.course.rounds ++ ending_doings from.course.ending, from.told ∙ from.course.told)
-told_after {new} session old seat next report (inr none) = ([], none.told ∙ sym (told_none old))
+told_after {old} {new} {next} (inr none) = ([], none.told ∙ sym (told_none old))
 
 fresh_is : (old new : Option (List Doing)) (doings : List Doing) → IfSome old (λ told. told ≡ []) → new ≡ told_more old doings → old ≡ fresh_told new
 fresh_is None new doings fresh is = sym (ap fresh_told is)
 fresh_is (Some told) new doings fresh is = ap Some fresh ∙ sym (ap fresh_told is)
 
-pub served_fresh : {films : List Stored} {settings : Settings} {words : List ℕ} {before : ℕ} {seat next : Sitting}
-    {report : ConnReport} (old new : Option (List Doing)) (after : ℕ) → before ≡ 0 → IfSome old (λ told. told ≡ []) → report.words ≡ words →
+pub served_fresh : {films : List Stored} {settings : Settings} {words : List ℕ} {old new : Option (List Doing)}
+    {before after : ℕ} {seat next : Sitting} {report : ConnReport} → before ≡ 0 → IfSome old (λ told. told ≡ []) → report.words ≡ words →
     HasServedConnection (new_standing films settings words) old new seat next report →
     KeepsPromise (new_standing films settings words) old new seat next report → (report.end ≡ LinkFault → HasRisen before after) →
     HasServedOne films settings (record { faults = after; told = new }) report seat next
-served_fresh {films} {settings} {words} {seat} {next} {report} old new after zero fresh is_words served keeps fault =
-    let more = told_after (new_standing films settings words) old seat next report served in
+served_fresh {films} {settings} {words} {old} {new} {after} {seat} {next} {report} zero fresh is_words served keeps fault =
+    let more = told_after served in
     let told : HasServedConnection (new_standing films settings words) (fresh_told new) new seat next report =
     subst (λ t. HasServedConnection (new_standing films settings words) t new seat next report) (fresh_is old new more.0 fresh more.1) served in
     let kept : KeepsPromise (new_standing films settings words) (fresh_told new) new seat next report =
@@ -53,8 +52,8 @@ pub served_more : {films : List Stored} {settings : Settings} {mid new : Sitting
 served_more {films} {settings} {new} {returned} {report} old [] [] are one = (new, (subst (λ s. HasServedOne films settings returned report s new) are one, refl))
 served_more {new} {returned} old [] (r ∷ reports) are one = absurd are
 served_more {new} {returned} old (b ∷ back) [] are one = absurd are
-served_more {new} {returned} old (b ∷ back) (r ∷ reports) are one =
-    (are.0, (are.1.0, served_more are.0 back reports are.1.1 one))
+served_more {films} {settings} {mid} {new} {returned} {report} old (b ∷ back) (r ∷ reports) are one =
+    (are.0, (are.1.0, served_more {films = films} {settings = settings} {mid = mid} {new = new} {returned = returned} {report = report} are.0 back reports are.1.1 one))
 
 -- the same of what is told of the part
 pub told_first : {reports : List ConnReport} (films : List Stored) (settings : Settings) (part : Option Content)

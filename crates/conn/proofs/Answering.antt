@@ -70,16 +70,16 @@ lacks_replied {ask} (Entered placed) new lacks answered = absurd answered
 lacks_replied {ask} (WasFull more entries live) new lacks answered = absurd answered
 lacks_replied {ask} (Offered at_slot note) new lacks answered = absurd answered
 
-either_replied : {ask : Ask} {asking : Standing} (old : Standing) (outcome : Outcome) (new : Standing) → AsksOrLacks old ask asking →
+either_replied : {old : Standing} {ask : Ask} {asking : Standing} (outcome : Outcome) (new : Standing) → AsksOrLacks old ask asking →
     ChangesState ask old asking → asking.heard ≡ old.heard → IsAnswered asking ask outcome new → IsPlayReplied old outcome new
-either_replied {ask} {asking} old outcome new (inl asks) changes heard answered =
+either_replied {old} {ask} {asking} outcome new (inl asks) changes heard answered =
     let state = subst (λ a. ChangesState a old asking) asks.command changes in
     asked_replied asks.play outcome new state.0 heard (subst (λ a. IsAnswered asking a outcome new) asks.command answered)
-either_replied {ask} {asking} old outcome new (inr lacks) changes heard answered =
+either_replied {ask} {asking} outcome new (inr lacks) changes heard answered =
     lacks_replied outcome new lacks (subst (λ a. IsAnswered asking a outcome new) lacks.refused.0 answered)
 
 pub play_answered : (old new : Standing) (message : List ℕ) (outcome : Outcome) → CanBePlayed old message → HasHeard old message outcome new →
     IsPlayReplied old outcome new
 play_answered old new message outcome can heard =
-    either_replied old outcome new (hears_good old heard.asking message heard.ask heard.hears can)
+    either_replied outcome new (hears_good old heard.asking message heard.ask heard.hears can)
     (hears_state old heard.asking message heard.ask heard.hears) (hears_ground old heard.asking message heard.ask heard.hears).heard heard.answered

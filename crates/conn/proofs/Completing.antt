@@ -110,15 +110,15 @@ lacks_completed old asking (Entered placed) new answered replied = absurd answer
 lacks_completed old asking (WasFull more entries live_plays) new answered replied = absurd answered
 lacks_completed old asking (Offered at_slot note) new answered replied = absurd answered
 
-either_completed : {ask : Ask} {asking : Standing} {outcome : Outcome} {new : Standing} (old : Standing) → AsksOrLacks old ask asking → asking.heard ≡ old.heard →
+either_completed : {old : Standing} {ask : Ask} {asking : Standing} {outcome : Outcome} {new : Standing} → AsksOrLacks old ask asking → asking.heard ≡ old.heard →
     IsAnswered asking ask outcome new → IsPlayReplied old outcome new → IsPlayCompleted old outcome new
-either_completed {ask} {asking} {outcome} {new} old (inl asks) same answered replied =
+either_completed {ask} {asking} {outcome} {new} (inl asks) same answered replied =
     asked_completed asks.play same (subst (λ a. IsAnswered asking a outcome new) asks.command answered) replied
-either_completed {ask} {asking} {outcome} {new} old (inr lacks) same answered replied =
+either_completed {old} {ask} {asking} {outcome} {new} (inr lacks) same answered replied =
     lacks_completed old asking outcome new (subst (λ a. IsAnswered asking a outcome new) lacks.refused.0 answered) replied
 
 pub play_completed : (old new : Standing) (message : List ℕ) (outcome : Outcome) → CanBePlayed old message → HasHeard old message outcome new →
     IsPlayCompleted old outcome new
 play_completed old new message outcome can heard =
-    either_completed old (hears_good old heard.asking message heard.ask heard.hears can)
+    either_completed (hears_good old heard.asking message heard.ask heard.hears can)
     (hears_ground old heard.asking message heard.ask heard.hears).heard heard.answered (play_answered old new message outcome can heard)

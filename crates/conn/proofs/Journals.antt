@@ -95,21 +95,21 @@ agree_longer terms journal longer from (Offered at_slot note ∷ outcomes) prefi
 )
 
 -- and then further answers
-pub agree_then : (terms : Terms) (journal longer : List Entry) (from : ℕ) (first more : List Outcome) → IsPrefix journal longer
+pub agree_then : {longer : List Entry} (terms : Terms) (journal : List Entry) (from : ℕ) (first more : List Outcome) → IsPrefix journal longer
     → AgreeWith terms journal from first → AgreeWith terms longer (length journal) more → AgreeWith terms longer from (first ++ more)
-agree_then terms journal longer from [] more prefix agree later = agree_lower terms longer from (length journal) more agree later
-agree_then terms journal longer from (Unasked ∷ first) more prefix agree later = agree_then terms journal longer from first more prefix agree later
-agree_then terms journal longer from (Entered placed ∷ first) more prefix agree later = (
+agree_then {longer} terms journal from [] more prefix agree later = agree_lower terms longer from (length journal) more agree later
+agree_then {longer} terms journal from (Unasked ∷ first) more prefix agree later = agree_then {longer = longer} terms journal from first more prefix agree later
+agree_then terms journal from (Entered placed ∷ first) more prefix agree later = (
   stands_longer prefix agree.0,
-  agree_then terms journal longer (placed.place + 1) first more prefix agree.1 later,
+  agree_then terms journal (placed.place + 1) first more prefix agree.1 later,
 )
-agree_then terms journal longer from (WasFull asked entries open_count ∷ first) more prefix agree later = (
+agree_then terms journal from (WasFull asked entries open_count ∷ first) more prefix agree later = (
   full_longer prefix agree.0,
-  agree_then terms journal longer entries first more prefix agree.1 later,
+  agree_then terms journal entries first more prefix agree.1 later,
 )
-agree_then terms journal longer from (Offered at_slot note ∷ first) more prefix agree later = (
+agree_then terms journal from (Offered at_slot note ∷ first) more prefix agree later = (
   offered_longer prefix agree.0,
-  agree_then terms journal longer note.seen first more prefix agree.1 later,
+  agree_then terms journal note.seen first more prefix agree.1 later,
 )
 
 -- ---- a seat

@@ -114,9 +114,9 @@ play_film waits setup play text slot =
     (plan_bytes p p.sent (step_end false (at_slot slot p))) text
 
 -- a play goes on by a slot that is taken up
-pub taken_slot : (old : Standing) (slot : ℕ) (setup : Setup) (play : Played) (film : List ℕ) → old.state ≡ Playing setup play → HasSent play old.heard film →
+pub taken_slot : {setup : Setup} {play : Played} {film : List ℕ} (old : Standing) (slot : ℕ) → old.state ≡ Playing setup play → HasSent play old.heard film →
     old.heard < slot → HasSentOn setup play (after_play (sent_slot old slot)) (film ++ film_bytes (due_parts old slot))
-taken_slot old slot setup play film is has later =
+taken_slot {setup} {play} {film} old slot is has later =
     let goes : Bool = old.waits && is_between (stepped_in true slot old.state) in
     let s : Standing = sent_slot old slot in
     let now : Played = record play { pacer = slot_pacing old.waits slot play.pacer } in
@@ -127,7 +127,7 @@ taken_slot old slot setup play film is has later =
     ap (λ st. film_bytes (parts_of old.waits st old.text slot)) is ∙ play_film old.waits setup play old.text slot in
     let through : slot_pacing old.waits slot play.pacer ≡ sent_through slot play.pacer =
     slot_is old.waits (stands_at_boundary (after_step true slot play.pacer)) slot play.pacer has.pacing refl in
-    let sent : HasSent now slot (film ++ slot_film old.waits slot play.pacer) = sent_by {play = play} {heard = old.heard} {slot = slot} {film = film} old.waits has later in record {
+    let sent : HasSent now slot (film ++ slot_film old.waits slot play.pacer) = sent_by old.waits has later in record {
       now = now;
       state = state;
       run = refl;
@@ -181,7 +181,7 @@ play_slot {new} {setup} {play} {film} old slot halt is has finishes free =
     subst (λ s. HasSentOn setup play s (film ++ film_bytes (slot_parts old slot))) (sym (finished_same (awaits (after_slot old slot)) (after_slot old slot) halt new finishes free))
     (slot_cases (record old { heard = slot }) (due_parts old slot)
     (ap is_sending is) (as_it_was old setup play film is has)
-    (λ taken. taken_slot old slot setup play film is has (later_slot old slot taken)))
+    (λ taken. taken_slot old slot is has (later_slot old slot taken)))
 
 -- a play that goes on, and then goes on
 pub goes_on : {setup : Setup} {play : Played} {mid new : Standing} {film more : List ℕ}

@@ -74,7 +74,7 @@ noted_on a b c xs ys first second = record {
   mine = second.mine ∙ ap (λ m. m ++ entries_in ys) first.mine ∙ append_assoc a.mine (entries_in xs) (entries_in ys)
       ∙ ap (λ es. a.mine ++ es) (sym (entries_in-append xs ys));
   seat = seat_on a b c first.seat second.seat;
-  agree = agree_then (terms_of a) b.seen c.seen (length a.seen) xs ys second.seat.longer first.agree
+  agree = agree_then (terms_of a) b.seen (length a.seen) xs ys second.seat.longer first.agree
       (subst (λ terms. AgreeWith terms c.seen (length b.seen) ys) (terms_same a b first.seat) second.agree);
 }
 
@@ -189,10 +189,10 @@ event_up {halt} (Some end) event due a b c comes sent noted up =
     ]
 
 -- bytes came
-pub bytes_up : (result : Option ConnEnd) (bytes : List ℕ) (a b c : Sight) → length a.stage.input + length bytes ≤ 131072 →
+pub bytes_up : {b : Sight} (result : Option ConnEnd) (bytes : List ℕ) (a c : Sight) → length a.stage.input + length bytes ≤ 131072 →
     b.stage ≡ stage a.stage.session (a.stage.input ++ bytes) → b.told ≡ a.told → b.seat ≡ a.seat → HasTakenUp result b c →
     HasComeTo result (HeardBytes bytes) a c
-bytes_up result bytes a b c few is told seat up =
+bytes_up {b} result bytes a c few is told seat up =
     event_up result (HeardBytes bytes) [] a b c (refl, refl, few, is) (told ∙ sent_none a.told)
     (subst (λ s. AreNoted a.seat s (Unasked ∷ [])) (sym seat) (noted_unasked a.seat)) up
 
@@ -235,7 +235,7 @@ goes_on (Bytes n) waiting c has =
 -- events, one after another
 runs_on : {b c : Stage} {round : Round} (a : Stage) (rounds : List Round) → RunsAll a rounds b → Runs b round c → IsIdle c → RunsAll a (rounds ++ round ∷ []) c
 runs_on {c} {round} a [] runs next idle = (c, (subst (λ s. Runs s round c) runs next, idle, refl))
-runs_on {c} a (first ∷ rounds) runs next idle = (runs.0, (runs.1.0, runs.1.1, runs_on runs.0 rounds runs.1.2 next idle))
+runs_on {b} {c} {round} a (first ∷ rounds) runs next idle = (runs.0, (runs.1.0, runs.1.1, runs_on {b = b} {c = c} {round = round} runs.0 rounds runs.1.2 next idle))
 
 rounds_doings-append : (xs ys : List Round) → rounds_doings (xs ++ ys) ≡ rounds_doings xs ++ rounds_doings ys
 rounds_doings-append [] ys = refl

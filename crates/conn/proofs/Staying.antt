@@ -53,9 +53,9 @@ use Rattle.conn.proofs.Hearing.{IsWell, hears_well}
 use Rattle.conn.proofs.Playing.{as_it_was, later_slot, slot_cases, taken_slot}
 
 -- an admitted play is a sending of which nothing was sent
-admitted_well : {new : Standing} (old : Standing) (placed : Placed) (start : ℕ) (plan : List Segment) (film : List ℕ) → IsAskedWell (AskPlay plan) old film →
+admitted_well : {old : Standing} {start : ℕ} {new : Standing} {film : List ℕ} (placed : Placed) (plan : List Segment) → IsAskedWell (AskPlay plan) old film →
     IsPlayAnswered old placed (Admitted start) new → IsWell new []
-admitted_well {new} old placed start plan film well answered =
+admitted_well {old} {start} {new} placed plan well answered =
     let made : Standing = after_admission old placed.place start in
     let asked = well.1 in
     let playing = subst (λ (s : Standing). IsPlayIn s.state) answered.1 answered.2 in
@@ -80,14 +80,13 @@ admitted_well {new} old placed start plan film well answered =
       state = subst (IsStateOf old.films old.source old.settings (counts_of old.awaited old.counts) old.heard []) (sym begun.state) (asked.values, play);
     })
 
-play_answered : {new : Standing} (old : Standing) (placed : Placed) (answer : Answer) (plan : List Segment)
-    (film : List ℕ) →
+play_answered : {old new : Standing} {film : List ℕ} (placed : Placed) (answer : Answer) (plan : List Segment) →
     IsAskedWell (AskPlay plan) old film → IsPlayAnswered old placed answer new → IsWell new (if is_admission answer then [] else film)
-play_answered {new} old placed (Admitted start) plan film well answered = admitted_well old placed start plan film well answered
-play_answered {new} old placed (Overflow slot booked asked) plan film well answered =
+play_answered {new} placed (Admitted start) plan well answered = admitted_well placed plan well answered
+play_answered {new} {film} placed (Overflow slot booked asked) plan well answered =
     subst (λ s. IsWell s film) (sym answered) (record { films = well.0.films; settings = well.0.settings; state = well.0.state })
-play_answered {new} old placed Halted plan film well answered = absurd answered
-play_answered {new} old placed (Looked now at booked) plan film well answered = absurd answered
+play_answered {new} placed Halted plan well answered = absurd answered
+play_answered {new} placed (Looked now at booked) plan well answered = absurd answered
 
 look_answered : {old new : Standing} {film : List ℕ} (placed : Placed) (answer : Answer) → IsWell old film →
     IsLookAnswered old placed answer new → IsWell new (if is_admission answer then [] else film)
@@ -146,7 +145,7 @@ answered_well {new} old AskReply (Entered placed) film well answered = absurd an
 answered_well {new} old AskReply (WasFull more entries live) film well answered = absurd answered
 answered_well {new} old AskReply (Offered at_slot note) film well answered = absurd answered
 answered_well {new} old (AskPlay plan) Unasked film well answered = absurd answered
-answered_well {new} old (AskPlay plan) (Entered placed) film well answered = play_answered old placed placed.entry.answer plan film well answered.1
+answered_well {new} old (AskPlay plan) (Entered placed) film well answered = play_answered placed placed.entry.answer plan well answered.1
 answered_well {new} old (AskPlay plan) (WasFull more entries live) film well answered =
     subst (λ s. IsWell s film) (sym answered.0) (record { films = well.0.films; settings = well.0.settings; state = well.0.state })
 answered_well {new} old (AskPlay plan) (Offered at_slot note) film well answered = absurd answered
@@ -275,9 +274,9 @@ reply_state : (goes : Bool) (s : Standing) → (if goes then sent_reply s else s
 reply_state true s = refl
 reply_state false s = refl
 
-sent_off : {films : ℕ} {setup : Setup} (old : Standing) (slot : ℕ) (stop : Stop) → old.state ≡ Stopping setup stop → IsSetup films setup →
+sent_off : {films : ℕ} {setup : Setup} {stop : Stop} (old : Standing) (slot : ℕ) → old.state ≡ Stopping setup stop → IsSetup films setup →
     IsOff films (after_play (sent_slot old slot)).state
-sent_off {films} old slot stop is values =
+sent_off {films} {stop} old slot is values =
     let p = stop.pacer in
     let both : Stop = record stop { pacer = after_step false slot (after_step true slot p) } in
     let one : Stop = record stop { pacer = after_step true slot p } in
@@ -298,7 +297,7 @@ pub slot_play : {setup : Setup} {play : Played} {film : List ℕ} (old : Standin
 slot_play {setup} {play} {film} old slot is has =
     slot_cases (record old { heard = slot }) (due_parts old slot)
     (ap is_sending is) (as_it_was old setup play film is has)
-    (λ taken. taken_slot old slot setup play film is has (later_slot old slot taken))
+    (λ taken. taken_slot old slot is has (later_slot old slot taken))
 
 play_on : {old new : Standing} {setup : Setup} {play : Played} {film more : List ℕ} → IsSameSession old new → IsWell old film → old.state ≡ Playing setup play →
     HasSentOn setup play new more → IsWell new more
@@ -338,7 +337,7 @@ slot_state (Playing setup play) old slot film is well =
 slot_state (Stopping setup stop) old slot film is well =
     let values = subst (IsStateOf old.films old.source old.settings old.counts old.heard film) is well.state in
     off_well (slot_ground old slot) well
-    (slot_off (length old.films) old slot (subst (IsOff (length old.films)) (sym is) values) (λ sends. sent_off old slot stop is values))
+    (slot_off (length old.films) old slot (subst (IsOff (length old.films)) (sym is) values) (λ sends. sent_off old slot is values))
 
 -- a play that is done is halted
 finish_well : {old new : Standing} {film : List ℕ} (asks : Awaits) (halt : Outcome) → IsWell old film → IsFinished asks old halt new → IsWell new film

@@ -244,9 +244,9 @@ record Tells (made : List Outcome) (s : Standing) (parts : List Part) : Type 0 w
   waiting : IsTold made s.text
   sent : AreTold made parts
 
-taking_tells : {parts : List Part} (made : List Outcome) (old new : Stage) (message : List ℕ) (outcome : Outcome) →
+taking_tells : {old new : Stage} {message : List ℕ} {outcome : Outcome} {parts : List Part} (made : List Outcome) →
     TakesPiece old (Answered message outcome parts) new → Tells (made ++ outcome ∷ []) new.session parts
-taking_tells made old new message outcome takes =
+taking_tells {old} {new} {message} {outcome} made takes =
     let goes : Bool = can_reply takes.answered in
     let told : IsTold (made ++ outcome ∷ []) takes.answered.text = heard_told made old.session message outcome takes.answered takes.heard in
     let text : new.session.text ≡ takes.answered.text = ap (λ (s : Stage). s.session.text) takes.new_is ∙ reply_text_is goes takes.answered in
@@ -266,7 +266,7 @@ takings_tell made old new [] told takes =
 takings_tell made old new (Passed n ∷ takings) told takes =
     takings_tell made takes.0 new takings (subst (λ (s : Stage). IsTold made s.session.text) (sym takes.1.0.2) told) takes.1.1
 takings_tell made old new (Answered message outcome parts ∷ takings) told takes =
-    let first = taking_tells made old takes.0 message outcome takes.1.0 in
+    let first = taking_tells made takes.1.0 in
     let rest = takings_tell (made ++ outcome ∷ []) takes.0 new takings first.waiting takes.1.1 in
     let all : (made ++ outcome ∷ []) ++ takings_outcomes takings ≡ made ++ outcome ∷ takings_outcomes takings =
     append_assoc made (outcome ∷ []) (takings_outcomes takings) in

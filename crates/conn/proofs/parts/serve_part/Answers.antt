@@ -26,6 +26,6 @@ connections-preserved g c =
       entries = served.entries;
       worker = served.worker;
       words = words;
-      one = served_fresh {films = c.args.films.now} {settings = c.args.settings.now} {words = _} {before = _} {seat = c.connections.seat} {next = c.serve_connection-report.new.seat} {report = report} _ _ _
+      one = served_fresh {films = c.args.films.now} {settings = c.args.settings.now} {words = _} {old = _} {new = _} {before = _} {after = _} {seat = c.connections.seat} {next = c.serve_connection-report.new.seat} {report = report}
           (search rules) (search rules) served.words served.served served.headline served.fault;
     }) given c.give_back.ensures.back (omega (arith, c.take.ensures.count, c.give_back.ensures.count)) items
