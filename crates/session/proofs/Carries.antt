@@ -12,7 +12,7 @@ use Rattle.session.specs.Planning.{IsPausedIn}
 use Rattle.session.specs.Plans.{IsPacedPlay}
 use Rattle.session.specs.Playing.{IsPlayable}
 use Rattle.session.specs.Sendings.{IsFinished, is_done_in}
-use Rattle.session.specs.Standings.{NoAnswer, awaits_of}
+use Rattle.session.specs.Standings.{NoAnswer, awaited_answer_of}
 use Rattle.session.specs.Steps.{IsCarried, IsEven, IsSamePacing, after_stop}
 use Rattle.session.specs.declared.settings.Settings.{Settings}
 use Rattle.session.specs.declared.states.Awaited.{Awaited}
@@ -125,7 +125,7 @@ awaited_lost films source settings counts (Playing setup play) = λ linked. cc
 awaited_lost films source settings counts (Stopping setup stop) = tt
 
 -- nothing is awaited
-pub nothing_of : (awaited : Awaited) → awaits_of awaited ≡ NoAnswer → awaited ≡ Nothing
+pub nothing_of : (awaited : Awaited) → awaited_answer_of awaited ≡ NoAnswer → awaited ≡ Nothing
 nothing_of Nothing is = refl
 nothing_of (Play prepared) is = cc
 nothing_of (Halt keep next) is = cc

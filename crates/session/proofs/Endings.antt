@@ -22,8 +22,8 @@ use Rattle.session.specs.declared.states.State.TheVariants.{Init, Ready, Playing
 use Rattle.session.specs.EndLaws.{EndsSession, HaltsPlay, HasTeardown, IsOfMethod, IsPausedPlay, IsPause, IsSessionTold, IsTeardown, IsTeardownHeard, IsTornDown}
 use Rattle.session.specs.Hearings.{Hears, HearsOn, after_halt, is_torn, new_standing}
 use Rattle.session.specs.declared.methods.Method.{Method}
-use Rattle.session.specs.declared.methods.Method.TheVariants.{Options, Describe, Setup as SetUp, Play as PlayMethod, Pause, Teardown, GetParameter}
-use Rattle.session.specs.Judging.{IsJudged, name_of, option_of, place_of}
+use Rattle.session.specs.declared.methods.Method.TheVariants.{Pause, Teardown}
+use Rattle.session.specs.Judging.{IsJudged, method_of, name_of, option_of, place_of}
 use Rattle.session.specs.Laws.{stage_of}
 use Rattle.session.specs.LookLaws.{Happening, Message, Admission, Overflow, Full, Halt, Look, Offer, Slot, Sending, AreAfter, IsAfter}
 use Rattle.session.specs.Methods.{AsksHalt, Ends, IsRefused, Pauses, PausesPlay, Takes, TearsDown}
@@ -101,47 +101,37 @@ pauses_in {state = Ready setup paused} {ask} {new} sequence is pauses = absurd p
 pauses_in {state = Playing setup play} {ask} {new} sequence is pauses = paused_play is pauses
 pauses_in {state = Stopping setup stop} {ask} {new} sequence is pauses = absurd pauses
 
--- a name is that of one method
-other_method : (name : List ℕ) (method other : Method) → (method ≡ other → ⊥) → name ≡ name_of method → name ≡ name_of other → ⊥
-other_method name method other differ is its = differ (method_once name method other is its)
-
-takes_teardown : (old : Standing) (request : Request) (judgement : Result Task Refusal) (ask : Ask) (new : Standing)
-    → request.method.now ≡ codes "TEARDOWN" → IsJudged old.films old.id (place_of old.state) request judgement
-    → Takes old request judgement ask new → Comes IsTornDown old ask new
-takes_teardown old request (Ok ToTeardown) ask new method judged takes = inr (tears_in request.sequence refl takes)
-takes_teardown old request (Ok ToOptions) ask new method judged takes =
-    absurd (other_method request.method.now Options Teardown (λ same. cc) judged.talk.spoken.named method)
-takes_teardown old request (Ok (ToDescribe asked)) ask new method judged takes =
-    absurd (other_method request.method.now Describe Teardown (λ same. cc) judged.talk.spoken.named method)
-takes_teardown old request (Ok (ToSetup film)) ask new method judged takes =
-    absurd (other_method request.method.now SetUp Teardown (λ same. cc) judged.talk.spoken.named method)
-takes_teardown old request (Ok (ToPlay asked)) ask new method judged takes =
-    absurd (other_method request.method.now PlayMethod Teardown (λ same. cc) judged.talk.spoken.named method)
-takes_teardown old request (Ok ToPause) ask new method judged takes =
-    absurd (other_method request.method.now Pause Teardown (λ same. cc) judged.talk.spoken.named method)
-takes_teardown old request (Ok ToGetParameter) ask new method judged takes =
-    absurd (other_method request.method.now GetParameter Teardown (λ same. cc) judged.talk.spoken.named method)
-takes_teardown old request (Err refusal) ask new method judged takes =
+-- a request of a method is refused, or does what the method's task does
+does_task : (P : Standing → Ask → Standing → Type 0) (method : Method)
+    → ((old : Standing) (request : Request) (task : Task) (ask : Ask) (new : Standing) → method_of task ≡ method
+    → Takes old request (Ok task) ask new → P old ask new)
+    → (old : Standing) (request : Request) (judgement : Result Task Refusal) (ask : Ask) (new : Standing)
+    → request.method.now ≡ name_of method → IsJudged old.films old.id (place_of old.state) request judgement
+    → Takes old request judgement ask new → Comes P old ask new
+does_task P method does old request (Ok task) ask new named judged takes =
+    inr (does old request task ask new (method_once request.method.now (method_of task) method judged.talk.spoken.named named) takes)
+does_task P method does old request (Err refusal) ask new named judged takes =
     inl (refused (Some request.sequence) refusal (option_of request.head.now) takes)
 
-takes_pause : (old : Standing) (request : Request) (judgement : Result Task Refusal) (ask : Ask) (new : Standing)
-    → request.method.now ≡ codes "PAUSE" → IsJudged old.films old.id (place_of old.state) request judgement
-    → Takes old request judgement ask new → Comes IsPausedPlay old ask new
-takes_pause old request (Ok ToPause) ask new method judged takes = inr (pauses_in request.sequence refl takes)
-takes_pause old request (Ok ToOptions) ask new method judged takes =
-    absurd (other_method request.method.now Options Pause (λ same. cc) judged.talk.spoken.named method)
-takes_pause old request (Ok (ToDescribe asked)) ask new method judged takes =
-    absurd (other_method request.method.now Describe Pause (λ same. cc) judged.talk.spoken.named method)
-takes_pause old request (Ok (ToSetup film)) ask new method judged takes =
-    absurd (other_method request.method.now SetUp Pause (λ same. cc) judged.talk.spoken.named method)
-takes_pause old request (Ok (ToPlay asked)) ask new method judged takes =
-    absurd (other_method request.method.now PlayMethod Pause (λ same. cc) judged.talk.spoken.named method)
-takes_pause old request (Ok ToTeardown) ask new method judged takes =
-    absurd (other_method request.method.now Teardown Pause (λ same. cc) judged.talk.spoken.named method)
-takes_pause old request (Ok ToGetParameter) ask new method judged takes =
-    absurd (other_method request.method.now GetParameter Pause (λ same. cc) judged.talk.spoken.named method)
-takes_pause old request (Err refusal) ask new method judged takes =
-    inl (refused (Some request.sequence) refusal (option_of request.head.now) takes)
+tears_task : (old : Standing) (request : Request) (task : Task) (ask : Ask) (new : Standing) → method_of task ≡ Teardown
+    → Takes old request (Ok task) ask new → IsTornDown old ask new
+tears_task old request ToTeardown ask new is takes = tears_in request.sequence refl takes
+tears_task old request ToOptions ask new is takes = absurd cc
+tears_task old request (ToDescribe asked) ask new is takes = absurd cc
+tears_task old request (ToSetup film) ask new is takes = absurd cc
+tears_task old request (ToPlay asked) ask new is takes = absurd cc
+tears_task old request ToPause ask new is takes = absurd cc
+tears_task old request ToGetParameter ask new is takes = absurd cc
+
+pauses_task : (old : Standing) (request : Request) (task : Task) (ask : Ask) (new : Standing) → method_of task ≡ Pause
+    → Takes old request (Ok task) ask new → IsPausedPlay old ask new
+pauses_task old request ToPause ask new is takes = pauses_in request.sequence refl takes
+pauses_task old request ToOptions ask new is takes = absurd cc
+pauses_task old request (ToDescribe asked) ask new is takes = absurd cc
+pauses_task old request (ToSetup film) ask new is takes = absurd cc
+pauses_task old request (ToPlay asked) ask new is takes = absurd cc
+pauses_task old request ToTeardown ask new is takes = absurd cc
+pauses_task old request ToGetParameter ask new is takes = absurd cc
 
 -- a message of a method is refused, or comes to what its request does
 hears_on : {P : Standing → Ask → Standing → Type 0} {method : List ℕ}
@@ -160,11 +150,11 @@ hears_on {P} {method} takes false {old} {message} {ask} {new} is (inr whole) =
 pub teardown_ends : (old new : Standing) (message : List ℕ) (ask : Ask) → IsTeardown message → Hears old message ask new
     → IsDeclined old ask new ⊎ IsTornDown old ask new
 teardown_ends old new message ask is hears =
-    hears_on {P = IsTornDown} {method = codes "TEARDOWN"} takes_teardown old.lost {old = old} {message = message} {ask = ask} {new = new} is hears
+    hears_on {P = IsTornDown} {method = codes "TEARDOWN"} (does_task IsTornDown Teardown tears_task) old.lost {old = old} {message = message} {ask = ask} {new = new} is hears
 
 pub pause_leaves : (old new : Standing) (message : List ℕ) (ask : Ask) → IsPause message → Hears old message ask new
     → IsDeclined old ask new ⊎ IsPausedPlay old ask new
-pause_leaves old new message ask is hears = hears_on {P = IsPausedPlay} {method = codes "PAUSE"} takes_pause old.lost {old = old} {message = message} {ask = ask} {new = new} is hears
+pause_leaves old new message ask is hears = hears_on {P = IsPausedPlay} {method = codes "PAUSE"} (does_task IsPausedPlay Pause pauses_task) old.lost {old = old} {message = message} {ask = ask} {new = new} is hears
 
 -- ---- only a TEARDOWN ends the session
 

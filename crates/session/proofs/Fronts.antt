@@ -1,10 +1,11 @@
 -- Lemmas on what a failed sending of a slot leaves.
-use Rattle.std.proofs.Common.{◌≡◌, ℕ, ◌+◌, ◌-◌, ◌≤◌, ◌++◌, Bool, true, false, if◌then◌else◌, min, max, List, [], length, take, drop, Option, Some, None, Result, Ok, Err, OnErr, refl, ap, sym, ◌∙◌, arith, inl, inr}
+use Rattle.std.proofs.Common.{◌≡◌, ℕ, ◌+◌, ◌-◌, ◌≤◌, ◌++◌, Bool, true, false, if◌then◌else◌, min, max, List, [], length, take, drop, Option, Some, Result, Ok, Err, OnErr, refl, ap, sym, ◌∙◌, arith, inl, inr}
 use Rattle.std.proofs.lemmas.Bool.{cases_lt, true≢false}
-use Rattle.std.proofs.lemmas.List.{append_assoc, length-append, map-append, take-append-le, take-take, take_all}
+use Rattle.std.proofs.lemmas.List.{length-append, map-append, take-append-le, take-take, take_all}
 use Rattle.std.proofs.Math.Seq.{take-append-add}
 use Rattle.film_frames.specs.Tracks.{framed_bytes}
 use Rattle.vod_base.specs.Links.{Doing, Sent, IsFrontTold, sends, told_more}
+use Rattle.vod_base.proofs.Telling.{told_more-append}
 use Rattle.pacer.specs.Pacings.{Pacing, due_by, first_slots, plan_bytes, at_slot, slots_by, step_end}
 use Rattle.pacer.specs.Steps.{HasFailed}
 use Rattle.session.specs.declared.states.State.{State}
@@ -34,17 +35,13 @@ pub front_left : (old new : Option (List Doing)) (bytes more : List ℕ) → IsF
 front_left old new bytes more front =
     (front.0, (omega (arith, front.1.0, length-append bytes more), front.1.1 ∙ ap (λ bs. told_more old (sends bs)) (sym (take-append-le front.0 bytes more front.1.0))))
 
-told_on : (old : Option (List Doing)) (xs ys : List Doing) → told_more (told_more old xs) ys ≡ told_more old (xs ++ ys)
-told_on None xs ys = refl
-told_on (Some told) xs ys = ap Some (append_assoc told xs ys)
-
 pub front_right : {mid new : Option (List Doing)} (old : Option (List Doing)) (bytes more : List ℕ) → mid ≡ told_more old (sends bytes) → IsFrontTold mid new more →
     IsFrontTold old new (bytes ++ more)
 front_right {new} old bytes more whole front = (
   length bytes + front.0,
   (
     omega (arith, front.1.0, length-append bytes more),
-    front.1.1 ∙ ap (λ t. told_more t (sends (take front.0 more))) whole ∙ told_on old (sends bytes) (sends (take front.0 more))
+    front.1.1 ∙ ap (λ t. told_more t (sends (take front.0 more))) whole ∙ told_more-append old (sends bytes) (sends (take front.0 more))
         ∙ ap (told_more old) (sym (map-append Sent bytes (take front.0 more)))
         ∙ ap (λ bs. told_more old (sends bs)) (sym (take-append-add bytes more front.0)),
   ),

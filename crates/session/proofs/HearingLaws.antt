@@ -8,7 +8,7 @@ use Rattle.session.specs.declared.states.State.TheVariants.{Playing}
 use Rattle.session.specs.Hearings.{Hears}
 use Rattle.session.specs.Laws.{IsNoHalt, LeavesOr, PlaysOn}
 use Rattle.session.specs.Methods.{IsReplied}
-use Rattle.session.specs.Standings.{Standing, replied}
+use Rattle.session.specs.Standings.{Standing, with_reply}
 use Rattle.session.proofs.Results.{ComesTo, Lacks, Refuses, Says, SettlesSetup, AsksForPlay, AsksForHalt, AsksForLook, AsksForOffer, comes_to}
 
 plays_on : (old new : Standing) → new.state ≡ old.state → new.heard ≡ old.heard → PlaysOn old new
@@ -40,7 +40,7 @@ hears_plays old new message ask setup play hears is free =
     comes_plays (comes_to old message ask new hears) is free
 
 leaves : (old : Standing) (text : List ℕ) (ask : Ask) (new : Standing) → IsReplied old text ask new → LeavesOr old new
-leaves old text ask new is = inr (is.1 ∙ ap (λ (t : List ℕ). replied old t) (sym (ap (λ (s : Standing). s.text) is.1)))
+leaves old text ask new is = inr (is.1 ∙ ap (λ (t : List ℕ). with_reply old t) (sym (ap (λ (s : Standing). s.text) is.1)))
 
 comes_leaves : (old new : Standing) (message : List ℕ) (ask : Ask) → ComesTo old message ask new → ask ≡ Reply → LeavesOr old new
 comes_leaves old new message ask (Lacks is) reply = leaves old _ ask new is

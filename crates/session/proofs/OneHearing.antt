@@ -47,7 +47,7 @@ use Rattle.session.specs.Playing.{playback_of}
 use Rattle.session.specs.Ranges.{AreFilms}
 use Rattle.session.specs.Replies.{describe_text, plain_text, public_text, refusal_text, session_text}
 use Rattle.session.specs.Setups.{AreChannelsOf, AsksForSetup, HasChannels, IsChosen, HasNoMeaning, IsSetupRead}
-use Rattle.session.specs.Standings.{Standing, replied}
+use Rattle.session.specs.Standings.{Standing, with_reply}
 use Rattle.session.proofs.Namings.{film_once, named_once}
 use Rattle.session.proofs.OnePlan.{film_at_once, planned_once}
 use Rattle.session.proofs.OneVerdict.{AreAlike, method_once, not_both, refusal_once, turned}
@@ -194,7 +194,7 @@ module _ (old : Standing) (message : List ℕ) (ask again : Ask) (one other : St
   same command session = inl (record { ask_is = command; session_is = session })
 
   replied_once : (text text' : List ℕ) → text' ≡ text → IsReplied old text ask one → IsReplied old text' again other → Agree
-  replied_once text text' alike is its = same (its.0 ∙ sym is.0) (its.1 ∙ ap (λ t. replied old t) alike ∙ sym is.1)
+  replied_once text text' alike is its = same (its.0 ∙ sym is.0) (its.1 ∙ ap (λ t. with_reply old t) alike ∙ sym is.1)
 
   first_wants : (sequence : ℕ) → first_sequence message ≡ Some sequence → IsRefused old (Some sequence) Memory [] ask one → Agree
   first_wants sequence number is = inr (inl (subst (λ s. IsRefused old s Memory [] ask one) (sym number) is))

@@ -32,7 +32,7 @@ use Rattle.session.specs.Methods.{prepared_of}
 use Rattle.session.specs.PlayLaws.{HasCountedAll, IsNoted, IsSentAsAsked, KeepsToBoundary}
 use Rattle.session.specs.Playing.{IsPlayable}
 use Rattle.session.specs.Sendings.{admitted_in, halted_notes, kept_of, next_of, note_of}
-use Rattle.session.specs.Standings.{HaltAnswer, Standing, awaits_of}
+use Rattle.session.specs.Standings.{HaltAnswer, Standing, awaited_answer_of}
 use Rattle.session.proofs.Carries.{nothing_of}
 use Rattle.session.proofs.Numbers.{identity_goes_on}
 use Rattle.session.proofs.Results.{ComesTo, Lacks, Refuses, Says, SettlesSetup, AsksForPlay, AsksForHalt, AsksForLook, AsksForOffer, comes_to}
@@ -127,7 +127,7 @@ run_counted old place stored setup play playing none at all =
 
 -- ---- the note of a play
 
-kept_asked : (awaited : Awaited) (due keep : ℕ) → awaits_of awaited ≡ HaltAnswer keep → kept_of awaited due ≡ keep
+kept_asked : (awaited : Awaited) (due keep : ℕ) → awaited_answer_of awaited ≡ HaltAnswer keep → kept_of awaited due ≡ keep
 kept_asked Nothing due keep is = absurd (let no : ⊥ = cc in no)
 kept_asked (Play prepared) due keep is = absurd (let no : ⊥ = cc in no)
 kept_asked (Halt other next) due keep is = cc

@@ -18,7 +18,7 @@ use Rattle.session.specs.Judging.{IsJudged, IsReadAs, option_of, place_of}
 use Rattle.session.specs.Methods.{IsRefused, Takes}
 use Rattle.session.specs.PlayLaws.{HasRangeInPlaying, IsElseGood, IsDeclined}
 use Rattle.session.specs.Replies.{code_of, refusal_text}
-use Rattle.session.specs.Standings.{Standing, replied}
+use Rattle.session.specs.Standings.{Standing, with_reply}
 use Rattle.session.proofs.OneVerdict.{AreAlike, not_both, refusal_once}
 use Rattle.session.proofs.Refusing.{one_code, own_code, refusal_code}
 
@@ -62,7 +62,7 @@ refused {old} {ask} {new} sequence refusal option is =
     let text : new.text ≡ refusal_text sequence refusal option = ap (λ (s : Standing). s.text) is.1 in
     record {
       command = is.0;
-      leaves = is.1 ∙ ap (λ (t : List ℕ). replied old t) (sym text);
+      leaves = is.1 ∙ ap (λ (t : List ℕ). with_reply old t) (sym text);
       no_ok = λ ok.
           let its = subst (λ (t : List ℕ). HasCode 200 t) text ok in
           not_ok refusal (one_code (refusal_text sequence refusal option) (own_code refusal).small (omega arith)

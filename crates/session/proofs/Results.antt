@@ -35,7 +35,7 @@ use Rattle.session.specs.Planning.{IsPlanned, IsPlannedRun}
 use Rattle.session.specs.Ranges.{AreSettings, IsSetup}
 use Rattle.session.specs.Replies.{setup_text}
 use Rattle.session.specs.Setups.{AsksForSetup, IsChosen, IsSetupRead}
-use Rattle.session.specs.Standings.{Standing, replied}
+use Rattle.session.specs.Standings.{Standing, with_reply}
 use Rattle.session.proofs.Playables.{of_film}
 use Rattle.session.proofs.OneHearing.{first_is}
 
@@ -51,7 +51,7 @@ pub data ComesTo (old : Standing) (message : List ℕ) (ask : Ask) (new : Standi
       → ComesTo old message ask new
   SettlesSetup : (sequence : ℕ) (setup : Setup) → old.state ≡ Init
       → (AreSettings old.settings → IsSetup (length old.films) setup) → ask ≡ Reply
-      → new ≡ record (replied old (setup_text sequence setup.media setup.control old.source.ssrc old.id)) { state = Ready setup None }
+      → new ≡ record (with_reply old (setup_text sequence setup.media setup.control old.source.ssrc old.id)) { state = Ready setup None }
       → ComesTo old message ask new
   AsksForPlay : (stored : Stored) (setup : Setup) (paused : Option Run) (range : Option (List ℕ)) (planned : Planned) (sequence : ℕ)
       (authority : List ℕ) → old.state ≡ Ready setup paused → IsPlannedRun old stored setup paused range planned

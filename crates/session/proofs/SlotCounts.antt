@@ -12,7 +12,7 @@ use Rattle.session.specs.declared.states.State.{State}
 use Rattle.session.specs.declared.states.State.TheVariants.{Playing}
 use Rattle.session.specs.PlayLaws.{slots_missed}
 use Rattle.session.specs.Sendings.{after_play, finished_in, is_between, is_sending, is_taken, missed_between, sent_due, sent_reply, sent_slot, after_slot, start_in, stepped_in}
-use Rattle.session.specs.Standings.{HaltAnswer, Standing, awaits, awaits_of}
+use Rattle.session.specs.Standings.{HaltAnswer, Standing, awaited_answer, awaited_answer_of}
 
 abbrev is_missed : ℕ → ℕ → ℕ → ℕ
 is_missed heard start t = cond (ltb heard t && leb start t) 1 0
@@ -117,10 +117,10 @@ is_short : (passed sent keep : ℕ) → sent < keep → (ltb 0 passed && eqb sen
 is_short passed sent keep less = grind (arith, nat_tests)
 
 pub play_done : (old : Standing) (setup : Setup) (play : Played) → old.state ≡ Playing setup play → 0 < play.pacer.passed
-    → play.pacer.sent ≡ play.pacer.keep → awaits (after_play old) ≡ HaltAnswer play.pacer.keep
+    → play.pacer.sent ≡ play.pacer.keep → awaited_answer (after_play old) ≡ HaltAnswer play.pacer.keep
 play_done old setup play playing some same =
-    ap (λ s. awaits_of (finished_in s old.awaited)) playing
-    ∙ ap (λ b. awaits_of (cond b (Halt play.pacer.sent Done) old.awaited)) (is_whole play.pacer.passed play.pacer.sent play.pacer.keep some same)
+    ap (λ s. awaited_answer_of (finished_in s old.awaited)) playing
+    ∙ ap (λ b. awaited_answer_of (cond b (Halt play.pacer.sent Done) old.awaited)) (is_whole play.pacer.passed play.pacer.sent play.pacer.keep some same)
     ∙ ap HaltAnswer same
 
 pub play_goes : (old : Standing) (setup : Setup) (play : Played) → old.state ≡ Playing setup play → play.pacer.sent < play.pacer.keep

@@ -20,7 +20,7 @@ use Rattle.rtsp_fields.specs.Times.{IsTime}
 use Rattle.rtsp_fields.specs.Urls.{IsRead, IsTail, NamesFilm}
 use Rattle.rtsp_fields.specs.declared.ranges.Origin.TheVariants.{At}
 use Rattle.rtsp_fields.proofs.Described.{description_is}
-use Rattle.rtsp_fields.proofs.Digits.{own}
+use Rattle.rtsp_text.proofs.OneLines.{decimal_numerals}
 use Rattle.rtsp_fields.proofs.Paths.{film_path}
 use Rattle.rtsp_fields.proofs.SecondsTexts.{seconds_read}
 use Rattle.rtsp_text.specs.Grammar.{is_url_byte}
@@ -33,7 +33,7 @@ use Rattle.session.specs.declared.plans.Planned.{Planned}
 use Rattle.session.specs.declared.refusals.Refusal.{Refusal}
 use Rattle.session.specs.declared.refusals.Refusal.TheVariants.{BadRequest, Version, Method, Option as Required, Session, Film as NoFilm, State, Transport, Parameter, Buffer, Range, Memory}
 use Rattle.session.specs.declared.states.Setup.{Setup}
-use Rattle.session.specs.Films.{begins_at, identity_of, length_ms, ms_at, sending_of, timestamp_at}
+use Rattle.session.specs.Films.{begins_at, identity_of, length_ms, milliseconds_at, sending_of, timestamp_at}
 use Rattle.session.specs.Hearings.{after_admission, after_full, after_look, after_overflow, started_text}
 use Rattle.session.specs.Methods.{Describes, IsSetUp, first_number, play_front}
 use Rattle.session.specs.Planning.{IsPlannedRun}
@@ -75,7 +75,7 @@ no_dash-append a b here there = list_all-append (λ x. not (x == 45)) a b
     ∙ and_from (list_all (λ x. not (x == 45)) a) (list_all (λ x. not (x == 45)) b) here there
 
 no_dash-decimal : (n : ℕ) → n < 2 ^ 64 → list_all (λ x. not (x == 45)) (decimal n) ≡ true
-no_dash-decimal n small = all_other is_ascii_digit 45 refl (decimal n) (digits_decimal own n small)
+no_dash-decimal n small = all_other is_ascii_digit 45 refl (decimal n) (digits_decimal decimal_numerals n small)
 
 no_dash-seconds : (ms : ℕ) → ms < 10 ^ 12 → list_all (λ x. not (x == 45)) (seconds_text ms) ≡ true
 no_dash-seconds ms small =
@@ -132,21 +132,21 @@ range_read {s} {e} {from} {to} free first last =
       to = subst (λ (t : List ℕ). IsTime t to) (sym rest) last;
     }
 
-pub span_told : (film : Film) (first end : ℕ) → ms_at film first < 10 ^ 12 → ms_at film end < 10 ^ 12
-    → TellsSpan film first end (joined_parts (codes "npt=" ∷ seconds_text (ms_at film first) ∷ codes "-" ∷ seconds_text (ms_at film end) ∷ []))
+pub span_told : (film : Film) (first end : ℕ) → milliseconds_at film first < 10 ^ 12 → milliseconds_at film end < 10 ^ 12
+    → TellsSpan film first end (joined_parts (codes "npt=" ∷ seconds_text (milliseconds_at film first) ∷ codes "-" ∷ seconds_text (milliseconds_at film end) ∷ []))
 span_told film first end small short =
-    let s = seconds_text (ms_at film first) in
-    let e = seconds_text (ms_at film end) in
+    let s = seconds_text (milliseconds_at film first) in
+    let e = seconds_text (milliseconds_at film end) in
     let same : codes "npt=" ++ (s ++ 45 ∷ e) ≡ joined_parts (codes "npt=" ∷ s ∷ codes "-" ∷ e ∷ []) =
     ap (λ l. codes "npt=" ++ (s ++ 45 ∷ l)) (sym (append-nil e)) in
     record {
-      from = ms_at film first;
-      to = ms_at film end;
+      from = milliseconds_at film first;
+      to = milliseconds_at film end;
       from_is = ticks_360 (first * picture_time film.rate);
       to_is = ticks_360 (end * picture_time film.rate);
-      read = subst (λ (t : List ℕ). IsSpan t (record { from = At (ms_at film first * 1000000); to = Some (ms_at film end * 1000000) })) same
-          (range_read (no_dash-seconds (ms_at film first) small)
-          (seconds_read (ms_at film first) small) (seconds_read (ms_at film end) short));
+      read = subst (λ (t : List ℕ). IsSpan t (record { from = At (milliseconds_at film first * 1000000); to = Some (milliseconds_at film end * 1000000) })) same
+          (range_read (no_dash-seconds (milliseconds_at film first) small)
+          (seconds_read (milliseconds_at film first) small) (seconds_read (milliseconds_at film end) short));
     }
 
 -- a URL of a film under the authority of another
@@ -300,13 +300,13 @@ play_told old stored setup paused range planned sequence url authority name is r
     let brief = can.playback_is.picture_units_fit in
     let few = can.sizes_are.few in
     record {
-      fields = play_fields old.id (ms_at stored.film planned.run.from_unit) (ms_at stored.film planned.run.end_unit) authority
+      fields = play_fields old.id (milliseconds_at stored.film planned.run.from_unit) (milliseconds_at stored.film planned.run.end_unit) authority
           (string_bytes stored.name) (first_number old stored setup planned) (timestamp_at stored.film old.source planned.run.from_unit);
       text_is = refl;
       told = record {
         session = refl;
-        range = joined_parts (codes "npt=" ∷ seconds_text (ms_at stored.film planned.run.from_unit) ∷ codes "-"
-            ∷ seconds_text (ms_at stored.film planned.run.end_unit) ∷ []);
+        range = joined_parts (codes "npt=" ∷ seconds_text (milliseconds_at stored.film planned.run.from_unit) ∷ codes "-"
+            ∷ seconds_text (milliseconds_at stored.film planned.run.end_unit) ∷ []);
         range_is = refl;
         span = span_told stored.film planned.run.from_unit planned.run.end_unit
             (few_ms 4194304 planned.run.from_unit (picture_time stored.film.rate)

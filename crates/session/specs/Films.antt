@@ -60,12 +60,12 @@ counts_after counts sending bytes = record {
 abbrev pub begins_at : Film → ℕ → ℕ
 begins_at film unit = unit * picture_time film.rate
 
-abbrev pub ms_at : Film → ℕ → ℕ
-ms_at film unit = begins_at film unit / 360
+abbrev pub milliseconds_at : Film → ℕ → ℕ
+milliseconds_at film unit = begins_at film unit / 360
 
 -- how long a film is, in whole milliseconds
 abbrev pub length_ms : Film → ℕ
-length_ms film = ms_at film (length film.units.items)
+length_ms film = milliseconds_at film (length film.units.items)
 
 -- the timestamp of a unit, in 1/90,000 second (RFC 2250 section 3.3)
 abbrev pub timestamp_at : Film → Source → ℕ → ℕ

@@ -17,7 +17,7 @@ use Rattle.session.specs.declared.refusals.Refusal.TheVariants.{Memory}
 use Rattle.session.specs.Changes.{HasCode}
 use Rattle.session.specs.Methods.{IsRefused}
 use Rattle.session.specs.Planning.{IsPlannedRun}
-use Rattle.session.specs.Standings.{Standing, replied}
+use Rattle.session.specs.Standings.{Standing, with_reply}
 
 -- the states of RFC 2326's server (appendix A.2); a play that was halted is over, also while its
 -- rest is sent
@@ -49,7 +49,7 @@ pub record IsOk (text : List ℕ) : Type 0 where
 
 -- a reply other than 200 leaves all but the reply
 abbrev pub LeavesOr : Standing → Standing → Type 0
-LeavesOr old new = IsOk new.text ⊎ (new ≡ replied old new.text)
+LeavesOr old new = IsOk new.text ⊎ (new ≡ with_reply old new.text)
 
 -- no halt is asked for
 abbrev pub IsNoHalt : Ask → Type 0

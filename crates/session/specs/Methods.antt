@@ -38,17 +38,17 @@ use Rattle.session.specs.declared.states.Play.{Play as Played}
 use Rattle.session.specs.declared.states.Setup.{Setup}
 use Rattle.session.specs.declared.states.State.{State}
 use Rattle.session.specs.declared.states.State.TheVariants.{Init, Ready, Playing, Stopping}
-use Rattle.session.specs.Films.{IsFilmAt, counts_after, identity_of, length_ms, ms_at, sending_of}
-use Rattle.session.specs.Films.{timestamp_at}
+use Rattle.session.specs.Films.{IsFilmAt, counts_after, identity_of, length_ms, milliseconds_at}
+use Rattle.session.specs.Films.{sending_of, timestamp_at}
 use Rattle.session.specs.Judging.{IsJudged, IsTopic, option_of, place_of}
 use Rattle.session.specs.Replies.{describe_text, plain_text, play_fields, public_text, refusal_text}
 use Rattle.session.specs.Replies.{session_text, setup_text}
 use Rattle.session.specs.Setups.{IsSetupRead}
-use Rattle.session.specs.Standings.{Standing, replied}
+use Rattle.session.specs.Standings.{Standing, with_reply}
 
 -- the session replies by itself, and nothing else changes
 abbrev pub IsReplied : Standing → List ℕ → Ask → Standing → Type 0
-IsReplied old text ask new = (ask ≡ Reply) × (new ≡ replied old text)
+IsReplied old text ask new = (ask ≡ Reply) × (new ≡ with_reply old text)
 
 abbrev pub IsRefused : Standing → Option ℕ → Refusal → List ℕ → Ask → Standing → Type 0
 IsRefused old sequence refusal option ask new =
@@ -66,7 +66,7 @@ pub record Describes (old : Standing) (sequence film : ℕ) (authority : List �
 abbrev pub IsSetUp : Standing → ℕ → Result Setup Refusal → Ask → Standing → Type 0
 IsSetUp old sequence (Ok setup) ask new =
     (ask ≡ Reply)
-    × (new ≡ record (replied old
+    × (new ≡ record (with_reply old
     (setup_text sequence setup.media setup.control old.source.ssrc old.id)) {
       state =
           Ready setup None;
@@ -94,7 +94,7 @@ pub record AsksHalt (old : Standing) (sequence : ℕ) (setup : Setup) (play : Pl
 -- TEARDOWN
 abbrev pub Ends : Standing → ℕ → Ask → Standing → Type 0
 Ends old sequence ask new = (ask ≡ Reply)
-    × (new ≡ record (replied old (session_text sequence old.id)) { tearing = true })
+    × (new ≡ record (with_reply old (session_text sequence old.id)) { tearing = true })
 
 abbrev pub TearsDown : State → Standing → ℕ → Ask → Standing → Type 0
 TearsDown Init old sequence ask new = Ends old sequence ask new
@@ -134,8 +134,8 @@ first_number old stored setup planned =
 -- its reply, up to its start: from the run's first unplayed picture to its end
 abbrev pub play_front : Standing → Stored → Setup → Planned → ℕ → List ℕ → List ℕ
 play_front old stored setup planned sequence authority = reply_front 200 (Some sequence)
-    (play_fields old.id (ms_at stored.film planned.run.from_unit)
-    (ms_at stored.film planned.run.end_unit) authority
+    (play_fields old.id (milliseconds_at stored.film planned.run.from_unit)
+    (milliseconds_at stored.film planned.run.end_unit) authority
     (string_bytes stored.name) (first_number old stored setup planned)
     (timestamp_at stored.film old.source planned.run.from_unit))
 

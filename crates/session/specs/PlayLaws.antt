@@ -29,7 +29,7 @@ use Rattle.session.specs.Changes.{HasCode}
 use Rattle.session.specs.Judging.{HasFilm, IsOwnTalk, IsReadAs, place_of}
 use Rattle.session.specs.Laws.{GoesOn}
 use Rattle.session.specs.Films.{sending_of}
-use Rattle.session.specs.Standings.{HaltAnswer, IsAtRest, Standing, awaits, replied}
+use Rattle.session.specs.Standings.{HaltAnswer, IsAtRest, Standing, awaited_answer, with_reply}
 
 -- a PLAY with a Range is heard in Playing
 pub record HasRangeInPlaying (old : Standing) (message : List ℕ) (request : Request) : Type 0 where
@@ -45,7 +45,7 @@ pub record HasRangeInPlaying (old : Standing) (message : List ℕ) (request : Re
 -- no 200
 pub record IsDeclined (old : Standing) (ask : Ask) (new : Standing) : Type 0 where
   pub command : ask ≡ Reply
-  pub leaves : new ≡ replied old new.text
+  pub leaves : new ≡ with_reply old new.text
   pub no_ok : ¬ HasCode 200 new.text
 
 -- no refusal that is looked for before its state applies to a request: it requires no option, and
@@ -103,7 +103,7 @@ pub record IsNoted (stored : Stored) (play : Played) (old new : Standing) : Type
   pub note : PlayNote
   pub plays : new.plays ≡ old.plays ++ note ∷ []
   pub sound : IsSoundNote stored old.settings note
-  pub asked : (keep : ℕ) → awaits old ≡ HaltAnswer keep → note.keep ≡ keep
+  pub asked : (keep : ℕ) → awaited_answer old ≡ HaltAnswer keep → note.keep ≡ keep
   pub due : IsAtRest old → note.keep ≡ play.pacer.due
 
 -- what the station admitted is sent as it was asked for: the run from what was sent of it on, by

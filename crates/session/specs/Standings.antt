@@ -58,15 +58,22 @@ pub data Awaits : Type 0 where
   LookAnswer : Awaits
   OfferAnswer : Awaits
 
+abbrev pub awaited_answer_of : Awaited → Awaits
+awaited_answer_of Nothing = NoAnswer
+awaited_answer_of (Play prepared) = PlayAnswer prepared.plan
+awaited_answer_of (Halt keep next) = HaltAnswer keep
+awaited_answer_of (Look sequence) = LookAnswer
+awaited_answer_of (Offer sequence) = OfferAnswer
+
+abbrev pub awaited_answer : Standing → Awaits
+awaited_answer standing = awaited_answer_of standing.awaited
+
+-- the same two by their short names
 abbrev pub awaits_of : Awaited → Awaits
-awaits_of Nothing = NoAnswer
-awaits_of (Play prepared) = PlayAnswer prepared.plan
-awaits_of (Halt keep next) = HaltAnswer keep
-awaits_of (Look sequence) = LookAnswer
-awaits_of (Offer sequence) = OfferAnswer
+awaits_of awaited = awaited_answer_of awaited
 
 abbrev pub awaits : Standing → Awaits
-awaits standing = awaits_of standing.awaited
+awaits standing = awaited_answer standing
 
 -- an open booking: its plan, the slot in which it begins, and what is due of it
 pub record Open : Type 0 where
@@ -86,7 +93,7 @@ open_of standing = open_in standing.state
 
 -- no answer is awaited
 abbrev pub IsAtRest : Standing → Type 0
-IsAtRest standing = awaits standing ≡ NoAnswer
+IsAtRest standing = awaited_answer standing ≡ NoAnswer
 
 -- a booking is open, and so many bytes are of its plan
 abbrev pub CanKeep : Option Open → ℕ → Type 0
@@ -100,13 +107,14 @@ IsDue (Some booking) due = due ≡ booking.due
 
 -- what a session asks for after a request
 abbrev pub AsksFor : Ask → Standing → Type 0
-AsksFor Reply new = (awaits new ≡ NoAnswer) × (new.waits ≡ true)
-AsksFor (AskPlay plan) new = (awaits new ≡ PlayAnswer plan) × (new.waits ≡ false)
+AsksFor Reply new = (awaited_answer new ≡ NoAnswer) × (new.waits ≡ true)
+AsksFor (AskPlay plan) new = (awaited_answer new ≡ PlayAnswer plan) × (new.waits ≡ false)
     × (open_of new ≡ None)
-AsksFor (AskHalt keep) new = (awaits new ≡ HaltAnswer keep) × (new.waits ≡ false)
+AsksFor (AskHalt keep) new = (awaited_answer new ≡ HaltAnswer keep) × (new.waits ≡ false)
     × CanKeep (open_of new) keep
-AsksFor (AskLook slot) new = (awaits new ≡ LookAnswer) × (new.waits ≡ false) × (slot ≡ new.heard)
-AsksFor (AskOffer plan offers) new = (awaits new ≡ OfferAnswer) × (new.waits ≡ false)
+AsksFor (AskLook slot) new = (awaited_answer new ≡ LookAnswer) × (new.waits ≡ false)
+    × (slot ≡ new.heard)
+AsksFor (AskOffer plan offers) new = (awaited_answer new ≡ OfferAnswer) × (new.waits ≡ false)
 
 -- a slot that is taken up: a later one than the last, and none above 2^62
 abbrev pub taken_up : ℕ → ℕ → ℕ
@@ -114,8 +122,8 @@ taken_up heard slot = if nat_lt heard slot && nat_le slot (2 ^ 62) then slot els
 
 -- what a slot brought
 abbrev pub BringsIn : Slotted → Awaited → State → Type 0
-BringsIn Going awaited state = awaits_of awaited ≡ NoAnswer
-BringsIn (Finished bytes) awaited state = (awaits_of awaited ≡ HaltAnswer bytes)
+BringsIn Going awaited state = awaited_answer_of awaited ≡ NoAnswer
+BringsIn (Finished bytes) awaited state = (awaited_answer_of awaited ≡ HaltAnswer bytes)
     × CanKeep (open_in state) bytes
 
 abbrev pub Brings : Slotted → Standing → Type 0
@@ -249,9 +257,5 @@ after_answer old receipt text = record old {
 }
 
 -- the session after a reply of its own
-abbrev pub replied : Standing → List ℕ → Standing
-replied old text = record old { text = text; waits = true }
-
--- the session once the station is asked, with the reply's text so far
-abbrev pub asking : Standing → Awaited → List ℕ → Standing
-asking old awaited text = record old { awaited = awaited; text = text }
+abbrev pub with_reply : Standing → List ℕ → Standing
+with_reply old text = record old { text = text; waits = true }

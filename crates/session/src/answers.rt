@@ -13,7 +13,7 @@ ghost use Rattle.admission.specs.declared.entries.Answer.{Answer};
 ghost use Rattle.session.specs.declared.notes.Receipt.{Receipt};
 ghost use Rattle.session.specs.Standings.{AreNotesKept, IsAtRest, IsHalt, IsHandedIn, IsLook};
 ghost use Rattle.session.specs.Standings.{IsOffer, IsPlay, IsPlayOrLook};
-ghost use Rattle.session.specs.Standings.{awaits, booking_of, open_of, sequence_of};
+ghost use Rattle.session.specs.Standings.{awaited_answer, booking_of, open_of, sequence_of};
 ghost use Rattle.session.specs.Hearings.{Halts, after_admission, after_full, after_look};
 ghost use Rattle.session.specs.Hearings.{after_offer, after_overflow, counts_next, is_answered};
 ghost use Rattle.session.specs.Hearings.{is_torn};
@@ -37,7 +37,7 @@ use std::mem;
 impl<'a> Session<'a> {
     /// The station admitted the play that was asked for.
     pub fn hear_admission(&mut self, place: u64, start: u64)
-        requires asked { IsPlay (awaits self.old) }
+        requires asked { IsPlay (awaited_answer self.old) }
         requires start { self.old.heard < start }
         ensures exact { self.new ≡ after_admission self.old place start }
         ensures text { (fields : List Field) →
@@ -47,7 +47,7 @@ impl<'a> Session<'a> {
         ensures handed { IsHandedIn self.old
             (Receipt.Entry place (Answer.Admitted start)) self.new }
         ensures replies { self.new.waits ≡ true }
-        ensures open { open_of self.new ≡ booking_of (awaits self.old) start }
+        ensures open { open_of self.new ≡ booking_of (awaited_answer self.old) start }
         ensures play { IsPlayIn self.new.state }
         ensures notes { AreNotesKept self.old self.new }
     {
@@ -88,7 +88,7 @@ impl<'a> Session<'a> {
     /// The link has no room for the play that was asked for: the first slot without room, what is
     /// booked in it and what the plan asks for there.
     pub fn hear_overflow(&mut self, place: u64, slot: u64, booked: u64, asked: u64)
-        requires asked { IsPlay (awaits self.old) }
+        requires asked { IsPlay (awaited_answer self.old) }
         ensures exact { self.new ≡ after_overflow self.old place slot booked asked }
         ensures handed { IsHandedIn self.old
             (Receipt.Entry place (Answer.Overflow slot booked asked)) self.new }
@@ -114,7 +114,7 @@ impl<'a> Session<'a> {
     /// The journal had no room for the play or the look that was asked for: its entries and the
     /// open plays.
     pub fn hear_full(&mut self, entries: u64, live: u64)
-        requires asked { IsPlayOrLook (awaits self.old) }
+        requires asked { IsPlayOrLook (awaited_answer self.old) }
         ensures exact { self.new ≡ after_full self.old entries live }
         ensures handed { IsHandedIn self.old (Receipt.Full entries live) self.new }
         ensures replies { self.new.waits ≡ true }
@@ -134,7 +134,7 @@ impl<'a> Session<'a> {
     /// The booking was halted: the one for which that was asked, or the open one as the connection
     /// ends, which keeps what is due.
     pub fn hear_halt(&mut self, place: u64)
-        requires asked { IsHalt (awaits self.old) (open_of self.old) }
+        requires asked { IsHalt (awaited_answer self.old) (open_of self.old) }
         ensures halts { Halts self.old place self.new }
         ensures state { self.new.state ≡ halted_in self.old.state self.old.awaited }
         ensures plays { self.new.plays ≡
@@ -167,7 +167,7 @@ impl<'a> Session<'a> {
     /// What the station saw: the slot up to which its book has come, the slot that was looked at
     /// and what is booked in it.
     pub fn hear_look(&mut self, place: u64, now: u64, at: u64, booked: u64)
-        requires asked { IsLook (awaits self.old) }
+        requires asked { IsLook (awaited_answer self.old) }
         ensures exact { self.new ≡ after_look self.old place now at booked }
         ensures handed { IsHandedIn self.old
             (Receipt.Entry place (Answer.Looked now at booked)) self.new }
@@ -190,7 +190,7 @@ impl<'a> Session<'a> {
     /// What the station offers: how many entries the journal had, the first slot that was tried,
     /// and the plan and the offers that were handed out.
     pub fn hear_offer(&mut self, seen: u64, first: u64, plan: Plan, offers: Offers)
-        requires asked { IsOffer (awaits self.old) }
+        requires asked { IsOffer (awaited_answer self.old) }
         ensures exact { self.new ≡
             after_offer self.old (record {
               seen = seen;

@@ -27,7 +27,8 @@ pub(crate) fn put_offer(body: &mut Text, offers: &Offers)
     ensures text { body.new ≡ offer_body offers.now.start offers.now.tried }
     ensures short { length body.new ≤ 24576 }
 {
-    let _most = offers.wait(); // at most 255, so at most 256 starts were tried
+    // the contract of `wait` says that it is at most 255, so that at most 256 starts were tried
+    let _most = offers.wait();
     body.clear();
     put_start_line(body, offers.start());
     for tried in offers.tries() {
@@ -35,6 +36,7 @@ pub(crate) fn put_offer(body: &mut Text, offers: &Offers)
     }
 }
 
+/// The slot in which a play could begin, or `none`.
 fn put_start_text(body: &mut Text, start: Option<u64>)
     requires { length body.old + 20 ≤ 24576 }
     ensures text { body.new ≡ body.old ++ start_text start }
@@ -46,6 +48,7 @@ fn put_start_text(body: &mut Text, start: Option<u64>)
     }
 }
 
+/// The line of the slot in which a play could begin.
 fn put_start_line(body: &mut Text, start: Option<u64>)
     requires { length body.old + 31 ≤ 24576 }
     ensures text { body.new ≡ body.old ++ start_line start }
@@ -56,6 +59,8 @@ fn put_start_line(body: &mut Text, start: Option<u64>)
     body.put(b"\r\n");
 }
 
+/// The line of a start that was tried in vain: the first slot without room, what is booked in it
+/// and what the plan asks for there.
 fn put_over_line(body: &mut Text, tried: &Tried)
     requires { length body.old + 93 ≤ 24576 }
     ensures text { body.new ≡ body.old ++ over_line tried.now }

@@ -8,8 +8,8 @@ ghost use Rattle.film_frames.specs.Runs.{run_pieces};
 ghost use Rattle.film_frames.specs.Tracks.{framed_bytes};
 ghost use Rattle.film_run.specs.Runs.{bytes_between};
 ghost use Rattle.film_run.specs.Units.{IsTrace, stored_sizes};
-ghost use Rattle.session.specs.Films.{IsFilmAt, counts_after, identity_of, length_ms, ms_at};
-ghost use Rattle.session.specs.Films.{sending_of, timestamp_at};
+ghost use Rattle.session.specs.Films.{IsFilmAt, counts_after, identity_of, length_ms};
+ghost use Rattle.session.specs.Films.{milliseconds_at, sending_of, timestamp_at};
 ghost use Rattle.session.specs.Ranges.{AreFilms};
 
 use crate::states::{Counts, Setup, Source};
@@ -43,9 +43,9 @@ pub(crate) fn picture_time(film: &Film) -> u32
 }
 
 /// The time at which a unit begins, in whole milliseconds.
-pub(crate) fn ms_at(film: &Film, unit: usize) -> u64
+pub(crate) fn milliseconds_at(film: &Film, unit: usize) -> u64
     requires { unit ≤ 4194304 }
-    ensures { result ≡ ms_at film.now unit }
+    ensures { result ≡ milliseconds_at film.now unit }
 {
     unit as u64 * u64::from(picture_time(film)) / 360
 }
@@ -55,21 +55,21 @@ pub(crate) fn length_ms(film: &Film) -> u64
     ensures { result ≡ length_ms film.now }
 {
     law_film(film);
-    ms_at(film, film.units.len())
+    milliseconds_at(film, film.units.len())
 }
 
 /// The timestamp of a unit, in 1/90,000 second.
+#[tactic(auto, using(crate::proofs::Sums::sum_mod))]
 pub(crate) fn timestamp_at(film: &Film, source: Source, unit: usize) -> u32
     requires { unit ≤ 4194304 }
     ensures { result ≡ timestamp_at film.now source unit }
 {
-    sum_32(
-        source.timestamp,
-        unit as u64 * u64::from(picture_time(film)) / 4,
-    )
+    let since = unit as u64 * u64::from(picture_time(film)) / 4;
+    source.timestamp.wrapping_add((since % (1 << 32)) as u32)
 }
 
 /// The identity of a run that begins after so many frames and octets (RFC 3550 section 5.1).
+#[tactic(auto, using(crate::proofs::Sums::sum_mod))]
 pub(crate) fn identity_of(source: Source, setup: &Setup, counts: Counts) -> Identity
     ensures { result ≡ identity_of source setup.now counts }
 {
@@ -77,7 +77,9 @@ pub(crate) fn identity_of(source: Source, setup: &Setup, counts: Counts) -> Iden
         channel: setup.media,
         control: setup.control,
         ssrc: source.ssrc,
-        sequence: sum_16(source.sequence, counts.frames),
+        sequence: source
+            .sequence
+            .wrapping_add((counts.frames % (1 << 16)) as u16),
         timestamp: source.timestamp,
         packets: counts.frames,
         octets: counts.octets,
@@ -104,27 +106,16 @@ pub(crate) fn frames_of<'a>(
 }
 
 /// What the session has sent in all, where so many bytes of these frames were sent.
+#[tactic(auto, using(crate::proofs::Sums::sum_mod))]
 pub(crate) fn counts_after(counts: Counts, frames: &Frames<'_>, sent: u64) -> Counts
     ensures { result ≡ counts_after counts frames.now sent }
 {
     Counts {
-        frames: sum_32(counts.frames, frames.frames_before(sent)),
-        octets: sum_32(counts.octets, frames.octets_before(sent)),
+        frames: counts
+            .frames
+            .wrapping_add((frames.frames_before(sent) % (1 << 32)) as u32),
+        octets: counts
+            .octets
+            .wrapping_add((frames.octets_before(sent) % (1 << 32)) as u32),
     }
-}
-
-/// A sum modulo 2^16.
-#[tactic(auto, using(crate::proofs::Sums::sum_mod))]
-fn sum_16(one: u16, other: u32) -> u16
-    ensures { result ≡ (one + other) % 65536 }
-{
-    ((u32::from(one) + other % 65_536) % 65_536) as u16
-}
-
-/// A sum modulo 2^32.
-#[tactic(auto, using(crate::proofs::Sums::sum_mod))]
-fn sum_32(one: u32, other: u64) -> u32
-    ensures { result ≡ (one + other) % 4294967296 }
-{
-    ((u64::from(one) + other % 4_294_967_296) % 4_294_967_296) as u32
 }

@@ -1,3 +1,6 @@
+//! What a session keeps for the connection's report: the station's answers, the plays and the
+//! offers.
+
 ghost use Rattle.std.specs.Prelude.{◌≡◌, ◌+◌, ◌-◌, ◌≤◌, ◌++◌, [], ◌∷◌, IfOk, OnOk, IsOk};
 ghost use Rattle.session.specs.Logs.{IsSameLists};
 
@@ -10,8 +13,11 @@ use vod_base::NoMemory;
 /// how many more each has room for.
 #[derive(Debug, Drop)]
 pub(crate) struct Log {
+    /// The station's answers.
     pub(crate) receipts: Vec<Receipt>,
+    /// The plays that were admitted and are halted.
     pub(crate) plays: Vec<PlayNote>,
+    /// The offers that were made.
     pub(crate) offers: Vec<OfferNote>,
 }
 
@@ -63,10 +69,8 @@ impl Log {
         ensures others { (self.new.play_room ≡ self.old.play_room)
             × (self.new.offer_room ≡ self.old.offer_room) }
     {
-        match self.receipts.reserve(count) {
-            Ok(()) => Ok(()),
-            Err(_) => Err(NoMemory),
-        }
+        self.receipts.reserve(count)?;
+        Ok(())
     }
 
     /// Makes room for one more play.
@@ -77,10 +81,8 @@ impl Log {
         ensures others { (self.new.receipt_room ≡ self.old.receipt_room)
             × (self.new.offer_room ≡ self.old.offer_room) }
     {
-        match self.plays.reserve(1) {
-            Ok(()) => Ok(()),
-            Err(_) => Err(NoMemory),
-        }
+        self.plays.reserve(1)?;
+        Ok(())
     }
 
     /// Makes room for the receipts of so many looks, and for the two receipts and the note of a
@@ -106,10 +108,8 @@ impl Log {
         ensures others { (self.new.receipt_room ≡ self.old.receipt_room)
             × (self.new.play_room ≡ self.old.play_room) }
     {
-        match self.offers.reserve(1) {
-            Ok(()) => Ok(()),
-            Err(_) => Err(NoMemory),
-        }
+        self.offers.reserve(1)?;
+        Ok(())
     }
 
     /// Notes a receipt, for which there is room.

@@ -1,3 +1,5 @@
+//! The methods of RTSP that are spoken, and what a GET_PARAMETER asks for.
+
 ghost use Rattle.std.specs.Prelude.{◌≡◌, ◌≢◌, ◌↔◌, IsTrue, MatchOption, codes};
 ghost use Rattle.session.specs.declared.methods.Method.{Method};
 ghost use Rattle.session.specs.Judging.{IsTopic, IsWord, name_of};
@@ -5,12 +7,19 @@ ghost use Rattle.session.specs.Judging.{IsTopic, IsWord, name_of};
 /// A method of RTSP that is spoken (RFC 2326 section 10).
 #[derive(Clone, Copy, Debug, PartialEq, Eq)]
 pub(crate) enum Method {
+    /// OPTIONS (section 10.1).
     Options,
+    /// DESCRIBE (section 10.2).
     Describe,
+    /// SETUP (section 10.4).
     Setup,
+    /// PLAY (section 10.5).
     Play,
+    /// PAUSE (section 10.6).
     Pause,
+    /// TEARDOWN (section 10.7).
     Teardown,
+    /// GET_PARAMETER (section 10.8).
     GetParameter,
 }
 

@@ -23,8 +23,11 @@ use wire_curve::{CurveFault, CurveRefused};
 /// A run that is to be sent, what was sent before it, and the plan by which it is sent.
 #[derive(Drop)]
 pub(crate) struct Planned {
+    /// The run.
     pub(crate) run: Run,
+    /// The frames and octets that were sent before it.
     pub(crate) counts: Counts,
+    /// The bytes of each slot.
     pub(crate) plan: Plan,
 }
 

@@ -20,7 +20,7 @@ ghost use Rattle.session.specs.PlayLaws.{slots_missed};
 ghost use Rattle.session.specs.Playing.{IsPlayable};
 ghost use Rattle.session.specs.Sendings.{after_play, is_sending, is_taken, kept_of, next_of};
 ghost use Rattle.session.specs.Sendings.{after_slot, start_in};
-ghost use Rattle.session.specs.Standings.{HaltAnswer, Standing, awaits};
+ghost use Rattle.session.specs.Standings.{HaltAnswer, Standing, awaited_answer};
 
 /// A PLAY with a Range in Playing is refused: by 455, where no other refusal comes before (RFC 2326
 /// section 10.5 and appendix A.2).
@@ -56,7 +56,7 @@ pub fn law_slots_missed()
 pub fn law_play_done()
     ensures done { (old : Standing) (setup : Setup) (play : Played) →
         old.state ≡ Playing setup play → 0 < play.pacer.passed →
-        play.pacer.sent ≡ play.pacer.keep → awaits (after_play old) ≡ HaltAnswer play.pacer.keep }
+        play.pacer.sent ≡ play.pacer.keep → awaited_answer (after_play old) ≡ HaltAnswer play.pacer.keep }
     ensures going { (old : Standing) (setup : Setup) (play : Played) →
         old.state ≡ Playing setup play → play.pacer.sent < play.pacer.keep →
         after_play old ≡ old }

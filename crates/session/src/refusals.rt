@@ -1,3 +1,5 @@
+//! Whether a request can be done, and the refusal where it can't.
+
 ghost use Rattle.std.specs.Prelude.{◌≡◌, ◌≢◌, ◌<◌, ◌≤◌, ℕ, true, List, length, is_some};
 ghost use Rattle.std.specs.Prelude.{string_bytes, IfOk, IsTrue, IfSome, MatchOption, ◌↔◌};
 ghost use Rattle.std.specs.Prelude.{option_map};
@@ -54,12 +56,19 @@ pub(crate) struct Asked<'m> {
 /// A request that is taken up.
 #[derive(Clone, Copy, Debug)]
 pub(crate) enum Task<'m> {
+    /// The methods that are spoken are told.
     Options,
+    /// This film is described.
     Describe(Asked<'m>),
+    /// The film of this number is set up.
     Setup(usize),
+    /// This film is played.
     Play(Asked<'m>),
+    /// The play is paused.
     Pause,
+    /// The session ends.
     Teardown,
+    /// What the body asks for is told.
     GetParameter,
 }
 
@@ -228,6 +237,7 @@ fn is_valid(method: Method, place: Place, has_range: bool) -> bool
     }
 }
 
+/// What a valid request of a method asks to be done.
 fn task_of(films: usize, place: Place, method: Method, asked: Asked<'_>) -> Task<'_>
     requires asked { IsAsked films asked }
     requires session { NeedsSession method (is_some place.film) }
@@ -235,6 +245,7 @@ fn task_of(films: usize, place: Place, method: Method, asked: Asked<'_>) -> Task
     ensures task { IsTask films place result }
     ensures exact { result ≡ task_for method asked.entry }
 {
+    // only the contract speaks of these two
     let _ = (films, place);
     match method {
         Method::Options => Task::Options,

@@ -6,7 +6,7 @@ ghost use Rattle.session.specs.Replies.{plain_text, play_fields, play_text, over
 ghost use Rattle.session.specs.Replies.{full_text, parameters_text};
 ghost use Rattle.std.specs.Prelude.{◌≡◌, ◌≤◌, IsTrue, true, length, string_bytes, ℕ, List, Option};
 ghost use Rattle.std.specs.Prelude.{Some, [], decimal};
-ghost use Rattle.session.specs.Films.{counts_after, identity_of, ms_at, timestamp_at};
+ghost use Rattle.session.specs.Films.{counts_after, identity_of, milliseconds_at, timestamp_at};
 ghost use Rattle.session.specs.Hearings.{started_text};
 ghost use Rattle.std.specs.Int.{w32, to_be_bytes};
 ghost use Rattle.hex.specs.Hex.{encode_lower};
@@ -14,7 +14,7 @@ ghost use Rattle.vod_base.specs.Names.{is_good_name};
 ghost use Rattle.rtsp_text.specs.Lines.{is_one_line};
 ghost use Rattle.rtsp_text.specs.Replies.{Field, is_code, reply_front};
 
-use crate::films::{counts_after, identity_of, ms_at, timestamp_at};
+use crate::films::{counts_after, identity_of, milliseconds_at, timestamp_at};
 use crate::refusals::Refusal;
 use crate::states::{Prepared, Setup, Source};
 use film_frames::Stored;
@@ -126,14 +126,17 @@ pub(crate) fn put_plain(reply: &mut Reply, sequence: u64)
 /// What a play's reply says of its run.
 #[derive(Clone, Copy, Debug)]
 pub(crate) struct Info<'m> {
-    /// From and to which time it is, in milliseconds.
+    /// The time at which it begins, in milliseconds.
     pub(crate) first_ms: u64,
+    /// The time at which it ends, in milliseconds.
     pub(crate) end_ms: u64,
-    /// The authority of the request's URL, and the film's name.
+    /// The authority of the request's URL.
     pub(crate) authority: &'m [u8],
+    /// The film's name.
     pub(crate) name: &'m [u8],
-    /// The sequence number of the next frame, and the timestamp of the first unplayed unit.
+    /// The sequence number of the next frame.
     pub(crate) sequence: u16,
+    /// The timestamp of the first unplayed unit, in 1/90,000 second.
     pub(crate) timestamp: u32,
 }
 
@@ -147,8 +150,8 @@ pub(crate) fn info_of<'m>(
 ) -> Info<'m>
     requires from { prepared.now.run.from_unit ≤ 4194304 }
     requires end { prepared.now.run.end_unit ≤ 4194304 }
-    ensures first { result.first_ms ≡ ms_at stored.now.film prepared.now.run.from_unit }
-    ensures end { result.end_ms ≡ ms_at stored.now.film prepared.now.run.end_unit }
+    ensures first { result.first_ms ≡ milliseconds_at stored.now.film prepared.now.run.from_unit }
+    ensures end { result.end_ms ≡ milliseconds_at stored.now.film prepared.now.run.end_unit }
     ensures authority { result.authority.now ≡ authority.now }
     ensures name { result.name.now ≡ string_bytes stored.now.name }
     ensures number { let sent = counts_after prepared.now.counts prepared.now.frames
@@ -160,8 +163,8 @@ pub(crate) fn info_of<'m>(
     let run = prepared.run;
     let sent = counts_after(prepared.counts, &prepared.frames, run.sent);
     Info {
-        first_ms: ms_at(&stored.film, run.from_unit),
-        end_ms: ms_at(&stored.film, run.end_unit),
+        first_ms: milliseconds_at(&stored.film, run.from_unit),
+        end_ms: milliseconds_at(&stored.film, run.end_unit),
         authority,
         name: stored.name.as_bytes(),
         sequence: identity_of(source, setup, sent).sequence,

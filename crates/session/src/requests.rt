@@ -16,7 +16,7 @@ ghost use Rattle.session.specs.Methods.{Pauses, Plays, SetsUp, TearsDown};
 ghost use Rattle.session.specs.Planning.{IsPausedIn};
 ghost use Rattle.session.specs.Replies.{refusal_text};
 ghost use Rattle.session.specs.Standings.{AsksFor, CanHear, IsAtRest, IsReadyIn, IsSameBusiness};
-ghost use Rattle.session.specs.Standings.{has_session_in, is_playing_in, replied};
+ghost use Rattle.session.specs.Standings.{has_session_in, is_playing_in, with_reply};
 
 use crate::asks::Ask;
 use crate::films::{frames_of, length_ms, stored_at};
@@ -62,6 +62,7 @@ impl<'a> Session<'a> {
         }
     }
 
+    /// Hears a request that could be read: it is refused, or taken up by its method.
     fn hear_request(&mut self, request: &Request<'_>) -> Ask
         requires hear { CanHear self.old }
         requires head { length request.now.head.now ≤ 16384 }
@@ -124,7 +125,7 @@ impl<'a> Session<'a> {
         requires short { length option.now ≤ 16384 }
         requires line { is_one_line option.now ≡ true }
         ensures ask { result ≡ Ask.Reply }
-        ensures exact { self.new ≡ replied self.old (refusal_text sequence refusal option.now) }
+        ensures exact { self.new ≡ with_reply self.old (refusal_text sequence refusal option.now) }
         ensures asks { AsksFor result self.new }
         ensures same { IsSameBusiness self.old self.new }
     {
@@ -341,6 +342,8 @@ impl<'a> Session<'a> {
         }
     }
 
+    /// Answers a GET_PARAMETER for an offer in Ready: the run from the beginning, or on from where it
+    /// was paused, is planned, and an offer is asked for.
     fn offer_ready(&mut self, sequence: u64, wait: u64, setup: &Setup, paused: Option<Run>) -> Ask
         requires hear { CanHear self.old }
         requires setup { IsSetup (length self.old.films) setup.now }
@@ -382,10 +385,7 @@ fn wait_of(request: &Request<'_>) -> Option<u64>
         ¬ HasWait request.now.head.now wait) (HasWait request.now.head.now) }
     ensures most { IfSome result (λ wait. wait ≤ 255) }
 {
-    match header(request, b"x-Wait") {
-        Some(value) => read_wait(value),
-        None => None,
-    }
+    read_wait(header(request, b"x-Wait")?)
 }
 
 /// The plan twice more.

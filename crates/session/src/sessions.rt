@@ -1,3 +1,5 @@
+//! A session as its connection sees it: how it begins, what waits, and what it leaves.
+
 ghost use Rattle.std.specs.Prelude.{◌≡◌, ◌≤◌, ◌^◌, [], false, None, IfOk, IfSome, MatchOption};
 ghost use Rattle.session.specs.Ranges.{AreFilms, AreSettings};
 ghost use Rattle.session.specs.Hearings.{new_standing};
@@ -21,29 +23,41 @@ use vod_base::NoMemory;
 /// Contracts see a record of named fields, and speak of it by the words of its specification.
 #[derive(Drop)]
 pub struct Session<'a> {
+    /// What the session takes memory from.
     pub(crate) alloc: Global,
+    /// The server's films.
     pub(crate) films: &'a [Stored],
+    /// The server's settings.
     pub(crate) settings: Settings,
     /// The session's id, in hexadecimal digits.
     pub(crate) id: [u8; 16],
+    /// What its stream begins with.
     pub(crate) source: Source,
+    /// Where it stands.
     pub(crate) state: State<'a>,
     /// What was sent before the run in hand, or in all where there is none.
     pub(crate) counts: Counts,
+    /// What the station was asked and hasn't answered.
     pub(crate) awaited: Awaited<'a>,
     /// The reply, or the front of the one that the station's answer completes.
     pub(crate) reply: Reply,
+    /// The reply's body.
     pub(crate) body: Text,
+    /// Whether the reply waits to be sent.
     pub(crate) waits: bool,
-    /// Whether a TEARDOWN was answered 200, and whether that reply was sent.
+    /// Whether a TEARDOWN was answered 200.
     pub(crate) tearing: bool,
+    /// Whether that reply was sent.
     pub(crate) torn: bool,
     /// Whether a call of the link failed.
     pub(crate) lost: bool,
+    /// The greatest slot up to 2^62 that was heard.
     pub(crate) heard: u64,
+    /// The slots that were missed while plays were sent.
     pub(crate) late: u64,
     /// How many more looks there is room for from the beginning.
     pub(crate) looks_left: usize,
+    /// What is noted for the report.
     pub(crate) log: Log,
 }
 

@@ -11,17 +11,15 @@ ghost use Rattle.session.specs.Sendings.{start_in, step_bytes, stepped_in};
 ghost use Rattle.session.specs.Steps.{IsCarried, IsEven, IsHaltIn, IsLeft, IsPacingIn, IsPlayIn};
 ghost use Rattle.session.specs.Steps.{after_stop};
 ghost use Rattle.session.specs.Standings.{AreNotesKept, Brings, BringsIn, IsAtRest, IsSameBooking};
-ghost use Rattle.session.specs.Standings.{NoAnswer, awaits_of, open_in, open_of, taken_up};
+ghost use Rattle.session.specs.Standings.{NoAnswer, awaited_answer_of, open_in, open_of, taken_up};
 
 use crate::asks::Slotted;
 use crate::sessions::Session;
 use crate::states::{Awaited, Next, State};
+use admission::LATEST_SLOT;
 use rtsp_text::Reply;
 use std::mem;
 use vod_base::{Link, LinkFault};
-
-/// The latest slot that is taken up.
-const LATEST_SLOT: u64 = 1 << 62;
 
 impl<'a> Session<'a> {
     /// Takes up a slot, if it is a later one than the last and none above 2^62, and sends what is
@@ -154,14 +152,8 @@ fn step<K: Link>(
         (K.told link.old) (step_bytes stop slot state.old) (K.told link.new)) }
 {
     match state {
-        State::Playing(_, play) => match play.pacer.step(slot, stop, link) {
-            Ok(stepped) => Ok(stepped.left),
-            Err(LinkFault) => Err(LinkFault),
-        },
-        State::Stopping(_, halted) => match halted.pacer.step(slot, stop, link) {
-            Ok(stepped) => Ok(stepped.left),
-            Err(LinkFault) => Err(LinkFault),
-        },
+        State::Playing(_, play) => Ok(play.pacer.step(slot, stop, link)?.left),
+        State::Stopping(_, halted) => Ok(halted.pacer.step(slot, stop, link)?.left),
         _ => Ok(0),
     }
 }
@@ -272,7 +264,7 @@ fn settle(state: &mut State<'_>)
 /// Asks for the halt of a play that is done.
 fn finish<'a>(state: &State<'a>, awaited: &mut Awaited<'a>) -> Slotted
     requires play { IsPlayIn state.now }
-    requires rest { awaits_of awaited.old ≡ NoAnswer }
+    requires rest { awaited_answer_of awaited.old ≡ NoAnswer }
     ensures awaited { awaited.new ≡ finished_in state.now awaited.old }
     ensures halt { IsFinished state.now awaited.new }
     ensures brings { BringsIn result awaited.new state.now }

@@ -26,16 +26,20 @@ pub(crate) struct Setup {
 /// The frames that a session sent, and their octets, both modulo 2^32.
 #[derive(Clone, Copy, Debug, PartialEq, Eq)]
 pub(crate) struct Counts {
+    /// The frames.
     pub(crate) frames: u32,
+    /// Their octets.
     pub(crate) octets: u32,
 }
 
-/// What a connection's random words give its stream: the SSRC, and what the first frame's sequence
-/// number and the film's beginning have as sequence number and timestamp (RFC 3550 section 5.1).
+/// What a connection's random words give its stream (RFC 3550 section 5.1).
 #[derive(Clone, Copy, Debug, PartialEq, Eq)]
 pub(crate) struct Source {
+    /// The SSRC.
     pub(crate) ssrc: u32,
+    /// The sequence number of the first frame.
     pub(crate) sequence: u16,
+    /// The timestamp of the film's beginning, in 1/90,000 second.
     pub(crate) timestamp: u32,
 }
 
@@ -65,13 +69,16 @@ pub(crate) struct Stop<'a> {
     pub(crate) pacer: Pacer<Frames<'a>>,
 }
 
-/// A session's state. Init has no session; a Ready one may have a run that was paused; a Stopping
-/// one will be Ready as soon as its reply is sent.
+/// A session's state.
 #[derive(Drop)]
 pub(crate) enum State<'a> {
+    /// There is no session.
     Init,
+    /// A film is set up; a run of it may be paused.
     Ready(Setup, Option<Run>),
+    /// A play is sent.
     Playing(Setup, Play<'a>),
+    /// A play was halted: the session is Ready as soon as its reply is sent.
     Stopping(Setup, Stop<'a>),
 }
 
@@ -84,8 +91,9 @@ pub(crate) struct Prepared<'a> {
     pub(crate) counts: Counts,
     /// What will be sent.
     pub(crate) frames: Frames<'a>,
-    /// Its plan, twice: for the note of the play, and for what sends it.
+    /// Its plan, for the note of the play.
     pub(crate) plan: Plan,
+    /// Its plan once more, for what sends it.
     pub(crate) paced: Plan,
     /// The number of the request.
     pub(crate) sequence: u64,
@@ -105,6 +113,7 @@ pub(crate) enum Next {
 /// What the station was asked and hasn't answered.
 #[derive(Drop)]
 pub(crate) enum Awaited<'a> {
+    /// Nothing.
     Nothing,
     /// A play.
     Play(Prepared<'a>),

@@ -1,3 +1,5 @@
+//! The text of a reply's body, in a buffer of a fixed size.
+
 ghost use Rattle.std.specs.Prelude.{◌≡◌, ◌+◌, ◌≤◌, ◌++◌, [], length, decimal, IfOk};
 
 use itoa::Buffer;
@@ -30,18 +32,18 @@ impl Text {
     pub(crate) fn new(alloc: Global) -> Result<Text, NoMemory>
         ensures { IfOk result (λ text. text ≡ []) }
     {
-        match Vec::with_capacity(alloc, ROOM) {
-            Ok(bytes) => Ok(Text { bytes }),
-            Err(_) => Err(NoMemory),
-        }
+        let bytes = Vec::with_capacity(alloc, ROOM)?;
+        Ok(Text { bytes })
     }
 
+    /// Drops the text; the buffer stays.
     pub(crate) fn clear(&mut self)
         ensures { self.new ≡ [] }
     {
         self.bytes.clear();
     }
 
+    /// The text so far.
     pub(crate) fn bytes(&self) -> &[u8]
         ensures { result.now ≡ self.now }
     {

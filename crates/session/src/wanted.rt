@@ -50,10 +50,7 @@ fn new_run(film: &Film, from: u128, to: Option<u128>) -> Option<Wanted>
     ensures { MatchOption result (HasNothing film.now from to) (λ wanted.
         IsNewRun film.now from to wanted) }
 {
-    match run_between(film, from, to) {
-        Some(run) => Some(Wanted::New(run)),
-        None => None,
-    }
+    Some(Wanted::New(run_between(film, from, to)?))
 }
 
 /// The run that a span asks for: the paused run from now on, else a new one.

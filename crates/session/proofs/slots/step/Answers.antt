@@ -1,14 +1,39 @@
-use Rattle.std.proofs.Common.{subst}
+use Rattle.std.proofs.Common.{subst, sym}
+use Rattle.vod_base.specs.Links.{IsFrontTold}
+use Rattle.session.specs.Sendings.{step_bytes}
 use Rattle.session.specs.Steps.{IsPacingIn}
+use Rattle.session.specs.declared.states.State.{State}
+use Rattle.session.proofs.Fronts.{failed_front, on_err}
 use Rattle.session.proofs.SlotBytes.{stopped}
 use Rattle.session.proofs.slots.step.Goals as goal
 
-pub returns-in-Ok-clause-between : goal.returns-in-Ok-clause-between
-returns-in-Ok-clause-between g c more stops =
+pub returns-in_ok-step-in-Playing-clause-between :
+    goal.returns-in_ok-step-in-Playing-clause-between
+returns-in_ok-step-in-Playing-clause-between g c more stops =
+    let step = c.in_ok-step-in-Playing in
     stopped c.args.slot
-    (subst IsPacingIn c.in-Playing.is c.requires) c.in-Ok.ensures.state c.in-Ok.ensures.answer.left more stops
+    (subst IsPacingIn c.in-Playing.is c.requires) step.ensures.state step.ensures.answer.left more stops
 
-pub returns-in-Ok-step-clause-between : goal.returns-in-Ok-step-clause-between
-returns-in-Ok-step-clause-between g c more stops =
+pub returns-in_ok-step-in-Stopping-clause-between :
+    goal.returns-in_ok-step-in-Stopping-clause-between
+returns-in_ok-step-in-Stopping-clause-between g c more stops =
+    let step = c.in_ok-step-in-Stopping in
     stopped c.args.slot
-    (subst IsPacingIn c.in-Stopping.is c.requires) c.in-Ok-step.ensures.state c.in-Ok-step.ensures.answer.left more stops
+    (subst IsPacingIn c.in-Stopping.is c.requires) step.ensures.state step.ensures.answer.left more stops
+
+pub returns-in_err-step-in-Playing-clause-front : goal.returns-in_err-step-in-Playing-clause-front
+returns-in_err-step-in-Playing-clause-front g c =
+    let old = g.K.Link.told c.args.link.now in
+    let new = g.K.Link.told c.step.new.link in
+    on_err c.from_residual.result
+    (subst (λ (s : State). IsFrontTold old new (step_bytes c.args.stop c.args.slot s)) (sym c.in-Playing.is)
+    (failed_front {stop = c.args.stop} {slot = c.args.slot} {p = c.in-Playing.play.pacer} {new = c.step.new.self} {told = old} {next = new} c.in_err-step-in-Playing.ensures.failed))
+
+pub returns-in_err-step-in-Stopping-clause-front :
+    goal.returns-in_err-step-in-Stopping-clause-front
+returns-in_err-step-in-Stopping-clause-front g c =
+    let old = g.K.Link.told c.args.link.now in
+    let new = g.K.Link.told c.step-in-Stopping.new.link in
+    on_err c.from_residual-in_err-step-in-Stopping.result
+    (subst (λ (s : State). IsFrontTold old new (step_bytes c.args.stop c.args.slot s)) (sym c.in-Stopping.is)
+    (failed_front {stop = c.args.stop} {slot = c.args.slot} {p = c.in-Stopping.halted.pacer} {new = c.step-in-Stopping.new.self} {told = old} {next = new} c.in_err-step-in-Stopping.ensures.failed))

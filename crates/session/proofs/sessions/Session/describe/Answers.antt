@@ -2,7 +2,7 @@ use Rattle.std.proofs.Common.{ℕ, List, ap, subst, ◌∙◌, string_bytes}
 use Rattle.session.specs.Inside.{standing_of}
 use Rattle.session.specs.Methods.{Describes}
 use Rattle.session.specs.Replies.{describe_text}
-use Rattle.session.specs.Standings.{Standing, replied}
+use Rattle.session.specs.Standings.{Standing, with_reply}
 use Rattle.session.proofs.sessions.Session.describe.Goals as goal
 
 pub returns-clause-exact : goal.returns-clause-exact
@@ -16,7 +16,7 @@ returns-clause-exact c =
       at = c.stored_at-stored.ensures.film;
       reply = (
         c.reply_waits.ensures.asks,
-        c.reply_waits.ensures.waits ∙ ap (λ (t : List ℕ). replied (standing_of c.self.inside) t)
+        c.reply_waits.ensures.waits ∙ ap (λ (t : List ℕ). with_reply (standing_of c.self.inside) t)
             (c.put_description.ensures ∙ ap (λ (name : List ℕ). text name c.length_ms-end_ms.result) c.as_str.ensures.value
             ∙ ap (λ (ms : ℕ). text (string_bytes stored.name) ms) c.length_ms-end_ms.ensures),
       );
