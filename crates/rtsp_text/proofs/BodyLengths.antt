@@ -51,7 +51,7 @@ name_is name rest none same =
     let parts : map to_ascii_lowercase t ≡ map to_ascii_lowercase (codes "Content-Length") ++ 58 ∷ more =
     ap (map to_ascii_lowercase) (sym (take-append-drop 15 t)) ∙ map-append to_ascii_lowercase (take 15 t) (drop 15 t) ∙ ap (λ l. l ++ more) same in
     let cut : IsSplitAtFirst 58 (map to_ascii_lowercase t) (map to_ascii_lowercase (codes "Content-Length")) more = record { parts = parts; first = refl } in
-    sym (cut_once 58 (map to_ascii_lowercase t) (map to_ascii_lowercase (codes "Content-Length")) more (map to_ascii_lowercase name) (map to_ascii_lowercase rest) cut
+    sym (cut_once cut
     (map-append to_ascii_lowercase name (58 ∷ rest)) (lower_other name none)).front
 
 -- what stands at a line's begin
@@ -74,8 +74,8 @@ other_line a name value rest none line =
     name_is name (32 ∷ (value ++ 13 ∷ 10 ∷ rest)) none (ap (map to_ascii_lowercase) (sym (begin_slice a name value rest)) ∙ line.name)
 
 -- the value of the line
-value_at : (a name value rest : List ℕ) → length name ≡ 14 → is_one_line value ≡ true → without_blanks value ≡ value → IsValueAt (line_bytes a name value rest) (length a + 15) (written_length value)
-value_at a name value rest size one bare =
+value_at : {value : List ℕ} (a name rest : List ℕ) → length name ≡ 14 → is_one_line value ≡ true → without_blanks value ≡ value → IsValueAt (line_bytes a name value rest) (length a + 15) (written_length value)
+value_at {value} a name rest size one bare =
     let b = a ++ (name ++ 58 ∷ []) in
     let w = line_bytes a name value rest in
     let shape : b ++ ((32 ∷ value) ++ 13 ∷ 10 ∷ rest) ≡ w =
@@ -129,7 +129,7 @@ scan a (f ∷ fs) all some feed none =
             at = length a;
             is_line = subst (λ (v : List ℕ). IsLengthLine v (length a)) spelled (named_line a f.name f.value rest some feed lower);
             first = none;
-            value = inl (subst (λ (v : List ℕ). IsValueAt v (length a + 15) (written_length f.value)) spelled (value_at a f.name f.value rest size plain.one_line plain.bare));
+            value = inl (subst (λ (v : List ℕ). IsValueAt v (length a + 15) (written_length f.value)) spelled (value_at a f.name rest size plain.one_line plain.bare));
           } in
           subst given (sym (cond-true (str_eq_ignore_ascii_case f.name (codes "Content-Length")) (Some f.value) (value_named (codes "Content-Length") fs) same)) (inl here)
           )

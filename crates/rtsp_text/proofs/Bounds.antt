@@ -28,23 +28,25 @@ lengths_of message head body whole split =
     }
 
 -- a request's URL is shorter than its head
-url_short : (message head body method url version : List ℕ) → IsSplit message head body → IsRequestLine (first_line message) method url version → length url < length head
-url_short message head body method url version split line =
+url_short : {message head body method url version : List ℕ} → IsSplit message head body → IsRequestLine (first_line message) method url version → length url < length head
+url_short {message} {head} {method} {url} {version} split line =
     let i = first_line_inside head (first_line message) (header_lines message ++ [] ∷ []) split.lines_are in
     omega (arith, i.short, ap length line.parts, length-append method (32 ∷ (url ++ 32 ∷ version)), length-append url (32 ∷ version))
 
 -- the same of what was read
-pub read_head : {X E : Type 0} (head body : X → List ℕ) (method url : X → List ℕ) (sequence : X → ℕ) (r : Result X E) (message : List ℕ) → IsRequestLength message (length message) →
+pub read_head : {X E : Type 0} {message : List ℕ} (head body method url : X → List ℕ) (sequence : X → ℕ)
+    (r : Result X E) → IsRequestLength message (length message) →
     IfOk r (λ x. IsRequest message (method x) (url x) (sequence x) (head x) (body x)) → IfOk r (λ x. length (head x) ≤ 16384)
-read_head head body method url sequence (Ok x) message whole read = (lengths_of message (head x) (body x) whole read.split).head_short
-read_head head body method url sequence (Err e) message whole read = tt
+read_head {message} head body method url sequence (Ok x) whole read = (lengths_of message (head x) (body x) whole read.split).head_short
+read_head head body method url sequence (Err e) whole read = tt
 
-pub read_body : {X E : Type 0} (head body : X → List ℕ) (method url : X → List ℕ) (sequence : X → ℕ) (r : Result X E) (message : List ℕ) → IsRequestLength message (length message) →
+pub read_body : {X E : Type 0} {message : List ℕ} (head body method url : X → List ℕ) (sequence : X → ℕ)
+    (r : Result X E) → IsRequestLength message (length message) →
     IfOk r (λ x. IsRequest message (method x) (url x) (sequence x) (head x) (body x)) → IfOk r (λ x. length (body x) ≤ 65536)
-read_body head body method url sequence (Ok x) message whole read = (lengths_of message (head x) (body x) whole read.split).body_short
-read_body head body method url sequence (Err e) message whole read = tt
+read_body {message} head body method url sequence (Ok x) whole read = (lengths_of message (head x) (body x) whole read.split).body_short
+read_body head body method url sequence (Err e) whole read = tt
 
 pub read_url : {X E : Type 0} (head body : X → List ℕ) (method url : X → List ℕ) (sequence : X → ℕ) (r : Result X E) (message : List ℕ) →
     IfOk r (λ x. IsRequest message (method x) (url x) (sequence x) (head x) (body x)) → IfOk r (λ x. length (url x) < length (head x))
-read_url head body method url sequence (Ok x) message read = url_short message (head x) (body x) (method x) (url x) (codes "RTSP/1.0") read.split read.line
+read_url head body method url sequence (Ok x) message read = url_short read.split read.line
 read_url head body method url sequence (Err e) message read = tt

@@ -96,7 +96,7 @@ walk a (l ∷ ls) rest all at =
     let next : IsAfterLine w n = record {
       some = omega (arith, at.some);
       feed = line.feed;
-      none = no_head_more w (length a) (length a + length l.text) n at.some line (λ e. omega (arith, e, header.some)) at.none;
+      none = no_head_more at.some line (λ e. omega (arith, e, header.some)) at.none;
     } in
     let size : n ≡ length (a ++ line_bytes l) = sym (length-append a (line_bytes l)) in
     let start : IsAfterLine ((a ++ line_bytes l) ++ tail) (length (a ++ line_bytes l)) =
@@ -138,4 +138,4 @@ head_found first headers last later ended all empty =
     let done : IsAfterLine w (length (a ++ fields)) =
     subst (λ (v : List ℕ). IsAfterLine v (length (a ++ fields))) shape (subst (λ k. IsAfterLine (a ++ (fields ++ rest)) k) size at) in
     subst (λ k. IsHead w k) (sym (length-append (a ++ fields) (line_bytes last)))
-    (head_here w (length (a ++ fields)) (length (a ++ fields) + length (line_bytes last)) done.some done.feed line done.none)
+    (head_here done.some done.feed line done.none)

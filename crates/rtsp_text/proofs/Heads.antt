@@ -34,8 +34,8 @@ cr_byte : (m n b : ℕ) → (nat_lt m n && (b == 13)) ≡ true → b ≡ 13
 cr_byte m n b h = grind (arith, nat_tests)
 
 -- a line that isn't empty ends no head
-pub no_head_more : (w : List ℕ) (at e n : ℕ) → 0 < at → IsLine w at e n → e ≢ at → HasNoHead w at → HasNoHead w n
-no_head_more w at e n after line some none = λ k below. (
+pub no_head_more : {w : List ℕ} {at e n : ℕ} → 0 < at → IsLine w at e n → e ≢ at → HasNoHead w at → HasNoHead w n
+no_head_more {w} {at} {n} after line some none = λ k below. (
     elim (cases_lt k at) [
       | inl before ↦ none k before
       | inr from ↦ elim (cases_lt (k + 1) n) [
@@ -63,8 +63,8 @@ no_head_more w at e n after line some none = λ k below. (
     ])
 
 -- an empty line ends the head
-pub head_here : (w : List ℕ) (at n : ℕ) → 0 < at → get_or w (at - 1) 0 ≡ 10 → IsLine w at at n → HasNoHead w at → IsHead w n
-head_here w at n after feed line none = record {
+pub head_here : {w : List ℕ} {at n : ℕ} → 0 < at → get_or w (at - 1) 0 ≡ 10 → IsLine w at at n → HasNoHead w at → IsHead w n
+head_here {w} {at} {n} after feed line none = record {
   some = omega (arith, line.after);
   within = line.within;
   ends = elim (cases_Bool (nat_lt (at + 1) n && (get_or w (n - 2) 0 == 13))) [
@@ -155,8 +155,8 @@ line_drop w at e n line = record {
 }
 
 -- a line within the first bytes
-line_take : (w : List ℕ) (at e n m : ℕ) → n ≤ m → IsLine w at e n → IsLine (take m w) at e n
-line_take w at e n m few line = record {
+line_take : {w : List ℕ} {at e n : ℕ} (m : ℕ) → n ≤ m → IsLine w at e n → IsLine (take m w) at e n
+line_take {w} {at} {n} m few line = record {
   after = line.after;
   within = omega (arith, length-take m w, line.within);
   feed = get_or-take m w (n - 1) 0 (omega (arith, line.after)) ∙ line.feed;
@@ -203,13 +203,13 @@ walk_first w e n line =
       seen = [];
       whole = sym (header_lines-next w (take e w) (drop n w) next);
       front = λ m few.
-          let there = next_here (take m w) e n (line_take w 0 e n m few line) in
+          let there = next_here (take m w) e n (line_take m few line) in
           there.lines_are ∙ ap (λ t. t ∷ lines (drop n (take m w))) (take-take e m w (omega (arith, (line_bounds w 0 e n line).1)) ∙ sym (first_line-next w (take e w) (drop n w) next));
     }
 
 -- after one line more
-pub walk_more : (w : List ℕ) (at e n : ℕ) → HasWalked w at → IsLine w at e n → e ≢ at → HasWalked w n
-walk_more w at e n walked line some =
+pub walk_more : {w : List ℕ} {at e n : ℕ} → HasWalked w at → IsLine w at e n → e ≢ at → HasWalked w n
+walk_more {w} {at} {e} {n} walked line some =
     let bounds = line_bounds w at e n line in
     let text = take (e - at) (drop at w) in
     let long : 0 < length text = omega (arith, length-take (e - at) (drop at w), length-drop at w, bounds.0, bounds.1, line.within, some) in
@@ -218,11 +218,11 @@ walk_more w at e n walked line some =
       after = omega (arith, line.after);
       within = line.within;
       feed = line.feed;
-      none = no_head_more w at e n walked.after line some walked.none;
+      none = no_head_more walked.after line some walked.none;
       seen = walked.seen ++ text ∷ [];
       whole = walked.whole ∙ ap (λ l. walked.seen ++ l) next.lines_are ∙ sym (append_assoc walked.seen (text ∷ []) (lines_before_empty (drop n w)));
       front = λ m few.
-          let there = next_at (take m w) at e n (line_take w at e n m few line) in
+          let there = next_at (take m w) at e n (line_take m few line) in
           walked.front m (omega (arith, line.after))
           ∙ ap (λ l. first_line w ∷ (walked.seen ++ l)) (there.lines_are ∙ ap (λ t. t ∷ lines (drop n (take m w))) (text_take w at e m (omega (arith, line.after)) (omega (arith, bounds.1))))
           ∙ ap (λ l. first_line w ∷ l) (sym (append_assoc walked.seen (text ∷ []) (lines (drop n (take m w)))));
@@ -240,7 +240,7 @@ walk_end w at n walked line =
     let none : length (take (at - at) (drop at w)) ≡ 0 = ap length empty in
     let last : header_lines w ≡ walked.seen =
     walked.whole ∙ ap (λ l. walked.seen ++ l) (next_empty (drop at w) (take (at - at) (drop at w)) (drop n w) (next_at w at at n line) none) ∙ append-nil walked.seen in
-    let there = next_at (take n w) at at n (line_take w at at n n (omega arith) line) in
+    let there = next_at (take n w) at at n (line_take n (omega arith) line) in
     let rest : drop n (take n w) ≡ [] = drop_all n (take n w) (omega (arith, length-take n w)) in
     let text : take (at - at) (drop at (take n w)) ≡ [] = ap (λ k. take k (drop at (take n w))) (let k : at - at ≡ 0 = omega arith in k) in
     let lines_are : lines (take n w) ≡ first_line w ∷ (header_lines w ++ [] ∷ []) =
@@ -251,7 +251,7 @@ walk_end w at n walked line =
     let P : ℕ → Type 0 = λ k. IsHead w k in
     record {
       parts = sym (take-append-drop n w);
-      is_head = subst P (sym len) (head_here w at n walked.after walked.feed line walked.none);
+      is_head = subst P (sym len) (head_here walked.after walked.feed line walked.none);
       lines_are = lines_are;
       same_lines = same_header_lines (take n w) w lines_are;
     }

@@ -14,11 +14,11 @@ use Rattle.rtsp_text.specs.declared.requests.RequestFault.TheVariants.{BadLine, 
 use Rattle.rtsp_text.proofs.Words.{AreLineParts, line_parts, method_cut, url_cut}
 
 -- a request line has one method, one URL and one version
-line_once : (text m u v m' u' v' : List ℕ) → IsRequestLine text m u v → IsRequestLine text m' u' v' → AreLineParts m u v m' u' v'
-line_once text m u v m' u' v' a b = line_parts text m (u ++ 32 ∷ v) u v m' u' v' (method_cut text m u v a) (url_cut text m u v a) b
+line_once : {text m u v m' u' v' : List ℕ} → IsRequestLine text m u v → IsRequestLine text m' u' v' → AreLineParts m u v m' u' v'
+line_once {text} {m} {u} {v} a b = line_parts (method_cut text m u v a) (url_cut text m u v a) b
 
 version_once : (message v w : List ℕ) → HasVersion message v → HasVersion message w → v ≡ w
-version_once message v w a b = (line_once (first_line message) a.0 a.1.0 v b.0 b.1.0 w a.1.1 b.1.1).version_is
+version_once message v w a b = (line_once a.1.1 b.1.1).version_is
 
 -- the first bad line
 pub bad_once : (lines : List (List ℕ)) (n m : ℕ) → IsFirstBad lines n → IsFirstBad lines m → n ≡ m
@@ -77,7 +77,7 @@ pub record AreSameParts (m u : List ℕ) (s : ℕ) (h b m' u' : List ℕ) (s' : 
 
 pub request_once : (message m u : List ℕ) (s : ℕ) (h b m' u' : List ℕ) (s' : ℕ) (h' b' : List ℕ) → IsRequest message m u s h b → IsRequest message m' u' s' h' b' → AreSameParts m u s h b m' u' s' h' b'
 request_once message m u s h b m' u' s' h' b' x y =
-    let line = line_once (first_line message) m u (codes "RTSP/1.0") m' u' (codes "RTSP/1.0") x.line y.line in
+    let line = line_once x.line y.line in
     let len : length h ≡ length h' = head_once message (length h) (length h') x.split.is_head y.split.is_head in
     let front : h ≡ h' =
     sym (take_at h b (length h) refl) ∙ ap (take (length h)) (sym x.split.parts) ∙ ap (λ n. take n message) len ∙ ap (take (length h')) y.split.parts ∙ take_at h' b' (length h') refl in
@@ -92,13 +92,13 @@ request_once message m u s h b m' u' s' h' b' x y =
     }
 
 -- from what an answer says to the answer
-pub ok_and : {X E : Type 0} (r : Result X E) (P Q : X → Type 0) (R : E → Type 0) → IfOk r P → IfErr r R → ((x : X) → P x → Q x) → ((e : E) → R e → ⊥) → IsOkAnd r Q
-ok_and (Ok x) P Q R read refused read_is refused_is = read_is x read
-ok_and (Err e) P Q R read refused read_is refused_is = absurd (refused_is e refused)
+pub ok_and : {X E : Type 0} {P Q : X → Type 0} {R : E → Type 0} (r : Result X E) → IfOk r P → IfErr r R → ((x : X) → P x → Q x) → ((e : E) → R e → ⊥) → IsOkAnd r Q
+ok_and {P} (Ok x) read refused read_is refused_is = read_is x read
+ok_and {P} (Err e) read refused read_is refused_is = absurd (refused_is e refused)
 
-pub err_is : {X E : Type 0} (r : Result X E) (P : X → Type 0) (R : E → Type 0) (f : E) → IfOk r P → IfErr r R → ((x : X) → P x → ⊥) → ((e : E) → R e → e ≡ f) → r ≡ Err f
-err_is (Ok x) P R f read refused refused_is read_is = absurd (refused_is x read)
-err_is (Err e) P R f read refused refused_is read_is = ap Err (read_is e refused)
+pub err_is : {X E : Type 0} {r : Result X E} {P : X → Type 0} {R : E → Type 0} {f : E} → IfOk r P → IfErr r R → ((x : X) → P x → ⊥) → ((e : E) → R e → e ≡ f) → r ≡ Err f
+err_is {r = Ok x} {P} read refused refused_is read_is = absurd (refused_is x read)
+err_is {r = Err e} {P} read refused refused_is read_is = ap Err (read_is e refused)
 
 -- one header line more
 pub record IsAt (lines : List (List ℕ)) (n : ℕ) (line : List ℕ) (more : List (List ℕ)) : Type 0 where
@@ -115,8 +115,8 @@ line_at lines n line more e =
       left = sym (drop-drop 1 n lines) ∙ ap (drop 1) e;
     }
 
-pub bad_here : (lines : List (List ℕ)) (n : ℕ) (line : List ℕ) (more : List (List ℕ)) → drop n lines ≡ line ∷ more → ((k : ℕ) → k < n → IsHeaderLine (get_or lines k [])) → (¬ IsHeaderLine line) → IsFirstBad lines (n + 1)
-bad_here lines n line more e before bad =
+pub bad_here : {lines : List (List ℕ)} {line : List ℕ} {more : List (List ℕ)} (n : ℕ) → drop n lines ≡ line ∷ more → ((k : ℕ) → k < n → IsHeaderLine (get_or lines k [])) → (¬ IsHeaderLine line) → IsFirstBad lines (n + 1)
+bad_here {lines} {line} {more} n e before bad =
     let at = line_at lines n line more e in
     record { index = n; number_is = refl; inside = at.inside; before = before; bad = λ good. bad (subst IsHeaderLine at.line_is good) }
 

@@ -80,7 +80,7 @@ walk_texts a (t ∷ ts) rest all walked =
     let moved : m ≡ (a ++ (t ++ codes "\r\n")) ++ (flat ts ++ rest) =
     ap (λ l. a ++ l) (append_assoc (t ++ codes "\r\n") (flat ts) rest) ∙ sym (append_assoc a (t ++ codes "\r\n") (flat ts ++ rest)) in
     let here = subst (λ (w : List ℕ). IsLine w (length a) (length a + length t) (length a + length t + 2)) shape (line_here a t (flat ts ++ rest) line.one_line) in
-    let next = walk_more m (length a) (length a + length t) (length a + length t + 2) walked here (omega (arith, line.some)) in
+    let next = walk_more walked here (omega (arith, line.some)) in
     let size : length (a ++ (t ++ codes "\r\n")) ≡ length a + length t + 2 = length-append a (t ++ codes "\r\n") ∙ omega (arith, length-append t (codes "\r\n")) in
     let start : HasWalked ((a ++ (t ++ codes "\r\n")) ++ (flat ts ++ rest)) (length (a ++ (t ++ codes "\r\n"))) =
     subst (λ n. HasWalked ((a ++ (t ++ codes "\r\n")) ++ (flat ts ++ rest)) n) (sym size) (subst (λ (w : List ℕ). HasWalked w (length a + length t + 2)) moved next) in

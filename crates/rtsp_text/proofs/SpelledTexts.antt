@@ -26,11 +26,11 @@ use Rattle.rtsp_text.proofs.WordTexts.{word_is, word_of, value_is, named_texts, 
 use Rattle.rtsp_text.proofs.BodyLengths.{length_given, body_length_of}
 
 -- a message of these lines and this body, which has the length that the fields give, is whole
-whole_message : (s : List ℕ) (fields : List Field) (body : List ℕ) → IsLineText s → All IsPlain fields →
+whole_message : {s : List ℕ} (fields : List Field) (body : List ℕ) → IsLineText s → All IsPlain fields →
     length_given (value_named (codes "Content-Length") fields) ≡ length body →
     length (flat (s ∷ map text_of fields) ++ codes "\r\n") ≤ 16384 → length body ≤ 65536 →
     IsRequestLength ((flat (s ∷ map text_of fields) ++ codes "\r\n") ++ body) (length ((flat (s ∷ map text_of fields) ++ codes "\r\n") ++ body))
-whole_message s fields body one all given short small =
+whole_message {s} fields body one all given short small =
     let head = flat (s ∷ map text_of fields) ++ codes "\r\n" in
     let is_body : IsBodyLength head (length body) = subst (λ n. IsBodyLength head n) given (body_length_of s fields one all) in
     record {
@@ -167,7 +167,7 @@ request_whole parts sequence request short =
     let front = request.front in
     let long : List ℕ → Type 0 = λ f. length (f ++ codes "\r\n") ≤ 16384 in
     subst (λ (f : List ℕ). IsRequestLength ((f ++ codes "\r\n") ++ parts.body) (length ((f ++ codes "\r\n") ++ parts.body))) (sym (front_of parts))
-    (whole_message (request_line parts) parts.fields parts.body (line_text parts front) (plain_fields parts.fields front.fields_are)
+    (whole_message parts.fields parts.body (line_text parts front) (plain_fields parts.fields front.fields_are)
     (given_is (value_named (codes "Content-Length") parts.fields) parts.body request.length_is) (subst long (front_of parts) short.head_is) short.body_is)
 
 -- a method begins a request
@@ -247,7 +247,7 @@ reply_whole code sequence fields body is plain given short small =
     let lines_are = front_lines code sequence fields in
     let long : List ℕ → Type 0 = λ f. length (f ++ codes "\r\n") ≤ 16384 in
     subst (λ (f : List ℕ). IsRequestLength ((f ++ codes "\r\n") ++ body) (length ((f ++ codes "\r\n") ++ body))) (sym lines_are)
-    (whole_message (status_text code) (all_fields sequence fields) body (status_text-line code (status_of code is)) plain
+    (whole_message (all_fields sequence fields) body (status_text-line code (status_of code is)) plain
     (given_is (value_named (codes "Content-Length") (all_fields sequence fields)) body given) (subst long lines_are short) small)
 
 -- what is read as a request has a request's form

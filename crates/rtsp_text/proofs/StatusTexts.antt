@@ -55,23 +55,23 @@ pub record AreStatusParts (version digits reason d r : List ℕ) : Type 0 where
   pub digits_are : digits ≡ d
   pub reason_is : reason ≡ r
 
-pub status_rest : (text version rest : List ℕ) (code : ℕ) (r : List ℕ) → IsSplitAtFirst 32 text version rest → (line : IsStatusLine text code r) → (version ≡ codes "RTSP/1.0") × (rest ≡ line.digits ++ 32 ∷ r)
-status_rest text version rest code r first line =
-    let one = cut_once 32 text version rest (codes "RTSP/1.0") (line.digits ++ 32 ∷ r) first line.parts refl in
+pub status_rest : {text version rest : List ℕ} {code : ℕ} {r : List ℕ} → IsSplitAtFirst 32 text version rest → (line : IsStatusLine text code r) → (version ≡ codes "RTSP/1.0") × (rest ≡ line.digits ++ 32 ∷ r)
+status_rest {text} {version} {code} {r} first line =
+    let one = cut_once first line.parts refl in
     (one.front, one.after)
 
-pub status_none : (text version rest : List ℕ) (code : ℕ) (r : List ℕ) → IsSplitAtFirst 32 text version rest → list_all (λ byte. not (byte == 32)) rest ≡ true → IsStatusLine text code r → ⊥
-status_none text version rest code r first none line = cut_none 32 rest line.digits r none (status_rest text version rest code r first line).1
+pub status_none : {text version rest : List ℕ} {code : ℕ} {r : List ℕ} → IsSplitAtFirst 32 text version rest → list_all (λ byte. not (byte == 32)) rest ≡ true → IsStatusLine text code r → ⊥
+status_none {text} {version} {rest} {code} {r} first none line = cut_none 32 rest line.digits r none (status_rest first line).1
 
-pub status_parts : (text version rest digits reason : List ℕ) (code : ℕ) (r : List ℕ) → IsSplitAtFirst 32 text version rest → IsSplitAtFirst 32 rest digits reason → (line : IsStatusLine text code r) → AreStatusParts version digits reason line.digits r
-status_parts text version rest digits reason code r first second line =
-    let one = status_rest text version rest code r first line in
-    let two = cut_once 32 rest digits reason line.digits r second one.1 (digits_cut line.digits r code line.is_code).first in
+pub status_parts : {text version rest digits reason : List ℕ} {code : ℕ} {r : List ℕ} → IsSplitAtFirst 32 text version rest → IsSplitAtFirst 32 rest digits reason → (line : IsStatusLine text code r) → AreStatusParts version digits reason line.digits r
+status_parts {text} {version} {code} {r} first second line =
+    let one = status_rest first line in
+    let two = cut_once second one.1 (digits_cut line.digits r code line.is_code).first in
     record { version_is = one.0; digits_are = two.front; reason_is = two.after }
 
-pub whole_status : (text version rest digits reason : List ℕ) (code : ℕ) → IsSplitAtFirst 32 text version rest → IsSplitAtFirst 32 rest digits reason → version ≡ codes "RTSP/1.0" → IsCode digits code →
+pub whole_status : {text version rest digits reason : List ℕ} {code : ℕ} → IsSplitAtFirst 32 text version rest → IsSplitAtFirst 32 rest digits reason → version ≡ codes "RTSP/1.0" → IsCode digits code →
     0 < length reason → get_or reason 0 0 ≢ 32 → IsStatusLine text code reason
-whole_status text version rest digits reason code first second version_is is some no_space = record {
+whole_status {text} {version} {rest} {digits} {code} first second version_is is some no_space = record {
   digits = digits;
   parts = first.parts ∙ ap (λ v. v ++ 32 ∷ rest) version_is ∙ ap (λ t. codes "RTSP/1.0" ++ 32 ∷ t) second.parts;
   is_code = is;
@@ -80,10 +80,10 @@ whole_status text version rest digits reason code first second version_is is som
 }
 
 -- a status line has one code and one reason
-line_once : (text : List ℕ) (c : ℕ) (r : List ℕ) (d : ℕ) (s : List ℕ) → IsStatusLine text c r → IsStatusLine text d s → (c ≡ d) × (r ≡ s)
-line_once text c r d s a b =
+line_once : {text : List ℕ} {c : ℕ} {r : List ℕ} {d : ℕ} {s : List ℕ} → IsStatusLine text c r → IsStatusLine text d s → (c ≡ d) × (r ≡ s)
+line_once {text} {c} {r} {s} a b =
     let first : IsSplitAtFirst 32 text (codes "RTSP/1.0") (a.digits ++ 32 ∷ r) = record { parts = a.parts; first = refl } in
-    let same = status_parts text (codes "RTSP/1.0") (a.digits ++ 32 ∷ r) a.digits r d s first (digits_cut a.digits r c a.is_code) b in
+    let same = status_parts first (digits_cut a.digits r c a.is_code) b in
     (a.is_code.code_is ∙ ap (digits_value 10) same.digits_are ∙ sym b.is_code.code_is, same.reason_is)
 
 -- a reply has one list of parts
@@ -93,9 +93,9 @@ pub record AreSameReply (c : ℕ) (r h b : List ℕ) (c' : ℕ) (r' h' b' : List
   pub head_is : h ≡ h'
   pub body_is : b ≡ b'
 
-pub reply_once : (message : List ℕ) (c : ℕ) (r h b : List ℕ) (c' : ℕ) (r' h' b' : List ℕ) → IsReply message c r h b → IsReply message c' r' h' b' → AreSameReply c r h b c' r' h' b'
-reply_once message c r h b c' r' h' b' x y =
-    let line = line_once (first_line message) c r c' r' x.line y.line in
+pub reply_once : {message : List ℕ} {c : ℕ} {r h b : List ℕ} {c' : ℕ} {r' h' b' : List ℕ} → IsReply message c r h b → IsReply message c' r' h' b' → AreSameReply c r h b c' r' h' b'
+reply_once {message} {c} {r} {h} {b} {h'} {b'} x y =
+    let line = line_once x.line y.line in
     let len : length h ≡ length h' = head_once message (length h) (length h') x.split.is_head y.split.is_head in
     record {
       code_is = line.0;

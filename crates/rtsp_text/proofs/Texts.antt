@@ -5,18 +5,18 @@ use Rattle.std.proofs.lemmas.List.Concat.{flat_map-append}
 use Rattle.rtsp_text.specs.Replies.{Field, field_line, sequence_line, status_line, reply_front, reply_text}
 
 -- pieces one after another
-pub four_put : (old a b c d t1 t2 t3 t4 : List ℕ) → t1 ≡ old ++ a → t2 ≡ t1 ++ b → t3 ≡ t2 ++ c → t4 ≡ t3 ++ d → t4 ≡ old ++ (a ++ b ++ c ++ d)
-four_put old a b c d t1 t2 t3 t4 h1 h2 h3 h4 =
+pub four_put : {t1 t2 t3 t4 : List ℕ} (old a b c d : List ℕ) → t1 ≡ old ++ a → t2 ≡ t1 ++ b → t3 ≡ t2 ++ c → t4 ≡ t3 ++ d → t4 ≡ old ++ (a ++ b ++ c ++ d)
+four_put {t4} old a b c d h1 h2 h3 h4 =
     let all : t4 ≡ (((old ++ a) ++ b) ++ c) ++ d = h4 ∙ ap (λ t. t ++ d) (h3 ∙ ap (λ t. t ++ c) (h2 ∙ ap (λ t. t ++ b) h1)) in
     let same : (((old ++ a) ++ b) ++ c) ++ d ≡ old ++ (a ++ b ++ c ++ d) = simp append_assoc in
     all ∙ same
 
-pub five_put : (old a b c d e t1 t2 t3 t4 t5 : List ℕ) → t1 ≡ old ++ a → t2 ≡ t1 ++ b → t3 ≡ t2 ++ c → t4 ≡ t3 ++ d → t5 ≡ t4 ++ e → t5 ≡ old ++ (a ++ b ++ c ++ d ++ e)
-five_put old a b c d e t1 t2 t3 t4 t5 h1 h2 h3 h4 h5 =
-    h5 ∙ ap (λ t. t ++ e) (four_put old a b c d t1 t2 t3 t4 h1 h2 h3 h4) ∙ append_assoc old (a ++ b ++ c ++ d) e
+pub five_put : {t1 t2 t3 t4 t5 : List ℕ} (old a b c d e : List ℕ) → t1 ≡ old ++ a → t2 ≡ t1 ++ b → t3 ≡ t2 ++ c → t4 ≡ t3 ++ d → t5 ≡ t4 ++ e → t5 ≡ old ++ (a ++ b ++ c ++ d ++ e)
+five_put old a b c d e h1 h2 h3 h4 h5 =
+    h5 ∙ ap (λ t. t ++ e) (four_put old a b c d h1 h2 h3 h4) ∙ append_assoc old (a ++ b ++ c ++ d) e
 
-pub two_put : (old a b t1 t2 : List ℕ) → t1 ≡ old ++ a → t2 ≡ t1 ++ b → t2 ≡ old ++ (a ++ b)
-two_put old a b t1 t2 h1 h2 = h2 ∙ ap (λ t. t ++ b) h1 ∙ append_assoc old a b
+pub two_put : {t1 t2 : List ℕ} (old a b : List ℕ) → t1 ≡ old ++ a → t2 ≡ t1 ++ b → t2 ≡ old ++ (a ++ b)
+two_put old a b h1 h2 = h2 ∙ ap (λ t. t ++ b) h1 ∙ append_assoc old a b
 
 -- the front of a reply grows by its fields
 pub front_start : (code : ℕ) (sequence : Option ℕ) (old new : List ℕ) → new ≡ old ++ (status_line code ++ sequence_line sequence) → old ≡ [] → new ≡ reply_front code sequence []

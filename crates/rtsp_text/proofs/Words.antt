@@ -19,7 +19,7 @@ pub record AreHeaderParts (name value : List ℕ) : Type 0 where
 
 pub header_parts : (text name value : List ℕ) → IsSplitAtFirst 58 text name value → IsHeaderLine text → AreHeaderParts name value
 header_parts text name value cut line =
-    let same = cut_once 58 text name value line.name line.value cut line.parts (token_without 58 refl line.name line.name_is) in
+    let same = cut_once cut line.parts (token_without 58 refl line.name line.name_is) in
     record { name_is = ap is_token same.front ∙ line.name_is; value_is = ap (list_all is_value_byte) same.after ∙ line.value_is }
 
 pub header_line : (text name value : List ℕ) → IsSplitAtFirst 58 text name value → is_token name ≡ true → list_all is_value_byte value ≡ true → IsHeaderLine text
@@ -32,7 +32,7 @@ pub record AreNumberParts (major minor : List ℕ) : Type 0 where
 pub number_parts : (text major minor : List ℕ) → IsSplitAtFirst 46 text major minor → AreVersionNumbers text → AreNumberParts major minor
 number_parts text major minor cut numbers =
     let none = all_other is_ascii_digit 46 refl numbers.major (and_parts (nat_lt 0 (length numbers.major)) (list_all is_ascii_digit numbers.major) numbers.major_is).1 in
-    let same = cut_once 46 text major minor numbers.major numbers.minor cut numbers.parts none in
+    let same = cut_once cut numbers.parts none in
     record { major_is = ap is_decimal same.front ∙ numbers.major_is; minor_is = ap is_decimal same.after ∙ numbers.minor_is }
 
 -- the words of a request line are the parts at its first two spaces
@@ -41,17 +41,17 @@ pub record AreLineParts (method url version m u v : List ℕ) : Type 0 where
   pub url_is : url ≡ u
   pub version_is : version ≡ v
 
-pub line_parts : (text method rest url version m u v : List ℕ) → IsSplitAtFirst 32 text method rest → IsSplitAtFirst 32 rest url version → IsRequestLine text m u v → AreLineParts method url version m u v
-line_parts text method rest url version m u v first second line =
-    let one = cut_once 32 text method rest m (u ++ 32 ∷ v) first line.parts (token_without 32 refl m line.method_is) in
-    let two = cut_once 32 rest url version u v second one.after (all_other is_url_byte 32 refl u line.url_is.bytes) in
+pub line_parts : {text method rest url version m u v : List ℕ} → IsSplitAtFirst 32 text method rest → IsSplitAtFirst 32 rest url version → IsRequestLine text m u v → AreLineParts method url version m u v
+line_parts {text} {method} {url} {version} {m} {u} first second line =
+    let one = cut_once first line.parts (token_without 32 refl m line.method_is) in
+    let two = cut_once second one.after (all_other is_url_byte 32 refl u line.url_is.bytes) in
     record { method_is = one.front; url_is = two.front; version_is = two.after }
 
-pub line_rest : (text method rest m u v : List ℕ) → IsSplitAtFirst 32 text method rest → IsRequestLine text m u v → rest ≡ u ++ 32 ∷ v
-line_rest text method rest m u v first line = (cut_once 32 text method rest m (u ++ 32 ∷ v) first line.parts (token_without 32 refl m line.method_is)).after
+pub line_rest : {text method rest m u v : List ℕ} → IsSplitAtFirst 32 text method rest → IsRequestLine text m u v → rest ≡ u ++ 32 ∷ v
+line_rest {text} {method} {m} first line = (cut_once first line.parts (token_without 32 refl m line.method_is)).after
 
-pub whole_line : (text method rest url version : List ℕ) → IsSplitAtFirst 32 text method rest → IsSplitAtFirst 32 rest url version → is_token method ≡ true → IsUrl url → IsVersion version → IsRequestLine text method url version
-whole_line text method rest url version first second method_is url_is version_is = record {
+pub whole_line : {text method rest url version : List ℕ} → IsSplitAtFirst 32 text method rest → IsSplitAtFirst 32 rest url version → is_token method ≡ true → IsUrl url → IsVersion version → IsRequestLine text method url version
+whole_line {text} {method} {url} {version} first second method_is url_is version_is = record {
   parts = first.parts ∙ ap (λ r. method ++ 32 ∷ r) second.parts;
   method_is = method_is;
   url_is = url_is;

@@ -10,11 +10,11 @@ pub returns-in_err-url : goal.returns-in_err-url
 returns-in_err-url c =
     rw c.from_residual-in_err-url.ensures
     (λ m u v line. cut_none 32 c.in_ok-method.rest.now u v c.in_err-url.ensures
-    (line_rest c.args.text.now c.in_ok-method.method.now c.in_ok-method.rest.now m u v c.in_ok-method.ensures line))
+    (line_rest c.in_ok-method.ensures line))
 
 pub returns-else-is_token : goal.returns-else-is_token
 returns-else-is_token c = λ m u v line.
-    let same = line_parts c.args.text.now c.in_ok-method.method.now c.in_ok-method.rest.now c.in_ok-url.url.now c.in_ok-url.version.now m u v c.in_ok-method.ensures c.in_ok-url.ensures line in
+    let same = line_parts c.in_ok-method.ensures c.in_ok-url.ensures line in
     elim c.else-is_token.branch [
       | else-is_token-via-then-is_token+then-is_url+else-is_version w ↦ both_ways w.is_version.result w.if-is_version.false (w.is_version.ensures.1 (subst IsVersion (sym same.version_is) line.version_is))
       | else-is_token-via-then-is_token+else-is_url w ↦ both_ways w.is_url.result w.if-is_url.false (w.is_url.ensures.1 (subst IsUrl (sym same.url_is) line.url_is))

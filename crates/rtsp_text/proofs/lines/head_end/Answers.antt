@@ -11,7 +11,7 @@ returns-then-line-at-clause-split c =
 
 pub loop-line-preserved : goal.loop-line-preserved
 loop-line-preserved c =
-    walk_more c.args.message.now c.loop-line.at c.in-Some-line_end.line.text_end c.in-Some-line_end.line.next c.loop-line.invariant c.in-Some-line_end.ensures.found c.if-line-at.false
+    walk_more c.loop-line.invariant c.in-Some-line_end.ensures.found c.if-line-at.false
 
 pub unreachable-requires-2 : goal.unreachable-requires-2
 unreachable-requires-2 c = next_ends c.args.message.now c.loop-line.at (length c.args.message.now) c.requires c.loop-line.invariant c.in_default-line_end.ensures.none

@@ -4,7 +4,7 @@ use Rattle.rtsp_text.proofs.requests.read_request.Goals as goal
 
 pub returns-clause-requests : goal.returns-clause-requests
 returns-clause-requests c = λ method url sequence head body request.
-    ok_and c.read_parts.result _ _ _ c.read_parts.ensures.read c.read_parts.ensures.refused
+    ok_and c.read_parts.result c.read_parts.ensures.read c.read_parts.ensures.refused
     (λ r read.
     let same = request_once c.args.message.now r.method.now r.url.now r.sequence r.head.now r.body.now method url sequence head body read request in
     (same.method_is, same.url_is, same.sequence_is, same.head_is, same.body_is))
@@ -12,14 +12,14 @@ returns-clause-requests c = λ method url sequence head body request.
 
 pub returns-clause-faults : goal.returns-clause-faults
 returns-clause-faults c = λ fault refused.
-    err_is c.read_parts.result _ _ fault c.read_parts.ensures.read c.read_parts.ensures.refused
+    err_is c.read_parts.ensures.read c.read_parts.ensures.refused
     (λ r read. no_fault c.args.message.now r.method.now r.url.now r.sequence r.head.now r.body.now fault read refused)
     (λ other found. fault_once c.args.message.now other fault found refused)
 
 pub returns-clause-head : goal.returns-clause-head
 returns-clause-head c =
     read_head (λ r. r.head.now) (λ r. r.body.now) (λ r. r.method.now) (λ r. r.url.now) (λ r. r.sequence)
-    c.read_parts.result c.args.message.now c.requires c.read_parts.ensures.read
+    c.read_parts.result c.requires c.read_parts.ensures.read
 
 pub returns-clause-url : goal.returns-clause-url
 returns-clause-url c =
@@ -29,4 +29,4 @@ returns-clause-url c =
 pub returns-clause-body : goal.returns-clause-body
 returns-clause-body c =
     read_body (λ r. r.head.now) (λ r. r.body.now) (λ r. r.method.now) (λ r. r.url.now) (λ r. r.sequence)
-    c.read_parts.result c.args.message.now c.requires c.read_parts.ensures.read
+    c.read_parts.result c.requires c.read_parts.ensures.read

@@ -23,7 +23,7 @@ returns-clause-read c = record {
 
 pub returns-clause-replies : goal.returns-clause-replies
 returns-clause-replies c = λ code reason head body is.
-    let same = reply_once c.args.message.now c.in_ok-code.code c.in_ok-code.reason.now c.split.result.0.now c.split.result.1.now code reason head body (returns-clause-read c) is in
+    let same = reply_once (returns-clause-read c) is in
     (same.code_is, same.reason_is, same.head_is, same.body_is)
 
 pub returns-clause-head : goal.returns-clause-head

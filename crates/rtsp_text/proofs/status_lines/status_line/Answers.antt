@@ -9,11 +9,11 @@ use Rattle.rtsp_text.proofs.status_lines.status_line.Goals.{then-not-is_rtsp_1_0
 pub returns-in_err-digits : goal.returns-in_err-digits
 returns-in_err-digits c =
     rw c.from_residual-in_err-digits.ensures
-    (λ code reason line. status_none c.args.text.now c.in_ok-version.version.now c.in_ok-version.rest.now code reason c.in_ok-version.ensures c.in_err-digits.ensures line)
+    (λ code reason line. status_none c.in_ok-version.ensures c.in_err-digits.ensures line)
 
 pub returns-then-not-is_rtsp_1_0 : goal.returns-then-not-is_rtsp_1_0
 returns-then-not-is_rtsp_1_0 c = λ code reason line.
-    let same = status_parts c.args.text.now c.in_ok-version.version.now c.in_ok-version.rest.now c.in_ok-digits.digits.now c.in_ok-digits.reason.now code reason c.in_ok-version.ensures c.in_ok-digits.ensures line in
+    let same = status_parts c.in_ok-version.ensures c.in_ok-digits.ensures line in
     elim c.then-not-is_rtsp_1_0.branch [
       | then-not-is_rtsp_1_0-via-then-not-is_rtsp_1_0 w ↦ both_ways c.is_rtsp_1_0.result w.if-not-is_rtsp_1_0.true (c.is_rtsp_1_0.ensures.1 same.version_is)
       | then-not-is_rtsp_1_0-via-else-not-is_rtsp_1_0+then-is_empty w ↦
@@ -25,12 +25,12 @@ returns-then-not-is_rtsp_1_0 c = λ code reason line.
 
 pub returns : goal.returns
 returns c =
-    whole_status c.args.text.now c.in_ok-version.version.now c.in_ok-version.rest.now c.in_ok-digits.digits.now c.in_ok-digits.reason.now c.in_ok-code.code c.in_ok-version.ensures c.in_ok-digits.ensures
+    whole_status c.in_ok-version.ensures c.in_ok-digits.ensures
     (c.is_rtsp_1_0.ensures.0 c.if-not-is_rtsp_1_0.false) c.in_ok-code.ensures (some_bytes c.in_ok-digits.reason.now (sym c.is_empty.ensures ∙ c.if-is_empty.false)) c.if-reason-eq32.false
 
 pub returns-in_err-code : goal.returns-in_err-code
 returns-in_err-code c =
     rw c.from_residual-in_err-code.ensures
     (λ code reason line.
-    let same = status_parts c.args.text.now c.in_ok-version.version.now c.in_ok-version.rest.now c.in_ok-digits.digits.now c.in_ok-digits.reason.now code reason c.in_ok-version.ensures c.in_ok-digits.ensures line in
+    let same = status_parts c.in_ok-version.ensures c.in_ok-digits.ensures line in
     c.in_err-code.ensures code (subst (λ (d : List ℕ). IsCode d code) (sym same.digits_are) line.is_code))
