@@ -1,3 +1,5 @@
+//! The command `check`: the verdict on a certificate.
+
 ghost use Rattle.std.specs.Prelude.{◌≡◌, ◌++◌, codes, IfOk, IfErr};
 ghost use Rattle.command_words.specs.Words.{check_of};
 ghost use Rattle.command_words.specs.Orders.{viewer_of};
@@ -56,7 +58,7 @@ pub(crate) fn check_viewer<'a, L: Library>(
 }
 
 /// The name of a fault and the number that goes with it.
-fn fault_words(fault: &CertFault) -> (&'static str, Option<u64>)
+fn cert_fault_words(fault: &CertFault) -> (&'static str, Option<u64>)
     ensures { AreFaultWords fault.now result.0.now result.1 }
 {
     match fault {
@@ -77,7 +79,7 @@ fn refusal_text(alloc: Global, fault: &CertFault) -> Result<Vec<u8>, AllocError>
         codes "refused " ++ cert_fault_text fault.now ++ codes "\n") }
 {
     let mut text = Vec::from_slice(alloc, b"refused ")?;
-    let (name, number) = fault_words(fault);
+    let (name, number) = cert_fault_words(fault);
     text.extend_from_slice(name.as_bytes())?;
     if let Some(number) = number {
         let mut buffer = itoa::Buffer::new();

@@ -1,3 +1,5 @@
+//! The two curves between which a client's plan runs, from a trace or film of the library.
+
 ghost use Rattle.std.specs.Prelude.{◌≡◌, ◌≤◌, Some, List, IfOk, IfErr};
 ghost use Rattle.vod_base.specs.Outside.{File};
 ghost use Rattle.wire_curve.specs.Sound.{IsSound};
@@ -110,14 +112,12 @@ fn film_pictures<'a, L: Library>(
     ensures trouble { IfErr result (IsReadTrouble (IsNamed name.entry.now) IsFilmRefused
         (L.files library.old) (L.faults library.old) (L.faults library.new)) }
 {
-    match size_film(alloc, library, name) {
-        Ok(film) => Ok(Pictures {
-            picture: picture_units(film.rate),
-            sizes: film.sizes,
-            slot,
-        }),
-        Err(trouble) => Err(trouble),
-    }
+    let film = size_film(alloc, library, name)?;
+    Ok(Pictures {
+        picture: picture_units(film.rate),
+        sizes: film.sizes,
+        slot,
+    })
 }
 
 /// The pictures of a trace or film of the library.

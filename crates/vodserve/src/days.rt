@@ -42,10 +42,7 @@ pub(crate) fn load_script<'a, L: Library>(
     ensures trouble { IfErr result (IsReadTrouble (IsNamed name.entry.now) IsScriptRefused
         (L.files library.old) (L.faults library.old) (L.faults library.new)) }
 {
-    let text = match read_input(alloc, library, name) {
-        Ok(text) => text,
-        Err(trouble) => return Err(trouble),
-    };
+    let text = read_input(alloc, library, name)?;
     match read_script(alloc, &text) {
         Ok(script) => Ok(script),
         Err(ScriptRefused::BadScript { line }) => Err(Trouble::Refused(
@@ -123,7 +120,6 @@ pub fn law_day_not_refused()
         (input : List ℕ) (fault : Fault) → HoldsScript held name script →
         AreHeldAs held script.named.items sources → IsDayRefused name held input fault → ⊥ }
 {}
-
 
 /// A film or trace that a script names.
 fn load_source<'a, L: Library>(

@@ -1,3 +1,5 @@
+//! What a command did: its status, its text and its plan, before they are written.
+
 ghost use Rattle.std.specs.Prelude.{◌≡◌, None, Ok, IfOk, IfErr};
 ghost use Rattle.troubles.specs.declared.faults.Trouble.{Trouble};
 

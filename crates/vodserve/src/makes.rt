@@ -1,3 +1,5 @@
+//! The command `make`: the trace, film or system stream of a number.
+
 ghost use Rattle.std.specs.Prelude.{◌≡◌, IfOk};
 ghost use Rattle.command_words.specs.Orders.{made_of};
 ghost use Rattle.vodserve.specs.Carrying.{made_text};

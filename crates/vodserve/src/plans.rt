@@ -1,3 +1,5 @@
+//! The command `plan`: the smoothest plan of a trace or film, as a certificate.
+
 ghost use Rattle.std.specs.Prelude.{IfOk, IfErr};
 ghost use Rattle.command_words.specs.Words.{plan_of};
 ghost use Rattle.command_words.specs.Orders.{viewer_of};

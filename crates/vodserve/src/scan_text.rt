@@ -1,3 +1,5 @@
+//! The text that `scan` prints: a line for the film, and one for each of its units.
+
 ghost use Rattle.std.specs.Prelude.{◌≡◌, ◌++◌, List, ℕ, codes, decimal, IfOk, OnOk};
 ghost use Rattle.vodserve.specs.ScanText.{kind_text, mark, unit_name, unit_places, unit_marks};
 ghost use Rattle.vodserve.specs.ScanText.{unit_line, unit_lines, film_line, scan_text};
@@ -38,6 +40,7 @@ fn push_mark(text: &mut Vec<u8>, is: bool, word: &[u8]) -> Result<(), AllocError
     }
 }
 
+/// The letter of a picture's kind.
 fn kind_text(kind: Kind) -> &'static [u8]
     ensures { result.now ≡ kind_text kind }
 {

@@ -1,3 +1,5 @@
+//! The command `scan`: the units of a film of the library.
+
 ghost use Rattle.std.specs.Prelude.{◌≡◌, ℕ, List, IfOk, IfErr};
 ghost use Rattle.vod_base.specs.Outside.{File};
 ghost use Rattle.inputs.specs.Scans.{IsFilmRefused};
@@ -28,10 +30,7 @@ pub(crate) fn print_scan<'a, L: Library>(
         (IsInputRefused (scan_of film.entry.now))
         (L.files library.old) (L.faults library.old) (L.faults library.new)) }
 {
-    let scanned = match scan_film(alloc, library, film) {
-        Ok(scanned) => scanned,
-        Err(trouble) => return Err(trouble),
-    };
+    let scanned = scan_film(alloc, library, film)?;
     finish(
         0,
         scan_text(alloc, scanned.bytes, scanned.rate, &scanned.units),

@@ -1,3 +1,5 @@
+//! What `serve` prints at its end: its journal, what is still booked, and a last line.
+
 ghost use Rattle.std.specs.Prelude.{◌≡◌, ◌≤◌, ◌++◌, List, ℕ, codes, decimal, length, IfOk, OnOk};
 ghost use Rattle.report.specs.EntryLines.{entry_line};
 ghost use Rattle.report.specs.CalendarTexts.{calendar_text};
@@ -52,10 +54,8 @@ pub(crate) fn print_served<O: Sink>(
 fn push(text: &mut Vec<u8>, piece: &[u8]) -> Result<(), NoMemory>
     ensures { OnOk result (text.new.items ≡ text.old.items ++ piece.now) }
 {
-    match text.extend_from_slice(piece) {
-        Ok(()) => Ok(()),
-        Err(_) => Err(NoMemory),
-    }
+    text.extend_from_slice(piece)?;
+    Ok(())
 }
 
 /// Appends a label and a number.

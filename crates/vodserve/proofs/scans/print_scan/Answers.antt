@@ -14,14 +14,14 @@ returns-clause-done g c =
       is.0,
       is.2,
       record {
-        size = c.in-Ok.scanned.bytes;
-        rate = c.in-Ok.scanned.rate;
+        size = c.in_ok-scanned.scanned.bytes;
+        rate = c.in_ok-scanned.scanned.rate;
         units = c.deref.result.now;
-        printed = text_of (scan_text c.in-Ok.scanned.bytes c.in-Ok.scanned.rate c.deref.result.now) c.scan_text.result done.text c.scan_text.ensures is.1;
+        printed = text_of (scan_text c.in_ok-scanned.scanned.bytes c.in_ok-scanned.scanned.rate c.deref.result.now) c.scan_text.result done.text c.scan_text.ensures is.1;
       },
       λ held told.
-          let holds : HoldsFilm held c.args.film.now c.in-Ok.scanned.bytes c.in-Ok.scanned.rate c.deref.result.now =
-          rw c.deref.ensures.value ((c.in-Ok.ensures {u = tt}).film held told) in
+          let holds : HoldsFilm held c.args.film.now c.in_ok-scanned.scanned.bytes c.in_ok-scanned.scanned.rate c.deref.result.now =
+          rw c.deref.ensures.value ((c.in_ok-scanned.ensures {u = tt}).film held told) in
           film_done holds c.scan_text.ensures done is.1,
     ))
     c.finish.ensures.done
