@@ -7,9 +7,9 @@ use Rattle.std.proofs.lemmas.Bool.{and_parts, and_from, lt-ltb}
 use Rattle.std.proofs.lemmas.Fmt.{digits_decimal, digits_value-decimal, decimal_nonempty, length-decimal-le}
 use Rattle.std.proofs.lemmas.List.{append_assoc, take_at, drop_at, take_all, length-append, get_or_append_left, get_or-append-add}
 use Rattle.std.proofs.lemmas.List.Folds.{list_all_at, list_all-append}
+use Rattle.rtsp_text.proofs.OneLines.{decimal_numerals}
 use Rattle.rtsp_fields.specs.Pieces.{IsEnd}
 use Rattle.rtsp_fields.specs.Times.{IsClock, IsDigits, IsTime}
-use Rattle.rtsp_fields.proofs.Digits.{own}
 
 -- a digit is neither `:` nor `.`
 digit_is_other : (text : List ℕ) (k : ℕ) → list_all is_ascii_digit text ≡ true → k < length text → get_or text k 0 ≢ 58
@@ -122,9 +122,9 @@ short_digits : (most n : ℕ) → 1 ≤ most → most ≤ 9 → n < 10 ^ most �
 short_digits most n some few small below =
     let fits : n < 2 ^ 64 = omega (arith, below) in
     record {
-      decimal = and_from (nat_lt 0 (length (decimal n))) (list_all is_ascii_digit (decimal n)) (lt-ltb 0 (length (decimal n)) (decimal_nonempty n fits)) (digits_decimal own n fits);
+      decimal = and_from (nat_lt 0 (length (decimal n))) (list_all is_ascii_digit (decimal n)) (lt-ltb 0 (length (decimal n)) (decimal_nonempty n fits)) (digits_decimal decimal_numerals n fits);
       short = length-decimal-le most n some small fits;
-      value = sym (digits_value-decimal own n fits);
+      value = sym (digits_value-decimal decimal_numerals n fits);
     }
 
 all_text : (h m s : List ℕ) → list_all is_ascii_digit h ≡ true → list_all is_ascii_digit m ≡ true → list_all is_ascii_digit s ≡ true → list_all is_clock_byte (clock_text h m s) ≡ true

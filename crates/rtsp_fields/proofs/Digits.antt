@@ -1,5 +1,5 @@
 -- Short numbers and their values.
-use Rattle.std.proofs.Common.{◌≡◌, ◌<◌, ◌≤◌, ◌+◌, ◌-◌, ◌*◌, ◌^◌, ◌&&◌, ℕ, true, List, length, Option, Some, None, nat_lt, inl, inr, arith, rules, refl, sym, ap, ◌∙◌, lt-ltb, [], ◌++◌, take, drop, MatchOption, min}
+use Rattle.std.proofs.Common.{◌≡◌, ◌<◌, ◌≤◌, ◌+◌, ◌-◌, ◌*◌, ◌^◌, ◌&&◌, ℕ, true, List, length, Option, Some, None, nat_lt, inl, inr, arith, refl, sym, ap, ◌∙◌, lt-ltb, [], ◌++◌, take, drop, MatchOption, min}
 use Rattle.std.specs.Option.{unwrap_or}
 use Rattle.std.proofs.Math.Nat.{mul-lt-mul_of_pos_right, min_comm, one-le-pow}
 use Rattle.std.proofs.lemmas.List.Folds.{list_all-append}
@@ -9,18 +9,12 @@ use Rattle.std.specs.List.{list_all}
 use Rattle.std.specs.Char.{is_ascii_digit}
 use Rattle.std.specs.Str.Parse.{digits_value}
 use Rattle.std.proofs.lemmas.Bool.{cases_Bool, cases_lt, cond-true, cond-false, and_from, and_parts}
-use Rattle.std.proofs.lemmas.Str.Parse.{IsNumeralModel, numerals_by_value, digits_value_short}
+use Rattle.std.proofs.lemmas.Str.Parse.{digits_value_short}
+use Rattle.std.proofs.lemmas.Option.{none-some, same_Some}
 use Rattle.vod_base.specs.Numbers.{is_decimal, number_of}
 use Rattle.rtsp_fields.specs.Times.{IsDigits, IsFraction}
-
-pub own : IsNumeralModel (λ ds. list_all is_ascii_digit ds ≡ true) (digits_value 10)
-own = numerals_by_value (λ ds. list_all is_ascii_digit ds ≡ true) (search rules)
-
-pub some_same : (a b : ℕ) → Some a ≡ Some b → a ≡ b
-some_same a b e = cc
-
-none_isn't_some : (b : ℕ) → None ≡ Some b → ⊥
-none_isn't_some b e = cc
+use Rattle.rtsp_text.proofs.OneLines.{decimal_numerals}
+pub use Rattle.rtsp_text.proofs.OneLines.{decimal_numerals as own}
 
 -- a text that is read as a number is decimal, and that is its value
 pub number_read : (text : List ℕ) (n : ℕ) → number_of text ≡ Some n → (is_decimal text ≡ true) × (n ≡ digits_value 10 text)
@@ -29,18 +23,18 @@ number_read text n read =
     elim (cases_Bool (is_decimal text && nat_lt (digits_value 10 text) (2 ^ 64))) [
       | inl good ↦ (
           let found : number_of text ≡ Some (digits_value 10 text) = cond-true (is_decimal text && nat_lt (digits_value 10 text) (2 ^ 64)) (Some (digits_value 10 text)) None good in
-          ((and_parts (is_decimal text) (nat_lt (digits_value 10 text) (2 ^ 64)) good).0, some_same n (digits_value 10 text) (sym read ∙ found))
+          ((and_parts (is_decimal text) (nat_lt (digits_value 10 text) (2 ^ 64)) good).0, same_Some n (digits_value 10 text) (sym read ∙ found))
           )
       | inr wrong ↦ (
           let none : number_of text ≡ None = cond-false (is_decimal text && nat_lt (digits_value 10 text) (2 ^ 64)) (Some (digits_value 10 text)) None wrong in
-          absurd (none_isn't_some n (sym none ∙ read))
+          absurd (none-some n (sym none ∙ read))
           )
     ]
 
 -- at most nine digits are below 10^9
 pub below_billion : (text : List ℕ) → is_decimal text ≡ true → length text ≤ 9 → digits_value 10 text < 10 ^ 9
 below_billion text decimal short =
-    digits_value_short own text 9 (and_parts (nat_lt 0 (length text)) (list_all is_ascii_digit text) decimal).1 short
+    digits_value_short decimal_numerals text 9 (and_parts (nat_lt 0 (length text)) (list_all is_ascii_digit text) decimal).1 short
 
 -- such digits are read
 pub short_is_read : (most : ℕ) (text : List ℕ) (n : ℕ) → most ≤ 9 → IsDigits most text n → number_of text ≡ Some (digits_value 10 text)
@@ -56,7 +50,7 @@ digits_read most text n few short read =
     (record { decimal = found.0; short = short; value = found.1 }, omega (arith, small, found.1))
 
 pub digits_not_read : (most : ℕ) (text : List ℕ) (n : ℕ) → most ≤ 9 → number_of text ≡ None → IsDigits most text n → ⊥
-digits_not_read most text n few none d = none_isn't_some (digits_value 10 text) (sym none ∙ short_is_read most text n few d)
+digits_not_read most text n few none d = none-some (digits_value 10 text) (sym none ∙ short_is_read most text n few d)
 
 digits_take : (n : ℕ) (text : List ℕ) → list_all is_ascii_digit text ≡ true → list_all is_ascii_digit (take n text) ≡ true
 digits_take n text all =
@@ -84,7 +78,7 @@ fraction_read {text} {k} {power} o all cut read is_power =
     let digits : list_all is_ascii_digit (take k text) ≡ true = digits_take k text all in
     let short : length (take k text) ≤ 9 = rw (length-take k text, cut) (omega arith) in
     let value : unwrap_or o 0 ≡ digits_value 10 (take k text) = counted_value o (take k text) digits short read in
-    let small : digits_value 10 (take k text) < 10 ^ length (take k text) = digits_value_short own (take k text) (length (take k text)) digits (omega arith) in
+    let small : digits_value 10 (take k text) < 10 ^ length (take k text) = digits_value_short decimal_numerals (take k text) (length (take k text)) digits (omega arith) in
     let sum : length (take k text) + (9 - length (take k text)) ≡ 9 = omega (arith, short) in
     let whole : 10 ^ length (take k text) * 10 ^ (9 - length (take k text)) ≡ 10 ^ 9 = sym (pow-add 10 (length (take k text)) (9 - length (take k text))) ∙ ap (λ n. 10 ^ n) sum in
     let positive : 0 < 10 ^ (9 - length (take k text)) = one-le-pow (9 - length (take k text)) 10 (omega arith) in

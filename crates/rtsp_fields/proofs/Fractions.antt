@@ -9,9 +9,9 @@ use Rattle.std.proofs.lemmas.Bool.Decides.{nat_tests}
 use Rattle.std.proofs.lemmas.List.{length-take, take_all}
 use Rattle.std.proofs.lemmas.Nat.{le-div, pow-add}
 use Rattle.vod_base.proofs.Digits.{digits_value_more}
+use Rattle.vod_base.proofs.Digits.{is_digit_at}
 use Rattle.rtsp_fields.specs.Times.{IsFraction, IsTime}
 use Rattle.rtsp_fields.proofs.SecondsTexts.{seconds_digits, time_of}
-use Rattle.rtsp_fields.proofs.TransportTexts.{digit_at}
 
 -- at most nine digits count all
 short_value : (digits : List ℕ) → length digits ≤ 9 → digits_value 10 digits * 10 ^ (9 - length digits) ≡ digits_value 10 digits * 10 ^ 9 / 10 ^ length digits
@@ -27,7 +27,7 @@ short_value digits short =
 -- of more digits, the first nine give the number of whole nanoseconds
 digit_most : (text : List ℕ) (i : ℕ) → list_all is_ascii_digit text ≡ true → i < length text → get_or text i 0 ≤ 57
 digit_most text i all inside =
-    let digit : is_ascii_digit (get_or text i 0) ≡ true = digit_at text i all inside in
+    let digit : is_ascii_digit (get_or text i 0) ≡ true = is_digit_at text i all inside in
     grind (arith, nat_tests)
 
 later_digits : (text : List ℕ) (j : ℕ) → list_all is_ascii_digit text ≡ true → 9 + j ≤ length text →

@@ -18,7 +18,8 @@ use Rattle.rtsp_fields.specs.declared.ranges.Origin.TheVariants.{Now, At}
 use Rattle.rtsp_fields.specs.declared.ranges.Span.{Span}
 use Rattle.std.proofs.lemmas.List.{length-take, take-take, get_or-take}
 use Rattle.std.proofs.Math.Nat.{min-le_left}
-use Rattle.rtsp_fields.proofs.Digits.{number_read, own}
+use Rattle.rtsp_text.proofs.OneLines.{decimal_numerals}
+use Rattle.rtsp_fields.proofs.Digits.{number_read}
 use Rattle.rtsp_fields.proofs.Places.{end_once, first_once}
 use Rattle.rtsp_fields.proofs.Parts.{IsPairAt, pair_at, within_once}
 use Rattle.rtsp_fields.proofs.Clocks.{value_once}
@@ -26,7 +27,7 @@ use Rattle.rtsp_fields.proofs.Clocks.{value_once}
 -- a decimal text has no byte of another kind
 pub no_other_byte : (text : List ℕ) (c i : ℕ) → is_decimal text ≡ true → ¬ (IsInRange 48 57 c) → i < length text → get_or text i 0 ≢ c
 no_other_byte text c i decimal other inside =
-    not_in_digits own text c (and_parts (nat_lt 0 (length text)) (list_all is_ascii_digit text) decimal).1 other i inside
+    not_in_digits decimal_numerals text c (and_parts (nat_lt 0 (length text)) (list_all is_ascii_digit text) decimal).1 other i inside
 
 -- digits aren't a clock time
 pub digits_no_clock : (text : List ℕ) (a b : ℕ) → IsDigits 9 text a → IsClock text b → ⊥

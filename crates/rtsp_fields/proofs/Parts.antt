@@ -1,12 +1,12 @@
 -- What the parts of a Transport header come to.
 use Rattle.std.proofs.Common.{◌≡◌, ◌≢◌, ℕ, ◌+◌, ◌<◌, ◌≤◌, List, length, take, refl, sym, ◌∙◌, ap, subst, arith, inl, inr, slice_range, codes, MatchOption, Option, Some, None}
 use Rattle.std.proofs.lemmas.List.{length-map, length-take}
+use Rattle.std.proofs.lemmas.Option.{same_Some}
 use Rattle.vod_base.specs.Blanks.{without_blanks}
 use Rattle.rtsp_fields.specs.Pieces.{IsEnd, IsPiece, NoneBefore, NoPiece, Begins, lower}
 use Rattle.rtsp_fields.specs.Values.{IsWithin}
 use Rattle.rtsp_fields.specs.Transports.{IsPair, IsSingle, AreChannels, word, IsOther, NamesChannels, HasChannels, IsTaken, CanBeTaken, IsTransport, after_name}
 use Rattle.rtsp_fields.specs.declared.transports.Channels.{Channels}
-use Rattle.rtsp_fields.proofs.Digits.{some_same}
 use Rattle.rtsp_fields.proofs.Places.{end_once, first_once}
 
 -- a pair, cut at its dash
@@ -23,7 +23,7 @@ pair_at text dash channels e p =
 
 -- one text writes one number
 pub within_once : (low high : ℕ) (text : List ℕ) (a b : ℕ) → IsWithin low high text a → IsWithin low high text b → a ≡ b
-within_once low high text a b x y = some_same a b (sym x.is_number ∙ y.is_number)
+within_once low high text a b x y = same_Some a b (sym x.is_number ∙ y.is_number)
 
 pub not_pair_equal : {text : List ℕ} {dash a b : ℕ} {channels : Channels} → IsEnd 45 text 0 dash → IsWithin 0 255 (take dash text) a →
     IsWithin 0 255 (slice_range text (dash + 1) (length text)) b → a ≡ b → IsPair text channels → ⊥

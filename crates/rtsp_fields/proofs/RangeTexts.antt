@@ -1,17 +1,16 @@
 -- A Range value, put together, is read back.
-use Rattle.std.proofs.Common.{◌≡◌, ◌≢◌, ℕ, suc, ◌+◌, ◌-◌, ◌*◌, ◌/◌, ◌%◌, ◌^◌, ◌<◌, ◌≤◌, true, List, [], ◌∷◌, ◌++◌, codes, decimal, length, take, drop, get_or, slice_range, Option, Some, None, refl, sym, ap, subst, ◌∙◌, arith}
+use Rattle.std.proofs.Common.{◌≡◌, ℕ, suc, ◌+◌, ◌-◌, ◌*◌, ◌/◌, ◌%◌, ◌^◌, ◌<◌, ◌≤◌, true, List, [], ◌∷◌, ◌++◌, codes, decimal, length, take, drop, get_or, slice_range, Option, Some, None, refl, sym, ap, subst, ◌∙◌, arith}
 use Rattle.std.specs.List.{list_all}
-use Rattle.std.specs.Char.{is_ascii_digit}
 use Rattle.std.proofs.lemmas.Bool.{and_from}
 use Rattle.std.proofs.lemmas.Fmt.{digits_decimal}
 use Rattle.std.proofs.lemmas.List.{append_assoc, take_at, drop_at, take_all, length-append, get_or_append_left, get_or-append-add}
 use Rattle.std.proofs.lemmas.List.Folds.{list_all-append}
+use Rattle.rtsp_text.proofs.OneLines.{decimal_numerals}
 use Rattle.rtsp_fields.specs.Descriptions.{seconds_text}
 use Rattle.rtsp_fields.specs.Pieces.{HasNone}
 use Rattle.rtsp_fields.specs.Ranges.{IsLimit, IsOrigin, IsSpan}
 use Rattle.rtsp_fields.specs.declared.ranges.Origin.{Origin}
 use Rattle.rtsp_fields.specs.declared.ranges.Origin.TheVariants.{Now, At}
-use Rattle.rtsp_fields.proofs.Digits.{own}
 use Rattle.rtsp_fields.proofs.SecondsTexts.{seconds_read}
 use Rattle.rtsp_fields.proofs.TransportTexts.{digits_other, none_from, other_than}
 
@@ -66,7 +65,7 @@ both : (a b : List ℕ) → list_all (other_than 45) a ≡ true → list_all (ot
 both a b one other = list_all-append (other_than 45) a b ∙ and_from (list_all (other_than 45) a) (list_all (other_than 45) b) one other
 
 number_free : (n : ℕ) → n < 2 ^ 64 → list_all (other_than 45) (decimal n) ≡ true
-number_free n fits = digits_other 45 (decimal n) refl (digits_decimal own n fits)
+number_free n fits = digits_other 45 (decimal n) refl (digits_decimal decimal_numerals n fits)
 
 seconds_free : (ms : ℕ) → ms < 2 ^ 64 → list_all (other_than 45) (seconds_text ms) ≡ true
 unfolding other_than

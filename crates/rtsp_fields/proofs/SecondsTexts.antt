@@ -9,10 +9,9 @@ use Rattle.std.proofs.lemmas.Fmt.{decimal_digit, digits_decimal, digits_value-de
 use Rattle.std.proofs.lemmas.List.{append_assoc, take_at, drop_at, take_all, length-append, get_or_append_left, get_or-append_right}
 use Rattle.std.proofs.lemmas.List.Folds.{list_all_at}
 use Rattle.rtsp_text.specs.Lines.{is_one_line}
-use Rattle.rtsp_text.proofs.OneLines.{one_line-append, one_line-decimal}
+use Rattle.rtsp_text.proofs.OneLines.{one_line-append, one_line-decimal, decimal_numerals}
 use Rattle.rtsp_fields.specs.Descriptions.{seconds_text}
 use Rattle.rtsp_fields.specs.Times.{IsDigits, IsFraction, IsTime}
-use Rattle.rtsp_fields.proofs.Digits.{own}
 
 pub one_line-seconds : (ms : ℕ) → ms < 2 ^ 64 → is_one_line (seconds_text ms) ≡ true
 one_line-seconds ms small =
@@ -89,9 +88,9 @@ seconds_digits n below =
     let fits : n < 2 ^ 64 = omega (arith, below) in
     let w = decimal n in
     record {
-      decimal = and_from (nat_lt 0 (length w)) (list_all is_ascii_digit w) (lt-ltb 0 (length w) (decimal_nonempty n fits)) (digits_decimal own n fits);
+      decimal = and_from (nat_lt 0 (length w)) (list_all is_ascii_digit w) (lt-ltb 0 (length w) (decimal_nonempty n fits)) (digits_decimal decimal_numerals n fits);
       short = length-decimal-le 9 n (omega arith) below fits;
-      value = sym (digits_value-decimal own n fits);
+      value = sym (digits_value-decimal decimal_numerals n fits);
     }
 
 -- the text by its digits

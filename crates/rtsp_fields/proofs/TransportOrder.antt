@@ -1,12 +1,12 @@
 -- The alternatives of a Transport value are tried in their order, and what isn't taken.
-use Rattle.std.proofs.Common.{◌≡◌, ◌≢◌, ℕ, ◌+◌, ◌-◌, ◌<◌, true, List, [], ◌∷◌, ◌++◌, codes, length, get_or, slice_range, refl, sym, ap, subst, ◌∙◌, arith, inl, inr}
+use Rattle.std.proofs.Common.{◌≡◌, ◌≢◌, ℕ, ◌+◌, ◌-◌, true, List, ◌∷◌, ◌++◌, codes, length, get_or, slice_range, refl, sym, ap, subst, ◌∙◌, arith, inl, inr}
 use Rattle.std.specs.List.{list_all}
 use Rattle.std.proofs.lemmas.List.{append_assoc, take_all}
 use Rattle.rtsp_fields.specs.Laws.{HasNoComma}
-use Rattle.rtsp_fields.specs.Pieces.{HasNone, IsPiece}
+use Rattle.rtsp_fields.specs.Pieces.{HasNone}
 use Rattle.rtsp_fields.specs.Transports.{CanBeTaken, IsOther, IsTaken, IsTransport, word}
 use Rattle.rtsp_fields.specs.declared.transports.Channels.{Channels}
-use Rattle.rtsp_fields.proofs.TransportTexts.{alone, long_of, none_before, none_from, other_than, piece_first, piece_later, piece_whole, slice_first, slice_later, text_of, whole_slice}
+use Rattle.rtsp_fields.proofs.TransportTexts.{alone, none_before, none_from, other_than, piece_first, piece_later, piece_whole, slice_first, slice_later, text_of, whole_slice}
 
 comma_free : (text : List ℕ) → HasNoComma text → HasNone 44 text 0 (length text)
 unfolding other_than

@@ -8,14 +8,14 @@ use Rattle.std.proofs.lemmas.Bool.{and_parts, and_from}
 use Rattle.std.proofs.lemmas.Fmt.{digits_decimal, decimal_nonempty}
 use Rattle.std.proofs.lemmas.List.{take_at, take_all, length-append, length-reverse, get_or_append_left, get_or-append-add, get_or-reverse, append_assoc, reverse-reverse}
 use Rattle.std.proofs.lemmas.List.Folds.{list_all_at, list_all-append}
-use Rattle.std.proofs.lemmas.Grind.{common_steps}
 use Rattle.vod_base.specs.Blanks.{is_blank, without_front_blanks, without_blanks}
 use Rattle.vod_base.proofs.Written.{written_read}
+use Rattle.vod_base.proofs.Digits.{is_digit_at}
+use Rattle.rtsp_text.proofs.OneLines.{decimal_numerals}
 use Rattle.rtsp_fields.specs.Pieces.{HasNone, IsStart, IsEnd, IsPiece, NoPiece, NoneBefore, Begins, lower}
 use Rattle.rtsp_fields.specs.Transports.{IsPair, AreChannels, IsOther, NamesChannels, AreNamed, IsTaken, IsTransport, word, after_name}
 use Rattle.rtsp_fields.specs.Values.{IsWithin}
 use Rattle.rtsp_fields.specs.declared.transports.Channels.{Channels}
-use Rattle.rtsp_fields.proofs.Digits.{own}
 
 -- ---- a text that a separator cuts: its first piece, and those of the rest
 
@@ -243,9 +243,6 @@ bare text some first last =
     ∙ ap reverse (bare_front (reverse text) (omega (arith, some, length-reverse text)) (ap is_blank back ∙ last))
     ∙ reverse-reverse text
 
-pub digit_at : (text : List ℕ) (k : ℕ) → list_all is_ascii_digit text ≡ true → k < length text → is_ascii_digit (get_or text k 0) ≡ true
-digit_at text k all inside = grind (arith, common_steps, list_all_at)
-
 digit_blank : (b : ℕ) → is_ascii_digit b ≡ true → is_blank b ≡ false
 digit_blank b digit = grind arith
 
@@ -396,7 +393,7 @@ written_read_back numbers channels w = alone (value numbers) channels (value_non
 -- ---- the numbers of channels
 
 digits : (n : ℕ) → n ≤ 255 → list_all is_ascii_digit (decimal n) ≡ true
-digits n small = digits_decimal own n (omega (arith, small))
+digits n small = digits_decimal decimal_numerals n (omega (arith, small))
 
 number_free : (c n : ℕ) → is_ascii_digit c ≡ false → n ≤ 255 → list_all (other_than c) (decimal n) ≡ true
 number_free c n no_digit small = digits_other c (decimal n) no_digit (digits n small)
@@ -421,7 +418,7 @@ last_digit front n fits =
     let place : length (front ++ decimal n) - 1 ≡ length front + (length (decimal n) - 1) = omega (arith, length-append front (decimal n), some) in
     ap (λ k. is_blank (get_or (front ++ decimal n) k 0)) place
     ∙ ap is_blank (get_or-append-add front (decimal n) (length (decimal n) - 1) 0)
-    ∙ digit_blank (get_or (decimal n) (length (decimal n) - 1) 0) (digit_at (decimal n) (length (decimal n) - 1) (digits n fits) (omega (arith, some)))
+    ∙ digit_blank (get_or (decimal n) (length (decimal n) - 1) 0) (is_digit_at (decimal n) (length (decimal n) - 1) (digits n fits) (omega (arith, some)))
 
 within : (most n : ℕ) → n ≤ most → most ≤ 255 → IsWithin 0 most (decimal n) n
 within most n fits few = record { is_number = written_read 0 n (omega (arith, fits, few)); above = omega arith; below = fits }

@@ -48,4 +48,5 @@ HasNoComma text = list_all (λ byte. not (byte == 44)) text ≡ true
 abbrev pub IsFilmPath : List ℕ → List ℕ → Type 0
 IsFilmPath path name =
     (path ≡ codes "/" ++ name) ⊎ ((path ≡ codes "/" ++ name ++ codes "/")
-    ⊎ ((path ≡ codes "/" ++ name ++ codes "/video") ⊎ (path ≡ codes "/" ++ name ++ codes "/video/")))
+    ⊎ ((path ≡ codes "/" ++ name ++ codes "/video")
+    ⊎ (path ≡ codes "/" ++ name ++ codes "/video/")))

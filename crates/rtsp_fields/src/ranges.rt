@@ -48,6 +48,7 @@ pub fn read_range(value: &[u8]) -> Option<Span>
     Some(Span { from, to })
 }
 
+/// What stands before the `-` of a range: `now` or a time.
 fn read_origin(text: &[u8]) -> Option<Origin>
     ensures { MatchOption result ((origin : Origin) →
         ¬ IsOrigin text.now origin) (IsOrigin text.now) }
@@ -55,12 +56,11 @@ fn read_origin(text: &[u8]) -> Option<Origin>
     if text == b"now".as_slice() {
         return Some(Origin::Now);
     }
-    match read_time(text) {
-        Some(time) => Some(Origin::At(time)),
-        None => None,
-    }
+    let time = read_time(text)?;
+    Some(Origin::At(time))
 }
 
+/// What stands after the `-` of a range: nothing or a time.
 fn read_limit(text: &[u8]) -> Option<Option<u128>>
     ensures { MatchOption result ((limit : Option ℕ) →
         ¬ IsLimit text.now limit) (IsLimit text.now) }
@@ -68,8 +68,6 @@ fn read_limit(text: &[u8]) -> Option<Option<u128>>
     if text.is_empty() {
         return Some(None);
     }
-    match read_time(text) {
-        Some(time) => Some(Some(time)),
-        None => None,
-    }
+    let time = read_time(text)?;
+    Some(Some(time))
 }

@@ -40,6 +40,7 @@ pub fn seconds_text(ms: u64, into: &mut [u8; 24]) -> &[u8]
     &into[..end]
 }
 
+/// Puts a number in decimal at a place, and answers the place after it.
 fn put_number(into: &mut [u8], at: usize, number: u64) -> usize
     requires { at + 20 ≤ length into.old }
     ensures place { result ≤ at + 20 }

@@ -6,6 +6,7 @@ use super::*;
 use rtsp_text::Reply;
 use std::test::Fail;
 
+/// A range that is read, from where and how far.
 fn span(from: Origin, to: Option<u128>) -> Option<Span> {
     Some(Span { from, to })
 }
@@ -70,43 +71,46 @@ fn refuses_ranges(rt: HostRuntime) {
     }
 }
 
+/// Values of Transport, and the channels that are read of them.
+const TRANSPORTS: [(&str, Option<(u8, u8)>); 27] = [
+    (
+        "RTP/AVP;unicast;client_port=5000-5001, RTP/AVP/TCP;interleaved=2",
+        Some((2, 3)),
+    ),
+    ("RTP/AVP/TCP;unicast", Some((0, 1))),
+    ("RTP/AVP/TCP", Some((0, 1))),
+    ("RTP/AVP/TCP;unicast;interleaved=0-1", Some((0, 1))),
+    ("rtp/avp/tcp ; Unicast ;\tINTERLEAVED=6-255", Some((6, 255))),
+    ("RTP/AVP/TCP;interleaved=254", Some((254, 255))),
+    ("RTP/AVP/TCP;interleaved=007-0006", Some((7, 6))),
+    ("RTP/AVP/TCP;interleaved=4-5;interleaved=8-9", Some((4, 5))),
+    ("RTP/AVP/TCP;mode=play", Some((0, 1))),
+    ("RTP/AVP/TCP;mode=\"PLAY\";ssrc=0", Some((0, 1))),
+    (
+        "RTP/AVP/TCP;mode=record,RTP/AVP/TCP;interleaved=8",
+        Some((8, 9)),
+    ),
+    (",,RTP/AVP/TCP;;", Some((0, 1))),
+    ("RTP/AVP/TCP;interleaved=255, RTP/AVP/TCP", Some((0, 1))),
+    ("RTP/AVP/TCP;interleaved=255", None),
+    ("RTP/AVP/TCP;interleaved=7-7", None),
+    ("RTP/AVP/TCP;interleaved=0-256", None),
+    ("RTP/AVP/TCP;interleaved=0-", None),
+    ("RTP/AVP/TCP;interleaved=", None),
+    ("RTP/AVP/TCP;interleaved=0-1-2", None),
+    ("RTP/AVP/TCP;interleaved=a-b", None),
+    ("RTP/AVP/TCP;multicast", None),
+    ("RTP/AVP/TCP;mode=record", None),
+    ("RTP/AVP/TCP;mode=", None),
+    ("RTP/AVP;unicast;client_port=5000-5001", None),
+    ("unicast;RTP/AVP/TCP", None),
+    ("RTP/AVP/TCPX", None),
+    ("", None),
+];
+
 #[test]
 fn reads_transports(rt: HostRuntime) {
-    for (value, want) in [
-        (
-            "RTP/AVP;unicast;client_port=5000-5001, RTP/AVP/TCP;interleaved=2",
-            Some((2, 3)),
-        ),
-        ("RTP/AVP/TCP;unicast", Some((0, 1))),
-        ("RTP/AVP/TCP", Some((0, 1))),
-        ("RTP/AVP/TCP;unicast;interleaved=0-1", Some((0, 1))),
-        ("rtp/avp/tcp ; Unicast ;\tINTERLEAVED=6-255", Some((6, 255))),
-        ("RTP/AVP/TCP;interleaved=254", Some((254, 255))),
-        ("RTP/AVP/TCP;interleaved=007-0006", Some((7, 6))),
-        ("RTP/AVP/TCP;interleaved=4-5;interleaved=8-9", Some((4, 5))),
-        ("RTP/AVP/TCP;mode=play", Some((0, 1))),
-        ("RTP/AVP/TCP;mode=\"PLAY\";ssrc=0", Some((0, 1))),
-        (
-            "RTP/AVP/TCP;mode=record,RTP/AVP/TCP;interleaved=8",
-            Some((8, 9)),
-        ),
-        (",,RTP/AVP/TCP;;", Some((0, 1))),
-        ("RTP/AVP/TCP;interleaved=255, RTP/AVP/TCP", Some((0, 1))),
-        ("RTP/AVP/TCP;interleaved=255", None),
-        ("RTP/AVP/TCP;interleaved=7-7", None),
-        ("RTP/AVP/TCP;interleaved=0-256", None),
-        ("RTP/AVP/TCP;interleaved=0-", None),
-        ("RTP/AVP/TCP;interleaved=", None),
-        ("RTP/AVP/TCP;interleaved=0-1-2", None),
-        ("RTP/AVP/TCP;interleaved=a-b", None),
-        ("RTP/AVP/TCP;multicast", None),
-        ("RTP/AVP/TCP;mode=record", None),
-        ("RTP/AVP/TCP;mode=", None),
-        ("RTP/AVP;unicast;client_port=5000-5001", None),
-        ("unicast;RTP/AVP/TCP", None),
-        ("RTP/AVP/TCPX", None),
-        ("", None),
-    ] {
+    for (value, want) in TRANSPORTS {
         let read = read_transport(value.as_bytes()).map(|channels| (
             channels.media,
             channels.control,
@@ -115,30 +119,33 @@ fn reads_transports(rt: HostRuntime) {
     }
 }
 
+/// URLs, their authorities, and the films that they name; the empty text where they name none.
+const URLS: [(&str, &str, &str); 16] = [
+    ("RTSP://h:8554/news.mpg/video/", "h:8554", "news.mpg"),
+    (
+        "rtsp://127.0.0.1:8554/news.mpg",
+        "127.0.0.1:8554",
+        "news.mpg",
+    ),
+    ("rtsp://h/news.mpg/", "h", "news.mpg"),
+    ("rtsp://h/news.mpg/video", "h", "news.mpg"),
+    ("rtsp://h/video", "h", "video"),
+    ("rtsp://h/video/video", "h", "video"),
+    ("rtsp://h", "h", ""),
+    ("rtsp://h/", "h", ""),
+    ("rtsp://h//", "h", ""),
+    ("rtsp://h/.mpg", "h", ""),
+    ("rtsp://h/a/../b", "h", ""),
+    ("rtsp://h/a//video", "h", ""),
+    ("rtsp://h/a/audio", "h", ""),
+    ("rtsp://h/a/video//", "h", ""),
+    ("rtsp://h/a/VIDEO", "h", ""),
+    ("rtsp://h/a%20b", "h", ""),
+];
+
 #[test]
 fn reads_urls(rt: HostRuntime) {
-    for (text, authority, name) in [
-        ("RTSP://h:8554/news.mpg/video/", "h:8554", "news.mpg"),
-        (
-            "rtsp://127.0.0.1:8554/news.mpg",
-            "127.0.0.1:8554",
-            "news.mpg",
-        ),
-        ("rtsp://h/news.mpg/", "h", "news.mpg"),
-        ("rtsp://h/news.mpg/video", "h", "news.mpg"),
-        ("rtsp://h/video", "h", "video"),
-        ("rtsp://h/video/video", "h", "video"),
-        ("rtsp://h", "h", ""),
-        ("rtsp://h/", "h", ""),
-        ("rtsp://h//", "h", ""),
-        ("rtsp://h/.mpg", "h", ""),
-        ("rtsp://h/a/../b", "h", ""),
-        ("rtsp://h/a//video", "h", ""),
-        ("rtsp://h/a/audio", "h", ""),
-        ("rtsp://h/a/video//", "h", ""),
-        ("rtsp://h/a/VIDEO", "h", ""),
-        ("rtsp://h/a%20b", "h", ""),
-    ] {
+    for (text, authority, name) in URLS {
         let read = read_url(text.as_bytes()).map(|url| (url.authority, url.name.unwrap_or(b"")));
         assert_eq!(rt;
             read,
@@ -211,7 +218,9 @@ fn describes_films(rt: HostRuntime) {
     assert_eq!(rt; length, 142);
     assert_eq!(rt;
         &text[..length],
-        b"v=0\r\no=- 0 0 IN IP4 127.0.0.1\r\ns=news.mpg\r\nc=IN IP4 0.0.0.0\r\nt=0 0\r\na=control:*\r\na=range:npt=0-10.000\r\nm=video 0 RTP/AVP 32\r\na=control:video\r\n".as_slice()
+        b"v=0\r\no=- 0 0 IN IP4 127.0.0.1\r\ns=news.mpg\r\nc=IN IP4 0.0.0.0\r\nt=0 0\r\n\
+        a=control:*\r\na=range:npt=0-10.000\r\nm=video 0 RTP/AVP 32\r\na=control:video\r\n"
+            .as_slice()
     );
     let length = description("a", 7, &mut text);
     assert!(rt;
@@ -268,7 +277,8 @@ fn writes_fields(rt: HostRuntime) -> Result<(), Fail> {
     put_base(&mut reply, b"RTSP://h:8554/news.mpg/video");
     put_range(&mut reply, 0, u64::MAX, 10);
     let text =
-        b"Content-Base: rtsp://h:8554/news.mpg/\r\nRange: npt=0.000-18446744073709551.615\r\nSession: 000000000000000a\r\n";
+        b"Content-Base: rtsp://h:8554/news.mpg/\r\nRange: npt=0.000-18446744073709551.615\r\n\
+        Session: 000000000000000a\r\n";
     assert_eq!(rt; reply.bytes(), text.as_slice());
     Ok(())
 }

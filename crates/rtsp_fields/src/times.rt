@@ -70,6 +70,7 @@ fn read_seconds(text: &[u8]) -> Option<u64>
     }
 }
 
+/// Whether all bytes are digits.
 fn are_digits(text: &[u8]) -> bool
     ensures { result ≡ list_all is_ascii_digit text.now }
 {
