@@ -1,24 +1,15 @@
 -- What a piece more makes of what was said.
-use Rattle.std.proofs.Common.{◌≡◌, ℕ, ◌+◌, ◌≤◌, Bool, true, false, List, [], ◌++◌, length, take, Some, None, Option, refl, sym, ap, ◌∙◌, arith, length-append, subst}
+use Rattle.std.proofs.Common.{◌≡◌, ℕ, ◌+◌, ◌≤◌, Bool, true, false, List, [], ◌++◌, length, take, Option, refl, sym, ap, ◌∙◌, arith, length-append, subst}
+use Rattle.std.proofs.lemmas.Bool.{true≢false}
 use Rattle.std.proofs.Math.Seq.{take-append-add}
-use Rattle.std.proofs.lemmas.List.{append_assoc, append-nil, take-append-le}
+use Rattle.std.proofs.lemmas.List.{take-append-le}
 use Rattle.vod_base.specs.Outside.{HasRisen, more, IsFrontMore}
+use Rattle.vod_base.proofs.Telling.{more-append, more-nil}
 use Rattle.troubles.specs.Said.{IsSaid}
-
-pub more-more : (told : Option (List ℕ)) (a b : List ℕ) → more (more told a) b ≡ more told (a ++ b)
-more-more None a b = refl
-more-more (Some t) a b = ap (λ (x : List ℕ). Some x) (append_assoc t a b)
-
-more-nil : (told : Option (List ℕ)) → told ≡ more told []
-more-nil None = refl
-more-nil (Some t) = ap (λ (x : List ℕ). Some x) (sym (append-nil t))
-
-apart : true ≡ false → ⊥
-apart e = cc
 
 -- nothing was said yet
 pub said_nothing : (faults : ℕ) (told : Option (List ℕ)) → IsSaid faults faults told told [] true
-said_nothing faults told = record { count = omega arith; all = λ _. more-nil told; risen = λ e. absurd (apart e); front = λ e. absurd (apart e) }
+said_nothing faults told = record { count = omega arith; all = λ _. sym (more-nil told); risen = λ e. absurd (true≢false e); front = λ e. absurd (true≢false e) }
 
 -- nothing more is said after a fault
 pub said_no_more : {faults faults' : ℕ} {told told' : Option (List ℕ)} {text : List ℕ} (piece : List ℕ) → IsSaid faults faults' told told' text false →
@@ -27,7 +18,7 @@ said_no_more {told} {told'} {text} piece said =
     let front : IsFrontMore told told' text = said.front refl in
     record {
       count = said.count;
-      all = λ e. absurd (apart (sym e));
+      all = λ e. absurd (true≢false (sym e));
       risen = said.risen;
       front = λ _. (
         front.0,
@@ -43,9 +34,9 @@ pub said_more : {faults faults' faults'' : ℕ} {told told' told'' : Option (Lis
     faults' ≤ faults'' → told'' ≡ more told' piece → IsSaid faults faults'' told told'' (text ++ piece) true
 said_more {told} {text} piece said count wrote = record {
   count = omega (arith, said.count, count);
-  all = λ _. wrote ∙ ap (λ (t : Option (List ℕ)). more t piece) (said.all refl) ∙ more-more told text piece;
-  risen = λ e. absurd (apart e);
-  front = λ e. absurd (apart e);
+  all = λ _. wrote ∙ ap (λ (t : Option (List ℕ)). more t piece) (said.all refl) ∙ more-append told text piece;
+  risen = λ e. absurd (true≢false e);
+  front = λ e. absurd (true≢false e);
 }
 
 -- a piece more failed
@@ -53,14 +44,14 @@ pub said_part : {faults faults' faults'' : ℕ} {told told' told'' : Option (Lis
     faults' ≤ faults'' → HasRisen faults' faults'' → IsFrontMore told' told'' piece → IsSaid faults faults'' told told'' (text ++ piece) false
 said_part {told} {text} piece said count risen wrote = record {
   count = omega (arith, said.count, count);
-  all = λ e. absurd (apart (sym e));
+  all = λ e. absurd (true≢false (sym e));
   risen = λ _ end. omega (arith, said.count, risen end);
   front = λ _. (
     length text + wrote.0,
     (
       omega (arith, wrote.1.0, length-append text piece),
       wrote.1.1 ∙ ap (λ (t : Option (List ℕ)). more t (take wrote.0 piece)) (said.all refl)
-          ∙ more-more told text (take wrote.0 piece) ∙ ap (more told) (sym (take-append-add text piece wrote.0)),
+          ∙ more-append told text (take wrote.0 piece) ∙ ap (more told) (sym (take-append-add text piece wrote.0)),
     ),
   );
 }
@@ -76,11 +67,7 @@ said_piece {text} {ok = false} piece said count whole risen front =
     said_part piece said count (risen refl) (front refl)
 
 -- a piece goes on in a text that is named in another grouping
-pub said_same : {faults faults' : ℕ} {told told' : Option (List ℕ)} {text text' : List ℕ} {ok : Bool} → text ≡ text' →
-    IsSaid faults faults' told told' text ok → IsSaid faults faults' told told' text' ok
-said_same {faults} {faults'} {told} {told'} {text} {ok} e said = subst (λ (t : List ℕ). IsSaid faults faults' told told' t ok) e said
-
 pub said_as : {faults faults' : ℕ} {told told' : Option (List ℕ)} {text text' : List ℕ} {ok : Bool} → text ≡ text' →
     IsSaid faults faults' told told' text ok → IsSaid faults faults' told told' text' ok
-said_as {faults = faults} {faults' = faults'} {told = told} {told' = told'} {text = text} {text' = text'} {ok = ok} e said =
-    said_same e said
+said_as {faults = faults} {faults' = faults'} {told = told} {told' = told'} {ok = ok} e said =
+    subst (λ (t : List ℕ). IsSaid faults faults' told told' t ok) e said
