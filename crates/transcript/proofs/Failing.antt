@@ -17,7 +17,7 @@ use Rattle.conn.specs.Rounds.{EndsInReply, HasFailedInReply, HasFailedInSlot, Is
 use Rattle.conn.specs.Turns.{Answered, Entered, Film, IsFinished, Outcome, Part, Passed, Stage, Taking, TakesAll, Text, Unasked, after_reply, due_parts, parts_bytes, reply_parts, slot_parts, stage}
 use Rattle.transcript.specs.Courses.{Course, Follows, first_stage, rounds_bytes}
 use Rattle.transcript.specs.Failures.{IsCutShort}
-use Rattle.transcript.proofs.Filming.{Stands, course_step, stands_by}
+use Rattle.transcript.proofs.Filming.{Stands, course_step, stands_by, reply_awaited}
 use Rattle.transcript.specs.Courses.{askings_of}
 use Rattle.conn.specs.Films.{rounds_film}
 
@@ -100,17 +100,13 @@ finish-if : (done : Bool) (s : Standing) (keep : ℕ) → s.awaited ≡ (if done
 finish-if true s keep is = finish-halt s keep is
 finish-if false s keep is = finish-none s is
 
-reply-rest : (goes : Bool) (s : Standing) → (if goes then sent_reply s else s).awaited ≡ s.awaited
-reply-rest true s = refl
-reply-rest false s = refl
-
 finish-sent : (s : Standing) → s.awaited ≡ Nothing → CanFinish (after_play s)
 finish-sent s rest = finish-if (is_done_in s.state) (after_play s) (sent_in s.state) (ap (λ a. if is_done_in s.state then Halt (sent_in s.state) Done else a) rest)
 
 finish-slotted : (old : Standing) (slot : ℕ) (taken sending : Bool) → old.awaited ≡ Nothing
     → CanFinish (if taken then (if sending then after_play (sent_slot old slot) else record old { heard = slot }) else old)
 finish-slotted old slot true true rest =
-    finish-sent (sent_slot old slot) (reply-rest (old.waits && is_between (stepped_in true slot old.state)) (sent_due old slot) ∙ rest)
+    finish-sent (sent_slot old slot) (reply_awaited (old.waits && is_between (stepped_in true slot old.state)) (sent_due old slot) ∙ rest)
 finish-slotted old slot true false rest = finish-none (record old { heard = slot }) rest
 finish-slotted old slot false sending rest = finish-none old rest
 

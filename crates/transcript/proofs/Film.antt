@@ -1,7 +1,7 @@
 -- What a client reads of a whole film's blocks: the sizes of its units, the time of its pictures,
 -- and its bytes.
 use Rattle.std.proofs.Common.{◌≡◌, ℕ, ◌+◌, ◌-◌, ◌<◌, ◌≤◌, ◌==◌, true, nat_lt, min, List, [], ◌∷◌, length, take, drop, map, sum, Some, slice_get, refl, sym, ap, subst, ◌∙◌, arith, inl, inr}
-use Rattle.std.proofs.lemmas.Bool.{cases_lt, cond-false, eqb-true, ltb-true, ne_eqb}
+use Rattle.std.proofs.lemmas.Bool.{cases_lt, cond-false, eqb-true, ltb-true, ne_eqb, and_parts}
 use Rattle.std.proofs.lemmas.List.{length-take-le, take_all}
 use Rattle.std.proofs.lemmas.List.Sums.{sum_by-take-le}
 use Rattle.mpeg_scan.specs.declared.films.Film.{Film}
@@ -24,7 +24,7 @@ use Rattle.rtsp_client.specs.Moments.{History, end_ms, first_frame, frames, payl
 use Rattle.rtsp_client.specs.Promises.{IsHeardOf}
 use Rattle.rtsp_client.proofs.Handing.{payloads-are}
 use Rattle.transcript.proofs.Counting.{count-whole}
-use Rattle.transcript.proofs.Firsts.{HasGoneOn, and-left, and-right, first-frame, first-good, time-is}
+use Rattle.transcript.proofs.Firsts.{HasGoneOn, first-frame, first-good, time-is}
 use Rattle.transcript.proofs.Reading.{IsReadingOf, Stream, begun_sum, film_place}
 use Rattle.transcript.proofs.Sums.{Sum, blocks-one-take, blocks-received, blocks-same, steps, steps-payloads, sum_of}
 use Rattle.transcript.proofs.Units.{HasCome, units-come, units-told}
@@ -103,9 +103,6 @@ timed {film} {identity} {x} {h} k is gone sum_is =
 
 -- ---- a reading
 
-min-below : (a b : ℕ) → min a b ≤ a
-min-below a b = omega arith
-
 pub heard-of : {film : Film} {identity : Identity} {x : Stream} {c : ℕ} {at : Stage} → IsFilmIn film identity x → HasGoneOn at.history → IsReadingOf x c at
     → units_until (begun_sum x).end_ms (picture_time film.rate) ≡ length (film_sizes film)
     → IsHeardOf (film_sizes film) (picture_time film.rate) at.history (cut_bytes at.rest)
@@ -163,8 +160,8 @@ whole-of {film} {identity} {x} {h} is gone sum_is complete =
       | inr more ↦ omega (arith, more, its.among)
     ] in
     let are : sizes h ≡ all = ap (λ (s : Sum). s.sizes) sum_here ∙ (its.sizes_are ∙ take_all its.count all (omega (arith, every))) in
-    let some : 0 < frames h = ltb-true 0 (frames h) (and-left (nat_lt 0 (frames h)) (length (sizes h) == units h) complete) in
-    let same : length (sizes h) ≡ units h = eqb-true (length (sizes h)) (units h) (and-right (nat_lt 0 (frames h)) (length (sizes h) == units h) complete) in
+    let some : 0 < frames h = ltb-true 0 (frames h) (and_parts (nat_lt 0 (frames h)) (length (sizes h) == units h) complete).0 in
+    let same : length (sizes h) ≡ units h = eqb-true (length (sizes h)) (units h) (and_parts (nat_lt 0 (frames h)) (length (sizes h) == units h) complete).1 in
     let its_time = timed k is gone sum_here in
     record { sizes_are = are; count = sym (its_time.units_are some) ∙ (sym same ∙ ap (λ (l : List ℕ). length l) are) }
 

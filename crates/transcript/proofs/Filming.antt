@@ -1,6 +1,6 @@
 -- What a connection writes of films, event by event, is what is due of its plays.
 use Rattle.std.proofs.Common.{◌≡◌, ℕ, ◌^◌, ◌<◌, ◌≤◌, ◌++◌, ◌&&◌, ◌==◌, if◌then◌else◌, Bool, true, false, nat_lt, nat_le, List, [], ◌∷◌, take, refl, ap, sym, ◌∙◌, subst, arith}
-use Rattle.std.proofs.lemmas.Bool.{eqb-true, ltb-true, true≢false}
+use Rattle.std.proofs.lemmas.Bool.{eqb-true, ltb-true, true≢false, and_parts}
 use Rattle.std.proofs.lemmas.List.{append-nil}
 use Rattle.vod_base.specs.Links.{Doing, HeardBytes, HeardEnd, HeardSlot, Sent}
 use Rattle.pacer.specs.Pacings.{Pacing, is_done}
@@ -68,16 +68,12 @@ turn_step old new asked outcome stands turns =
           (subst (λ w. GoesOn (sends_in old.state) (sends_in new.state) old.heard old.heard w (Asks asked outcome ∷ []) []) (sym after.waits) on);
     }
 
-and_right : (a b : Bool) → (a && b) ≡ true → b ≡ true
-and_right true b both = both
-and_right false b both = absurd (true≢false (sym both))
-
 reply_is : (goes : Bool) (s : Standing) → (goes ≡ true → is_between s.state ≡ true) → Stands s → Step s (if goes then sent_reply s else s) [] []
 reply_is true s between stands = record { rest = stands.rest; on = reply_on true s.state s.waits s.heard stands.sound between }
 reply_is false s between stands = step_none s stands
 
 reply_step : (s : Standing) → Stands s → Step s (after_reply s) [] []
-reply_step s stands = reply_is (can_reply s) s (λ can. and_right s.waits (is_between s.state) can) stands
+reply_step s stands = reply_is (can_reply s) s (λ can. (and_parts s.waits (is_between s.state) can).1) stands
 
 answered_step : {old new : Stage} {message : List ℕ} {outcome : Outcome} {parts : List Part}
     (replied : IsReplied old message outcome parts new)
@@ -113,7 +109,7 @@ takes_step old new (Answered message outcome parts ∷ takings) takes stands =
 
 -- a play that is done is halted with all that was sent
 pub done_kept : (p : Pacing) → is_done p ≡ true → p.sent ≡ p.keep
-done_kept p done = eqb-true p.sent p.keep (and_right (nat_lt 0 p.passed) (p.sent == p.keep) done)
+done_kept p done = eqb-true p.sent p.keep (and_parts (nat_lt 0 p.passed) (p.sent == p.keep) done).1
 
 done_rest : {p : Pacing} {slot : ℕ} {asked : Awaited} {number keep end : ℕ} (placed : Placed) (askings : List Asking)
     (more : List ℕ)
@@ -262,10 +258,6 @@ idle_on old slot stands none later = record {
   rest = λ askings end more on is. is;
 }
 
-pub and_left : (a b : Bool) → (a && b) ≡ true → a ≡ true
-and_left true b both = refl
-and_left false b both = both
-
 slot_cases : {old : Standing} {halt : Outcome} {new : Standing} {taken sending : Bool} (slot : ℕ) → Stands old → (taken ≡ true → old.heard < slot)
     → is_sending old.state ≡ sending
     → let s : Standing = if taken then (if sending then after_play (sent_slot old slot) else record old { heard = slot }) else old in
@@ -282,7 +274,7 @@ pub slot_step : (old : Standing) (slot : ℕ) (halt : Outcome) (new : Standing) 
     → Step old new (Asks (after_slot old slot).awaited halt ∷ []) (film_bytes (slot_parts old slot))
 slot_step old slot halt new stands finishing =
     slot_cases slot stands
-    (λ taken. ltb-true old.heard slot (and_left (nat_lt old.heard slot) (nat_le slot (2 ^ 62)) taken)) refl finishing
+    (λ taken. ltb-true old.heard slot (and_parts (nat_lt old.heard slot) (nat_le slot (2 ^ 62)) taken).0) refl finishing
 
 -- ---- events
 

@@ -1,6 +1,6 @@
 -- The first frame that a client hears of a film, and the time of a picture in it.
 use Rattle.std.proofs.Common.{◌≡◌, ℕ, zero, suc, ◌+◌, ◌-◌, ◌%◌, ◌<◌, ◌≤◌, ◌==◌, ◌&&◌, Bool, true, false, not, nat_le, cond, List, [], ◌∷◌, ◌++◌, length, take, drop, get_or, is_ok, refl, sym, ap, subst, ◌∙◌, append_assoc, min, arith, inl, inr}
-use Rattle.std.proofs.lemmas.Bool.{cases_eq, cond-true, cond-false, eq-eqb, ne_eqb, leb-true}
+use Rattle.std.proofs.lemmas.Bool.{cases_eq, cond-true, cond-false, eq-eqb, ne_eqb, leb-true, and_parts}
 use Rattle.std.proofs.lemmas.List.{get_or-drop, get_or-take, length-take}
 use Rattle.mpeg_scan.specs.declared.units.Unit.{Unit as PictureUnit}
 use Rattle.mpeg_scan.specs.Layout.{BeginsSequence, IsLaid}
@@ -27,14 +27,6 @@ pub gone-on : (h : History) (ms : List Moment) → HasGoneOn h → GoOn h ms →
 gone-on h [] gone good = gone
 gone-on h (m ∷ ms) gone good = gone-on (m ∷ h) ms (good.0, gone) good.1
 
-pub and-left : (a b : Bool) → (a && b) ≡ true → a ≡ true
-and-left true b both = refl
-and-left false b both = both
-
-pub and-right : (a b : Bool) → (a && b) ≡ true → b ≡ true
-and-right true b both = both
-and-right false b both = absurd (let no : ⊥ = cc in no)
-
 -- its first frame begins a film
 pub first-good : (h : History) → HasGoneOn h → 0 < frames h → begins_film (drop 20 (first_frame h)) ≡ true
 first-good [] gone some = absurd (omega (arith, some))
@@ -45,12 +37,12 @@ first-good (Frame b ∷ h) gone some =
     let P : List ℕ → Type 0 = λ f. begins_film (drop 20 f) ≡ true in
     let head : Bool = is_ok (head_of (drop 4 b)) in
     let last : Bool = cond (frames h == 0) (is_first_good h b) (is_next_good h b) in
-    let all : last ≡ true = and-right head last (and-right (not (is_complete h)) (head && last) (and-right (is_playing h) (not (is_complete h) && (head && last)) gone.0)) in
+    let all : last ≡ true = (and_parts head last (and_parts (not (is_complete h)) (head && last) (and_parts (is_playing h) (not (is_complete h) && (head && last)) gone.0).1).1).1 in
     elim (cases_eq (frames h) 0) [
       | inl none ↦
           let is : is_first_good h b ≡ true = sym (cond-true (frames h == 0) (is_first_good h b) (is_next_good h b) (eq-eqb (frames h) 0 none)) ∙ all in
           subst P (sym (cond-true (frames h == 0) b (first_frame h) (eq-eqb (frames h) 0 none)))
-          (and-left (begins_film (drop 20 b)) (nat_le 1 (units_until (end_ms h) (time_in b)) && nat_le (units_until (end_ms h) (time_in b)) 4194304) is)
+          (and_parts (begins_film (drop 20 b)) (nat_le 1 (units_until (end_ms h) (time_in b)) && nat_le (units_until (end_ms h) (time_in b)) 4194304) is).0
       | inr more ↦
           subst P (sym (cond-false (frames h == 0) b (first_frame h) (ne_eqb (frames h) 0 more)))
           (first-good h gone.1 (omega (arith, more)))
@@ -122,7 +114,7 @@ time-is {run} {starts} {unit} {first} laid led begins good =
     let its : List ℕ = payload run.film p in
     let Q : List ℕ → Type 0 = λ b. begins_film (drop 20 b) ≡ true in
     let all : begins_film its ≡ true = subst Q led.first_is good in
-    let long : 12 ≤ length its = leb-true 12 (length its) (and-left (nat_le 12 (length its)) _ (and-left _ _ (and-left _ _ all))) in
+    let long : 12 ≤ length its = leb-true 12 (length its) (and_parts (nat_le 12 (length its)) _ (and_parts _ _ (and_parts _ _ all).0).0).0 in
     let count : length its ≡ min (p.to - p.from) (length (drop p.from run.film)) = length-take (p.to - p.from) (drop p.from run.film) in
     let many : 7 < p.to - p.from = omega (arith, long, count) in
     let P : List Packet → Type 0 = λ ps. DoCover unit.from ps unit.to in

@@ -1,7 +1,7 @@
 -- What a client reads its meter by, where what came is a front of two replies, a film's blocks and
 -- later replies.
 use Rattle.std.proofs.Common.{◌≡◌, ℕ, zero, suc, ◌+◌, ◌-◌, ◌<◌, ◌≤◌, ◌==◌, ◌&&◌, ◌||◌, Bool, true, false, nat_lt, cond, min, List, [], ◌∷◌, ◌++◌, length, take, get_or, refl, sym, ap, subst, ◌∙◌, arith, inl, inr}
-use Rattle.std.proofs.lemmas.Bool.{cases_lt, cond-true, cond-false, eq-eqb, lt-ltb}
+use Rattle.std.proofs.lemmas.Bool.{cases_lt, cond-true, cond-false, eq-eqb, lt-ltb, or_left, or_right}
 use Rattle.std.proofs.lemmas.List.{get_or-take, length-take-le, take-append-le, take_all}
 use Rattle.std.proofs.Math.Seq.{take-append-add}
 use Rattle.interleave.specs.Heads.{is_line_end}
@@ -56,13 +56,6 @@ texts-cut (m ∷ ms) d are =
       | inr more ↦ ap cut_bytes (rest-more m ms d more) ∙ texts-cut ms (d - length m) are.1
     ]
 
-or-left : (a b : Bool) → a ≡ true → (a || b) ≡ true
-or-left a b is = ap (λ x. x || b) is
-
-or-right : (a b : Bool) → b ≡ true → (a || b) ≡ true
-or-right true b is = refl
-or-right false b is = is
-
 block-cut : (b : List ℕ) (d : ℕ) → d ≤ length b → get_or b 0 0 ≡ 36 → get_or b 1 0 < 2 → cut_bytes (take d b) ≡ length (take d b)
 block-cut b zero few starts channel = refl
 block-cut b (suc d) few starts channel =
@@ -70,10 +63,10 @@ block-cut b (suc d) few starts channel =
     let long = length-take-le (suc d) b few in
     let c : Bool = nat_lt (length rest) 2 || nat_lt (get_or rest 1 0) 2 in
     let second : c ≡ true = elim (cases_lt (length rest) 2) [
-      | inl short ↦ or-left (nat_lt (length rest) 2) (nat_lt (get_or rest 1 0) 2) (lt-ltb (length rest) 2 short)
+      | inl short ↦ or_left (nat_lt (length rest) 2) (nat_lt (get_or rest 1 0) 2) (lt-ltb (length rest) 2 short)
       | inr more ↦
           let there : get_or rest 1 0 ≡ get_or b 1 0 = get_or-take (suc d) b 1 0 (omega (arith, more, long)) in
-          or-right (nat_lt (length rest) 2) (nat_lt (get_or rest 1 0) 2) (lt-ltb (get_or rest 1 0) 2 (omega (arith, there, channel)))
+          or_right (nat_lt (length rest) 2) (nat_lt (get_or rest 1 0) 2) (lt-ltb (get_or rest 1 0) 2 (omega (arith, there, channel)))
     ] in
     let first : (get_or rest 0 0 == 36) ≡ true = eq-eqb (get_or rest 0 0) 36 (get_or-take (suc d) b 0 0 (omega arith) ∙ starts) in
     cond-true ((get_or rest 0 0 == 36) && c) (length rest) 0 (ap (λ x. x && c) first ∙ second)

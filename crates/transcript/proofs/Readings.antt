@@ -1,7 +1,7 @@
 -- At each reading of the meter what came lies between the film's curves.
 use Rattle.std.specs.Prelude.{⊤}
 use Rattle.std.proofs.Common.{◌≡◌, ℕ, ◌+◌, ◌-◌, ◌<◌, ◌≤◌, ◌==◌, ◌&&◌, Bool, true, false, nat_lt, nat_le, cond, min, List, [], ◌∷◌, ◌++◌, length, take, get_or, Ok, refl, sym, ap, subst, ◌∙◌, append_assoc, arith, inl, inr}
-use Rattle.std.proofs.lemmas.Bool.{cases_lt, leb-true, ltb-true}
+use Rattle.std.proofs.lemmas.Bool.{cases_lt, leb-true, ltb-true, and_parts}
 use Rattle.std.proofs.lemmas.List.{append-nil, length-append, length-take, take-append-le, take-take, take_all}
 use Rattle.vod_base.specs.Links.{Doing, HeardBytes, HeardEnd, HeardSlot, Sent}
 use Rattle.interleave.specs.Heads.{is_line_end}
@@ -20,7 +20,6 @@ use Rattle.rtsp_client.specs.Meters.{first_slot, is_read, place_in}
 use Rattle.rtsp_client.specs.Moments.{History, Moment, Frame, Reply, Report, Slot, is_playing, last_slot, bytes_received, replies}
 use Rattle.rtsp_client.specs.Promises.{IsBetween, IsBetweenAlways, IsHeardOf}
 use Rattle.transcript.proofs.Film.{IsFilmIn, film_sizes, heard-of}
-use Rattle.transcript.proofs.Firsts.{and-left, and-right}
 use Rattle.transcript.specs.Requests.{bytes_in}
 use Rattle.transcript.proofs.ClientHearing.{Heard, heard-round, history-later, replies-later, rounds_heard, slot-stays}
 use Rattle.transcript.proofs.Reading.{Stream, all_of, begun_sum, film_place, reading-of}
@@ -104,9 +103,9 @@ slot-met : {wish : Wish} {film : Film} {identity : Identity} {x : Stream} {begin
     × IsBetween wish (film_sizes film) (picture_time film.rate) (place_in at.history slot) (bytes_received at.history + cut_bytes at.rest)
 slot-met {wish} {film} {begin} {at} slot is count heard idle front few begins fed read =
     let h = at.history in
-    let playing : 1 < replies h = ltb-true 1 (replies h) (and-left (is_playing h) (nat_le (first_slot h) slot && nat_lt (last_slot h) slot) read) in
+    let playing : 1 < replies h = ltb-true 1 (replies h) (and_parts (is_playing h) (nat_le (first_slot h) slot && nat_lt (last_slot h) slot) read).0 in
     let there : first_slot h ≤ slot = leb-true (first_slot h) slot
-    (and-left (nat_le (first_slot h) slot) (nat_lt (last_slot h) slot) (and-right (is_playing h) (nat_le (first_slot h) slot && nat_lt (last_slot h) slot) read)) in
+    (and_parts (nat_le (first_slot h) slot) (nat_lt (last_slot h) slot) (and_parts (is_playing h) (nat_le (first_slot h) slot && nat_lt (last_slot h) slot) read).1).0 in
     let first : first_slot h ≡ begin = begins playing in
     let reading = reading-of heard (tells_none at.rest (Ok More) idle) front playing few in
     let its = heard-of is heard.gone reading count in

@@ -1,6 +1,6 @@
 -- The replies of a connection's course, one after another, each at its place.
 use Rattle.std.proofs.Common.{◌≡◌, ℕ, ◌+◌, ◌-◌, ◌^◌, ◌<◌, ◌≤◌, ◌++◌, ◌&&◌, if◌then◌else◌, Bool, true, false, nat_lt, nat_le, min, max, List, [], ◌∷◌, Option, Some, None, refl, ap, sym, ◌∙◌, subst, inl, inr, arith}
-use Rattle.std.proofs.lemmas.Bool.{ltb-true, true≢false}
+use Rattle.std.proofs.lemmas.Bool.{ltb-true, true≢false, and_parts}
 use Rattle.std.proofs.lemmas.List.{append-nil}
 use Rattle.vod_base.specs.Links.{Doing, HeardBytes, HeardEnd, HeardSlot, Sent}
 use Rattle.film_frames.specs.declared.stores.Stored.{Stored}
@@ -26,7 +26,7 @@ use Rattle.transcript.specs.Courses.{Follows, asked_by, askings_of, first_stage,
 use Rattle.transcript.specs.Places.{AreSentAt, IsBoundaryIn, slots_from, takings_slots}
 use Rattle.transcript.specs.Plays.{Asking, Asks, plays_admitted, plays_begun, due_by as all_due, due_of, kept_by, kept_in, kept_with, plays_of}
 use Rattle.transcript.specs.Replies.{placed_texts}
-use Rattle.transcript.proofs.Filming.{Stands, and_left, course_step, done_kept, halt_state, idle_sound, opened_rest, opened_stands, reply_awaited, reply_heard, reply_state, reply_waits, round_step, sent_on, stands_by, taken_stands, turn_after, turn_step}
+use Rattle.transcript.proofs.Filming.{Stands, course_step, done_kept, halt_state, idle_sound, opened_rest, opened_stands, reply_awaited, reply_heard, reply_state, reply_waits, round_step, sent_on, stands_by, taken_stands, turn_after, turn_step}
 use Rattle.transcript.proofs.Films.{IsOnTime, IsSound, play_with}
 use Rattle.transcript.proofs.Hearing.{comes_heard, course_heard, takes_left}
 use Rattle.transcript.proofs.Places.{AreLater, StandAt, due_then, from_lower, later_lower, over_at}
@@ -317,7 +317,7 @@ slot_move {old} {halt} {new} {pending} {taken = true} {sending = false} slot sta
 slotted_sound : (old : Standing) (slot : ℕ) → Stands old → IsSound (sends_in (after_slot old slot).state) (after_slot old slot).waits (after_slot old slot).heard
 slotted_sound old slot stands =
     slot_sound slot stands
-    (λ taken. ltb-true old.heard slot (and_left (nat_lt old.heard slot) (nat_le slot (2 ^ 62)) taken)) refl
+    (λ taken. ltb-true old.heard slot (and_parts (nat_lt old.heard slot) (nat_le slot (2 ^ 62)) taken).0) refl
 
 comes_move : {due : List Part} {halt : Outcome} {pending : Option ℕ} (old opened : Stage) (event : Doing) → Comes old event due halt opened
     → Stands old.session → HeldIn pending old.session → Move old.session opened.session pending (Asks (asked_by old.session event) halt ∷ []) [] due
@@ -328,7 +328,7 @@ comes_move {halt} {pending} old opened (HeardBytes bytes) comes stands held =
 comes_move {halt} {pending} old opened (HeardSlot slot) comes stands held =
     subst (λ ps. Move old.session opened.session pending (Asks (after_slot old.session slot).awaited halt ∷ []) [] ps) (sym comes.1.parts_are)
     (slot_move slot stands held
-    (λ taken. ltb-true old.session.heard slot (and_left (nat_lt old.session.heard slot) (nat_le slot (2 ^ 62)) taken)) refl
+    (λ taken. ltb-true old.session.heard slot (and_parts (nat_lt old.session.heard slot) (nat_le slot (2 ^ 62)) taken).0) refl
     (slotted_sound old.session slot stands) comes.1.finished)
 comes_move {halt} old opened HeardEnd comes stands held = absurd comes
 comes_move {halt} old opened (Sent byte) comes stands held = absurd comes

@@ -16,7 +16,7 @@ use Rattle.conn.specs.Turns.{Answered, Entered, Film, IsFinished, IsHalted, IsRe
 use Rattle.transcript.specs.Courses.{Follows, askings_of, first_stage, greatest_slot, rounds_bytes, round_askings}
 use Rattle.transcript.specs.Plays.{film_written, plays_of}
 use Rattle.transcript.specs.Replies.{placed_texts, replies_of, takings_replies, text_of, waiting_reply, with_texts}
-use Rattle.transcript.proofs.Filming.{Stands, opened_stands, round_step, stands_by, taken_stands, turn_after}
+use Rattle.transcript.proofs.Filming.{Stands, opened_stands, round_step, stands_by, taken_stands, turn_after, reply_awaited}
 use Rattle.transcript.proofs.Hearing.{film_written_is}
 use Rattle.transcript.proofs.Turning.{turns_as}
 use Rattle.transcript.proofs.Weaving.{course_film, parts_woven, rounds_sent}
@@ -107,10 +107,6 @@ finished_waiting OfferAnswer s halt new done is = absurd is
 done_next : (done : Bool) (sent : ℕ) (awaited : Awaited) → awaited ≡ Nothing → next_of (if done then Halt sent Done else awaited) ≡ Done
 done_next true sent awaited rest = refl
 done_next false sent awaited rest = ap next_of rest
-
-reply_awaited : (goes : Bool) (s : Standing) → (if goes then sent_reply s else s).awaited ≡ s.awaited
-reply_awaited true s = refl
-reply_awaited false s = refl
 
 reply_waiting : (goes : Bool) (s : Standing) → waiting_reply (if goes then sent_reply s else s) ≡ (if (if goes then false else s.waits) then s.text ∷ [] else [])
 reply_waiting true s = refl

@@ -53,10 +53,6 @@ replied_on (Stopping setup stop) waits slot sound between =
     let p : Pacing = stop.pacer in
     over_on p slot sound.0 (ended_at sound.0 sound.2 (stands_here p sound.0.pacing between) refl)
 
-and_right : (a b : Bool) → (a && b) ≡ true → b ≡ true
-and_right true b both = both
-and_right false b both = absurd (true≢false (sym both))
-
 pub reply_on : (goes : Bool) (state : State) (waits : Bool) (slot : ℕ) → IsSound (sends_in state) waits slot → (goes ≡ true → is_between state ≡ true)
     → GoesOn (sends_in state) (sends_in (if goes then after_stop state else state)) slot slot (if goes then false else waits) [] []
 reply_on false state waits slot sound between = same_on (sends_in state) waits slot sound

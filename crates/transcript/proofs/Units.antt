@@ -1,6 +1,6 @@
 -- The sizes of units, as a client reads them from the frames and reports of a run.
 use Rattle.std.proofs.Common.{◌≡◌, ℕ, zero, suc, ◌+◌, ◌-◌, ◌<◌, ◌≤◌, ◌&&◌, Bool, true, false, not, nat_lt, List, [], ◌∷◌, ◌++◌, length, take, map, sum, refl, sym, ap, subst, ◌∙◌, append_assoc, arith, inl, inr}
-use Rattle.std.proofs.lemmas.Bool.{cases_lt, cond-true, cond-false}
+use Rattle.std.proofs.lemmas.Bool.{cases_lt, cond-true, cond-false, and_from}
 use Rattle.std.proofs.lemmas.List.{append-nil, length-append, take-append-le, take_all}
 use Rattle.std.proofs.lemmas.List.Sums.{sum_by-cons}
 use Rattle.std.proofs.Math.Seq.{take-append-add}
@@ -102,11 +102,6 @@ part-unit true run f o (suc k) unit packets s media control marked few =
     report-sizes b (take k (frame_blocks run unit f packets)) s (λ t. t.sizes ≡ s.sizes) (report-moment run f o unit control)
     (part-frames run f k unit packets (step (Report b) s) media marked (omega (arith, few)))
 
-both-true : (a b : Bool) → a ≡ true → b ≡ true → (a && b) ≡ true
-both-true true true one two = refl
-both-true true false one two = two
-both-true false b one two = one
-
 whole-unit : {s : Sum} (starts : Bool) (run : Run) (f o : ℕ) (unit : PictureUnit) (packets : List Packet) → run.identity.channel ≡ 0 → run.identity.control ≡ 1
     → IsLastMarked packets → 0 < length packets → plays s ≡ true → s.pending ≡ 0 → s.inside ≡ false
     → IsUnitDone s (length (framed_bytes (report_if starts run unit f o ++ frame_blocks run unit f packets)))
@@ -124,7 +119,7 @@ whole-unit {s} true run f o unit packets media control marked some on none outsi
     let t = step (Report b) s in
     let blocks = frame_blocks run unit f packets in
     let done = whole-frames run f unit packets media marked some in
-    let waits : t.pending ≡ s.pending + length b = cond-true (plays s && not s.inside) (s.pending + length b) s.pending (both-true (plays s) (not s.inside) on (ap not outside)) in
+    let waits : t.pending ≡ s.pending + length b = cond-true (plays s && not s.inside) (s.pending + length b) s.pending (and_from (plays s) (not s.inside) on (ap not outside)) in
     let size : t.pending + length (framed_bytes blocks) ≡ length (b ++ framed_bytes blocks) = omega (arith, waits, none, length-append b (framed_bytes blocks)) in
     report-sizes b blocks s (λ u. IsUnitDone s (length (b ++ framed_bytes blocks)) u) (report-moment run f o unit control)
     (record {
@@ -141,9 +136,6 @@ pub record HasCome (sizes : List ℕ) (c : ℕ) (s t : Sum) : Type 0 where
   pub sizes_are : t.sizes ≡ s.sizes ++ take count sizes
   pub among : count ≤ length sizes
   pub next : count < length sizes → c < sum (take (count + 1) sizes)
-
-sum-first : (x : ℕ) (xs : List ℕ) → sum (x ∷ xs) ≡ x + sum xs
-sum-first x xs = sum_by-cons (λ (y : ℕ). y) x xs
 
 packets-some : (unit : PictureUnit) (f : Filling) (slices : List ℕ) → 0 < length (packets_from unit f slices)
 packets-some unit f [] = omega arith
@@ -232,7 +224,7 @@ units-come {c} {s} run f o starts (unit ∷ units) media control laid on none ou
             count = 0;
             sizes_are = part-unit unit.starts_group run f o k unit (unit_packets starts unit) s media control marked within.1 ∙ sym (append-nil s.sizes);
             among = omega arith;
-            next = λ l. omega (arith, less, sum-first w (take 0 sizes));
+            next = λ l. omega (arith, less, sum_by-cons (λ (y : ℕ). y) w (take 0 sizes));
           }))
       | inr more ↦
           let d = c - length (framed_bytes xs) in
@@ -256,7 +248,7 @@ units-come {c} {s} run f o starts (unit ∷ units) media control laid on none ou
             next = λ l.
                 let later : d < sum (take (come.count + 1) sizes) = come.next (omega (arith, l)) in
                 let same_count = ap (λ n. sum (take n (w ∷ sizes))) (one-more come.count) in
-                omega (arith, later, same_count, sum-first w (take (come.count + 1) sizes), size, more);
+                omega (arith, later, same_count, sum_by-cons (λ (y : ℕ). y) w (take (come.count + 1) sizes), size, more);
           })))
     ])
 

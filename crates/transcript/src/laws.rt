@@ -1,3 +1,6 @@
+//! Laws on every course of a connection, on its bytes and its report, each a contract without a
+//! body.
+
 ghost use Rattle.std.specs.Prelude.{◌≡◌, ◌+◌, ◌++◌, ◌∷◌, [], ℕ, List, Some, map};
 ghost use mathlib.Core.List.{IsPrefix};
 ghost use Rattle.vod_base.specs.Gates.{Returned};
