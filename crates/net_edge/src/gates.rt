@@ -143,12 +143,26 @@ fn open_door<R: Net<Listener = TcpListener, Stream = TcpStream> + Clock>(
     })
 }
 
-/// Whether an `accept` failed for a connection that ended before it was taken, or for a signal.
+/// The numbers of Linux's errors that `accept` hands on from the network of the connection that it
+/// was to take, where they have no kind of their own: EPERM, ENONET, EPROTO, ENOPROTOOPT,
+/// EOPNOTSUPP and EHOSTDOWN. Linux's accept(2) says to try again after each.
+const PASSING: [i32; 6] = [1, 64, 71, 92, 95, 112];
+
+/// Whether an `accept` failed for a signal, for a connection that ended before it was taken, or for
+/// the network of that connection.
 fn has_passed(error: &io::Error) -> bool {
-    matches!(
+    let of_kind = matches!(
         error.kind(),
-        ErrorKind::Interrupted | ErrorKind::ConnectionAborted
-    )
+        ErrorKind::Interrupted
+            | ErrorKind::ConnectionAborted
+            | ErrorKind::NetworkDown
+            | ErrorKind::NetworkUnreachable
+            | ErrorKind::HostUnreachable
+    );
+    of_kind
+        || error
+            .raw_os_error()
+            .is_some_and(|code| PASSING.contains(&code))
 }
 
 impl Door {

@@ -3,18 +3,17 @@ ghost use Rattle.std.specs.Prelude.{◌≡◌, ◌+◌, ◌-◌, ◌*◌, ◌/�
 ghost use Rattle.std.specs.Duration.{as_nanos};
 
 use std::time::Duration;
+use vod_base::LATEST_SLOT;
 
-/// The latest slot; a later one is taken as this one.
-const LATEST: u128 = 1 << 62;
-
-/// The slot that holds the time `elapsed` since slot 0 began.
+/// The slot that holds the time `elapsed` since slot 0 began; one after the latest slot is taken as
+/// that one.
 ///
 /// A slot of so many 1/360,000 seconds has 25,000 / 9 times as many nanoseconds.
 pub(crate) fn slot_at(elapsed: Duration, slot_units: u32) -> u64
     requires { 1 ≤ slot_units }
     ensures { result ≡ min (as_nanos elapsed * 9 / (25000 * slot_units)) (2 ^ 62) }
 {
-    (elapsed.as_nanos() * 9 / (25_000 * slot_units as u128)).min(LATEST) as u64
+    (elapsed.as_nanos() * 9 / (25_000 * slot_units as u128)).min(LATEST_SLOT as u128) as u64
 }
 
 /// From the time `elapsed` on, how long the slot that holds it still lasts, rounded up to whole
