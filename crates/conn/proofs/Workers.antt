@@ -30,6 +30,7 @@ gone_whole {next} mine new closed none open_none same gone = record {
 pub served_none : (part : Option Content) → IfSome part IsUntouched → IsServed part part 0
 served_none None untouched = refl
 served_none (Some part) untouched = record {
+  openings = refl;
   opening = refl;
   parts = refl;
   number = refl;
@@ -49,6 +50,7 @@ served_one {taken} {new} None mid count conn served is back = back ∙ ap (optio
 served_one {taken} {new} (Some old) None count conn served is back = absurd served
 served_one {taken} {new} (Some old) (Some mid) count conn served is back =
     subst (λ c. IsServed (Some old) c (count + 1)) (sym (back ∙ ap (option_map (after_return conn)) is)) (record {
+      openings = served.openings;
       opening = served.opening;
       parts = served.parts;
       number = served.number;
@@ -61,6 +63,7 @@ served_last {new} None mid count last served is = is ∙ ap (option_map (after_e
 served_last {new} (Some old) None count last served is = absurd served
 served_last {new} (Some old) (Some mid) count last served is =
     subst (λ c. IsServed (Some old) c count) (sym is) (record {
+      openings = served.openings;
       opening = served.opening;
       parts = served.parts;
       number = served.number;

@@ -27,6 +27,7 @@ pub record IsUntouched (part : Content) : Type 0 where
 
 -- so many connections were given and came back; else the part is as it was
 pub record Served (old new : Content) (count : ℕ) : Type 0 where
+  pub openings : new.openings ≡ old.openings
   pub opening : new.opening ≡ old.opening
   pub parts : new.parts ≡ old.parts
   pub number : new.own.number ≡ old.own.number
