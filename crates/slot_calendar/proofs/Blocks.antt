@@ -3,6 +3,7 @@ use Rattle.std.proofs.Common.{◌≡◌, ◌≢◌, ◌<◌, ◌≤◌, ◌+◌,
 use Rattle.std.proofs.lemmas.Nat.{div-mul-add, div-add-mod'}
 use Rattle.std.proofs.lemmas.Bool.{cases_lt, cases_eq}
 use Rattle.std.proofs.lemmas.List.{length-set, length-drop, length-take-le, get_or-set_same, get_or-set_other, get_or-take, get_or-drop}
+use Rattle.std.proofs.lemmas.Option.{none-some}
 use Rattle.slot_calendar.specs.Rings.{IsTopped, IsGreatest, AreZeros}
 
 pub block_in : (p : ℕ) → p < 1048576 → p / 1024 < 1024
@@ -177,7 +178,7 @@ topped-settle {places} {tops} {stale} {b} {top} topped is greatest = record {
         }
         )
   ];
-  stale_in = λ k e. absurd (none_some k e);
+  stale_in = λ k e. absurd (none-some k e);
 }
   where
     block : List ℕ
@@ -195,9 +196,6 @@ topped-settle {places} {tops} {stale} {b} {top} topped is greatest = record {
     here : get_or (set tops b top) b 0 ≡ top
     here = get_or-set_same tops b top 0 (omega (arith, topped.tops_are, topped.stale_in b is))
 
-    none_some : (x : ℕ) → None ≡ Some x → ⊥
-    none_some x e = cc
-
 -- all places and all blocks hold 0
 pub topped-zeros : (places tops : List ℕ) → AreZeros places 1048576 → AreZeros tops 1024 → IsTopped places tops None
 topped-zeros places tops empty none = record {
@@ -210,8 +208,5 @@ topped-zeros places tops empty none = record {
     of_block = omega arith;
     holds = empty.each (b * 1024) ∙ sym (none.each b);
   };
-  stale_in = λ k e. absurd (none_some k e);
+  stale_in = λ k e. absurd (none-some k e);
 }
-  where
-    none_some : (x : ℕ) → None ≡ Some x → ⊥
-    none_some x e = cc

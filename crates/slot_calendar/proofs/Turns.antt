@@ -1,7 +1,7 @@
 -- A list that is kept rotation: slot t at place t modulo its length.
 use Rattle.std.proofs.Common.{◌≡◌, ◌≢◌, ◌<◌, ◌≤◌, ◌+◌, ◌-◌, ◌*◌, ◌/◌, ◌%◌, ℕ, List, length, get_or, take, drop, set, arith, sym, ap, ◌∙◌, inl, inr}
-use Rattle.std.proofs.Math.Nat.{mod-lt, lt_of_mul-lt-mul_right}
-use Rattle.std.proofs.lemmas.Nat.{div-add-mod', mod-mul-add, field_of}
+use Rattle.std.proofs.Math.Nat.{lt_of_mul-lt-mul_right}
+use Rattle.std.proofs.lemmas.Nat.{div-add-mod', mod-mul-add, mod_below, field_of}
 use Rattle.std.proofs.lemmas.Bool.{cases_lt, cases_eq}
 use Rattle.std.proofs.lemmas.List.{length-set, get_or-set_same, get_or-set_other, length-drop, length-take-le, length-append, get_or_append_left, get_or-append_right, get_or-drop, get_or-take, get_or_past}
 use Rattle.slot_calendar.specs.Rings.{rotation}
@@ -10,9 +10,6 @@ use Rattle.slot_calendar.specs.Totals.{total_at}
 -- a remainder, from a quotient
 pub mod_is : (x n q r : ℕ) → x ≡ q * n + r → r < n → x % n ≡ r
 mod_is x n q r is less = ap (λ y. y % n) is ∙ mod-mul-add q n r less
-
-pub mod_below : (x n : ℕ) → 0 < n → x % n < n
-mod_below x n pos = mod-lt x pos
 
 pub length-rotation : (xs : List ℕ) (h : ℕ) → h ≤ length xs → length (rotation h xs) ≡ length xs
 length-rotation xs h within =

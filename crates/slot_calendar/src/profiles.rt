@@ -79,10 +79,8 @@ impl Profile {
         ensures { IfOk result (λ profile. profile ≡ record { from = 0; bytes = bytes } ∷ []) }
     {
         let step = CapStep { from: 0, bytes };
-        match Vec::from_slice(alloc, &[step]) {
-            Ok(steps) => Ok(Profile { steps }),
-            Err(_) => Err(NoMemory),
-        }
+        let steps = Vec::from_slice(alloc, &[step])?;
+        Ok(Profile { steps })
     }
 
     /// The steps.

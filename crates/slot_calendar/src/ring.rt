@@ -230,10 +230,8 @@ fn settle_other(places: &[u64], tops: &mut Vec<u64>, stale: Option<usize>, block
 fn zeros(alloc: Global, count: usize) -> Result<Vec<u64>, NoMemory>
     ensures { IfOk result (λ numbers. AreZeros numbers.items count) }
 {
-    match vec![in alloc; 0; count] {
-        Ok(numbers) => Ok(numbers),
-        Err(_) => Err(NoMemory),
-    }
+    let numbers = vec![in alloc; 0; count]?;
+    Ok(numbers)
 }
 
 /// Makes all numbers 0.

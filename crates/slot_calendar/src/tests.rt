@@ -1,3 +1,5 @@
+//! Profiles, and calendars on which plays are booked, cut and forgotten, by rows.
+
 ghost use Rattle.std.specs.Prelude.{◌+◌, ◌<◌, ◌≤◌, ◌^◌, ℕ, IsTrue};
 ghost use Rattle.plan_cert.specs.Slots.{total_slots};
 ghost use Rattle.slot_calendar.specs.Plays.{cut_at};
@@ -32,8 +34,8 @@ fn steps_of(alloc: Global, pairs: &[(u64, u64)]) -> Result<Vec<CapStep>, AllocEr
     Ok(steps)
 }
 
-// Whether each slot from now on has as much booked as the plan has there after its first `keep`
-// bytes.
+/// Whether each slot from now on has as much booked as the plan has there after its first `keep`
+/// bytes.
 fn may_release(calendar: &Calendar, start: u64, plan: &Plan, keep: u64) -> bool
     requires small { start ≤ 2 ^ 63 }
     requires few { total_slots plan.now ≤ 1000000 }
@@ -52,7 +54,7 @@ fn may_release(calendar: &Calendar, start: u64, plan: &Plan, keep: u64) -> bool
     true
 }
 
-// What a calendar is asked, and what it answers.
+/// What a calendar is asked, and what it answers.
 #[derive(Clone, Copy)]
 enum Row<'a> {
     // a plan from a slot on: it is booked, or has this first slot without room, with the bytes
@@ -122,7 +124,7 @@ fn ask(
     Ok(())
 }
 
-// Asks a calendar of this capacity in turn.
+/// Asks a calendar of this capacity in turn.
 fn run(
     rt: &impl Abort,
     alloc: Global,
@@ -156,7 +158,7 @@ fn knows_profiles(rt: HostRuntime) -> Result<(), Fail> {
     Ok(())
 }
 
-// A profile has at most 64 steps.
+/// A profile has at most 64 steps.
 #[test]
 fn counts_steps(rt: HostRuntime) -> Result<(), Fail> {
     let mut many = steps_of(rt.alloc(), &[])?;
@@ -179,7 +181,7 @@ fn tells_capacities(rt: HostRuntime) -> Result<(), Fail> {
     Ok(())
 }
 
-// The laws are calls.
+/// The laws are calls.
 #[test]
 fn states_laws(_rt: HostRuntime) {
     law_sending();
@@ -190,7 +192,7 @@ fn states_laws(_rt: HostRuntime) {
     law_one_overflow();
 }
 
-// A capacity of 5, and of 3 from slot 3 on. The plan of 7 bytes sends 2, 2 and 3.
+/// A capacity of 5, and of 3 from slot 3 on. The plan of 7 bytes sends 2, 2 and 3.
 #[test]
 fn books_and_cuts(rt: HostRuntime) -> Result<(), Fail> {
     let plan: &[(u64, u64)] = &[(3, 7)];
@@ -218,7 +220,7 @@ fn books_and_cuts(rt: HostRuntime) -> Result<(), Fail> {
     run(&rt, rt.alloc(), &[(0, 5), (3, 3)], &rows)
 }
 
-// Plans across the end of the ring's places, and jumps of now past all that is booked.
+/// Plans across the end of the ring's places, and jumps of now past all that is booked.
 #[test]
 fn comes_round(rt: HostRuntime) -> Result<(), Fail> {
     let plan: &[(u64, u64)] = &[(4, 10)];
@@ -246,8 +248,8 @@ fn comes_round(rt: HostRuntime) -> Result<(), Fail> {
     run(&rt, rt.alloc(), &[(0, 4)], &rows)
 }
 
-// A plan of 5 bytes a slot over 1,000,000 slots, asked 2,000 times beside one whose last slot alone
-// has no room: only where blocks are passed over does this end in time.
+/// A plan of 5 bytes a slot over 1,000,000 slots, asked 2,000 times beside one whose last slot alone
+/// has no room: only where blocks are passed over does this end in time.
 #[test]
 fn passes_blocks(rt: HostRuntime) -> Result<(), Fail> {
     let alloc = rt.alloc();

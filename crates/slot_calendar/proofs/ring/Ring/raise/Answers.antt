@@ -1,8 +1,9 @@
 use Rattle.std.proofs.Common.{◌≡◌, ◌<◌, ◌+◌, ◌/◌, ◌%◌, ℕ, max, get_or, set, arith, sym, ap, subst, ◌∙◌}
 use Rattle.std.proofs.lemmas.List.{get_or_read}
+use Rattle.std.proofs.lemmas.Nat.{mod_below}
 use Rattle.slot_calendar.specs.Rings.{IsTopped}
 use Rattle.slot_calendar.specs.Totals.{total_at}
-use Rattle.slot_calendar.proofs.Turns.{mod_below, total-in, set-here, set-there}
+use Rattle.slot_calendar.proofs.Turns.{total-in, set-here, set-there}
 use Rattle.slot_calendar.proofs.Blocks.{topped-raise, block_in}
 use Rattle.slot_calendar.proofs.ring.Ring.raise.Goals as goal
 

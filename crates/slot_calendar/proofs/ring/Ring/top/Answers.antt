@@ -1,7 +1,8 @@
 use Rattle.std.proofs.Common.{◌≡◌, ◌<◌, ◌/◌, ◌%◌, get_or, arith, ap}
 use Rattle.std.proofs.lemmas.List.{get_or_read}
+use Rattle.std.proofs.lemmas.Nat.{mod_below}
 use Rattle.slot_calendar.specs.Totals.{total_at}
-use Rattle.slot_calendar.proofs.Turns.{mod_below, total-bounded}
+use Rattle.slot_calendar.proofs.Turns.{total-bounded}
 use Rattle.slot_calendar.proofs.Blocks.{block_in}
 use Rattle.slot_calendar.proofs.ring.Ring.top.Goals as goal
 
