@@ -1,3 +1,5 @@
+//! Laws of offers: there is one, what it says of plays, and that its start is the least.
+
 ghost use Rattle.std.specs.Prelude.{ℕ, ◌≡◌, ◌+◌, ◌<◌, ◌≤◌, List, None, Some};
 ghost use Rattle.plan_cert.specs.declared.Segment.{Segment};
 ghost use Rattle.slot_calendar.specs.Calendars.{Entries, HasRoom, StandsFor};

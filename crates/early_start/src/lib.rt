@@ -88,14 +88,12 @@ impl Offers {
         ensures start { IfOk result (λ offers. offers.start ≡ None) }
         ensures tried { IfOk result (λ offers. offers.tried ≡ []) }
     {
-        match Vec::with_capacity(alloc, wait as usize + 1) {
-            Ok(tried) => Ok(Offers {
-                wait,
-                start: None,
-                tried,
-            }),
-            Err(_) => Err(NoMemory),
-        }
+        let tried = Vec::with_capacity(alloc, wait as usize + 1)?;
+        Ok(Offers {
+            wait,
+            start: None,
+            tried,
+        })
     }
 
     /// How many slots later than the first one the plan may start.

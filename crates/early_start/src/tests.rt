@@ -1,3 +1,5 @@
+//! The least start of a plan on links with bookings, by rows.
+
 use super::*;
 use plan_cert::Segment;
 use slot_calendar::Profile;
@@ -9,9 +11,9 @@ fn plan_of(rt: &impl Abort, alloc: Global, segments: &[Segment]) -> Result<Plan,
     Ok(Plan::new(Vec::from_slice(alloc, segments)?))
 }
 
-// On a link of this capacity on which the plan is booked from slot 1 on: where it is found from
-// `first` on within a wait, and each earlier start with its overflow's slot, bytes booked and bytes
-// asked.
+/// On a link of this capacity on which the plan is booked from slot 1 on: where it is found from
+/// `first` on within a wait, and each earlier start with its overflow's slot, bytes booked and bytes
+/// asked.
 fn run(
     rt: &impl Abort,
     alloc: Global,
