@@ -12,7 +12,8 @@ use Rattle.wire_curve.specs.FilmCurves.{slot_count, bytes_used_in}
 pub record IsAccepted (sizes : List ℕ) (timing : Timing) : Type 0 where
   pub some_picture : 0 < length sizes
   pub few_slots : slot_count sizes timing ≤ 1000000
-  pub buffer_holds : (t : ℕ) → t < slot_count sizes timing → bytes_used_in sizes timing t ≤ timing.buffer
+  pub buffer_holds : (t : ℕ) → t < slot_count sizes timing →
+      bytes_used_in sizes timing t ≤ timing.buffer
 
 -- `slot` is the first one that uses more than the buffer holds, and `used` what it uses; `least` is
 -- the greatest use of any slot, and so the least buffer that would do

@@ -10,7 +10,8 @@ use Rattle.wire_curve.specs.FilmCurves.{slot_count, bytes_used_in}
 -- the list has a number for each slot, the bytes used in it
 pub record AreUses (sizes : List ℕ) (timing : Timing) (uses : List ℕ) : Type 0 where
   pub slots : length uses ≡ slot_count sizes timing
-  pub each : (t : ℕ) → t < slot_count sizes timing → slice_index uses t ≡ bytes_used_in sizes timing t
+  pub each : (t : ℕ) → t < slot_count sizes timing →
+      slice_index uses t ≡ bytes_used_in sizes timing t
 
 -- `slot` is the first one above the buffer, and `least` the greatest number of all
 pub record IsFirstAbove (uses : List ℕ) (buffer slot used least : ℕ) : Type 0 where
