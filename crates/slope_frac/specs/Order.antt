@@ -1,3 +1,4 @@
+-- The order of slopes.
 use Rattle.std.specs.Prelude.{◌≡◌, ◌*◌, ◌<◌}
 use Rattle.slope_frac.specs.declared.Slope.{Slope}
 
