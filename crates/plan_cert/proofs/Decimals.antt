@@ -11,47 +11,15 @@ use Rattle.std.proofs.lemmas.List.Elements.{All-from_get_or, All-head, All-tail}
 use Rattle.std.proofs.lemmas.Fmt.{digits_decimal, digits_value-decimal, decimal_nonempty, decimal-digits_value, first_decimal, decimal_digit}
 use Rattle.std.proofs.lemmas.Str.Parse.{IsNumeralModel, numerals_by_value, not_in_digits}
 use Rattle.vod_base.specs.Numbers.{is_decimal, number_of}
+use Rattle.vod_base.specs.Splits.{IsSplitAtFirst}
+use Rattle.vod_base.proofs.FirstBytes.{none_is}
+use Rattle.vod_base.proofs.Written.{decimal_read, own}
 use Rattle.plan_cert.specs.declared.Segment.{Segment}
-use Rattle.plan_cert.specs.Reading.{IsCut, IsNumberLine, AreNumbers}
-
-own : IsNumeralModel (λ ds. list_all is_ascii_digit ds ≡ true) (digits_value 10)
-own = numerals_by_value (λ ds. list_all is_ascii_digit ds ≡ true) (search rules)
+use Rattle.plan_cert.specs.Reading.{IsNumberLine, AreNumbers}
 
 -- a decimal form is read as its number
 pub number_of-decimal : (n : ℕ) → n < 2 ^ 64 → number_of (decimal n) ≡ Some n
-number_of-decimal n small =
-    let all : list_all is_ascii_digit (decimal n) ≡ true = digits_decimal own n small in
-    let value : digits_value 10 (decimal n) ≡ n = digits_value-decimal own n small in
-    let some : nat_lt 0 (length (decimal n)) ≡ true = lt-ltb 0 (length (decimal n)) (decimal_nonempty n small) in
-    let fits : nat_lt (digits_value 10 (decimal n)) (2 ^ 64) ≡ true = lt-ltb (digits_value 10 (decimal n)) (2 ^ 64) (omega (arith, value, small)) in
-    let test : (is_decimal (decimal n) && nat_lt (digits_value 10 (decimal n)) (2 ^ 64)) ≡ true =
-    and_from (is_decimal (decimal n)) (nat_lt (digits_value 10 (decimal n)) (2 ^ 64)) (and_from (nat_lt 0 (length (decimal n))) (list_all is_ascii_digit (decimal n)) some all) fits in
-    cond-true (is_decimal (decimal n) && nat_lt (digits_value 10 (decimal n)) (2 ^ 64)) (Some (digits_value 10 (decimal n))) None test ∙ ap (λ v. Some v) value
-
--- digits without a leading zero are the decimal form of the number that is read
-pub decimal_from_number : (ds : List ℕ) (n : ℕ) → number_of ds ≡ Some n → (slice_index ds 0 ≡ 48 → length ds ≡ 1) → ds ≡ decimal n
-decimal_from_number ds n read lead =
-    let test = is_decimal ds && nat_lt (digits_value 10 ds) (2 ^ 64) in
-    elim (cases_Bool (is_decimal ds && nat_lt (digits_value 10 ds) (2 ^ 64))) [
-      | inl good ↦ (
-          let found : number_of ds ≡ Some (digits_value 10 ds) = cond-true (is_decimal ds && nat_lt (digits_value 10 ds) (2 ^ 64)) (Some (digits_value 10 ds)) None good in
-          let same : digits_value 10 ds ≡ n = some_same (digits_value 10 ds) n (sym found ∙ read) in
-          let parts = and_parts (is_decimal ds) (nat_lt (digits_value 10 ds) (2 ^ 64)) good in
-          let digits = and_parts (nat_lt 0 (length ds)) (list_all is_ascii_digit ds) parts.0 in
-          let whole : decimal (digits_value 10 ds) ≡ ds = decimal-digits_value own ds digits.1 (ltb-true 0 (length ds) digits.0) lead (ltb-true (digits_value 10 ds) (2 ^ 64) parts.1) in
-          sym whole ∙ ap decimal same
-          )
-      | inr wrong ↦ (
-          let none : number_of ds ≡ None = cond-false (is_decimal ds && nat_lt (digits_value 10 ds) (2 ^ 64)) (Some (digits_value 10 ds)) None wrong in
-          absurd (none_isn't_some n (sym none ∙ read))
-          )
-    ]
-  where
-    some_same : (a b : ℕ) → Some a ≡ Some b → a ≡ b
-    some_same a b e = cc
-
-    none_isn't_some : (b : ℕ) → None ≡ Some b → ⊥
-    none_isn't_some b e = cc
+number_of-decimal = decimal_read
 
 -- a decimal form has no leading zero
 pub no_leading_zero : (n : ℕ) → n < 2 ^ 64 → 1 < length (decimal n) → slice_index (decimal n) 0 ≡ 48 → ⊥
@@ -90,12 +58,12 @@ no_cut c (t ∷ text) [] ws none e = All-head (λ b. b ≢ c) t text none (cc)
 no_cut c (t ∷ text) (x ∷ xs) ws none e = no_cut c text xs ws (All-tail (λ b. b ≢ c) t text none) (cc)
 
 -- the two numbers of a text, by its first space
-pub numbers_cut : (text front after : List ℕ) (s : Segment) → IsCut 32 text front after → AreNumbers text s → (front ≡ decimal s.slots) × (after ≡ decimal s.bytes)
+pub numbers_cut : (text front after : List ℕ) (s : Segment) → IsSplitAtFirst 32 text front after → AreNumbers text s → (front ≡ decimal s.slots) × (after ≡ decimal s.bytes)
 numbers_cut text front after s cut numbers =
     let not_digit : ¬ (IsInRange 48 57 32) = λ within. omega (arith, within.0) in
     let small : s.slots < 2 ^ 64 = omega (arith, numbers.few_slots) in
-    let whole : front ++ 32 ∷ after ≡ decimal s.slots ++ 32 ∷ decimal s.bytes = sym cut.text_is ∙ numbers.words ∙ append_assoc (decimal s.slots) (codes " ") (decimal s.bytes) in
-    same_cut 32 front (decimal s.slots) after (decimal s.bytes) whole cut.not_in_front (not_in_decimal 32 s.slots small not_digit)
+    let whole : front ++ 32 ∷ after ≡ decimal s.slots ++ 32 ∷ decimal s.bytes = sym cut.parts ∙ numbers.words ∙ append_assoc (decimal s.slots) (codes " ") (decimal s.bytes) in
+    same_cut 32 front (decimal s.slots) after (decimal s.bytes) whole (none_is 32 front cut.first) (not_in_decimal 32 s.slots small not_digit)
 
 -- a first digit 0 stands alone, where no more digits stand after it
 pub lead_one : (ds : List ℕ) (b : Bool) → b ≡ false → ((1 < length ds) × (slice_index ds 0 ≡ 48) → b ≡ true) → slice_index ds 0 ≡ 48 → length ds ≡ 1
@@ -105,12 +73,6 @@ lead_one (d ∷ ds) b off test first =
       | inl more ↦ absurd (both_ways b off (test (more, first)))
       | inr one ↦ omega (arith, one)
     ]
-
-pub some_same : (a b : ℕ) → Some a ≡ Some b → a ≡ b
-some_same a b e = cc
-
-pub none_some : (b : ℕ) → None ≡ Some b → ⊥
-none_some b e = cc
 
 -- what stands after a word
 pub after_from : {X : Type 0} (now : X → List ℕ) (r : Option X) (line word : List ℕ) →

@@ -1,12 +1,15 @@
 -- Reading a text line by line, against its lines as a whole.
-use Rattle.std.proofs.Common.{◌≡◌, ◌≢◌, ◌<◌, ◌+◌, ◌⊎◌, ℕ, false, ◌==◌, List, [], ◌∷◌, ◌++◌, All, length, get_or, drop, decimal, codes, flat_map, inl, inr, arith, refl, sym, ap, subst, ◌∙◌, ne_eqb, below_more, add-zero}
+use Rattle.std.proofs.Common.{◌≡◌, ◌≢◌, ◌<◌, ◌+◌, ◌⊎◌, ℕ, true, false, not, ◌==◌, List, [], ◌∷◌, ◌++◌, All, length, get_or, drop, decimal, codes, flat_map, inl, inr, arith, refl, sym, ap, subst, ◌∙◌, ne_eqb, below_more, add-zero}
+use Rattle.std.specs.List.{list_all}
 use Rattle.std.proofs.lemmas.Bool.{cases_Bool, cond-true, cond-false}
 use Rattle.std.proofs.lemmas.List.{append-nil, append_assoc, drop-drop, length-drop, get_or-drop}
 use Rattle.std.proofs.lemmas.List.Concat.{flat_map-append}
 use Rattle.std.proofs.lemmas.List.Elements.{All-head, All-tail}
+use Rattle.vod_base.specs.Splits.{IsSplitAtFirst}
+use Rattle.vod_base.proofs.FirstBytes.{none_is}
 use Rattle.plan_cert.specs.declared.Segment.{Segment}
 use Rattle.plan_cert.specs.Text.{segment_words, segment_line, cert_head}
-use Rattle.plan_cert.specs.Reading.{Lines, with_front, lines_of, line_at, IsNumberLine, IsSegmentLine, MayStand, MayEnd, BreaksAt, IsAfterEnd, IsCut, HasRead}
+use Rattle.plan_cert.specs.Reading.{Lines, with_front, lines_of, line_at, IsNumberLine, IsSegmentLine, MayStand, MayEnd, BreaksAt, IsAfterEnd, HasRead}
 use Rattle.plan_cert.specs.Reading.MayStand.{Title, Slots, Bytes, Piece}
 
 -- a text that begins with a whole line
@@ -61,9 +64,9 @@ pub record IsNext (text : List ℕ) (k : ℕ) (line after : List ℕ) : Type 0 w
   pub left : drop (k + 1) (lines_of text).whole ≡ (lines_of after).whole
   pub rest : (lines_of text).rest ≡ (lines_of after).rest
 
-pub next_is : {text : List ℕ} {k : ℕ} {rest line after : List ℕ} → HasRead text k rest → IsCut 10 rest line after → IsNext text k line after
+pub next_is : {text : List ℕ} {k : ℕ} {rest line after : List ℕ} → HasRead text k rest → IsSplitAtFirst 10 rest line after → IsNext text k line after
 next_is {text} {k} {rest} {line} {after} read cut =
-    let lines : lines_of rest ≡ record { whole = line ∷ (lines_of after).whole; rest = (lines_of after).rest } = ap lines_of cut.text_is ∙ lines-cut line after cut.not_in_front in
+    let lines : lines_of rest ≡ record { whole = line ∷ (lines_of after).whole; rest = (lines_of after).rest } = ap lines_of cut.parts ∙ lines-cut line after (none_is 10 line cut.first) in
     let left : drop k (lines_of text).whole ≡ line ∷ (lines_of after).whole = read.left ∙ ap (λ ls. ls.whole) lines in
     let count : length (drop k (lines_of text).whole) ≡ length (lines_of after).whole + 1 = ap length left ∙ omega arith in
     let at : get_or (drop k (lines_of text).whole) 0 [] ≡ get_or (lines_of text).whole (k + 0) [] = get_or-drop k (lines_of text).whole 0 [] in
@@ -75,7 +78,7 @@ next_is {text} {k} {rest} {line} {after} read cut =
     }
 
 -- one line more
-pub read_more : {text : List ℕ} {k : ℕ} {rest line after : List ℕ} → HasRead text k rest → IsCut 10 rest line after → MayStand k line → HasRead text (k + 1) after
+pub read_more : {text : List ℕ} {k : ℕ} {rest line after : List ℕ} → HasRead text k rest → IsSplitAtFirst 10 rest line after → MayStand k line → HasRead text (k + 1) after
 read_more {text} {k} {line} {after} read cut stands =
     let next = next_is read cut in
     record {
@@ -86,14 +89,14 @@ read_more {text} {k} {line} {after} read cut stands =
     }
 
 -- the text ends before line k does
-pub breaks_missing : (text : List ℕ) (k : ℕ) (rest : List ℕ) → HasRead text k rest → All (λ b. b ≢ 10) rest → BreaksAt (lines_of text) k
+pub breaks_missing : (text : List ℕ) (k : ℕ) (rest : List ℕ) → HasRead text k rest → list_all (λ b. not (b == 10)) rest ≡ true → BreaksAt (lines_of text) k
 breaks_missing text k rest read none =
-    let left : drop k (lines_of text).whole ≡ [] = read.left ∙ ap (λ ls. ls.whole) (lines-none rest none) in
+    let left : drop k (lines_of text).whole ≡ [] = read.left ∙ ap (λ ls. ls.whole) (lines-none rest (none_is 10 rest none)) in
     let count : length (drop k (lines_of text).whole) ≡ 0 = ap length left in
     record { before = read.before; here = inl (omega (arith, count, length-drop k (lines_of text).whole, read.within)) }
 
 -- line k may not be there
-pub breaks_here : {text : List ℕ} {k : ℕ} {rest line after : List ℕ} → HasRead text k rest → IsCut 10 rest line after →
+pub breaks_here : {text : List ℕ} {k : ℕ} {rest line after : List ℕ} → HasRead text k rest → IsSplitAtFirst 10 rest line after →
     (MayStand k line → ⊥) → (MayEnd k line → ⊥) → BreaksAt (lines_of text) k
 breaks_here {text} {k} {line} read cut no_stand no_end =
     let next = next_is read cut in
@@ -103,7 +106,7 @@ breaks_here {text} {k} {line} read cut no_stand no_end =
     }
 
 -- something stands after the end
-pub goes_after_end : {text : List ℕ} {k : ℕ} {rest line after : List ℕ} → HasRead text k rest → IsCut 10 rest line after →
+pub goes_after_end : {text : List ℕ} {k : ℕ} {rest line after : List ℕ} → HasRead text k rest → IsSplitAtFirst 10 rest line after →
     MayEnd k line → after ≢ [] → IsAfterEnd (lines_of text) (k + 1)
 goes_after_end {text} {k} {line} {after} read cut ends some =
     let next = next_is read cut in

@@ -1,3 +1,4 @@
+-- What the segments of a plan keep.
 use Rattle.std.specs.Prelude.{ℕ, ◌≡◌, ◌+◌, ◌^◌, ◌<◌, ◌≤◌, List, All, take, length, slice_index_or}
 use Rattle.plan_cert.specs.Slots.{total_slots, total_bytes}
 use Rattle.plan_cert.specs.declared.Segment.{Segment}

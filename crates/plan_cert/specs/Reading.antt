@@ -116,11 +116,6 @@ abbrev pub IsRefused : List ℕ → CertRead → Type 0
 IsRefused text (BadCert line) = IsBadLine text line
 IsRefused text NoMemory = Unit {0}
 
--- the text's part after the first byte `c`, and the part before it
-pub record IsCut (c : ℕ) (text front after : List ℕ) : Type 0 where
-  pub text_is : text ≡ front ++ c ∷ after
-  pub not_in_front : All (λ b. b ≢ c) front
-
 -- k lines of the text are read and may stand there, and `rest` is left of it
 pub record HasRead (text : List ℕ) (k : ℕ) (rest : List ℕ) : Type 0 where
   pub within : k ≤ length (lines_of text).whole

@@ -1,10 +1,10 @@
 //! Reading a certificate, line by line.
 
 ghost use Rattle.std.specs.Prelude.{ℕ, ◌≡◌, ◌≢◌, ◌+◌, ◌^◌, ◌<◌, ◌≤◌, ◌++◌, ◌↔◌, List, IsTrue};
-ghost use Rattle.std.specs.Prelude.{length, slice_index, codes, decimal, flat_map, All, IfOk};
+ghost use Rattle.std.specs.Prelude.{length, slice_index, codes, decimal, flat_map, IfOk};
 ghost use Rattle.std.specs.Prelude.{IfErr, MatchOption, MatchResult};
 ghost use Rattle.plan_cert.specs.declared.Segment.{Segment};
-ghost use Rattle.plan_cert.specs.Reading.{IsCut, IsNumberLine, IsSegmentLine, AreNumbers};
+ghost use Rattle.plan_cert.specs.Reading.{IsNumberLine, IsSegmentLine, AreNumbers};
 ghost use Rattle.plan_cert.specs.Reading.{IsCertificate, IsRefused, IsBadLine, HasRead, IsHead};
 ghost use Rattle.plan_cert.specs.Reading.{IsBody};
 
@@ -13,7 +13,7 @@ use crate::sums::{has_bytes, has_slots};
 use std::alloc::Global;
 use std::error::Error;
 use std::fmt;
-use vod_base::read_number;
+use vod_base::{read_number, split_at_first};
 
 /// What a certificate says.
 #[derive(Debug, Drop)]
@@ -69,19 +69,6 @@ pub fn read_cert(alloc: Global, text: &[u8]) -> Result<CertText, CertRead>
     read_lines(alloc, text)
 }
 
-/// The part before the first byte `c`, and the part after it.
-fn cut(text: &[u8], c: u8) -> Option<(&[u8], &[u8])>
-    ensures { MatchOption result (All (λ b. b ≢ c) text.now)
-        (λ parts. IsCut c text.now parts.0.now parts.1.now) }
-{
-    for at in 0..text.len() {
-        if text[at] == c {
-            return Some((&text[..at], &text[at + 1..]));
-        }
-    }
-    None
-}
-
 /// Whether more digits stand after a first digit 0.
 fn has_leading_zero(digits: &[u8]) -> bool
     ensures { IsTrue result ↔ ((1 < length digits.now) × (slice_index digits.now 0 ≡ 48)) }
@@ -126,7 +113,7 @@ fn number_after(line: &[u8], word: &[u8]) -> Option<u64>
 fn two_numbers(text: &[u8]) -> Option<Segment>
     ensures { MatchOption result ((s : Segment) → ¬ AreNumbers text.now s) (AreNumbers text.now) }
 {
-    let Some((first, second)) = cut(text, b' ') else {
+    let Some((first, second)) = split_at_first(text, b' ') else {
         return None;
     };
     let Some(slots) = cert_number(first) else {
@@ -169,19 +156,19 @@ fn read_head(text: &[u8]) -> Result<Head<'_>, u64>
     ensures { MatchResult result (λ head. IsHead text.now head.slots head.bytes head.rest.now)
         (IsBadLine text.now) }
 {
-    let Some((title, rest)) = cut(text, b'\n') else {
+    let Some((title, rest)) = split_at_first(text, b'\n') else {
         return Err(1);
     };
     if !is_text(title, b"smooth 1") {
         return Err(1);
     }
-    let Some((slots_line, rest)) = cut(rest, b'\n') else {
+    let Some((slots_line, rest)) = split_at_first(rest, b'\n') else {
         return Err(2);
     };
     let Some(slots) = number_after(slots_line, b"slots ") else {
         return Err(2);
     };
-    let Some((bytes_line, rest)) = cut(rest, b'\n') else {
+    let Some((bytes_line, rest)) = split_at_first(rest, b'\n') else {
         return Err(3);
     };
     let Some(bytes) = number_after(bytes_line, b"bytes ") else {
@@ -199,7 +186,7 @@ fn read_body(alloc: Global, text: &[u8]) -> Result<Vec<Segment>, CertRead>
     let mut segments = Vec::new(alloc);
     let mut rest = text;
     for count in 0..=MAX_SEGMENTS {
-        let Some((line, after)) = cut(rest, b'\n') else {
+        let Some((line, after)) = split_at_first(rest, b'\n') else {
             return Err(CertRead::BadCert { line: count + 4 });
         };
         if is_text(line, b"end") {

@@ -1,9 +1,11 @@
+//! Plans and certificates by their rows, each with what is to be sent, written and read of it.
+
 use super::*;
 use std::alloc::{AllocError, Global};
 use std::process::Abort;
 use std::test::Fail;
 
-// Segments, given as pairs of slots and bytes.
+/// Segments, given as pairs of slots and bytes.
 fn segments_of(alloc: Global, pairs: &[(u64, u64)]) -> Result<Vec<Segment>, AllocError> {
     let mut segments = Vec::new(alloc);
     for (slots, bytes) in pairs {
@@ -21,7 +23,7 @@ fn plan_of(rt: &impl Abort, alloc: Global, pairs: &[(u64, u64)]) -> Result<Plan,
     Ok(Plan::new(segments))
 }
 
-// What a plan sends in each slot, and past its end.
+/// What a plan sends in each slot, and past its end.
 fn sends(rt: &impl Abort, plan: &Plan, want: &[u64], text: &str) {
     let mut sum = 0_u64;
     for (slot, bytes) in want.iter().enumerate() {
@@ -40,7 +42,7 @@ fn sends(rt: &impl Abort, plan: &Plan, want: &[u64], text: &str) {
     );
 }
 
-// A cursor over a copy tells what the plan does, forwards and then from the first slot again.
+/// A cursor over a copy tells what the plan does, forwards and then from the first slot again.
 fn follows(rt: &impl Abort, copy: Plan, plan: &Plan, text: &str) {
     let mut cursor = PlanCursor::new(copy);
     for again in [false, true] {
@@ -62,7 +64,7 @@ fn follows(rt: &impl Abort, copy: Plan, plan: &Plan, text: &str) {
     );
 }
 
-// Plans worked out by hand: the segments, the slots, and the text.
+/// Plans worked out by hand: the segments, the slots, and the text.
 #[test]
 fn sends_and_writes(rt: HostRuntime) -> Result<(), Fail> {
     let rows: [(&[(u64, u64)], &[u64], &str); 7] = [
@@ -134,7 +136,7 @@ fn knows_plans(rt: HostRuntime) {
 
 type Reading<'a> = (&'a str, Result<(u64, u64, &'a [(u64, u64)]), u64>);
 
-// Texts, with what they say or the line that is bad.
+/// Texts, with what they say or the line that is bad.
 #[test]
 fn reads(rt: HostRuntime) -> Result<(), Fail> {
     let rows: [Reading; 28] = [

@@ -1,6 +1,8 @@
 use Rattle.std.proofs.Common.{◌≡◌, ◌<◌, ◌^◌, length, slice_index, arith, sym, ap, subst, ◌∙◌}
 use Rattle.vod_base.specs.Numbers.{number_of}
-use Rattle.plan_cert.proofs.Decimals.{number_of-decimal, decimal_from_number, no_leading_zero, lead_one, some_same, none_some}
+use Rattle.std.proofs.lemmas.Option.{none-some, same_Some}
+use Rattle.vod_base.proofs.Written.{decimal_read, read_decimal}
+use Rattle.plan_cert.proofs.Decimals.{no_leading_zero, lead_one}
 use Rattle.plan_cert.proofs.reading.cert_number.Goals as goal
 
 pub returns-then-has_leading_zero : goal.returns-then-has_leading_zero
@@ -11,17 +13,17 @@ returns-then-has_leading_zero c = λ n few e.
 pub returns-in-Ok : goal.returns-in-Ok
 returns-in-Ok c = (
   omega arith,
-  decimal_from_number c.args.digits.now c.in-Ok.n (sym c.in-Ok.ensures.number)
+  read_decimal c.args.digits.now c.in-Ok.n (sym c.in-Ok.ensures.number)
       (lead_one c.args.digits.now c.has_leading_zero.result c.if-has_leading_zero.false c.has_leading_zero.ensures.1),
 )
 
 pub returns-in_default : goal.returns-in_default
 returns-in_default c = λ n few e.
     let small : n < 2 ^ 64 = omega arith in
-    let same : c.in-Ok.n ≡ n = some_same c.in-Ok.n n (c.in-Ok.ensures.number ∙ ap number_of e ∙ number_of-decimal n small) in
+    let same : c.in-Ok.n ≡ n = same_Some c.in-Ok.n n (c.in-Ok.ensures.number ∙ ap number_of e ∙ decimal_read n small) in
     omega (arith, same, few)
 
 pub returns-in_default-2 : goal.returns-in_default-2
 returns-in_default-2 c = λ n few e.
     let small : n < 2 ^ 64 = omega arith in
-    none_some n (c.in_default.ensures.number ∙ ap number_of e ∙ number_of-decimal n small)
+    none-some n (c.in_default.ensures.number ∙ ap number_of e ∙ decimal_read n small)

@@ -50,7 +50,7 @@ loop-count-preserved c =
       small = rw items (All-push (λ x. (x.slots ≤ 2 ^ 42) × (x.bytes ≤ 2 ^ 42)) c.loop-count.segments.items s inv.small
           (c.in-Some-segment_in.ensures.few_slots, c.in-Some-segment_in.ensures.few_bytes));
       text_is = rw items (piece_text c.in-Some.after.now c.loop-count.segments.items s
-          inv.text_is c.in-Some.ensures.text_is c.in-Some-segment_in.ensures.words);
+          inv.text_is c.in-Some.ensures.parts c.in-Some-segment_in.ensures.words);
       read = λ whole read.
           let next : HasRead whole (3 + c.loop-count.count + 1) c.in-Some.after.now =
           read_more (inv.read whole read) c.in-Some.ensures
