@@ -1,3 +1,5 @@
+//! Where the line of segments bends: on the curve that its side wants, or not.
+
 ghost use Rattle.std.specs.Prelude.{ℕ, ◌≡◌, ◌+◌, ◌↔◌, IsTrue, MatchOption};
 ghost use Rattle.slope_frac.specs.Order.{IsBelow, IsLevel};
 ghost use Rattle.cert_check.specs.Line.{slope_of};

@@ -1,3 +1,5 @@
+//! The check of a certificate: its first fault, in the order of the laws.
+
 ghost use Rattle.std.specs.Prelude.{◌≡◌, ◌∷◌, [], ℕ, map, MatchResult, OnOk};
 ghost use Rattle.wire_curve.specs.Sound.{IsSound};
 ghost use Rattle.cert_check.specs.declared.CertFault.TheVariants.{EmptySegment, WrongLength};

@@ -1,3 +1,5 @@
+//! Segments without slots, and the bytes that all segments come to.
+
 ghost use Rattle.std.specs.Prelude.{ℕ, ◌≡◌, ◌+◌, ◌↔◌, IsTrue, MatchOption};
 ghost use Rattle.plan_cert.specs.Slots.{total_bytes};
 ghost use Rattle.cert_check.specs.Fault.{IsEmptyAt};

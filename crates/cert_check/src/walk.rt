@@ -1,3 +1,5 @@
+//! A walk along the line of segments, slot by slot, between the two curves.
+
 ghost use Rattle.std.specs.Prelude.{ℕ, ◌≡◌, ◌+◌, ◌*◌, ◌^◌, ◌<◌, ◌≤◌, length};
 ghost use Rattle.cert_check.specs.Whole.{IsWhole, next_walk, Leaves};
 ghost use Rattle.cert_check.specs.Line.{segment_at};
