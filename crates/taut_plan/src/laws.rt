@@ -1,3 +1,5 @@
+//! The law that sound curves have one taut list of segments.
+
 ghost use Rattle.std.specs.Prelude.{◌≡◌, ℕ, List};
 ghost use Rattle.wire_curve.specs.Sound.{IsSound};
 ghost use Rattle.plan_cert.specs.declared.Segment.{Segment};

@@ -92,7 +92,7 @@ fn films_have_these_plans(rt: HostRuntime) -> Result<(), AllocError> {
     Ok(())
 }
 
-// 52 bytes were sent before slot 0.
+/// 52 bytes were sent before slot 0.
 #[test]
 fn bytes_sent_before_are_not_planned(rt: HostRuntime) -> Result<(), AllocError> {
     let curves = Curves {
@@ -118,7 +118,7 @@ fn next(state: &mut u64) -> u64 {
     *state >> 33
 }
 
-// Small sizes, so that slopes are often level and the curves often meet.
+/// Small sizes, so that slopes are often level and the curves often meet.
 #[test]
 fn generated_curves_have_the_plain_plan(rt: HostRuntime) -> Result<(), AllocError> {
     let mut state = 1;
@@ -150,8 +150,8 @@ fn generated_curves_have_the_plain_plan(rt: HostRuntime) -> Result<(), AllocErro
     Ok(())
 }
 
-// Each slot stays in the lower chain to the end, so a planner that looks through the chain again at
-// each slot would take some 10^10 steps.
+/// Each slot stays in the lower chain to the end, so a planner that looks through the chain again at
+/// each slot would take some 10^10 steps.
 #[test]
 fn falling_sizes_have_a_segment_each(rt: HostRuntime) -> Result<(), AllocError> {
     let mut sizes = Vec::new(rt.alloc());
