@@ -14,7 +14,7 @@ use Rattle.turnstile.specs.declared.view.Terms.{Terms}
 use Rattle.turnstile.specs.declared.view.View.{View}
 use Rattle.admission.specs.Makers.{made_by}
 use Rattle.turnstile.specs.Turns.{IsLive, IsAway, IsHome, IsRuled}
-use Rattle.turnstile.specs.Passes.{IsJoined, IsWhole}
+use Rattle.turnstile.specs.Passes.{IsJoined, IsWholeList}
 use Rattle.turnstile.specs.Taken.{stands_as}
 use Rattle.turnstile.proofs.Turning.{idle_free, one_at}
 
@@ -51,7 +51,7 @@ module _ {B : Type 0} (entries : B → List Entry) (terms_of : B → Terms) (ter
     pub value : B
     pub slot : get_elem? xs 0 ≡ some (Some value)
     pub terms_are : terms_of value ≡ v.terms
-    pub whole : IsWhole (stands_as id v) (entries value)
+    pub whole : IsWholeList (stands_as id v) (entries value)
 
   pub closes : (table : TableId) (id : ℕ) (v : View) → v.spent ≡ false → v.stage ≡ Idle → v.number ≡ 0
       → ((n : ℕ) → 0 < n → n ≤ v.splits → IsJoined v.joined n)

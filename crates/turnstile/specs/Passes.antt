@@ -89,7 +89,7 @@ pub record Turning (B : Type 0) : Type 0 where
 
 -- The list once all passes are back in the first one: it begins with what that one has seen, and
 -- each entry in it is of the first pass or of one that was joined, as they know it.
-pub record IsWhole (pass : Standing) (list : List Entry) : Type 0 where
+pub record IsWholeList (pass : Standing) (list : List Entry) : Type 0 where
   pub seen : IsPrefix pass.seen list
   pub mine : pass.mine ≡ made_by pass.number list
   pub joined : (i : ℕ) (none : Joined) → i < length pass.joined →

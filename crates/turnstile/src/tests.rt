@@ -1,3 +1,5 @@
+//! Threads that take turns at a list of entries, and what each of them has seen of it.
+
 ghost use Rattle.std.specs.Prelude.{◌≡◌, ◌++◌, [], ◌∷◌, false};
 ghost use Rattle.turnstile.specs.Passes.{first_pass};
 ghost use Rattle.admission.specs.declared.entries.Answer.{Answer};
@@ -12,7 +14,7 @@ use std::sync::Wait;
 use std::test::Fail;
 use std::thread::{Threads, join};
 
-// A list of entries, each a look.
+/// A list of entries, each a look.
 #[derive(Drop)]
 struct Log {
     entries: Vec<Entry>,
@@ -54,7 +56,7 @@ impl Log {
     }
 }
 
-// A turn in which the pass adds an entry.
+/// A turn in which the pass adds an entry.
 fn take_turn<R: Wait + Abort>(rt: &R, gate: &Turnstile<Log>, pass: &mut Pass)
     requires own { pass.old.id ≡ gate.now.id }
     requires free { pass.old.has_turn ≡ false }
@@ -66,7 +68,7 @@ fn take_turn<R: Wait + Abort>(rt: &R, gate: &Turnstile<Log>, pass: &mut Pass)
     gate.leave(pass, turn);
 }
 
-// 50 turns.
+/// 50 turns.
 fn take_turns<R: Wait + Abort>(rt: &R, gate: &Turnstile<Log>, mut pass: Pass) -> Pass
     requires own { pass.id ≡ gate.now.id }
     requires free { pass.has_turn ≡ false }

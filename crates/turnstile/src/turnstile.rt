@@ -3,7 +3,7 @@
 ghost use Rattle.std.specs.Prelude.{◌≡◌, ◌≢◌, ◌+◌, ◌^◌, ◌<◌, [], ◌∷◌, ◌++◌, IfOk, true, false};
 ghost use mathlib.Core.List.{IsPrefix};
 ghost use Rattle.admission.specs.Makers.{made_by};
-ghost use Rattle.turnstile.specs.Passes.{AllJoined, IsWhole, MayLeave, after_join, after_split};
+ghost use Rattle.turnstile.specs.Passes.{AllJoined, IsWholeList, MayLeave, after_join, after_split};
 ghost use Rattle.turnstile.specs.Passes.{first_pass, new_pass};
 
 use crate::bells::Bells;
@@ -60,9 +60,7 @@ impl<B: Kept> Turnstile<B> {
         ensures pass { IfOk result (λ made. made.1 ≡ first_pass made.0) }
     {
         let about = Snapshot::of(&kept);
-        let Ok(mut slots) = Vec::with_capacity(alloc, 1) else {
-            return Err(NoMemory);
-        };
+        let mut slots = Vec::with_capacity(alloc, 1)?;
         slots.push_reserved(Some(kept));
         match Table::new(alloc, &[0, 0, 0], slots, &about) {
             Ok((table, seat)) => Ok((
@@ -154,7 +152,7 @@ impl<B: Kept> Turnstile<B> {
         requires free { pass.has_turn ≡ false }
         requires first { pass.number ≡ 0 }
         requires all { AllJoined pass }
-        ensures whole { IsWhole pass (B.entries result) }
+        ensures whole { IsWholeList pass (B.entries result) }
         ensures terms { B.terms result ≡ pass.terms }
     {
         let Turnstile { table, bells: _ } = self;

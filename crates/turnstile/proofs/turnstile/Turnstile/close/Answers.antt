@@ -1,6 +1,6 @@
 use Rattle.std.proofs.Common.{◌≡◌, ap, sym, ◌∙◌, Option, Some, None, subst}
 use mathlib.Core.Option.{some-injective}
-use Rattle.turnstile.specs.Passes.{AllJoined, IsWhole}
+use Rattle.turnstile.specs.Passes.{AllJoined, IsWholeList}
 use Rattle.turnstile.specs.Taken.{stands_as}
 use Rattle.turnstile.proofs.Closing.{closes}
 use Rattle.turnstile.proofs.turnstile.Turnstile.close.Goals as goal
@@ -24,7 +24,7 @@ returns-clause-whole g c =
     let last = closes g.B.Kept.entries g.B.Kept.terms (g.B.Kept.terms c.self.inside.table.shared.key.value) c.rise.result.table_id c.rise.result.id v
     free.left free.idle (c.rise.ensures.view.number_is ∙ c.requires.first) all.each _ _ c.close_with-closed.ensures.values.2 in
     let same : c.in-Some.value ≡ last.value = ap (value_or c.in-Some.value) (sym c.in-Some.is ∙ some-injective _ _ (sym c.take-slot.ensures.value ∙ last.slot)) in
-    subst (λ pass. IsWhole pass (g.B.Kept.entries c.in-Some.value)) (sym old) (subst (λ x. IsWhole (stands_as c.rise.result.table_id v) (g.B.Kept.entries x)) (sym same) last.whole)
+    subst (λ pass. IsWholeList pass (g.B.Kept.entries c.in-Some.value)) (sym old) (subst (λ x. IsWholeList (stands_as c.rise.result.table_id v) (g.B.Kept.entries x)) (sym same) last.whole)
 
 pub returns-clause-terms : goal.returns-clause-terms
 returns-clause-terms g c =
