@@ -1,3 +1,4 @@
+-- What contracts see of a seat, and what its fields keep.
 use Rattle.std.specs.Prelude.{◌≡◌, false}
 use Rattle.station.specs.declared.seat.Seat.TheInside.{Inside}
 use Rattle.station.specs.Seats.{Sitting, IsSeat}

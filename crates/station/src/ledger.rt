@@ -9,13 +9,12 @@ ghost use Rattle.station.specs.Ledgers.{IsEntered, IsFullFor, IsOffered, IsPlayR
 ghost use Rattle.station.specs.Ledgers.{play_of};
 
 use crate::answers::{Booking, Looked, Offered, PlayRefused};
-use admission::{
-    Answer, Book, Full, LATEST_SLOT, Noted, PlayFull, law_never_overbooked, law_own_play,
-};
+use admission::{Answer, Book, Full, Noted, PlayFull, law_never_overbooked, law_own_play};
 use early_start::{Offers, law_offer_of_plays};
 use plan_cert::Plan;
 use std::marker::Model;
 use turnstile::Kept;
+use vod_base::LATEST_SLOT;
 
 /// The book that a station's seats share. Each play in it is halted by its own maker.
 #[derive(Drop)]

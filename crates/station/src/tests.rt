@@ -1,3 +1,5 @@
+//! Threads that ask at one station side by side, and the refusals that a seat is told.
+
 ghost use Rattle.std.specs.Prelude.{◌≡◌, ◌≤◌, [], ◌∷◌};
 ghost use Rattle.plan_cert.specs.Slots.{total_bytes};
 ghost use Rattle.station.specs.Seats.{IsSplit, first_seat};
@@ -13,7 +15,7 @@ use std::sync::Wait;
 use std::test::Fail;
 use std::thread::{Threads, join};
 
-// A plan of four slots: 22, 22, 22 and 23 bytes.
+/// A plan of four slots: 22, 22, 22 and 23 bytes.
 fn plan<R: Abort>(rt: &R, alloc: Global) -> Plan {
     let mut segments = Vec::new(alloc);
     segments
@@ -26,7 +28,7 @@ fn plan<R: Abort>(rt: &R, alloc: Global) -> Plan {
     Plan::new(segments)
 }
 
-// A play at slot 0, and its halt where it was admitted. Says how many entries they made.
+/// A play at slot 0, and its halt where it was admitted. Says how many entries they made.
 fn play<R: Wait + Abort>(rt: &R, alloc: Global, station: &Station, seat: &mut Seat) -> u64
     requires { seat.old.id ≡ station.now.id }
     ensures { IsSplit seat.old seat.new }
@@ -52,7 +54,7 @@ fn play<R: Wait + Abort>(rt: &R, alloc: Global, station: &Station, seat: &mut Se
     }
 }
 
-// A look at a slot, and an offer: at most one play is booked.
+/// A look at a slot, and an offer: at most one play is booked.
 fn ask<R: Wait + Abort>(
     rt: &R,
     alloc: Global,
@@ -73,8 +75,8 @@ fn ask<R: Wait + Abort>(
     1
 }
 
-// 100 plays, each with its halt, and with a look and an offer where `asks`. Says how many entries
-// they made.
+/// 100 plays, each with its halt, and with a look and an offer where `asks`. Says how many entries
+/// they made.
 fn rounds<R: Wait + Abort>(
     rt: &R,
     alloc: Global,
@@ -98,7 +100,7 @@ fn rounds<R: Wait + Abort>(
     (seat, made)
 }
 
-// The same by two seats side by side.
+/// The same by two seats side by side.
 fn side_by_side<R: Threads + Wait + Abort + Sync>(
     rt: &R,
     alloc: Global,
@@ -125,7 +127,7 @@ fn side_by_side<R: Threads + Wait + Abort + Sync>(
     )
 }
 
-// How many entries of a maker a book has.
+/// How many entries of a maker a book has.
 fn count_of(book: &Book, maker: u32) -> u64 {
     book.entries()
         .iter()
@@ -147,8 +149,8 @@ fn two<R: Threads + Wait + Abort + Sync>(rt: &R, alloc: Global, station: Station
     assert!(rt; a.saturating_add(b) > 200);
 }
 
-// Four threads that play, halt, look and offer; their seats are joined in another order than they
-// were split.
+/// Four threads that play, halt, look and offer; their seats are joined in another order than they
+/// were split.
 fn four<R: Threads + Wait + Abort + Sync>(rt: &R, alloc: Global, station: Station, mut seat: Seat)
     requires first { seat ≡ first_seat station }
 {
@@ -182,7 +184,7 @@ fn four<R: Threads + Wait + Abort + Sync>(rt: &R, alloc: Global, station: Statio
     assert!(rt; count_of(&book, 0) == 0 && book.entries().len() > 800);
 }
 
-// The laws are calls.
+/// The laws are calls.
 #[test]
 fn states_laws(_rt: HostRuntime) {
     law_longer_journal();
