@@ -10,12 +10,12 @@ use Rattle.std.proofs.lemmas.Grind.{common_steps}
 use Rattle.std.proofs.lemmas.List.{append_assoc, append-nil, length-append, length-reverse, get_or-reverse, reverse-reverse}
 use Rattle.std.proofs.lemmas.List.Elements.{All-nil, All-cons}
 use Rattle.std.proofs.lemmas.List.Folds.{list_all-append, list_all_at}
-use Rattle.std.proofs.lemmas.Str.Parse.{IsNumeralModel, numerals_by_value}
 use Rattle.vod_base.specs.Blanks.{is_blank, without_front_blanks, without_blanks}
 use Rattle.vod_base.specs.Names.{is_name_byte}
 use Rattle.rtsp_text.specs.Grammar.{is_token, is_url_byte, is_value_byte, IsUrl, IsRtspUrl}
 use Rattle.rtsp_text.specs.Replies.{Field, value_named}
 use Rattle.rtsp_text.specs.Spelled.{Parts, request_head, request_text, IsHeaderField, AreFront, AreRequest, AreShort}
+use Rattle.rtsp_text.proofs.OneLines.{decimal_numerals}
 use Rattle.rtsp_text.proofs.WordTexts.{word_of, value_of}
 use Rattle.rtsp_text.proofs.SpelledTexts.{request_found, request_of, values_of}
 use Rattle.rtsp_client.specs.Wishes.{IsWish}
@@ -23,9 +23,6 @@ use Rattle.rtsp_client.specs.Requests.{film_url, setup_text, play_text, teardown
 use Rattle.rtsp_client.specs.Asked.{setup_parts, play_parts, teardown_parts, IsSessionId, IsAsked}
 use Rattle.rtsp_client.specs.declared.wishes.Wish.{Wish}
 use Rattle.rtsp_client.proofs.AskedTexts.{setup_is, play_is, teardown_is}
-
-own : IsNumeralModel (λ ds. list_all is_ascii_digit ds ≡ true) (digits_value 10)
-own = numerals_by_value (λ ds. list_all is_ascii_digit ds ≡ true) (search rules)
 
 -- bytes of one kind are bytes of another
 all_of : (p q : ℕ → Bool) → ((c : ℕ) → p c ≡ true → q c ≡ true) → (text : List ℕ) → list_all p text ≡ true → list_all q text ≡ true
@@ -67,7 +64,7 @@ bare text all =
     ∙ ap reverse (bare_front (reverse text) back) ∙ reverse-reverse text
 
 digits : (n : ℕ) → n < 2 ^ 64 → list_all is_url_byte (decimal n) ≡ true
-digits n small = all_of is_ascii_digit is_url_byte digit_in_url (decimal n) (digits_decimal own n small)
+digits n small = all_of is_ascii_digit is_url_byte digit_in_url (decimal n) (digits_decimal decimal_numerals n small)
 
 -- the film's URL
 record IsFilm (wish : Wish) : Type 0 where
@@ -100,7 +97,7 @@ rtsp_url wish tail film = record {
   some = omega (arith, length-append (codes "127.0.0.1:") (decimal wish.port));
   no_slash = list_all-append (λ c. not (c == 47)) (codes "127.0.0.1:") (decimal wish.port)
       ∙ and_from (list_all (λ c. not (c == 47)) (codes "127.0.0.1:")) (list_all (λ c. not (c == 47)) (decimal wish.port)) refl
-      (all_of is_ascii_digit (λ c. not (c == 47)) no_slash (decimal wish.port) (digits_decimal own wish.port (omega (arith, film.port))));
+      (all_of is_ascii_digit (λ c. not (c == 47)) no_slash (decimal wish.port) (digits_decimal decimal_numerals wish.port (omega (arith, film.port))));
   path_begins = λ some. refl;
 }
 

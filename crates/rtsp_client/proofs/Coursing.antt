@@ -3,6 +3,7 @@ use Rattle.std.proofs.Common.{◌≡◌, ℕ, ◌+◌, ◌<◌, List, [], ◌∷
 use Rattle.std.proofs.lemmas.List.{append-nil, length-append}
 use Rattle.vod_base.specs.Links.{Doing, HeardBytes, HeardEnd, HeardSlot, sends, told_more}
 use Rattle.vod_base.specs.Outside.{more}
+use Rattle.vod_base.proofs.Telling.{more-append, more-nil, told_more-append, told_more-nil}
 use Rattle.interleave.specs.Pieces.{IsFirst}
 use Rattle.interleave.specs.declared.pieces.Step.TheVariants.{More}
 use Rattle.rtsp_client.specs.declared.clients.Client.{Client}
@@ -21,7 +22,7 @@ use Rattle.rtsp_client.specs.States.{after_slot, new_state}
 use Rattle.rtsp_client.specs.Takings.{HasEnded, HasRound, HasRun, HasStopped, HasTaken, IsUnsent, Sight, sight, sight_more}
 use Rattle.rtsp_client.proofs.Keeping.{keeps-new}
 use Rattle.rtsp_client.proofs.Metering.{keeps-slot}
-use Rattle.rtsp_client.proofs.Sighting.{out-none, out-on, sight-none, told-none, told-on}
+use Rattle.rtsp_client.proofs.Sighting.{sight-none}
 use Rattle.rtsp_client.proofs.Taking.{after-on, payloads-on}
 
 -- ---- one event
@@ -121,7 +122,7 @@ run-none {wish} {s} none empty new_ input = record {
     session_is = empty;
     state = subst (λ w. KeepsState wish [] w) (sym new_) (keeps-new wish);
   };
-  sight_is = ap (λ t. sight t s.out) (sym (told-none s.told)) ∙ ap (λ o. sight (told_more s.told []) o) (sym (out-none s.out));
+  sight_is = ap (λ t. sight t s.out) (sym (told_more-nil s.told)) ∙ ap (λ o. sight (told_more s.told []) o) (sym (more-nil s.out));
 }
 
 -- one more event
@@ -135,13 +136,13 @@ run-on {wish} {event} {c} {new} {s} run heard next =
     let h : run.history ≡ after [] (moments_of_rounds run.rounds) = history-is (stage [] []) (stage run.history c.input) run.rounds run.runs in
     let told : told_more (told_more (told_more s.told (rounds_doings wish [] run.rounds)) (event ∷ [])) (sends (requests_after wish run.history round.moments))
     ≡ told_more s.told (rounds_doings wish [] (run.rounds ++ r ∷ [])) =
-    told-on (told_more s.told (rounds_doings wish [] run.rounds)) (event ∷ []) (sends (requests_after wish run.history round.moments))
-    ∙ (told-on s.told (rounds_doings wish [] run.rounds) (event ∷ sends (requests_after wish run.history round.moments))
+    told_more-append (told_more s.told (rounds_doings wish [] run.rounds)) (event ∷ []) (sends (requests_after wish run.history round.moments))
+    ∙ (told_more-append s.told (rounds_doings wish [] run.rounds) (event ∷ sends (requests_after wish run.history round.moments))
     ∙ ap (told_more s.told) (ap (λ g. rounds_doings wish [] run.rounds ++ (event ∷ sends (requests_after wish g round.moments))) h
     ∙ sym (doings-on wish [] run.rounds r))) in
     let out : more (more s.out (payloads_of (moments_of_rounds run.rounds))) (payloads_of round.moments)
     ≡ more s.out (payloads_of (moments_of_rounds (run.rounds ++ r ∷ []))) =
-    out-on s.out (payloads_of (moments_of_rounds run.rounds)) (payloads_of round.moments)
+    more-append s.out (payloads_of (moments_of_rounds run.rounds)) (payloads_of round.moments)
     ∙ ap (more s.out) (sym (payloads-on (moments_of_rounds run.rounds) round.moments) ∙ ap payloads_of (sym (moments-of-on run.rounds r))) in
     record {
       rounds = run.rounds ++ r ∷ [];
@@ -174,11 +175,11 @@ course-of {wish} {c} {end} {told0} {out0} {s} {doings} {out} run begun ends told
       told = told_is
           ∙ (ap (λ (x : Sight). told_more x.told doings) run.sight_is
           ∙ (ap (λ (x : Sight). told_more (told_more x.told d) doings) begun
-          ∙ (told-on (told_more told0 (sends (setup_text wish))) d doings ∙ told-on told0 (sends (setup_text wish)) (d ++ doings))));
+          ∙ (told_more-append (told_more told0 (sends (setup_text wish))) d doings ∙ told_more-append told0 (sends (setup_text wish)) (d ++ doings))));
       out = out_is
           ∙ (ap (λ (x : Sight). more x.out out) run.sight_is
           ∙ (ap (λ (x : Sight). more (more x.out (payloads_of (moments_of_rounds run.rounds))) out) begun
-          ∙ out-on out0 (payloads_of (moments_of_rounds run.rounds)) out));
+          ∙ more-append out0 (payloads_of (moments_of_rounds run.rounds)) out));
     })
 
 -- an event gave the answer
@@ -190,7 +191,7 @@ watched-end {count} {event} {c} {end} {s} {t} run begun few heard next =
     let ended = next run.history run.keeps in
     course-of run begun (ended.ends count few)
     (ap (λ (x : Sight). x.told) ended.sight_is
-    ∙ (ap (λ (x : Sight). told_more x.told (sends ended.sent)) heard ∙ told-on t.told (event ∷ []) (sends ended.sent)))
+    ∙ (ap (λ (x : Sight). told_more x.told (sends ended.sent)) heard ∙ told_more-append t.told (event ∷ []) (sends ended.sent)))
     (ap (λ (x : Sight). x.out) ended.sight_is ∙ ap (λ (x : Sight). more x.out ended.out) heard)
 
 -- no further event was heard
@@ -198,23 +199,23 @@ pub watched-lost : {wish : Wish} {count : ℕ} {c : Client} {end : WatchEnd} {to
     {out0 : Option (List ℕ)} {s t : Sight} {new_told : Option (List Doing)} (run : HasRun wish count c s t) → s ≡ sight (told_more told0 (sends (setup_text wish))) out0
     → count < 1099511627776 → end ≡ LinkFault → new_told ≡ t.told → HasWatched wish end told0 new_told out0 t.out
 watched-lost {c} {end} {s} {t} run begun few is same =
-    course-of run begun (inl (inl (is, few), refl, refl)) (same ∙ sym (told-none t.told)) (sym (out-none t.out))
+    course-of run begun (inl (inl (is, few), refl, refl)) (same ∙ sym (told_more-nil t.told)) (sym (more-nil t.out))
 
 pub watched-spent : {wish : Wish} {count : ℕ} {c : Client} {told0 : Option (List Doing)} {out0 : Option (List ℕ)}
     {s t : Sight} (run : HasRun wish count c s t) → s ≡ sight (told_more told0 (sends (setup_text wish))) out0 → count ≡ 1099511627776
     → HasWatched wish (Fault TurnsSpent) told0 t.told out0 t.out
 watched-spent {c} {s} {t} run begun all =
-    course-of run begun (inl (inr (refl, all), refl, refl)) (sym (told-none t.told)) (sym (out-none t.out))
+    course-of run begun (inl (inr (refl, all), refl, refl)) (sym (told_more-nil t.told)) (sym (more-nil t.out))
 
 -- it didn't begin
 pub watched-not : (wish : Wish) (end : WatchEnd) (told : Option (List Doing)) (out : Option (List ℕ)) → end ≡ NoMemory
     → HasWatched wish end told told out out
-watched-not wish end told out is = inr (record { front = []; cause = inl (is, refl); told = sym (told-none told); out = refl })
+watched-not wish end told out is = inr (record { front = []; cause = inl (is, refl); told = sym (told_more-nil told); out = refl })
 
 pub watched-unsent : (wish : Wish) (end : WatchEnd) (told new_told : Option (List Doing)) (out : Option (List ℕ)) → IsUnsent end wish told new_told
     → HasWatched wish end told new_told out out
 watched-unsent wish end told new_told out (inl none) =
-    inr (record { front = []; cause = inl (none.0, refl); told = none.1 ∙ sym (told-none told); out = refl })
+    inr (record { front = []; cause = inl (none.0, refl); told = none.1 ∙ sym (told_more-nil told); out = refl })
 watched-unsent wish end told new_told out (inr cut) =
     inr (record {
       front = take cut.1.0 (setup_text wish);

@@ -13,7 +13,7 @@ use Rattle.rtsp_client.specs.declared.wishes.Wish.{Wish}
 use Rattle.rtsp_client.specs.declared.wishes.Watched.{Watched}
 use Rattle.rtsp_client.specs.Moments.{History, Frame, Reply, Report, Slot, first_frame, frames, is_playing, last_slot, bytes_received, replies, sizes, slot_before, start}
 use Rattle.rtsp_client.specs.Films.{is_complete, time_in}
-use Rattle.rtsp_client.specs.Meters.{is_read, lacks, place_in, played_before, time, use_slot, used_before, bytes_waiting, watched_in}
+use Rattle.rtsp_client.specs.Meters.{is_read, lacks_picture, place_in, played_before, time, use_slot, used_before, bytes_waiting, watched_in}
 use Rattle.rtsp_client.specs.States.{State, after_reading, after_slot, is_lacking, place_of, played_of, reading_at, time_of, used_bytes}
 use Rattle.rtsp_client.specs.Keeps.{AreSumsOf, IsPlayOf, IsSourceOf, KeepsState}
 use Rattle.rtsp_client.proofs.Keeping.{complete-is}
@@ -113,7 +113,7 @@ time-in h None is = sym (cond-true (frames h == 0) 0 (time_in (first_frame h)) (
 time-in h (Some source) is =
     is.time_is ∙ sym (cond-false (frames h == 0) 0 (time_in (first_frame h)) (ne_eqb (frames h) 0 (λ none. absurd (omega (arith, is.some, none)))))
 
-lacks-in : (wish : Wish) (h : History) (s : State) (j : ℕ) → KeepsState wish h s → is_lacking wish s j ≡ lacks wish h j
+lacks-in : (wish : Wish) (h : History) (s : State) (j : ℕ) → KeepsState wish h s → is_lacking wish s j ≡ lacks_picture wish h j
 lacks-in wish h s j k =
     ap (λ c. not c && nat_le (s.watched.units * time_of s.source / wish.slot_units + wish.startup) j) (complete-is wish h s k)
     ∙ (ap (λ n. not (is_complete h) && nat_le (n * time_of s.source / wish.slot_units + wish.startup) j) (ap (λ (w : Watched). w.units) k.watched_is)
@@ -149,7 +149,7 @@ unread wish h t cut missed =
     let step : Bool → Watched = λ (r : Bool). record (watched_in wish h) {
       most = cond r (max (watched_in wish h).most (bytes_waiting wish h t cut)) (watched_in wish h).most;
       over = cond (r && nat_lt wish.buffer (bytes_waiting wish h t cut)) ((watched_in wish h).over + 1) (watched_in wish h).over;
-      under = cond (r && lacks wish h (place_in h t)) ((watched_in wish h).under + 1) (watched_in wish h).under;
+      under = cond (r && lacks_picture wish h (place_in h t)) ((watched_in wish h).under + 1) (watched_in wish h).under;
     } in
     sym (ap step missed)
 
@@ -183,7 +183,7 @@ read-at {wish} {h} {s} t cut k some timed reads =
     let whole : Bool → Watched = λ (r : Bool). record (watched_in wish h) {
       most = cond r (max (watched_in wish h).most (bytes_waiting wish h t cut)) (watched_in wish h).most;
       over = cond (r && nat_lt wish.buffer (bytes_waiting wish h t cut)) ((watched_in wish h).over + 1) (watched_in wish h).over;
-      under = cond (r && lacks wish h j) ((watched_in wish h).under + 1) (watched_in wish h).under;
+      under = cond (r && lacks_picture wish h j) ((watched_in wish h).under + 1) (watched_in wish h).under;
     } in
     ap (λ (w : Watched). step w ((s.received + cut) - played_of wish s.source s.ends j) (is_lacking wish s j)) k.watched_is
     ∙ (ap (λ n. step (watched_in wish h) n (is_lacking wish s j)) amount

@@ -8,7 +8,7 @@ use Rattle.std.specs.Int.{div_ceil}
 use Rattle.rtsp_client.specs.declared.wishes.Wish.{Wish}
 use Rattle.rtsp_client.specs.Moments.{History, Frame, Reply, Report, Slot, frames, bytes_received, sizes}
 use Rattle.rtsp_client.specs.Films.{is_complete, units}
-use Rattle.rtsp_client.specs.Meters.{is_read, lacks, most, count_over, place_in, played_before, time, count_under, use_slot, used_before, bytes_waiting}
+use Rattle.rtsp_client.specs.Meters.{is_read, lacks_picture, most, count_over, place_in, played_before, time, count_under, use_slot, used_before, bytes_waiting}
 use Rattle.rtsp_client.specs.Promises.{IsBetween, IsBetweenAlways, IsHeardOf}
 use Rattle.rtsp_client.proofs.Metering.{no-units, used-early, used-late, used-sum}
 
@@ -70,7 +70,7 @@ fits : {wish : Wish} {all : List ℕ} {p : ℕ} {h : History} {cut : ℕ} (slot 
 fits {all} {p} {h} {cut} slot some timed heard between =
     omega (arith, played-is some timed heard between, between.up)
 
--- no unit lacks
+-- no unit lacks_picture
 zero-times : (t : ℕ) → 0 * t ≡ 0
 zero-times t = omega arith
 
@@ -86,7 +86,7 @@ pub use-first : (wish : Wish) (t : ℕ) → use_slot wish t 0 ≡ wish.startup
 use-first wish t = omega (arith, ap (λ n. n / wish.slot_units) (zero-times t), zero-over wish.slot_units)
 
 enough : {wish : Wish} {all : List ℕ} {p : ℕ} {h : History} {j cut : ℕ} → 0 < wish.slot_units → 0 < p → 0 < length all → IsHeardOf all p h cut
-    → IsBetween wish all p j (bytes_received h + cut) → lacks wish h j ≡ false
+    → IsBetween wish all p j (bytes_received h + cut) → lacks_picture wish h j ≡ false
 enough {wish} {all} {p} {h} {j} {cut} some timed units_some heard between =
     let n = length (sizes h) in
     elim (cases_lt n (length all)) [
@@ -123,19 +123,19 @@ read-quiet : {r : Bool} {wish : Wish} {all : List ℕ} {p : ℕ} {h : History} {
     → IsQuiet wish (Slot slot cut ∷ h)
 read-quiet {r = false} {wish} {all} {p} {h} {slot} {cut} some timed units_some quiet is met = record {
   over_none = ap (λ r. cond (r && nat_lt wish.buffer (bytes_waiting wish h slot cut)) (count_over wish h + 1) (count_over wish h)) is ∙ quiet.over_none;
-  under_none = ap (λ r. cond (r && lacks wish h (place_in h slot)) (count_under wish h + 1) (count_under wish h)) is ∙ quiet.under_none;
+  under_none = ap (λ r. cond (r && lacks_picture wish h (place_in h slot)) (count_under wish h + 1) (count_under wish h)) is ∙ quiet.under_none;
   most_fits = omega (arith, ap (λ r. cond r (max (most wish h) (bytes_waiting wish h slot cut)) (most wish h)) is, quiet.most_fits);
 }
 read-quiet {r = true} {wish} {all} {p} {h} {slot} {cut} some timed units_some quiet is met =
     let now = met is in
     let holds : bytes_waiting wish h slot cut ≤ wish.buffer = fits slot some timed now.0 now.1 in
     let not_over : nat_lt wish.buffer (bytes_waiting wish h slot cut) ≡ false = le-ltb wish.buffer (bytes_waiting wish h slot cut) holds in
-    let not_under : lacks wish h (place_in h slot) ≡ false =
+    let not_under : lacks_picture wish h (place_in h slot) ≡ false =
     enough some timed units_some now.0 now.1 in
     record {
       over_none = ap (λ r. cond (r && nat_lt wish.buffer (bytes_waiting wish h slot cut)) (count_over wish h + 1) (count_over wish h)) is
           ∙ (ap (λ b. cond (true && b) (count_over wish h + 1) (count_over wish h)) not_over ∙ quiet.over_none);
-      under_none = ap (λ r. cond (r && lacks wish h (place_in h slot)) (count_under wish h + 1) (count_under wish h)) is
+      under_none = ap (λ r. cond (r && lacks_picture wish h (place_in h slot)) (count_under wish h + 1) (count_under wish h)) is
           ∙ (ap (λ b. cond (true && b) (count_under wish h + 1) (count_under wish h)) not_under ∙ quiet.under_none);
       most_fits = omega (arith, ap (λ r. cond r (max (most wish h) (bytes_waiting wish h slot cut)) (most wish h)) is, quiet.most_fits, holds);
     }

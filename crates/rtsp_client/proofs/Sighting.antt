@@ -3,45 +3,30 @@ use Rattle.std.proofs.Common.{◌≡◌, ℕ, List, [], ◌++◌, length, Option
 use Rattle.std.proofs.lemmas.List.{append-nil, map-append, take_all}
 use Rattle.vod_base.specs.Links.{Doing, Sent, sends, told_more}
 use Rattle.vod_base.specs.Outside.{more}
+use Rattle.vod_base.proofs.Telling.{more-append, more-nil, told_more-append, told_more-nil}
 use Rattle.rtsp_client.specs.Courses.{IsFront}
 use Rattle.rtsp_client.specs.Takings.{Sight, sight, sight_more}
-
-pub told-none : (told : Option (List Doing)) → told_more told [] ≡ told
-told-none None = refl
-told-none (Some doings) = ap (λ d. Some d) (append-nil doings)
-
-pub out-none : (out : Option (List ℕ)) → more out [] ≡ out
-out-none None = refl
-out-none (Some bytes) = ap (λ b. Some b) (append-nil bytes)
-
-pub told-on : (told : Option (List Doing)) (a b : List Doing) → told_more (told_more told a) b ≡ told_more told (a ++ b)
-told-on None a b = refl
-told-on (Some doings) a b = ap (λ d. Some d) (append_assoc doings a b)
-
-pub out-on : (out : Option (List ℕ)) (a b : List ℕ) → more (more out a) b ≡ more out (a ++ b)
-out-on None a b = refl
-out-on (Some bytes) a b = ap (λ x. Some x) (append_assoc bytes a b)
 
 pub sends-on : (a b : List ℕ) → sends (a ++ b) ≡ sends a ++ sends b
 sends-on a b = map-append Sent a b
 
 pub sight-none : (s : Sight) → s ≡ sight_more s [] []
-sight-none s = ap (λ t. sight t s.out) (sym (told-none s.told)) ∙ ap (λ o. sight (told_more s.told []) o) (sym (out-none s.out))
+sight-none s = ap (λ t. sight t s.out) (sym (told_more-nil s.told)) ∙ ap (λ o. sight (told_more s.told []) o) (sym (more-nil s.out))
 
 pub sight-on : (s : Sight) (a b x y : List ℕ) → sight_more (sight_more s a x) b y ≡ sight_more s (a ++ b) (x ++ y)
 sight-on s a b x y =
-    ap (λ t. sight t (more (more s.out x) y)) (told-on s.told (sends a) (sends b) ∙ ap (told_more s.told) (sym (sends-on a b)))
-    ∙ ap (λ o. sight (told_more s.told (sends (a ++ b))) o) (out-on s.out x y)
+    ap (λ t. sight t (more (more s.out x) y)) (told_more-append s.told (sends a) (sends b) ∙ ap (told_more s.told) (sym (sends-on a b)))
+    ∙ ap (λ o. sight (told_more s.told (sends (a ++ b))) o) (more-append s.out x y)
 
 -- bytes were sent alone
 pub sight-sent : (told new : Option (List Doing)) (out : Option (List ℕ)) (a : List ℕ) → new ≡ told_more told (sends a)
     → sight new out ≡ sight_more (sight told out) a []
-sight-sent told new out a is = ap (λ t. sight t out) is ∙ ap (λ o. sight (told_more told (sends a)) o) (sym (out-none out))
+sight-sent told new out a is = ap (λ t. sight t out) is ∙ ap (λ o. sight (told_more told (sends a)) o) (sym (more-nil out))
 
 -- bytes were handed on alone
 pub sight-handed : (told : Option (List Doing)) (out new : Option (List ℕ)) (x : List ℕ) → new ≡ more out x
     → sight told new ≡ sight_more (sight told out) [] x
-sight-handed told out new x is = ap (λ o. sight told o) is ∙ ap (λ t. sight t (more out x)) (sym (told-none told))
+sight-handed told out new x is = ap (λ o. sight told o) is ∙ ap (λ t. sight t (more out x)) (sym (told_more-nil told))
 
 -- both
 pub sight-both : {new : Option (List Doing)} {new_out : Option (List ℕ)} (told : Option (List Doing))

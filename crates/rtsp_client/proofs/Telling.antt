@@ -7,7 +7,7 @@ use Rattle.std.specs.Int.{div_ceil}
 use Rattle.rtsp_client.specs.declared.wishes.Wish.{Wish}
 use Rattle.rtsp_client.specs.Moments.{History, Frame, Reply, Report, Slot, bytes_pending, bytes_received, frames, is_inside, is_last, is_playing, sizes}
 use Rattle.rtsp_client.specs.Films.{is_complete, units}
-use Rattle.rtsp_client.specs.Meters.{bytes_waiting, count_over, count_under, is_read, lacks, most, place_in, played_before, time, use_slot, used_before}
+use Rattle.rtsp_client.specs.Meters.{bytes_waiting, count_over, count_under, is_read, lacks_picture, most, place_in, played_before, time, use_slot, used_before}
 use Rattle.rtsp_client.specs.Promises.{IsBetween, IsBetweenAlways, IsHeardAlways, IsHeardOf}
 use Rattle.rtsp_client.proofs.Keeping.{sum-one}
 use Rattle.rtsp_client.proofs.Metering.{no-units, used-sum}
@@ -38,8 +38,8 @@ used-most wish p j xs some timed =
     let c = div_ceil ((j - wish.startup) * wish.slot_units) p in
     omega (arith, used-sum wish p j 0 xs some timed, sum_by-take-le (λ (x : ℕ). x) xs (c - 0))
 
--- where none lacks, the next unit isn't used yet
-next-early : {all : List ℕ} {p : ℕ} {h : History} {cut : ℕ} (wish : Wish) (j : ℕ) → IsHeardOf all p h cut → lacks wish h j ≡ false
+-- where none lacks_picture, the next unit isn't used yet
+next-early : {all : List ℕ} {p : ℕ} {h : History} {cut : ℕ} (wish : Wish) (j : ℕ) → IsHeardOf all p h cut → lacks_picture wish h j ≡ false
     → length (sizes h) < length all → j < use_slot wish p (length (sizes h))
 next-early {all} {p} {h} {cut} wish j heard enough fewer =
     let n = length (sizes h) in
@@ -63,7 +63,7 @@ next-early {all} {p} {h} {cut} wish j heard enough fewer =
     ]
 
 between : {wish : Wish} {all : List ℕ} {p : ℕ} {h : History} {cut : ℕ} (slot : ℕ) → 0 < wish.slot_units → 0 < p → IsHeardOf all p h cut
-    → nat_lt wish.buffer (bytes_waiting wish h slot cut) ≡ false → lacks wish h (place_in h slot) ≡ false
+    → nat_lt wish.buffer (bytes_waiting wish h slot cut) ≡ false → lacks_picture wish h (place_in h slot) ≡ false
     → IsBetween wish all p (place_in h slot) (bytes_received h + cut)
 between {wish} {all} {p} {h} {cut} slot some timed heard not_over not_under =
     let n = length (sizes h) in
@@ -97,13 +97,13 @@ between-always {p} wish all (Frame b ∷ h) some timed heard over under = betwee
 between-always {p} wish all (Report b ∷ h) some timed heard over under = between-always wish all h some timed heard over under
 between-always {p} wish all (Slot slot cut ∷ h) some timed heard over under =
     let o = no-count (is_read h slot && nat_lt wish.buffer (bytes_waiting wish h slot cut)) (count_over wish h) over in
-    let u = no-count (is_read h slot && lacks wish h (place_in h slot)) (count_under wish h) under in (
+    let u = no-count (is_read h slot && lacks_picture wish h (place_in h slot)) (count_under wish h) under in (
       between-always wish all h some timed heard.0 o.1 u.1,
       λ read. (
         heard.1 read,
         between slot some timed (heard.1 read)
             (tested (is_read h slot) (nat_lt wish.buffer (bytes_waiting wish h slot cut)) read o.0)
-            (tested (is_read h slot) (lacks wish h (place_in h slot)) read u.0),
+            (tested (is_read h slot) (lacks_picture wish h (place_in h slot)) read u.0),
       ),
     )
 

@@ -46,8 +46,8 @@ bytes_waiting wish h slot cut = (bytes_received h + cut) - played_before wish h 
 
 -- the first unit that isn't whole is used in this slot of the play, or was to be used before it.
 -- Units are used in their order.
-abbrev pub lacks : Wish → History → ℕ → Bool
-lacks wish h slot = not (is_complete h) && nat_le (use_slot wish (time h) (length (sizes h))) slot
+abbrev pub lacks_picture : Wish → History → ℕ → Bool
+lacks_picture wish h slot = not (is_complete h) && nat_le (use_slot wish (time h) (length (sizes h))) slot
 
 -- the most bytes that waited at a reading
 abbrev pub most : Wish → History → ℕ
@@ -74,7 +74,7 @@ count_under wish [] = 0
 count_under wish (Reply message ∷ h) = count_under wish h
 count_under wish (Frame block ∷ h) = count_under wish h
 count_under wish (Report block ∷ h) = count_under wish h
-count_under wish (Slot slot cut ∷ h) = if is_read h slot && lacks wish h (place_in h slot)
+count_under wish (Slot slot cut ∷ h) = if is_read h slot && lacks_picture wish h (place_in h slot)
     then count_under wish h + 1 else count_under wish h
 
 -- what was heard and read

@@ -49,7 +49,8 @@ abbrev pub bytes_received : History → ℕ
 bytes_received [] = 0
 bytes_received (Reply message ∷ h) = bytes_received h
 bytes_received (Frame block ∷ h) = bytes_received h + length block
-bytes_received (Report block ∷ h) = if is_playing h then bytes_received h + length block else bytes_received h
+bytes_received (Report block ∷ h) = if is_playing h then bytes_received h + length block
+    else bytes_received h
 bytes_received (Slot slot cut ∷ h) = bytes_received h
 
 -- whether a frame is the last of its unit

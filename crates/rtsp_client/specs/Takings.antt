@@ -1,7 +1,7 @@
 -- What a client has done as moments, pieces and events were taken up, by what its link and its
 -- output tell.
 use Rattle.std.specs.Prelude.{◌≡◌, ℕ, ◌<◌, ◌⊎◌, ◌∷◌, [], List, length, Option}
-use Rattle.std.specs.Prelude.{Ok}
+use Rattle.std.specs.Prelude.{Ok, Result, OnOk, IfErr, take}
 use Rattle.vod_base.specs.Links.{Doing, IsFrontTold, sends, told_more}
 use Rattle.vod_base.specs.Outside.{more}
 use Rattle.interleave.specs.Pieces.{IsFirst}
@@ -12,7 +12,7 @@ use Rattle.rtsp_client.specs.declared.wishes.Wish.{Wish}
 use Rattle.rtsp_client.specs.declared.wishes.WatchEnd.{WatchEnd}
 use Rattle.rtsp_client.specs.declared.wishes.WatchEnd.TheVariants.{LinkFault, NoMemory}
 use Rattle.rtsp_client.specs.Requests.{setup_text}
-use Rattle.rtsp_client.specs.Moments.{History, Moment}
+use Rattle.rtsp_client.specs.Moments.{History, Moment, Reply}
 use Rattle.rtsp_client.specs.Answers.{Gives, GoOn, GoesOn, after, moments_in, payloads_of}
 use Rattle.rtsp_client.specs.Answers.{requests_after}
 use Rattle.rtsp_client.specs.Courses.{Ends, Fails, Round, Runs, StopsAt, moments_of_rounds}
@@ -62,6 +62,44 @@ pub record HasStopped (wish : Wish) (h : History) (rest : List ℕ) (end : Watch
   pub out : List ℕ
   pub stops : StopsAt wish (stage h rest) end sent out
   pub sight_is : new_sight ≡ sight_more old_sight sent out
+
+-- what a call answers that takes up moments: whatever was heard before, they were taken up where it
+-- went well; and where it didn't, the moment gave the answer, or the outside failed
+abbrev pub PassesMoments : {A : Type 0} → Wish → List Moment → Client → Client →
+    Result A WatchEnd → Sight → Sight → Type 0
+PassesMoments wish moments old new result old_sight new_sight = (h : History) →
+    Keeps wish h old → OnOk result (HasPassed wish h moments new old_sight new_sight)
+
+abbrev pub EndsAtMoment : {A : Type 0} → Wish → Moment → Client → Result A WatchEnd →
+    Sight → Sight → Type 0
+EndsAtMoment wish moment old result old_sight new_sight = (h : History) → Keeps wish h old →
+    IfErr result (λ end. HasEndedAt wish h moment end old_sight new_sight)
+
+-- the same of the reply of this length in front of the input; nothing is handed on
+abbrev pub PassesReply : {A : Type 0} → Wish → ℕ → Client → Client → Result A WatchEnd →
+    Option (List Doing) → Option (List Doing) → Type 0
+PassesReply wish length old new result old_told new_told =
+    (h : History) (out : Option (List ℕ)) → Keeps wish h old →
+    OnOk result (HasPassed wish h (Reply (take length old.input) ∷ []) new (sight old_told out)
+    (sight new_told out))
+
+abbrev pub EndsAtReply : {A : Type 0} → Wish → ℕ → Client → Result A WatchEnd →
+    Option (List Doing) → Option (List Doing) → Type 0
+EndsAtReply wish length old result old_told new_told =
+    (h : History) (out : Option (List ℕ)) → Keeps wish h old →
+    IfErr result (λ end. HasEndedAt wish h (Reply (take length old.input)) end
+    (sight old_told out) (sight new_told out))
+
+-- the same of pieces in front of the input
+abbrev pub TakesPieces : {A : Type 0} → Wish → Client → Client → Result A WatchEnd →
+    Sight → Sight → Type 0
+TakesPieces wish old new result old_sight new_sight = (h : History) → Keeps wish h old →
+    OnOk result (HasTaken wish h old.input new old_sight new_sight)
+
+abbrev pub StopsAtPieces : {A : Type 0} → Wish → Client → Result A WatchEnd → Sight → Sight →
+    Type 0
+StopsAtPieces wish old result old_sight new_sight = (h : History) → Keeps wish h old →
+    IfErr result (λ end. HasStopped wish h old.input end old_sight new_sight)
 
 -- an event was taken up, of which the link told before
 pub record HasRound (wish : Wish) (h : History) (rest : List ℕ) (event : Doing) (new : Client)

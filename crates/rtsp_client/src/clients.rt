@@ -13,8 +13,9 @@ ghost use Rattle.rtsp_client.specs.Moments.{History, Frame, Reply};
 ghost use Rattle.rtsp_client.specs.Requests.{setup_text};
 ghost use Rattle.rtsp_client.specs.Standing.{GoesOnFrom, IsAwaited, IsGoing, bytes_in};
 ghost use Rattle.rtsp_client.specs.States.{has_all, new_state};
-ghost use Rattle.rtsp_client.specs.Takings.{HasEnded, HasEndedAt, HasPassed, HasRound, HasStopped};
-ghost use Rattle.rtsp_client.specs.Takings.{HasTaken, IsUnsent, Sight, sight};
+ghost use Rattle.rtsp_client.specs.Takings.{EndsAtMoment, EndsAtReply, HasEnded, HasEndedAt};
+ghost use Rattle.rtsp_client.specs.Takings.{HasPassed, HasRound, IsUnsent, PassesMoments};
+ghost use Rattle.rtsp_client.specs.Takings.{PassesReply, Sight, StopsAtPieces, TakesPieces, sight};
 ghost use Rattle.rtsp_client.specs.Wishes.{IsWish};
 
 use crate::replies::{play_range, play_start, reply_code, session_in};
@@ -64,12 +65,8 @@ impl Client {
         ensures front { IfErr result (λ end.
             IsUnsent end wish.now (K.told link.old) (K.told link.new)) }
     {
-        let Ok(request) = setup_request(self.alloc, wish) else {
-            return Err(WatchEnd::NoMemory);
-        };
-        if link.send(request.as_slice()).is_err() {
-            return Err(WatchEnd::LinkFault);
-        }
+        let request = setup_request(self.alloc, wish)?;
+        link.send(request.as_slice())?;
         Ok(())
     }
 
@@ -145,23 +142,17 @@ impl Client {
             HasCause end (K.faults link.old) (K.faults link.new) (O.faults out.old)
             (O.faults out.new)) }
         ensures idle { OnOk result (IsFirst self.new.input (Ok More)) }
-        ensures taken { (h : History) → Keeps wish.now h self.old →
-            OnOk result (HasTaken wish.now h self.old.input self.new
+        ensures taken { TakesPieces wish.now self.old self.new result
             (sight (K.told link.old) (O.written out.old))
-            (sight (K.told link.new) (O.written out.new))) }
-        ensures stopped { (h : History) → Keeps wish.now h self.old →
-            let before = sight (K.told link.old) (O.written out.old) in
-            let after = sight (K.told link.new) (O.written out.new) in
-            IfErr result (λ end. HasStopped wish.now h self.old.input end before after) }
+            (sight (K.told link.new) (O.written out.new)) }
+        ensures stopped { StopsAtPieces wish.now self.old result
+            (sight (K.told link.old) (O.written out.old))
+            (sight (K.told link.new) (O.written out.new)) }
     {
         'pieces: loop {
-            match self.take_next(wish, link, out) {
-                Err(end) => return Err(end),
-                Ok(more) => {
-                    if !more {
-                        return Ok(());
-                    }
-                }
+            let more = self.take_next(wish, link, out)?;
+            if !more {
+                return Ok(());
             }
         }
     }
@@ -184,14 +175,12 @@ impl Client {
             HasCause end (K.faults link.old) (K.faults link.new) (O.faults out.old)
             (O.faults out.new)) }
         ensures idle { IfOk result (λ more. more ≡ false → IsFirst self.new.input (Ok More)) }
-        ensures taken { (h : History) → Keeps wish.now h self.old →
-            OnOk result (HasTaken wish.now h self.old.input self.new
+        ensures taken { TakesPieces wish.now self.old self.new result
             (sight (K.told link.old) (O.written out.old))
-            (sight (K.told link.new) (O.written out.new))) }
-        ensures stopped { (h : History) → Keeps wish.now h self.old →
-            let before = sight (K.told link.old) (O.written out.old) in
-            let after = sight (K.told link.new) (O.written out.new) in
-            IfErr result (λ end. HasStopped wish.now h self.old.input end before after) }
+            (sight (K.told link.new) (O.written out.new)) }
+        ensures stopped { StopsAtPieces wish.now self.old result
+            (sight (K.told link.old) (O.written out.old))
+            (sight (K.told link.new) (O.written out.new)) }
     {
         match self.input.look() {
             Err(_) => Err(WatchEnd::Fault(WatchFault::Framing)),
@@ -204,22 +193,14 @@ impl Client {
                 Ok(true)
             }
             Ok(Step::Block(channel, length)) => {
-                match self.take_block(wish, channel, length, link, out) {
-                    Err(end) => Err(end),
-                    Ok(()) => {
-                        self.input.drop_front(length);
-                        Ok(true)
-                    }
-                }
+                self.take_block(wish, channel, length, link, out)?;
+                self.input.drop_front(length);
+                Ok(true)
             }
             Ok(Step::Request(length)) => {
-                match self.take_reply(wish, length, link) {
-                    Err(end) => Err(end),
-                    Ok(()) => {
-                        self.input.drop_front(length);
-                        Ok(true)
-                    }
-                }
+                self.take_reply(wish, length, link)?;
+                self.input.drop_front(length);
+                Ok(true)
             }
         }
     }
@@ -244,11 +225,10 @@ impl Client {
         ensures cause { IfErr result (λ end.
             HasCause end (K.faults link.old) (K.faults link.new) (O.faults out.old)
             (O.faults out.new)) }
-        ensures passed { (h : History) → Keeps wish.now h self.old →
-            let before = sight (K.told link.old) (O.written out.old) in
-            let after = sight (K.told link.new) (O.written out.new) in
-            let moments = block_moments channel (take length self.old.input) in
-            OnOk result (HasPassed wish.now h moments self.new before after) }
+        ensures passed { let moments = block_moments channel (take length self.old.input) in
+            PassesMoments wish.now moments self.old self.new result
+            (sight (K.told link.old) (O.written out.old))
+            (sight (K.told link.new) (O.written out.new)) }
         ensures ended { (h : History) → Keeps wish.now h self.old →
             let before = sight (K.told link.old) (O.written out.old) in
             let after = sight (K.told link.new) (O.written out.new) in
@@ -286,37 +266,25 @@ impl Client {
         ensures cause { IfErr result (λ end.
             HasCause end (K.faults link.old) (K.faults link.new) (O.faults out.old)
             (O.faults out.new)) }
-        ensures passed { (h : History) → Keeps wish.now h self.old →
-            let before = sight (K.told link.old) (O.written out.old) in
-            let after = sight (K.told link.new) (O.written out.new) in
-            let piece = Frame (take length self.old.input) in
-            OnOk result (HasPassed wish.now h (piece ∷ []) self.new before after) }
-        ensures ended { (h : History) → Keeps wish.now h self.old →
-            let before = sight (K.told link.old) (O.written out.old) in
-            let after = sight (K.told link.new) (O.written out.new) in
-            let piece = Frame (take length self.old.input) in
-            IfErr result (λ end. HasEndedAt wish.now h piece end before after) }
+        ensures passed { PassesMoments wish.now (Frame (take length self.old.input) ∷ []) self.old
+            self.new result (sight (K.told link.old) (O.written out.old))
+            (sight (K.told link.new) (O.written out.new)) }
+        ensures ended { EndsAtMoment wish.now (Frame (take length self.old.input)) self.old result
+            (sight (K.told link.old) (O.written out.old))
+            (sight (K.told link.new) (O.written out.new)) }
     {
         let block = &self.input.waiting()[..length];
         let Some(source) = self.watching.source_with(block) else {
             let number = self.watching.watched().frames;
             return Err(WatchEnd::Fault(WatchFault::BadFrame(number)));
         };
-        if self.watching.add_frame(source, length as u64).is_err() {
-            return Err(WatchEnd::NoMemory);
-        }
-        if out.write_all(&block[20..]).is_err() {
-            return Err(WatchEnd::SinkFault);
-        }
+        self.watching.add_frame(source, length as u64)?;
+        out.write_all(&block[20..])?;
         if !self.watching.is_complete() {
             return Ok(());
         }
-        let Ok(request) = teardown_request(self.alloc, wish, self.session.as_slice()) else {
-            return Err(WatchEnd::NoMemory);
-        };
-        if link.send(request.as_slice()).is_err() {
-            return Err(WatchEnd::LinkFault);
-        }
+        let request = teardown_request(self.alloc, wish, self.session.as_slice())?;
+        link.send(request.as_slice())?;
         Ok(())
     }
 
@@ -356,16 +324,10 @@ impl Client {
         ensures count { K.faults link.old ≤ K.faults link.new }
         ensures cause { IfErr result (λ end.
             HasCause end (K.faults link.old) (K.faults link.new) 0 0) }
-        ensures passed { (h : History) (out : Option (List ℕ)) → Keeps wish.now h self.old →
-            let before = sight (K.told link.old) out in
-            let after = sight (K.told link.new) out in
-            let piece = Reply (take length self.old.input) in
-            OnOk result (HasPassed wish.now h (piece ∷ []) self.new before after) }
-        ensures ended { (h : History) (out : Option (List ℕ)) → Keeps wish.now h self.old →
-            let before = sight (K.told link.old) out in
-            let after = sight (K.told link.new) out in
-            let piece = Reply (take length self.old.input) in
-            IfErr result (λ end. HasEndedAt wish.now h piece end before after) }
+        ensures passed { PassesReply wish.now length self.old self.new result (K.told link.old)
+            (K.told link.new) }
+        ensures ended { EndsAtReply wish.now length self.old result (K.told link.old)
+            (K.told link.new) }
     {
         match self.awaited_code(&self.input.waiting()[..length]) {
             None => {
@@ -397,16 +359,10 @@ impl Client {
         ensures count { K.faults link.old ≤ K.faults link.new }
         ensures cause { IfErr result (λ end.
             HasCause end (K.faults link.old) (K.faults link.new) 0 0) }
-        ensures passed { (h : History) (out : Option (List ℕ)) → Keeps wish.now h self.old →
-            let before = sight (K.told link.old) out in
-            let after = sight (K.told link.new) out in
-            let piece = Reply (take length self.old.input) in
-            OnOk result (HasPassed wish.now h (piece ∷ []) self.new before after) }
-        ensures ended { (h : History) (out : Option (List ℕ)) → Keeps wish.now h self.old →
-            let before = sight (K.told link.old) out in
-            let after = sight (K.told link.new) out in
-            let piece = Reply (take length self.old.input) in
-            IfErr result (λ end. HasEndedAt wish.now h piece end before after) }
+        ensures passed { PassesReply wish.now length self.old self.new result (K.told link.old)
+            (K.told link.new) }
+        ensures ended { EndsAtReply wish.now length self.old result (K.told link.old)
+            (K.told link.new) }
     {
         if self.replies == 0 {
             return self.take_setup(wish, length, link);
@@ -433,29 +389,17 @@ impl Client {
         ensures count { K.faults link.old ≤ K.faults link.new }
         ensures cause { IfErr result (λ end.
             HasCause end (K.faults link.old) (K.faults link.new) 0 0) }
-        ensures passed { (h : History) (out : Option (List ℕ)) → Keeps wish.now h self.old →
-            let before = sight (K.told link.old) out in
-            let after = sight (K.told link.new) out in
-            let piece = Reply (take length self.old.input) in
-            OnOk result (HasPassed wish.now h (piece ∷ []) self.new before after) }
-        ensures ended { (h : History) (out : Option (List ℕ)) → Keeps wish.now h self.old →
-            let before = sight (K.told link.old) out in
-            let after = sight (K.told link.new) out in
-            let piece = Reply (take length self.old.input) in
-            IfErr result (λ end. HasEndedAt wish.now h piece end before after) }
+        ensures passed { PassesReply wish.now length self.old self.new result (K.told link.old)
+            (K.told link.new) }
+        ensures ended { EndsAtReply wish.now length self.old result (K.told link.old)
+            (K.told link.new) }
     {
         let Some(session) = session_in(&self.input.waiting()[..length]) else {
             return Err(WatchEnd::Fault(WatchFault::BadReply(1)));
         };
-        let Ok(request) = play_request(self.alloc, wish, session) else {
-            return Err(WatchEnd::NoMemory);
-        };
-        let Ok(kept) = copy_of(self.alloc, session) else {
-            return Err(WatchEnd::NoMemory);
-        };
-        if link.send(request.as_slice()).is_err() {
-            return Err(WatchEnd::LinkFault);
-        }
+        let request = play_request(self.alloc, wish, session)?;
+        let kept = copy_of(self.alloc, session)?;
+        link.send(request.as_slice())?;
         self.session = kept;
         self.replies = 1;
         Ok(())

@@ -21,18 +21,12 @@ pub(crate) fn reply_code(message: &[u8], number: u64) -> Option<u16>
     ensures { MatchOption result ((code : ℕ) →
         ¬ IsAnswer message.now number code) (IsAnswer message.now number) }
 {
-    let Some(reply) = read_reply(message) else {
+    let reply = read_reply(message)?;
+    let found = number_in(message, b"CSeq")?;
+    if found != number {
         return None;
-    };
-    match number_in(message, b"CSeq") {
-        None => None,
-        Some(found) => {
-            if found != number {
-                return None;
-            }
-            Some(reply.code)
-        }
     }
+    Some(reply.code)
 }
 
 /// The session that a reply names.
@@ -122,8 +116,6 @@ fn range_end(value: &[u8]) -> Option<u128>
     ensures range { result ≡ range_end value.now }
     ensures short { IfSome result (λ end_ms. end_ms < 2 ^ 100) }
 {
-    match value.strip_prefix(b"npt=0.000-") {
-        Some(text) => time_in(text),
-        None => None,
-    }
+    let text = value.strip_prefix(b"npt=0.000-")?;
+    time_in(text)
 }

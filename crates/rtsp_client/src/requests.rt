@@ -12,10 +12,8 @@ use vod_base::NoMemory;
 pub(crate) fn copy_of(alloc: Global, text: &[u8]) -> Result<Vec<u8>, NoMemory>
     ensures { IfOk result (λ copy. copy.items ≡ text.now) }
 {
-    match Vec::from_slice(alloc, text) {
-        Ok(copy) => Ok(copy),
-        Err(_) => Err(NoMemory),
-    }
+    let copy = Vec::from_slice(alloc, text)?;
+    Ok(copy)
 }
 
 /// SETUP of the film's video, interleaved on the channels 0 and 1, with the client's buffer and
@@ -70,10 +68,8 @@ pub(crate) fn teardown_request(
 fn put(text: &mut Vec<u8>, bytes: &[u8]) -> Result<(), NoMemory>
     ensures { OnOk result (text.new.items ≡ text.old.items ++ bytes.now) }
 {
-    match text.extend_from_slice(bytes) {
-        Ok(()) => Ok(()),
-        Err(_) => Err(NoMemory),
-    }
+    text.extend_from_slice(bytes)?;
+    Ok(())
 }
 
 /// Appends a number in decimal.

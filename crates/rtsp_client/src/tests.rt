@@ -30,27 +30,34 @@ const SENT: [u8; 141] = [
     0x01, 0x12, 0x34,
 ];
 
+/// The first request of the client.
 const SETUP: &str = "SETUP rtsp://127.0.0.1:8554/b.mpg/video RTSP/1.0\r\nCSeq: 1\r\n\
     Transport: RTP/AVP/TCP;unicast;interleaved=0-1\r\nx-Buffer: 1048576\r\nx-Startup: 2\r\n\r\n";
 
+/// Its second request.
 const PLAY: &str =
     "PLAY rtsp://127.0.0.1:8554/b.mpg RTSP/1.0\r\nCSeq: 2\r\nSession: 0123456789abcdef\r\n\
     Range: npt=0-\r\n\r\n";
 
+/// Its last request.
 const TEARDOWN: &str =
     "TEARDOWN rtsp://127.0.0.1:8554/b.mpg RTSP/1.0\r\nCSeq: 3\r\nSession: 0123456789abcdef\r\n\r\n";
 
+/// The reply to SETUP.
 const SET_UP: Tell = Text(
     "RTSP/1.0 200 OK\r\nCSeq: 1\r\nTransport: RTP/AVP/TCP;unicast;interleaved=0-1;ssrc=01020304\r\n\
     Session: 0123456789abcdef\r\n\r\n",
 );
 
+/// The reply to PLAY: the film lasts 80 ms, and the play starts in the next slot.
 const PLAYED: Tell = Text(
     "RTSP/1.0 200 OK\r\nCSeq: 2\r\nSession: 0123456789abcdef\r\nRange: npt=0.000-0.080\r\nx-Start: 1\r\n\r\n",
 );
 
+/// The reply to TEARDOWN.
 const TORN_DOWN: Tell = Text("RTSP/1.0 200 OK\r\nCSeq: 3\r\nSession: 0123456789abcdef\r\n\r\n");
 
+/// The client's buffer in bytes.
 const BUFFER: u64 = 1_048_576;
 
 /// What the film's watching comes to.
@@ -94,10 +101,12 @@ const GAP: Tell = Raw(&[
     0x24, 0, 0, 0x11, 0x80, 0xa0, 0, 3, 0, 0, 14, 16, 1, 2, 3, 4, 0, 1, 26, 1, 0,
 ]);
 
+/// A frame of another source than the one before it.
 const STRANGER: Tell = Raw(&[
     0x24, 0, 0, 0x11, 0x80, 0xa0, 0, 2, 0, 0, 14, 16, 1, 2, 3, 5, 0, 1, 26, 1, 0,
 ]);
 
+/// What a server says, and what comes of it.
 const CASES: &[Case] = &[
     Case {
         buffer: BUFFER,
@@ -322,6 +331,7 @@ struct Outcome {
 /// The numbers of the calls that fail: sends, calls of `next`, and writes.
 type Failing = (&'static [u64], &'static [u64], &'static [u64]);
 
+/// Watches the film over a link that gives these events, where these calls of the outside fail.
 fn watch_events(
     alloc: Global,
     buffer: u64,

@@ -112,7 +112,8 @@ impl Watching {
     pub(crate) fn source_with(&self, block: &[u8]) -> Option<Source>
         requires { 4 ≤ length block.now }
         ensures source { result ≡ source_with self.now block.now }
-        ensures follows { IfSome result (λ source. IsSoundSource source (self.now.watched.units + 1)) }
+        ensures follows { IfSome result (λ source.
+            IsSoundSource source (self.now.watched.units + 1)) }
         ensures long { IfSome result (λ source. 20 ≤ length block.now) }
     {
         let Some(play) = &self.play else {
@@ -133,7 +134,8 @@ impl Watching {
         requires open { has_all self.now ≡ false }
         requires short { end_ms < 2 ^ 100 }
         ensures source { result ≡ source_after self.now.source head.now payload.now end_ms }
-        ensures follows { IfSome result (λ source. IsSoundSource source (self.now.watched.units + 1)) }
+        ensures follows { IfSome result (λ source.
+            IsSoundSource source (self.now.watched.units + 1)) }
     {
         match &self.source {
             Some(source) => source.next(head),
@@ -241,10 +243,8 @@ impl Watching {
         requires { self.now.last_slot ≤ slot }
         ensures { result ≡ place_of self.now.play slot }
     {
-        match &self.play {
-            Some(play) => (slot - play.slot_before).checked_sub(play.start),
-            None => None,
-        }
+        let play = self.play?;
+        (slot - play.slot_before).checked_sub(play.start)
     }
 
     /// A slot has begun, while so many bytes wait of a block that isn't whole: reads the meter.

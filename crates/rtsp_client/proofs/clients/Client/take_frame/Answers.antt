@@ -1,5 +1,6 @@
 use Rattle.std.proofs.Common.{◌≡◌, ◌≤◌, ℕ, List, true, false, length, take, drop, rules, refl, sym, ap, subst, ◌∙◌, ◌-◌, arith}
 use Rattle.std.proofs.lemmas.List.{length-drop, length-take-le, take_all}
+use Rattle.std.proofs.lemmas.Result.{err_from_is_err_and}
 use Rattle.vod_base.specs.Links.{IsFrontTold, sends, told_more}
 use Rattle.vod_base.specs.Outside.{IsFrontMore, more}
 use Rattle.rtsp_client.specs.declared.wishes.Watched.{Watched}
@@ -9,7 +10,6 @@ use Rattle.rtsp_client.specs.Requests.{teardown_text}
 use Rattle.rtsp_client.specs.States.{after_frame, has_all, source_with}
 use Rattle.rtsp_client.specs.Takings.{sight}
 use Rattle.rtsp_client.proofs.Framing.{bad-frame, frame-cut, frame-done, frame-starved, last-cut, last-done, teardown-starved}
-use Rattle.rtsp_client.proofs.Outcomes.{err-of, ok-of}
 use Rattle.rtsp_client.proofs.clients.Client.take_frame.Goals as goal
 
 pub returns-in_default-clause-ended : goal.returns-in_default-clause-ended
@@ -19,23 +19,29 @@ returns-in_default-clause-ended g c = λ h k.
     (ap (λ i. source_with c.args.self.now.watching (take c.args.length i)) (sym c.waiting.ensures) ∙ (sym c.source_with.ensures.source ∙ c.in_default.is))
     (ap (λ (w : Watched). Fault (BadFrame w.frames)) c.watched-number.ensures)
 
-pub returns-then-is_err-clause-ended : goal.returns-then-is_err-clause-ended
-returns-then-is_err-clause-ended g c = λ h k.
+pub returns-in_err-add_frame-clause-ended : goal.returns-in_err-add_frame-clause-ended
+returns-in_err-add_frame-clause-ended g c =
+    let p = err_from_is_err_and c.from_residual.result c.from_residual.ensures.1 in
+    rw (p.1, p.2)
+    (λ h k.
     frame-starved
     k
-    (ap (λ i. source_with c.args.self.now.watching (take c.args.length i)) (sym c.waiting.ensures) ∙ (sym c.source_with.ensures.source ∙ c.in-Some.is)) refl
+    (ap (λ i. source_with c.args.self.now.watching (take c.args.length i)) (sym c.waiting.ensures) ∙ (sym c.source_with.ensures.source ∙ c.in-Some.is)) refl)
 
-pub returns-then-is_err-2-clause-ended : goal.returns-then-is_err-2-clause-ended
-returns-then-is_err-2-clause-ended g c = λ h k.
+pub returns-in_err-write_all-clause-ended : goal.returns-in_err-write_all-clause-ended
+returns-in_err-write_all-clause-ended g c =
+    let p = err_from_is_err_and c.from_residual-in_err-write_all.result c.from_residual-in_err-write_all.ensures.1 in
+    rw (p.1, p.2)
+    (λ h k.
     let old = g.O.Sink.written c.args.out.now in
     let new = g.O.Sink.written c.write_all.new.self in
     let front : IsFrontMore (g.O.Sink.written c.args.out.now) (g.O.Sink.written c.write_all.new.self) (drop 20 (take c.args.length c.waiting.result.now)) =
     subst (IsFrontMore (g.O.Sink.written c.args.out.now) (g.O.Sink.written c.write_all.new.self)) (take_all (length (take c.args.length c.waiting.result.now) - 20) (drop 20 (take c.args.length c.waiting.result.now)) (omega (arith, length-drop 20 (take c.args.length c.waiting.result.now))))
-    (err-of c.write_all.result (sym c.is_err-2.ensures.value ∙ c.if-is_err-2.true) c.write_all.ensures.front) in
+    c.in_err-write_all.ensures.front in
     frame-cut
     (g.K.Link.told c.args.link.now) k
     (ap (λ i. source_with c.args.self.now.watching (take c.args.length i)) (sym c.waiting.ensures) ∙ (sym c.source_with.ensures.source ∙ c.in-Some.is)) refl
-    (subst (λ i. IsFrontMore (g.O.Sink.written c.args.out.now) (g.O.Sink.written c.write_all.new.self) (drop 20 (take c.args.length i))) c.waiting.ensures front)
+    (subst (λ i. IsFrontMore (g.O.Sink.written c.args.out.now) (g.O.Sink.written c.write_all.new.self) (drop 20 (take c.args.length i))) c.waiting.ensures front))
 
 pub returns-then-not-is_complete-clause-passed : goal.returns-then-not-is_complete-clause-passed
 returns-then-not-is_complete-clause-passed g c = λ h k.
@@ -44,7 +50,7 @@ returns-then-not-is_complete-clause-passed g c = λ h k.
     let state : c.add_frame.new.self ≡ after_frame c.args.self.now.watching c.in-Some.source c.args.length = search rules in
     let open_ : has_all c.add_frame.new.self ≡ false = search rules in
     let handed : g.O.Sink.written c.write_all.new.self ≡ more (g.O.Sink.written c.args.out.now) (drop 20 (take c.args.length c.waiting.result.now)) =
-    ok-of c.write_all.result (sym c.is_err-2.ensures.value ∙ c.if-is_err-2.false) c.write_all.ensures.whole
+    c.in_ok-write_all.ensures.whole
     ∙ ap (λ b. more (g.O.Sink.written c.args.out.now) b) (take_all (length (take c.args.length c.waiting.result.now) - 20) (drop 20 (take c.args.length c.waiting.result.now)) (omega (arith, length-drop 20 (take c.args.length c.waiting.result.now)))) in
     frame-done
     (g.K.Link.told c.args.link.now) k
@@ -53,27 +59,33 @@ returns-then-not-is_complete-clause-passed g c = λ h k.
     (state ∙ ap (after_frame c.args.self.now.watching c.in-Some.source) (sym whole)) open_
     (handed ∙ ap (λ i. more (g.O.Sink.written c.args.out.now) (drop 20 (take c.args.length i))) c.waiting.ensures)
 
-pub returns-in_default-teardown_request-clause-ended : goal.returns-in_default-teardown_request-clause-ended
-returns-in_default-teardown_request-clause-ended g c = λ h k.
+pub returns-in_err-request-clause-ended : goal.returns-in_err-request-clause-ended
+returns-in_err-request-clause-ended g c =
+    let p = err_from_is_err_and c.from_residual-in_err-request.result c.from_residual-in_err-request.ensures.1 in
+    rw (p.1, p.2)
+    (λ h k.
     let handed : g.O.Sink.written c.write_all.new.self ≡ more (g.O.Sink.written c.args.out.now) (drop 20 (take c.args.length c.waiting.result.now)) =
-    ok-of c.write_all.result (sym c.is_err-2.ensures.value ∙ c.if-is_err-2.false) c.write_all.ensures.whole
+    c.in_ok-write_all.ensures.whole
     ∙ ap (λ b. more (g.O.Sink.written c.args.out.now) b) (take_all (length (take c.args.length c.waiting.result.now) - 20) (drop 20 (take c.args.length c.waiting.result.now)) (omega (arith, length-drop 20 (take c.args.length c.waiting.result.now)))) in
     teardown-starved
     (g.K.Link.told c.args.link.now) k
     (ap (λ i. source_with c.args.self.now.watching (take c.args.length i)) (sym c.waiting.ensures) ∙ (sym c.source_with.ensures.source ∙ c.in-Some.is)) refl
-    (handed ∙ ap (λ i. more (g.O.Sink.written c.args.out.now) (drop 20 (take c.args.length i))) c.waiting.ensures)
+    (handed ∙ ap (λ i. more (g.O.Sink.written c.args.out.now) (drop 20 (take c.args.length i))) c.waiting.ensures))
 
-pub returns-then-is_err-3-clause-ended : goal.returns-then-is_err-3-clause-ended
-returns-then-is_err-3-clause-ended g c = λ h k.
+pub returns-in_err-send-clause-ended : goal.returns-in_err-send-clause-ended
+returns-in_err-send-clause-ended g c =
+    let p = err_from_is_err_and c.from_residual-in_err-send.result c.from_residual-in_err-send.ensures.1 in
+    rw (p.1, p.2)
+    (λ h k.
     let whole : length (take c.args.length c.args.self.now.input) ≡ c.args.length = length-take-le c.args.length c.args.self.now.input c.requires.within in
     let long : 20 ≤ length (take c.args.length c.waiting.result.now) = search rules in
     let state : c.add_frame.new.self ≡ after_frame c.args.self.now.watching c.in-Some.source c.args.length = search rules in
     let all : has_all c.add_frame.new.self ≡ true = search rules in
     let handed : g.O.Sink.written c.write_all.new.self ≡ more (g.O.Sink.written c.args.out.now) (drop 20 (take c.args.length c.waiting.result.now)) =
-    ok-of c.write_all.result (sym c.is_err-2.ensures.value ∙ c.if-is_err-2.false) c.write_all.ensures.whole
+    c.in_ok-write_all.ensures.whole
     ∙ ap (λ b. more (g.O.Sink.written c.args.out.now) b) (take_all (length (take c.args.length c.waiting.result.now) - 20) (drop 20 (take c.args.length c.waiting.result.now)) (omega (arith, length-drop 20 (take c.args.length c.waiting.result.now)))) in
     let text : c.as_slice-2.result.now ≡ teardown_text c.args.wish.now c.args.self.now.session.items = search rules in
-    let front : IsFrontTold (g.K.Link.told c.args.link.now) (g.K.Link.told c.send.new.self) c.as_slice-2.result.now = search rules in
+    let front : IsFrontTold (g.K.Link.told c.args.link.now) (g.K.Link.told c.send.new.self) c.as_slice-2.result.now = c.in_err-send.ensures.front in
     last-cut c.args.wish.now h c.args.self.now
     (record { alloc = c.args.self.now.alloc; input = c.args.self.now.input; replies = c.args.self.now.replies; session = c.args.self.now.session; watching = c.add_frame.new.self })
     (take c.args.length c.args.self.now.input) c.in-Some.source LinkFault
@@ -82,7 +94,7 @@ returns-then-is_err-3-clause-ended g c = λ h k.
     (subst (λ (i : List ℕ). 20 ≤ length (take c.args.length i)) c.waiting.ensures long) refl refl
     (state ∙ ap (after_frame c.args.self.now.watching c.in-Some.source) (sym whole)) all refl
     (handed ∙ ap (λ i. more (g.O.Sink.written c.args.out.now) (drop 20 (take c.args.length i))) c.waiting.ensures)
-    (subst (IsFrontTold (g.K.Link.told c.args.link.now) (g.K.Link.told c.send.new.self)) text front)
+    (subst (IsFrontTold (g.K.Link.told c.args.link.now) (g.K.Link.told c.send.new.self)) text front))
 
 pub returns-clause-passed : goal.returns-clause-passed
 returns-clause-passed g c = λ h k.
@@ -91,10 +103,10 @@ returns-clause-passed g c = λ h k.
     let state : c.add_frame.new.self ≡ after_frame c.args.self.now.watching c.in-Some.source c.args.length = search rules in
     let all : has_all c.add_frame.new.self ≡ true = search rules in
     let handed : g.O.Sink.written c.write_all.new.self ≡ more (g.O.Sink.written c.args.out.now) (drop 20 (take c.args.length c.waiting.result.now)) =
-    ok-of c.write_all.result (sym c.is_err-2.ensures.value ∙ c.if-is_err-2.false) c.write_all.ensures.whole
+    c.in_ok-write_all.ensures.whole
     ∙ ap (λ b. more (g.O.Sink.written c.args.out.now) b) (take_all (length (take c.args.length c.waiting.result.now) - 20) (drop 20 (take c.args.length c.waiting.result.now)) (omega (arith, length-drop 20 (take c.args.length c.waiting.result.now)))) in
     let text : c.as_slice-2.result.now ≡ teardown_text c.args.wish.now c.args.self.now.session.items = search rules in
-    let sent : g.K.Link.told c.send.new.self ≡ told_more (g.K.Link.told c.args.link.now) (sends c.as_slice-2.result.now) = search rules in
+    let sent : g.K.Link.told c.send.new.self ≡ told_more (g.K.Link.told c.args.link.now) (sends c.as_slice-2.result.now) = c.in_ok-send.ensures.whole in
     last-done
     (g.K.Link.told c.args.link.now) k
     (ap (λ i. source_with c.args.self.now.watching (take c.args.length i)) (sym c.waiting.ensures) ∙ (sym c.source_with.ensures.source ∙ c.in-Some.is))

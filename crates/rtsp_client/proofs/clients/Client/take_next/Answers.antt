@@ -1,4 +1,5 @@
 use Rattle.std.proofs.Common.{◌≡◌, ℕ, List, drop, rules, refl, ap, subst, ◌∙◌, Ok}
+use Rattle.std.proofs.lemmas.Result.{err_from_is_err_and}
 use Rattle.interleave.specs.Pieces.{IsFirst}
 use Rattle.interleave.specs.declared.pieces.Step.TheVariants.{Block, More, Request, Skip}
 use Rattle.rtsp_client.specs.declared.wishes.WatchEnd.TheVariants.{Fault}
@@ -38,50 +39,52 @@ returns-in-Ok-Skip-clause-taken g c = λ h k.
     (first_is first refl is) k refl refl refl
     (c.drop_front.ensures ∙ ap (drop c.in-Ok-Skip.length) c.look.ensures.waiting)
 
-pub returns-in-Err-take_block-clause-stopped : goal.returns-in-Err-take_block-clause-stopped
-returns-in-Err-take_block-clause-stopped g c = λ h k.
+pub returns-in_err-take_block-in-Ok-Block-clause-stopped : goal.returns-in_err-take_block-in-Ok-Block-clause-stopped
+returns-in_err-take_block-in-Ok-Block-clause-stopped g c =
+    let p = err_from_is_err_and c.from_residual.result c.from_residual.ensures.1 in
+    rw (p.1, p.2)
+    (λ h k.
     let first : IsFirst c.args.self.now.input (Ok c.in-Ok-Block.field-0) = c.in-Ok-Block.ensures.first in
     let is : c.in-Ok-Block.field-0 ≡ Block c.in-Ok-Block.channel c.in-Ok-Block.length = search rules in
-    subst (λ (i : List ℕ). HasStopped c.args.wish.now h i c.in-Err-take_block.end
-    (sight (g.K.Link.told c.args.link.now) (g.O.Sink.written c.args.out.now))
-    (sight (g.K.Link.told c.take_block.new.link) (g.O.Sink.written c.take_block.new.out))) c.look.ensures.waiting
+    rw (← c.look.ensures.waiting)
     (stopped-block
     (first_is first c.look.ensures.waiting is)
-    (c.in-Err-take_block.ensures.ended h (keeps-moved k refl refl refl)))
+    (c.in_err-take_block-in-Ok-Block.ensures.ended h (keeps-moved k refl refl refl))))
 
-pub returns-in-Ok-clause-taken : goal.returns-in-Ok-clause-taken
-returns-in-Ok-clause-taken g c = λ h k.
+pub returns-in_ok-take_block-in-Ok-Block-clause-taken : goal.returns-in_ok-take_block-in-Ok-Block-clause-taken
+returns-in_ok-take_block-in-Ok-Block-clause-taken g c = λ h k.
     let first : IsFirst c.args.self.now.input (Ok c.in-Ok-Block.field-0) = c.in-Ok-Block.ensures.first in
     let is : c.in-Ok-Block.field-0 ≡ Block c.in-Ok-Block.channel c.in-Ok-Block.length = search rules in
     subst (λ (i : List ℕ). HasTaken c.args.wish.now h i
-    (record { alloc = c.take_block.new.self.alloc; input = c.drop_front-in-Ok.new.self; replies = c.take_block.new.self.replies; session = c.take_block.new.self.session; watching = c.take_block.new.self.watching })
+    (record { alloc = c.take_block.new.self.alloc; input = c.drop_front-in-Ok-Block.new.self; replies = c.take_block.new.self.replies; session = c.take_block.new.self.session; watching = c.take_block.new.self.watching })
     (sight (g.K.Link.told c.args.link.now) (g.O.Sink.written c.args.out.now))
     (sight (g.K.Link.told c.take_block.new.link) (g.O.Sink.written c.take_block.new.out))) c.look.ensures.waiting
     (taken-block
     (first_is first c.look.ensures.waiting is)
-    (c.in-Ok.ensures.passed h (keeps-moved k refl refl refl)) refl refl refl
-    (c.drop_front-in-Ok.ensures ∙ ap (drop c.in-Ok-Block.length) c.take_block.ensures.input))
+    (c.in_ok-take_block-in-Ok-Block.ensures.passed h (keeps-moved k refl refl refl)) refl refl refl
+    (c.drop_front-in-Ok-Block.ensures ∙ ap (drop c.in-Ok-Block.length) c.take_block.ensures.input))
 
-pub returns-in-Err-take_reply-clause-stopped : goal.returns-in-Err-take_reply-clause-stopped
-returns-in-Err-take_reply-clause-stopped g c = λ h k.
+pub returns-in_err-take_reply-in-Ok-Request-clause-stopped : goal.returns-in_err-take_reply-in-Ok-Request-clause-stopped
+returns-in_err-take_reply-in-Ok-Request-clause-stopped g c =
+    let p = err_from_is_err_and c.from_residual-in_err-take_reply-in-Ok-Request.result c.from_residual-in_err-take_reply-in-Ok-Request.ensures.1 in
+    rw (p.1, p.2)
+    (λ h k.
     let first : IsFirst c.args.self.now.input (Ok c.in-Ok-Request.field-0) = c.in-Ok-Request.ensures.first in
     let is : c.in-Ok-Request.field-0 ≡ Request c.in-Ok-Request.length = search rules in
-    subst (λ (i : List ℕ). HasStopped c.args.wish.now h i c.in-Err-take_reply.end
-    (sight (g.K.Link.told c.args.link.now) (g.O.Sink.written c.args.out.now))
-    (sight (g.K.Link.told c.take_reply.new.link) (g.O.Sink.written c.args.out.now))) c.look.ensures.waiting
+    rw (← c.look.ensures.waiting)
     (stopped-reply
     (first_is first c.look.ensures.waiting is)
-    (c.in-Err-take_reply.ensures.ended h (g.O.Sink.written c.args.out.now) (keeps-moved k refl refl refl)))
+    (c.in_err-take_reply-in-Ok-Request.ensures.ended h (g.O.Sink.written c.args.out.now) (keeps-moved k refl refl refl))))
 
-pub returns-in-Ok-take_reply-clause-taken : goal.returns-in-Ok-take_reply-clause-taken
-returns-in-Ok-take_reply-clause-taken g c = λ h k.
+pub returns-in_ok-take_reply-in-Ok-Request-clause-taken : goal.returns-in_ok-take_reply-in-Ok-Request-clause-taken
+returns-in_ok-take_reply-in-Ok-Request-clause-taken g c = λ h k.
     let first : IsFirst c.args.self.now.input (Ok c.in-Ok-Request.field-0) = c.in-Ok-Request.ensures.first in
     let is : c.in-Ok-Request.field-0 ≡ Request c.in-Ok-Request.length = search rules in
     subst (λ (i : List ℕ). HasTaken c.args.wish.now h i
-    (record { alloc = c.take_reply.new.self.alloc; input = c.drop_front-in-Ok-take_reply.new.self; replies = c.take_reply.new.self.replies; session = c.take_reply.new.self.session; watching = c.take_reply.new.self.watching })
+    (record { alloc = c.take_reply.new.self.alloc; input = c.drop_front-in-Ok-Request.new.self; replies = c.take_reply.new.self.replies; session = c.take_reply.new.self.session; watching = c.take_reply.new.self.watching })
     (sight (g.K.Link.told c.args.link.now) (g.O.Sink.written c.args.out.now))
     (sight (g.K.Link.told c.take_reply.new.link) (g.O.Sink.written c.args.out.now))) c.look.ensures.waiting
     (taken-reply
     (first_is first c.look.ensures.waiting is)
-    (c.in-Ok-take_reply.ensures.passed h (g.O.Sink.written c.args.out.now) (keeps-moved k refl refl refl)) refl refl refl
-    (c.drop_front-in-Ok-take_reply.ensures ∙ ap (drop c.in-Ok-Request.length) c.take_reply.ensures.input))
+    (c.in_ok-take_reply-in-Ok-Request.ensures.passed h (g.O.Sink.written c.args.out.now) (keeps-moved k refl refl refl)) refl refl refl
+    (c.drop_front-in-Ok-Request.ensures ∙ ap (drop c.in-Ok-Request.length) c.take_reply.ensures.input))

@@ -1,4 +1,5 @@
 use Rattle.std.proofs.Common.{◌≡◌, Some, None, take, rules, refl, sym, ap, subst, ◌∙◌}
+use Rattle.std.proofs.lemmas.Result.{err_from_is_err_and}
 use Rattle.vod_base.specs.Links.{IsFrontTold, sends, told_more}
 use Rattle.rtsp_client.specs.declared.wishes.WatchEnd.TheVariants.{Fault, LinkFault, NoMemory}
 use Rattle.rtsp_client.specs.declared.wishes.WatchFault.TheVariants.{BadReply}
@@ -15,35 +16,44 @@ returns-in_default-clause-ended g c = λ h out k.
     k c.requires.first c.requires.good
     (ap (λ i. session_in (take c.args.length i)) (sym c.waiting.ensures) ∙ here) refl
 
-pub returns-in_default-play_request-clause-ended : goal.returns-in_default-play_request-clause-ended
-returns-in_default-play_request-clause-ended g c = λ h out k.
+pub returns-in_err-request-clause-ended : goal.returns-in_err-request-clause-ended
+returns-in_err-request-clause-ended g c =
+    let p = err_from_is_err_and c.from_residual.result c.from_residual.ensures.1 in
+    rw (p.1, p.2)
+    (λ h out k.
     let here : session_in (take c.args.length c.waiting.result.now) ≡ Some c.in-Some.session.now = search rules in
     setup-starved
     k c.requires.first c.requires.good
-    (ap (λ i. session_in (take c.args.length i)) (sym c.waiting.ensures) ∙ here) refl
+    (ap (λ i. session_in (take c.args.length i)) (sym c.waiting.ensures) ∙ here) refl)
 
-pub returns-in_default-copy_of-clause-ended : goal.returns-in_default-copy_of-clause-ended
-returns-in_default-copy_of-clause-ended g c = λ h out k.
+pub returns-in_err-kept-clause-ended : goal.returns-in_err-kept-clause-ended
+returns-in_err-kept-clause-ended g c =
+    let p = err_from_is_err_and c.from_residual-in_err-kept.result c.from_residual-in_err-kept.ensures.1 in
+    rw (p.1, p.2)
+    (λ h out k.
     let here : session_in (take c.args.length c.waiting.result.now) ≡ Some c.in-Some.session.now = search rules in
     setup-starved
     k c.requires.first c.requires.good
-    (ap (λ i. session_in (take c.args.length i)) (sym c.waiting.ensures) ∙ here) refl
+    (ap (λ i. session_in (take c.args.length i)) (sym c.waiting.ensures) ∙ here) refl)
 
-pub returns-then-is_err-clause-ended : goal.returns-then-is_err-clause-ended
-returns-then-is_err-clause-ended g c = λ h out k.
+pub returns-in_err-send-clause-ended : goal.returns-in_err-send-clause-ended
+returns-in_err-send-clause-ended g c =
+    let p = err_from_is_err_and c.from_residual-in_err-send.result c.from_residual-in_err-send.ensures.1 in
+    rw (p.1, p.2)
+    (λ h out k.
     let here : session_in (take c.args.length c.waiting.result.now) ≡ Some c.in-Some.session.now = search rules in
-    let text : c.as_slice.result.now ≡ play_text c.args.wish.now c.in-Some.session.now = c.as_slice.ensures.value ∙ c.in-Ok.ensures in
-    let front : IsFrontTold (g.K.Link.told c.args.link.now) (g.K.Link.told c.send.new.self) c.as_slice.result.now = search rules in
+    let text : c.as_slice.result.now ≡ play_text c.args.wish.now c.in-Some.session.now = c.as_slice.ensures.value ∙ c.in_ok-request.ensures in
+    let front : IsFrontTold (g.K.Link.told c.args.link.now) (g.K.Link.told c.send.new.self) c.as_slice.result.now = c.in_err-send.ensures.front in
     setup-cut
     out k c.requires.first c.requires.good
     (ap (λ i. session_in (take c.args.length i)) (sym c.waiting.ensures) ∙ here) refl
-    (subst (IsFrontTold (g.K.Link.told c.args.link.now) (g.K.Link.told c.send.new.self)) text front)
+    (subst (IsFrontTold (g.K.Link.told c.args.link.now) (g.K.Link.told c.send.new.self)) text front))
 
 pub returns-clause-passed : goal.returns-clause-passed
 returns-clause-passed g c = λ h out k.
     let here : session_in (take c.args.length c.waiting.result.now) ≡ Some c.in-Some.session.now = search rules in
-    let text : c.as_slice.result.now ≡ play_text c.args.wish.now c.in-Some.session.now = c.as_slice.ensures.value ∙ c.in-Ok.ensures in
-    let sent : g.K.Link.told c.send.new.self ≡ told_more (g.K.Link.told c.args.link.now) (sends c.as_slice.result.now) = search rules in
+    let text : c.as_slice.result.now ≡ play_text c.args.wish.now c.in-Some.session.now = c.as_slice.ensures.value ∙ c.in_ok-request.ensures in
+    let sent : g.K.Link.told c.send.new.self ≡ told_more (g.K.Link.told c.args.link.now) (sends c.as_slice.result.now) = c.in_ok-send.ensures.whole in
     setup-done
     (g.K.Link.told c.args.link.now) out k c.requires.first c.requires.good
     (ap (λ i. session_in (take c.args.length i)) (sym c.waiting.ensures) ∙ here) refl (search rules) refl

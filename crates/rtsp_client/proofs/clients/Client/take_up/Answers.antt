@@ -1,4 +1,5 @@
 use Rattle.std.proofs.Common.{rules, refl, arith}
+use Rattle.std.proofs.lemmas.Result.{err_from_is_err_and}
 use Rattle.rtsp_client.specs.Takings.{sight}
 use Rattle.rtsp_client.proofs.Taking.{stopped-on, taken-none, taken-on}
 use Rattle.rtsp_client.proofs.clients.Client.take_up.Goals as goal
@@ -12,27 +13,30 @@ pieces-init g c = (
       k refl refl refl refl,
 )
 
-pub returns-in-Err-clause-stopped : goal.returns-in-Err-clause-stopped
-returns-in-Err-clause-stopped g c = λ h k.
+pub returns-in_err-more-clause-stopped : goal.returns-in_err-more-clause-stopped
+returns-in_err-more-clause-stopped g c =
+    let p = err_from_is_err_and c.from_residual.result c.from_residual.ensures.1 in
+    rw (p.1, p.2)
+    (λ h k.
     stopped-on
-    (c.pieces.invariant.3 h k) (λ i ki. c.in-Err.ensures.stopped i ki)
+    (c.pieces.invariant.3 h k) (λ i ki. c.in_err-more.ensures.stopped i ki))
 
 pub returns-then-not-more-clause-taken : goal.returns-then-not-more-clause-taken
 returns-then-not-more-clause-taken g c = λ h k.
     taken-on
-    (c.pieces.invariant.3 h k) (λ i ki. c.in-Ok.ensures.taken i ki)
+    (c.pieces.invariant.3 h k) (λ i ki. c.in_ok-more.ensures.taken i ki)
 
 pub pieces-preserved : goal.pieces-preserved
 pieces-preserved g c = (
   record {
-    replies = c.in-Ok.ensures.going.replies;
-    few = omega (arith, c.pieces.invariant.0.few, c.in-Ok.ensures.going.few);
+    replies = c.in_ok-more.ensures.going.replies;
+    few = omega (arith, c.pieces.invariant.0.few, c.in_ok-more.ensures.going.few);
   },
   omega (arith, c.pieces.invariant.1, c.take_next.ensures.count),
   omega (arith, c.pieces.invariant.2, c.take_next.ensures.count_out),
   λ h k. taken-on
-      (c.pieces.invariant.3 h k) (λ i ki. c.in-Ok.ensures.taken i ki),
+      (c.pieces.invariant.3 h k) (λ i ki. c.in_ok-more.ensures.taken i ki),
 )
 
 pub returns-then-not-more-clause-idle : goal.returns-then-not-more-clause-idle
-returns-then-not-more-clause-idle g c = c.in-Ok.ensures.idle (search rules)
+returns-then-not-more-clause-idle g c = c.in_ok-more.ensures.idle (search rules)
