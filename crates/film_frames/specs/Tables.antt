@@ -19,7 +19,7 @@ row_piece row unit from size =
 
 -- a frame's packet has 1 to 1,380 bytes of the film, and its flags are those of its place in the
 -- unit
-pub record IsCut (film : List ℕ) (unit : PictureUnit) (its : Packet) : Type 0 where
+pub record IsCutPacket (film : List ℕ) (unit : PictureUnit) (its : Packet) : Type 0 where
   pub some : its.from < its.to
   pub short : its.to ≤ its.from + 1380
   pub within : its.to ≤ length film
@@ -27,7 +27,7 @@ pub record IsCut (film : List ℕ) (unit : PictureUnit) (its : Packet) : Type 0 
 
 abbrev pub IsSound : List ℕ → Piece → Type 0
 IsSound film (Report unit) = Unit {0}
-IsSound film (Frame unit its) = IsCut film unit its
+IsSound film (Frame unit its) = IsCutPacket film unit its
 
 -- a row tells of a piece: the number of its unit, and what is in it
 pub record IsRow (units : List PictureUnit) (row : Row) (piece : Piece) : Type 0 where

@@ -1,3 +1,4 @@
+//! The track of a run of a film's units.
 ghost use Rattle.mpeg_scan.specs.declared.units.Unit.{Unit as PictureUnit};
 ghost use Rattle.mpeg_scan.specs.Rates.{picture_time};
 ghost use Rattle.std.specs.Prelude.{◌≡◌, ◌+◌, ◌-◌, ◌^◌, ◌++◌, ◌<◌, ◌≤◌, ℕ, [], length, take, drop};
@@ -6,17 +7,17 @@ ghost use Rattle.film_frames.specs.Pieces.{frames_in, octets_in, wire_in};
 ghost use Rattle.film_frames.specs.Runs.{HaveEnded, count_ended, frames_before, octets_before};
 ghost use Rattle.film_frames.specs.Runs.{payload, piece_bytes};
 ghost use Rattle.film_frames.specs.Runs.{run_of, run_pieces, pieces_in};
-ghost use Rattle.film_frames.specs.Tables.{IsCut, IsSound};
+ghost use Rattle.film_frames.specs.Tables.{IsCutPacket, IsSound};
 ghost use Rattle.film_frames.specs.declared.pieces.Piece.TheVariants.{Frame, Report};
 ghost use Rattle.film_frames.specs.Tracks.{IsBoundary, IsNext, begin_of, framed_bytes};
 
 use crate::heads::{put_frame_heads, report_block};
-use crate::pieces::{HEADS, Piece, REPORT};
+use crate::pieces::Piece;
 use crate::searches::ends_below;
 use crate::stores::Stored;
 use crate::tracks::{Part, Track};
 use mpeg_scan::{Unit, law_film, picture_units};
-use rtp_pack::{Identity, Packet, packet_head, unit_report};
+use rtp_pack::{FRAME_HEADS, Identity, Packet, REPORT_BYTES, packet_head, unit_report};
 use std::marker::Model;
 
 /// The bytes of a frame that its octets don't count: the interleaved head and the RTP header.
@@ -117,7 +118,7 @@ impl<'a> Frames<'a> {
     {
         let frames = self.frames(piece);
         let reports = piece as u64 - frames;
-        self.place(piece) - UNCOUNTED * frames - REPORT * reports
+        self.place(piece) - UNCOUNTED * frames - REPORT_BYTES * reports
     }
 
     /// A piece of the run.
@@ -157,7 +158,7 @@ impl<'a> Frames<'a> {
     /// Writes the 20 bytes of heads of a frame that stands after so many pieces.
     fn put_heads(&self, number: usize, unit: &Unit, packet: &Packet, head: &mut [u8; 52])
         requires number { number ≤ length (pieces_in self.now) }
-        requires packet { IsCut self.now.film unit.now packet.now }
+        requires packet { IsCutPacket self.now.film unit.now packet.now }
         ensures { (octets : ℕ) → take 20 head.new ++ payload self.now.film packet.now
             ≡ piece_bytes self.now (frames_in (take number (pieces_in self.now))) octets
             (Frame unit.now packet.now) }
@@ -224,16 +225,16 @@ impl Track for Frames<'_> {
                 *head = self.report(number, &unit);
                 Part {
                     head_from: inside as usize,
-                    head_to: REPORT as usize,
+                    head_to: REPORT_BYTES as usize,
                     payload: &[],
                 }
             }
             Piece::Frame(unit, packet) => {
                 self.put_heads(number, &unit, &packet, head);
                 Part {
-                    head_from: inside.min(HEADS) as usize,
-                    head_to: HEADS as usize,
-                    payload: self.payload(&packet, inside.max(HEADS) - HEADS),
+                    head_from: inside.min(FRAME_HEADS) as usize,
+                    head_to: FRAME_HEADS as usize,
+                    payload: self.payload(&packet, inside.max(FRAME_HEADS) - FRAME_HEADS),
                 }
             }
         }

@@ -1,3 +1,4 @@
+//! What holds of every run of a film: its sizes, frames and reports.
 ghost use Rattle.std.specs.Prelude.{◌≡◌, ◌+◌, ◌-◌, ◌^◌, ◌<◌, ◌≤◌, ℕ, length, map, sum, take, drop};
 ghost use Rattle.rtp_pack.specs.Packets.{OfUnit};
 ghost use Rattle.film_frames.specs.Laws.{AreBefore, AreBlocks, AreOnChannels, DoCountOn};

@@ -1,15 +1,10 @@
+//! A report or a frame of a film.
 ghost use Rattle.std.specs.Prelude.{◌≡◌, ℕ, List};
 ghost use Rattle.film_frames.specs.Pieces.{wire_of};
 ghost use Rattle.film_frames.specs.Tables.{IsSound};
 
 use mpeg_scan::Unit;
-use rtp_pack::Packet;
-
-/// The bytes of the heads of a frame: 4 of the interleaved block and 16 of the packet.
-pub(crate) const HEADS: u64 = 20;
-
-/// The bytes of a report with its interleaved head.
-pub(crate) const REPORT: u64 = 52;
+use rtp_pack::{FRAME_HEADS, Packet, REPORT_BYTES};
 
 /// A report or a frame, and the unit that it belongs to.
 #[derive(Clone, Copy, Debug, PartialEq, Eq)]
@@ -26,7 +21,7 @@ pub(crate) fn wire_of(piece: &Piece) -> u64
     ensures { result ≡ wire_of piece.now }
 {
     match piece {
-        Piece::Report(_) => REPORT,
-        Piece::Frame(_, packet) => HEADS + (packet.to - packet.from),
+        Piece::Report(_) => REPORT_BYTES,
+        Piece::Frame(_, packet) => FRAME_HEADS + (packet.to - packet.from),
     }
 }

@@ -1,11 +1,12 @@
+//! What the table keeps of a report or a frame.
 ghost use Rattle.std.specs.Prelude.{◌≡◌, ◌+◌, ◌^◌, ◌<◌, ◌≤◌, ℕ, List, false, slice_get, Some};
 ghost use Rattle.mpeg_scan.specs.declared.units.Unit.{Unit as PictureUnit};
 ghost use Rattle.film_frames.specs.Pieces.{unit_of, wire_of};
 ghost use Rattle.film_frames.specs.Tables.{IsRow, IsSound, row_piece};
 
-use crate::pieces::{HEADS, Piece};
+use crate::pieces::Piece;
 use mpeg_scan::Unit;
-use rtp_pack::Packet;
+use rtp_pack::{FRAME_HEADS, Packet};
 
 /// What is kept of a report or a frame beside its place: 8 bytes.
 #[derive(Clone, Copy, Debug, PartialEq, Eq)]
@@ -58,7 +59,7 @@ impl Row {
         if self.report {
             return Piece::Report(*unit);
         }
-        let to = from + (size - HEADS);
+        let to = from + (size - FRAME_HEADS);
         Piece::Frame(
             *unit,
             Packet {

@@ -1,3 +1,4 @@
+//! Finds the end that a place belongs to.
 ghost use Rattle.std.specs.Prelude.{◌≡◌, ◌+◌, ◌<◌, ◌≤◌, ℕ, List, length, get_or};
 ghost use Rattle.std.specs.List.Sorted.{IsNonDecreasing};
 

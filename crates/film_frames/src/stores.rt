@@ -1,9 +1,11 @@
+//! A film with its name and its table of frames.
 ghost use Rattle.film_frames.specs.Tables.{IsTableOf};
 
-use crate::pieces::{HEADS, Piece, REPORT};
+use crate::pieces::Piece;
 use crate::searches::ends_below;
 use crate::tables::FrameTable;
 use mpeg_scan::Film;
+use rtp_pack::{FRAME_HEADS, REPORT_BYTES};
 use std::alloc::Global;
 use vod_base::NoMemory;
 
@@ -79,7 +81,8 @@ impl Stored {
     {
         let frames = self.frames(number);
         let reports = number as u64 - frames;
-        self.film.units[0].from + (self.place(number) - HEADS * frames - REPORT * reports)
+        self.film.units[0].from
+            + (self.place(number) - FRAME_HEADS * frames - REPORT_BYTES * reports)
     }
 
     /// Where the pieces from one on to another end.

@@ -1,3 +1,4 @@
+//! The table of the reports and frames of a film, which tells their places.
 ghost use Rattle.std.specs.Prelude.{◌≡◌, ◌+◌, ◌-◌, ◌*◌, ◌^◌, ◌<◌, ◌≤◌, ◌++◌, ℕ, List, [], ◌∷◌};
 ghost use Rattle.std.specs.Prelude.{length, take, drop, get_or};
 ghost use Rattle.std.specs.Prelude.{slice_get, Some, IfOk, OnOk};
@@ -96,10 +97,8 @@ impl FrameTable {
         let end = self.places[last] + wire_of(&piece);
         push(&mut self.places, end)?;
         add_report(&mut self.reports, last as u64, &piece)?;
-        match self.rows.push(Row::new(number, &piece)) {
-            Ok(()) => Ok(()),
-            Err(_) => Err(NoMemory),
-        }
+        self.rows.push(Row::new(number, &piece))?;
+        Ok(())
     }
 
     /// Appends the report of a unit that starts a group, after the units before it.
@@ -206,10 +205,8 @@ impl FrameTable {
 fn push(numbers: &mut Vec<u64>, number: u64) -> Result<(), NoMemory>
     ensures { OnOk result (numbers.new.items ≡ numbers.old.items ++ number ∷ []) }
 {
-    match numbers.push(number) {
-        Ok(()) => Ok(()),
-        Err(_) => Err(NoMemory),
-    }
+    numbers.push(number)?;
+    Ok(())
 }
 
 /// How many reports a unit has: one if it starts a group.

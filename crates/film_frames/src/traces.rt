@@ -1,3 +1,4 @@
+//! The track of a trace, whose frames are zero bytes.
 ghost use Rattle.std.specs.Prelude.{◌≡◌, ◌++◌, ◌+◌, ◌-◌, ◌^◌, ◌<◌, ◌≤◌, List, ℕ, length, min};
 ghost use Rattle.std.specs.Prelude.{replicate, slice_range, sum, Ok};
 ghost use Rattle.film_frames.specs.Tracks.{IsBoundaryAfter, IsNext, framed_bytes, zero_frames};

@@ -1,3 +1,4 @@
+//! What a track is: bytes that are sent frame by frame.
 ghost use Rattle.std.specs.Prelude.{◌≡◌, ◌<◌, ◌≤◌, ◌++◌, ℕ, List, length, slice_range};
 ghost use Rattle.film_frames.specs.Tracks.{IsBoundaryAfter, IsNext, framed_bytes};
 

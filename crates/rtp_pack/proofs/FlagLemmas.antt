@@ -3,6 +3,7 @@ use Rattle.std.proofs.Common.{◌≡◌, ℕ, zero, suc, ◌+◌, ◌-◌, ◌*�
 use Rattle.std.proofs.Common.{cond, eqb, leb, ltb, ◌&&◌, ◌||◌, List, [], ◌∷◌, ◌++◌, refl, sym, ap}
 use Rattle.std.proofs.Common.{subst, ◌∙◌, arith}
 use Rattle.std.proofs.lemmas.Bool.{eq-eqb, ne_eqb, le-ltb, leb-true, leb-false, lt-ltb, ltb-true}
+use Rattle.std.proofs.lemmas.Bool.{and_from, and_left, and_right, or_from, or_left, or_right}
 use Rattle.std.proofs.lemmas.Bool.{true≢false}
 use Rattle.mpeg_scan.specs.declared.units.Unit.{Unit as PictureUnit}
 use Rattle.rtp_pack.specs.declared.filling.Filling.{Filling}
@@ -20,33 +21,9 @@ use Rattle.rtp_pack.proofs.CutLemmas.{full_before-within, start-less}
 
 -- ---- tests
 
-pub or-left : (a b : Bool) → a ≡ true → (a || b) ≡ true
-or-left true b e = refl
-or-left false b e = absurd (true≢false (sym e))
-
-pub or-right : (a b : Bool) → b ≡ true → (a || b) ≡ true
-or-right true b e = refl
-or-right false b e = e
-
-or-neither : (a b : Bool) → a ≡ false → b ≡ false → (a || b) ≡ false
-or-neither true b e d = absurd (true≢false e)
-or-neither false b e d = d
-
 or-rest : (a b : Bool) → a ≡ false → (a || b) ≡ b
 or-rest true b e = absurd (true≢false e)
 or-rest false b e = refl
-
-and-first : (a b : Bool) → a ≡ false → (a && b) ≡ false
-and-first true b e = absurd (true≢false e)
-and-first false b e = refl
-
-and-second : (a b : Bool) → b ≡ false → (a && b) ≡ false
-and-second true b e = e
-and-second false b e = refl
-
-and-both : (a b : Bool) → a ≡ true → b ≡ true → (a && b) ≡ true
-and-both true b e d = d
-and-both false b e d = e
 
 later : (a e l m : Bool) → (a || (e && l)) ≡ true → (l ≡ true → m ≡ true) → (a || (e && m)) ≡ true
 later true e l m is more = refl
@@ -58,12 +35,12 @@ later false false l m is more = absurd (true≢false (sym is))
 among-below : (starts : List ℕ) (at to x : ℕ) → AreInOrder at starts to → x < at → is_among x starts ≡ false
 among-below [] at to x order less = refl
 among-below (s ∷ starts) at to x order less =
-    or-neither (eqb x s) (is_among x starts) (ne_eqb x s (λ e. absurd (omega (arith, e, order.0, less)))) (among-below starts (next_place to starts) to x order.1.1 (omega (arith, order.1.0)))
+    or_from (eqb x s) (is_among x starts) (ne_eqb x s (λ e. absurd (omega (arith, e, order.0, less)))) (among-below starts (next_place to starts) to x order.1.1 (omega (arith, order.1.0)))
 
 ends-below : (starts : List ℕ) (at to x : ℕ) → AreInOrder at starts to → x ≤ at → is_among x (ends_to to starts) ≡ false
 ends-below [] at to x order less = refl
 ends-below (s ∷ starts) at to x order less =
-    or-neither (eqb x (next_place to starts)) (is_among x (ends_to to starts)) (ne_eqb x (next_place to starts) (λ e. absurd (omega (arith, e, order.1.0, less))))
+    or_from (eqb x (next_place to starts)) (is_among x (ends_to to starts)) (ne_eqb x (next_place to starts) (λ e. absurd (omega (arith, e, order.1.0, less))))
     (ends-below starts (next_place to starts) to x order.1.1 (omega (arith, order.1.0)))
 
 -- from a place on, all slices are those that are left
@@ -82,12 +59,12 @@ slice-known : {to : ℕ} {all : List ℕ} {s : ℕ} {left : List ℕ} {at : ℕ}
 slice-known {to} {all} {s} {left} {at} agrees order =
     let next = next_place to left in
     record {
-      starts = agrees.starts at (omega arith) ∙ or-left (eqb at s) (is_among at left) (eq-eqb at s (sym order.0));
-      ends = agrees.ends next (omega (arith, order.1.0)) ∙ or-left (eqb next next) (is_among next (ends_to to left)) (eq-eqb next next refl);
+      starts = agrees.starts at (omega arith) ∙ or_left (eqb at s) (is_among at left) (eq-eqb at s (sym order.0));
+      ends = agrees.ends next (omega (arith, order.1.0)) ∙ or_left (eqb next next) (is_among next (ends_to to left)) (eq-eqb next next refl);
       no_start = λ x above below. agrees.starts x (omega (arith, above))
-          ∙ or-neither (eqb x s) (is_among x left) (ne_eqb x s (λ e. absurd (omega (arith, e, order.0, above)))) (among-below left next to x order.1.1 below);
+          ∙ or_from (eqb x s) (is_among x left) (ne_eqb x s (λ e. absurd (omega (arith, e, order.0, above)))) (among-below left next to x order.1.1 below);
       no_end = λ x above below. agrees.ends x above
-          ∙ or-neither (eqb x next) (is_among x (ends_to to left)) (ne_eqb x next (λ e. absurd (omega (arith, e, below)))) (ends-below left next to x order.1.1 (omega (arith, below)));
+          ∙ or_from (eqb x next) (is_among x (ends_to to left)) (ne_eqb x next (λ e. absurd (omega (arith, e, below)))) (ends-below left next to x order.1.1 (omega (arith, below)));
     }
 
 agrees-next : {to : ℕ} {all : List ℕ} {s : ℕ} {left : List ℕ} {at : ℕ} → Agrees to all at (s ∷ left) → AreInOrder at (s ∷ left) to → Agrees to all (next_place to left) left
@@ -120,7 +97,7 @@ closed-right unit all f right =
 -- a piece that lies in a slice but for its first byte at most
 no-begin : {all : List ℕ} {at next : ℕ} (unit : PictureUnit) (x to : ℕ) → Slice unit.to all at next → unit.from < at → at < x → x < next → begins unit all x to ≡ false
 no-begin {all} {at} {next} unit x to slice before above below =
-    or-neither (is_among x all) (eqb x unit.from && ltb unit.head_end to) (slice.no_start x above below) (and-first (eqb x unit.from) (ltb unit.head_end to) (ne_eqb x unit.from (λ e. absurd (omega (arith, e, before, above)))))
+    or_from (is_among x all) (eqb x unit.from && ltb unit.head_end to) (slice.no_start x above below) (and_left (eqb x unit.from) (ltb unit.head_end to) (ne_eqb x unit.from (λ e. absurd (omega (arith, e, before, above)))))
 
 full-pieces : {all : List ℕ} {at next : ℕ} {begin : Bool} (unit : PictureUnit) (start count : ℕ) → Slice unit.to all at next → unit.from < at
     → (0 < count → begins unit all start (start + 1380) ≡ begin) → (0 < count → at < start + 1380) → start + 1380 * count < next
@@ -174,8 +151,8 @@ slice-rest {unit} {all} {f} {rest} false count right full is =
 begins-here : {from at : ℕ} {holds : Holds} (unit : PictureUnit) (all : List ℕ) (x : ℕ) → unit.head_end ≤ at → begins unit all from at ≡ begins_slice holds → (holds ≡ HeadAlone → (from ≡ unit.from) × (at ≡ unit.head_end))
     → (holds ≢ LastFragment) → at < x → begins unit all from x ≡ true
 begins-here {from} {at} {holds = HeadAlone} unit all x after begin alone other above =
-    or-right (is_among from all) (eqb from unit.from && ltb unit.head_end x)
-    (and-both (eqb from unit.from) (ltb unit.head_end x) (eq-eqb from unit.from (alone refl).0) (lt-ltb unit.head_end x (omega (arith, after, above))))
+    or_right (is_among from all) (eqb from unit.from && ltb unit.head_end x)
+    (and_from (eqb from unit.from) (ltb unit.head_end x) (eq-eqb from unit.from (alone refl).0) (lt-ltb unit.head_end x (omega (arith, after, above))))
 begins-here {from} {at} {holds = Slices} unit all x after begin alone other above =
     later (is_among from all) (eqb from unit.from) (ltb unit.head_end at) (ltb unit.head_end x) begin (λ _. lt-ltb unit.head_end x (omega (arith, after, above)))
 begins-here {from} {at} {holds = LastFragment} unit all x after begin alone other above = absurd (other refl)
@@ -189,7 +166,7 @@ not-last from at n LastFragment false e is = true≢false (sym e)
 begins-start : {unit : PictureUnit} {all : List ℕ} {f : Filling} {goes : Bool} (n x : ℕ) → Right unit all f → is_among f.at all ≡ true → goes_in f n ≡ goes → f.at < x → begins unit all (start_of goes f) x ≡ true
 begins-start {unit} {all} {f} {goes = true} n x right here e above =
     begins-here unit all x right.after right.begin right.alone (not-last f.from f.at n f.holds (leb n 1380) e) above
-begins-start {unit} {all} {f} {goes = false} n x right here e above = or-left (is_among f.at all) (eqb f.at unit.from && ltb unit.head_end x) here
+begins-start {unit} {all} {f} {goes = false} n x right here e above = or_left (is_among f.at all) (eqb f.at unit.from && ltb unit.head_end x) here
 
 room-whole : (from at n count : ℕ) (holds : Holds) → goes_in_whole from at holds n ≡ true → from + 1380 * count < at + n → 0 < count → at < from + 1380
 room-whole from at n count HeadAlone e before some = absurd (omega (arith, leb-true (at + n) (from + 1380) e, before, some))
@@ -282,8 +259,8 @@ pub first-right : (unit : PictureUnit) (all : List ℕ) → unit.from < unit.hea
 first-right unit all first order = record {
   first = first;
   after = omega arith;
-  begin = or-neither (is_among unit.from all) (eqb unit.from unit.from && ltb unit.head_end unit.head_end) (among-below all unit.head_end unit.to unit.from order first)
-      (and-second (eqb unit.from unit.from) (ltb unit.head_end unit.head_end) (le-ltb unit.head_end unit.head_end (omega arith)));
+  begin = or_from (is_among unit.from all) (eqb unit.from unit.from && ltb unit.head_end unit.head_end) (among-below all unit.head_end unit.to unit.from order first)
+      (and_right (eqb unit.from unit.from) (ltb unit.head_end unit.head_end) (le-ltb unit.head_end unit.head_end (omega arith)));
   end = ends-below all unit.head_end unit.to unit.head_end order (omega arith);
   alone = λ e. (refl, refl);
   order = omega (arith, first);

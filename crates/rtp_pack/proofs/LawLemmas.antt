@@ -12,7 +12,8 @@ use Rattle.rtp_pack.specs.Cutting.{goes_in_whole, holds_after, start_of}
 use Rattle.rtp_pack.specs.Laws.{ArePieces, AreShortUncut, DoLongEndPieces, IsUncut}
 use Rattle.rtp_pack.specs.Packets.{is_among}
 use Rattle.rtp_pack.proofs.CutLemmas.{not_both}
-use Rattle.rtp_pack.proofs.FlagLemmas.{none-full, or-left, or-right, start-room}
+use Rattle.std.proofs.lemmas.Bool.{or_left, or_right}
+use Rattle.rtp_pack.proofs.FlagLemmas.{none-full, start-room}
 
 -- ---- pieces
 
@@ -116,11 +117,11 @@ short-uncut (n ∷ slices) f cuts order (inr x) =
 
 pub among-full : (x start count : ℕ) (cuts : List ℕ) → is_among x cuts ≡ true → is_among x (full_ends start count ++ cuts) ≡ true
 among-full x start zero cuts is = is
-among-full x start (suc count) cuts is = or-right (eqb x (start + 1380)) (is_among x (full_ends (start + 1380) count ++ cuts)) (among-full x (start + 1380) count cuts is)
+among-full x start (suc count) cuts is = or_right (eqb x (start + 1380)) (is_among x (full_ends (start + 1380) count ++ cuts)) (among-full x (start + 1380) count cuts is)
 
 long-more : (slices : List ℕ) (at cut : ℕ) (cuts : List ℕ) → DoLongEndPieces at slices cuts → DoLongEndPieces at slices (cut ∷ cuts)
 long-more [] at cut cuts ends = tt
-long-more (n ∷ slices) at cut cuts ends = (λ long. or-right (eqb (at + n) cut) (is_among (at + n) cuts) (ends.0 long), long-more slices (at + n) cut cuts ends.1)
+long-more (n ∷ slices) at cut cuts ends = (λ long. or_right (eqb (at + n) cut) (is_among (at + n) cuts) (ends.0 long), long-more slices (at + n) cut cuts ends.1)
 
 long-full : (slices : List ℕ) (at start count : ℕ) (cuts : List ℕ) → DoLongEndPieces at slices cuts → DoLongEndPieces at slices (full_ends start count ++ cuts)
 long-full slices at start zero cuts ends = ends
@@ -135,9 +136,9 @@ goes-not : (f : Filling) (n : ℕ) → f.holds ≡ LastFragment → goes_in f n 
 goes-not f n last = ap (λ (h : Holds). cond (leb n 1380) (goes_in_whole f.from f.at h n) (goes_in_cut f.from f.at h)) last ∙ none-after f.from f.at n (leb n 1380)
 
 fragment-ends : (slices : List ℕ) (f : Filling) (cuts : List ℕ) → f.holds ≡ LastFragment → Cuts f slices cuts → is_among f.at cuts ≡ true
-fragment-ends [] f cuts last e = ap (λ (l : List ℕ). is_among f.at l) e ∙ or-left (eqb f.at f.at) false (eq-eqb f.at f.at refl)
+fragment-ends [] f cuts last e = ap (λ (l : List ℕ). is_among f.at l) e ∙ or_left (eqb f.at f.at) false (eq-eqb f.at f.at refl)
 fragment-ends (n ∷ slices) f cuts last (inl x) = absurd (not_both (goes_in f n) x.0 (goes-not f n last))
-fragment-ends (n ∷ slices) f cuts last (inr x) = ap (λ (l : List ℕ). is_among f.at l) x.1.1.0 ∙ or-left (eqb f.at f.at) (is_among f.at x.1.0) (eq-eqb f.at f.at refl)
+fragment-ends (n ∷ slices) f cuts last (inr x) = ap (λ (l : List ℕ). is_among f.at l) x.1.1.0 ∙ or_left (eqb f.at f.at) (is_among f.at x.1.0) (eq-eqb f.at f.at refl)
 
 leb-not : (n : ℕ) → 1380 < n → leb n 1380 ≡ false
 leb-not n long = elim (cases_Bool (leb n 1380)) [ inl e ↦ absurd (omega (arith, leb-true n 1380 e, long)) | inr e ↦ e ]
@@ -160,6 +161,6 @@ long-ends (n ∷ slices) f cuts (inr x) =
     let P : List ℕ → Type 0 = λ l. DoLongEndPieces f.at (n ∷ slices) l in
     let Q : List ℕ → Type 0 = λ l. DoLongEndPieces f.at (n ∷ slices) (f.at ∷ l) in
     subst P (sym x.1.1.0) (subst Q (sym fills.filled) (
-      λ long. or-right (eqb (f.at + n) f.at) (is_among (f.at + n) (full_ends f.at fills.full ++ fills.rest)) (among-full (f.at + n) f.at fills.full fills.rest (fragment-ends slices g fills.rest (held-last n long) fills.goes_on)),
+      λ long. or_right (eqb (f.at + n) f.at) (is_among (f.at + n) (full_ends f.at fills.full ++ fills.rest)) (among-full (f.at + n) f.at fills.full fills.rest (fragment-ends slices g fills.rest (held-last n long) fills.goes_on)),
       long-more slices (f.at + n) f.at (full_ends f.at fills.full ++ fills.rest) (long-full slices (f.at + n) f.at fills.full fills.rest (long-ends slices g fills.rest fills.goes_on)),
     ))

@@ -15,7 +15,7 @@ use Rattle.rtp_pack.specs.Laws.{ArePieces, AreShortUncut, DoLongEndPieces, IsUnc
 use Rattle.rtp_pack.specs.Packets.{is_among, packets_from}
 use Rattle.rtp_pack.specs.Rules.{HaveBytes, IsCutPlace, MayAllEnd, MayEnd, MeetsRules, SliceAt}
 use Rattle.rtp_pack.proofs.CutLemmas.{AreSome, ends, not_both, packets-cut}
-use Rattle.rtp_pack.proofs.FlagLemmas.{or-right}
+use Rattle.std.proofs.lemmas.Bool.{or_right}
 use Rattle.rtp_pack.proofs.LawLemmas.{among-full, cuts-from, head-uncut, long-ends, pieces-cover}
 use Rattle.rtp_pack.proofs.LawLemmas.{short-uncut}
 
@@ -163,7 +163,7 @@ begin-cut (n ∷ slices) f cuts (inr x) {place} {length} (inr later) long goes =
     let fills = x.1.1.1 in
     let g = filling_after f n (f.at + 1380 * fills.full) in
     ap (λ (l : List ℕ). is_among place l) x.1.1.0
-    ∙ or-right (eqb place f.at) (is_among place x.1.0) (ap (λ (l : List ℕ). is_among place l) fills.filled ∙ among-full place f.at fills.full fills.rest (begin-cut slices g fills.rest fills.goes_on later long (λ _. long-not g length long (held-is n))))
+    ∙ or_right (eqb place f.at) (is_among place x.1.0) (ap (λ (l : List ℕ). is_among place l) fills.filled ∙ among-full place f.at fills.full fills.rest (begin-cut slices g fills.rest fills.goes_on later long (λ _. long-not g length long (held-is n))))
 
 end-by : (slices : List ℕ) (at : ℕ) (cuts : List ℕ) → DoLongEndPieces at slices cuts → (start : ℕ) {length : ℕ} → SliceAt at slices start length → 1380 < length → is_among (start + length) cuts ≡ true
 end-by [] at cuts ends_ start is long = absurd is

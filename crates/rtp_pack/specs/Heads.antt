@@ -4,9 +4,8 @@ use Rattle.std.specs.Prelude.{ℕ, ◌+◌, ◌*◌, ◌/◌, ◌%◌, ◌^◌, 
 use Rattle.std.specs.Prelude.{if◌then◌else◌, List, ◌∷◌, ◌++◌, drop, length, slice_index, Result, Ok}
 use Rattle.std.specs.Prelude.{Err}
 use Rattle.byteorder.specs.Endian.{big_bytes, big_number}
-use Rattle.mpeg_scan.specs.declared.units.Kind.{Kind}
-use Rattle.mpeg_scan.specs.declared.units.Kind.TheVariants.{I, P, B, D}
 use Rattle.mpeg_scan.specs.declared.units.Unit.{Unit as PictureUnit}
+use Rattle.mpeg_scan.specs.Standard.{type_number}
 use Rattle.rtp_pack.specs.declared.heads.Head.{Head}
 use Rattle.rtp_pack.specs.declared.heads.HeadFault.{HeadFault}
 use Rattle.rtp_pack.specs.declared.heads.HeadFault.TheVariants.{Short, NotRtp, NotVideo}
@@ -41,13 +40,6 @@ head_of bytes =
     else (if not (slice_index bytes 0 == 0x80) then Err NotRtp
     else (if not (slice_index bytes 1 % 128 == 32) then Err NotVideo else Ok (head_at bytes)))
 
--- picture_coding_type (ISO/IEC 11172-2, 2.4.3.4)
-abbrev pub coding_type : Kind → ℕ
-coding_type I = 1
-coding_type P = 2
-coding_type B = 3
-coding_type D = 4
-
 -- the video header of a packet as a number: five zero bits and T 0; TR, 10 bits; AN and N 0; S, B
 -- and E; P, 3 bits; then FBV, BFC, FFV and FFC, 8 bits
 abbrev pub video_word : PictureUnit → Packet → ℕ
@@ -56,7 +48,7 @@ video_word unit packet =
     + bit packet.sequence_header * 2 ^ 13
     + bit packet.begin * 2 ^ 12
     + bit packet.end * 2 ^ 11
-    + coding_type unit.kind * 2 ^ 8
+    + type_number unit.kind * 2 ^ 8
     + unit.vectors
 
 -- the timestamp of a unit on a clock of 90,000 Hz, where a picture takes so many 1/360,000 seconds;

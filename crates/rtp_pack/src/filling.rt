@@ -1,3 +1,4 @@
+//! The payload that is filled while a unit is cut, and whether a slice goes into it.
 ghost use Rattle.std.specs.Prelude.{◌≡◌, ◌+◌, ◌*◌, ◌<◌, ◌≤◌};
 ghost use Rattle.rtp_pack.specs.Cutting.{full_before, goes_in, holds_after};
 

@@ -1,11 +1,12 @@
+//! The RTP header and the video header of a packet, written and read.
 ghost use Rattle.std.specs.Prelude.{◌≡◌, ◌+◌, ◌%◌, ◌^◌, ◌<◌};
-ghost use Rattle.rtp_pack.specs.Heads.{coding_type, head_bytes, head_of, packet_head};
+ghost use Rattle.rtp_pack.specs.Heads.{head_bytes, head_of, packet_head};
 ghost use Rattle.rtp_pack.specs.Heads.{unit_timestamp, video_word};
 
 use crate::payloads::Packet;
 use crate::reports::Identity;
 use byteorder::{BigEndian, ByteOrder};
-use mpeg_scan::{Kind, Unit};
+use mpeg_scan::Unit;
 use std::error::Error;
 use std::fmt;
 
@@ -110,7 +111,7 @@ pub fn video_header(unit: &Unit, packet: &Packet) -> u32
         + u32::from(packet.sequence_header) * 0x2000
         + u32::from(packet.begin) * 0x1000
         + u32::from(packet.end) * 0x800
-        + coding_type(unit.kind) * 0x100
+        + u32::from(unit.kind.code()) * 0x100
         + u32::from(unit.vectors)
 }
 
@@ -151,17 +152,5 @@ pub fn packet_head(
         timestamp: media_timestamp(identity, picture_time, unit),
         ssrc: identity.ssrc,
         video: video_header(unit, packet),
-    }
-}
-
-/// picture_coding_type (ISO/IEC 11172-2, 2.4.3.4).
-fn coding_type(kind: Kind) -> u32
-    ensures { result ≡ coding_type kind }
-{
-    match kind {
-        Kind::I => 1,
-        Kind::P => 2,
-        Kind::B => 3,
-        Kind::D => 4,
     }
 }

@@ -1,3 +1,4 @@
+//! What holds of every cutting, of the headers and of the times in them.
 ghost use Rattle.std.specs.Prelude.{◌≡◌, ◌+◌, ◌*◌, ◌%◌, ◌^◌, ◌<◌, ◌≤◌, ◌++◌, ℕ, List, length, sum};
 ghost use Rattle.std.specs.Prelude.{Ok};
 ghost use Rattle.mpeg_scan.specs.declared.units.Unit.{Unit as PictureUnit};

@@ -19,8 +19,8 @@ pub use laws::{
     law_report_fields, law_rtp_header, law_rules, law_unit_laid, law_video_header,
 };
 pub use payloads::{Packet, packets, refill_packets};
-pub use reports::{Identity, Report, unit_report, write_report};
-pub use sizes::UnitSize;
+pub use reports::{Identity, REPORT_BYTES, Report, unit_report, write_report};
+pub use sizes::{FRAME_HEADS, UnitSize};
 
 #[cfg(test)]
 mod tests;

@@ -1,3 +1,4 @@
+//! Cuts a unit into packets.
 ghost use Rattle.std.specs.Prelude.{◌≡◌, ◌+◌, ◌-◌, ◌*◌, ◌<◌, ◌≤◌, ◌++◌, [], ◌∷◌, true, drop};
 ghost use Rattle.std.specs.Prelude.{length, IfOk, OnOk};
 ghost use Rattle.rtp_pack.specs.Cutting.{full_before, goes_in, last_start, next_filling, start_of};
@@ -60,10 +61,8 @@ fn packet(unit: &Unit, from: u64, to: u64, begin: bool, end: bool) -> Packet
 fn put(packets: &mut Vec<Packet>, packet: Packet) -> Result<(), NoMemory>
     ensures { OnOk result (packets.new.items ≡ packets.old.items ++ packet ∷ []) }
 {
-    match packets.push(packet) {
-        Ok(()) => Ok(()),
-        Err(_) => Err(NoMemory),
-    }
+    packets.push(packet)?;
+    Ok(())
 }
 
 /// Appends the packet of a piece that ends before a slice or with the unit.

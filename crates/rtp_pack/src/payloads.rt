@@ -1,3 +1,4 @@
+//! A packet, and the packets of a unit of a film.
 ghost use Rattle.std.specs.Prelude.{◌≡◌, ◌+◌, ◌-◌, ◌*◌, ◌<◌, ◌≤◌, length, IfOk, OnOk};
 ghost use Rattle.rtp_pack.specs.Packets.{ArePackets, DoCover, OfUnit, frames_size, unit_packets};
 ghost use Rattle.rtp_pack.specs.Sizes.{unit_size};

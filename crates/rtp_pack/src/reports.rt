@@ -1,3 +1,4 @@
+//! RTCP sender reports.
 ghost use Rattle.std.specs.Prelude.{◌≡◌};
 ghost use Rattle.rtp_pack.specs.Reports.{report_bytes, unit_report, unit_time};
 
@@ -38,6 +39,9 @@ pub struct Report {
     /// The number of payload octets sent before it.
     pub octets: u32,
 }
+
+/// The bytes of a report with its interleaved head of 4.
+pub const REPORT_BYTES: u64 = 52;
 
 /// The 48 bytes of a sender report without report blocks and a source description of the item CNAME
 /// `vodserve`, big-endian (RFC 3550 sections 6.4.1 and 6.5).

@@ -1,3 +1,4 @@
+//! The size of a unit's frames, counted while its slices come in.
 ghost use Rattle.std.specs.Prelude.{◌≡◌, ◌+◌, ◌*◌, ◌^◌, ◌≤◌, []};
 ghost use Rattle.rtp_pack.specs.Sizes.{HasSlice, IsSize, measure_from_head, bytes_of, frames_of};
 ghost use Rattle.rtp_pack.specs.Sizes.{measure_of};
@@ -27,7 +28,7 @@ impl Model for UnitSize {
 }
 
 /// The bytes of the heads of a frame: 4 of the interleaved block and 16 of the packet.
-const HEADS: u64 = 20;
+pub const FRAME_HEADS: u64 = 20;
 
 impl UnitSize {
     /// Begins a unit by the length of its head.
@@ -77,6 +78,6 @@ impl UnitSize {
         ensures bound { result + 52 ≤ 2 * bytes_of self + 112 }
         ensures frames { IsSize self result }
     {
-        self.filling.at + HEADS * (self.pieces + 1)
+        self.filling.at + FRAME_HEADS * (self.pieces + 1)
     }
 }
