@@ -4,19 +4,19 @@ use Rattle.std.specs.Prelude.{option_map}
 use Rattle.std.proofs.lemmas.Bool.{cases_lt, eqb-true, eq-eqb, leb-true, le-leb, ltb-true, lt-ltb, and_parts, and_from, and_cases, not_from_false, false≢true, true≢false}
 use Rattle.mpeg_scan.specs.declared.codes.Code.{Code}
 use Rattle.mpeg_scan.specs.declared.faults.FilmFault.{FilmFault}
-use Rattle.mpeg_scan.specs.declared.faults.FilmFault.TheVariants.{NoSequence, SystemCode, Mpeg2, PictureWithoutSlices, HeadTooLong, GroupTooLong, TooLong, HeadWithoutPicture}
+use Rattle.mpeg_scan.specs.declared.faults.FilmFault.TheVariants.{NoSequence, PictureWithoutSlices, HeadTooLong, GroupTooLong, TooLong, HeadWithoutPicture}
 use Rattle.mpeg_scan.specs.declared.tallies.Header.{Header}
 use Rattle.mpeg_scan.specs.Words.{before_group_of, is_head, is_none_yet, is_slice, picture_of, pictures_of, slices_of, tally_of, unit_of}
 use Rattle.mpeg_scan.specs.Faults.{code_fault, count_fault, fault_at, first_fault, first_slice_fault, head_fault, kind_fault, latest_fault, left_without_slices, first_refusal, second_fault}
 use Rattle.mpeg_scan.specs.Places.{HasCode}
-use Rattle.mpeg_scan.specs.Refusals.{BeginsUnit, CodeRefusal, CountRefusal, HasPictures, HeaderRefusal, IsExtension, IsItsPicture, IsLongFilm, IsLongGroup, IsLongHead, IsOpenHead, IsPicture, IsSystemCode, KindRefusal, LacksPicture, LacksSequence, LacksSlices, Otherwise, SecondRefusal, SliceRefusal}
+use Rattle.mpeg_scan.specs.Refusals.{BeginsUnit, CodeRefusal, CountRefusal, HasPictures, HeaderRefusal, IsExtension, IsItsPicture, IsLongFilm, IsLongGroup, IsLongHead, IsOpenHead, IsSystemCode, KindRefusal, LacksPicture, LacksSequence, LacksSlices, Otherwise, SecondRefusal, SliceRefusal}
 use Rattle.mpeg_scan.specs.Standard.{IsFirstCode, IsHeadKind, IsSliceKind, StandsThere}
 use Rattle.mpeg_scan.proofs.TextLemmas.{TextsAre}
 use Rattle.mpeg_scan.proofs.TileLemmas.{Spaced}
 use Rattle.std.proofs.lemmas.Option.{same_Some}
 use Rattle.mpeg_scan.proofs.DecideLemmas.{Decides, both, both-cond, decide, decide-if, decide-with, neither, no-more, none-of, only-second}
 use Rattle.mpeg_scan.proofs.BeforeLemmas.{Knows, PictureThere, head-kind, no-head, no-slice, not-open, one-head, one-picture, open-head, picture-there, slice-kind, slice-there, has-new, new-below}
-use Rattle.mpeg_scan.proofs.SinceLemmas.{codes-from, codes-since, group-tests, is_group, is_nothing, is_picture, most-since, picture-tests, since-all, since-group}
+use Rattle.mpeg_scan.proofs.SinceLemmas.{codes-from, codes-since, group-tests, most-since, picture-tests, since-all, since-group}
 use Rattle.mpeg_scan.proofs.HeaderLemmas.{Same, latest-decides}
 
 -- a code of a kind stands at a place, and the codes before it are these

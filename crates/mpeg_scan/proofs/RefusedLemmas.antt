@@ -1,16 +1,16 @@
 -- A film is refused exactly where the standard's words say, and for what they say.
-use Rattle.std.proofs.Common.{ℕ, Bool, true, false, cond, eqb, ltb, ◌+◌, ◌^◌, ◌<◌, ◌≤◌, ◌≡◌, ◌↔◌, List, [], ◌∷◌, Option, Some, None, length, sym, ◌∙◌, ap, refl, subst, arith}
+use Rattle.std.proofs.Common.{ℕ, Bool, true, false, cond, ltb, ◌+◌, ◌^◌, ◌<◌, ◌≤◌, ◌≡◌, ◌↔◌, List, [], ◌∷◌, Option, Some, None, length, sym, ◌∙◌, ap, refl, subst, arith}
 use Rattle.std.proofs.lemmas.Bool.{eqb-true, eq-eqb, ltb-true, ltb-false, lt-ltb}
 use Rattle.mpeg_scan.specs.declared.codes.Code.{Code}
 use Rattle.mpeg_scan.specs.declared.faults.FilmFault.{FilmFault}
-use Rattle.mpeg_scan.specs.declared.faults.FilmFault.TheVariants.{Empty, NoSequence, TooLong, HeadWithoutPicture}
+use Rattle.mpeg_scan.specs.declared.faults.FilmFault.TheVariants.{NoSequence, HeadWithoutPicture}
 use Rattle.mpeg_scan.specs.declared.tallies.Header.{Header}
 use Rattle.mpeg_scan.specs.Codes.{read, codes_of, latest_prefix}
 use Rattle.mpeg_scan.specs.Words.{picture_of, slices_of, tally_of, unit_of}
 use Rattle.mpeg_scan.specs.Faults.{end_fault, fault_at, first_fault, last_fault, latest_fault, left_without_slices, open_fault, first_refusal, refusal_of}
 use Rattle.mpeg_scan.specs.Films.{refusal}
 use Rattle.mpeg_scan.specs.Places.{StandsAt}
-use Rattle.mpeg_scan.specs.Refusals.{CodeRefusal, EndRefusal, FirstRefusal, HeaderRefusal, IsEmptyFilm, IsLargeFilm, IsOpenHead, IsRefusedFor, LacksCodes, LacksPicture, LacksSlices, Otherwise}
+use Rattle.mpeg_scan.specs.Refusals.{CodeRefusal, EndRefusal, FirstRefusal, HeaderRefusal, IsOpenHead, IsRefusedFor, LacksCodes, LacksPicture, LacksSlices, Otherwise}
 use Rattle.mpeg_scan.specs.Standard.{AnyKind, StandsThere}
 use Rattle.mpeg_scan.proofs.FilmLemmas.{length-read}
 use Rattle.mpeg_scan.proofs.StepLemmas.{accepted-older, otherwise-second}

@@ -9,8 +9,8 @@ use Rattle.mpeg_scan.specs.declared.tallies.Header.{Header}
 use Rattle.mpeg_scan.specs.declared.units.Kind.{Kind}
 use Rattle.mpeg_scan.specs.declared.units.Unit.{Unit as PictureUnit}
 use Rattle.mpeg_scan.specs.Codes.{read, codes_of}
-use Rattle.mpeg_scan.specs.Words.{all_slices_of, backward_of, forward_of, has_sequence, head_end_of, header_of, is_head, is_slice, picture_of, slices_of, starts_group, tally_of, temporal_of, type_of, unit_of, rate_of, vectors_of}
-use Rattle.mpeg_scan.specs.Faults.{end_fault, first_fault, header_fault, last_fault, latest_fault, picture_fault, rate_fault}
+use Rattle.mpeg_scan.specs.Words.{all_slices_of, has_sequence, head_end_of, header_of, is_head, is_slice, picture_of, slices_of, starts_group, tally_of, temporal_of, type_of, unit_of, rate_of, vectors_of}
+use Rattle.mpeg_scan.specs.Faults.{end_fault, first_fault, header_fault, last_fault, latest_fault, rate_fault}
 use Rattle.mpeg_scan.specs.Calls.{Call, head_call, slice_call, unit_call, calls_at, kind_of, no_header, calls_of, unit_at, unit_end}
 use Rattle.mpeg_scan.specs.Films.{IsFilm, units_in}
 use Rattle.mpeg_scan.specs.Places.{HasCode, StandsAt}
