@@ -1,3 +1,4 @@
+-- What contracts see of a book, and what its fields keep.
 use Rattle.std.specs.Prelude.{vec_capacity}
 use Rattle.admission.specs.Books.{Journal}
 use Rattle.admission.specs.Kept.{IsKept}

@@ -1,3 +1,5 @@
+//! Plays, halts and looks of a book, by rows; and drawn ones, against a plain calendar.
+
 ghost use Rattle.std.specs.Prelude.{◌≡◌, ◌≤◌, ◌↔◌, ℕ, List, Some, IsTrue};
 ghost use Rattle.plan_cert.specs.declared.Segment.{Segment};
 ghost use Rattle.plan_cert.specs.Slots.{total_bytes};
@@ -49,7 +51,7 @@ pub(crate) fn book_of(
     Ok(Book::new(alloc, Profile::new(steps), limit)?)
 }
 
-// Whether this entry admitted a play whose plan has at least `keep` bytes.
+/// Whether this entry admitted a play whose plan has at least `keep` bytes.
 fn admits(entry: &Entry, keep: u64) -> bool
     ensures { IsTrue result → (start : ℕ) × ((segments : List Segment) ×
         ((play_admitted entry.now.command entry.now.answer ≡ Some (whole_play start segments))
@@ -64,7 +66,7 @@ fn admits(entry: &Entry, keep: u64) -> bool
     keep <= plan.bytes()
 }
 
-// Whether this command halts a play.
+/// Whether this command halts a play.
 fn halts(number: u64, command: &Command) -> bool
     ensures { IsTrue result ↔ Halts number command.now }
 {
@@ -74,7 +76,7 @@ fn halts(number: u64, command: &Command) -> bool
     }
 }
 
-// Whether a play is open and its plan has at least `keep` bytes, by the entries alone.
+/// Whether a play is open and its plan has at least `keep` bytes, by the entries alone.
 pub(crate) fn may_halt(book: &Book, number: u64, keep: u64) -> bool
     ensures { IsTrue result → CanHalt (state_after book.now.entries) number keep }
 {
@@ -90,7 +92,7 @@ pub(crate) fn may_halt(book: &Book, number: u64, keep: u64) -> bool
     true
 }
 
-// What is asked of a book in the tables; each play is of the plan 2, 2, 3.
+/// What is asked of a book in the tables; each play is of the plan 2, 2, 3.
 #[derive(Clone, Copy)]
 enum Ask {
     Play { maker: u32, slot: u64 },
@@ -177,7 +179,7 @@ fn full(entries: u64, live: u64) -> Result<Noted, Full> {
     Err(Full { entries, live })
 }
 
-// The bytes booked so many slots from now.
+/// The bytes booked so many slots from now.
 pub(crate) fn booked_ahead(rt: &impl Abort, book: &Book, ahead: u64) -> u64 {
     let calendar = book.calendar();
     let slot = calendar.now().saturating_add(ahead);
@@ -185,7 +187,7 @@ pub(crate) fn booked_ahead(rt: &impl Abort, book: &Book, ahead: u64) -> u64 {
     calendar.booked_bytes(slot)
 }
 
-// Asks in turn, and compares each answer; then what is booked from now on.
+/// Asks in turn, and compares each answer; then what is booked from now on.
 fn run(
     rt: &impl Abort,
     alloc: Global,
@@ -207,7 +209,7 @@ fn run(
     Ok(())
 }
 
-// A capacity of 5 bytes a slot.
+/// A capacity of 5 bytes a slot.
 #[test]
 fn admits_and_halts(rt: HostRuntime) -> Result<(), Fail> {
     let mut book = book_of(&rt, rt.alloc(), &[(0, 5)], 64)?;
@@ -227,7 +229,7 @@ fn admits_and_halts(rt: HostRuntime) -> Result<(), Fail> {
     Ok(())
 }
 
-// Room for two entries: a play takes one, and one for its halt.
+/// Room for two entries: a play takes one, and one for its halt.
 #[test]
 fn is_full(rt: HostRuntime) -> Result<(), Fail> {
     let mut book = book_of(&rt, rt.alloc(), &[(0, 100)], 2)?;
@@ -241,7 +243,7 @@ fn is_full(rt: HostRuntime) -> Result<(), Fail> {
     run(&rt, rt.alloc(), &mut book, rows.as_slice(), &[0, 0, 0, 0])
 }
 
-// A look tells and leaves now; a slot above 2^62 is taken as 2^62.
+/// A look tells and leaves now; a slot above 2^62 is taken as 2^62.
 #[test]
 fn looks(rt: HostRuntime) -> Result<(), Fail> {
     let mut book = book_of(&rt, rt.alloc(), &[(0, 5)], 64)?;
@@ -257,7 +259,7 @@ fn looks(rt: HostRuntime) -> Result<(), Fail> {
     run(&rt, rt.alloc(), &mut book, rows.as_slice(), &booked)
 }
 
-// A capacity of 5 bytes, and of 3 from slot 3 on.
+/// A capacity of 5 bytes, and of 3 from slot 3 on.
 #[test]
 fn keeps_each_capacity(rt: HostRuntime) -> Result<(), Fail> {
     let mut book = book_of(&rt, rt.alloc(), &[(0, 5), (3, 3)], 64)?;
@@ -269,7 +271,7 @@ fn keeps_each_capacity(rt: HostRuntime) -> Result<(), Fail> {
     run(&rt, rt.alloc(), &mut book, rows.as_slice(), &[2, 2, 3, 0])
 }
 
-// The laws are calls.
+/// The laws are calls.
 #[test]
 fn states_laws(_rt: HostRuntime) {
     law_bookings();

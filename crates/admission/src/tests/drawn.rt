@@ -30,7 +30,7 @@ fn count(counts: &mut Counts, told: Result<Noted, Full>) {
     *place = place.saturating_add(1);
 }
 
-// Numbers drawn by a linear congruence.
+/// Numbers drawn by a linear congruence.
 #[derive(Drop)]
 struct Draws(u64);
 
@@ -50,7 +50,7 @@ fn below(draws: &mut Draws, end: u32) -> u64 {
     u64::from(draws.draw(end))
 }
 
-// 1 to 3 segments of 1 to 6 slots and up to 9 bytes a slot.
+/// 1 to 3 segments of 1 to 6 slots and up to 9 bytes a slot.
 fn drawn_pairs(alloc: Global, draws: &mut Draws) -> Result<Vec<(u64, u64)>, Fail> {
     let mut pairs = Vec::new(alloc);
     for _ in 0..below(draws, 3).saturating_add(1) {
@@ -60,7 +60,7 @@ fn drawn_pairs(alloc: Global, draws: &mut Draws) -> Result<Vec<(u64, u64)>, Fail
     Ok(pairs)
 }
 
-// Mostly a slot soon after now, at times one that is past.
+/// Mostly a slot soon after now, at times one that is past.
 fn drawn_slot(draws: &mut Draws, now: u64) -> u64 {
     let ahead = now.saturating_add(below(draws, 5));
     ahead.saturating_sub(below(draws, 4))
@@ -88,7 +88,7 @@ fn play(
     Ok(told)
 }
 
-// Halts a drawn play, if it is open.
+/// Halts a drawn play, if it is open.
 fn halt(
     rt: &impl Abort,
     book: &mut Book,
@@ -125,8 +125,8 @@ fn look(
     told
 }
 
-// Draws events, and compares every answer; then what is booked from now on, and the number of
-// entries.
+/// Draws events, and compares every answer; then what is booked from now on, and the number of
+/// entries.
 fn follow(
     rt: &impl Abort,
     alloc: Global,

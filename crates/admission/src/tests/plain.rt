@@ -41,7 +41,7 @@ impl Played {
     }
 }
 
-// The bytes that segments have sent through each slot.
+/// The bytes that segments have sent through each slot.
 fn sums_of(alloc: Global, pairs: &[(u64, u64)]) -> Result<Vec<u64>, AllocError> {
     let mut sums = Vec::new(alloc);
     let mut before = 0_u64;
