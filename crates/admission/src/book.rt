@@ -44,7 +44,7 @@ impl Model for Book {
 pub const MAX_ENTRIES: u64 = 1_048_576;
 
 /// The latest slot; a later one is taken as this one.
-pub const LATEST_SLOT: u64 = 1 << 62;
+pub const LATEST_SLOT: u64 = vod_base::LATEST_SLOT;
 
 impl Book {
     ghost use Rattle.admission.specs.Books.{IsFull, IsNoted, places_taken};
