@@ -8,7 +8,7 @@ use crate::pictures::write_picture;
 use std::alloc::{AllocError, Global};
 use vod_base::NoMemory;
 
-// A sequence end code.
+/// A sequence end code.
 const SEQUENCE_END: [u8; 4] = [0, 0, 1, 0xb7];
 
 /// The film of a number: MPEG-1 video (ISO/IEC 11172-2) of 25 pictures a second, twelve pictures to
@@ -23,7 +23,7 @@ pub fn make_film(alloc: Global, number: u64, pictures: u32) -> Result<Vec<u8>, N
     whole_film(alloc, number, pictures).map_err(|_| NoMemory)
 }
 
-// The pictures of a film, without the end of the sequence.
+/// The pictures of a film, without the end of the sequence.
 fn make_pictures(alloc: Global, number: u64, pictures: u32) -> Result<Vec<u8>, AllocError>
     ensures { IfOk result (λ film. film.items ≡ pictures_of (words_of number) pictures) }
 {
@@ -35,7 +35,7 @@ fn make_pictures(alloc: Global, number: u64, pictures: u32) -> Result<Vec<u8>, A
     Ok(film)
 }
 
-// A film, with the end of the sequence.
+/// A film, with the end of the sequence.
 fn whole_film(alloc: Global, number: u64, pictures: u32) -> Result<Vec<u8>, AllocError>
     ensures { IfOk result (λ film. film.items ≡ film_of (words_of number) pictures) }
 {

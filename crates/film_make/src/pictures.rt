@@ -13,11 +13,11 @@ use std::alloc::AllocError;
 /// Pictures of a group.
 pub const GROUP: u32 = 12;
 
-// Slices of a picture.
+/// Slices of a picture.
 const SLICES: u8 = 4;
 
-// A sequence header: 352 by 288, square samples, 25 pictures a second, a variable bit rate and a
-// buffer of 20; and the header of a closed group at time 0.
+/// A sequence header: 352 by 288, square samples, 25 pictures a second, a variable bit rate and a
+/// buffer of 20; and the header of a closed group at time 0.
 const SEQUENCE_AND_GROUP: [u8; 20] = [
     0, 0, 1, 0xb3, 0x16, 0x01, 0x20, 0x13, 0xff, 0xff, 0xe0, 0xa0, 0, 0, 1, 0xb8, 0x00, 0x08, 0x00,
     0x40,
@@ -26,13 +26,16 @@ const SEQUENCE_AND_GROUP: [u8; 20] = [
 /// How a picture is coded (ISO/IEC 11172-2, picture_coding_type).
 #[derive(Clone, Copy)]
 pub enum CodingType {
+    /// By itself.
     Intra,
+    /// By a picture before it.
     Predicted,
+    /// By pictures before and after it.
     Bidirectional,
 }
 
 impl CodingType {
-    // The type of a picture of a group, by its place in the stream.
+    /// The type of a picture of a group, by its place in the stream.
     #[tactic(auto, unfolding(crate::specs::Film::coding_type))]
     fn at(place: u32) -> CodingType
         requires { place < 12 }
@@ -47,7 +50,7 @@ impl CodingType {
         }
     }
 
-    // The least length of a slice's body.
+    /// The least length of a slice's body.
     fn least_body(self) -> u32
         ensures value { result ≡ least_body self }
         ensures bound { result ≤ 300 }
@@ -59,7 +62,7 @@ impl CodingType {
         }
     }
 
-    // How many lengths a slice's body can have, from the least on.
+    /// How many lengths a slice's body can have, from the least on.
     fn body_lengths(self) -> u32
         ensures value { result ≡ body_lengths self }
         ensures some { 1 ≤ result }
@@ -73,8 +76,8 @@ impl CodingType {
     }
 }
 
-#[tactic(auto, using(std::proofs::lemmas::List::append_assoc), unfolding(crate::specs::Film::picture_of))]
 /// Appends picture `index` of a film, whose draws are the next ones.
+#[tactic(auto, using(std::proofs::lemmas::List::append_assoc), unfolding(crate::specs::Film::picture_of))]
 pub fn write_picture(draws: &mut Draws, index: u32, out: &mut Vec<u8>) -> Result<(), AllocError>
     ensures bytes { OnOk result (out.new.items ≡
         out.old.items ++ picture_of (words_left draws.old) index) }
@@ -87,7 +90,7 @@ pub fn write_picture(draws: &mut Draws, index: u32, out: &mut Vec<u8>) -> Result
     write_slices(draws, CodingType::at(place), out)
 }
 
-// The place in the order of showing of a picture of a group.
+/// The place in the order of showing of a picture of a group.
 #[tactic(auto, unfolding(crate::specs::Film::temporal_reference))]
 fn temporal_reference_at(place: u32) -> u32
     requires { place < 12 }
@@ -102,7 +105,7 @@ fn temporal_reference_at(place: u32) -> u32
     }
 }
 
-// Appends the fields of a picture header that follow its start code.
+/// Appends the fields of a picture header that follow its start code.
 fn write_fields(kind: CodingType, shown: u32, out: &mut Vec<u8>) -> Result<(), AllocError>
     requires { shown < 1024 }
     ensures { OnOk result (out.new.items ≡ out.old.items ++ in_bytes (picture_fields kind shown)) }
@@ -124,7 +127,7 @@ fn write_fields(kind: CodingType, shown: u32, out: &mut Vec<u8>) -> Result<(), A
     }
 }
 
-// Appends the header of a picture of a group.
+/// Appends the header of a picture of a group.
 #[tactic(auto, using(std::proofs::lemmas::List::append_assoc), unfolding(crate::specs::Film::picture_header))]
 fn write_picture_header(place: u32, out: &mut Vec<u8>) -> Result<(), AllocError>
     requires { place < 12 }
@@ -134,7 +137,7 @@ fn write_picture_header(place: u32, out: &mut Vec<u8>) -> Result<(), AllocError>
     write_fields(CodingType::at(place), temporal_reference_at(place), out)
 }
 
-// Appends the body of a slice, each byte from 128 to 255.
+/// Appends the body of a slice, each byte from 128 to 255.
 fn write_body(draws: &mut Draws, length: u32, out: &mut Vec<u8>) -> Result<(), AllocError>
     ensures bytes { OnOk result (out.new.items ≡
         out.old.items ++ body_of (words_left draws.old) length) }
@@ -146,7 +149,7 @@ fn write_body(draws: &mut Draws, length: u32, out: &mut Vec<u8>) -> Result<(), A
     Ok(())
 }
 
-// Appends a slice, the length of its body drawn before its bytes.
+/// Appends a slice, the length of its body drawn before its bytes.
 fn write_slice(
     draws: &mut Draws,
     kind: CodingType,
@@ -162,7 +165,7 @@ fn write_slice(
     write_body(draws, length, out)
 }
 
-// Appends the slices of a picture.
+/// Appends the slices of a picture.
 fn write_slices(draws: &mut Draws, kind: CodingType, out: &mut Vec<u8>) -> Result<(), AllocError>
     ensures bytes { OnOk result (out.new.items ≡
         out.old.items ++ slices_of (words_left draws.old) kind 4) }
@@ -174,7 +177,7 @@ fn write_slices(draws: &mut Draws, kind: CodingType, out: &mut Vec<u8>) -> Resul
     Ok(())
 }
 
-// Appends the sequence and group headers before the first picture of a group.
+/// Appends the sequence and group headers before the first picture of a group.
 fn begin_group(place: u32, out: &mut Vec<u8>) -> Result<(), AllocError>
     ensures { OnOk result (out.new.items ≡
         out.old.items ++ (if place == 0 then sequence_and_group else [])) }

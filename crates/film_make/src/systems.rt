@@ -8,15 +8,15 @@ use crate::films::make_film;
 use std::alloc::{AllocError, Global};
 use vod_base::NoMemory;
 
-// Video bytes of a packet.
+/// Video bytes of a packet.
 const PACKET: usize = 2000;
 
-// A pack header, and the start code of a packet of video stream 0.
+/// A pack header, and the start code of a packet of video stream 0.
 const PACK: [u8; 16] = [
     0, 0, 1, 0xba, 0x21, 0x00, 0x01, 0x00, 0x01, 0x80, 0x00, 0x03, 0, 0, 1, 0xe0,
 ];
 
-// The end code of a system stream.
+/// The end code of a system stream.
 const END: [u8; 4] = [0, 0, 1, 0xb9];
 
 /// The film of a number as an MPEG-1 system stream (ISO/IEC 11172-1): packets of 2,000 video bytes,
@@ -31,7 +31,7 @@ pub fn make_system(alloc: Global, number: u64, pictures: u32) -> Result<Vec<u8>,
     wrap(alloc, &film).map_err(|_| NoMemory)
 }
 
-// Appends a pack of one packet with these video bytes.
+/// Appends a pack of one packet with these video bytes.
 #[tactic(auto, using(std::proofs::lemmas::List::append_assoc))]
 fn write_pack(video: &[u8], out: &mut Vec<u8>) -> Result<(), AllocError>
     requires { length video.now ≤ 2000 }
@@ -44,7 +44,7 @@ fn write_pack(video: &[u8], out: &mut Vec<u8>) -> Result<(), AllocError>
     out.extend_from_slice(video)
 }
 
-// Appends video in packs, without the end code.
+/// Appends video in packs, without the end code.
 fn write_packs(video: &[u8], out: &mut Vec<u8>) -> Result<(), AllocError>
     ensures { OnOk result (out.new.items ≡
         out.old.items ++ packs_of video.now ((length video.now + 1999) / 2000)) }
@@ -56,7 +56,7 @@ fn write_packs(video: &[u8], out: &mut Vec<u8>) -> Result<(), AllocError>
     Ok(())
 }
 
-// Video as a system stream.
+/// Video as a system stream.
 fn wrap(alloc: Global, video: &[u8]) -> Result<Vec<u8>, AllocError>
     ensures { IfOk result (λ stream. stream.items ≡ system_of video.now) }
 {

@@ -46,7 +46,7 @@ pub fn make_trace(alloc: Global, number: u64, pictures: u32) -> Result<Vec<u8>, 
     draw_trace(alloc, &mut draws, pictures)
 }
 
-// The size of picture `index`, by the next word.
+/// The size of picture `index`, by the next word.
 fn next_size(draws: &mut Draws, index: u32) -> u32
     ensures value { result ≡
         (if index % 12 == 0 then 4 else 1) * (200 + words_left draws.old 0 % 1800) }
@@ -56,7 +56,7 @@ fn next_size(draws: &mut Draws, index: u32) -> u32
     if index % GROUP == 0 { 4 * size } else { size }
 }
 
-// Appends a line with a number.
+/// Appends a line with a number.
 fn write_line(number: u32, out: &mut Vec<u8>) -> Result<(), AllocError>
     ensures { OnOk result (out.new.items ≡ out.old.items ++ (decimal number ++ 10 ∷ [])) }
 {
