@@ -16,14 +16,14 @@ use Rattle.conn.specs.Rounds.{ending_doings, rounds_doings}
 use Rattle.conn.specs.Promises.{KeepsPromise}
 use Rattle.conn.specs.Served.{HasServedConnection}
 use Rattle.conn.specs.Parts.{AreServed, AreTold, HasServedOne, IsUntouched, fresh_told}
-use Rattle.conn.proofs.Sighting.{told_none}
+use Rattle.vod_base.proofs.Telling.{told_more-nil}
 
 -- what a connection told at its end is what it told before, and more
 told_after : {session : Standing} {old new : Option (List Doing)} {seat next : Sitting} {report : ConnReport} → HasServedConnection session old new seat next report →
     (doings : List Doing) × (new ≡ told_more old doings)
 told_after {new} {next} (inl from) =
     (rounds_doings from.course.rounds ++ ending_doings from.course.ending, from.told ∙ from.course.told)
-told_after {old} {new} {next} (inr none) = ([], none.told ∙ sym (told_none old))
+told_after {old} {new} {next} (inr none) = ([], none.told ∙ sym (told_more-nil old))
 
 fresh_is : (old new : Option (List Doing)) (doings : List Doing) → IfSome old (λ told. told ≡ []) → new ≡ told_more old doings → old ≡ fresh_told new
 fresh_is None new doings fresh is = sym (ap fresh_told is)

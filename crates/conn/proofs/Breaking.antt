@@ -1,13 +1,8 @@
 -- A send that failed in a slot.
-use Rattle.std.proofs.Common.{◌≡◌, ℕ, if◌then◌else◌, take, Result, Ok, Err, OnErr, refl, ap, ◌∙◌}
+use Rattle.std.proofs.Common.{◌≡◌, ℕ, if◌then◌else◌, take, refl, ap, ◌∙◌}
 use Rattle.session.specs.Sendings.{HasFailed, due_bytes}
 use Rattle.session.specs.Standings.{IsAtRest, taken_up}
 use Rattle.conn.specs.Sights.{HasBroken, Sight}
-
--- a fact that holds, also where there is no fault
-pub on_err : {T E P : Type 0} (r : Result T E) → P → OnErr r P
-on_err (Ok t) p = tt
-on_err (Err e) p = p
 
 -- a send failed in a slot
 pub broken_slot : {a b : Sight} {slot : ℕ} → HasFailed a.stage.session slot a.told b.told b.stage.session → b.stage.input ≡ a.stage.input →

@@ -24,5 +24,6 @@ pub mod Taking
 pub mod Telling
 pub mod Workers
 pub mod Journals
+pub mod Keeping
 mod Spent
 mod Drawn

@@ -1,7 +1,7 @@
 -- Lemmas on a play that goes on, one event after another.
 use Rattle.std.proofs.Common.{◌≡◌, ℕ, ◌^◌, ◌<◌, ◌++◌, ◌&&◌, Bool, true, false, if◌then◌else◌}
 use Rattle.std.proofs.Common.{nat_lt, nat_le, List, [], ◌∷◌, refl, ap, sym, ◌∙◌, subst}
-use Rattle.std.proofs.lemmas.Bool.{ltb-true, true≢false}
+use Rattle.std.proofs.lemmas.Bool.{and_parts, ltb-true, true≢false}
 use Rattle.std.proofs.lemmas.List.{append-nil, append_assoc}
 use Rattle.admission.specs.declared.entries.Answer.{Answer}
 use Rattle.admission.specs.declared.entries.Answer.TheVariants.{Admitted, Halted, Looked, Overflow}
@@ -20,7 +20,7 @@ use Rattle.session.specs.Sendings.{admitted_in, can_reply, due_state, after_play
 use Rattle.session.specs.Sendings.{is_sending, is_taken, sent_due, sent_reply, sent_slot, after_slot}
 use Rattle.session.specs.Sendings.{step_bytes, stepped_in}
 use Rattle.session.specs.Standings.{Awaits, NoAnswer, PlayAnswer, HaltAnswer, LookAnswer}
-use Rattle.session.specs.Standings.{OfferAnswer, Standing, awaits}
+use Rattle.session.specs.Standings.{OfferAnswer, Standing, awaited_answer}
 use Rattle.session.specs.Steps.{after_stop}
 use Rattle.conn.specs.Turns.{Outcome, Unasked, Entered, WasFull, Offered, Part, Film, Text, Stage}
 use Rattle.conn.specs.Turns.{Taking, Passed, Answered, HasHeard, IsAnswered, IsFinished, IsHalted}
@@ -54,11 +54,11 @@ finished_same LookAnswer old halt new is free = absurd is
 finished_same OfferAnswer old halt new is free = absurd is
 
 -- the state and the heard slot, after a slot that is taken up
-reply_state : (goes : Bool) (s : Standing) → (if goes then sent_reply s else s).state ≡ (if goes then after_stop s.state else s.state)
+pub reply_state : (goes : Bool) (s : Standing) → (if goes then sent_reply s else s).state ≡ (if goes then after_stop s.state else s.state)
 reply_state true s = refl
 reply_state false s = refl
 
-reply_heard : (goes : Bool) (s : Standing) → (if goes then sent_reply s else s).heard ≡ s.heard
+pub reply_heard : (goes : Bool) (s : Standing) → (if goes then sent_reply s else s).heard ≡ s.heard
 reply_heard true s = refl
 reply_heard false s = refl
 
@@ -68,7 +68,7 @@ finished_state s = refl
 finished_heard : (s : Standing) → (after_play s).heard ≡ s.heard
 finished_heard s = refl
 
-abbrev with_pacer : Setup → Played → Pacing → State
+abbrev pub with_pacer : Setup → Played → Pacing → State
 with_pacer setup play p = Playing setup (record play { pacer = p })
 
 -- a play's state after a slot, and the film's bytes in it
@@ -81,7 +81,7 @@ state_cases false between setup play both one plain = refl
 state_cases true false setup play both one plain = refl
 state_cases true true setup play both one plain = refl
 
-film_cases : (waits between : Bool) (one after plain text : List ℕ) →
+pub film_cases : (waits between : Bool) (one after plain text : List ℕ) →
     film_bytes (if waits then Film one ∷ (if between then Text text ∷ Film after ∷ [] else []) else Film plain ∷ [])
     ≡ (if waits then one ++ (if between then after else []) else plain)
 film_cases false between one after plain text = append-nil plain
@@ -92,7 +92,7 @@ abbrev state_after : Bool → State → ℕ → State
 state_after waits state slot =
     if waits && is_between (stepped_in true slot state) then after_stop (due_state waits state slot) else due_state waits state slot
 
-abbrev parts_of : Bool → State → List ℕ → ℕ → List Part
+abbrev pub parts_of : Bool → State → List ℕ → ℕ → List Part
 parts_of waits state text slot =
     if waits then Film (step_bytes true slot state)
     ∷ (if is_between (stepped_in true slot state)
@@ -165,20 +165,16 @@ slot_cases {taken = false} {old} {next} {setup} {play} {film} still parts sends 
 slot_cases {taken = true} {sending = true} {next} still parts sends was goes = goes refl
 slot_cases {taken = true} {sending = false} {next} still parts sends was goes = absurd (true≢false (sym sends))
 
-and_left : (a b : Bool) → (a && b) ≡ true → a ≡ true
-and_left true b both = refl
-and_left false b both = both
-
 pub later_slot : (old : Standing) (slot : ℕ) → is_taken old slot ≡ true → old.heard < slot
-later_slot old slot taken = ltb-true old.heard slot (and_left (nat_lt old.heard slot) (nat_le slot (2 ^ 62)) taken)
+later_slot old slot taken = ltb-true old.heard slot (and_parts (nat_lt old.heard slot) (nat_le slot (2 ^ 62)) taken).0
 
 -- a play goes on by a slot
 pub play_slot : {new : Standing} {setup : Setup} {play : Played} {film : List ℕ} (old : Standing) (slot : ℕ)
     (halt : Outcome) →
-    old.state ≡ Playing setup play → HasSent play old.heard film → IsFinished (awaits (after_slot old slot)) (after_slot old slot) halt new → IsUnhalted halt →
+    old.state ≡ Playing setup play → HasSent play old.heard film → IsFinished (awaited_answer (after_slot old slot)) (after_slot old slot) halt new → IsUnhalted halt →
     HasSentOn setup play new (film ++ film_bytes (slot_parts old slot))
 play_slot {new} {setup} {play} {film} old slot halt is has finishes free =
-    subst (λ s. HasSentOn setup play s (film ++ film_bytes (slot_parts old slot))) (sym (finished_same (awaits (after_slot old slot)) (after_slot old slot) halt new finishes free))
+    subst (λ s. HasSentOn setup play s (film ++ film_bytes (slot_parts old slot))) (sym (finished_same (awaited_answer (after_slot old slot)) (after_slot old slot) halt new finishes free))
     (slot_cases (record old { heard = slot }) (due_parts old slot)
     (ap is_sending is) (as_it_was old setup play film is has)
     (λ taken. taken_slot old slot is has (later_slot old slot taken)))

@@ -1,7 +1,7 @@
 -- Lemmas on where replies stand among a film's frames and reports.
 use Rattle.std.proofs.Common.{◌≡◌, ℕ, ◌+◌, ◌-◌, ◌≤◌, ◌++◌, ◌&&◌, Bool, true, false, if◌then◌else◌}
 use Rattle.std.proofs.Common.{List, [], ◌∷◌, length, take, drop, refl, ap, sym, ◌∙◌, subst, arith}
-use Rattle.std.proofs.lemmas.Bool.{eqb-true, true≢false}
+use Rattle.std.proofs.lemmas.Bool.{and_parts, eqb-true}
 use Rattle.std.proofs.lemmas.List.{append-nil, append_assoc, length-append}
 use Rattle.film_frames.specs.Tracks.{IsBoundary, framed_bytes}
 use Rattle.pacer.specs.Pacings.{IsPacing, Pacing, first_slots, next_boundary, plan_bytes, at_slot}
@@ -44,7 +44,7 @@ sent_place play heard film has =
     omega (arith, film_count play heard film has, sent)
 
 -- a pacing that stands at a boundary
-boundary_here : (p : Pacing) → IsPacing p → stands_at_boundary p ≡ true → IsBoundary p.pieces (p.before + p.sent)
+pub boundary_here : (p : Pacing) → IsPacing p → stands_at_boundary p ≡ true → IsBoundary p.pieces (p.before + p.sent)
 boundary_here p is stands =
     let inside : p.before + p.sent ≤ length (framed_bytes p.pieces) = omega (arith, is.whole, is.most, is.due, is.sent) in
     let next = boundary-from p.pieces (p.before + p.sent) inside in
@@ -109,31 +109,27 @@ comes_stand old new HeardEnd due halt comes is has = absurd comes
 comes_stand old new (Sent byte) due halt comes is has = absurd comes
 
 -- a reply's part
-and_right : (a b : Bool) → (a && b) ≡ true → b ≡ true
-and_right true b both = both
-and_right false b both = absurd (true≢false (sym both))
-
 reply_stands : (session : Standing) (setup : Setup) (play : Played) (film : List ℕ) → session.state ≡ Playing setup play →
     HasSent play session.heard film → StandBetween play.pacer.pieces (play.pacer.before + length film) (reply_parts session)
 reply_stands session setup play film is has =
     none_stand (can_reply session) play.pacer.pieces (play.pacer.before + length film) (Text session.text ∷ [])
     (λ can. (
       subst (IsBoundary play.pacer.pieces) (sym (sent_place play session.heard film has))
-          (boundary_here play.pacer has.pacing (subst (λ st. is_between st ≡ true) is (and_right session.waits (is_between session.state) can))),
+          (boundary_here play.pacer has.pacing (subst (λ st. is_between st ≡ true) is (and_parts session.waits (is_between session.state) can).1)),
       tt,
     ))
 
-no_film : (goes : Bool) (text : List ℕ) → film_bytes (if goes then Text text ∷ [] else []) ≡ []
+pub no_film : (goes : Bool) (text : List ℕ) → film_bytes (if goes then Text text ∷ [] else []) ≡ []
 no_film true text = refl
 no_film false text = refl
 
-film_bytes-append : (xs ys : List Part) → film_bytes (xs ++ ys) ≡ film_bytes xs ++ film_bytes ys
+pub film_bytes-append : (xs ys : List Part) → film_bytes (xs ++ ys) ≡ film_bytes xs ++ film_bytes ys
 film_bytes-append [] ys = refl
 film_bytes-append (Film bytes ∷ xs) ys =
     ap (λ bs. bytes ++ bs) (film_bytes-append xs ys) ∙ sym (append_assoc bytes (film_bytes xs) (film_bytes ys))
 film_bytes-append (Text text ∷ xs) ys = film_bytes-append xs ys
 
-takings_film : (old new : Stage) (takings : List Taking) → TakesAll old takings new → film_bytes (takings_parts takings) ≡ []
+pub takings_film : (old new : Stage) (takings : List Taking) → TakesAll old takings new → film_bytes (takings_parts takings) ≡ []
 takings_film old new [] takes = refl
 takings_film old new (Passed n ∷ takings) takes = takings_film takes.0 new takings takes.1.1
 takings_film old new (Answered message outcome parts ∷ takings) takes =

@@ -12,6 +12,7 @@ use Rattle.interleave.specs.declared.pieces.DemuxFault.TheVariants.{HeadTooLong 
 use Rattle.interleave.specs.declared.pieces.DemuxFault.TheVariants.{BodyTooLong as LongBody}
 use Rattle.vod_base.specs.Links.{Doing, IsFrontTold, Sent, HeardBytes, HeardSlot, sends}
 use Rattle.vod_base.specs.Links.{told_more}
+use Rattle.vod_base.proofs.Telling.{told_more-append, told_more-nil}
 use Rattle.vod_base.specs.declared.links.Heard.{Heard}
 use Rattle.vod_base.specs.declared.links.Heard.TheVariants.{Bytes, Slot, End}
 use Rattle.station.specs.Seats.{Sitting}
@@ -42,20 +43,12 @@ use Rattle.conn.specs.Sights.{HasCourse, HasEnded, HasLost, HasPassed, HasRound,
 use Rattle.conn.specs.Sights.{HasTakenUp, IsSent, Sight}
 
 -- what the link tells
-told_on : (old : Option (List Doing)) (xs ys : List Doing) → told_more (told_more old xs) ys ≡ told_more old (xs ++ ys)
-told_on None xs ys = refl
-told_on (Some told) xs ys = ap Some (append_assoc told xs ys)
-
-pub told_none : (old : Option (List Doing)) → told_more old [] ≡ old
-told_none None = refl
-told_none (Some told) = ap Some (append-nil told)
-
 pub sent_none : (told : Option (List Doing)) → IsSent told [] told
-sent_none told = sym (told_none told)
+sent_none told = sym (told_more-nil told)
 
 pub sent_on : {b c : Option (List Doing)} (a : Option (List Doing)) (xs ys : List ℕ) → IsSent a xs b → IsSent b ys c → IsSent a (xs ++ ys) c
 sent_on {c} a xs ys first second =
-    second ∙ ap (λ t. told_more t (sends ys)) first ∙ told_on a (sends xs) (sends ys) ∙ ap (told_more a) (sym (map-append Sent xs ys))
+    second ∙ ap (λ t. told_more t (sends ys)) first ∙ told_more-append a (sends xs) (sends ys) ∙ ap (told_more a) (sym (map-append Sent xs ys))
 
 -- what the seat made
 pub entries_in-append : (xs ys : List Outcome) → entries_in (xs ++ ys) ≡ entries_in xs ++ entries_in ys
@@ -83,7 +76,7 @@ takes_on : (a b c : Stage) (xs ys : List Taking) → TakesAll a xs b → TakesAl
 takes_on a b c [] ys first second = subst (λ s. TakesAll s ys c) first second
 takes_on a b c (x ∷ xs) ys first second = (first.0, (first.1.0, takes_on first.0 b c xs ys first.1.1 second))
 
-takings_bytes-append : (xs ys : List Taking) → takings_bytes (xs ++ ys) ≡ takings_bytes xs ++ takings_bytes ys
+pub takings_bytes-append : (xs ys : List Taking) → takings_bytes (xs ++ ys) ≡ takings_bytes xs ++ takings_bytes ys
 takings_bytes-append [] ys = refl
 takings_bytes-append (x ∷ xs) ys =
     ap (λ bs. taking_bytes x ++ bs) (takings_bytes-append xs ys) ∙ sym (append_assoc (taking_bytes x) (takings_bytes xs) (takings_bytes ys))
@@ -253,14 +246,14 @@ run_none a = record {
   rounds = [];
   count_is = refl;
   runs = refl;
-  told = sym (told_none a.told);
+  told = sym (told_more-nil a.told);
   noted = noted_none a.seat;
 }
 
 -- an event was heard
 heard_sent : {b c : Option (List Doing)} (a : Option (List Doing)) (event : Doing) (bytes : List ℕ) → b ≡ told_more a (event ∷ []) → IsSent b bytes c →
     c ≡ told_more a (event ∷ sends bytes)
-heard_sent {c} a event bytes heard sent = sent ∙ ap (λ t. told_more t (sends bytes)) heard ∙ told_on a (event ∷ []) (sends bytes)
+heard_sent {c} a event bytes heard sent = sent ∙ ap (λ t. told_more t (sends bytes)) heard ∙ told_more-append a (event ∷ []) (sends bytes)
 
 pub run_on : {count : ℕ} {event : Doing} {a b heard c : Sight} → HasRun count a b → heard.stage ≡ b.stage → heard.seat ≡ b.seat →
     heard.told ≡ told_more b.told (event ∷ []) → HasRound event heard c → HasRun (count + 1) a c
@@ -274,7 +267,7 @@ run_on {a} {b} {heard} {c} run stage_is seat_is told_is next =
       count_is = length-append run.rounds (round ∷ []) ∙ ap (λ n. n + 1) run.count_is;
       runs = runs_on a.stage run.rounds run.runs (subst (λ s. Runs s round c.stage) stage_is next.runs) next.idle;
       told = heard_sent b.told round.event (round_bytes round) told next.sent
-          ∙ ap (λ t. told_more t doings) run.told ∙ told_on a.told (rounds_doings run.rounds) doings
+          ∙ ap (λ t. told_more t doings) run.told ∙ told_more-append a.told (rounds_doings run.rounds) doings
           ∙ ap (λ ds. told_more a.told (rounds_doings run.rounds ++ ds)) (sym last)
           ∙ ap (told_more a.told) (sym (rounds_doings-append run.rounds (round ∷ [])));
       noted = subst (λ os. AreNoted a.seat c.seat os) (sym (rounds_outcomes-append run.rounds (round ∷ []) ∙ ap (λ os. rounds_outcomes run.rounds ++ os) outcomes))
@@ -296,7 +289,7 @@ run_end {count} {event} {end} {a} {b} {c} run stage_is seat_is told_is more last
       ends = subst (λ n. Ends b.stage n ending end c.stage) (sym run.count_is) (subst (λ s. Ends s count ending end c.stage) stage_is last.ends);
       told = heard_sent b.told event (ending_bytes ending) told_is last.sent
           ∙ ap (λ es. told_more b.told (es ++ sends (ending_bytes ending))) (sym last.event_is)
-          ∙ ap (λ t. told_more t (ending_doings ending)) run.told ∙ told_on a.told (rounds_doings run.rounds) (ending_doings ending);
+          ∙ ap (λ t. told_more t (ending_doings ending)) run.told ∙ told_more-append a.told (rounds_doings run.rounds) (ending_doings ending);
       noted = noted_on a.seat b.seat c.seat (rounds_outcomes run.rounds) (ending_outcomes ending) run.noted
           (subst (λ s. AreNoted s c.seat (ending_outcomes ending)) seat_is last.noted);
     }
@@ -346,7 +339,7 @@ told_if : {bytes : List ℕ} {new : Option (List Doing)} (sends_it : Bool) (part
     (old : Option (List Doing)) → parts_bytes parts ≡ bytes → IsTold sends_it old bytes new →
     IsSent old (parts_bytes (if sends_it then parts else [])) new
 told_if {new} true parts old is told = told ∙ ap (λ bs. told_more old (sends bs)) (sym is)
-told_if {new} false parts old is told = told ∙ sym (told_none old)
+told_if {new} false parts old is told = told ∙ sym (told_more-nil old)
 
 pub slot_sent : (session : Standing) (slot : ℕ) (old new : Option (List Doing)) →
     IsTold (is_taken session slot && is_sending session.state) old (due_bytes session.waits session.state session.text slot) new →

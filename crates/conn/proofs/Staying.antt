@@ -38,7 +38,7 @@ use Rattle.session.specs.Sendings.{can_reply, due_state, after_play, halted_in, 
 use Rattle.session.specs.Sendings.{is_sending, is_taken, next_of, sent_due, sent_reply, sent_slot}
 use Rattle.session.specs.Sendings.{after_slot, state_after, stepped_in}
 use Rattle.session.specs.Standings.{Awaits, NoAnswer, PlayAnswer, HaltAnswer, LookAnswer}
-use Rattle.session.specs.Standings.{OfferAnswer, Standing, awaits}
+use Rattle.session.specs.Standings.{OfferAnswer, Standing, awaited_answer}
 use Rattle.session.specs.Steps.{IsPlayIn, after_stop}
 use Rattle.conn.specs.Turns.{Outcome, Unasked, Entered, WasFull, Offered, Part, Text, Stage, Taking}
 use Rattle.conn.specs.Turns.{Passed, Answered, HasHeard, IsAnswered, IsFinished, IsHalted}
@@ -358,7 +358,7 @@ comes_well {film} old new (HeardBytes bytes) due halt well comes =
     (subst (λ (s : Stage). IsWell s.session (film ++ [])) (sym comes.3) (subst (IsWell old.session) (sym (append-nil film)) well))
 comes_well {film} old new (HeardSlot slot) due halt well comes =
     subst (λ ps. IsWell new.session (film ++ film_bytes ps)) (sym comes.1.parts_are)
-    (finish_well (awaits (after_slot old.session slot)) halt
+    (finish_well (awaited_answer (after_slot old.session slot)) halt
     (slot_state old.session.state old.session slot film refl well) comes.1.finished)
 comes_well old new HeardEnd due halt well comes = absurd comes
 comes_well old new (Sent byte) due halt well comes = absurd comes

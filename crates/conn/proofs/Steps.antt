@@ -1,10 +1,11 @@
 -- Lemmas that the proofs of several functions name together.
 use Rattle.conn.proofs.Counting.{counted_end, counted_fault, counted_on, counted_same}
-use Rattle.conn.proofs.Cutting.{seat_none, seat_on}
+use Rattle.conn.proofs.Cutting.{seat_none}
 use Rattle.conn.proofs.Going.{gone_on, gone_still, held_none, held_same}
+use Rattle.conn.proofs.Keeping.{kept_none, kept_on}
 
--- on the link's count of faults, where a call of it may have failed
-pub ruleset count_steps = (counted_same, counted_end, counted_fault, counted_on)
+-- on what is kept, and on the link's count of faults, where a call of it may have failed
+pub ruleset count_steps = (kept_none, kept_on, counted_same, counted_end, counted_fault, counted_on)
 
 -- on what a connection makes of the journal, as a slot is taken up
 pub ruleset slot_steps = (gone_still, gone_on, held_same)
@@ -13,4 +14,4 @@ pub ruleset slot_steps = (gone_still, gone_on, held_same)
 pub ruleset close_steps = (gone_still, held_none, seat_none)
 
 -- event after event
-pub ruleset event_steps = (seat_on, seat_none, gone_on, gone_still, counted_same, counted_fault, counted_on)
+pub ruleset event_steps = (kept_none, kept_on, counted_same, counted_fault, counted_on)

@@ -34,7 +34,7 @@ use Rattle.session.specs.Replies.{field, full_text, overflow_text}
 use Rattle.session.specs.Sendings.{can_reply, after_play, is_between, is_sending, is_taken, sent_due}
 use Rattle.session.specs.Sendings.{sent_reply, sent_slot, after_slot, stepped_in}
 use Rattle.session.specs.Standings.{Awaits, NoAnswer, PlayAnswer, HaltAnswer, LookAnswer}
-use Rattle.session.specs.Standings.{OfferAnswer, Standing, awaits}
+use Rattle.session.specs.Standings.{OfferAnswer, Standing, awaited_answer}
 use Rattle.conn.specs.Turns.{Outcome, Unasked, Entered, WasFull, Offered, Part, Film, Text, Stage}
 use Rattle.conn.specs.Turns.{Taking, Passed, Answered, HasHeard, IsAnswered, IsFinished, IsHalted}
 use Rattle.conn.specs.Turns.{IsLookAnswered, IsPlayAnswered, Takes as TakesPiece, TakesAll}
@@ -318,7 +318,7 @@ comes_tells {made} old new (HeardBytes bytes) halt told comes = record {
 }
 comes_tells {made} old new (HeardSlot slot) halt told comes =
     let s = after_slot old.session slot in
-    let text : new.session.text ≡ old.session.text = finished_text (awaits s) s halt new.session comes.1.finished ∙ slot_text old.session slot in
+    let text : new.session.text ≡ old.session.text = finished_text (awaited_answer s) s halt new.session comes.1.finished ∙ slot_text old.session slot in
     record {
       waiting = subst (IsTold made) (sym text) told;
       sent = subst (AreTold made) (sym comes.1.parts_are) (slot_tells made old.session slot told);
@@ -375,7 +375,7 @@ ending_tells {made} old count (InReply round message outcome front) end new told
     subst (λ m. AreTold m (rounds_parts (round ∷ []))) all
     (are_more (made ++ round_outcomes round) (outcome ∷ []) (round_parts round ++ []) (are_both (made ++ round_outcomes round) (round_parts round) [] first.sent tt))
 
-parts-more : (rounds more : List Round) → rounds_parts (rounds ++ more) ≡ rounds_parts rounds ++ rounds_parts more
+pub parts-more : (rounds more : List Round) → rounds_parts (rounds ++ more) ≡ rounds_parts rounds ++ rounds_parts more
 parts-more [] more = refl
 parts-more (round ∷ rounds) more =
     ap (λ ps. round_parts round ++ ps) (parts-more rounds more) ∙ sym (append_assoc (round_parts round) (rounds_parts rounds) (rounds_parts more))

@@ -14,6 +14,7 @@ use Rattle.session.specs.declared.notes.Receipt.TheVariants.{Entry as EntryRecei
 use Rattle.session.specs.declared.notes.Receipt.TheVariants.{Full as FullReceipt}
 use Rattle.session.specs.Standings.{Open, IsAtRest, open_of}
 use Rattle.station.specs.declared.answers.Booking.{Booking}
+use Rattle.station.specs.Seats.{Sitting, IsSameSeat}
 use Rattle.conn.specs.declared.connections.Connection.{Connection}
 
 -- the receipts of entries among receipts
@@ -91,3 +92,10 @@ IsHeld mine (Some booking) (Some play) = (keep : ℕ) → keep ≤ total_bytes p
 pub record IsQuiet (mine : List Placed) (connection : Connection) : Type 0 where
   pub rest : IsAtRest connection.session
   pub held : IsHeld mine connection.booking (open_of connection.session)
+
+-- what a call leaves of a seat and of the connection for which it sits: the seat stays as it was but
+-- for the entries that it made, which the receipts tell, and the booking is held
+pub record KeepsBusiness (old new : Sitting) (before after : Connection) : Type 0 where
+  pub seat : IsSameSeat old new
+  pub quiet : IsQuiet new.mine after
+  pub gone : HasGone (business old.mine before) (business new.mine after)

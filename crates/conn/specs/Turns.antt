@@ -19,7 +19,7 @@ use Rattle.session.specs.Sendings.{after_slot, can_reply, is_between, is_sending
 use Rattle.session.specs.Sendings.{sent_reply}
 use Rattle.session.specs.Sendings.{step_bytes, stepped_in}
 use Rattle.session.specs.Steps.{IsPlayIn}
-use Rattle.session.specs.Standings.{Awaits, HaltAnswer, NoAnswer, Open, Standing, awaits}
+use Rattle.session.specs.Standings.{Awaits, HaltAnswer, NoAnswer, Open, Standing, awaited_answer}
 
 -- where a connection stands between two doings: its session, and the bytes that wait
 pub record Stage : Type 0 where
@@ -179,7 +179,7 @@ IsFinished _ _ _ _ = ⊥
 pub record HasStepped (old : Standing) (slot : ℕ) (parts : List Part) (halt : Outcome)
     (new : Standing) : Type 0 where
   pub parts_are : parts ≡ slot_parts old slot
-  pub finished : IsFinished (awaits (after_slot old slot)) (after_slot old slot) halt new
+  pub finished : IsFinished (awaited_answer (after_slot old slot)) (after_slot old slot) halt new
 
 -- a connection that ends halts its open booking, which keeps what is due
 abbrev pub IsClosed : Option Open → Standing → Outcome → Standing → Type 0

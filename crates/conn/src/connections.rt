@@ -5,10 +5,10 @@ ghost use Rattle.std.specs.Prelude.{length as list_length, IfOk, OnOk, OnErr};
 ghost use Rattle.vod_base.specs.Links.{IsWithin, doing_of};
 ghost use Rattle.interleave.specs.Pieces.{IsFirst, IsRequestLength};
 ghost use Rattle.interleave.specs.declared.pieces.Step.TheVariants.{More};
-ghost use Rattle.station.specs.Seats.{IsSameSeat};
 ghost use Rattle.session.specs.Standings.{AreFilms, AreSettings, CanKeep, IsAtRest, IsHalt};
-ghost use Rattle.session.specs.Standings.{PlayAnswer, LookAnswer, OfferAnswer, awaits, open_of};
-ghost use Rattle.conn.specs.Keeping.{HasGone, IsHeld, IsQuiet, business};
+ghost use Rattle.session.specs.Standings.{PlayAnswer, LookAnswer, OfferAnswer};
+ghost use Rattle.session.specs.Standings.{awaited_answer, open_of};
+ghost use Rattle.conn.specs.Keeping.{IsHeld, IsQuiet, KeepsBusiness};
 ghost use Rattle.conn.specs.Sights.{HasAnswered, HasAsked, HasBroken, HasComeTo};
 ghost use Rattle.conn.specs.Sights.{HasPassed, HasTakenUp, TakesNext, sight};
 ghost use Rattle.session.specs.declared.asks.Ask.{Ask};
@@ -87,9 +87,7 @@ impl<'a> Connection<'a> {
         requires few { list_length bytes.now ≤ 16384 }
         requires waiting { IsWaiting self.old }
         requires lost { self.old.session.lost ≡ false }
-        ensures seat { IsSameSeat seat.old seat.new }
-        ensures quiet { IsQuiet seat.new.mine self.new }
-        ensures gone { HasGone (business seat.old.mine self.old) (business seat.new.mine self.new) }
+        ensures kept { KeepsBusiness seat.old seat.new self.old self.new }
         ensures comes { HasComeTo result (doing_of heard bytes.now)
             (sight self.old (K.told link.old) seat.old)
             (sight self.new (K.told link.new) seat.new) }
@@ -129,9 +127,7 @@ impl<'a> Connection<'a> {
         requires seat { seat.old.id ≡ station.now.id }
         requires quiet { IsQuiet seat.old.mine self.old }
         requires lost { self.old.session.lost ≡ false }
-        ensures seat { IsSameSeat seat.old seat.new }
-        ensures quiet { IsQuiet seat.new.mine self.new }
-        ensures gone { HasGone (business seat.old.mine self.old) (business seat.new.mine self.new) }
+        ensures kept { KeepsBusiness seat.old seat.new self.old self.new }
         ensures passed { OnOk result (HasPassed
             (sight self.old (K.told link.old) seat.old)
             (sight self.new (K.told link.new) seat.new) slot) }
@@ -162,9 +158,7 @@ impl<'a> Connection<'a> {
         requires seat { seat.old.id ≡ station.now.id }
         requires quiet { IsQuiet seat.old.mine self.old }
         requires lost { self.old.session.lost ≡ false }
-        ensures seat { IsSameSeat seat.old seat.new }
-        ensures quiet { IsQuiet seat.new.mine self.new }
-        ensures gone { HasGone (business seat.old.mine self.old) (business seat.new.mine self.new) }
+        ensures kept { KeepsBusiness seat.old seat.new self.old self.new }
         ensures up { HasTakenUp result
             (sight self.old (K.told link.old) seat.old)
             (sight self.new (K.told link.new) seat.new) }
@@ -194,9 +188,7 @@ impl<'a> Connection<'a> {
         requires seat { seat.old.id ≡ station.now.id }
         requires quiet { IsQuiet seat.old.mine self.old }
         requires lost { self.old.session.lost ≡ false }
-        ensures seat { IsSameSeat seat.old seat.new }
-        ensures quiet { IsQuiet seat.new.mine self.new }
-        ensures gone { HasGone (business seat.old.mine self.old) (business seat.new.mine self.new) }
+        ensures kept { KeepsBusiness seat.old seat.new self.old self.new }
         ensures takes { TakesNext result
             (sight self.old (K.told link.old) seat.old)
             (sight self.new (K.told link.new) seat.new) }
@@ -240,9 +232,7 @@ impl<'a> Connection<'a> {
         requires whole { IsRequestLength self.old.input length }
         requires within { length ≤ list_length self.old.input }
         requires lost { self.old.session.lost ≡ false }
-        ensures seat { IsSameSeat seat.old seat.new }
-        ensures quiet { IsQuiet seat.new.mine self.new }
-        ensures gone { HasGone (business seat.old.mine self.old) (business seat.new.mine self.new) }
+        ensures kept { KeepsBusiness seat.old seat.new self.old self.new }
         ensures heard { HasAsked self.old.session (take length self.old.input) self.new.session
             seat.old seat.new }
         ensures input { self.new.input ≡ drop length self.old.input }
@@ -263,11 +253,9 @@ impl<'a> Connection<'a> {
     fn play<R: Wait>(&mut self, rt: &R, station: &Station, seat: &mut Seat, plan: Plan)
         requires seat { seat.old.id ≡ station.now.id }
         requires held { IsHeld seat.old.mine self.old.booking (open_of self.old.session) }
-        requires asked { awaits self.old.session ≡ PlayAnswer plan }
+        requires asked { awaited_answer self.old.session ≡ PlayAnswer plan }
         requires closed { open_of self.old.session ≡ None }
-        ensures seat { IsSameSeat seat.old seat.new }
-        ensures quiet { IsQuiet seat.new.mine self.new }
-        ensures gone { HasGone (business seat.old.mine self.old) (business seat.new.mine self.new) }
+        ensures kept { KeepsBusiness seat.old seat.new self.old self.new }
         ensures answered { HasAnswered self.old.session (Ask.Play plan) self.new.session
             seat.old seat.new }
         ensures input { self.new.input ≡ self.old.input }
@@ -300,11 +288,9 @@ impl<'a> Connection<'a> {
     fn halt<R: Wait>(&mut self, rt: &R, station: &Station, seat: &mut Seat, keep: u64)
         requires seat { seat.old.id ≡ station.now.id }
         requires held { IsHeld seat.old.mine self.old.booking (open_of self.old.session) }
-        requires asked { IsHalt (awaits self.old.session) (open_of self.old.session) }
+        requires asked { IsHalt (awaited_answer self.old.session) (open_of self.old.session) }
         requires keep { CanKeep (open_of self.old.session) keep }
-        ensures seat { IsSameSeat seat.old seat.new }
-        ensures quiet { IsQuiet seat.new.mine self.new }
-        ensures gone { HasGone (business seat.old.mine self.old) (business seat.new.mine self.new) }
+        ensures kept { KeepsBusiness seat.old seat.new self.old self.new }
         ensures answered { HasAnswered self.old.session (Ask.Halt keep) self.new.session
             seat.old seat.new }
         ensures input { self.new.input ≡ self.old.input }
@@ -325,11 +311,9 @@ impl<'a> Connection<'a> {
     fn look<R: Wait>(&mut self, rt: &R, station: &Station, seat: &mut Seat, slot: u64)
         requires seat { seat.old.id ≡ station.now.id }
         requires held { IsHeld seat.old.mine self.old.booking (open_of self.old.session) }
-        requires asked { awaits self.old.session ≡ LookAnswer }
+        requires asked { awaited_answer self.old.session ≡ LookAnswer }
         requires slot { slot ≡ self.old.session.heard }
-        ensures seat { IsSameSeat seat.old seat.new }
-        ensures quiet { IsQuiet seat.new.mine self.new }
-        ensures gone { HasGone (business seat.old.mine self.old) (business seat.new.mine self.new) }
+        ensures kept { KeepsBusiness seat.old seat.new self.old self.new }
         ensures answered { HasAnswered self.old.session (Ask.Look slot) self.new.session
             seat.old seat.new }
         ensures input { self.new.input ≡ self.old.input }
@@ -357,10 +341,8 @@ impl<'a> Connection<'a> {
     )
         requires seat { seat.old.id ≡ station.now.id }
         requires held { IsHeld seat.old.mine self.old.booking (open_of self.old.session) }
-        requires asked { awaits self.old.session ≡ OfferAnswer }
-        ensures seat { IsSameSeat seat.old seat.new }
-        ensures quiet { IsQuiet seat.new.mine self.new }
-        ensures gone { HasGone (business seat.old.mine self.old) (business seat.new.mine self.new) }
+        requires asked { awaited_answer self.old.session ≡ OfferAnswer }
+        ensures kept { KeepsBusiness seat.old seat.new self.old self.new }
         ensures answered { HasAnswered self.old.session (Ask.Offer plan offers) self.new.session
             seat.old seat.new }
         ensures input { self.new.input ≡ self.old.input }
@@ -377,9 +359,7 @@ impl<'a> Connection<'a> {
     pub(crate) fn close<R: Wait>(&mut self, rt: &R, station: &Station, seat: &mut Seat)
         requires seat { seat.old.id ≡ station.now.id }
         requires quiet { IsQuiet seat.old.mine self.old }
-        ensures seat { IsSameSeat seat.old seat.new }
-        ensures quiet { IsQuiet seat.new.mine self.new }
-        ensures gone { HasGone (business seat.old.mine self.old) (business seat.new.mine self.new) }
+        ensures kept { KeepsBusiness seat.old seat.new self.old self.new }
         ensures closed { HasClosed self.old.session self.new.session seat.old seat.new }
         ensures open { open_of self.new.session ≡ None }
         ensures booking { self.new.booking ≡ None }
@@ -427,6 +407,7 @@ pub(crate) enum Taken {
 fn law_few_wait(input: &Demux)
     ensures { IsFirst input.now (Ok More) → list_length input.now < 81920 }
 {
+    // the contracts of these two calls bound how many bytes wait
     let waiting = input.waiting();
     let _count = waiting.len();
 }

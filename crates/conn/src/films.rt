@@ -10,7 +10,7 @@ use film_frames::Stored;
 use film_run::Units;
 use mpeg_scan::{Film, law_film, picture_units};
 
-/// So it is of all.
+/// Each film's units are those of a trace, and its picture's time is in its range.
 pub(crate) fn law_all_shown(films: &[Stored])
     ensures { (number : ℕ) → OfFilm films.now number IsShown }
 {
@@ -33,6 +33,7 @@ fn picture_time(film: &Film) -> u32
 fn law_shown(stored: &Stored)
     ensures { IsShown stored.now }
 {
+    // the contracts of these two calls say it
     let _units = stored.count();
     let _time = picture_time(&stored.film);
 }

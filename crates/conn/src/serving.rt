@@ -7,7 +7,7 @@ ghost use Rattle.session.specs.Standings.{AreFilms, AreSettings};
 ghost use Rattle.station.specs.Seats.{IsSameSeat};
 ghost use Rattle.conn.specs.declared.reports.ConnEnd.TheVariants.{LinkFault};
 ghost use Rattle.conn.specs.Events.{HasCounted, IsWaiting};
-ghost use Rattle.conn.specs.Keeping.{HasGone, IsQuiet, at_rest, business};
+ghost use Rattle.conn.specs.Keeping.{HasGone, IsQuiet, KeepsBusiness, at_rest};
 ghost use Rattle.conn.specs.Promises.{KeepsPromise};
 ghost use Rattle.conn.specs.Served.{HasServedConnection};
 ghost use Rattle.conn.specs.Sights.{HasCourse, sight};
@@ -94,10 +94,7 @@ fn hear_all<R: Wait, K: Link>(
     requires torn { connection.old.session.torn ≡ false }
     requires waiting { IsWaiting connection.old }
     requires lost { connection.old.session.lost ≡ false }
-    ensures seat { IsSameSeat seat.old seat.new }
-    ensures quiet { IsQuiet seat.new.mine connection.new }
-    ensures gone { HasGone (business seat.old.mine connection.old)
-        (business seat.new.mine connection.new) }
+    ensures kept { KeepsBusiness seat.old seat.new connection.old connection.new }
     ensures counted { HasCounted (Some result) (K.faults link.old) (K.faults link.new) }
     ensures course { HasCourse result (sight connection.old (K.told link.old) seat.old)
         (sight connection.new (K.told link.new) seat.new) }

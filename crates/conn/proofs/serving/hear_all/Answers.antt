@@ -1,12 +1,10 @@
 use Rattle.std.proofs.Common.{◌≡◌, ◌∷◌, [], List, length, Option, rules, refl, ap, arith, Some}
 use Rattle.vod_base.specs.Links.{Doing, doing_of, told_more}
 use Rattle.conn.specs.declared.reports.ConnEnd.TheVariants.{LinkFault, TurnsSpent}
-use Rattle.conn.specs.Keeping.{business}
 use Rattle.conn.specs.Sights.{Sight, sight}
 use Rattle.conn.specs.Turns.{stage}
 use Rattle.conn.proofs.Counting.{counted_fault, counted_on, counted_same}
-use Rattle.conn.proofs.Cutting.{seat_none, seat_on}
-use Rattle.conn.proofs.Going.{gone_on, gone_still}
+use Rattle.conn.proofs.Keeping.{kept_none, kept_on}
 use Rattle.conn.proofs.Sighting.{goes_on, run_end, run_none, run_on, run_over}
 use Rattle.conn.proofs.serving.hear_all.Goals as goal
 
@@ -16,7 +14,7 @@ returns-in_default-clause-course g c =
     let before : Sight = sight c.events.connection (g.K.Link.told c.events.link) c.events.seat in
     let after : Sight = sight c.events.connection (g.K.Link.told c.next.new.self) c.events.seat in
     let told : g.K.Link.told c.next.new.self ≡ g.K.Link.told c.events.link = c.in_default.ensures.lost in
-    run_over c.events.invariant.5 c.events-test.true
+    run_over c.events.invariant.3 c.events-test.true
     (ap (λ (t : Option (List Doing)). record {
       stage = stage c.events.connection.session c.events.connection.input;
       told = t;
@@ -30,14 +28,12 @@ returns-in-Some-clause-course g c =
     let heard : Sight = sight c.events.connection (g.K.Link.told c.next.new.self) c.events.seat in
     let after : Sight = sight c.hear.new.self (g.K.Link.told c.hear.new.link) c.hear.new.seat in
     let told : g.K.Link.told c.next.new.self ≡ told_more (g.K.Link.told c.events.link) (doing_of c.in-Ok.heard c.next.new.into ∷ []) = c.in-Ok.ensures.heard in
-    run_end c.events.invariant.5 refl refl told
+    run_end c.events.invariant.3 refl refl told
     (omega (arith, c.events-test.true)) (c.in-Some.ensures.comes c.events._event)
 
 pub events-init : goal.events-init
 events-init g c = (
-  seat_none c.args.seat.now,
-  c.requires.quiet,
-  gone_still (business c.args.seat.now.mine c.args.connection.now) (business c.args.seat.now.mine c.args.connection.now) refl refl refl,
+  kept_none c.args.seat.now c.args.connection.now c.requires.quiet,
   c.requires.torn,
   c.requires.lost,
   run_none (sight c.args.connection.now (g.K.Link.told c.args.link.now) c.args.seat.now),
@@ -54,14 +50,12 @@ events-preserved g c =
     let after : Sight = sight c.hear.new.self (g.K.Link.told c.hear.new.link) c.hear.new.seat in
     let told : g.K.Link.told c.next.new.self ≡ told_more (g.K.Link.told c.events.link) (doing_of c.in-Ok.heard c.next.new.into ∷ []) = c.in-Ok.ensures.heard in
     let on = goes_on c.in-Ok.heard (length c.events.connection.input) c.hear.new.self c.in_default-hear.ensures.taken in (
-      seat_on c.args.seat.now c.events.seat c.hear.new.seat inv.0 c.hear.ensures.seat,
-      c.hear.ensures.quiet,
-      gone_on (business c.args.seat.now.mine c.args.connection.now) (business c.events.seat.mine c.events.connection)
-          (business c.hear.new.seat.mine c.hear.new.self) inv.2 c.hear.ensures.gone,
+      kept_on c.args.seat.now c.events.seat c.hear.new.seat c.args.connection.now c.events.connection c.hear.new.self inv.0
+          c.hear.ensures.kept,
       on.0,
       on.1,
-      run_on inv.5 refl refl told c.in_default-hear.ensures.comes,
-      omega (arith, inv.6, c.next.ensures.count, c.hear.ensures.counted.count),
+      run_on inv.3 refl refl told c.in_default-hear.ensures.comes,
+      omega (arith, inv.4, c.next.ensures.count, c.hear.ensures.counted.count),
       on.2,
     )
 
@@ -70,19 +64,24 @@ returns-clause-course g c =
     let first : Sight = sight c.args.connection.now (g.K.Link.told c.args.link.now) c.args.seat.now in
     let before : Sight = sight c.events.connection (g.K.Link.told c.events.link) c.events.seat in
     let spent : c.events._event ≡ 1099511627776 = search rules in
-    run_over c.events.invariant.5 spent refl
+    run_over c.events.invariant.3 spent refl
 
 pub returns-in_default-clause-counted : goal.returns-in_default-clause-counted
 returns-in_default-clause-counted g c =
     counted_on (Some LinkFault) (g.K.Link.faults c.args.link.now) (g.K.Link.faults c.events.link) (g.K.Link.faults c.next.new.self)
-    c.events.invariant.6
+    c.events.invariant.4
     (counted_fault (g.K.Link.faults c.events.link) (g.K.Link.faults c.next.new.self) c.next.ensures.count c.in_default.ensures.fault)
 
 pub returns-in-Some-clause-counted : goal.returns-in-Some-clause-counted
 returns-in-Some-clause-counted g c =
     counted_on (Some c.in-Some.end) (g.K.Link.faults c.args.link.now) (g.K.Link.faults c.next.new.self) (g.K.Link.faults c.hear.new.link)
-    (omega (arith, c.events.invariant.6, c.next.ensures.count)) c.in-Some.ensures.counted
+    (omega (arith, c.events.invariant.4, c.next.ensures.count)) c.in-Some.ensures.counted
 
 pub returns-clause-counted : goal.returns-clause-counted
 returns-clause-counted g c =
-    counted_same (Some TurnsSpent) (g.K.Link.faults c.args.link.now) (g.K.Link.faults c.events.link) c.events.invariant.6 refl
+    counted_same (Some TurnsSpent) (g.K.Link.faults c.args.link.now) (g.K.Link.faults c.events.link) c.events.invariant.4 refl
+
+pub returns-in-Some-clause-kept : goal.returns-in-Some-clause-kept
+returns-in-Some-clause-kept g c =
+    kept_on c.args.seat.now c.events.seat c.hear.new.seat c.args.connection.now c.events.connection c.hear.new.self c.events.invariant.0
+    c.hear.ensures.kept

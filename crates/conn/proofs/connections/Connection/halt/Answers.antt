@@ -4,11 +4,15 @@ use Rattle.conn.proofs.Outcomes.{halted_entry}
 use Rattle.conn.proofs.Going.{gone_halt}
 use Rattle.conn.proofs.connections.Connection.halt.Goals as goal
 
-pub returns-clause-gone : goal.returns-clause-gone
-returns-clause-gone g c =
-    gone_halt {old = business c.args.seat.now.mine c.args.self.now} {new = business c.halt-place.new.seat.mine (record { session = c.hear_halt.new.self; input = c.args.self.now.input; booking = c.replace.new.dest })} {made = c.in-Some.booking}
-    c.args.seat.now.number c.halt-place.result c.args.keep (search rules) (search rules) c.halt-place.ensures.made.mine
-    c.hear_halt.ensures.handed.receipts
+pub returns-clause-kept : goal.returns-clause-kept
+returns-clause-kept g c = record {
+  seat = search rules;
+  quiet = search rules;
+  gone =
+      gone_halt {old = business c.args.seat.now.mine c.args.self.now} {new = business c.halt-place.new.seat.mine (record { session = c.hear_halt.new.self; input = c.args.self.now.input; booking = c.replace.new.dest })} {made = c.in-Some.booking}
+      c.args.seat.now.number c.halt-place.result c.args.keep (search rules) (search rules) c.halt-place.ensures.made.mine
+      c.hear_halt.ensures.handed.receipts;
+}
 
 pub returns-clause-answered : goal.returns-clause-answered
 returns-clause-answered g c =

@@ -1,20 +1,28 @@
-use Rattle.std.proofs.Common.{refl}
+use Rattle.std.proofs.Common.{refl, rules}
 use Rattle.conn.specs.Keeping.{business}
 use Rattle.session.specs.declared.asks.Ask.TheVariants.{Look as AskLook}
 use Rattle.conn.proofs.Outcomes.{answered_entry, answered_full}
-use Rattle.conn.proofs.Going.{gone_look, gone_full}
+use Rattle.conn.proofs.Going.{gone_look, gone_full, held_at_look}
 use Rattle.conn.proofs.connections.Connection.look.Goals as goal
 
-pub returns-in-Ok-clause-gone : goal.returns-in-Ok-clause-gone
-returns-in-Ok-clause-gone g c =
-    gone_look
-    _ c.in-Ok.looked.place _ c.in-Ok.looked.now c.in-Ok.looked.at c.in-Ok.looked.booked refl c.in-Ok.ensures.made.mine
-    c.hear_look.ensures.handed.receipts
+pub returns-in-Ok-clause-kept : goal.returns-in-Ok-clause-kept
+returns-in-Ok-clause-kept g c = record {
+  seat = search rules;
+  quiet = search (rules, held_at_look);
+  gone =
+      gone_look
+      _ c.in-Ok.looked.place _ c.in-Ok.looked.now c.in-Ok.looked.at c.in-Ok.looked.booked refl c.in-Ok.ensures.made.mine
+      c.hear_look.ensures.handed.receipts;
+}
 
-pub returns-in-Err-clause-gone : goal.returns-in-Err-clause-gone
-returns-in-Err-clause-gone g c =
-    gone_full
-    c.in-Err.full.entries c.in-Err.full.live c.in-Err.ensures.full.mine refl c.hear_full.ensures.handed.receipts
+pub returns-in-Err-clause-kept : goal.returns-in-Err-clause-kept
+returns-in-Err-clause-kept g c = record {
+  seat = search rules;
+  quiet = search rules;
+  gone =
+      gone_full
+      c.in-Err.full.entries c.in-Err.full.live c.in-Err.ensures.full.mine refl c.hear_full.ensures.handed.receipts;
+}
 
 pub returns-in-Ok-clause-answered : goal.returns-in-Ok-clause-answered
 returns-in-Ok-clause-answered g c =

@@ -8,28 +8,42 @@ use Rattle.conn.proofs.Outcomes.{answered_entry, answered_full, refused_as}
 use Rattle.conn.proofs.Going.{gone_play, gone_overflow, gone_full, held_none}
 use Rattle.conn.proofs.connections.Connection.play.Goals as goal
 
-pub returns-in-None-clause-gone : goal.returns-in-None-clause-gone
-returns-in-None-clause-gone g c =
-    gone_play
-    _ _ _
-    (held_none c.args.seat.now.mine c.args.self.now.booking (open_of c.args.self.now.session) c.requires.closed c.requires.held)
-    (search rules) c.in-Ok.ensures.made.mine c.hear_admission.ensures.handed.receipts
+pub returns-in-None-clause-kept : goal.returns-in-None-clause-kept
+returns-in-None-clause-kept g c = record {
+  seat = search rules;
+  quiet = search rules;
+  gone =
+      gone_play
+      _ _ _
+      (held_none c.args.seat.now.mine c.args.self.now.booking (open_of c.args.self.now.session) c.requires.closed c.requires.held)
+      (search rules) c.in-Ok.ensures.made.mine c.hear_admission.ensures.handed.receipts;
+}
 
-pub returns-in-Err-Overflow-clause-gone : goal.returns-in-Err-Overflow-clause-gone
-returns-in-Err-Overflow-clause-gone g c =
+pub returns-in-Err-Overflow-clause-kept : goal.returns-in-Err-Overflow-clause-kept
+returns-in-Err-Overflow-clause-kept g c =
     let made = refused_as {was = c.in-Err-Overflow.field-0} {is = Overflow c.in-Err-Overflow.place c.in-Err-Overflow.slot c.in-Err-Overflow.booked c.in-Err-Overflow.asked} c.args.seat.now c.play.new.seat c.heard_slot.result c.args.plan
     c.in-Err-Overflow.ensures.refused (search rules) in
-    gone_overflow {old = business c.args.seat.now.mine c.args.self.now} {new = business c.play.new.seat.mine (record { session = c.hear_overflow.new.self; input = c.args.self.now.input; booking = c.args.self.now.booking })}
-    _ c.in-Err-Overflow.place _ _ c.in-Err-Overflow.slot c.in-Err-Overflow.booked c.in-Err-Overflow.asked
-    (held_none c.args.seat.now.mine c.args.self.now.booking (open_of c.args.self.now.session) c.requires.closed c.requires.held)
-    refl made.mine c.hear_overflow.ensures.handed.receipts
+    record {
+      seat = search rules;
+      quiet = search rules;
+      gone =
+          gone_overflow {old = business c.args.seat.now.mine c.args.self.now} {new = business c.play.new.seat.mine (record { session = c.hear_overflow.new.self; input = c.args.self.now.input; booking = c.args.self.now.booking })}
+          _ c.in-Err-Overflow.place _ _ c.in-Err-Overflow.slot c.in-Err-Overflow.booked c.in-Err-Overflow.asked
+          (held_none c.args.seat.now.mine c.args.self.now.booking (open_of c.args.self.now.session) c.requires.closed c.requires.held)
+          refl made.mine c.hear_overflow.ensures.handed.receipts;
+    }
 
-pub returns-clause-gone : goal.returns-clause-gone
-returns-clause-gone g c =
+pub returns-clause-kept : goal.returns-clause-kept
+returns-clause-kept g c =
     let full = refused_as {was = c.in-Err-JournalFull.field-0} {is = JournalFull c.in-Err-JournalFull.field-0-0 c.in-Err-JournalFull.entries c.in-Err-JournalFull.live} c.args.seat.now c.play.new.seat c.heard_slot.result c.args.plan
     c.in-Err-JournalFull.ensures.refused (search rules) in
-    gone_full {old = business c.args.seat.now.mine c.args.self.now} {new = business c.play.new.seat.mine (record { session = c.hear_full.new.self; input = c.args.self.now.input; booking = c.args.self.now.booking })}
-    c.in-Err-JournalFull.entries c.in-Err-JournalFull.live full.1.mine refl c.hear_full.ensures.handed.receipts
+    record {
+      seat = search rules;
+      quiet = search rules;
+      gone =
+          gone_full {old = business c.args.seat.now.mine c.args.self.now} {new = business c.play.new.seat.mine (record { session = c.hear_full.new.self; input = c.args.self.now.input; booking = c.args.self.now.booking })}
+          c.in-Err-JournalFull.entries c.in-Err-JournalFull.live full.1.mine refl c.hear_full.ensures.handed.receipts;
+    }
 
 pub returns-in-None-clause-answered : goal.returns-in-None-clause-answered
 returns-in-None-clause-answered g c =

@@ -1,6 +1,11 @@
 use Rattle.std.proofs.Common.{refl}
+use Rattle.session.specs.Standings.{open_of}
+use Rattle.conn.specs.Keeping.{business}
 use Rattle.conn.specs.Sights.{sight}
-use Rattle.conn.proofs.Breaking.{broken_slot, on_err}
+use Rattle.session.proofs.Fronts.{on_err}
+use Rattle.conn.proofs.Breaking.{broken_slot}
+use Rattle.conn.proofs.Cutting.{seat_none}
+use Rattle.conn.proofs.Going.{gone_still, held_same}
 use Rattle.conn.proofs.connections.Connection.step.Goals as goal
 
 pub returns-in_err-slot-clause-broken : goal.returns-in_err-slot-clause-broken
@@ -9,3 +14,17 @@ returns-in_err-slot-clause-broken g c =
     (broken_slot
     c.in_err-slot.ensures.failed refl c.slot.ensures.heard c.in_err-slot.ensures.lost c.slot.ensures.receipts c.slot.ensures.plays
     c.slot.ensures.offers refl)
+
+pub returns-in_err-slot-clause-kept : goal.returns-in_err-slot-clause-kept
+returns-in_err-slot-clause-kept g c = record {
+  seat = seat_none c.args.seat.now;
+  quiet = record {
+    rest = c.in_err-slot.ensures.lost;
+    held = held_same c.args.seat.now.mine c.args.self.now.booking (open_of c.args.self.now.session) (open_of c.slot.new.self) c.slot.ensures.open
+        c.requires.quiet.held;
+  };
+  gone =
+      gone_still (business c.args.seat.now.mine c.args.self.now)
+      (business c.args.seat.now.mine (record { session = c.slot.new.self; input = c.args.self.now.input; booking = c.args.self.now.booking }))
+      refl refl c.slot.ensures.receipts;
+}

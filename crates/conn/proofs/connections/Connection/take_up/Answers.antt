@@ -1,39 +1,36 @@
 use Rattle.std.proofs.Common.{rules, subst, sym, arith, None, Some}
-use Rattle.conn.specs.Keeping.{business}
 use Rattle.conn.specs.Sights.{HasTaken, sight}
 use Rattle.conn.proofs.Counting.{counted_on}
-use Rattle.conn.proofs.Cutting.{cuts_on, seat_on}
-use Rattle.conn.proofs.Going.{gone_on}
+use Rattle.conn.proofs.Cutting.{cuts_on}
+use Rattle.conn.proofs.Keeping.{kept_on}
 use Rattle.conn.proofs.Sighting.{taken_on, up_on}
 use Rattle.conn.proofs.connections.Connection.take_up.Goals as goal
 
 pub pieces-preserved : goal.pieces-preserved
 pieces-preserved g c =
     let inv = c.pieces.invariant in (
-      seat_on c.args.seat.now c.pieces.seat c.take_next.new.seat inv.0 c.take_next.ensures.seat,
-      c.take_next.ensures.quiet,
-      gone_on (business c.args.seat.now.mine c.args.self.now) (business c.pieces.seat.mine c.pieces.self)
-          (business c.take_next.new.seat.mine c.take_next.new.self) inv.2 c.take_next.ensures.gone,
+      kept_on c.args.seat.now c.pieces.seat c.take_next.new.seat c.args.self.now c.pieces.self c.take_next.new.self inv.0
+          c.take_next.ensures.kept,
       search rules,
-      cuts_on c.args.self.now.input c.pieces.self.input c.take_next.new.self.input inv.4 c.take_next.ensures.cut,
+      cuts_on c.args.self.now.input c.pieces.self.input c.take_next.new.self.input inv.2 c.take_next.ensures.cut,
       taken_on (sight c.args.self.now (g.K.Link.told c.args.link.now) c.args.seat.now) (sight c.pieces.self (g.K.Link.told c.pieces.link) c.pieces.seat)
-          (sight c.take_next.new.self (g.K.Link.told c.take_next.new.link) c.take_next.new.seat) inv.5 c.in-Gone.ensures.takes,
-      omega (arith, inv.6, c.take_next.ensures.counted.count),
+          (sight c.take_next.new.self (g.K.Link.told c.take_next.new.link) c.take_next.new.seat) inv.3 c.in-Gone.ensures.takes,
+      omega (arith, inv.4, c.take_next.ensures.counted.count),
     )
 
-pub returns-in-End-clause-gone : goal.returns-in-End-clause-gone
-returns-in-End-clause-gone g c =
-    gone_on (business c.args.seat.now.mine c.args.self.now) (business c.pieces.seat.mine c.pieces.self)
-    (business c.take_next.new.seat.mine c.take_next.new.self) c.pieces.invariant.2 c.take_next.ensures.gone
+pub returns-in-End-clause-kept : goal.returns-in-End-clause-kept
+returns-in-End-clause-kept g c =
+    kept_on c.args.seat.now c.pieces.seat c.take_next.new.seat c.args.self.now c.pieces.self c.take_next.new.self c.pieces.invariant.0
+    c.take_next.ensures.kept
 
-pub returns-in-Waits-clause-gone : goal.returns-in-Waits-clause-gone
-returns-in-Waits-clause-gone g c =
-    gone_on (business c.args.seat.now.mine c.args.self.now) (business c.pieces.seat.mine c.pieces.self)
-    (business c.take_next.new.seat.mine c.take_next.new.self) c.pieces.invariant.2 c.take_next.ensures.gone
+pub returns-in-Waits-clause-kept : goal.returns-in-Waits-clause-kept
+returns-in-Waits-clause-kept g c =
+    kept_on c.args.seat.now c.pieces.seat c.take_next.new.seat c.args.self.now c.pieces.self c.take_next.new.self c.pieces.invariant.0
+    c.take_next.ensures.kept
 
 pub returns-in-Waits-clause-up : goal.returns-in-Waits-clause-up
 returns-in-Waits-clause-up g c = (
-  subst (HasTaken (sight c.args.self.now (g.K.Link.told c.args.link.now) c.args.seat.now)) (sym c.in-Waits.ensures.takes.0) c.pieces.invariant.5,
+  subst (HasTaken (sight c.args.self.now (g.K.Link.told c.args.link.now) c.args.seat.now)) (sym c.in-Waits.ensures.takes.0) c.pieces.invariant.3,
   c.in-Waits.ensures.takes.1,
 )
 
@@ -41,14 +38,14 @@ pub returns-in-End-clause-up : goal.returns-in-End-clause-up
 returns-in-End-clause-up g c =
     up_on (Some c.in-End.end) (sight c.args.self.now (g.K.Link.told c.args.link.now) c.args.seat.now)
     (sight c.pieces.self (g.K.Link.told c.pieces.link) c.pieces.seat) (sight c.take_next.new.self (g.K.Link.told c.take_next.new.link) c.take_next.new.seat)
-    c.pieces.invariant.5 (search rules)
+    c.pieces.invariant.3 (search rules)
 
 pub returns-in-Waits-clause-counted : goal.returns-in-Waits-clause-counted
 returns-in-Waits-clause-counted g c =
-    counted_on None (g.K.Link.faults c.args.link.now) (g.K.Link.faults c.pieces.link) (g.K.Link.faults c.take_next.new.link) c.pieces.invariant.6
+    counted_on None (g.K.Link.faults c.args.link.now) (g.K.Link.faults c.pieces.link) (g.K.Link.faults c.take_next.new.link) c.pieces.invariant.4
     c.in-Waits.ensures.counted
 
 pub returns-in-End-clause-counted : goal.returns-in-End-clause-counted
 returns-in-End-clause-counted g c =
     counted_on (Some c.in-End.end) (g.K.Link.faults c.args.link.now) (g.K.Link.faults c.pieces.link) (g.K.Link.faults c.take_next.new.link)
-    c.pieces.invariant.6 c.in-End.ensures.counted
+    c.pieces.invariant.4 c.in-End.ensures.counted

@@ -1,15 +1,12 @@
 use Rattle.std.proofs.Common.{◌≡◌, ◌≤◌, false, length}
 use Rattle.conn.specs.Events.{CutsOn}
-use Rattle.conn.specs.Keeping.{HasGone, IsQuiet, business}
+use Rattle.conn.specs.Keeping.{KeepsBusiness}
 use Rattle.conn.specs.Sights.{HasTaken, sight}
-use Rattle.station.specs.Seats.{IsSameSeat}
 use Rattle.conn.proofs.connections.Connection.take_up.Given as goal
 
 abbrev pub invariant-pieces : goal.invariant-pieces
 invariant-pieces g l =
-    IsSameSeat l.initial.seat l.seat
-    × IsQuiet l.seat.mine l.self
-    × HasGone (business l.initial.seat.mine l.initial.self) (business l.seat.mine l.self)
+    KeepsBusiness l.initial.seat l.seat l.initial.self l.self
     × (l.self.session.lost ≡ false)
     × CutsOn l.initial.self.input l.self.input
     × HasTaken (sight l.initial.self (g.K.Link.told l.initial.link) l.initial.seat) (sight l.self (g.K.Link.told l.link) l.seat)
