@@ -52,7 +52,6 @@ pub fn law_order()
         ≡ 0 ∷ 1 ∷ 2 ∷ 3 ∷ 4 ∷ 5 ∷ 6 ∷ 7 ∷ [] }
 {}
 
-
 /// The first fault.
 fn find_fault(curves: &Curves, segments: &[Segment]) -> Result<(), CertFault>
     requires { IsSound curves.now.from curves.now.low.items curves.now.up.items }
