@@ -1,8 +1,9 @@
 -- The clients book what the machine has booked once a slot has come, and at the end of a day; and what
 -- is booked in past slots stays.
 use Rattle.std.proofs.Common.{◌≡◌, ◌<◌, ◌≤◌, ◌+◌, ◌-◌, ◌==◌, ◌&&◌, ℕ, zero, suc, true, false, Bool, cond, nat_le, List, [], ◌∷◌, ◌++◌, length, map, take, set, get_or, sum, Some, arith, refl, sym, ap, subst, ◌∙◌}
+use Rattle.slot_calendar.proofs.Sending.{sent-rises}
 use Rattle.std.specs.Prelude.{sum_by}
-use Rattle.std.proofs.lemmas.Bool.{eqb-true}
+use Rattle.std.proofs.lemmas.Bool.{eqb-true, and_parts}
 use Rattle.std.proofs.lemmas.List.{append-nil, get_or-map, length-map, map-append, set-get_or, take_all}
 use Rattle.std.proofs.lemmas.List.Sums.{sum_by-cons, sum_by_push}
 use Rattle.plan_cert.specs.declared.Segment.{Segment}
@@ -12,76 +13,72 @@ use Rattle.admission.specs.declared.entries.Entry.{Entry}
 use Rattle.admission.specs.Histories.{state_after}
 use Rattle.admission.specs.Machine.{Held, admitted_play, booked_in, held_as}
 use Rattle.day_run.specs.Balanced.{AreHeldOf, IsBalanced, IsHeld, share_of}
-use Rattle.day_run.specs.Days.{Moment, at_slot, done_halt, halt_by, halts, last_journal, open_halt}
+use Rattle.day_run.specs.Days.{Moment, at_slot, done_halt, halt_by, halt_entries, last_journal, open_halt}
 use Rattle.day_run.specs.Clients.{after_open}
-use Rattle.day_run.specs.Seats.{Idle, Playing, Pausing, Paused, Play, Rest, Seat, after_play, after_sending, booking_of, is_done, pausing_seat, sent_by}
-use Rattle.day_run.proofs.LineSteps.{halts-sent}
+use Rattle.day_run.specs.ClientStates.{Idle, Playing, Pausing, Paused, Play, Rest, ClientState, after_play, after_sending, booking_of, is_done, pausing_state, sent_by}
+use Rattle.day_run.proofs.LineSteps.{halt_entries-sent}
 use Rattle.day_run.proofs.Sweeps.{IsSwept, entries-more, swept-all, swept-none, swept-set}
-use Rattle.day_run.proofs.Balances.{balanced-halt, booked-halted, sent-rises, share-done}
+use Rattle.day_run.proofs.Balances.{balanced-halt, booked-halted, share-done}
 
 -- ---- a slot comes
 pause-share : (b : Bool) (t : ℕ) (stop : Booked) (rest : Rest) → (b ≡ true → share_at t stop ≡ 0) → share_of t (cond b (Paused rest) (Pausing stop rest)) ≡ share_at t stop
 pause-share true t stop rest none = sym (none refl)
 pause-share false t stop rest none = refl
 
-pub pausing-share : (t slot : ℕ) (stop : Booked) (rest : Rest) → slot < t → share_of t (pausing_seat slot stop rest) ≡ share_at t stop
+pub pausing-share : (t slot : ℕ) (stop : Booked) (rest : Rest) → slot < t → share_of t (pausing_state slot stop rest) ≡ share_at t stop
 pausing-share t slot stop rest later =
     pause-share (sent_by stop slot == stop.keep) t stop rest (λ all. share-done t slot stop later (eqb-true (sent_by stop slot) stop.keep all))
 
-sending-share : (t slot : ℕ) (seat : Seat) → slot < t → share_of t (after_sending slot seat) ≡ share_of t seat
+sending-share : (t slot : ℕ) (state : ClientState) → slot < t → share_of t (after_sending slot state) ≡ share_of t state
 sending-share t slot Idle later = refl
 sending-share t slot (Playing play) later = refl
 sending-share t slot (Pausing stop rest) later = pausing-share t slot stop rest later
 sending-share t slot (Paused rest) later = refl
 
-sending-shares : (t slot : ℕ) (seats : List Seat) → slot < t → sum_by (share_of t) (map (after_sending slot) seats) ≡ sum_by (share_of t) seats
+sending-shares : (t slot : ℕ) (states : List ClientState) → slot < t → sum_by (share_of t) (map (after_sending slot) states) ≡ sum_by (share_of t) states
 sending-shares t slot [] later = refl
-sending-shares t slot (seat ∷ seats) later =
+sending-shares t slot (state ∷ states) later =
     omega (
       arith,
-      sending-share t slot seat later,
-      sending-shares t slot seats later,
-      sum_by-cons (share_of t) seat seats,
-      sum_by-cons (share_of t) (after_sending slot seat) (map (after_sending slot) seats),
+      sending-share t slot state later,
+      sending-shares t slot states later,
+      sum_by-cons (share_of t) state states,
+      sum_by-cons (share_of t) (after_sending slot state) (map (after_sending slot) states),
     )
 
 pause-held : (b : Bool) (entries : List Entry) (c : ℕ) (stop : Booked) (rest : Rest) → AreHeldOf entries c (cond b (Paused rest) (Pausing stop rest))
 pause-held true entries c stop rest = tt
 pause-held false entries c stop rest = tt
 
-sending-held : (entries : List Entry) (c slot : ℕ) (seat : Seat) → AreHeldOf entries c seat → AreHeldOf entries c (after_sending slot seat)
+sending-held : (entries : List Entry) (c slot : ℕ) (state : ClientState) → AreHeldOf entries c state → AreHeldOf entries c (after_sending slot state)
 sending-held entries c slot Idle its = tt
 sending-held entries c slot (Playing play) its = its
 sending-held entries c slot (Pausing stop rest) its = pause-held (sent_by stop slot == stop.keep) entries c stop rest
 sending-held entries c slot (Paused rest) its = tt
 
-pub balanced-sending : (entries : List Entry) (seats : List Seat) (heard slot : ℕ) → heard ≤ slot → IsBalanced entries seats heard
-    → IsBalanced entries (map (after_sending slot) seats) slot
-balanced-sending entries seats heard slot le balanced = record {
-  each = λ t later. balanced.each t (omega (arith, le, later)) ∙ sym (sending-shares t slot seats later);
+pub balanced-sending : (entries : List Entry) (states : List ClientState) (heard slot : ℕ) → heard ≤ slot → IsBalanced entries states heard
+    → IsBalanced entries (map (after_sending slot) states) slot
+balanced-sending entries states heard slot le balanced = record {
+  each = λ t later. balanced.each t (omega (arith, le, later)) ∙ sym (sending-shares t slot states later);
   held = λ c within.
-      let inside : c < length seats = omega (arith, within, length-map seats (after_sending slot)) in
-      let C : Seat → Type 0 = λ x. AreHeldOf entries c x in
-      subst C (sym (get_or-map (after_sending slot) seats c Idle Idle inside)) (sending-held entries c slot (get_or seats c Idle) (balanced.held c inside));
+      let inside : c < length states = omega (arith, within, length-map states (after_sending slot)) in
+      let C : ClientState → Type 0 = λ x. AreHeldOf entries c x in
+      subst C (sym (get_or-map (after_sending slot) states c Idle Idle inside)) (sending-held entries c slot (get_or states c Idle) (balanced.held c inside));
   fresh = balanced.fresh;
 }
-
-both-true : (a b : Bool) → (a && b) ≡ true → b ≡ true
-both-true true b h = h
-both-true false b h = cc h
 
 -- a play that is done is halted
 done-shares : (t slot : ℕ) (play : Play) → slot < t → is_done slot play ≡ true → share_of t Idle ≡ share_at t (cut_play play.start play.plan (total_bytes play.plan))
 done-shares t slot play later done =
-    let all : (sent_by (booking_of play) slot == total_bytes play.plan) ≡ true = both-true (nat_le play.start slot) (sent_by (booking_of play) slot == total_bytes play.plan) done in
+    let all : (sent_by (booking_of play) slot == total_bytes play.plan) ≡ true = (and_parts (nat_le play.start slot) (sent_by (booking_of play) slot == total_bytes play.plan) done).1 in
     sym (share-done t slot (booking_of play) later (eqb-true (sent_by (booking_of play) slot) (total_bytes play.plan) all))
 
-left-alone : {slot : ℕ} {entries : List Entry} {seats : List Seat} {seat : Seat} (c : ℕ) → get_or seats c Idle ≡ seat → IsBalanced entries seats slot
-    → IsBalanced (entries ++ []) (set seats c seat) slot
-left-alone {slot} {entries} {seats} {seat} c at balanced =
-    let E : List Entry → Type 0 = λ es. IsBalanced es (set seats c seat) slot in
-    let S : List Seat → Type 0 = λ l. IsBalanced entries l slot in
-    let same : seats ≡ set seats c seat = sym (ap (set seats c) (sym at) ∙ set-get_or seats c Idle) in
+left-alone : {slot : ℕ} {entries : List Entry} {states : List ClientState} {state : ClientState} (c : ℕ) → get_or states c Idle ≡ state → IsBalanced entries states slot
+    → IsBalanced (entries ++ []) (set states c state) slot
+left-alone {slot} {entries} {states} {state} c at balanced =
+    let E : List Entry → Type 0 = λ es. IsBalanced es (set states c state) slot in
+    let S : List ClientState → Type 0 = λ l. IsBalanced entries l slot in
+    let same : states ≡ set states c state = sym (ap (set states c) (sym at) ∙ set-get_or states c Idle) in
     subst E (sym (append-nil entries)) (subst S same balanced)
 
 -- ---- what is booked in past slots stays
@@ -114,42 +111,42 @@ stays-halt {slot} entries c keep play held sent most t past =
     )
 
 -- ---- the halts of a slot, or of a day's end
-record IsStep (slot : ℕ) (old new : List Entry) (seats : List Seat) : Type 0 where
-  balanced : IsBalanced new seats slot
+record IsStep (slot : ℕ) (old new : List Entry) (states : List ClientState) : Type 0 where
+  balanced : IsBalanced new states slot
   stays : Stays slot old new
 
-kept-step : {slot : ℕ} {entries : List Entry} {seats : List Seat} {seat : Seat} (c : ℕ) → get_or seats c Idle ≡ seat → IsBalanced entries seats slot
-    → IsStep slot entries (entries ++ []) (set seats c seat)
+kept-step : {slot : ℕ} {entries : List Entry} {states : List ClientState} {state : ClientState} (c : ℕ) → get_or states c Idle ≡ state → IsBalanced entries states slot
+    → IsStep slot entries (entries ++ []) (set states c state)
 kept-step {slot} {entries} c at balanced =
     record { balanced = left-alone c at balanced; stays = stays-none slot entries }
 
-pub its-held : {entries : List Entry} {seats : List Seat} {heard : ℕ} {play : Play} (c : ℕ) → c < length seats → get_or seats c Idle ≡ Playing play → IsBalanced entries seats heard
+pub its-held : {entries : List Entry} {states : List ClientState} {heard : ℕ} {play : Play} (c : ℕ) → c < length states → get_or states c Idle ≡ Playing play → IsBalanced entries states heard
     → held_as play.number (state_after entries).held ≡ Some (admitted_play play.number play.start play.plan)
 its-held {entries} {play} c inside at balanced =
-    let H : Seat → Type 0 = λ s. AreHeldOf entries c s in
+    let H : ClientState → Type 0 = λ s. AreHeldOf entries c s in
     let its : IsHeld entries c play = subst H at (balanced.held c inside) in
     its.held
 
-step-play : {slot : ℕ} {entries : List Entry} {seats : List Seat} {play : Play} {done : Bool} (c : ℕ) → is_done slot play ≡ done → c < length seats
-    → get_or seats c Idle ≡ Playing play → IsBalanced entries seats slot
-    → IsStep slot entries (entries ++ cond done (halt_by c play.number (total_bytes play.plan)) []) (set seats c (cond done Idle (Playing play)))
+step-play : {slot : ℕ} {entries : List Entry} {states : List ClientState} {play : Play} {done : Bool} (c : ℕ) → is_done slot play ≡ done → c < length states
+    → get_or states c Idle ≡ Playing play → IsBalanced entries states slot
+    → IsStep slot entries (entries ++ cond done (halt_by c play.number (total_bytes play.plan)) []) (set states c (cond done Idle (Playing play)))
 step-play {slot} {entries} {play} {done = true} c done inside at balanced = record {
   balanced = balanced-halt c (total_bytes play.plan) Idle inside at tt (λ t later. done-shares t slot play later done) balanced;
   stays = stays-halt entries c (total_bytes play.plan) play (its-held c inside at balanced) (omega arith) (omega arith);
 }
 step-play {slot} {done = false} c done inside at balanced = kept-step c at balanced
 
-step-seat : {slot : ℕ} (c : ℕ) (entries : List Entry) (seats : List Seat) (seat : Seat) → c < length seats → get_or seats c Idle ≡ seat → IsBalanced entries seats slot
-    → IsStep slot entries (entries ++ done_halt slot c seat) (set seats c (after_play slot seat))
-step-seat {slot} c entries seats Idle inside at balanced = kept-step c at balanced
-step-seat {slot} c entries seats (Playing play) inside at balanced = step-play c refl inside at balanced
-step-seat {slot} c entries seats (Pausing stop rest) inside at balanced = kept-step c at balanced
-step-seat {slot} c entries seats (Paused rest) inside at balanced = kept-step c at balanced
+step-state : {slot : ℕ} (c : ℕ) (entries : List Entry) (states : List ClientState) (state : ClientState) → c < length states → get_or states c Idle ≡ state → IsBalanced entries states slot
+    → IsStep slot entries (entries ++ done_halt slot c state) (set states c (after_play slot state))
+step-state {slot} c entries states Idle inside at balanced = kept-step c at balanced
+step-state {slot} c entries states (Playing play) inside at balanced = step-play c refl inside at balanced
+step-state {slot} c entries states (Pausing stop rest) inside at balanced = kept-step c at balanced
+step-state {slot} c entries states (Paused rest) inside at balanced = kept-step c at balanced
 
-open-seat : {slot : ℕ} (c : ℕ) (entries : List Entry) (seats : List Seat) (seat : Seat) → c < length seats → get_or seats c Idle ≡ seat → IsBalanced entries seats slot
-    → IsStep slot entries (entries ++ open_halt slot c seat) (set seats c (after_open seat))
-open-seat {slot} c entries seats Idle inside at balanced = kept-step c at balanced
-open-seat {slot} c entries seats (Playing play) inside at balanced =
+open-state : {slot : ℕ} (c : ℕ) (entries : List Entry) (states : List ClientState) (state : ClientState) → c < length states → get_or states c Idle ≡ state → IsBalanced entries states slot
+    → IsStep slot entries (entries ++ open_halt slot c state) (set states c (after_open state))
+open-state {slot} c entries states Idle inside at balanced = kept-step c at balanced
+open-state {slot} c entries states (Playing play) inside at balanced =
     let keep = sent_by (booking_of play) slot in
     record {
       balanced =
@@ -157,28 +154,28 @@ open-seat {slot} c entries seats (Playing play) inside at balanced =
           (λ t later. sym (share-done t slot (cut_play play.start play.plan keep) later (omega arith))) balanced;
       stays = stays-halt entries c keep play (its-held c inside at balanced) (omega arith) (omega arith);
     }
-open-seat {slot} c entries seats (Pausing stop rest) inside at balanced = kept-step c at balanced
-open-seat {slot} c entries seats (Paused rest) inside at balanced = kept-step c at balanced
+open-state {slot} c entries states (Pausing stop rest) inside at balanced = kept-step c at balanced
+open-state {slot} c entries states (Paused rest) inside at balanced = kept-step c at balanced
 
-abbrev IsStepOf : ℕ → (ℕ → Seat → List Entry) → (Seat → Seat) → Type 0
+abbrev IsStepOf : ℕ → (ℕ → ClientState → List Entry) → (ClientState → ClientState) → Type 0
 IsStepOf slot halt after =
-    (c : ℕ) (entries : List Entry) (seats : List Seat) (seat : Seat) → c < length seats → get_or seats c Idle ≡ seat → IsBalanced entries seats slot
-    → IsStep slot entries (entries ++ halt c seat) (set seats c (after seat))
+    (c : ℕ) (entries : List Entry) (states : List ClientState) (state : ClientState) → c < length states → get_or states c Idle ≡ state → IsBalanced entries states slot
+    → IsStep slot entries (entries ++ halt c state) (set states c (after state))
 
-record Ending (slot n : ℕ) (halt : ℕ → Seat → List Entry) (after : Seat → Seat) (begun : List Entry) (old : List Seat) : Type 0 where
+record Ending (slot n : ℕ) (halt : ℕ → ClientState → List Entry) (after : ClientState → ClientState) (begun : List Entry) (old : List ClientState) : Type 0 where
   entries : List Entry
-  seats : List Seat
-  swept : IsSwept after n old seats
-  entries_are : entries ≡ begun ++ halts halt 0 (take n old)
-  balanced : IsBalanced entries seats slot
+  states : List ClientState
+  swept : IsSwept after n old states
+  entries_are : entries ≡ begun ++ halt_entries halt 0 (take n old)
+  balanced : IsBalanced entries states slot
   stays : Stays slot begun entries
 
-ending : {slot : ℕ} {halt : ℕ → Seat → List Entry} {after : Seat → Seat} {begun : List Entry} {old : List Seat}
+ending : {slot : ℕ} {halt : ℕ → ClientState → List Entry} {after : ClientState → ClientState} {begun : List Entry} {old : List ClientState}
     {n : ℕ} → IsStepOf slot halt after → n ≤ length old
     → IsBalanced begun old slot → Ending slot n halt after begun old
 ending {slot} {halt} {after} {begun} {old} {n = zero} step most balanced = record {
   entries = begun;
-  seats = old;
+  states = old;
   swept = swept-none after old;
   entries_are = sym (append-nil begun);
   balanced = balanced;
@@ -186,52 +183,52 @@ ending {slot} {halt} {after} {begun} {old} {n = zero} step most balanced = recor
 }
 ending {slot} {halt} {after} {begun} {old} {n = suc n} step most balanced =
     let e = ending {slot = slot} {halt = halt} {after = after} {begun = begun} {old = old} {n = n} step (omega (arith, most)) balanced in
-    let seat = get_or old n Idle in
+    let state = get_or old n Idle in
     let one : n + 1 ≡ suc n = omega arith in
     let inside : n < length old = omega (arith, most) in
-    let next = step n e.entries e.seats seat (omega (arith, inside, e.swept.count)) (e.swept.later n (omega arith)) e.balanced in
+    let next = step n e.entries e.states state (omega (arith, inside, e.swept.count)) (e.swept.later n (omega arith)) e.balanced in
     let E : ℕ → Type 0 = λ k. Ending slot k halt after begun old in
     subst E one (record {
-      entries = e.entries ++ halt n seat;
-      seats = set e.seats n (after seat);
-      swept = swept-set {f = after} {i = n} {old = old} {new = e.seats} {seat = after seat} inside refl e.swept;
-      entries_are = entries-more {i = n} {before = e.entries} {after = e.entries ++ halt n seat} {more = halt n seat} halt old begun inside e.entries_are refl refl;
+      entries = e.entries ++ halt n state;
+      states = set e.states n (after state);
+      swept = swept-set {f = after} {i = n} {old = old} {new = e.states} {state = after state} inside refl e.swept;
+      entries_are = entries-more {i = n} {before = e.entries} {after = e.entries ++ halt n state} {more = halt n state} halt old begun inside e.entries_are refl refl;
       balanced = next.balanced;
       stays = λ t past. next.stays t past ∙ e.stays t past;
     })
 
-pub balanced-slot : (old : Moment) (slot : ℕ) → old.heard ≤ slot → IsBalanced old.entries old.seats old.heard
-    → IsBalanced (at_slot old slot).entries (at_slot old slot).seats slot
+pub balanced-slot : (old : Moment) (slot : ℕ) → old.heard ≤ slot → IsBalanced old.entries old.states old.heard
+    → IsBalanced (at_slot old slot).entries (at_slot old slot).states slot
 balanced-slot old slot le balanced =
-    let sent = map (after_sending slot) old.seats in
+    let sent = map (after_sending slot) old.states in
     let n = length sent in
-    let e = ending {slot = slot} {halt = done_halt slot} {after = after_play slot} {begun = old.entries} {old = sent} {n = n} (step-seat) (omega arith) (balanced-sending old.entries old.seats old.heard slot le balanced) in
-    let seats : e.seats ≡ map (after_play slot) sent = swept-all (after_play slot) n sent e.seats (omega arith) e.swept in
-    let entries : e.entries ≡ old.entries ++ halts (done_halt slot) 0 old.seats =
-    e.entries_are ∙ ap (λ l. old.entries ++ halts (done_halt slot) 0 l) (take_all n sent (omega arith))
-    ∙ ap (λ es. old.entries ++ es) (halts-sent slot 0 old.seats) in
+    let e = ending {slot = slot} {halt = done_halt slot} {after = after_play slot} {begun = old.entries} {old = sent} {n = n} (step-state) (omega arith) (balanced-sending old.entries old.states old.heard slot le balanced) in
+    let states : e.states ≡ map (after_play slot) sent = swept-all (after_play slot) n sent e.states (omega arith) e.swept in
+    let entries : e.entries ≡ old.entries ++ halt_entries (done_halt slot) 0 old.states =
+    e.entries_are ∙ ap (λ l. old.entries ++ halt_entries (done_halt slot) 0 l) (take_all n sent (omega arith))
+    ∙ ap (λ es. old.entries ++ es) (halt_entries-sent slot 0 old.states) in
     let E : List Entry → Type 0 = λ es. IsBalanced es (map (after_play slot) sent) slot in
-    let S : List Seat → Type 0 = λ l. IsBalanced e.entries l slot in
-    subst E entries (subst S seats e.balanced)
+    let S : List ClientState → Type 0 = λ l. IsBalanced e.entries l slot in
+    subst E entries (subst S states e.balanced)
 
-pub slot-stays : (old : Moment) (slot t : ℕ) → old.heard ≤ slot → t ≤ slot → IsBalanced old.entries old.seats old.heard
+pub slot-stays : (old : Moment) (slot t : ℕ) → old.heard ≤ slot → t ≤ slot → IsBalanced old.entries old.states old.heard
     → booked_in (state_after (at_slot old slot).entries) t ≡ booked_in (state_after old.entries) t
 slot-stays old slot t le past balanced =
-    let sent = map (after_sending slot) old.seats in
+    let sent = map (after_sending slot) old.states in
     let n = length sent in
-    let e = ending {slot = slot} {halt = done_halt slot} {after = after_play slot} {begun = old.entries} {old = sent} {n = n} (step-seat) (omega arith) (balanced-sending old.entries old.seats old.heard slot le balanced) in
-    let entries : e.entries ≡ old.entries ++ halts (done_halt slot) 0 old.seats =
-    e.entries_are ∙ ap (λ l. old.entries ++ halts (done_halt slot) 0 l) (take_all n sent (omega arith))
-    ∙ ap (λ es. old.entries ++ es) (halts-sent slot 0 old.seats) in
+    let e = ending {slot = slot} {halt = done_halt slot} {after = after_play slot} {begun = old.entries} {old = sent} {n = n} (step-state) (omega arith) (balanced-sending old.entries old.states old.heard slot le balanced) in
+    let entries : e.entries ≡ old.entries ++ halt_entries (done_halt slot) 0 old.states =
+    e.entries_are ∙ ap (λ l. old.entries ++ halt_entries (done_halt slot) 0 l) (take_all n sent (omega arith))
+    ∙ ap (λ es. old.entries ++ es) (halt_entries-sent slot 0 old.states) in
     sym (ap (λ es. booked_in (state_after es) t) entries) ∙ e.stays t past
 
 -- a day ends
-pub last-stays : (m : Moment) (t : ℕ) → t ≤ m.heard → IsBalanced m.entries m.seats m.heard
+pub last-stays : (m : Moment) (t : ℕ) → t ≤ m.heard → IsBalanced m.entries m.states m.heard
     → booked_in (state_after (last_journal m)) t ≡ booked_in (state_after m.entries) t
 last-stays m t past balanced =
-    let n = length m.seats in
-    let e = ending {slot = m.heard} {halt = open_halt m.heard} {after = after_open} {begun = m.entries} {old = m.seats} {n = n} (open-seat) (omega arith) balanced in
-    let entries : e.entries ≡ last_journal m = e.entries_are ∙ ap (λ l. m.entries ++ halts (open_halt m.heard) 0 l) (take_all n m.seats (omega arith)) in
+    let n = length m.states in
+    let e = ending {slot = m.heard} {halt = open_halt m.heard} {after = after_open} {begun = m.entries} {old = m.states} {n = n} (open-state) (omega arith) balanced in
+    let entries : e.entries ≡ last_journal m = e.entries_are ∙ ap (λ l. m.entries ++ halt_entries (open_halt m.heard) 0 l) (take_all n m.states (omega arith)) in
     sym (ap (λ es. booked_in (state_after es) t) entries) ∙ e.stays t past
 
 -- a play was admitted after the slot that was heard last
@@ -247,11 +244,11 @@ play-stays entries e number start heard t plan early past is =
     ∙ sum_by_push (share_at t) (map (λ (x : Held). x.play) held) (whole_play start plan) in
     omega (arith, b, sent)
 
-pub last-later : (m : Moment) (t : ℕ) → m.heard < t → IsBalanced m.entries m.seats m.heard
-    → booked_in (state_after (last_journal m)) t ≡ sum_by (share_of t) (map after_open m.seats)
+pub last-later : (m : Moment) (t : ℕ) → m.heard < t → IsBalanced m.entries m.states m.heard
+    → booked_in (state_after (last_journal m)) t ≡ sum_by (share_of t) (map after_open m.states)
 last-later m t later balanced =
-    let n = length m.seats in
-    let e = ending {slot = m.heard} {halt = open_halt m.heard} {after = after_open} {begun = m.entries} {old = m.seats} {n = n} (open-seat) (omega arith) balanced in
-    let entries : e.entries ≡ last_journal m = e.entries_are ∙ ap (λ l. m.entries ++ halts (open_halt m.heard) 0 l) (take_all n m.seats (omega arith)) in
-    let seats : e.seats ≡ map after_open m.seats = swept-all after_open n m.seats e.seats (omega arith) e.swept in
-    sym (ap (λ es. booked_in (state_after es) t) entries) ∙ e.balanced.each t later ∙ ap (sum_by (share_of t)) seats
+    let n = length m.states in
+    let e = ending {slot = m.heard} {halt = open_halt m.heard} {after = after_open} {begun = m.entries} {old = m.states} {n = n} (open-state) (omega arith) balanced in
+    let entries : e.entries ≡ last_journal m = e.entries_are ∙ ap (λ l. m.entries ++ halt_entries (open_halt m.heard) 0 l) (take_all n m.states (omega arith)) in
+    let states : e.states ≡ map after_open m.states = swept-all after_open n m.states e.states (omega arith) e.swept in
+    sym (ap (λ es. booked_in (state_after es) t) entries) ∙ e.balanced.each t later ∙ ap (sum_by (share_of t)) states

@@ -1,5 +1,6 @@
 -- What is sent in a day's slots is what is booked there.
 use Rattle.std.proofs.Common.{◌≡◌, ◌<◌, ◌≤◌, ◌+◌, ◌-◌, ◌==◌, ℕ, zero, suc, List, [], ◌∷◌, ◌++◌, All, length, map, take, set, get_or, sum, Some, arith, refl, sym, ap, subst, ◌∙◌, inl, inr}
+use Rattle.slot_calendar.proofs.Sending.{sent-rises}
 use Rattle.std.specs.Prelude.{sum_by}
 use Rattle.std.specs.List.{range_with_len}
 use Rattle.std.proofs.lemmas.Bool.{cases_Bool, cases_eq, cond-true, cond-false}
@@ -19,17 +20,10 @@ use Rattle.admission.proofs.Halts.{plays-split, split}
 use Rattle.admission.proofs.Runs.{state-push}
 use Rattle.day_run.specs.Balanced.{AreHeldOf, IsBalanced, IsHeld, share_of}
 use Rattle.day_run.specs.Days.{entry_by, halt_by}
-use Rattle.day_run.specs.Seats.{Idle, Playing, Pausing, Paused, Play, Seat, booking_of, growth, sent_between, sent_by}
+use Rattle.day_run.specs.ClientStates.{Idle, Playing, Pausing, Paused, Play, ClientState, booking_of, growth, sent_between, sent_by}
 use Rattle.day_run.proofs.SlotSums.{sum-slots}
 
 -- ---- plays slot by slot
-pub sent-rises : (segments : List Segment) (start t u : ℕ) → t ≤ u → sent_before segments start t ≤ sent_before segments start u
-sent-rises segments start t u le =
-    let xs = plan_slots segments in
-    let e : sum (take (t - start) (take (u - start) xs)) ≡ sum (take (t - start) xs) = ap sum (take-take (t - start) (u - start) xs (omega (arith, le))) in
-    let b : sum (take (t - start) (take (u - start) xs)) ≤ sum (take (u - start) xs) = sum_by-take-le (λ x. x) (take (u - start) xs) (t - start) in
-    omega (arith, e, b)
-
 -- one slot more
 pub growth-more : (heard slot : ℕ) (play : Booked) → heard ≤ slot → growth heard (slot + 1) play ≡ growth heard slot play + share_at (slot + 1) play
 growth-more heard slot play le =
@@ -49,69 +43,69 @@ share-done t heard play later all =
       sent-rises play.segments play.start (heard + 1) (t + 1) (omega (arith, later)),
     )
 
-between-more : (heard slot : ℕ) (seat : Seat) → heard ≤ slot → sent_between heard (slot + 1) seat ≡ sent_between heard slot seat + share_of (slot + 1) seat
+between-more : (heard slot : ℕ) (state : ClientState) → heard ≤ slot → sent_between heard (slot + 1) state ≡ sent_between heard slot state + share_of (slot + 1) state
 between-more heard slot Idle le = omega arith
 between-more heard slot (Playing play) le = growth-more heard slot (booking_of play) le
 between-more heard slot (Pausing stop rest) le = growth-more heard slot stop le
 between-more heard slot (Paused rest) le = omega arith
 
-between-none : (heard : ℕ) (seat : Seat) → sent_between heard heard seat ≡ 0
+between-none : (heard : ℕ) (state : ClientState) → sent_between heard heard state ≡ 0
 between-none heard Idle = refl
 between-none heard (Playing play) = omega arith
 between-none heard (Pausing stop rest) = omega arith
 between-none heard (Paused rest) = refl
 
-sum-between : (heard slot : ℕ) (seats : List Seat) → heard ≤ slot
-    → sum_by (sent_between heard (slot + 1)) seats ≡ sum_by (sent_between heard slot) seats + sum_by (share_of (slot + 1)) seats
+sum-between : (heard slot : ℕ) (states : List ClientState) → heard ≤ slot
+    → sum_by (sent_between heard (slot + 1)) states ≡ sum_by (sent_between heard slot) states + sum_by (share_of (slot + 1)) states
 sum-between heard slot [] le = omega arith
-sum-between heard slot (seat ∷ seats) le =
+sum-between heard slot (state ∷ states) le =
     omega (
       arith,
-      between-more heard slot seat le,
-      sum-between heard slot seats le,
-      sum_by-cons (sent_between heard (slot + 1)) seat seats,
-      sum_by-cons (sent_between heard slot) seat seats,
-      sum_by-cons (share_of (slot + 1)) seat seats,
+      between-more heard slot state le,
+      sum-between heard slot states le,
+      sum_by-cons (sent_between heard (slot + 1)) state states,
+      sum_by-cons (sent_between heard slot) state states,
+      sum_by-cons (share_of (slot + 1)) state states,
     )
 
-pub sum-none : (heard : ℕ) (seats : List Seat) → sum_by (sent_between heard heard) seats ≡ 0
+pub sum-none : (heard : ℕ) (states : List ClientState) → sum_by (sent_between heard heard) states ≡ 0
 sum-none heard [] = refl
-sum-none heard (seat ∷ seats) = omega (arith, between-none heard seat, sum-none heard seats, sum_by-cons (sent_between heard heard) seat seats)
+sum-none heard (state ∷ states) = omega (arith, between-none heard state, sum-none heard states, sum_by-cons (sent_between heard heard) state states)
 
 -- what is sent in the slots after one is what the clients book there
-sent-booked : (booked : ℕ → ℕ) (heard n : ℕ) (seats : List Seat) → ((t : ℕ) → heard < t → booked t ≡ sum_by (share_of t) seats)
-    → sum_by (sent_between heard (heard + n)) seats ≡ sum_by booked (range_with_len (heard + 1) n)
-sent-booked booked heard zero seats each =
+sent-booked : (booked : ℕ → ℕ) (heard n : ℕ) (states : List ClientState) → ((t : ℕ) → heard < t → booked t ≡ sum_by (share_of t) states)
+    → sum_by (sent_between heard (heard + n)) states ≡ sum_by booked (range_with_len (heard + 1) n)
+sent-booked booked heard zero states each =
     let e : heard + 0 ≡ heard = omega arith in
-    ap (λ s. sum_by (sent_between heard s) seats) e ∙ sum-none heard seats
-sent-booked booked heard (suc n) seats each =
+    ap (λ s. sum_by (sent_between heard s) states) e ∙ sum-none heard states
+sent-booked booked heard (suc n) states each =
     let e : heard + suc n ≡ heard + n + 1 = omega arith in
     let f : suc n ≡ n + 1 = omega arith in
     let g : heard + 1 + n ≡ heard + n + 1 = omega arith in
-    let s : sum_by (sent_between heard (heard + n + 1)) seats ≡ sum_by (sent_between heard (heard + n)) seats + sum_by (share_of (heard + n + 1)) seats =
-    sum-between heard (heard + n) seats (omega arith) in
+    let s : sum_by (sent_between heard (heard + n + 1)) states ≡ sum_by (sent_between heard (heard + n)) states + sum_by (share_of (heard + n + 1)) states =
+    sum-between heard (heard + n) states (omega arith) in
     let b : sum_by booked (range_with_len (heard + 1) (n + 1)) ≡ sum_by booked (range_with_len (heard + 1) n) + booked (heard + n + 1) =
     sum-slots booked (heard + 1) n ∙ ap (λ k. sum_by booked (range_with_len (heard + 1) n) + booked k) g in
-    let here : booked (heard + n + 1) ≡ sum_by (share_of (heard + n + 1)) seats = each (heard + n + 1) (omega arith) in
-    let whole : sum_by (sent_between heard (heard + n + 1)) seats ≡ sum_by booked (range_with_len (heard + 1) (n + 1)) =
-    omega (arith, s, b, here, sent-booked booked heard n seats each) in
-    ap (λ k. sum_by (sent_between heard k) seats) e ∙ whole ∙ sym (ap (λ k. sum_by booked (range_with_len (heard + 1) k)) f)
+    let here : booked (heard + n + 1) ≡ sum_by (share_of (heard + n + 1)) states = each (heard + n + 1) (omega arith) in
+    let whole : sum_by (sent_between heard (heard + n + 1)) states ≡ sum_by booked (range_with_len (heard + 1) (n + 1)) =
+    omega (arith, s, b, here, sent-booked booked heard n states each) in
+    ap (λ k. sum_by (sent_between heard k) states) e ∙ whole ∙ sym (ap (λ k. sum_by booked (range_with_len (heard + 1) k)) f)
 
-pub balanced-sent : (entries : List Entry) (seats : List Seat) (heard slot : ℕ) → heard ≤ slot → IsBalanced entries seats heard
-    → sum_by (sent_between heard slot) seats ≡ sum_by (booked_in (state_after entries)) (range_with_len (heard + 1) (slot - heard))
-balanced-sent entries seats heard slot le balanced =
+pub balanced-sent : (entries : List Entry) (states : List ClientState) (heard slot : ℕ) → heard ≤ slot → IsBalanced entries states heard
+    → sum_by (sent_between heard slot) states ≡ sum_by (booked_in (state_after entries)) (range_with_len (heard + 1) (slot - heard))
+balanced-sent entries states heard slot le balanced =
     let e : heard + (slot - heard) ≡ slot = omega (arith, le) in
-    sym (ap (λ s. sum_by (sent_between heard s) seats) e) ∙ sent-booked (booked_in (state_after entries)) heard (slot - heard) seats balanced.each
+    sym (ap (λ s. sum_by (sent_between heard s) states) e) ∙ sent-booked (booked_in (state_after entries)) heard (slot - heard) states balanced.each
 
 -- ---- one entry more
 -- a client has no play that is open
-abbrev pub IsShut : Seat → Type 0
+abbrev pub IsShut : ClientState → Type 0
 IsShut Idle = Unit {0}
 IsShut (Playing play) = ⊥
 IsShut (Pausing stop rest) = Unit {0}
 IsShut (Paused rest) = Unit {0}
 
-shut-held : (entries : List Entry) (c : ℕ) (seat : Seat) → IsShut seat → AreHeldOf entries c seat
+shut-held : (entries : List Entry) (c : ℕ) (state : ClientState) → IsShut state → AreHeldOf entries c state
 shut-held entries c Idle shut = tt
 shut-held entries c (Playing play) shut = absurd shut
 shut-held entries c (Pausing stop rest) shut = tt
@@ -158,8 +152,8 @@ other-halted {entries} {c} {d} {play} number keep inside maker other its =
     maker-more entries e d play its
     (ap (λ (x : State). held_as play.number x.held) (state-push entries e) ∙ found-other play.number number keep (state_after entries).held apart ∙ its.held)
 
-others-halted : {c d : ℕ} (entries : List Entry) (number keep : ℕ) (seat : Seat) → number < length entries → ((none : Entry) → (get_or entries number none).maker ≡ c)
-    → (d ≡ c → ⊥) → AreHeldOf entries d seat → AreHeldOf (entries ++ halt_by c number keep) d seat
+others-halted : {c d : ℕ} (entries : List Entry) (number keep : ℕ) (state : ClientState) → number < length entries → ((none : Entry) → (get_or entries number none).maker ≡ c)
+    → (d ≡ c → ⊥) → AreHeldOf entries d state → AreHeldOf (entries ++ halt_by c number keep) d state
 others-halted {c} entries number keep Idle inside maker other its = tt
 others-halted {c} entries number keep (Playing play) inside maker other its = other-halted number keep inside maker other its
 others-halted {c} entries number keep (Pausing stop rest) inside maker other its = tt
@@ -184,28 +178,28 @@ fresh-more n m held le all =
     All-weaker (λ (h : Held). h.number < n) (λ (h : Held). h.number < m) (λ h less. omega (arith, less, le)) held all
 
 -- a client's play was halted, and the client books what is kept of it
-pub balanced-halt : {entries : List Entry} {seats : List Seat} {heard : ℕ} {play : Play} (c keep : ℕ) (next : Seat) → c < length seats
-    → get_or seats c Idle ≡ Playing play → IsShut next → ((t : ℕ) → heard < t → share_of t next ≡ share_at t (cut_play play.start play.plan keep))
-    → IsBalanced entries seats heard → IsBalanced (entries ++ halt_by c play.number keep) (set seats c next) heard
-balanced-halt {entries} {seats} {play} c keep next inside at shut shares balanced =
+pub balanced-halt : {entries : List Entry} {states : List ClientState} {heard : ℕ} {play : Play} (c keep : ℕ) (next : ClientState) → c < length states
+    → get_or states c Idle ≡ Playing play → IsShut next → ((t : ℕ) → heard < t → share_of t next ≡ share_at t (cut_play play.start play.plan keep))
+    → IsBalanced entries states heard → IsBalanced (entries ++ halt_by c play.number keep) (set states c next) heard
+balanced-halt {entries} {states} {play} c keep next inside at shut shares balanced =
     let e = entry_by c (commands.Halt play.number keep) Halted in
-    let H : Seat → Type 0 = λ s. AreHeldOf entries c s in
+    let H : ClientState → Type 0 = λ s. AreHeldOf entries c s in
     let its : IsHeld entries c play = subst H at (balanced.held c inside) in
     record {
       each = λ t later.
           let b = booked-halted entries c play.number keep play.start t play.plan its.held in
-          let s = sum_by-set (share_of t) seats c next Idle inside in
-          let was : share_of t (get_or seats c Idle) ≡ share_at t (whole_play play.start play.plan) = ap (share_of t) at in
+          let s = sum_by-set (share_of t) states c next Idle inside in
+          let was : share_of t (get_or states c Idle) ≡ share_at t (whole_play play.start play.plan) = ap (share_of t) at in
           omega (arith, b, s, was, shares t later, balanced.each t later);
       held = λ d within. elim (cases_eq d c) [
         | inl same ↦
-            let B : ℕ → Type 0 = λ n. AreHeldOf (entries ++ halt_by c play.number keep) n (get_or (set seats c next) n Idle) in
-            let C : Seat → Type 0 = λ x. AreHeldOf (entries ++ halt_by c play.number keep) c x in
-            subst B (sym same) (subst C (sym (get_or-set_same seats c next Idle inside)) (shut-held (entries ++ halt_by c play.number keep) c next shut))
+            let B : ℕ → Type 0 = λ n. AreHeldOf (entries ++ halt_by c play.number keep) n (get_or (set states c next) n Idle) in
+            let C : ClientState → Type 0 = λ x. AreHeldOf (entries ++ halt_by c play.number keep) c x in
+            subst B (sym same) (subst C (sym (get_or-set_same states c next Idle inside)) (shut-held (entries ++ halt_by c play.number keep) c next shut))
         | inr other ↦
-            let C : Seat → Type 0 = λ x. AreHeldOf (entries ++ halt_by c play.number keep) d x in
-            subst C (sym (get_or-set_other seats c d next Idle other))
-            (others-halted entries play.number keep (get_or seats d Idle) its.inside its.maker other (balanced.held d (omega (arith, within, length-set seats c next))))
+            let C : ClientState → Type 0 = λ x. AreHeldOf (entries ++ halt_by c play.number keep) d x in
+            subst C (sym (get_or-set_other states c d next Idle other))
+            (others-halted entries play.number keep (get_or states d Idle) its.inside its.maker other (balanced.held d (omega (arith, within, length-set states c next))))
       ];
       fresh =
           let A : State → Type 0 = λ s. All (λ (h : Held). h.number < length (entries ++ halt_by c play.number keep)) s.held in
@@ -215,26 +209,26 @@ balanced-halt {entries} {seats} {play} c keep next inside at shut shares balance
     }
 
 -- an entry that leaves the plays of the machine as they are
-same-held : (entries : List Entry) (e : Entry) (c : ℕ) (seat : Seat) → (state_after (entries ++ e ∷ [])).held ≡ (state_after entries).held
-    → AreHeldOf entries c seat → AreHeldOf (entries ++ e ∷ []) c seat
+same-held : (entries : List Entry) (e : Entry) (c : ℕ) (state : ClientState) → (state_after (entries ++ e ∷ [])).held ≡ (state_after entries).held
+    → AreHeldOf entries c state → AreHeldOf (entries ++ e ∷ []) c state
 same-held entries e c Idle same its = tt
 same-held entries e c (Playing play) same its = maker-more entries e c play its (ap (held_as play.number) same ∙ its.held)
 same-held entries e c (Pausing stop rest) same its = tt
 same-held entries e c (Paused rest) same its = tt
 
-pub balanced-same : (entries : List Entry) (seats : List Seat) (heard : ℕ) (e : Entry) → (state_after (entries ++ e ∷ [])).held ≡ (state_after entries).held
-    → IsBalanced entries seats heard → IsBalanced (entries ++ e ∷ []) seats heard
-balanced-same entries seats heard e same balanced = record {
+pub balanced-same : (entries : List Entry) (states : List ClientState) (heard : ℕ) (e : Entry) → (state_after (entries ++ e ∷ [])).held ≡ (state_after entries).held
+    → IsBalanced entries states heard → IsBalanced (entries ++ e ∷ []) states heard
+balanced-same entries states heard e same balanced = record {
   each = λ t later. ap (λ hs. sum_by (share_at t) (map (λ (x : Held). x.play) hs)) same ∙ balanced.each t later;
-  held = λ c inside. same-held entries e c (get_or seats c Idle) same (balanced.held c inside);
+  held = λ c inside. same-held entries e c (get_or states c Idle) same (balanced.held c inside);
   fresh =
       let A : List Held → Type 0 = λ l. All (λ (h : Held). h.number < length (entries ++ e ∷ [])) l in
       subst A (sym same)
       (fresh-more (length entries) (length (entries ++ e ∷ [])) (state_after entries).held (omega (arith, length-append entries (e ∷ []))) balanced.fresh);
 }
 
-push-held : (entries : List Entry) (e : Entry) (c : ℕ) (seat : Seat) (new : Held) → (state_after (entries ++ e ∷ [])).held ≡ (state_after entries).held ++ new ∷ []
-    → AreHeldOf entries c seat → AreHeldOf (entries ++ e ∷ []) c seat
+push-held : (entries : List Entry) (e : Entry) (c : ℕ) (state : ClientState) (new : Held) → (state_after (entries ++ e ∷ [])).held ≡ (state_after entries).held ++ new ∷ []
+    → AreHeldOf entries c state → AreHeldOf (entries ++ e ∷ []) c state
 push-held entries e c Idle new is its = tt
 push-held entries e c (Playing play) new is its =
     maker-more entries e c play its
@@ -243,10 +237,10 @@ push-held entries e c (Pausing stop rest) new is its = tt
 push-held entries e c (Paused rest) new is its = tt
 
 -- a client's play was admitted, which booked nothing before
-pub balanced-play : {entries : List Entry} {seats : List Seat} {heard c : ℕ} (play : Play) (e : Entry) → c < length seats → play.number ≡ length entries → e.maker ≡ c
+pub balanced-play : {entries : List Entry} {states : List ClientState} {heard c : ℕ} (play : Play) (e : Entry) → c < length states → play.number ≡ length entries → e.maker ≡ c
     → (state_after (entries ++ e ∷ [])).held ≡ (state_after entries).held ++ admitted_play play.number play.start play.plan ∷ []
-    → ((t : ℕ) → share_of t (get_or seats c Idle) ≡ 0) → IsBalanced entries seats heard → IsBalanced (entries ++ e ∷ []) (set seats c (Playing play)) heard
-balanced-play {entries} {seats} {c} play e inside number maker is free balanced =
+    → ((t : ℕ) → share_of t (get_or states c Idle) ≡ 0) → IsBalanced entries states heard → IsBalanced (entries ++ e ∷ []) (set states c (Playing play)) heard
+balanced-play {entries} {states} {c} play e inside number maker is free balanced =
     let new = admitted_play play.number play.start play.plan in
     let held = (state_after entries).held in
     let n : length (entries ++ e ∷ []) ≡ length entries + 1 = omega (arith, length-append entries (e ∷ [])) in
@@ -265,17 +259,17 @@ balanced-play {entries} {seats} {c} play e inside number maker is free balanced 
           let b : booked_in (state_after (entries ++ e ∷ [])) t ≡ booked_in (state_after entries) t + share_at t (whole_play play.start play.plan) =
           ap (λ hs. sum_by (share_at t) (map (λ (x : Held). x.play) hs)) is ∙ ap (sum_by (share_at t)) (map-append (λ (x : Held). x.play) held (new ∷ []))
           ∙ sum_by_push (share_at t) (map (λ (x : Held). x.play) held) (whole_play play.start play.plan) in
-          let s = sum_by-set (share_of t) seats c (Playing play) Idle inside in
+          let s = sum_by-set (share_of t) states c (Playing play) Idle inside in
           omega (arith, b, s, free t, balanced.each t later);
       held = λ d within. elim (cases_eq d c) [
         | inl same ↦
-            let B : ℕ → Type 0 = λ k. AreHeldOf (entries ++ e ∷ []) k (get_or (set seats c (Playing play)) k Idle) in
-            let C : Seat → Type 0 = λ x. AreHeldOf (entries ++ e ∷ []) c x in
-            subst B (sym same) (subst C (sym (get_or-set_same seats c (Playing play) Idle inside)) own)
+            let B : ℕ → Type 0 = λ k. AreHeldOf (entries ++ e ∷ []) k (get_or (set states c (Playing play)) k Idle) in
+            let C : ClientState → Type 0 = λ x. AreHeldOf (entries ++ e ∷ []) c x in
+            subst B (sym same) (subst C (sym (get_or-set_same states c (Playing play) Idle inside)) own)
         | inr other ↦
-            let C : Seat → Type 0 = λ x. AreHeldOf (entries ++ e ∷ []) d x in
-            subst C (sym (get_or-set_other seats c d (Playing play) Idle other))
-            (push-held entries e d (get_or seats d Idle) new is (balanced.held d (omega (arith, within, length-set seats c (Playing play)))))
+            let C : ClientState → Type 0 = λ x. AreHeldOf (entries ++ e ∷ []) d x in
+            subst C (sym (get_or-set_other states c d (Playing play) Idle other))
+            (push-held entries e d (get_or states d Idle) new is (balanced.held d (omega (arith, within, length-set states c (Playing play)))))
       ];
       fresh =
           let P : Held → Type 0 = λ h. h.number < length (entries ++ e ∷ []) in

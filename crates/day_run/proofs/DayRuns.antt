@@ -6,7 +6,8 @@ use Rattle.std.proofs.lemmas.List.{append-nil, append_assoc, drop_all, drop_more
 use Rattle.admission.specs.declared.entries.Entry.{Entry}
 use Rattle.report.specs.EntryLines.{entry_line}
 use Rattle.day_run.specs.declared.scripts.Line.{Line}
-use Rattle.day_run.specs.Days.{AreRun, IsDay, IsLine, Link, Moment, entry_lines, halts_at, last_journal, last_lines, first_moment}
+use Rattle.report.specs.JournalTexts.{journal_text}
+use Rattle.day_run.specs.Days.{AreRun, IsDay, IsLine, Link, Moment, halts_at, last_journal, last_lines, first_moment}
 use Rattle.day_run.specs.Runners.{HasRun, IsPrinted}
 use Rattle.day_run.proofs.LineSteps.{more-entries}
 
@@ -40,28 +41,15 @@ run-next {link} {here} {before} {after} {old} {new} lines i none same inside run
     let L : List Line → Type 0 = λ ls. HasRun link ls after new in
     subst L (sym (take_more lines i none inside)) (run-push (get_or lines i none) run (subst P same printed))
 
--- one line more of the entries' lines
-pub entries-next : {whole after : List ℕ} (entries : List Entry) (i : ℕ) (none : Entry) (before : List ℕ) → i < length entries
-    → before ++ entry_lines i (drop i entries) ≡ whole → after ≡ before ++ entry_line i (get_or entries i none)
-    → after ++ entry_lines (i + 1) (drop (i + 1) entries) ≡ whole
-entries-next {whole} entries i none before inside begun is =
-    ap (λ l. l ++ entry_lines (i + 1) (drop (i + 1) entries)) is
-    ∙ append_assoc before (entry_line i (get_or entries i none)) (entry_lines (i + 1) (drop (i + 1) entries))
-    ∙ ap (λ es. before ++ entry_lines i es) (sym (drop_more entries i none inside)) ∙ begun
-
-pub entries-end : (entries : List Entry) (i : ℕ) (whole text : List ℕ) → length entries ≤ i → text ++ entry_lines i (drop i entries) ≡ whole → text ≡ whole
-entries-end entries i whole text past is =
-    sym (append-nil text) ∙ ap (λ es. text ++ entry_lines i es) (sym (drop_all i entries past)) ∙ is
-
 -- the text of a slot
 pub slot-printed : {from : ℕ} {ys : List Entry} {middle after : List ℕ} (old : Moment) (slot sent booked : ℕ)
     (before sent-text : List ℕ) → from ≡ length old.entries
-    → ys ≡ old.entries ++ halts_at old slot → middle ≡ before ++ sent-text → after ≡ middle ++ entry_lines from (drop from ys)
-    → after ≡ before ++ (sent-text ++ entry_lines (length old.entries) (halts_at old slot))
+    → ys ≡ old.entries ++ halts_at old slot → middle ≡ before ++ sent-text → after ≡ middle ++ journal_text from (drop from ys)
+    → after ≡ before ++ (sent-text ++ journal_text (length old.entries) (halts_at old slot))
 slot-printed {from} {ys} old slot sent booked before sent-text at y m a =
-    a ∙ ap (λ l. l ++ entry_lines from (drop from ys)) m ∙ ap (λ n. (before ++ sent-text) ++ entry_lines n (drop n ys)) at
-    ∙ ap (λ es. (before ++ sent-text) ++ entry_lines (length old.entries) es) (more-entries old.entries ys (halts_at old slot) y)
-    ∙ append_assoc before sent-text (entry_lines (length old.entries) (halts_at old slot))
+    a ∙ ap (λ l. l ++ journal_text from (drop from ys)) m ∙ ap (λ n. (before ++ sent-text) ++ journal_text n (drop n ys)) at
+    ∙ ap (λ es. (before ++ sent-text) ++ journal_text (length old.entries) es) (more-entries old.entries ys (halts_at old slot) y)
+    ∙ append_assoc before sent-text (journal_text (length old.entries) (halts_at old slot))
 
 -- a whole day
 pub day-of : {link here : Link} {lines : List Line} {text whole : List ℕ} {m : Moment} {journal : List Entry} → here ≡ link → HasRun here lines text m

@@ -8,8 +8,8 @@ use Rattle.film_make.specs.Trace.{sizes_of}
 use Rattle.day_run.specs.declared.reels.Reel.{Reel}
 use Rattle.day_run.specs.FairDays.{after_traces, picture_count, trace_drawn, traces_drawn}
 use Rattle.day_run.specs.Fairs.{sizes_in}
-use Rattle.day_run.specs.Seats.{trace_track}
-use Rattle.day_run.specs.Tracks.{reel_track}
+use Rattle.day_run.specs.ClientStates.{trace_content}
+use Rattle.day_run.specs.ReelContents.{reel_content}
 
 -- one trace more
 pub sizes-next : {left : ℕ → ℕ} {pictures : ℕ} {more : List (Vec ℕ)} (words : ℕ → ℕ) (k : ℕ) (traces : List (Vec ℕ))
@@ -39,11 +39,11 @@ left-none words = refl
 
 -- one reel more
 pub reels-next : {more : List Reel} (reels : List Reel) (reel : Reel) (traces : List (Vec ℕ)) (i : ℕ) (none : Vec ℕ) → i < length traces → more ≡ reels ++ reel ∷ []
-    → reel_track 14400 reel ≡ trace_track 14400 (get_or traces i none).items
-    → map (reel_track 14400) reels ≡ map (trace_track 14400) (sizes_in (take i traces))
-    → map (reel_track 14400) more ≡ map (trace_track 14400) (sizes_in (take (i + 1) traces))
+    → reel_content 14400 reel ≡ trace_content 14400 (get_or traces i none).items
+    → map (reel_content 14400) reels ≡ map (trace_content 14400) (sizes_in (take i traces))
+    → map (reel_content 14400) more ≡ map (trace_content 14400) (sizes_in (take (i + 1) traces))
 reels-next {more} reels reel traces i none inside m own before =
-    ap (map (reel_track 14400)) m ∙ map-append (reel_track 14400) reels (reel ∷ []) ∙ ap (λ ts. ts ++ reel_track 14400 reel ∷ []) before
-    ∙ ap (λ t. map (trace_track 14400) (sizes_in (take i traces)) ++ t ∷ []) own
-    ∙ sym (map-append (trace_track 14400) (sizes_in (take i traces)) ((get_or traces i none).items ∷ []))
-    ∙ ap (map (trace_track 14400)) (sym (map_more (λ (v : Vec ℕ). v.items) traces i none inside))
+    ap (map (reel_content 14400)) m ∙ map-append (reel_content 14400) reels (reel ∷ []) ∙ ap (λ ts. ts ++ reel_content 14400 reel ∷ []) before
+    ∙ ap (λ t. map (trace_content 14400) (sizes_in (take i traces)) ++ t ∷ []) own
+    ∙ sym (map-append (trace_content 14400) (sizes_in (take i traces)) ((get_or traces i none).items ∷ []))
+    ∙ ap (map (trace_content 14400)) (sym (map_more (λ (v : Vec ℕ). v.items) traces i none inside))

@@ -13,9 +13,9 @@ use Rattle.admission.specs.Machine.{booked_in}
 use Rattle.admission.proofs.Runs.{legal-take}
 use Rattle.admission.proofs.Within.{sound-after}
 use Rattle.day_run.specs.Balanced.{IsReady}
-use Rattle.day_run.specs.Days.{IsAsked, IsPauseLine, IsPlayLine, IsResumeLine, Link, Moment, at_slot, halts_at, last_halts, last_journal, rest_at, seat_at}
+use Rattle.day_run.specs.Days.{IsAsked, IsPauseLine, IsPlayLine, IsResumeLine, Link, Moment, at_slot, halts_at, last_halts, last_journal, rest_at, state_at}
 use Rattle.day_run.specs.FairDays.{AreTurns, IsDone, IsTurn, Turn, after_turn, at_later, client_of, most_up_to, turn_booked, turn_peak, turn_sent}
-use Rattle.day_run.specs.Seats.{Rest, Seat, Idle, Playing, Pausing, Paused}
+use Rattle.day_run.specs.ClientStates.{Rest, ClientState, Idle, Playing, Pausing, Paused}
 use Rattle.day_run.proofs.BalancedLines.{pause-heard, play-heard, ready-sent, resume-heard, slot-ready}
 use Rattle.day_run.proofs.FairTurns.{done-ready}
 
@@ -78,30 +78,30 @@ asked-grown {c} {old} {new} {text} (inr planned) = elim planned.done [
   | inr made ↦ record { made = _; new_is = ap (λ (m : Moment). m.entries) made.noted.new_is }
 ]
 
-play-grown : (link : Link) (c : ℕ) (rest : Rest) (seat : Seat) (old new : Moment) (text : List ℕ) → IsPlayLine link c rest seat old new text → HasGrown old.entries new.entries
+play-grown : (link : Link) (c : ℕ) (rest : Rest) (state : ClientState) (old new : Moment) (text : List ℕ) → IsPlayLine link c rest state old new text → HasGrown old.entries new.entries
 play-grown link c rest Idle old new text is = asked-grown is
 play-grown link c rest (Playing play) old new text is = kept-grown old new is.kept
 play-grown link c rest (Pausing stop left) old new text is = kept-grown old new is.kept
 play-grown link c rest (Paused left) old new text is = asked-grown is
 
-resume-grown : (link : Link) (c : ℕ) (seat : Seat) (old new : Moment) (text : List ℕ) → IsResumeLine link c seat old new text → HasGrown old.entries new.entries
+resume-grown : (link : Link) (c : ℕ) (state : ClientState) (old new : Moment) (text : List ℕ) → IsResumeLine link c state old new text → HasGrown old.entries new.entries
 resume-grown link c Idle old new text is = kept-grown old new is.kept
 resume-grown link c (Playing play) old new text is = kept-grown old new is.kept
 resume-grown link c (Pausing stop rest) old new text is = kept-grown old new is.kept
 resume-grown link c (Paused rest) old new text is = asked-grown is
 
-pause-grown : (link : Link) (c : ℕ) (seat : Seat) (old new : Moment) (text : List ℕ) → IsPauseLine link c seat old new text → HasGrown old.entries new.entries
+pause-grown : (link : Link) (c : ℕ) (state : ClientState) (old new : Moment) (text : List ℕ) → IsPauseLine link c state old new text → HasGrown old.entries new.entries
 pause-grown link c Idle old new text is = kept-grown old new is.kept
 pause-grown link c (Playing play) old new text is = record { made = _; new_is = ap (λ (m : Moment). m.entries) is.noted.new_is }
 pause-grown link c (Pausing stop rest) old new text is = kept-grown old new is.kept
 pause-grown link c (Paused rest) old new text is = kept-grown old new is.kept
 
-done-grown : (link : Link) (words : ℕ → ℕ) (c : ℕ) (seat : Seat) (old new : Moment) (text : List ℕ) → IsDone link words c seat old new text → HasGrown old.entries new.entries
+done-grown : (link : Link) (words : ℕ → ℕ) (c : ℕ) (state : ClientState) (old new : Moment) (text : List ℕ) → IsDone link words c state old new text → HasGrown old.entries new.entries
 done-grown link words c Idle old new text is =
-    play-grown link c (rest_at link (words 0 % 16) (16384 + words 1 % 16384) (words 2 % 26)) (seat_at old c) old new text is
-done-grown link words c (Playing play) old new text is = pause-grown link c (seat_at old c) old new text is
+    play-grown link c (rest_at link (words 0 % 16) (16384 + words 1 % 16384) (words 2 % 26)) (state_at old c) old new text is
+done-grown link words c (Playing play) old new text is = pause-grown link c (state_at old c) old new text is
 done-grown link words c (Pausing stop rest) old new text is = kept-grown old new is.kept
-done-grown link words c (Paused rest) old new text is = resume-grown link c (seat_at old c) old new text is
+done-grown link words c (Paused rest) old new text is = resume-grown link c (state_at old c) old new text is
 
 later-grown : (old : Moment) (later : ℕ) → HasGrown old.entries (at_later old later).entries
 later-grown old later = grown-if (later == 0)
@@ -152,12 +152,12 @@ pub evening-grown : (evening : Moment) (journal : List Entry) → journal ≡ la
 evening-grown evening journal is = record { made = last_halts evening; new_is = is }
 
 -- ---- a turn brings at most three slots
-pub done-heard : (link : Link) (words : ℕ → ℕ) (c : ℕ) (seat : Seat) (old new : Moment) (text : List ℕ) → IsDone link words c seat old new text → new.heard ≡ old.heard
+pub done-heard : (link : Link) (words : ℕ → ℕ) (c : ℕ) (state : ClientState) (old new : Moment) (text : List ℕ) → IsDone link words c state old new text → new.heard ≡ old.heard
 done-heard link words c Idle old new text is =
-    play-heard link c (rest_at link (words 0 % 16) (16384 + words 1 % 16384) (words 2 % 26)) (seat_at old c) old new text is
-done-heard link words c (Playing play) old new text is = pause-heard link c (seat_at old c) old new text is
+    play-heard link c (rest_at link (words 0 % 16) (16384 + words 1 % 16384) (words 2 % 26)) (state_at old c) old new text is
+done-heard link words c (Playing play) old new text is = pause-heard link c (state_at old c) old new text is
 done-heard link words c (Pausing stop rest) old new text is = ap (λ (m : Moment). m.heard) is.kept
-done-heard link words c (Paused rest) old new text is = resume-heard link c (seat_at old c) old new text is
+done-heard link words c (Paused rest) old new text is = resume-heard link c (state_at old c) old new text is
 
 later-most : (old : Moment) (later : ℕ) → (at_later old later).heard ≤ old.heard + later
 later-most old later = most-if (later == 0)

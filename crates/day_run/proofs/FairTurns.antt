@@ -14,29 +14,29 @@ use Rattle.admission.specs.Machine.{booked_in}
 use Rattle.day_run.specs.declared.counts.Counts.{Counts}
 use Rattle.day_run.specs.declared.counts.Made.{Made}
 use Rattle.day_run.specs.declared.clients.Client.{Client}
-use Rattle.day_run.specs.Clients.{seat_of}
+use Rattle.day_run.specs.Clients.{state_of}
 use Rattle.day_run.specs.Balanced.{IsReady}
-use Rattle.day_run.specs.Days.{Link, Moment, at_slot, booked_up_to, last_journal, IsPlayLine, first_moment, rest_at, seat_at, sent_up_to}
+use Rattle.day_run.specs.Days.{Link, Moment, at_slot, booked_up_to, last_journal, IsPlayLine, first_moment, rest_at, state_at, sent_up_to}
 use Rattle.day_run.specs.FairDays.{AreTurns, IsDone, IsTurn, Turn, after_traces, after_turn, at_later, counts_of, fair_link, IsFair, is_full_line, is_refused, made_of, most_up_to, turn_booked, turn_peak, turn_sent, words_for}
 use Rattle.day_run.specs.Fairs.{HasCome, HasTurned, after_turns, with_slot, with_turn}
 use Rattle.day_run.specs.Prints.{fair_text}
 use Rattle.day_run.specs.declared.runners.Told.{Told}
 use Rattle.day_run.specs.Runners.{told_text}
 use Rattle.vod_base.specs.declared.outside.NoMemory.{NoMemory}
-use Rattle.day_run.specs.Seats.{Rest, Seat, Idle, Playing, Pausing, Paused}
+use Rattle.day_run.specs.ClientStates.{Rest, ClientState, Idle, Playing, Pausing, Paused}
 use Rattle.day_run.proofs.Balances.{sum-none}
 use Rattle.day_run.proofs.BalancedLines.{morning-ready, pause-ready, play-ready, ready-kept, resume-ready}
-use Rattle.day_run.proofs.Sweeps.{seat-at}
+use Rattle.day_run.proofs.Sweeps.{state-at}
 use Rattle.day_run.proofs.Peaks.{peak-push}
 
 -- ---- what a client does keeps the balance
-pub done-ready : {c : ℕ} {seat : Seat} {old new : Moment} (link : Link) (words : ℕ → ℕ) (text : List ℕ) → c < 256 → get_or old.seats c Idle ≡ seat
-    → IsDone link words c seat old new text → IsReady old → IsReady new
-done-ready {c} {seat = Idle} {new} link words text client at is ready =
+pub done-ready : {c : ℕ} {state : ClientState} {old new : Moment} (link : Link) (words : ℕ → ℕ) (text : List ℕ) → c < 256 → get_or old.states c Idle ≡ state
+    → IsDone link words c state old new text → IsReady old → IsReady new
+done-ready {c} {state = Idle} {new} link words text client at is ready =
     play-ready link (rest_at link (words 0 % 16) (16384 + words 1 % 16384) (words 2 % 26)) text client refl is ready
-done-ready {c} {seat = Playing play} {new} link words text client at is ready = pause-ready link text client refl is ready
-done-ready {c} {seat = Pausing stop rest} {old} {new} link words text client at is ready = ready-kept old new is.kept ready
-done-ready {c} {seat = Paused rest} {new} link words text client at is ready = resume-ready link text client refl is ready
+done-ready {c} {state = Playing play} {new} link words text client at is ready = pause-ready link text client refl is ready
+done-ready {c} {state = Pausing stop rest} {old} {new} link words text client at is ready = ready-kept old new is.kept ready
+done-ready {c} {state = Paused rest} {new} link words text client at is ready = resume-ready link text client refl is ready
 
 -- ---- a slot, or none
 pub later-none : (old new : Moment) (later : ℕ) → later ≡ 0 → new ≡ old → new ≡ at_later old later
@@ -68,31 +68,31 @@ same-counts counts moment last =
     let f = booked_in (state_after moment.entries) in
     let none : moment.heard - moment.heard ≡ 0 = omega arith in
     plain-counts last
-    (sum-none moment.heard moment.seats) (ap (λ n. sum_by f (range_with_len (moment.heard + 1) n)) none)
+    (sum-none moment.heard moment.states) (ap (λ n. sum_by f (range_with_len (moment.heard + 1) n)) none)
     (ap (λ n. fold max 0 (map f (range_with_len (moment.heard + 1) n))) none)
 
 -- ---- one turn
 pub turn-of : {link here : Link} {w w1 w2 w3 : ℕ → ℕ} {later client : ℕ} {c c1 c2 : Counts} {full : Bool}
     (turn : Turn) → here ≡ link → w1 ≡ after 1 w
     → w2 ≡ after 1 w1 → later ≡ w 0 % 4 → client ≡ w1 0 % 256 → turn.mid ≡ at_later turn.old later
-    → IsDone here w2 client (seat_at turn.mid client) turn.mid turn.new turn.text → w3 ≡ after (words_for (seat_at turn.mid client)) w2
+    → IsDone here w2 client (state_at turn.mid client) turn.mid turn.new turn.text → w3 ≡ after (words_for (state_at turn.mid client)) w2
     → c1 ≡ with_slot c turn.old turn.mid.heard → is_full_line turn.text ≡ full
     → c2 ≡ record { turns = c1.turns + 1; full = c1.full + cond full 1 0; last = c1.last; sent = c1.sent; booked = c1.booked; peak = c1.peak }
     → HasTurned link w w3 c c2 turn.old turn.new
 turn-of {here} {w} {w2} {later} {client} {c} {full} turn same one two l who slot done left n told m =
     let who-is : client ≡ w 1 % 256 = who ∙ ap (λ (f : ℕ → ℕ). f 0 % 256) one ∙ ap (λ k. k % 256) (after-at 1 w 0) in
     let second : w2 ≡ after 2 w = two ∙ ap (after 1) one ∙ after-after 1 1 w in
-    let D : ℕ → Type 0 = λ k. IsDone here w2 k (seat_at turn.mid k) turn.mid turn.new turn.text in
-    let W : (ℕ → ℕ) → Type 0 = λ f. IsDone here f (w 1 % 256) (seat_at turn.mid (w 1 % 256)) turn.mid turn.new turn.text in
-    let L : Link → Type 0 = λ x. IsDone x (after 2 w) (w 1 % 256) (seat_at turn.mid (w 1 % 256)) turn.mid turn.new turn.text in
+    let D : ℕ → Type 0 = λ k. IsDone here w2 k (state_at turn.mid k) turn.mid turn.new turn.text in
+    let W : (ℕ → ℕ) → Type 0 = λ f. IsDone here f (w 1 % 256) (state_at turn.mid (w 1 % 256)) turn.mid turn.new turn.text in
+    let L : Link → Type 0 = λ x. IsDone x (after 2 w) (w 1 % 256) (state_at turn.mid (w 1 % 256)) turn.mid turn.new turn.text in
     record {
       turn = turn;
       old_is = refl;
       new_is = refl;
       turn_is = record { slot = slot ∙ ap (at_later turn.old) l; done = subst L same (subst W second (subst D who-is done)) };
       left_is =
-          left ∙ ap (λ k. after (words_for (seat_at turn.mid k)) w2) who-is ∙ ap (after (words_for (seat_at turn.mid (w 1 % 256)))) second
-          ∙ after-after (words_for (seat_at turn.mid (w 1 % 256))) 2 w;
+          left ∙ ap (λ k. after (words_for (state_at turn.mid k)) w2) who-is ∙ ap (after (words_for (state_at turn.mid (w 1 % 256)))) second
+          ∙ after-after (words_for (state_at turn.mid (w 1 % 256))) 2 w;
       counts_are =
           m ∙ ap (λ (x : Counts). record { turns = x.turns + 1; full = x.full + cond full 1 0; last = x.last; sent = x.sent; booked = x.booked; peak = x.peak }) n
           ∙ ap (λ b. record (with_turn c turn) { full = c.full + cond b 1 0 }) (sym told);
@@ -176,13 +176,13 @@ pub ok-of : {A E : Type 0} (r : Result A E) (X : Type 0) → X → OnOk r X
 ok-of (Ok a) X x = x
 ok-of (Err e) X x = tt
 
-pub line-drawn : {s b d source buffer delay : ℕ} (r : Result Told NoMemory) (link : Link) (client : ℕ) (seat : Seat)
+pub line-drawn : {s b d source buffer delay : ℕ} (r : Result Told NoMemory) (link : Link) (client : ℕ) (state : ClientState)
     (old new : Moment) (entries : List Entry)
     → s ≡ source → b ≡ buffer → d ≡ delay
-    → IfOk r (λ told. IsPlayLine link client (rest_at link s b d) seat old new (told_text entries told))
-    → IfOk r (λ told. IsPlayLine link client (rest_at link source buffer delay) seat old new (told_text entries told))
-line-drawn {s} {b} {d} {source} {buffer} {delay} r link client seat old new entries es eb ed is =
-    let P : Rest → Type 0 = λ rest. IfOk r (λ told. IsPlayLine link client rest seat old new (told_text entries told)) in
+    → IfOk r (λ told. IsPlayLine link client (rest_at link s b d) state old new (told_text entries told))
+    → IfOk r (λ told. IsPlayLine link client (rest_at link source buffer delay) state old new (told_text entries told))
+line-drawn {s} {b} {d} {source} {buffer} {delay} r link client state old new entries es eb ed is =
+    let P : Rest → Type 0 = λ rest. IfOk r (λ told. IsPlayLine link client rest state old new (told_text entries told)) in
     let e : rest_at link s b d ≡ rest_at link source buffer delay =
     ap (λ k. rest_at link k b d) es ∙ ap (λ k. rest_at link source k d) eb ∙ ap (rest_at link source buffer) ed in
     subst P e is
@@ -193,10 +193,10 @@ none-left w n none = sym (ap (λ k. after k w) none ∙ after-zero w)
 
 -- a client for whom no word is drawn
 pub no-words : {w : ℕ → ℕ} {client : Client} (clients : List Client) (c : ℕ) → length clients ≡ 256 → c < 2 ^ 8 → client ≡ get_or clients c client
-    → words_for (seat_of client) ≡ 0 → w ≡ after (words_for (get_or (map seat_of clients) c Idle)) w
+    → words_for (state_of client) ≡ 0 → w ≡ after (words_for (get_or (map state_of clients) c Idle)) w
 no-words {w} {client} clients c count small at none =
     let inside : c < length clients = omega (arith, count, small) in
-    none-left w _ (ap words_for (seat-at clients c client inside ∙ sym (ap seat_of at)) ∙ none)
+    none-left w _ (ap words_for (state-at clients c client inside ∙ sym (ap state_of at)) ∙ none)
 
 pub ready-morning : (m : Moment) → m ≡ first_moment → IsReady m
 ready-morning m is = ready-kept first_moment m is morning-ready

@@ -12,7 +12,7 @@ use Rattle.wire_curve.specs.declared.film.CurveFault.{CurveFault}
 use Rattle.wire_curve.specs.declared.film.CurveFault.TheVariants.{NoPictures, TooManySlots, BufferTooSmall}
 use Rattle.report.specs.EntryLines.{answer_words, command_words, entry_line}
 use Rattle.report.specs.Fields.{field}
-use Rattle.day_run.specs.Days.{entry_lines}
+use Rattle.report.specs.JournalTexts.{journal_text}
 use Rattle.day_run.specs.FairDays.{is_full_line}
 use Rattle.day_run.specs.Prints.{fault_text, full_text, state_text}
 
@@ -33,9 +33,9 @@ entry-other place entry rest small =
     let numeral = (decimal_is_IsNumeral place small).0 in
     digits-other (decimal place) (field (codes " seat=") entry.maker) (command_words entry.command) (answer_words entry.answer) (codes "\n") rest numeral.0 numeral.1
 
-pub entries-other : (place : ℕ) (entries : List Entry) → place < 2 ^ 64 → is_full_line (entry_lines place entries) ≡ false
+pub entries-other : (place : ℕ) (entries : List Entry) → place < 2 ^ 64 → is_full_line (journal_text place entries) ≡ false
 entries-other place [] small = refl
-entries-other place (e ∷ es) small = entry-other place e (entry_lines (place + 1) es) small
+entries-other place (e ∷ es) small = entry-other place e (journal_text (place + 1) es) small
 
 pub fault-other : (fault : CurveFault) → is_full_line (fault_text fault) ≡ false
 fault-other NoPictures = refl

@@ -22,7 +22,7 @@ pub mod FairLines
 pub mod Balances
 pub mod BalancedSlots
 pub mod BalancedLines
-pub mod SourceTracks
+pub mod SourceReels
 pub mod TraceReels
 pub mod SlotSums
 pub mod Drawn

@@ -22,12 +22,13 @@ use Rattle.admission.specs.Machine.{IsAnswer, State}
 use Rattle.day_run.specs.declared.runners.Told.{Told}
 use Rattle.day_run.specs.declared.runners.Told.TheVariants as tolds
 use Rattle.vod_base.specs.declared.outside.NoMemory.{NoMemory}
-use Rattle.day_run.specs.Clients.{AreIdle, IsPauseOf, IsQuiet, IsTimed, play_of, rest_of, seat_of}
-use Rattle.day_run.specs.Days.{IsAsked, IsFull, IsNoted, IsPauseLine, IsPlayLine, IsTold, Link, Moment, done_halt, entry_by, entry_lines, halts, with_play}
+use Rattle.day_run.specs.Clients.{AreIdle, IsPauseOf, IsQuiet, IsTimed, play_of, rest_of, state_of}
+use Rattle.report.specs.JournalTexts.{journal_text}
+use Rattle.day_run.specs.Days.{IsAsked, IsFull, IsNoted, IsPauseLine, IsPlayLine, IsTold, Link, Moment, done_halt, entry_by, halt_entries, with_play}
 use Rattle.day_run.specs.Prints.{full_text, state_text}
 use Rattle.day_run.specs.Runners.{IsPrinted, told_text}
-use Rattle.day_run.specs.Seats.{Idle, Playing, Pausing, Paused, Rest, Seat, after_sending, is_busy}
-use Rattle.day_run.proofs.Sweeps.{seat-at, seats-set}
+use Rattle.day_run.specs.ClientStates.{Idle, Playing, Pausing, Paused, Rest, ClientState, after_sending, is_busy}
+use Rattle.day_run.proofs.Sweeps.{state-at, states-set}
 use Rattle.day_run.proofs.Timings.{done-sent}
 
 -- the entries after those of a moment
@@ -36,7 +37,7 @@ more-entries xs ys es y = ap (drop (length xs)) y ∙ drop_at xs es (length xs) 
 
 pub told-entry : (place : ℕ) (xs ys : List Entry) (e : Entry) → place ≡ length xs → ys ≡ xs ++ e ∷ [] → told_text ys (tolds.Entry place) ≡ entry_line (length xs) e
 told-entry place xs ys e at y =
-    ap (λ n. entry_lines n (drop n ys)) at ∙ ap (entry_lines (length xs)) (more-entries xs ys (e ∷ []) y) ∙ append-nil (entry_line (length xs) e)
+    ap (λ n. journal_text n (drop n ys)) at ∙ ap (journal_text (length xs)) (more-entries xs ys (e ∷ []) y) ∙ append-nil (entry_line (length xs) e)
 
 pub told-full : {link : Link} {places : ℕ} {old new : Moment} (full : Full) → link.limit < places_taken old.entries + places
     → full.entries ≡ length old.entries → full.live ≡ open_count old.entries → new ≡ old → IsFull link places old new (full_text full)
@@ -50,38 +51,38 @@ told-full {old} {new} full above entries opened kept = record {
 }
 
 -- an entry was made
-pub noted : {link : Link} {old new : Moment} {place : ℕ} {e : Entry} {seats : List Seat} → IsAnswered link.steps (state_after old.entries) e
-    → place ≡ length old.entries → new.entries ≡ old.entries ++ e ∷ [] → new.seats ≡ seats → new.heard ≡ old.heard
-    → IsNoted link e seats old new (told_text new.entries (tolds.Entry place))
-noted {old} {new} {place} {e} {seats} answered at y s h = record {
+pub noted : {link : Link} {old new : Moment} {place : ℕ} {e : Entry} {states : List ClientState} → IsAnswered link.steps (state_after old.entries) e
+    → place ≡ length old.entries → new.entries ≡ old.entries ++ e ∷ [] → new.states ≡ states → new.heard ≡ old.heard
+    → IsNoted link e states old new (told_text new.entries (tolds.Entry place))
+noted {old} {new} {place} {e} {states} answered at y s h = record {
   answered = answered;
   new_is =
-      ap (λ es. record { entries = es; seats = new.seats; heard = new.heard }) y
-      ∙ ap (λ l. record { entries = old.entries ++ e ∷ []; seats = l; heard = new.heard }) s
-      ∙ ap (λ n. record { entries = old.entries ++ e ∷ []; seats = seats; heard = n }) h;
+      ap (λ es. record { entries = es; states = new.states; heard = new.heard }) y
+      ∙ ap (λ l. record { entries = old.entries ++ e ∷ []; states = l; heard = new.heard }) s
+      ∙ ap (λ n. record { entries = old.entries ++ e ∷ []; states = states; heard = n }) h;
   text_is = told-entry place old.entries new.entries e at y;
 }
 
 -- the entry of a halt was made
-pub noted-halt : (link : Link) (old new : Moment) (place c number keep : ℕ) (e : Entry) {seats : List Seat} → IsAnswered link.steps (state_after old.entries) e
-    → place ≡ length old.entries → new.entries ≡ old.entries ++ e ∷ [] → new.seats ≡ seats → new.heard ≡ old.heard
+pub noted-halt : (link : Link) (old new : Moment) (place c number keep : ℕ) (e : Entry) {states : List ClientState} → IsAnswered link.steps (state_after old.entries) e
+    → place ≡ length old.entries → new.entries ≡ old.entries ++ e ∷ [] → new.states ≡ states → new.heard ≡ old.heard
     → e.maker ≡ c → e.answer ≡ Halted → e.command ≡ commands.Halt number keep
-    → IsNoted link (entry_by c (commands.Halt number keep) Halted) seats old new (told_text new.entries (tolds.Entry place))
-noted-halt link old new place c number keep e {seats} answered at y s h maker answer command =
+    → IsNoted link (entry_by c (commands.Halt number keep) Halted) states old new (told_text new.entries (tolds.Entry place))
+noted-halt link old new place c number keep e {states} answered at y s h maker answer command =
     let same : e ≡ entry_by c (commands.Halt number keep) Halted =
     ap (λ n. record { maker = n; command = e.command; answer = e.answer }) maker ∙ ap (λ x. record { maker = c; command = x; answer = e.answer }) command
     ∙ ap (λ a. entry_by c (commands.Halt number keep) a) answer in
-    let N : Entry → Type 0 = λ x. IsNoted link x seats old new (told_text new.entries (tolds.Entry place)) in
+    let N : Entry → Type 0 = λ x. IsNoted link x states old new (told_text new.entries (tolds.Entry place)) in
     subst N same (noted answered at y s h)
 
 -- the entry of a play was made
-pub noted-play : {link : Link} {old new : Moment} {place c slot maker : ℕ} {seats : List Seat} (plan : List Segment)
+pub noted-play : {link : Link} {old new : Moment} {place c slot maker : ℕ} {states : List ClientState} (plan : List Segment)
     (answer : Answer) → slot ≡ old.heard → maker ≡ c
     → IsAnswered link.steps (state_after old.entries) (entry_by maker (commands.Play slot plan) answer) → place ≡ length old.entries
-    → new.entries ≡ old.entries ++ entry_by maker (commands.Play slot plan) answer ∷ [] → new.seats ≡ seats → new.heard ≡ old.heard
-    → IsNoted link (entry_by c (commands.Play old.heard plan) answer) seats old new (told_text new.entries (tolds.Entry place))
-noted-play {link} {old} {new} {place} {c} {slot} {maker} {seats} plan answer late own answered at y s h =
-    let N : Entry → Type 0 = λ x. IsNoted link x seats old new (told_text new.entries (tolds.Entry place)) in
+    → new.entries ≡ old.entries ++ entry_by maker (commands.Play slot plan) answer ∷ [] → new.states ≡ states → new.heard ≡ old.heard
+    → IsNoted link (entry_by c (commands.Play old.heard plan) answer) states old new (told_text new.entries (tolds.Entry place))
+noted-play {link} {old} {new} {place} {c} {slot} {maker} {states} plan answer late own answered at y s h =
+    let N : Entry → Type 0 = λ x. IsNoted link x states old new (told_text new.entries (tolds.Entry place)) in
     let same : entry_by maker (commands.Play slot plan) answer ≡ entry_by c (commands.Play old.heard plan) answer =
     ap (λ n. entry_by n (commands.Play slot plan) answer) own ∙ ap (λ n. entry_by c (commands.Play n plan) answer) late in
     subst N same (noted answered at y s h)
@@ -96,20 +97,20 @@ play-is {number} {rest} {plan} {start} play n r p s =
     ∙ ap (λ x. record { number = number; rest = rest_of rest; plan = plan; start = x }) s
 
 -- the clients after a play's answer
-pub seats-played : {number : ℕ} {rest : ClientRest} {plan : List Segment} {start : ℕ} {answer : Answer}
+pub states-played : {number : ℕ} {rest : ClientRest} {plan : List Segment} {start : ℕ} {answer : Answer}
     (cs : List Client) (c : ℕ) (play : ClientPlay)
     → answer ≡ Admitted start → play.number ≡ number → play.rest ≡ rest → play.plan ≡ plan → play.pacer.start ≡ start
-    → map seat_of (set cs c (clients.Playing play)) ≡ with_play c (rest_of rest) plan number answer (map seat_of cs)
-seats-played {number} {rest} {plan} {start} cs c play is n r p s =
-    seats-set cs c (clients.Playing play) ∙ ap (λ x. set (map seat_of cs) c (Playing x)) (play-is play n r p s)
-    ∙ ap (λ a. with_play c (rest_of rest) plan number a (map seat_of cs)) (sym is)
+    → map state_of (set cs c (clients.Playing play)) ≡ with_play c (rest_of rest) plan number answer (map state_of cs)
+states-played {number} {rest} {plan} {start} cs c play is n r p s =
+    states-set cs c (clients.Playing play) ∙ ap (λ x. set (map state_of cs) c (Playing x)) (play-is play n r p s)
+    ∙ ap (λ a. with_play c (rest_of rest) plan number a (map state_of cs)) (sym is)
 
-pub seats-same : {seats : List Seat} (c : ℕ) (rest : Rest) (plan : List Segment) (number : ℕ) (answer : Answer) → is_admission answer ≡ false
-    → seats ≡ with_play c rest plan number answer seats
-seats-same c rest plan number (Admitted start) not = cc not
-seats-same c rest plan number (Overflow over booked asked) not = refl
-seats-same c rest plan number Halted not = refl
-seats-same c rest plan number (Looked now at booked) not = refl
+pub states-same : {states : List ClientState} (c : ℕ) (rest : Rest) (plan : List Segment) (number : ℕ) (answer : Answer) → is_admission answer ≡ false
+    → states ≡ with_play c rest plan number answer states
+states-same c rest plan number (Admitted start) not = cc not
+states-same c rest plan number (Overflow over booked asked) not = refl
+states-same c rest plan number Halted not = refl
+states-same c rest plan number (Looked now at booked) not = refl
 
 -- a play that was admitted hasn't come to its first slot
 pub begun-timed : {slot start heard : ℕ} {answer : Answer} (steps : List CapStep) (state : State) (play : ClientPlay)
@@ -123,48 +124,48 @@ begun-timed {slot} {start} steps state play plan is answered late at begun =
 
 -- a client pauses
 pub pause-line : {link : Link} {c : ℕ} {halt : Halt} {old new : Moment} {text : List ℕ} (client next : Client) → IsPauseOf old.heard halt client next
-    → IsNoted link (entry_by c (commands.Halt halt.number halt.keep) Halted) (set old.seats c (seat_of next)) old new text
-    → IsPauseLine link c (seat_of client) old new text
+    → IsNoted link (entry_by c (commands.Halt halt.number halt.keep) Halted) (set old.states c (state_of next)) old new text
+    → IsPauseLine link c (state_of client) old new text
 pause-line {c} {halt} {new} {text} clients.Idle next is n = absurd is
 pause-line {link} {c} {halt} {old} {new} {text} (clients.Playing play) next is n =
-    let N : ℕ → Type 0 = λ k. IsNoted link (entry_by c (commands.Halt k halt.keep) Halted) (set old.seats c (seat_of next)) old new text in
-    record { keep = halt.keep; seat = seat_of next; pause = is.1; noted = subst N is.0 n }
+    let N : ℕ → Type 0 = λ k. IsNoted link (entry_by c (commands.Halt k halt.keep) Halted) (set old.states c (state_of next)) old new text in
+    record { keep = halt.keep; state = state_of next; pause = is.1; noted = subst N is.0 n }
 pause-line {c} {halt} {new} {text} (clients.Pausing stop) next is n = absurd is
 pause-line {c} {halt} {new} {text} (clients.Paused rest) next is n = absurd is
 
 pub no-pause : {old new : Moment} {text : List ℕ} (link : Link) (c : ℕ) (client : Client) → IsQuiet client → IsTold state_text old new text
-    → IsPauseLine link c (seat_of client) old new text
+    → IsPauseLine link c (state_of client) old new text
 no-pause {new} {text} link c clients.Idle quiet told = told
 no-pause {new} {text} link c (clients.Playing play) quiet told = absurd quiet
 no-pause {new} {text} link c (clients.Pausing stop) quiet told = told
 no-pause {new} {text} link c (clients.Paused rest) quiet told = told
 
 -- a client asks for a play, or can't
-pub play-line : {link : Link} {c : ℕ} {rest : Rest} {old new : Moment} {text : List ℕ} (seat : Seat) → is_busy seat ≡ false
-    → IsAsked link c rest old new text → IsPlayLine link c rest seat old new text
+pub play-line : {link : Link} {c : ℕ} {rest : Rest} {old new : Moment} {text : List ℕ} (state : ClientState) → is_busy state ≡ false
+    → IsAsked link c rest old new text → IsPlayLine link c rest state old new text
 play-line {c} {new} {text} Idle free asked = asked
 play-line {c} {new} {text} (Playing play) free asked = cc free
 play-line {c} {new} {text} (Pausing stop left) free asked = cc free
 play-line {c} {new} {text} (Paused left) free asked = asked
 
-pub no-play : {old new : Moment} {text : List ℕ} (link : Link) (c : ℕ) (rest : Rest) (seat : Seat) → is_busy seat ≡ true
-    → IsTold state_text old new text → IsPlayLine link c rest seat old new text
+pub no-play : {old new : Moment} {text : List ℕ} (link : Link) (c : ℕ) (rest : Rest) (state : ClientState) → is_busy state ≡ true
+    → IsTold state_text old new text → IsPlayLine link c rest state old new text
 no-play {new} {text} link c rest Idle busy told = cc busy
 no-play {new} {text} link c rest (Playing play) busy told = told
 no-play {new} {text} link c rest (Pausing stop left) busy told = told
 no-play {new} {text} link c rest (Paused left) busy told = cc busy
 
-pub play-asked : {link : Link} {c : ℕ} {one rest : Rest} {own seat : Seat} {old new : Moment} {text : List ℕ} → one ≡ rest → own ≡ seat → is_busy own ≡ false
-    → IsAsked link c one old new text → IsPlayLine link c rest seat old new text
-play-asked {link} {c} {one} {own} {seat} {old} {new} {text} r s free asked =
-    let R : Rest → Type 0 = λ x. IsPlayLine link c x seat old new text in
-    let S : Seat → Type 0 = λ x. IsPlayLine link c one x old new text in
+pub play-asked : {link : Link} {c : ℕ} {one rest : Rest} {own state : ClientState} {old new : Moment} {text : List ℕ} → one ≡ rest → own ≡ state → is_busy own ≡ false
+    → IsAsked link c one old new text → IsPlayLine link c rest state old new text
+play-asked {link} {c} {one} {own} {state} {old} {new} {text} r s free asked =
+    let R : Rest → Type 0 = λ x. IsPlayLine link c x state old new text in
+    let S : ClientState → Type 0 = λ x. IsPlayLine link c one x old new text in
     subst R r (subst S s (play-line own free asked))
 
-pub play-ok : {one rest : Rest} {own seat : Seat} (r : Result Told NoMemory) (link : Link) (c : ℕ) (old new : Moment)
-    (entries : List Entry) → one ≡ rest → own ≡ seat
+pub play-ok : {one rest : Rest} {own state : ClientState} (r : Result Told NoMemory) (link : Link) (c : ℕ) (old new : Moment)
+    (entries : List Entry) → one ≡ rest → own ≡ state
     → is_busy own ≡ false → IfOk r (λ told. IsAsked link c one old new (told_text entries told))
-    → IfOk r (λ told. IsPlayLine link c rest seat old new (told_text entries told))
+    → IfOk r (λ told. IsPlayLine link c rest state old new (told_text entries told))
 play-ok {one} (Ok told) link c old new entries r s free asked =
     play-asked r s free asked
 play-ok {one} (Err e) link c old new entries r s free asked = tt
@@ -180,16 +181,16 @@ pub none-left : (sizes : List ℕ) → length sizes ≡ 0 → length (sizes_betw
 none-left sizes none = omega (arith, none, length-take (length sizes - 0) (drop 0 sizes), length-drop 0 sizes)
 
 -- the halts after a sending
-pub halts-sent : (slot k : ℕ) (seats : List Seat) → halts (done_halt slot) k (map (after_sending slot) seats) ≡ halts (done_halt slot) k seats
-halts-sent slot k [] = refl
-halts-sent slot k (seat ∷ seats) =
-    ap (λ es. es ++ halts (done_halt slot) (k + 1) (map (after_sending slot) seats)) (done-sent slot k seat)
-    ∙ ap (λ es. done_halt slot k seat ++ es) (halts-sent slot (k + 1) seats)
+pub halt_entries-sent : (slot k : ℕ) (states : List ClientState) → halt_entries (done_halt slot) k (map (after_sending slot) states) ≡ halt_entries (done_halt slot) k states
+halt_entries-sent slot k [] = refl
+halt_entries-sent slot k (state ∷ states) =
+    ap (λ es. es ++ halt_entries (done_halt slot) (k + 1) (map (after_sending slot) states)) (done-sent slot k state)
+    ∙ ap (λ es. done_halt slot k state ++ es) (halt_entries-sent slot (k + 1) states)
 
 -- clients that play nothing
-pub idle-seats : (cs : List Client) → length cs ≡ 256 → AreIdle cs → map seat_of cs ≡ replicate 256 Idle
-idle-seats cs count idle =
-    ext_get_or Idle (map seat_of cs) (replicate 256 Idle) (length-map cs seat_of ∙ count)
+pub idle-states : (cs : List Client) → length cs ≡ 256 → AreIdle cs → map state_of cs ≡ replicate 256 Idle
+idle-states cs count idle =
+    ext_get_or Idle (map state_of cs) (replicate 256 Idle) (length-map cs state_of ∙ count)
     (λ c inside.
-    let within : c < length cs = omega (arith, inside, length-map cs seat_of) in
-    seat-at cs c clients.Idle within ∙ ap seat_of (idle.each c clients.Idle within) ∙ sym (get_or-replicate 256 c Idle Idle (omega (arith, within, count))))
+    let within : c < length cs = omega (arith, inside, length-map cs state_of) in
+    state-at cs c clients.Idle within ∙ ap state_of (idle.each c clients.Idle within) ∙ sym (get_or-replicate 256 c Idle Idle (omega (arith, within, count))))

@@ -11,7 +11,7 @@ use Rattle.early_start.specs.Offered.{AreRefusals, IsStart}
 use Rattle.early_start.proofs.Refusals.{no_room_tried}
 use Rattle.day_run.specs.DayLaws.{IsCount, IsLeast, IsOfferTold}
 use Rattle.day_run.specs.Days.{IsFaulty, IsOfferLine, Link, Moment}
-use Rattle.day_run.specs.Seats.{Rest}
+use Rattle.day_run.specs.ClientStates.{Rest}
 
 start-least : {booked capacity : ℕ → ℕ} {plan : List Segment} {first : ℕ} {tried : List Tried} (wait : ℕ)
     (start : Option ℕ) → AreRefusals 0 booked capacity plan first tried

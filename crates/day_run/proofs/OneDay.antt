@@ -1,5 +1,6 @@
 -- A script has one day.
 use Rattle.std.proofs.Common.{◌≡◌, ◌<◌, ◌≤◌, ◌+◌, ℕ, zero, suc, max, List, [], ◌∷◌, ◌++◌, length, take, set, get_or, arith, refl, sym, ap, subst, ◌∙◌, inl, inr}
+use Rattle.wire_curve.proofs.Exact.{HasFault-unique}
 use Rattle.std.specs.Prelude.{flat_map, ◌⊎◌}
 use Rattle.std.proofs.lemmas.Bool.{cases_lt}
 use Rattle.plan_cert.specs.declared.Segment.{Segment}
@@ -24,44 +25,17 @@ use Rattle.admission.specs.Machine.{booked_in}
 use Rattle.admission.proofs.Once.{answer-once}
 use Rattle.day_run.specs.declared.scripts.Line.{Line}
 use Rattle.day_run.specs.declared.scripts.Line.TheVariants as lines
-use Rattle.day_run.specs.DayLaws.{AreClients, IsClient, IsLink, IsSoundRest, IsSoundSeat}
-use Rattle.day_run.specs.Days.{AreRun, IsAnsweredPlay, IsAsked, IsDay, IsFaulty, IsFull, IsHaltedPlay, IsLine, IsLookLine, IsNoted, IsOfferLine, IsPauseLine, IsPlayLine, IsResumeLine, IsTold, Link, Moment, entry_by, last_journal, last_lines, first_moment, rest_at, seat_at, with_play}
+use Rattle.day_run.specs.DayLaws.{AreClients, IsClient, IsLink, IsSoundRest, IsSoundClient}
+use Rattle.day_run.specs.Days.{AreRun, IsAnsweredPlay, IsAsked, IsDay, IsFaulty, IsFull, IsHaltedPlay, IsLine, IsLookLine, IsNoted, IsOfferLine, IsPauseLine, IsPlayLine, IsResumeLine, IsTold, Link, Moment, entry_by, last_journal, last_lines, first_moment, rest_at, state_at, with_play}
 use Rattle.day_run.specs.Prints.{fault_text, offer_text}
 use Rattle.report.specs.EntryLines.{entry_line}
 use Rattle.day_run.specs.Scripts.{AreLines, StandsAfter, slot_after}
-use Rattle.day_run.specs.Seats.{Idle, Playing, Pausing, Paused, Play, Rest, Seat, pausing_seat, slot_sent}
+use Rattle.day_run.specs.ClientStates.{Idle, Playing, Pausing, Paused, Play, Rest, ClientState, pausing_state, slot_sent}
 use Rattle.day_run.proofs.BalancedLines.{heard-after, morning-ready, stands-rest}
 use Rattle.std.specs.List.{fold}
 use Rattle.day_run.proofs.SoundClients.{IsSound, idle-sound, line-sound, whole-sound}
 
 -- ---- one fault, one plan
-fault-once : (sizes : List ℕ) (timing : Timing) (one other : CurveFault) → HasFault sizes timing one → HasFault sizes timing other → one ≡ other
-fault-once sizes timing NoPictures NoPictures a b = refl
-fault-once sizes timing NoPictures (TooManySlots n) a b = absurd (omega (arith, a, b.0))
-fault-once sizes timing NoPictures (BufferTooSmall slot used least) a b = absurd (omega (arith, a, b.0))
-fault-once sizes timing (TooManySlots n) NoPictures a b = absurd (omega (arith, a.0, b))
-fault-once sizes timing (TooManySlots n) (TooManySlots m) a b = ap TooManySlots (a.1 ∙ sym b.1)
-fault-once sizes timing (TooManySlots n) (BufferTooSmall slot used least) a b = absurd (omega (arith, a.1, a.2, b.1))
-fault-once sizes timing (BufferTooSmall slot used least) NoPictures a b = absurd (omega (arith, a.0, b))
-fault-once sizes timing (BufferTooSmall slot used least) (TooManySlots n) a b = absurd (omega (arith, a.1, b.1, b.2))
-fault-once sizes timing (BufferTooSmall slot used least) (BufferTooSmall slot' used' least') a b =
-    let x = a.2 in
-    let y = b.2 in
-    let at-x : timing.buffer < bytes_used_in sizes timing slot = omega (arith, x.above_buffer, x.used_is) in
-    let at-y : timing.buffer < bytes_used_in sizes timing slot' = omega (arith, y.above_buffer, y.used_is) in
-    let same : slot ≡ slot' = elim (cases_lt slot slot') [
-      | inl earlier ↦ absurd (omega (arith, y.first slot earlier, at-x))
-      | inr past ↦ elim (cases_lt slot' slot) [
-        | inl later ↦ absurd (omega (arith, x.first slot' later, at-y))
-        | inr not-past ↦ omega (arith, past, not-past)
-      ]
-    ] in
-    let uses : used ≡ used' = x.used_is ∙ ap (bytes_used_in sizes timing) same ∙ sym y.used_is in
-    let le : least ≤ least' = omega (arith, y.greatest x.reached.0 x.reached.1, x.reached.2) in
-    let ge : least' ≤ least = omega (arith, x.greatest y.reached.0 y.reached.1, y.reached.2) in
-    let both : least ≡ least' = omega (arith, le, ge) in
-    ap (λ n. BufferTooSmall n used least) same ∙ ap (λ n. BufferTooSmall slot' n least) uses ∙ ap (BufferTooSmall slot' used') both
-
 fault-apart : (sizes : List ℕ) (timing : Timing) (fault : CurveFault) → HasFault sizes timing fault → IsAccepted sizes timing → ⊥
 fault-apart sizes timing NoPictures has accepted = omega (arith, has, accepted.some_picture)
 fault-apart sizes timing (TooManySlots n) has accepted = omega (arith, has.1, has.2, accepted.few_slots)
@@ -77,13 +51,13 @@ pub record IsOne (new new' : Moment) (text text' : List ℕ) : Type 0 where
 one-told : {told : List ℕ} {old new new' : Moment} {text text' : List ℕ} → IsTold told old new text → IsTold told old new' text' → IsOne new new' text text'
 one-told {new} {text} a b = record { new_is = a.kept ∙ sym b.kept; text_is = a.text_is ∙ sym b.text_is }
 
-one-noted : {link : Link} {one other : Entry} {seats seats' : List Seat} {old new new' : Moment}
-    {text text' : List ℕ} → one ≡ other → seats ≡ seats'
-    → IsNoted link one seats old new text → IsNoted link other seats' old new' text' → IsOne new new' text text'
-one-noted {one} {other} {seats} {old} {new} {text} e s a b = record {
+one-noted : {link : Link} {one other : Entry} {states states' : List ClientState} {old new new' : Moment}
+    {text text' : List ℕ} → one ≡ other → states ≡ states'
+    → IsNoted link one states old new text → IsNoted link other states' old new' text' → IsOne new new' text text'
+one-noted {one} {other} {states} {old} {new} {text} e s a b = record {
   new_is =
-      a.new_is ∙ ap (λ x. record { entries = old.entries ++ x ∷ []; seats = seats; heard = old.heard }) e
-      ∙ ap (λ l. record { entries = old.entries ++ other ∷ []; seats = l; heard = old.heard }) s ∙ sym b.new_is;
+      a.new_is ∙ ap (λ x. record { entries = old.entries ++ x ∷ []; states = states; heard = old.heard }) e
+      ∙ ap (λ l. record { entries = old.entries ++ other ∷ []; states = l; heard = old.heard }) s ∙ sym b.new_is;
   text_is = a.text_is ∙ ap (entry_line (length old.entries)) e ∙ sym b.text_is;
 }
 
@@ -97,11 +71,11 @@ one-planned {link} {c} {rest} {plan} {old} {new} {text} (inr a) (inr b) =
     let same : a.answer ≡ b.answer =
     answer-once link.steps (state_after old.entries) (commands.Play old.heard plan) a.answer b.answer a.noted.answered b.noted.answered in
     one-noted (ap (entry_by c (commands.Play old.heard plan)) same)
-    (ap (λ x. with_play c rest plan (length old.entries) x old.seats) same) a.noted b.noted
+    (ap (λ x. with_play c rest plan (length old.entries) x old.states) same) a.noted b.noted
 
 one-fault : {rest : Rest} {old new new' : Moment} {text text' : List ℕ} → IsFaulty rest old new text → IsFaulty rest old new' text' → IsOne new new' text text'
 one-fault {rest} {old} {new} {text} a b =
-    let same = fault-once (rest_sizes rest.sizes rest.run) (timing_of rest.playback rest.run) a.fault b.fault a.fault_is b.fault_is in
+    let same = HasFault-unique (rest_sizes rest.sizes rest.run) (timing_of rest.playback rest.run) a.fault b.fault a.fault_is b.fault_is in
     let T : CurveFault → Type 0 = λ f. IsTold (fault_text f) old new text in
     one-told (subst T same a.told) b.told
 
@@ -118,15 +92,15 @@ one-asked {link} {c} {rest} {old} {new} {text} own (inr a) (inr b) =
     let D : List Segment → Type 0 = λ p. IsFull link 2 old new text ⊎ IsAnsweredPlay link c rest p old new text in
     one-planned (subst D same a.done) b.done
 
-one-play : {rest : Rest} {new new' : Moment} {text text' : List ℕ} (link : Link) (c : ℕ) (seat : Seat) (old : Moment) → (0 < length (rest_sizes rest.sizes rest.run) → IsSoundRest rest)
-    → IsPlayLine link c rest seat old new text → IsPlayLine link c rest seat old new' text' → IsOne new new' text text'
+one-play : {rest : Rest} {new new' : Moment} {text text' : List ℕ} (link : Link) (c : ℕ) (state : ClientState) (old : Moment) → (0 < length (rest_sizes rest.sizes rest.run) → IsSoundRest rest)
+    → IsPlayLine link c rest state old new text → IsPlayLine link c rest state old new' text' → IsOne new new' text text'
 one-play {new} {text} link c Idle old own a b = one-asked own a b
 one-play {new} {text} link c (Playing play) old own a b = one-told a b
 one-play {new} {text} link c (Pausing stop left) old own a b = one-told a b
 one-play {new} {text} link c (Paused left) old own a b = one-asked own a b
 
-one-resume : {new new' : Moment} {text text' : List ℕ} (link : Link) (c : ℕ) (seat : Seat) (old : Moment) → IsSoundSeat old.heard seat
-    → IsResumeLine link c seat old new text → IsResumeLine link c seat old new' text' → IsOne new new' text text'
+one-resume : {new new' : Moment} {text text' : List ℕ} (link : Link) (c : ℕ) (state : ClientState) (old : Moment) → IsSoundClient old.heard state
+    → IsResumeLine link c state old new text → IsResumeLine link c state old new' text' → IsOne new new' text text'
 one-resume {new} {text} link c Idle old own a b = one-told a b
 one-resume {new} {text} link c (Playing play) old own a b = one-told a b
 one-resume {new} {text} link c (Pausing stop rest) old own a b = one-told a b
@@ -141,13 +115,13 @@ one-halted {c} {play} {old} {new} {text} a b =
     let L : ℕ → Type 0 = λ k. IsLeft play.rest.sizes play.rest.playback play.rest.run play.plan (slot_sent play.start old.heard) k a.pause.left in
     let left : a.pause.left ≡ b.pause.left =
     left-one play.rest.sizes play.rest.playback play.rest.run b.pause.left a.pause.left play.plan (slot_sent play.start old.heard) b.keep b.pause.left_is (subst L keep a.pause.left_is) in
-    let seat : a.seat ≡ b.seat =
-    a.pause.seat_is ∙ ap (λ k. pausing_seat old.heard (cut_play play.start play.plan k) (record play.rest { run = a.pause.left })) keep
-    ∙ ap (λ r. pausing_seat old.heard (cut_play play.start play.plan b.keep) (record play.rest { run = r })) left ∙ sym b.pause.seat_is in
-    one-noted (ap (λ k. entry_by c (commands.Halt play.number k) Halted) keep) (ap (set old.seats c) seat) a.noted b.noted
+    let state : a.state ≡ b.state =
+    a.pause.state_is ∙ ap (λ k. pausing_state old.heard (cut_play play.start play.plan k) (record play.rest { run = a.pause.left })) keep
+    ∙ ap (λ r. pausing_state old.heard (cut_play play.start play.plan b.keep) (record play.rest { run = r })) left ∙ sym b.pause.state_is in
+    one-noted (ap (λ k. entry_by c (commands.Halt play.number k) Halted) keep) (ap (set old.states c) state) a.noted b.noted
 
-one-pause : {new new' : Moment} {text text' : List ℕ} (link : Link) (c : ℕ) (seat : Seat) (old : Moment) → IsPauseLine link c seat old new text
-    → IsPauseLine link c seat old new' text' → IsOne new new' text text'
+one-pause : {new new' : Moment} {text text' : List ℕ} (link : Link) (c : ℕ) (state : ClientState) (old : Moment) → IsPauseLine link c state old new text
+    → IsPauseLine link c state old new' text' → IsOne new new' text text'
 one-pause {new} {text} link c Idle old a b = one-told a b
 one-pause {new} {text} link c (Playing play) old a b = one-halted a b
 one-pause {new} {text} link c (Pausing stop rest) old a b = one-told a b
@@ -188,13 +162,13 @@ one-offer {link} {rest} {old} {new} {text} own (inr a) (inr b) =
     let T : Found → Type 0 = λ f. IsTold (offer_text f) old new text in
     one-told (subst T found a.told) b.told
 
-one-line : {link : Link} {old new new' : Moment} {text text' : List ℕ} (line : Line) → IsLink link → IsClient line → StandsAfter old.heard (length link.tracks) line
+one-line : {link : Link} {old new new' : Moment} {text text' : List ℕ} (line : Line) → IsLink link → IsClient line → StandsAfter old.heard (length link.reels) line
     → IsSound old → IsLine link line old new text → IsLine link line old new' text' → IsOne new new' text text'
 one-line {link} {old} {new} {text} (lines.Play c source buffer delay) link-is client stands sound a b =
-    one-play link c (seat_at old c) old (whole-sound link-is stands) a b
-one-line {link} {old} {new} {text} (lines.Pause c) link-is client stands sound a b = one-pause link c (seat_at old c) old a b
+    one-play link c (state_at old c) old (whole-sound link-is stands) a b
+one-line {link} {old} {new} {text} (lines.Pause c) link-is client stands sound a b = one-pause link c (state_at old c) old a b
 one-line {link} {old} {new} {text} (lines.Resume c) link-is client stands sound a b =
-    one-resume link c (seat_at old c) old (sound.each c client) a b
+    one-resume link c (state_at old c) old (sound.each c client) a b
 one-line {new} {text} (lines.Look slot) link-is client stands sound a b = one-look a b
 one-line {new} {text} (lines.Slot slot) link-is client stands sound a b = record { new_is = a.0 ∙ sym b.0; text_is = a.1 ∙ sym b.1 }
 one-line {new} {text} (lines.Offer c source buffer delay wait) link-is client stands sound a b =
@@ -207,7 +181,7 @@ pub record IsOneRun (new new' : Moment) (texts texts' : List (List ℕ)) : Type 
 
 one-run : {link : Link} {texts texts' : List (List ℕ)} {old new new' : Moment} (ls : List Line) → IsLink link
     → ((i : ℕ) (none : Line) → i < length ls → IsClient (get_or ls i none))
-    → ((i : ℕ) (none : Line) → i < length ls → StandsAfter (fold slot_after old.heard (take i ls)) (length link.tracks) (get_or ls i none))
+    → ((i : ℕ) (none : Line) → i < length ls → StandsAfter (fold slot_after old.heard (take i ls)) (length link.reels) (get_or ls i none))
     → IsSound old → AreRun link ls texts old new → AreRun link ls texts' old new' → IsOneRun new new' texts texts'
 one-run {texts = []} {texts' = []} {new} [] link-is clients stands sound a b = record { new_is = a ∙ sym b; texts_are = refl }
 one-run {texts = t ∷ ts} {new} [] link-is clients stands sound a b = absurd a
@@ -219,13 +193,13 @@ one-run {link} {texts = t ∷ ts} {texts' = t' ∷ ts'} {old} {new} {new'} (l �
     let stand = stands zero l (omega arith) in
     let one = one-line l link-is client stand sound a.1.0 b.1.0 in
     let next = line-sound l t link-is client stand sound a.1.0 in
-    let H : ℕ → Type 0 = λ h. (i : ℕ) (none : Line) → i < length ls → StandsAfter (fold slot_after h (take i ls)) (length link.tracks) (get_or ls i none) in
+    let H : ℕ → Type 0 = λ h. (i : ℕ) (none : Line) → i < length ls → StandsAfter (fold slot_after h (take i ls)) (length link.reels) (get_or ls i none) in
     let after : H a.0.heard = subst H (sym (heard-after link l old a.0 t a.1.0)) (stands-rest l ls stands) in
     let R : Moment → Type 0 = λ m. AreRun link ls ts' m new' in
     let rest = one-run {link = link} {texts = ts} {texts' = ts'} {old = a.0} {new = new} {new' = new'} ls link-is (λ i none inside. clients (suc i) none (omega (arith, inside))) after next a.1.1 (subst R (sym one.new_is) b.1.1) in
     record { new_is = rest.new_is; texts_are = ap (λ x. x ∷ ts) one.text_is ∙ ap (λ xs. t' ∷ xs) rest.texts_are }
 
-pub one-day : (link : Link) (ls : List Line) (text text' : List ℕ) (journal journal' : List Entry) → IsLink link → AreClients ls → AreLines (length link.tracks) ls
+pub one-day : (link : Link) (ls : List Line) (text text' : List ℕ) (journal journal' : List Entry) → IsLink link → AreClients ls → AreLines (length link.reels) ls
     → IsDay link ls text journal → IsDay link ls text' journal' → (text ≡ text') × (journal ≡ journal')
 one-day link ls text text' journal journal' link-is clients are a b =
     let one = one-run ls link-is clients.each are.each (record { ready = morning-ready; each = idle-sound }) a.run b.run in (

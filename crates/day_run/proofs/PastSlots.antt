@@ -18,10 +18,10 @@ use Rattle.day_run.specs.declared.scripts.Line.TheVariants as lines
 use Rattle.day_run.specs.Balanced.{IsReady, share_of}
 use Rattle.day_run.specs.Clients.{after_open}
 use Rattle.day_run.specs.DayLaws.{AreClients, IsClient}
-use Rattle.day_run.specs.Days.{AreRun, IsAsked, IsHaltedPlay, IsLine, IsLookLine, IsOfferLine, IsPauseLine, IsPlayLine, IsResumeLine, Link, Moment, at_slot, entry_by, last_journal, first_moment, rest_at, seat_at, with_play}
+use Rattle.day_run.specs.Days.{AreRun, IsAsked, IsHaltedPlay, IsLine, IsLookLine, IsOfferLine, IsPauseLine, IsPlayLine, IsResumeLine, Link, Moment, at_slot, entry_by, last_journal, first_moment, rest_at, state_at, with_play}
 use Rattle.day_run.specs.FairDays.{AreTurns, IsDone, IsTurn, Turn, after_turn, at_later, client_of, turn_booked, turn_peak}
 use Rattle.day_run.specs.Scripts.{AreLines, StandsAfter}
-use Rattle.day_run.specs.Seats.{Idle, Playing, Pausing, Paused, Play, Rest, Seat, booking_of, sent_by}
+use Rattle.day_run.specs.ClientStates.{Idle, Playing, Pausing, Paused, Play, Rest, ClientState, booking_of, sent_by}
 use Rattle.day_run.proofs.BalancedSlots.{its-held, last-later, last-stays, play-stays, slot-stays, stays-halt}
 use Rattle.day_run.proofs.BalancedLines.{morning-ready, run-ready}
 use Rattle.day_run.proofs.FairLaws.{done-heard, later-heard, turn-ready, later-ready}
@@ -35,9 +35,9 @@ Past old new = (t : ℕ) → t ≤ old.heard → booked_after new.entries t ≡ 
 kept-past : (old new : Moment) → new ≡ old → Past old new
 kept-past old new kept t past = ap (λ (m : Moment). booked_after m.entries t) kept
 
-same-past : (old new : Moment) (e : Entry) (seats : List Seat) → new ≡ record { entries = old.entries ++ e ∷ []; seats = seats; heard = old.heard }
+same-past : (old new : Moment) (e : Entry) (states : List ClientState) → new ≡ record { entries = old.entries ++ e ∷ []; states = states; heard = old.heard }
     → (state_after (old.entries ++ e ∷ [])).held ≡ (state_after old.entries).held → Past old new
-same-past old new e seats is same t past =
+same-past old new e states is same t past =
     ap (λ (m : Moment). booked_after m.entries t) is ∙ ap (λ hs. booked_by (map (λ (h : Held). h.play) hs) t) same
 
 answered-past : {new : Moment} (answer : Answer) (link : Link) (c : ℕ) (rest : Rest) (plan : List Segment)
@@ -45,7 +45,7 @@ answered-past : {new : Moment} (answer : Answer) (link : Link) (c : ℕ) (rest :
     → IsAnswered link.steps (state_after old.entries) (entry_by c (commands.Play old.heard plan) answer)
     → new ≡ record {
       entries = old.entries ++ entry_by c (commands.Play old.heard plan) answer ∷ [];
-      seats = with_play c rest plan (length old.entries) answer old.seats;
+      states = with_play c rest plan (length old.entries) answer old.states;
       heard = old.heard;
     } → Past old new
 answered-past {new} (Admitted start) link c rest plan old answered is = λ t past.
@@ -55,13 +55,13 @@ answered-past {new} (Admitted start) link c rest plan old answered is = λ t pas
     ∙ play-stays old.entries e (length old.entries) start old.heard t plan early past (ap (λ (s : State). s.held) (state-push old.entries e))
 answered-past {new} (Overflow over booked asked) link c rest plan old answered is =
     let e = entry_by c (commands.Play old.heard plan) (Overflow over booked asked) in
-    same-past old new e old.seats is (ap (λ (s : State). s.held) (state-push old.entries e))
+    same-past old new e old.states is (ap (λ (s : State). s.held) (state-push old.entries e))
 answered-past {new} Halted link c rest plan old answered is =
     let e = entry_by c (commands.Play old.heard plan) Halted in
-    same-past old new e old.seats is (ap (λ (s : State). s.held) (state-push old.entries e))
+    same-past old new e old.states is (ap (λ (s : State). s.held) (state-push old.entries e))
 answered-past {new} (Looked now at booked) link c rest plan old answered is =
     let e = entry_by c (commands.Play old.heard plan) (Looked now at booked) in
-    same-past old new e old.seats is (ap (λ (s : State). s.held) (state-push old.entries e))
+    same-past old new e old.states is (ap (λ (s : State). s.held) (state-push old.entries e))
 
 asked-past : {link : Link} {c : ℕ} {rest : Rest} {old new : Moment} {text : List ℕ} → IsAsked link c rest old new text → Past old new
 asked-past {c} {old} {new} {text} (inl faulty) = kept-past old new faulty.told.kept
@@ -70,19 +70,19 @@ asked-past {link} {c} {rest} {old} {new} {text} (inr planned) = elim planned.don
   | inr made ↦ answered-past made.answer link c rest planned.plan old made.noted.answered made.noted.new_is
 ]
 
-play-past : (link : Link) (c : ℕ) (rest : Rest) (seat : Seat) (old new : Moment) (text : List ℕ) → IsPlayLine link c rest seat old new text → Past old new
+play-past : (link : Link) (c : ℕ) (rest : Rest) (state : ClientState) (old new : Moment) (text : List ℕ) → IsPlayLine link c rest state old new text → Past old new
 play-past link c rest Idle old new text is = asked-past is
 play-past link c rest (Playing play) old new text is = kept-past old new is.kept
 play-past link c rest (Pausing stop left) old new text is = kept-past old new is.kept
 play-past link c rest (Paused left) old new text is = asked-past is
 
-resume-past : (link : Link) (c : ℕ) (seat : Seat) (old new : Moment) (text : List ℕ) → IsResumeLine link c seat old new text → Past old new
+resume-past : (link : Link) (c : ℕ) (state : ClientState) (old new : Moment) (text : List ℕ) → IsResumeLine link c state old new text → Past old new
 resume-past link c Idle old new text is = kept-past old new is.kept
 resume-past link c (Playing play) old new text is = kept-past old new is.kept
 resume-past link c (Pausing stop rest) old new text is = kept-past old new is.kept
 resume-past link c (Paused rest) old new text is = asked-past is
 
-halted-past : {link : Link} {c : ℕ} {play : Play} {old new : Moment} {text : List ℕ} → c < 256 → get_or old.seats c Idle ≡ Playing play → IsReady old
+halted-past : {link : Link} {c : ℕ} {play : Play} {old new : Moment} {text : List ℕ} → c < 256 → get_or old.states c Idle ≡ Playing play → IsReady old
     → IsHaltedPlay link c play old new text → Past old new
 halted-past {c} {play} {old} {new} {text} client at ready is t past =
     let held = its-held c (omega (arith, client, ready.count)) at ready.balanced in
@@ -90,18 +90,18 @@ halted-past {c} {play} {old} {new} {text} client at ready is t past =
     let sent : sent_by (booking_of play) old.heard ≤ is.keep = omega (arith, is.pause.boundary.after) in
     ap (λ (m : Moment). booked_after m.entries t) is.noted.new_is ∙ stays-halt old.entries c is.keep play held sent most t past
 
-pause-past : {c : ℕ} {seat : Seat} {old : Moment} (link : Link) (new : Moment) (text : List ℕ) → c < 256 → get_or old.seats c Idle ≡ seat → IsReady old
-    → IsPauseLine link c seat old new text → Past old new
-pause-past {c} {seat = Idle} {old} link new text client at ready is = kept-past old new is.kept
-pause-past {c} {seat = Playing play} link new text client at ready is = halted-past client at ready is
-pause-past {c} {seat = Pausing stop rest} {old} link new text client at ready is = kept-past old new is.kept
-pause-past {c} {seat = Paused rest} {old} link new text client at ready is = kept-past old new is.kept
+pause-past : {c : ℕ} {state : ClientState} {old : Moment} (link : Link) (new : Moment) (text : List ℕ) → c < 256 → get_or old.states c Idle ≡ state → IsReady old
+    → IsPauseLine link c state old new text → Past old new
+pause-past {c} {state = Idle} {old} link new text client at ready is = kept-past old new is.kept
+pause-past {c} {state = Playing play} link new text client at ready is = halted-past client at ready is
+pause-past {c} {state = Pausing stop rest} {old} link new text client at ready is = kept-past old new is.kept
+pause-past {c} {state = Paused rest} {old} link new text client at ready is = kept-past old new is.kept
 
 look-past : (link : Link) (slot : ℕ) (old new : Moment) (text : List ℕ) → IsLookLine link slot old new text → Past old new
 look-past link slot old new text (inl full) = kept-past old new full.told.kept
 look-past link slot old new text (inr made) =
     let e = entry_by 0 (commands.Look slot) made.answer in
-    same-past old new e old.seats made.noted.new_is (look-held made.answer slot old.entries)
+    same-past old new e old.states made.noted.new_is (look-held made.answer slot old.entries)
   where
     look-held : (answer : Answer) (slot : ℕ) (entries : List Entry)
         → (state_after (entries ++ entry_by 0 (commands.Look slot) answer ∷ [])).held ≡ (state_after entries).held
@@ -114,9 +114,9 @@ offer-past {old} {new} {text} (inr offered) = kept-past old new offered.told.kep
 line-past : {old : Moment} (link : Link) (line : Line) (n : ℕ) (new : Moment) (text : List ℕ) → IsClient line → StandsAfter old.heard n line → IsReady old
     → IsLine link line old new text → Past old new
 line-past {old} link (lines.Play c source buffer delay) n new text client stands ready is =
-    play-past link c (rest_at link source buffer delay) (seat_at old c) old new text is
+    play-past link c (rest_at link source buffer delay) (state_at old c) old new text is
 line-past link (lines.Pause c) n new text client stands ready is = pause-past link new text client refl ready is
-line-past {old} link (lines.Resume c) n new text client stands ready is = resume-past link c (seat_at old c) old new text is
+line-past {old} link (lines.Resume c) n new text client stands ready is = resume-past link c (state_at old c) old new text is
 line-past {old} link (lines.Look slot) n new text client stands ready is = look-past link _ old new text is
 line-past {old} link (lines.Slot slot) n new text client stands ready is = λ t past.
     ap (λ (m : Moment). booked_after m.entries t) is.0 ∙ slot-stays old slot t (omega (arith, stands.0)) (omega (arith, past, stands.0)) ready.balanced
@@ -136,13 +136,13 @@ end-past {n} {ls} link texts m t clients are run past =
     last-stays m t past (run-ready link n ls texts clients.each are.each run morning-ready).balanced
 
 -- ---- the same of turns
-done-past : {c : ℕ} {seat : Seat} {old : Moment} (link : Link) (words : ℕ → ℕ) (new : Moment) (text : List ℕ) → c < 256 → IsReady old → get_or old.seats c Idle ≡ seat
-    → IsDone link words c seat old new text → Past old new
-done-past {c} {seat = Idle} {old} link words new text client ready at is =
-    play-past link c (rest_at link (words 0 % 16) (16384 + words 1 % 16384) (words 2 % 26)) (seat_at old c) old new text is
-done-past {c} {seat = Playing play} link words new text client ready at is = pause-past link new text client refl ready is
-done-past {c} {seat = Pausing stop rest} {old} link words new text client ready at is = kept-past old new is.kept
-done-past {c} {seat = Paused rest} {old} link words new text client ready at is = resume-past link c (seat_at old c) old new text is
+done-past : {c : ℕ} {state : ClientState} {old : Moment} (link : Link) (words : ℕ → ℕ) (new : Moment) (text : List ℕ) → c < 256 → IsReady old → get_or old.states c Idle ≡ state
+    → IsDone link words c state old new text → Past old new
+done-past {c} {state = Idle} {old} link words new text client ready at is =
+    play-past link c (rest_at link (words 0 % 16) (16384 + words 1 % 16384) (words 2 % 26)) (state_at old c) old new text is
+done-past {c} {state = Playing play} link words new text client ready at is = pause-past link new text client refl ready is
+done-past {c} {state = Pausing stop rest} {old} link words new text client ready at is = kept-past old new is.kept
+done-past {c} {state = Paused rest} {old} link words new text client ready at is = resume-past link c (state_at old c) old new text is
 
 -- a slot or none leaves what is booked up to it
 later-past : (old : Moment) (later t : ℕ) → IsReady old → t ≤ (at_later old later).heard → booked_after (at_later old later).entries t ≡ booked_after old.entries t
@@ -297,11 +297,11 @@ fair-past {evening} link words run is ready =
 
 -- ---- looks and offers
 pub look-leaves : (link : Link) (slot : ℕ) (old new : Moment) (text : List ℕ) → IsLine link (lines.Look slot) old new text
-    → (new.seats ≡ old.seats) × (new.heard ≡ old.heard) × (state_after new.entries ≡ state_after old.entries)
+    → (new.states ≡ old.states) × (new.heard ≡ old.heard) × (state_after new.entries ≡ state_after old.entries)
 look-leaves link slot old new text (inl full) =
-    (ap (λ (m : Moment). m.seats) full.told.kept, ap (λ (m : Moment). m.heard) full.told.kept, ap (λ (m : Moment). state_after m.entries) full.told.kept)
+    (ap (λ (m : Moment). m.states) full.told.kept, ap (λ (m : Moment). m.heard) full.told.kept, ap (λ (m : Moment). state_after m.entries) full.told.kept)
 look-leaves link slot old new text (inr made) = (
-  ap (λ (m : Moment). m.seats) made.noted.new_is,
+  ap (λ (m : Moment). m.states) made.noted.new_is,
   ap (λ (m : Moment). m.heard) made.noted.new_is,
   ap (λ (m : Moment). state_after m.entries) made.noted.new_is ∙ state-push old.entries (entry_by 0 (commands.Look _) made.answer),
 )
@@ -312,6 +312,6 @@ offer-leaves link client source buffer delay wait old new text (inl faulty) = fa
 offer-leaves link client source buffer delay wait old new text (inr offered) = offered.told.kept
 
 pub end-later : {n : ℕ} {ls : List Line} (link : Link) (texts : List (List ℕ)) (m : Moment) (t : ℕ) → AreClients ls → AreLines n ls
-    → AreRun link ls texts first_moment m → m.heard < t → booked_after (last_journal m) t ≡ sum_by (share_of t) (map after_open m.seats)
+    → AreRun link ls texts first_moment m → m.heard < t → booked_after (last_journal m) t ≡ sum_by (share_of t) (map after_open m.states)
 end-later {n} {ls} link texts m t clients are run later =
     last-later m t later (run-ready link n ls texts clients.each are.each run morning-ready).balanced

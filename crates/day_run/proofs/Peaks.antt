@@ -1,6 +1,8 @@
 -- The most that is booked in one of some slots.
 use Rattle.std.proofs.Common.{◌≡◌, ◌≤◌, ◌+◌, ◌-◌, ℕ, zero, suc, max, List, [], ◌∷◌, ◌++◌, map, arith, refl, sym, ap, ◌∙◌}
 use Rattle.std.specs.List.{fold, range_with_len}
+use Rattle.std.specs.Ordering.{nat_cmp, ord_max}
+use Rattle.std.proofs.lemmas.Bool.{cases_lt, lt-ltb, ltb-false}
 use Rattle.std.proofs.lemmas.List.FromFn.{map-range_with_len_more}
 use Rattle.std.proofs.lemmas.List.Sums.{fold-append}
 
@@ -9,6 +11,10 @@ peak-push xs x = fold-append max 0 xs (x ∷ [])
 
 pub peak-slots : (f : ℕ → ℕ) (a n j : ℕ) → a + n ≡ j → fold max 0 (map f (range_with_len a (n + 1))) ≡ max (fold max 0 (map f (range_with_len a n))) (f j)
 peak-slots f a n j at = ap (fold max 0) (map-range_with_len_more f a n j at) ∙ peak-push (map f (range_with_len a n)) (f j)
+
+-- the greater of two numbers, as `max` of the code tells it
+pub max_by_order : (a b : ℕ) → ord_max nat_cmp a b ≡ max a b
+max_by_order a b = grind arith
 
 -- the most through a slot
 pub peak-next : {slot peak here : ℕ} (f : ℕ → ℕ) (from : ℕ) → from + 1 ≤ slot → peak ≡ fold max 0 (map f (range_with_len (from + 1) (slot - (from + 1)))) → here ≡ f slot

@@ -6,12 +6,12 @@ use Rattle.std.proofs.lemmas.List.{append_assoc, get_or_at, length-append, take_
 use Rattle.std.proofs.lemmas.List.Elements.{All-append, All-cons, All-nil}
 use Rattle.day_run.specs.Lines.{lines_of_script, without_return}
 use Rattle.day_run.specs.Readings.{Reading, line_read, lines_read}
-use Rattle.day_run.proofs.Cuts.{script-cut, script-rest}
+use Rattle.day_run.proofs.Cuts.{script-line, script-rest}
 
 pub line-ended : (line rest : List ℕ) → All (λ b. b ≢ 10) line → slice_index line (length line - 1) ≢ 13
     → lines_of_script (line ++ 10 ∷ rest) ≡ line ∷ lines_of_script rest
 line-ended line rest none other =
-    script-cut (line ++ 10 ∷ rest) line rest (record { text_is = refl; not_in_front = none })
+    script-line line rest none
     ∙ ap (λ l. l ∷ lines_of_script rest)
     (cond-false (slice_index line (length line - 1) == 13) (take (length line - 1) line) line (ne_eqb (slice_index line (length line - 1)) 13 other))
 
@@ -28,10 +28,8 @@ line-returned line rest none =
     let front = line ++ 13 ∷ [] in
     let other : 13 ≢ 10 = λ same. absurd (omega (arith, same)) in
     ap lines_of_script (sym (append_assoc line (13 ∷ []) (10 ∷ rest)))
-    ∙ script-cut (front ++ 10 ∷ rest) front rest (record {
-      text_is = refl;
-      not_in_front = All-append (λ b. b ≢ 10) line (13 ∷ []) none (All-cons (λ b. b ≢ 10) 13 [] other (All-nil (λ b. b ≢ 10)));
-    }) ∙ ap (λ l. l ∷ lines_of_script rest) (cut-return line)
+    ∙ script-line front rest (All-append (λ b. b ≢ 10) line (13 ∷ []) none (All-cons (λ b. b ≢ 10) 13 [] other (All-nil (λ b. b ≢ 10))))
+    ∙ ap (λ l. l ∷ lines_of_script rest) (cut-return line)
 
 pub line-last : (line : List ℕ) → All (λ b. b ≢ 10) line → line ≢ [] → lines_of_script line ≡ line ∷ []
 line-last line none some = script-rest line some none

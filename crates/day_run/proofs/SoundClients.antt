@@ -25,61 +25,61 @@ use Rattle.admission.specs.Machine.{CanHalt, Held, admitted_play, held_as}
 use Rattle.day_run.specs.declared.scripts.Line.{Line}
 use Rattle.day_run.specs.declared.scripts.Line.TheVariants as lines
 use Rattle.day_run.specs.Balanced.{AreHeldOf, IsHeld, IsReady}
-use Rattle.day_run.specs.DayLaws.{AreClients, IsClient, IsLink, IsSoundPlay, IsSoundRest, IsSoundSeat}
-use Rattle.day_run.specs.Days.{AreRun, IsAsked, IsHaltedPlay, IsLine, IsLookLine, IsOfferLine, IsPauseLine, IsPlayLine, IsResumeLine, Link, Moment, at_slot, entry_by, first_moment, rest_at, seat_at, with_play}
+use Rattle.day_run.specs.DayLaws.{AreClients, IsClient, IsLink, IsSoundPlay, IsSoundRest, IsSoundClient}
+use Rattle.day_run.specs.Days.{AreRun, IsAsked, IsHaltedPlay, IsLine, IsLookLine, IsOfferLine, IsPauseLine, IsPlayLine, IsResumeLine, Link, Moment, at_slot, entry_by, first_moment, rest_at, state_at, with_play}
 use Rattle.day_run.specs.Scripts.{AreLines, IsWish, StandsAfter, slot_after}
-use Rattle.day_run.specs.Seats.{Idle, Playing, Pausing, Paused, IsPause, Play, Rest, Seat, after_play, after_sending, booking_of, is_done, no_track, sent_by, slot_sent}
+use Rattle.day_run.specs.ClientStates.{Idle, Playing, Pausing, Paused, IsPause, Play, Rest, ClientState, after_play, after_sending, booking_of, is_done, no_reel, sent_by, slot_sent}
 use Rattle.day_run.proofs.BalancedLines.{heard-after, line-ready, morning-ready, stands-rest}
 use Rattle.std.specs.List.{fold}
 
 -- ---- what holds of the clients
 pub record IsSound (m : Moment) : Type 0 where
   pub ready : IsReady m
-  pub each : (c : ℕ) → c < 256 → IsSoundSeat m.heard (get_or m.seats c Idle)
+  pub each : (c : ℕ) → c < 256 → IsSoundClient m.heard (get_or m.states c Idle)
 
--- the seats but one stay
-set-sound : (heard c : ℕ) (seats : List Seat) (seat : Seat) → length seats ≡ 256 → c < 256 → IsSoundSeat heard seat
-    → ((d : ℕ) → d < 256 → IsSoundSeat heard (get_or seats d Idle)) → (d : ℕ) → d < 256 → IsSoundSeat heard (get_or (set seats c seat) d Idle)
-set-sound heard c seats seat count client own each d inside = elim (cases_eq d c) [
+-- the states but one stay
+set-sound : (heard c : ℕ) (states : List ClientState) (state : ClientState) → length states ≡ 256 → c < 256 → IsSoundClient heard state
+    → ((d : ℕ) → d < 256 → IsSoundClient heard (get_or states d Idle)) → (d : ℕ) → d < 256 → IsSoundClient heard (get_or (set states c state) d Idle)
+set-sound heard c states state count client own each d inside = elim (cases_eq d c) [
   | inl same ↦
-      let N : ℕ → Type 0 = λ n. IsSoundSeat heard (get_or (set seats c seat) n Idle) in
-      let S : Seat → Type 0 = λ s. IsSoundSeat heard s in
-      subst N (sym same) (subst S (sym (get_or-set_same seats c seat Idle (omega (arith, client, count)))) own)
+      let N : ℕ → Type 0 = λ n. IsSoundClient heard (get_or (set states c state) n Idle) in
+      let S : ClientState → Type 0 = λ s. IsSoundClient heard s in
+      subst N (sym same) (subst S (sym (get_or-set_same states c state Idle (omega (arith, client, count)))) own)
   | inr other ↦
-      let S : Seat → Type 0 = λ s. IsSoundSeat heard s in
-      subst S (sym (get_or-set_other seats c d seat Idle other)) (each d inside)
+      let S : ClientState → Type 0 = λ s. IsSoundClient heard s in
+      subst S (sym (get_or-set_other states c d state Idle other)) (each d inside)
 ]
 
-abbrev AreSeats : ℕ → List Seat → Type 0
-AreSeats heard seats = (c : ℕ) → c < 256 → IsSoundSeat heard (get_or seats c Idle)
+abbrev AreStates : ℕ → List ClientState → Type 0
+AreStates heard states = (c : ℕ) → c < 256 → IsSoundClient heard (get_or states c Idle)
 
-kept-seats : (old new : Moment) → new ≡ old → AreSeats old.heard old.seats → AreSeats new.heard new.seats
-kept-seats old new kept each =
-    let M : Moment → Type 0 = λ m. AreSeats m.heard m.seats in
+kept-states : (old new : Moment) → new ≡ old → AreStates old.heard old.states → AreStates new.heard new.states
+kept-states old new kept each =
+    let M : Moment → Type 0 = λ m. AreStates m.heard m.states in
     subst M (sym kept) each
 
 -- ---- a play that begins
-answered-seats : {rest : Rest} {plan : List Segment} {old : Moment} (answer : Answer) (link : Link) (c : ℕ) → c < 256 → IsSoundRest rest
+answered-states : {rest : Rest} {plan : List Segment} {old : Moment} (answer : Answer) (link : Link) (c : ℕ) → c < 256 → IsSoundRest rest
     → IsPlanOf rest.sizes rest.playback rest.run plan → IsSound old
-    → IsAnswered link.steps (state_after old.entries) (entry_by c (commands.Play old.heard plan) answer) → AreSeats old.heard (with_play c rest plan (length old.entries) answer old.seats)
-answered-seats {rest} {plan} {old} (Admitted start) link c client own plan-is sound answer =
+    → IsAnswered link.steps (state_after old.entries) (entry_by c (commands.Play old.heard plan) answer) → AreStates old.heard (with_play c rest plan (length old.entries) answer old.states)
+answered-states {rest} {plan} {old} (Admitted start) link c client own plan-is sound answer =
     let play : Play = record { number = length old.entries; rest = rest; plan = plan; start = start } in
     let early : old.heard < start = omega (arith, answer.0) in
-    set-sound old.heard c old.seats (Playing play) sound.ready.count client
+    set-sound old.heard c old.states (Playing play) sound.ready.count client
     (record { rest = own; plan = plan-is; left = λ begun. absurd (omega (arith, begun, early)) }) sound.each
-answered-seats (Overflow over booked asked) link c client own plan-is sound answer = sound.each
-answered-seats Halted link c client own plan-is sound answer = sound.each
-answered-seats (Looked now at booked) link c client own plan-is sound answer = sound.each
+answered-states (Overflow over booked asked) link c client own plan-is sound answer = sound.each
+answered-states Halted link c client own plan-is sound answer = sound.each
+answered-states (Looked now at booked) link c client own plan-is sound answer = sound.each
 
-asked-seats : {link : Link} {c : ℕ} {rest : Rest} {old new : Moment} {text : List ℕ} → c < 256 → (0 < length (rest_sizes rest.sizes rest.run) → IsSoundRest rest)
-    → IsSound old → IsAsked link c rest old new text → AreSeats new.heard new.seats
-asked-seats {c} {old} {new} {text} client own sound (inl faulty) = kept-seats old new faulty.told.kept sound.each
-asked-seats {link} {c} {old} {new} {text} client own sound (inr planned) = elim planned.done [
-  | inl full ↦ kept-seats old new full.told.kept sound.each
+asked-states : {link : Link} {c : ℕ} {rest : Rest} {old new : Moment} {text : List ℕ} → c < 256 → (0 < length (rest_sizes rest.sizes rest.run) → IsSoundRest rest)
+    → IsSound old → IsAsked link c rest old new text → AreStates new.heard new.states
+asked-states {c} {old} {new} {text} client own sound (inl faulty) = kept-states old new faulty.told.kept sound.each
+asked-states {link} {c} {old} {new} {text} client own sound (inr planned) = elim planned.done [
+  | inl full ↦ kept-states old new full.told.kept sound.each
   | inr made ↦
-      let M : Moment → Type 0 = λ m. AreSeats m.heard m.seats in
+      let M : Moment → Type 0 = λ m. AreStates m.heard m.states in
       subst M (sym made.noted.new_is)
-      (answered-seats made.answer link c client (own planned.plan_is.accepted.some_picture) planned.plan_is sound made.noted.answered)
+      (answered-states made.answer link c client (own planned.plan_is.accepted.some_picture) planned.plan_is sound made.noted.answered)
 ]
 
 -- ---- a play that is halted
@@ -122,7 +122,7 @@ sent-through play heard begun below =
     let sent : sent_before play.plan play.start (heard + 1) ≡ sum_through play.plan (heard - play.start) = ap (λ n. sum (take n (plan_slots play.plan))) e in
     omega (arith, below, sent)
 
-halt-if : {b : Bool} {play : Play} {heard keep : ℕ} {seat : Seat} → nat_lt heard play.start ≡ b → IsSoundPlay heard play → IsPause play heard keep seat
+halt-if : {b : Bool} {play : Play} {heard keep : ℕ} {state : ClientState} → nat_lt heard play.start ≡ b → IsSoundPlay heard play → IsPause play heard keep state
     → keep ≤ total_bytes play.plan → IsHalt play.plan (cond b None (Some (heard - play.start))) keep
 halt-if {b = true} {play} {heard} {keep} early sound pause most =
     let before : heard < play.start = ltb-true heard play.start early in
@@ -152,7 +152,7 @@ kept-most entries play keep held can =
     let P : Option Held → Type 0 = λ o. IsSomeAnd o (λ (h : Held). IsTrue h.is_open × (keep ≤ total_bytes h.play.segments)) in
     (subst P held can).1
 
-left-sound : {play : Play} {heard keep : ℕ} {seat : Seat} → IsSoundPlay heard play → (pause : IsPause play heard keep seat) → keep ≤ total_bytes play.plan
+left-sound : {play : Play} {heard keep : ℕ} {state : ClientState} → IsSoundPlay heard play → (pause : IsPause play heard keep state) → keep ≤ total_bytes play.plan
     → IsSoundRest (record play.rest { run = pause.left })
 left-sound {play} {heard} {keep} sound pause most =
     let sending : IsSending play.rest.sizes play.rest.playback play.rest.run play.plan = record { can_play = sound.rest.can; plan_is = sound.plan } in
@@ -164,62 +164,62 @@ left-sound {play} {heard} {keep} sound pause most =
       boundary = subst B (sym pause.left_is.sent_is) pause.boundary.boundary;
     }
 
-pausing-sound : (heard slot : ℕ) (b : Bool) (stop : Booked) (rest : Rest) → IsSoundRest rest → IsSoundSeat heard (cond b (Paused rest) (Pausing stop rest))
+pausing-sound : (heard slot : ℕ) (b : Bool) (stop : Booked) (rest : Rest) → IsSoundRest rest → IsSoundClient heard (cond b (Paused rest) (Pausing stop rest))
 pausing-sound heard slot true stop rest own = own
 pausing-sound heard slot false stop rest own = own
 
-halted-seats : {link : Link} {c : ℕ} {play : Play} {old new : Moment} {text : List ℕ} → c < 256 → get_or old.seats c Idle ≡ Playing play → IsSound old
-    → IsHaltedPlay link c play old new text → AreSeats new.heard new.seats
-halted-seats {c} {play} {old} {new} {text} client at sound is =
-    let P : Seat → Type 0 = λ s. IsSoundSeat old.heard s in
+halted-states : {link : Link} {c : ℕ} {play : Play} {old new : Moment} {text : List ℕ} → c < 256 → get_or old.states c Idle ≡ Playing play → IsSound old
+    → IsHaltedPlay link c play old new text → AreStates new.heard new.states
+halted-states {c} {play} {old} {new} {text} client at sound is =
+    let P : ClientState → Type 0 = λ s. IsSoundClient old.heard s in
     let own : IsSoundPlay old.heard play = subst P at (sound.each c client) in
-    let H : Seat → Type 0 = λ s. AreHeldOf old.entries c s in
+    let H : ClientState → Type 0 = λ s. AreHeldOf old.entries c s in
     let its : IsHeld old.entries c play = subst H at (sound.ready.balanced.held c (omega (arith, client, sound.ready.count))) in
     let most = kept-most old.entries play is.keep its.held is.noted.answered in
     let rest = left-sound own is.pause most in
-    let seat : IsSoundSeat old.heard is.seat = subst P (sym is.pause.seat_is) (pausing-sound old.heard old.heard _ _ _ rest) in
-    let M : Moment → Type 0 = λ m. AreSeats m.heard m.seats in
-    subst M (sym is.noted.new_is) (set-sound old.heard c old.seats is.seat sound.ready.count client seat sound.each)
+    let state : IsSoundClient old.heard is.state = subst P (sym is.pause.state_is) (pausing-sound old.heard old.heard _ _ _ rest) in
+    let M : Moment → Type 0 = λ m. AreStates m.heard m.states in
+    subst M (sym is.noted.new_is) (set-sound old.heard c old.states is.state sound.ready.count client state sound.each)
 
 -- ---- a slot comes
 done-if : (slot : ℕ) (play : Play) (b : Bool) → is_done slot play ≡ b → IsSoundRest play.rest → IsPlanOf play.rest.sizes play.rest.playback play.rest.run play.plan
-    → IsSoundSeat slot (cond b Idle (Playing play))
+    → IsSoundClient slot (cond b Idle (Playing play))
 done-if slot play true done rest plan = tt
 done-if slot play false undone rest plan = record { rest = rest; plan = plan; left = some-left play slot undone }
 
-pause-if : (slot : ℕ) (b : Bool) (stop : Booked) (rest : Rest) → IsSoundRest rest → IsSoundSeat slot (after_play slot (cond b (Paused rest) (Pausing stop rest)))
+pause-if : (slot : ℕ) (b : Bool) (stop : Booked) (rest : Rest) → IsSoundRest rest → IsSoundClient slot (after_play slot (cond b (Paused rest) (Pausing stop rest)))
 pause-if slot true stop rest own = own
 pause-if slot false stop rest own = own
 
-seat-slot : (heard slot : ℕ) (seat : Seat) → IsSoundSeat heard seat → IsSoundSeat slot (after_play slot (after_sending slot seat))
-seat-slot heard slot Idle own = tt
-seat-slot heard slot (Playing play) own = done-if slot play (is_done slot play) refl own.rest own.plan
-seat-slot heard slot (Pausing stop rest) own = pause-if slot (sent_by stop slot == stop.keep) stop rest own
-seat-slot heard slot (Paused rest) own = own
+state-slot : (heard slot : ℕ) (state : ClientState) → IsSoundClient heard state → IsSoundClient slot (after_play slot (after_sending slot state))
+state-slot heard slot Idle own = tt
+state-slot heard slot (Playing play) own = done-if slot play (is_done slot play) refl own.rest own.plan
+state-slot heard slot (Pausing stop rest) own = pause-if slot (sent_by stop slot == stop.keep) stop rest own
+state-slot heard slot (Paused rest) own = own
 
-slot-seats : (old : Moment) (slot : ℕ) → IsSound old → AreSeats slot (at_slot old slot).seats
-slot-seats old slot sound c client =
-    let inside : c < length old.seats = omega (arith, client, sound.ready.count) in
-    let within : c < length (map (after_sending slot) old.seats) = omega (arith, inside, length-map old.seats (after_sending slot)) in
-    let S : Seat → Type 0 = λ s. IsSoundSeat slot s in
-    subst S (sym (get_or-map (after_play slot) (map (after_sending slot) old.seats) c Idle Idle within
-    ∙ ap (after_play slot) (get_or-map (after_sending slot) old.seats c Idle Idle inside)))
-    (seat-slot old.heard slot (get_or old.seats c Idle) (sound.each c client))
+slot-states : (old : Moment) (slot : ℕ) → IsSound old → AreStates slot (at_slot old slot).states
+slot-states old slot sound c client =
+    let inside : c < length old.states = omega (arith, client, sound.ready.count) in
+    let within : c < length (map (after_sending slot) old.states) = omega (arith, inside, length-map old.states (after_sending slot)) in
+    let S : ClientState → Type 0 = λ s. IsSoundClient slot s in
+    subst S (sym (get_or-map (after_play slot) (map (after_sending slot) old.states) c Idle Idle within
+    ∙ ap (after_play slot) (get_or-map (after_sending slot) old.states c Idle Idle inside)))
+    (state-slot old.heard slot (get_or old.states c Idle) (sound.each c client))
 
--- ---- all of a track
-pub whole-sound : {link : Link} {source buffer delay : ℕ} → IsLink link → IsWish (length link.tracks) source buffer delay
+-- ---- all of a reel
+pub whole-sound : {link : Link} {source buffer delay : ℕ} → IsLink link → IsWish (length link.reels) source buffer delay
     → 0 < length (rest_sizes (rest_at link source buffer delay).sizes (rest_at link source buffer delay).run) → IsSoundRest (rest_at link source buffer delay)
 whole-sound {link} {source} {buffer} {delay} link-is wish some =
     let rest = rest_at link source buffer delay in
-    let track = link-is.tracks source no_track wish.inside in
+    let reel = link-is.reels source no_reel wish.inside in
     let count : 0 < length rest.sizes = omega (arith, some, length-take (length rest.sizes - 0) (drop 0 rest.sizes)) in
     let none : bytes_between rest.sizes 0 0 ≡ 0 = bytes-none rest.sizes 0 in
     record {
       can = record {
-        sizes_are = track.sizes;
+        sizes_are = reel.sizes;
         playback_is = record {
-          some_picture_units = track.some_picture_units;
-          picture_units_fit = track.picture_units_fit;
+          some_picture_units = reel.some_picture_units;
+          picture_units_fit = reel.picture_units_fit;
           some_slot_units = link-is.some_slot_units;
           slot_units_fit = link-is.slot_units_fit;
           some_buffer = wish.some_buffer;
@@ -240,65 +240,65 @@ whole-sound {link} {source} {buffer} {delay} link-is wish some =
     }
 
 -- ---- each kind of line leaves the clients sound
-play-seats : {c : ℕ} {rest : Rest} {old : Moment} (link : Link) (seat : Seat) (new : Moment) (text : List ℕ) → c < 256
-    → (0 < length (rest_sizes rest.sizes rest.run) → IsSoundRest rest) → IsSound old → IsPlayLine link c rest seat old new text → AreSeats new.heard new.seats
-play-seats {c} link Idle new text client own sound is = asked-seats client own sound is
-play-seats {c} {old} link (Playing play) new text client own sound is = kept-seats old new is.kept sound.each
-play-seats {c} {old} link (Pausing stop left) new text client own sound is = kept-seats old new is.kept sound.each
-play-seats {c} link (Paused left) new text client own sound is = asked-seats client own sound is
+play-states : {c : ℕ} {rest : Rest} {old : Moment} (link : Link) (state : ClientState) (new : Moment) (text : List ℕ) → c < 256
+    → (0 < length (rest_sizes rest.sizes rest.run) → IsSoundRest rest) → IsSound old → IsPlayLine link c rest state old new text → AreStates new.heard new.states
+play-states {c} link Idle new text client own sound is = asked-states client own sound is
+play-states {c} {old} link (Playing play) new text client own sound is = kept-states old new is.kept sound.each
+play-states {c} {old} link (Pausing stop left) new text client own sound is = kept-states old new is.kept sound.each
+play-states {c} link (Paused left) new text client own sound is = asked-states client own sound is
 
-resume-seats : {c : ℕ} {seat : Seat} {old : Moment} (link : Link) (new : Moment) (text : List ℕ) → c < 256 → get_or old.seats c Idle ≡ seat → IsSound old
-    → IsResumeLine link c seat old new text → AreSeats new.heard new.seats
-resume-seats {c} {seat = Idle} {old} link new text client at sound is = kept-seats old new is.kept sound.each
-resume-seats {c} {seat = Playing play} {old} link new text client at sound is = kept-seats old new is.kept sound.each
-resume-seats {c} {seat = Pausing stop rest} {old} link new text client at sound is = kept-seats old new is.kept sound.each
-resume-seats {c} {seat = Paused rest} {old} link new text client at sound is =
-    let P : Seat → Type 0 = λ s. IsSoundSeat old.heard s in
+resume-states : {c : ℕ} {state : ClientState} {old : Moment} (link : Link) (new : Moment) (text : List ℕ) → c < 256 → get_or old.states c Idle ≡ state → IsSound old
+    → IsResumeLine link c state old new text → AreStates new.heard new.states
+resume-states {c} {state = Idle} {old} link new text client at sound is = kept-states old new is.kept sound.each
+resume-states {c} {state = Playing play} {old} link new text client at sound is = kept-states old new is.kept sound.each
+resume-states {c} {state = Pausing stop rest} {old} link new text client at sound is = kept-states old new is.kept sound.each
+resume-states {c} {state = Paused rest} {old} link new text client at sound is =
+    let P : ClientState → Type 0 = λ s. IsSoundClient old.heard s in
     let own : IsSoundRest rest = subst P at (sound.each c client) in
-    asked-seats client (λ some. own) sound is
+    asked-states client (λ some. own) sound is
 
-pause-seats : {c : ℕ} {seat : Seat} {old : Moment} (link : Link) (new : Moment) (text : List ℕ) → c < 256 → get_or old.seats c Idle ≡ seat → IsSound old
-    → IsPauseLine link c seat old new text → AreSeats new.heard new.seats
-pause-seats {c} {seat = Idle} {old} link new text client at sound is = kept-seats old new is.kept sound.each
-pause-seats {c} {seat = Playing play} link new text client at sound is = halted-seats client at sound is
-pause-seats {c} {seat = Pausing stop rest} {old} link new text client at sound is = kept-seats old new is.kept sound.each
-pause-seats {c} {seat = Paused rest} {old} link new text client at sound is = kept-seats old new is.kept sound.each
+pause-states : {c : ℕ} {state : ClientState} {old : Moment} (link : Link) (new : Moment) (text : List ℕ) → c < 256 → get_or old.states c Idle ≡ state → IsSound old
+    → IsPauseLine link c state old new text → AreStates new.heard new.states
+pause-states {c} {state = Idle} {old} link new text client at sound is = kept-states old new is.kept sound.each
+pause-states {c} {state = Playing play} link new text client at sound is = halted-states client at sound is
+pause-states {c} {state = Pausing stop rest} {old} link new text client at sound is = kept-states old new is.kept sound.each
+pause-states {c} {state = Paused rest} {old} link new text client at sound is = kept-states old new is.kept sound.each
 
-look-seats : {link : Link} {slot : ℕ} {old new : Moment} {text : List ℕ} → IsSound old → IsLookLine link slot old new text → AreSeats new.heard new.seats
-look-seats {slot} {old} {new} {text} sound (inl full) = kept-seats old new full.told.kept sound.each
-look-seats {slot} {new} {text} sound (inr made) =
-    let M : Moment → Type 0 = λ m. AreSeats m.heard m.seats in
+look-states : {link : Link} {slot : ℕ} {old new : Moment} {text : List ℕ} → IsSound old → IsLookLine link slot old new text → AreStates new.heard new.states
+look-states {slot} {old} {new} {text} sound (inl full) = kept-states old new full.told.kept sound.each
+look-states {slot} {new} {text} sound (inr made) =
+    let M : Moment → Type 0 = λ m. AreStates m.heard m.states in
     subst M (sym made.noted.new_is) sound.each
 
-offer-seats : {link : Link} {rest : Rest} {wait : ℕ} {old new : Moment} {text : List ℕ} → IsSound old → IsOfferLine link rest wait old new text → AreSeats new.heard new.seats
-offer-seats {old} {new} {text} sound (inl faulty) = kept-seats old new faulty.told.kept sound.each
-offer-seats {old} {new} {text} sound (inr offered) = kept-seats old new offered.told.kept sound.each
+offer-states : {link : Link} {rest : Rest} {wait : ℕ} {old new : Moment} {text : List ℕ} → IsSound old → IsOfferLine link rest wait old new text → AreStates new.heard new.states
+offer-states {old} {new} {text} sound (inl faulty) = kept-states old new faulty.told.kept sound.each
+offer-states {old} {new} {text} sound (inr offered) = kept-states old new offered.told.kept sound.each
 
 -- ---- lines leave the clients sound
-line-seats : {link : Link} {old : Moment} (line : Line) (new : Moment) (text : List ℕ) → IsLink link → IsClient line → StandsAfter old.heard (length link.tracks) line
-    → IsSound old → IsLine link line old new text → AreSeats new.heard new.seats
-line-seats {link} {old} (lines.Play c source buffer delay) new text link-is client stands sound is =
-    play-seats link (seat_at old c) new text client (whole-sound link-is stands) sound is
-line-seats {link} (lines.Pause c) new text link-is client stands sound is = pause-seats link new text client refl sound is
-line-seats {link} (lines.Resume c) new text link-is client stands sound is = resume-seats link new text client refl sound is
-line-seats (lines.Look slot) new text link-is client stands sound is = look-seats sound is
-line-seats {old} (lines.Slot slot) new text link-is client stands sound is =
-    let M : Moment → Type 0 = λ m. AreSeats m.heard m.seats in
-    subst M (sym is.0) (slot-seats old slot sound)
-line-seats (lines.Offer c source buffer delay wait) new text link-is client stands sound is =
-    offer-seats sound is
+line-states : {link : Link} {old : Moment} (line : Line) (new : Moment) (text : List ℕ) → IsLink link → IsClient line → StandsAfter old.heard (length link.reels) line
+    → IsSound old → IsLine link line old new text → AreStates new.heard new.states
+line-states {link} {old} (lines.Play c source buffer delay) new text link-is client stands sound is =
+    play-states link (state_at old c) new text client (whole-sound link-is stands) sound is
+line-states {link} (lines.Pause c) new text link-is client stands sound is = pause-states link new text client refl sound is
+line-states {link} (lines.Resume c) new text link-is client stands sound is = resume-states link new text client refl sound is
+line-states (lines.Look slot) new text link-is client stands sound is = look-states sound is
+line-states {old} (lines.Slot slot) new text link-is client stands sound is =
+    let M : Moment → Type 0 = λ m. AreStates m.heard m.states in
+    subst M (sym is.0) (slot-states old slot sound)
+line-states (lines.Offer c source buffer delay wait) new text link-is client stands sound is =
+    offer-states sound is
 
-pub line-sound : {link : Link} {old new : Moment} (line : Line) (text : List ℕ) → IsLink link → IsClient line → StandsAfter old.heard (length link.tracks) line
+pub line-sound : {link : Link} {old new : Moment} (line : Line) (text : List ℕ) → IsLink link → IsClient line → StandsAfter old.heard (length link.reels) line
     → IsSound old → IsLine link line old new text → IsSound new
 line-sound {link} {new} line text link-is client stands sound is = record {
-  ready = line-ready link line (length link.tracks) text client stands is sound.ready;
-  each = line-seats line new text link-is client stands sound is;
+  ready = line-ready link line (length link.reels) text client stands is sound.ready;
+  each = line-states line new text link-is client stands sound is;
 }
 
 -- after lines, all clients are sound
 run-sound : {link : Link} {old new : Moment} (ls : List Line) (texts : List (List ℕ)) → IsLink link
     → ((i : ℕ) (none : Line) → i < length ls → IsClient (get_or ls i none))
-    → ((i : ℕ) (none : Line) → i < length ls → StandsAfter (fold slot_after old.heard (take i ls)) (length link.tracks) (get_or ls i none))
+    → ((i : ℕ) (none : Line) → i < length ls → StandsAfter (fold slot_after old.heard (take i ls)) (length link.reels) (get_or ls i none))
     → IsSound old → AreRun link ls texts old new → IsSound new
 run-sound {new} [] [] link-is clients stands sound run =
     let S : Moment → Type 0 = λ m. IsSound m in
@@ -307,16 +307,16 @@ run-sound {new} [] (t ∷ ts) link-is clients stands sound run = absurd run
 run-sound {new} (l ∷ ls) [] link-is clients stands sound run = absurd run
 run-sound {link} {old} {new} (l ∷ ls) (t ∷ ts) link-is clients stands sound run =
     let next = line-sound l t link-is (clients zero l (omega arith)) (stands zero l (omega arith)) sound run.1.0 in
-    let H : ℕ → Type 0 = λ h. (i : ℕ) (none : Line) → i < length ls → StandsAfter (fold slot_after h (take i ls)) (length link.tracks) (get_or ls i none) in
+    let H : ℕ → Type 0 = λ h. (i : ℕ) (none : Line) → i < length ls → StandsAfter (fold slot_after h (take i ls)) (length link.reels) (get_or ls i none) in
     let after : H run.0.heard = subst H (sym (heard-after link l old run.0 t run.1.0)) (stands-rest l ls stands) in
     run-sound {link = link} {old = run.0} {new = new} ls ts link-is (λ i none inside. clients (suc i) none (omega (arith, inside))) after next run.1.1
 
-pub idle-sound : AreSeats 0 (replicate 256 Idle)
+pub idle-sound : AreStates 0 (replicate 256 Idle)
 idle-sound c client =
-    let S : Seat → Type 0 = λ s. IsSoundSeat 0 s in
+    let S : ClientState → Type 0 = λ s. IsSoundClient 0 s in
     subst S (sym (get_or-replicate 256 c Idle Idle client)) tt
 
-pub day-sound : (link : Link) (ls : List Line) (texts : List (List ℕ)) (m : Moment) (c : ℕ) → IsLink link → AreClients ls → AreLines (length link.tracks) ls
-    → AreRun link ls texts first_moment m → c < 256 → IsSoundSeat m.heard (seat_at m c)
+pub day-sound : (link : Link) (ls : List Line) (texts : List (List ℕ)) (m : Moment) (c : ℕ) → IsLink link → AreClients ls → AreLines (length link.reels) ls
+    → AreRun link ls texts first_moment m → c < 256 → IsSoundClient m.heard (state_at m c)
 day-sound link ls texts m c link-is clients are run inside =
     (run-sound ls texts link-is clients.each are.each (record { ready = morning-ready; each = idle-sound }) run).each c inside

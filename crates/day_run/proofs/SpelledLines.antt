@@ -10,13 +10,10 @@ use Rattle.std.proofs.lemmas.List.{get_or_past}
 use Rattle.std.proofs.lemmas.List.Elements.{All-append, All-cons, All-nil, All-get_or, All-weaker}
 use Rattle.std.proofs.lemmas.List.Splits.{slice_split_at, slice_split_none}
 use Rattle.vod_base.specs.Names.{is_good_name}
-use Rattle.vod_base.proofs.Written.{good_is_plain}
+use Rattle.vod_base.proofs.Written.{good_is_plain, own}
 use Rattle.day_run.specs.Lines.{is_space, lines_of_script, without_return}
 use Rattle.day_run.specs.Spelling.{is_word, kind_text, words_text}
-use Rattle.day_run.proofs.Cuts.{script-cut}
-
-own : IsNumeralModel (λ ds. list_all is_ascii_digit ds ≡ true) (digits_value 10)
-own = numerals_by_value (λ ds. list_all is_ascii_digit ds ≡ true) (search rules)
+use Rattle.day_run.proofs.Cuts.{script-line}
 
 -- the bytes of a word
 word-bytes : (word : List ℕ) → is_word word ≡ true → All (λ b. 33 ≤ b) word
@@ -84,7 +81,5 @@ pub spaced-line : (words : List (List ℕ)) (rest : List ℕ) → list_all is_wo
 spaced-line words rest plain =
     let line = words_text words in
     let high = spaced-bytes words plain in
-    script-cut (line ++ 10 ∷ rest) line rest (record {
-      text_is = refl;
-      not_in_front = All-weaker (λ b. 32 ≤ b) (λ b. b ≢ 10) (λ b h same. absurd (omega (arith, h, same))) line high;
-    }) ∙ ap (λ l. l ∷ lines_of_script rest) (no-return line high)
+    script-line line rest (All-weaker (λ b. 32 ≤ b) (λ b. b ≢ 10) (λ b h same. absurd (omega (arith, h, same))) line high)
+    ∙ ap (λ l. l ∷ lines_of_script rest) (no-return line high)

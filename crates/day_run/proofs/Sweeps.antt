@@ -9,35 +9,35 @@ use Rattle.day_run.specs.declared.clients.Client.{Client}
 use Rattle.day_run.specs.declared.clients.Client.TheVariants as clients
 use Rattle.day_run.specs.declared.clients.Halt.{Halt}
 use Rattle.std.specs.Prelude.{OnSome, IfNone}
-use Rattle.day_run.specs.Clients.{AreSteps, AreTimed, AreUndone, IsStep, IsTimed, IsUndone, halts_of, seat_after, seat_of}
-use Rattle.day_run.specs.Days.{Moment, at_slot, done_halt, halts}
-use Rattle.day_run.specs.Seats.{Seat, Idle, after_play, after_sending, sent_between}
+use Rattle.day_run.specs.Clients.{AreSteps, AreTimed, AreUndone, IsStep, IsTimed, IsUndone, halts_of, state_after_halt, state_of}
+use Rattle.day_run.specs.Days.{Moment, at_slot, done_halt, halt_entries}
+use Rattle.day_run.specs.ClientStates.{ClientState, Idle, after_play, after_sending, sent_between}
 
 -- the clients before a place were changed so, and those from it on weren't
-pub record IsSwept (f : Seat → Seat) (upto : ℕ) (old new : List Seat) : Type 0 where
+pub record IsSwept (f : ClientState → ClientState) (upto : ℕ) (old new : List ClientState) : Type 0 where
   pub count : length new ≡ length old
   pub past : (c : ℕ) → c < upto → c < length old → get_or new c Idle ≡ f (get_or old c Idle)
   pub later : (c : ℕ) → upto ≤ c → get_or new c Idle ≡ get_or old c Idle
 
-pub swept-none : (f : Seat → Seat) (old : List Seat) → IsSwept f 0 old old
+pub swept-none : (f : ClientState → ClientState) (old : List ClientState) → IsSwept f 0 old old
 swept-none f old = record { count = refl; past = λ c before inside. absurd (omega (arith, before)); later = λ c from. refl }
 
-pub swept-set : {f : Seat → Seat} {i : ℕ} {old new : List Seat} {seat : Seat} → i < length old → seat ≡ f (get_or old i Idle) → IsSwept f i old new
-    → IsSwept f (i + 1) old (set new i seat)
-swept-set {f} {i} {old} {new} {seat} inside is swept = record {
-  count = length-set new i seat ∙ swept.count;
+pub swept-set : {f : ClientState → ClientState} {i : ℕ} {old new : List ClientState} {state : ClientState} → i < length old → state ≡ f (get_or old i Idle) → IsSwept f i old new
+    → IsSwept f (i + 1) old (set new i state)
+swept-set {f} {i} {old} {new} {state} inside is swept = record {
+  count = length-set new i state ∙ swept.count;
   past = λ c before within. elim (cases_eq c i) [
     | inl same ↦
-        ap (λ k. get_or (set new i seat) k Idle) same ∙ get_or-set_same new i seat Idle (omega (arith, inside, swept.count)) ∙ is
+        ap (λ k. get_or (set new i state) k Idle) same ∙ get_or-set_same new i state Idle (omega (arith, inside, swept.count)) ∙ is
         ∙ ap (λ k. f (get_or old k Idle)) (sym same)
-    | inr other ↦ get_or-set_other new i c seat Idle other ∙ swept.past c (omega (arith, before, other)) within
+    | inr other ↦ get_or-set_other new i c state Idle other ∙ swept.past c (omega (arith, before, other)) within
   ];
   later = λ c from.
       let other : c ≡ i → ⊥ = λ same. absurd (omega (arith, same, from)) in
-      get_or-set_other new i c seat Idle other ∙ swept.later c (omega (arith, from));
+      get_or-set_other new i c state Idle other ∙ swept.later c (omega (arith, from));
 }
 
-pub swept-same : (f : Seat → Seat) (i : ℕ) (old new : List Seat) → f (get_or old i Idle) ≡ get_or old i Idle → IsSwept f i old new → IsSwept f (i + 1) old new
+pub swept-same : (f : ClientState → ClientState) (i : ℕ) (old new : List ClientState) → f (get_or old i Idle) ≡ get_or old i Idle → IsSwept f i old new → IsSwept f (i + 1) old new
 swept-same f i old new same swept = record {
   count = swept.count;
   past = λ c before within. elim (cases_eq c i) [
@@ -47,49 +47,49 @@ swept-same f i old new same swept = record {
   later = λ c from. swept.later c (omega (arith, from));
 }
 
-pub swept-all : (f : Seat → Seat) (n : ℕ) (old new : List Seat) → length old ≤ n → IsSwept f n old new → new ≡ map f old
+pub swept-all : (f : ClientState → ClientState) (n : ℕ) (old new : List ClientState) → length old ≤ n → IsSwept f n old new → new ≡ map f old
 swept-all f n old new most swept =
     ext_get_or Idle new (map f old) (swept.count ∙ sym (length-map old f))
     (λ c inside. swept.past c (omega (arith, inside, swept.count, most)) (omega (arith, inside, swept.count))
     ∙ sym (get_or-map f old c Idle Idle (omega (arith, inside, swept.count))))
 
 -- a client in the words of a day
-pub seat-at : (cs : List Client) (c : ℕ) (none : Client) → c < length cs → get_or (map seat_of cs) c Idle ≡ seat_of (get_or cs c none)
-seat-at cs c none inside = get_or-map seat_of cs c none Idle inside
+pub state-at : (cs : List Client) (c : ℕ) (none : Client) → c < length cs → get_or (map state_of cs) c Idle ≡ state_of (get_or cs c none)
+state-at cs c none inside = get_or-map state_of cs c none Idle inside
 
-pub seats-set : (cs : List Client) (c : ℕ) (client : Client) → map seat_of (set cs c client) ≡ set (map seat_of cs) c (seat_of client)
-seats-set cs c client = map-set seat_of cs c client
+pub states-set : (cs : List Client) (c : ℕ) (client : Client) → map state_of (set cs c client) ≡ set (map state_of cs) c (state_of client)
+states-set cs c client = map-set state_of cs c client
 
 -- sums and halts of one client more
-pub sum-more : (g : Seat → ℕ) (seats : List Seat) (i : ℕ) → i < length seats → sum_by g (take (i + 1) seats) ≡ sum_by g (take i seats) + g (get_or seats i Idle)
-sum-more g seats i inside = ap (sum_by g) (take_more seats i Idle inside) ∙ sum_by_push g (take i seats) (get_or seats i Idle)
+pub sum-more : (g : ClientState → ℕ) (states : List ClientState) (i : ℕ) → i < length states → sum_by g (take (i + 1) states) ≡ sum_by g (take i states) + g (get_or states i Idle)
+sum-more g states i inside = ap (sum_by g) (take_more states i Idle inside) ∙ sum_by_push g (take i states) (get_or states i Idle)
 
-pub halts-append : (f : ℕ → Seat → List Entry) (k : ℕ) (xs ys : List Seat) → halts f k (xs ++ ys) ≡ halts f k xs ++ halts f (k + length xs) ys
-halts-append f k [] ys =
+pub halt_entries-append : (f : ℕ → ClientState → List Entry) (k : ℕ) (xs ys : List ClientState) → halt_entries f k (xs ++ ys) ≡ halt_entries f k xs ++ halt_entries f (k + length xs) ys
+halt_entries-append f k [] ys =
     let e : k ≡ k + 0 = omega arith in
-    ap (λ n. halts f n ys) e
-halts-append f k (x ∷ xs) ys =
+    ap (λ n. halt_entries f n ys) e
+halt_entries-append f k (x ∷ xs) ys =
     let e : k + 1 + length xs ≡ k + length (x ∷ xs) = omega arith in
-    ap (λ es. f k x ++ es) (halts-append f (k + 1) xs ys) ∙ sym (append_assoc (f k x) (halts f (k + 1) xs) (halts f (k + 1 + length xs) ys))
-    ∙ ap (λ n. halts f k (x ∷ xs) ++ halts f n ys) e
+    ap (λ es. f k x ++ es) (halt_entries-append f (k + 1) xs ys) ∙ sym (append_assoc (f k x) (halt_entries f (k + 1) xs) (halt_entries f (k + 1 + length xs) ys))
+    ∙ ap (λ n. halt_entries f k (x ∷ xs) ++ halt_entries f n ys) e
 
-pub halts-more : (f : ℕ → Seat → List Entry) (seats : List Seat) (i : ℕ) → i < length seats
-    → halts f 0 (take (i + 1) seats) ≡ halts f 0 (take i seats) ++ f i (get_or seats i Idle)
-halts-more f seats i inside =
-    let n : 0 + length (take i seats) ≡ i = omega (arith, length-take i seats, inside) in
-    ap (halts f 0) (take_more seats i Idle inside) ∙ halts-append f 0 (take i seats) (get_or seats i Idle ∷ [])
-    ∙ ap (λ k. halts f 0 (take i seats) ++ (f k (get_or seats i Idle) ++ [])) n
-    ∙ ap (λ es. halts f 0 (take i seats) ++ es) (append-nil (f i (get_or seats i Idle)))
+pub halt_entries-more : (f : ℕ → ClientState → List Entry) (states : List ClientState) (i : ℕ) → i < length states
+    → halt_entries f 0 (take (i + 1) states) ≡ halt_entries f 0 (take i states) ++ f i (get_or states i Idle)
+halt_entries-more f states i inside =
+    let n : 0 + length (take i states) ≡ i = omega (arith, length-take i states, inside) in
+    ap (halt_entries f 0) (take_more states i Idle inside) ∙ halt_entries-append f 0 (take i states) (get_or states i Idle ∷ [])
+    ∙ ap (λ k. halt_entries f 0 (take i states) ++ (f k (get_or states i Idle) ++ [])) n
+    ∙ ap (λ es. halt_entries f 0 (take i states) ++ es) (append-nil (f i (get_or states i Idle)))
 
 -- the entries of one halt more
-pub entries-more : {i : ℕ} {before after more : List Entry} (f : ℕ → Seat → List Entry) (seats : List Seat)
-    (begun : List Entry) → i < length seats
-    → before ≡ begun ++ halts f 0 (take i seats) → after ≡ before ++ more → f i (get_or seats i Idle) ≡ more
-    → after ≡ begun ++ halts f 0 (take (i + 1) seats)
-entries-more {i} {before} {more} f seats begun inside b a m =
-    a ∙ ap (λ es. before ++ es) (sym m) ∙ ap (λ es. es ++ f i (get_or seats i Idle)) b
-    ∙ append_assoc begun (halts f 0 (take i seats)) (f i (get_or seats i Idle))
-    ∙ ap (λ es. begun ++ es) (sym (halts-more f seats i inside))
+pub entries-more : {i : ℕ} {before after more : List Entry} (f : ℕ → ClientState → List Entry) (states : List ClientState)
+    (begun : List Entry) → i < length states
+    → before ≡ begun ++ halt_entries f 0 (take i states) → after ≡ before ++ more → f i (get_or states i Idle) ≡ more
+    → after ≡ begun ++ halt_entries f 0 (take (i + 1) states)
+entries-more {i} {before} {more} f states begun inside b a m =
+    a ∙ ap (λ es. before ++ es) (sym m) ∙ ap (λ es. es ++ f i (get_or states i Idle)) b
+    ∙ append_assoc begun (halt_entries f 0 (take i states)) (f i (get_or states i Idle))
+    ∙ ap (λ es. begun ++ es) (sym (halt_entries-more f states i inside))
 
 -- one client is put in the place of another
 pub timed-set : (heard : ℕ) (cs : List Client) (c : ℕ) (client : Client) → IsTimed heard client → AreTimed heard cs → AreTimed heard (set cs c client)
@@ -141,104 +141,104 @@ timed-next {i} {slot} {heard} {cs} client inside own to = record {
 -- the clients before a place have come from one slot to another
 pub record AreStepsTo (upto heard slot : ℕ) (old new : List Client) (sent : ℕ) : Type 0 where
   pub timed : AreTimedTo upto slot heard new
-  pub sent_is : sent ≡ sum_by (sent_between heard slot) (take upto (map seat_of old))
-  pub swept : IsSwept (after_sending slot) upto (map seat_of old) (map seat_of new)
+  pub sent_is : sent ≡ sum_by (sent_between heard slot) (take upto (map state_of old))
+  pub swept : IsSwept (after_sending slot) upto (map state_of old) (map state_of new)
 
 pub steps-none : (heard slot : ℕ) (old : List Client) → AreTimed heard old → AreStepsTo 0 heard slot old old 0
 steps-none heard slot old timed =
-    record { timed = timed-none slot heard old timed; sent_is = refl; swept = swept-none (after_sending slot) (map seat_of old) }
+    record { timed = timed-none slot heard old timed; sent_is = refl; swept = swept-none (after_sending slot) (map state_of old) }
 
 -- the place of a client in the words of a day
-pub swept-at : {f : Seat → Seat} {i : ℕ} (old cs : List Client) (none : Client) → i < length cs → IsSwept f i (map seat_of old) (map seat_of cs)
-    → get_or (map seat_of old) i Idle ≡ seat_of (get_or cs i none)
-swept-at {i} old cs none inside swept = sym (swept.later i (omega arith)) ∙ seat-at cs i none inside
+pub swept-at : {f : ClientState → ClientState} {i : ℕ} (old cs : List Client) (none : Client) → i < length cs → IsSwept f i (map state_of old) (map state_of cs)
+    → get_or (map state_of old) i Idle ≡ state_of (get_or cs i none)
+swept-at {i} old cs none inside swept = sym (swept.later i (omega arith)) ∙ state-at cs i none inside
 
-pub swept-inside : (f : Seat → Seat) (i : ℕ) (old cs : List Client) → i < length cs → IsSwept f i (map seat_of old) (map seat_of cs)
-    → i < length (map seat_of old)
-swept-inside f i old cs inside swept = omega (arith, inside, swept.count, length-map cs seat_of)
+pub swept-inside : (f : ClientState → ClientState) (i : ℕ) (old cs : List Client) → i < length cs → IsSwept f i (map state_of old) (map state_of cs)
+    → i < length (map state_of old)
+swept-inside f i old cs inside swept = omega (arith, inside, swept.count, length-map cs state_of)
 
 pub steps-next : {i heard slot : ℕ} {old cs : List Client} {new : Client} {sent n : ℕ} (none : Client) → i < length cs
     → (IsTimed heard (get_or cs i none) → IsStep heard slot (get_or cs i none) new n) → AreStepsTo i heard slot old cs sent
     → AreStepsTo (i + 1) heard slot old (set cs i new) (sent + n)
 steps-next {i} {heard} {slot} {old} {cs} {new} {n} none inside stepped to =
     let step = stepped (to.timed.later i none (omega arith) inside) in
-    let at : get_or (map seat_of old) i Idle ≡ seat_of (get_or cs i none) = swept-at old cs none inside to.swept in
-    let within : i < length (map seat_of old) = swept-inside (after_sending slot) i old cs inside to.swept in
-    let S : List Seat → Type 0 = λ l. IsSwept (after_sending slot) (i + 1) (map seat_of old) l in
+    let at : get_or (map state_of old) i Idle ≡ state_of (get_or cs i none) = swept-at old cs none inside to.swept in
+    let within : i < length (map state_of old) = swept-inside (after_sending slot) i old cs inside to.swept in
+    let S : List ClientState → Type 0 = λ l. IsSwept (after_sending slot) (i + 1) (map state_of old) l in
     record {
       timed = timed-next new inside step.timed to.timed;
       sent_is =
-          ap (λ k. k + n) to.sent_is ∙ ap (λ k. sum_by (sent_between heard slot) (take i (map seat_of old)) + k)
+          ap (λ k. k + n) to.sent_is ∙ ap (λ k. sum_by (sent_between heard slot) (take i (map state_of old)) + k)
           (step.sent_is ∙ ap (sent_between heard slot) (sym at))
-          ∙ sym (sum-more (sent_between heard slot) (map seat_of old) i within);
+          ∙ sym (sum-more (sent_between heard slot) (map state_of old) i within);
       swept =
-          subst S (sym (seats-set cs i new))
-          (swept-set within (step.seat ∙ ap (after_sending slot) (sym at)) to.swept);
+          subst S (sym (states-set cs i new))
+          (swept-set within (step.state ∙ ap (after_sending slot) (sym at)) to.swept);
     }
 
 pub steps-all : {n heard slot : ℕ} {old new : List Client} {sent : ℕ} → length new ≤ n → AreStepsTo n heard slot old new sent
     → AreSteps heard slot old new sent
 steps-all {n} {heard} {slot} {old} {new} most to =
-    let few : length (map seat_of old) ≤ n = omega (arith, most, to.swept.count, length-map new seat_of) in
+    let few : length (map state_of old) ≤ n = omega (arith, most, to.swept.count, length-map new state_of) in
     record {
       timed = timed-all n slot heard new most to.timed;
-      sent_is = to.sent_is ∙ ap (sum_by (sent_between heard slot)) (take_all n (map seat_of old) few);
-      seats_are = swept-all (after_sending slot) n (map seat_of old) (map seat_of new) few to.swept;
+      sent_is = to.sent_is ∙ ap (sum_by (sent_between heard slot)) (take_all n (map state_of old) few);
+      states_are = swept-all (after_sending slot) n (map state_of old) (map state_of new) few to.swept;
     }
 
 -- the plays of the clients before a place were halted where this asks for it
-pub record AreEndedTo (f : ℕ → Seat → List Entry) (g : Seat → Seat) (slot upto : ℕ) (begun entries : List Entry) (old new : List Client) : Type 0 where
+pub record AreEndedTo (f : ℕ → ClientState → List Entry) (g : ClientState → ClientState) (slot upto : ℕ) (begun entries : List Entry) (old new : List Client) : Type 0 where
   pub timed : AreTimed slot new
-  pub entries_are : entries ≡ begun ++ halts f 0 (take upto (map seat_of old))
-  pub swept : IsSwept g upto (map seat_of old) (map seat_of new)
+  pub entries_are : entries ≡ begun ++ halt_entries f 0 (take upto (map state_of old))
+  pub swept : IsSwept g upto (map state_of old) (map state_of new)
 
-pub ended-none : (f : ℕ → Seat → List Entry) (g : Seat → Seat) (slot : ℕ) (begun : List Entry) (old : List Client) → AreTimed slot old
+pub ended-none : (f : ℕ → ClientState → List Entry) (g : ClientState → ClientState) (slot : ℕ) (begun : List Entry) (old : List Client) → AreTimed slot old
     → AreEndedTo f g slot 0 begun begun old old
 ended-none f g slot begun old timed =
-    record { timed = timed; entries_are = sym (append-nil begun); swept = swept-none g (map seat_of old) }
+    record { timed = timed; entries_are = sym (append-nil begun); swept = swept-none g (map state_of old) }
 
-pub ended-next : {f : ℕ → Seat → List Entry} {g : Seat → Seat} {slot i : ℕ} {begun xs ys : List Entry}
-    {old cs ds : List Client} (none : Client) (halt : Option Halt) → i < length cs → (IsTimed slot (get_or cs i none) → f i (seat_of (get_or cs i none)) ≡ halts_of i halt)
-    → (IsTimed slot (get_or cs i none) → g (seat_of (get_or cs i none)) ≡ seat_after halt (seat_of (get_or cs i none)))
+pub ended-next : {f : ℕ → ClientState → List Entry} {g : ClientState → ClientState} {slot i : ℕ} {begun xs ys : List Entry}
+    {old cs ds : List Client} (none : Client) (halt : Option Halt) → i < length cs → (IsTimed slot (get_or cs i none) → f i (state_of (get_or cs i none)) ≡ halts_of i halt)
+    → (IsTimed slot (get_or cs i none) → g (state_of (get_or cs i none)) ≡ state_after_halt halt (state_of (get_or cs i none)))
     → ys ≡ xs ++ halts_of i halt → OnSome halt (ds ≡ set cs i clients.Idle) → IfNone halt (ds ≡ cs)
     → AreEndedTo f g slot i begun xs old cs → AreEndedTo f g slot (i + 1) begun ys old ds
 ended-next {f} {g} {slot} {i} {begun} {ys} {old} {cs} none None inside has goes y some left to =
     let timed : IsTimed slot (get_or cs i none) = to.timed.each i none inside in
-    let at : get_or (map seat_of old) i Idle ≡ seat_of (get_or cs i none) = swept-at old cs none inside to.swept in
-    let within : i < length (map seat_of old) = swept-inside g i old cs inside to.swept in
+    let at : get_or (map state_of old) i Idle ≡ state_of (get_or cs i none) = swept-at old cs none inside to.swept in
+    let within : i < length (map state_of old) = swept-inside g i old cs inside to.swept in
     let D : List Client → Type 0 = λ l. AreEndedTo f g slot (i + 1) begun ys old l in
     subst D (sym left) (record {
       timed = to.timed;
-      entries_are = entries-more f (map seat_of old) begun within to.entries_are y (ap (f i) at ∙ has timed);
-      swept = swept-same g i (map seat_of old) (map seat_of cs) (ap g at ∙ goes timed ∙ sym at) to.swept;
+      entries_are = entries-more f (map state_of old) begun within to.entries_are y (ap (f i) at ∙ has timed);
+      swept = swept-same g i (map state_of old) (map state_of cs) (ap g at ∙ goes timed ∙ sym at) to.swept;
     })
 ended-next {f} {g} {slot} {i} {begun} {ys} {old} {cs} none (Some halt) inside has goes y some left to =
     let timed : IsTimed slot (get_or cs i none) = to.timed.each i none inside in
-    let at : get_or (map seat_of old) i Idle ≡ seat_of (get_or cs i none) = swept-at old cs none inside to.swept in
-    let within : i < length (map seat_of old) = swept-inside g i old cs inside to.swept in
+    let at : get_or (map state_of old) i Idle ≡ state_of (get_or cs i none) = swept-at old cs none inside to.swept in
+    let within : i < length (map state_of old) = swept-inside g i old cs inside to.swept in
     let D : List Client → Type 0 = λ l. AreEndedTo f g slot (i + 1) begun ys old l in
-    let S : List Seat → Type 0 = λ l. IsSwept g (i + 1) (map seat_of old) l in
+    let S : List ClientState → Type 0 = λ l. IsSwept g (i + 1) (map state_of old) l in
     subst D (sym some) (record {
       timed = timed-set slot cs i clients.Idle tt to.timed;
-      entries_are = entries-more f (map seat_of old) begun within to.entries_are y (ap (f i) at ∙ has timed);
+      entries_are = entries-more f (map state_of old) begun within to.entries_are y (ap (f i) at ∙ has timed);
       swept =
-          subst S (sym (seats-set cs i clients.Idle))
+          subst S (sym (states-set cs i clients.Idle))
           (swept-set within (sym (ap g at ∙ goes timed)) to.swept);
     })
 
-pub ended-entries : {f : ℕ → Seat → List Entry} {g : Seat → Seat} {slot n : ℕ} {begun entries : List Entry}
+pub ended-entries : {f : ℕ → ClientState → List Entry} {g : ClientState → ClientState} {slot n : ℕ} {begun entries : List Entry}
     {old new : List Client} → length new ≤ n
-    → AreEndedTo f g slot n begun entries old new → entries ≡ begun ++ halts f 0 (map seat_of old)
+    → AreEndedTo f g slot n begun entries old new → entries ≡ begun ++ halt_entries f 0 (map state_of old)
 ended-entries {f} {slot} {n} {begun} {old} {new} most to =
-    let few : length (map seat_of old) ≤ n = omega (arith, most, to.swept.count, length-map new seat_of) in
-    to.entries_are ∙ ap (λ l. begun ++ halts f 0 l) (take_all n (map seat_of old) few)
+    let few : length (map state_of old) ≤ n = omega (arith, most, to.swept.count, length-map new state_of) in
+    to.entries_are ∙ ap (λ l. begun ++ halt_entries f 0 l) (take_all n (map state_of old) few)
 
-pub ended-seats : {f : ℕ → Seat → List Entry} {g : Seat → Seat} {slot n : ℕ} {begun entries : List Entry}
+pub ended-states : {f : ℕ → ClientState → List Entry} {g : ClientState → ClientState} {slot n : ℕ} {begun entries : List Entry}
     {old new : List Client} → length new ≤ n
-    → AreEndedTo f g slot n begun entries old new → map seat_of new ≡ map g (map seat_of old)
-ended-seats {g} {slot} {n} {begun} {old} {new} most to =
-    let few : length (map seat_of old) ≤ n = omega (arith, most, to.swept.count, length-map new seat_of) in
-    swept-all g n (map seat_of old) (map seat_of new) few to.swept
+    → AreEndedTo f g slot n begun entries old new → map state_of new ≡ map g (map state_of old)
+ended-states {g} {slot} {n} {begun} {old} {new} most to =
+    let few : length (map state_of old) ≤ n = omega (arith, most, to.swept.count, length-map new state_of) in
+    swept-all g n (map state_of old) (map state_of new) few to.swept
 
 -- an element is read with whatever default
 read-any : (cs : List Client) (i : ℕ) (one other : Client) → i < length cs → get_or cs i other ≡ get_or cs i one
@@ -274,10 +274,10 @@ undone-next {i} {cs} none (Some halt) inside own some left undone =
 written : {X : Type 0} → (n : ℕ) (es xs : List X) → length es ≡ n → take n (es ++ drop (length es) xs) ≡ es
 written n es xs same = take_at es (drop (length es) xs) n same
 
-abbrev moment-as : ℕ → List Entry → List Seat → Moment
-moment-as slot entries seats = record { entries = entries; seats = seats; heard = slot }
+abbrev moment-as : ℕ → List Entry → List ClientState → Moment
+moment-as slot entries states = record { entries = entries; states = states; heard = slot }
 
-moment-same : {xs ys : List Entry} {one other : List Seat} (slot : ℕ) → xs ≡ ys → one ≡ other → moment-as slot xs one ≡ moment-as slot ys other
+moment-same : {xs ys : List Entry} {one other : List ClientState} (slot : ℕ) → xs ≡ ys → one ≡ other → moment-as slot xs one ≡ moment-as slot ys other
 moment-same {ys} {one} {other} slot e s = ap (λ l. moment-as slot l one) e ∙ ap (moment-as slot ys) s
 
 -- a day at a slot
@@ -285,34 +285,34 @@ pub slot-moment : {n : ℕ} {ys : List Entry} {old xs ds zs : List Client} {hear
     (es : List Client) → n ≡ length old → xs ≡ old
     → zs ≡ take n (ds ++ drop (length ds) old) → heard ≤ slot → AreTimed heard old
     → ((h : ℕ) → h ≤ slot → AreTimed h xs → AreSteps h slot xs ds sent)
-    → ((s : ℕ) → AreTimed s zs → ys ≡ entries ++ halts (done_halt s) 0 (map seat_of zs))
-    → ((s : ℕ) → AreTimed s zs → map seat_of es ≡ map (after_play s) (map seat_of zs))
-    → halts (done_halt slot) 0 (map (after_sending slot) (map seat_of old)) ≡ halts (done_halt slot) 0 (map seat_of old)
-    → record { entries = ys; seats = map seat_of (take n (es ++ drop (length es) (take n (ds ++ drop (length ds) old)))); heard = slot }
-    ≡ at_slot (record { entries = entries; seats = map seat_of old; heard = heard }) slot
+    → ((s : ℕ) → AreTimed s zs → ys ≡ entries ++ halt_entries (done_halt s) 0 (map state_of zs))
+    → ((s : ℕ) → AreTimed s zs → map state_of es ≡ map (after_play s) (map state_of zs))
+    → halt_entries (done_halt slot) 0 (map (after_sending slot) (map state_of old)) ≡ halt_entries (done_halt slot) 0 (map state_of old)
+    → record { entries = ys; states = map state_of (take n (es ++ drop (length es) (take n (ds ++ drop (length ds) old)))); heard = slot }
+    ≡ at_slot (record { entries = entries; states = map state_of old; heard = heard }) slot
 slot-moment {n} {ys} {old} {ds} {zs} {heard} {slot} entries es len x z le timed stepped ended left quiet =
     let T : List Client → Type 0 = λ l. AreTimed heard l in
     let U : List Client → Type 0 = λ l. AreTimed slot l in
     let steps = stepped heard le (subst T (sym x) timed) in
-    let d-seats : map seat_of ds ≡ map (after_sending slot) (map seat_of old) = steps.seats_are ∙ ap (λ l. map (after_sending slot) (map seat_of l)) x in
+    let d-states : map state_of ds ≡ map (after_sending slot) (map state_of old) = steps.states_are ∙ ap (λ l. map (after_sending slot) (map state_of l)) x in
     let d-len : length ds ≡ n =
-    omega (arith, ap length d-seats, length-map ds seat_of, length-map (map seat_of old) (after_sending slot), length-map old seat_of, len) in
+    omega (arith, ap length d-states, length-map ds state_of, length-map (map state_of old) (after_sending slot), length-map old state_of, len) in
     let z-is : zs ≡ ds = z ∙ written n ds old d-len in
     let now : AreTimed slot zs = subst U (sym z-is) steps.timed in
-    let seats : map seat_of zs ≡ map (after_sending slot) (map seat_of old) = ap (map seat_of) z-is ∙ d-seats in
-    let y : ys ≡ entries ++ halts (done_halt slot) 0 (map seat_of old) =
-    ended slot now ∙ ap (λ l. entries ++ halts (done_halt slot) 0 l) seats ∙ ap (λ l. entries ++ l) quiet in
-    let s : map seat_of es ≡ map (after_play slot) (map (after_sending slot) (map seat_of old)) = left slot now ∙ ap (map (after_play slot)) seats in
+    let states : map state_of zs ≡ map (after_sending slot) (map state_of old) = ap (map state_of) z-is ∙ d-states in
+    let y : ys ≡ entries ++ halt_entries (done_halt slot) 0 (map state_of old) =
+    ended slot now ∙ ap (λ l. entries ++ halt_entries (done_halt slot) 0 l) states ∙ ap (λ l. entries ++ l) quiet in
+    let s : map state_of es ≡ map (after_play slot) (map (after_sending slot) (map state_of old)) = left slot now ∙ ap (map (after_play slot)) states in
     let e-len : length es ≡ n =
     omega (
       arith,
       ap length s,
-      length-map es seat_of,
-      length-map (map (after_sending slot) (map seat_of old)) (after_play slot),
-      length-map (map seat_of old) (after_sending slot),
-      length-map old seat_of,
+      length-map es state_of,
+      length-map (map (after_sending slot) (map state_of old)) (after_play slot),
+      length-map (map state_of old) (after_sending slot),
+      length-map old state_of,
       len,
     ) in
     moment-same slot
     y
-    (ap (map seat_of) (written n es (take n (ds ++ drop (length ds) old)) e-len) ∙ s)
+    (ap (map state_of) (written n es (take n (ds ++ drop (length ds) old)) e-len) ∙ s)

@@ -11,10 +11,10 @@ use Rattle.day_run.specs.declared.clients.Client.TheVariants as clients
 use Rattle.day_run.specs.declared.clients.Play.{Play}
 use Rattle.day_run.specs.declared.clients.Stop.{Stop}
 use Rattle.day_run.specs.declared.clients.Halt.{Halt}
-use Rattle.day_run.specs.Clients.{IsPlaying, IsStopping, IsStep, halts_of, play_of, rest_of, seat_of}
+use Rattle.day_run.specs.Clients.{IsPlaying, IsStopping, IsStep, halts_of, play_of, rest_of, state_of}
 use Rattle.day_run.specs.Days.{done_halt, open_halt, halt_by}
 use Rattle.day_run.specs.Reels.{reel_pieces, reel_sizes}
-use Rattle.day_run.specs.Seats.{Idle, Playing, Pausing, Paused, IsPause, Rest, Seat, after_play, after_sending, booking_of, growth, is_done, pausing_seat, sent_between, sent_by, slot_sent}
+use Rattle.day_run.specs.ClientStates.{Idle, Playing, Pausing, Paused, IsPause, Rest, ClientState, after_play, after_sending, booking_of, growth, is_done, pausing_state, sent_between, sent_by, slot_sent}
 
 -- what a pacer sends, as a booking
 abbrev pub paced : Pacing → Booked
@@ -62,13 +62,13 @@ playing-step {play} {heard} {slot} playing e pacing le timed is = record {
   sent_is =
       is ∙ sent-step heard slot e playing.pacing pacing le timed playing.all_sent
       ∙ ap (growth heard slot) (whole-paced play playing);
-  seat = ap (λ n. Playing (record { number = play.number; rest = rest_of play.rest; plan = play.plan; start = n })) (ap (λ (x : Pacing). x.start) e);
+  state = ap (λ n. Playing (record { number = play.number; rest = rest_of play.rest; plan = play.plan; start = n })) (ap (λ (x : Pacing). x.start) e);
 }
 
 -- a play that was halted was stepped: all that it keeps was sent, or not yet
 pub stop-sent : {stop : Stop} {q : Pacing} {sent : ℕ} (heard slot : ℕ) → IsStopping stop → q ≡ after_step false slot stop.pacer → IsPacing q → heard ≤ slot
     → stop.pacer.passed ≡ heard + 1 - stop.pacer.start → sent ≡ q.sent - stop.pacer.sent
-    → sent ≡ sent_between heard slot (seat_of (clients.Pausing stop))
+    → sent ≡ sent_between heard slot (state_of (clients.Pausing stop))
 stop-sent {stop} heard slot stopping e pacing le timed is =
     is ∙ sent-step heard slot e stopping.pacing pacing le timed stopping.all_sent ∙ ap (growth heard slot) (stop-paced stop stopping)
 
@@ -88,7 +88,7 @@ paused-step {stop} {heard} {slot} stopping e pacing le timed is all =
     record {
       timed = tt;
       sent_is = stop-sent heard slot stopping e pacing le timed is;
-      seat = sym (cond-true (sent_by b slot == stop.keep) (Paused (rest_of stop.rest)) (Pausing b (rest_of stop.rest)) test);
+      state = sym (cond-true (sent_by b slot == stop.keep) (Paused (rest_of stop.rest)) (Pausing b (rest_of stop.rest)) test);
     }
 
 pub stopping-step : {stop : Stop} {q : Pacing} {heard slot sent : ℕ} → IsStopping stop → q ≡ after_step false slot stop.pacer → IsPacing q → heard ≤ slot
@@ -101,7 +101,7 @@ stopping-step {stop} {q} {heard} {slot} stopping e pacing le timed is not =
     record {
       timed = passed-step stop.pacer heard slot e le timed;
       sent_is = stop-sent heard slot stopping e pacing le timed is;
-      seat =
+      state =
           ap (λ (x : Booked). Pausing x (rest_of stop.rest)) same
           ∙ sym (cond-false (sent_by b slot == stop.keep) (Paused (rest_of stop.rest)) (Pausing b (rest_of stop.rest)) test);
     }
@@ -124,28 +124,28 @@ done-at play slot playing timed =
 -- the halt of a play that is done
 pub done-halt : {play : Play} (slot client : ℕ) (halt : Halt) → IsPlaying play → play.pacer.passed ≡ slot + 1 - play.pacer.start
     → is_pacing_done play.pacer ≡ true → halt.number ≡ play.number → halt.keep ≡ play.pacer.keep
-    → done_halt slot client (seat_of (clients.Playing play)) ≡ halts_of client (Some halt)
+    → done_halt slot client (state_of (clients.Playing play)) ≡ halts_of client (Some halt)
 done-halt {play} slot client halt playing timed done number keep =
     cond-true (is_done slot (play_of play)) (halt_by client play.number (total_bytes play.plan)) [] (sym (done-at play slot playing timed) ∙ done)
     ∙ ap (λ n. halt_by client n (total_bytes play.plan)) (sym number) ∙ ap (halt_by client halt.number) (sym (keep ∙ playing.whole))
 
 pub not-done : (play : Play) (slot client : ℕ) → IsPlaying play → play.pacer.passed ≡ slot + 1 - play.pacer.start → is_pacing_done play.pacer ≡ false
-    → done_halt slot client (seat_of (clients.Playing play)) ≡ []
+    → done_halt slot client (state_of (clients.Playing play)) ≡ []
 not-done play slot client playing timed done =
     cond-false (is_done slot (play_of play)) (halt_by client play.number (total_bytes play.plan)) [] (sym (done-at play slot playing timed) ∙ done)
 
 pub done-left : (play : Play) (slot : ℕ) → IsPlaying play → play.pacer.passed ≡ slot + 1 - play.pacer.start → is_pacing_done play.pacer ≡ true
-    → after_play slot (seat_of (clients.Playing play)) ≡ Idle
+    → after_play slot (state_of (clients.Playing play)) ≡ Idle
 done-left play slot playing timed done =
     cond-true (is_done slot (play_of play)) Idle (Playing (play_of play)) (sym (done-at play slot playing timed) ∙ done)
 
 pub not-left : (play : Play) (slot : ℕ) → IsPlaying play → play.pacer.passed ≡ slot + 1 - play.pacer.start → is_pacing_done play.pacer ≡ false
-    → after_play slot (seat_of (clients.Playing play)) ≡ seat_of (clients.Playing play)
+    → after_play slot (state_of (clients.Playing play)) ≡ state_of (clients.Playing play)
 not-left play slot playing timed done =
     cond-false (is_done slot (play_of play)) Idle (Playing (play_of play)) (sym (done-at play slot playing timed) ∙ done)
 
 pub open-at : {play : Play} (heard client : ℕ) (halt : Halt) → IsPlaying play → play.pacer.passed ≡ heard + 1 - play.pacer.start
-    → halt.number ≡ play.number → halt.keep ≡ play.pacer.due → open_halt heard client (seat_of (clients.Playing play)) ≡ halts_of client (Some halt)
+    → halt.number ≡ play.number → halt.keep ≡ play.pacer.due → open_halt heard client (state_of (clients.Playing play)) ≡ halts_of client (Some halt)
 open-at {play} heard client halt playing timed number keep =
     ap (λ n. halt_by client n (sent_by (booking_of (play_of play)) heard)) (sym number)
     ∙ ap (halt_by client halt.number) (sym (keep ∙ sym playing.all_sent ∙ sent-at play heard playing timed))
@@ -155,7 +155,7 @@ quiet-pause : (b : Bool) (slot client : ℕ) (stop : Booked) (rest : Rest) → d
 quiet-pause true slot client stop rest = refl
 quiet-pause false slot client stop rest = refl
 
-pub done-sent : (slot client : ℕ) (seat : Seat) → done_halt slot client (after_sending slot seat) ≡ done_halt slot client seat
+pub done-sent : (slot client : ℕ) (state : ClientState) → done_halt slot client (after_sending slot state) ≡ done_halt slot client state
 done-sent slot client Idle = refl
 done-sent slot client (Playing play) = refl
 done-sent slot client (Pausing stop rest) = quiet-pause (sent_by stop slot == stop.keep) slot client stop rest
@@ -180,13 +180,13 @@ pub kept-sent : {play : Play} (heard keep : ℕ) → IsPlaying play → play.pac
 kept-sent {play} heard keep playing timed least most =
     omega (arith, sent-at play heard playing timed, playing.whole, least, most)
 
-pub pause-of : {play : Play} {heard keep : ℕ} {last : Option ℕ} {left : Run} {seat : Seat} → IsPlaying play
+pub pause-of : {play : Play} {heard keep : ℕ} {last : Option ℕ} {left : Run} {state : ClientState} → IsPlaying play
     → play.pacer.passed ≡ heard + 1 - play.pacer.start → slots_through last ≡ play.pacer.passed
     → IsBoundaryAfter play.pacer.pieces (play.pacer.before + play.pacer.sent) (play.pacer.before + keep)
     → IsLeft (reel_sizes play.rest.reel.now) play.rest.playback play.rest.run play.plan last keep left
-    → seat ≡ pausing_seat heard (cut_play play.pacer.start play.plan keep) (record (rest_of play.rest) { run = left })
-    → IsPause (play_of play) heard keep seat
-pause-of {play} {heard} {keep} {last} {left} playing timed through boundary is seat-is =
+    → state ≡ pausing_state heard (cut_play play.pacer.start play.plan keep) (record (rest_of play.rest) { run = left })
+    → IsPause (play_of play) heard keep state
+pause-of {play} {heard} {keep} {last} {left} playing timed through boundary is state-is =
     let B : List (List ℕ) → Type 0 = λ ps. IsBoundaryAfter ps (play.pacer.before + play.pacer.sent) (play.pacer.before + keep) in
     let C : ℕ → Type 0 = λ n. IsBoundaryAfter (reel_pieces play.rest.reel.now) (n + play.pacer.sent) (n + keep) in
     let D : ℕ → Type 0 = λ n. IsBoundaryAfter (reel_pieces play.rest.reel.now) (play.rest.run.sent + n) (play.rest.run.sent + keep) in
@@ -195,21 +195,21 @@ pause-of {play} {heard} {keep} {last} {left} playing timed through boundary is s
       boundary = subst D (sent-at play heard playing timed) (subst C playing.before_is (subst B playing.pieces_are boundary));
       left = left;
       left_is = subst L (last-slot last play.pacer.start heard play.pacer.passed through timed) is;
-      seat_is = seat-is;
+      state_is = state-is;
     }
 
 -- the client whose play keeps no more than was sent, and another one
-pub paused-seat : {play : Play} {rest : Rest} (heard keep : ℕ) → IsPlaying play → play.pacer.passed ≡ heard + 1 - play.pacer.start
+pub paused-state : {play : Play} {rest : Rest} (heard keep : ℕ) → IsPlaying play → play.pacer.passed ≡ heard + 1 - play.pacer.start
     → play.pacer.sent ≤ keep → keep ≤ play.pacer.keep → (play.pacer.sent == keep) ≡ true
-    → Paused rest ≡ pausing_seat heard (cut_play play.pacer.start play.plan keep) rest
-paused-seat {play} {rest} heard keep playing timed least most all =
+    → Paused rest ≡ pausing_state heard (cut_play play.pacer.start play.plan keep) rest
+paused-state {play} {rest} heard keep playing timed least most all =
     let b = cut_play play.pacer.start play.plan keep in
     sym (cond-true (sent_by b heard == keep) (Paused rest) (Pausing b rest) (ap (λ n. n == keep) (kept-sent heard keep playing timed least most) ∙ all))
 
-pub pausing-seat : {play : Play} {q : Pacing} {rest : Rest} (heard keep : ℕ) → IsPlaying play → play.pacer.passed ≡ heard + 1 - play.pacer.start
+pub pausing-state : {play : Play} {q : Pacing} {rest : Rest} (heard keep : ℕ) → IsPlaying play → play.pacer.passed ≡ heard + 1 - play.pacer.start
     → play.pacer.sent ≤ keep → keep ≤ play.pacer.keep → (play.pacer.sent == keep) ≡ false → q ≡ record play.pacer { keep = keep }
-    → Pausing (cut_play q.start q.plan keep) rest ≡ pausing_seat heard (cut_play play.pacer.start play.plan keep) rest
-pausing-seat {play} {q} {rest} heard keep playing timed least most not e =
+    → Pausing (cut_play q.start q.plan keep) rest ≡ pausing_state heard (cut_play play.pacer.start play.plan keep) rest
+pausing-state {play} {q} {rest} heard keep playing timed least most not e =
     let b = cut_play play.pacer.start play.plan keep in
     let same : cut_play q.start q.plan keep ≡ b =
     ap (λ (x : Pacing). cut_play x.start x.plan keep) e ∙ ap (λ s. cut_play play.pacer.start s keep) playing.plan_is in

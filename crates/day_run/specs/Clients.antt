@@ -21,7 +21,7 @@ use Rattle.day_run.specs.declared.clients.Stop.{Stop}
 use Rattle.day_run.specs.declared.clients.Which.{Which}
 use Rattle.day_run.specs.declared.clients.Which.TheVariants.{Done, Open}
 use Rattle.day_run.specs.Reels.{reel_pieces, reel_sizes}
-use Rattle.day_run.specs.Seats as seats
+use Rattle.day_run.specs.ClientStates as states
 use Rattle.day_run.specs.Days.{done_halt, halt_by, open_halt}
 
 -- A rest can be sent on: it is a run of all of its reel's units, of which whole frames and reports
@@ -112,7 +112,7 @@ pub record AreIdle (clients : List Client) : Type 0 where
   pub each : (c : ℕ) (none : Client) → c < length clients → slice_index_or clients c none ≡ Idle
 
 -- what is left of a client's rest, and what the client does, in the words of a day
-abbrev pub rest_of : Rest → seats.Rest
+abbrev pub rest_of : Rest → states.Rest
 rest_of rest = record {
   sizes = reel_sizes rest.reel.now;
   pieces = reel_pieces rest.reel.now;
@@ -120,7 +120,7 @@ rest_of rest = record {
   run = rest.run;
 }
 
-abbrev pub play_of : Play → seats.Play
+abbrev pub play_of : Play → states.Play
 play_of play = record {
   number = play.number;
   rest = rest_of play.rest;
@@ -128,12 +128,12 @@ play_of play = record {
   start = play.pacer.start;
 }
 
-abbrev pub seat_of : Client → seats.Seat
-seat_of Idle = seats.Idle
-seat_of (Playing play) = seats.Playing (play_of play)
-seat_of (Pausing stop) =
-    seats.Pausing (cut_play stop.pacer.start stop.pacer.plan stop.keep) (rest_of stop.rest)
-seat_of (Paused rest) = seats.Paused (rest_of rest)
+abbrev pub state_of : Client → states.ClientState
+state_of Idle = states.Idle
+state_of (Playing play) = states.Playing (play_of play)
+state_of (Pausing stop) =
+    states.Pausing (cut_play stop.pacer.start stop.pacer.plan stop.keep) (rest_of stop.rest)
+state_of (Paused rest) = states.Paused (rest_of rest)
 
 -- a client's play has come to the slot that was heard last
 abbrev pub IsTimed : ℕ → Client → Type 0
@@ -149,40 +149,40 @@ pub record AreTimed (heard : ℕ) (clients : List Client) : Type 0 where
 -- a client has come from one slot to another
 pub record IsStep (heard slot : ℕ) (old new : Client) (sent : ℕ) : Type 0 where
   pub timed : IsTimed slot new
-  pub sent_is : sent ≡ seats.sent_between heard slot (seat_of old)
-  pub seat : seat_of new ≡ seats.after_sending slot (seat_of old)
+  pub sent_is : sent ≡ states.sent_between heard slot (state_of old)
+  pub state : state_of new ≡ states.after_sending slot (state_of old)
 
 -- all clients have
 pub record AreSteps (heard slot : ℕ) (old new : List Client) (sent : ℕ) : Type 0 where
   pub timed : AreTimed slot new
-  pub sent_is : sent ≡ sum_by (seats.sent_between heard slot) (map seat_of old)
-  pub seats_are : map seat_of new ≡ map (seats.after_sending slot) (map seat_of old)
+  pub sent_is : sent ≡ sum_by (states.sent_between heard slot) (map state_of old)
+  pub states_are : map state_of new ≡ map (states.after_sending slot) (map state_of old)
 
 -- the entry of a halt, and what its client does after it, if there is one
 abbrev pub halts_of : ℕ → Option Halt → List Entry
 halts_of client None = []
 halts_of client (Some halt) = halt_by client halt.number halt.keep
 
-abbrev pub seat_after : Option Halt → seats.Seat → seats.Seat
-seat_after None seat = seat
-seat_after (Some halt) seat = seats.Idle
+abbrev pub state_after_halt : Option Halt → states.ClientState → states.ClientState
+state_after_halt None state = state
+state_after_halt (Some halt) state = states.Idle
 
 -- a client after its play was halted
-abbrev pub after_open : seats.Seat → seats.Seat
-after_open seats.Idle = seats.Idle
-after_open (seats.Playing play) = seats.Idle
-after_open (seats.Pausing stop rest) = seats.Pausing stop rest
-after_open (seats.Paused rest) = seats.Paused rest
+abbrev pub after_open : states.ClientState → states.ClientState
+after_open states.Idle = states.Idle
+after_open (states.Playing play) = states.Idle
+after_open (states.Pausing stop rest) = states.Pausing stop rest
+after_open (states.Paused rest) = states.Paused rest
 
 -- the halts of such plays, and what such a client does then: at a slot its play is halted if it is
 -- done, and at a day's end in any case
-abbrev pub halt_for : Which → ℕ → ℕ → seats.Seat → List Entry
+abbrev pub halt_for : Which → ℕ → ℕ → states.ClientState → List Entry
 halt_for Done = done_halt
 halt_for Open = open_halt
 
-abbrev pub seat_for : Which → ℕ → seats.Seat → seats.Seat
-seat_for Done = seats.after_play
-seat_for Open = λ heard. after_open
+abbrev pub state_for : Which → ℕ → states.ClientState → states.ClientState
+state_for Done = states.after_play
+state_for Open = λ heard. after_open
 
 -- a client isn't paused
 abbrev pub IsUnpaused : Client → Type 0
@@ -195,6 +195,6 @@ IsUnpaused (Paused rest) = ⊥
 abbrev pub IsPauseOf : ℕ → Halt → Client → Client → Type 0
 IsPauseOf heard halt Idle new = ⊥
 IsPauseOf heard halt (Playing play) new = (halt.number ≡ play.number)
-    × seats.IsPause (play_of play) heard halt.keep (seat_of new)
+    × states.IsPause (play_of play) heard halt.keep (state_of new)
 IsPauseOf heard halt (Pausing stop) new = ⊥
 IsPauseOf heard halt (Paused rest) new = ⊥

@@ -17,8 +17,9 @@ use Rattle.film_run.specs.Units.{IsTrace}
 use Rattle.day_run.specs.Days.{IsLine, IsTold, Link, Moment}
 use Rattle.film_frames.specs.Tracks.{IsBoundary}
 use Rattle.film_run.specs.Plans.{CanPlay, IsPlanOf}
-use Rattle.day_run.specs.Seats.{Idle, Playing, Pausing, Paused, Play as ClientPlay, Rest, Seat}
-use Rattle.day_run.specs.Seats.{Track}
+use Rattle.day_run.specs.ClientStates.{ClientState, Idle, Playing, Pausing, Paused}
+use Rattle.day_run.specs.ClientStates.{Play as ClientPlay, Rest}
+use Rattle.day_run.specs.ClientStates.{ReelContent}
 use Rattle.day_run.specs.FairDays.{Turn, at_later, made_of}
 use Rattle.day_run.specs.Prints.{fair_text, start_words, tried_text}
 use Rattle.day_run.specs.declared.scripts.Line.{Line}
@@ -36,18 +37,18 @@ IsClient (Offer client source buffer delay wait) = Unit {0}
 pub record AreClients (lines : List Line) : Type 0 where
   pub each : (i : ℕ) (none : Line) → i < length lines → IsClient (slice_index_or lines i none)
 
--- a track that can be played: its sizes are those of a trace, and its pictures have a time
-pub record IsTrack (track : Track) : Type 0 where
-  pub sizes : IsTrace track.sizes
-  pub some_picture_units : 1 ≤ track.picture_units
-  pub picture_units_fit : track.picture_units ≤ 360000
+-- a reel that can be played: its sizes are those of a trace, and its pictures have a time
+pub record IsReel (reel : ReelContent) : Type 0 where
+  pub sizes : IsTrace reel.sizes
+  pub some_picture_units : 1 ≤ reel.picture_units
+  pub picture_units_fit : reel.picture_units ≤ 360000
 
--- a link whose slots are from 1/360,000 s to 1 s, and whose tracks can be played
+-- a link whose slots are from 1/360,000 s to 1 s, and whose reels can be played
 pub record IsLink (link : Link) : Type 0 where
   pub some_slot_units : 1 ≤ link.slot_units
   pub slot_units_fit : link.slot_units ≤ 360000
-  pub tracks : (i : ℕ) (none : Track) → i < length link.tracks →
-      IsTrack (slice_index_or link.tracks i none)
+  pub reels : (i : ℕ) (none : ReelContent) → i < length link.reels →
+      IsReel (slice_index_or link.reels i none)
 
 -- What is left for a client can be played, and what was sent of it are whole frames and reports.
 pub record IsSoundRest (rest : Rest) : Type 0 where
@@ -61,11 +62,11 @@ pub record IsSoundPlay (heard : ℕ) (play : ClientPlay) : Type 0 where
   pub plan : IsPlanOf play.rest.sizes play.rest.playback play.rest.run play.plan
   pub left : play.start ≤ heard → sum_through play.plan (heard - play.start) < total_bytes play.plan
 
-abbrev pub IsSoundSeat : ℕ → Seat → Type 0
-IsSoundSeat heard Idle = Unit {0}
-IsSoundSeat heard (Playing play) = IsSoundPlay heard play
-IsSoundSeat heard (Pausing stop rest) = IsSoundRest rest
-IsSoundSeat heard (Paused rest) = IsSoundRest rest
+abbrev pub IsSoundClient : ℕ → ClientState → Type 0
+IsSoundClient heard Idle = Unit {0}
+IsSoundClient heard (Playing play) = IsSoundPlay heard play
+IsSoundClient heard (Pausing stop rest) = IsSoundRest rest
+IsSoundClient heard (Paused rest) = IsSoundRest rest
 
 -- a plan that begins in a slot has room in each slot, beside all that is booked at a moment
 abbrev pub HasRoomFor : Link → Moment → List Segment → ℕ → Type 0

@@ -23,13 +23,15 @@ use Rattle.admission.specs.Machine.{booked_in}
 use Rattle.early_start.specs.Offered.{Found, IsOffer}
 use Rattle.report.specs.CalendarTexts.{calendar_text}
 use Rattle.report.specs.EntryLines.{entry_line}
+use Rattle.report.specs.JournalTexts.{journal_text}
 use Rattle.day_run.specs.declared.reels.Source.{Source}
 use Rattle.day_run.specs.declared.scripts.Line.{Line}
 use Rattle.day_run.specs.declared.scripts.Line.TheVariants as lines
 use Rattle.day_run.specs.Prints.{fault_text, full_text, offer_text, slot_text, state_text}
-use Rattle.day_run.specs.Seats.{Track, Rest, Play, Seat, Idle, Playing, Pausing, Paused, IsPause}
-use Rattle.day_run.specs.Seats.{after_play, after_sending, booking_of, is_done, no_track}
-use Rattle.day_run.specs.Seats.{sent_between, sent_by, track_of, whole_rest}
+use Rattle.day_run.specs.ClientStates.{ClientState, Idle, Playing, Pausing, Paused, IsPause}
+use Rattle.day_run.specs.ClientStates.{ReelContent, Rest, Play}
+use Rattle.day_run.specs.ClientStates.{after_play, after_sending, booking_of, is_done, no_reel}
+use Rattle.day_run.specs.ClientStates.{sent_between, sent_by, source_content, whole_rest}
 
 -- the steps of the link's capacity, the most entries of its journal, the time of a slot in
 -- 1/360,000 s, and what can be played
@@ -37,7 +39,7 @@ pub record Link : Type 0 where
   pub steps : List CapStep
   pub limit : ℕ
   pub slot_units : ℕ
-  pub tracks : List Track
+  pub reels : List ReelContent
 
 abbrev pub link_of : List CapStep → ℕ → ℕ → List Source → Link
 link_of steps limit slot_units sources =
@@ -45,29 +47,29 @@ link_of steps limit slot_units sources =
       steps = steps;
       limit = limit;
       slot_units = slot_units;
-      tracks = map (track_of slot_units) sources;
+      reels = map (source_content slot_units) sources;
     }
 
 -- a day as far as it has come: the journal, the clients, and the slot that was heard last
 pub record Moment : Type 0 where
   pub entries : List Entry
-  pub seats : List Seat
+  pub states : List ClientState
   pub heard : ℕ
 
 -- no client plays, and no slot was heard
 abbrev pub first_moment : Moment
-first_moment = record { entries = []; seats = replicate 256 Idle; heard = 0 }
+first_moment = record { entries = []; states = replicate 256 Idle; heard = 0 }
 
-abbrev pub seat_at : Moment → ℕ → Seat
-seat_at moment client = slice_index_or moment.seats client Idle
+abbrev pub state_at : Moment → ℕ → ClientState
+state_at moment client = slice_index_or moment.states client Idle
 
 abbrev pub entry_by : ℕ → Command → Answer → Entry
 entry_by maker command answer = record { maker = maker; command = command; answer = answer }
 
--- all of a track, the one at this place
+-- all of a reel, the one at this place
 abbrev pub rest_at : Link → ℕ → ℕ → ℕ → Rest
 rest_at link source buffer delay =
-    whole_rest link.slot_units (slice_index_or link.tracks source no_track) buffer delay
+    whole_rest link.slot_units (slice_index_or link.reels source no_reel) buffer delay
 
 -- nothing but a text
 pub record IsTold (told : List ℕ) (old new : Moment) (text : List ℕ) : Type 0 where
@@ -75,12 +77,12 @@ pub record IsTold (told : List ℕ) (old new : Moment) (text : List ℕ) : Type 
   pub text_is : text ≡ told
 
 -- The machine's answer is noted and printed, and the clients are then these.
-pub record IsNoted (link : Link) (entry : Entry) (seats : List Seat) (old new : Moment)
+pub record IsNoted (link : Link) (entry : Entry) (states : List ClientState) (old new : Moment)
     (text : List ℕ) : Type 0 where
   pub answered : IsAnswered link.steps (state_after old.entries) entry
   pub new_is : new ≡ record {
     entries = old.entries ++ entry ∷ [];
-    seats = seats;
+    states = states;
     heard = old.heard;
   }
   pub text_is : text ≡ entry_line (length old.entries) entry
@@ -100,15 +102,15 @@ pub record IsFaulty (rest : Rest) (old new : Moment) (text : List ℕ) : Type 0 
   pub told : IsTold (fault_text fault) old new text
 
 -- the clients, of which one begins a play where it was admitted
-abbrev pub with_play : ℕ → Rest → List Segment → ℕ → Answer → List Seat → List Seat
-with_play client rest plan number (Admitted start) seats =
-    slice_set seats client (Playing (record {
+abbrev pub with_play : ℕ → Rest → List Segment → ℕ → Answer → List ClientState → List ClientState
+with_play client rest plan number (Admitted start) states =
+    slice_set states client (Playing (record {
       number = number;
       rest = rest;
       plan = plan;
       start = start;
     }))
-with_play client rest plan number _ seats = seats
+with_play client rest plan number _ states = states
 
 -- the machine answers a play, for whose entry and whose halt's the journal has room
 pub record IsAnsweredPlay (link : Link) (client : ℕ) (rest : Rest) (plan : List Segment)
@@ -116,7 +118,7 @@ pub record IsAnsweredPlay (link : Link) (client : ℕ) (rest : Rest) (plan : Lis
   pub room : places_taken old.entries + 2 ≤ link.limit
   pub answer : Answer
   pub noted : IsNoted link (entry_by client (commands.Play old.heard plan) answer)
-      (with_play client rest plan (length old.entries) answer old.seats) old new text
+      (with_play client rest plan (length old.entries) answer old.states) old new text
 
 -- there is a plan, and the journal has no room or the play is answered
 pub record IsPlanned (link : Link) (client : ℕ) (rest : Rest) (old new : Moment) (text : List ℕ)
@@ -132,14 +134,14 @@ IsAsked link client rest old new text = IsFaulty rest old new text
 
 -- a client that plays, or whose pause isn't done, can't ask for a play; one that is paused begins
 -- anew
-abbrev pub IsPlayLine : Link → ℕ → Rest → Seat → Moment → Moment → List ℕ → Type 0
+abbrev pub IsPlayLine : Link → ℕ → Rest → ClientState → Moment → Moment → List ℕ → Type 0
 IsPlayLine link client rest Idle old new text = IsAsked link client rest old new text
 IsPlayLine link client rest (Playing play) old new text = IsTold state_text old new text
 IsPlayLine link client rest (Pausing stop left) old new text = IsTold state_text old new text
 IsPlayLine link client rest (Paused left) old new text = IsAsked link client rest old new text
 
 -- a client that is paused goes on with what is left
-abbrev pub IsResumeLine : Link → ℕ → Seat → Moment → Moment → List ℕ → Type 0
+abbrev pub IsResumeLine : Link → ℕ → ClientState → Moment → Moment → List ℕ → Type 0
 IsResumeLine link client Idle old new text = IsTold state_text old new text
 IsResumeLine link client (Playing play) old new text = IsTold state_text old new text
 IsResumeLine link client (Pausing stop rest) old new text = IsTold state_text old new text
@@ -149,13 +151,13 @@ IsResumeLine link client (Paused rest) old new text = IsAsked link client rest o
 pub record IsHaltedPlay (link : Link) (client : ℕ) (play : Play) (old new : Moment) (text : List ℕ)
     : Type 0 where
   pub keep : ℕ
-  pub seat : Seat
-  pub pause : IsPause play old.heard keep seat
+  pub state : ClientState
+  pub pause : IsPause play old.heard keep state
   pub noted : IsNoted link (entry_by client (commands.Halt play.number keep) Halted)
-      (slice_set old.seats client seat) old new text
+      (slice_set old.states client state) old new text
 
 -- a client that plays can be paused
-abbrev pub IsPauseLine : Link → ℕ → Seat → Moment → Moment → List ℕ → Type 0
+abbrev pub IsPauseLine : Link → ℕ → ClientState → Moment → Moment → List ℕ → Type 0
 IsPauseLine link client Idle old new text = IsTold state_text old new text
 IsPauseLine link client (Playing play) old new text = IsHaltedPlay link client play old new text
 IsPauseLine link client (Pausing stop rest) old new text = IsTold state_text old new text
@@ -165,7 +167,7 @@ IsPauseLine link client (Paused rest) old new text = IsTold state_text old new t
 pub record IsAnsweredLook (link : Link) (slot : ℕ) (old new : Moment) (text : List ℕ) : Type 0 where
   pub room : places_taken old.entries + 1 ≤ link.limit
   pub answer : Answer
-  pub noted : IsNoted link (entry_by 0 (commands.Look slot) answer) old.seats old new text
+  pub noted : IsNoted link (entry_by 0 (commands.Look slot) answer) old.states old new text
 
 abbrev pub IsLookLine : Link → ℕ → Moment → Moment → List ℕ → Type 0
 IsLookLine link slot old new text = IsFull link 1 old new text
@@ -192,33 +194,29 @@ IsOfferLine link rest wait old new text = IsFaulty rest old new text
 abbrev pub halt_by : ℕ → ℕ → ℕ → List Entry
 halt_by client number keep = entry_by client (commands.Halt number keep) Halted ∷ []
 
-abbrev pub done_halt : ℕ → ℕ → Seat → List Entry
+abbrev pub done_halt : ℕ → ℕ → ClientState → List Entry
 done_halt slot client Idle = []
 done_halt slot client (Playing play) = if is_done slot play
     then halt_by client play.number (total_bytes play.plan) else []
 done_halt slot client (Pausing stop rest) = []
 done_halt slot client (Paused rest) = []
 
-abbrev pub open_halt : ℕ → ℕ → Seat → List Entry
+abbrev pub open_halt : ℕ → ℕ → ClientState → List Entry
 open_halt heard client Idle = []
 open_halt heard client (Playing play) = halt_by client play.number (sent_by (booking_of play) heard)
 open_halt heard client (Pausing stop rest) = []
 open_halt heard client (Paused rest) = []
 
 -- such halts of all clients, in their order, from this client on
-abbrev pub halts : (ℕ → Seat → List Entry) → ℕ → List Seat → List Entry
-halts halt client [] = []
-halts halt client (seat ∷ seats) = halt client seat ++ halts halt (client + 1) seats
-
--- the lines of entries, the first of them at this place
-abbrev pub entry_lines : ℕ → List Entry → List ℕ
-entry_lines place [] = []
-entry_lines place (entry ∷ entries) = entry_line place entry ++ entry_lines (place + 1) entries
+abbrev pub halt_entries : (ℕ → ClientState → List Entry) → ℕ → List ClientState → List Entry
+halt_entries halt client [] = []
+halt_entries halt client (state ∷ states) =
+    halt client state ++ halt_entries halt (client + 1) states
 
 -- the bytes that all clients are sent in the slots after the one that was heard last up to this
 -- one, and those booked there
 abbrev pub sent_up_to : Moment → ℕ → ℕ
-sent_up_to moment slot = sum_by (sent_between moment.heard slot) moment.seats
+sent_up_to moment slot = sum_by (sent_between moment.heard slot) moment.states
 
 abbrev pub booked_up_to : Moment → ℕ → ℕ
 booked_up_to moment slot =
@@ -227,29 +225,29 @@ booked_up_to moment slot =
 
 -- the halts of the plays that are done once a slot was sent
 abbrev pub halts_at : Moment → ℕ → List Entry
-halts_at moment slot = halts (done_halt slot) 0 moment.seats
+halts_at moment slot = halt_entries (done_halt slot) 0 moment.states
 
 -- The link comes to a slot: what is due is sent, and then the plays that are done are halted.
 abbrev pub at_slot : Moment → ℕ → Moment
 at_slot moment slot = record {
   entries = moment.entries ++ halts_at moment slot;
-  seats = map (after_play slot) (map (after_sending slot) moment.seats);
+  states = map (after_play slot) (map (after_sending slot) moment.states);
   heard = slot;
 }
 
 abbrev pub slot_lines : Moment → ℕ → List ℕ
 slot_lines moment slot =
     slot_text slot (sent_up_to moment slot) (booked_up_to moment slot)
-    ++ entry_lines (length moment.entries) (halts_at moment slot)
+    ++ journal_text (length moment.entries) (halts_at moment slot)
 
 -- what a line makes of a moment, and what it prints
 abbrev pub IsLine : Link → Line → Moment → Moment → List ℕ → Type 0
 IsLine link (lines.Play client source buffer delay) old new text =
-    IsPlayLine link client (rest_at link source buffer delay) (seat_at old client) old new text
+    IsPlayLine link client (rest_at link source buffer delay) (state_at old client) old new text
 IsLine link (lines.Pause client) old new text =
-    IsPauseLine link client (seat_at old client) old new text
+    IsPauseLine link client (state_at old client) old new text
 IsLine link (lines.Resume client) old new text =
-    IsResumeLine link client (seat_at old client) old new text
+    IsResumeLine link client (state_at old client) old new text
 IsLine link (lines.Look slot) old new text = IsLookLine link (min slot (2 ^ 62)) old new text
 IsLine link (lines.Slot slot) old new text = (new ≡ at_slot old slot) × (text ≡ slot_lines old slot)
 IsLine link (lines.Offer client source buffer delay wait) old new text =
@@ -264,7 +262,7 @@ AreRun link _ _ old new = ⊥
 
 -- the halts of the plays that are open at a day's end
 abbrev pub last_halts : Moment → List Entry
-last_halts moment = halts (open_halt moment.heard) 0 moment.seats
+last_halts moment = halt_entries (open_halt moment.heard) 0 moment.states
 
 abbrev pub last_journal : Moment → List Entry
 last_journal moment = moment.entries ++ last_halts moment
@@ -272,7 +270,7 @@ last_journal moment = moment.entries ++ last_halts moment
 -- their lines, and what is then booked
 abbrev pub last_lines : Moment → List ℕ
 last_lines moment =
-    entry_lines (length moment.entries) (last_halts moment)
+    journal_text (length moment.entries) (last_halts moment)
     ++ calendar_text (state_after (last_journal moment)).now
     (booked_in (state_after (last_journal moment)))
 

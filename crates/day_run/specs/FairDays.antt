@@ -18,9 +18,9 @@ use Rattle.day_run.specs.declared.counts.Counts.{Counts}
 use Rattle.day_run.specs.declared.counts.Made.{Made}
 use Rattle.day_run.specs.declared.scripts.Line.TheVariants as lines
 use Rattle.day_run.specs.Days.{IsLine, IsTold, Link, Moment, at_slot, booked_up_to, last_journal}
-use Rattle.day_run.specs.Days.{first_moment, seat_at, sent_up_to}
+use Rattle.day_run.specs.Days.{first_moment, state_at, sent_up_to}
 use Rattle.day_run.specs.Prints.{fair_text}
-use Rattle.day_run.specs.Seats.{Seat, Idle, Playing, Pausing, Paused, trace_track}
+use Rattle.day_run.specs.ClientStates.{ClientState, Idle, Playing, Pausing, Paused, trace_content}
 
 -- ---- the traces
 -- a trace by the next words: the number of its pictures, 100 to 200, and then their sizes
@@ -46,7 +46,7 @@ fair_link steps words = record {
   steps = steps;
   limit = 1048576;
   slot_units = 14400;
-  tracks = map (trace_track 14400) (traces_drawn 16 words);
+  reels = map (trace_content 14400) (traces_drawn 16 words);
 }
 
 -- ---- the turns
@@ -64,7 +64,7 @@ at_later moment later = if later == 0 then moment else at_slot moment (moment.he
 
 -- What a client does follows from its state: it plays one of the traces with a drawn buffer and
 -- start delay; it pauses; nothing, as its pause isn't done; or it goes on.
-abbrev pub IsDone : Link → (ℕ → ℕ) → ℕ → Seat → Moment → Moment → List ℕ → Type 0
+abbrev pub IsDone : Link → (ℕ → ℕ) → ℕ → ClientState → Moment → Moment → List ℕ → Type 0
 IsDone link words client Idle old new text =
     IsLine link (lines.Play client (words 0 % 16) (16384 + words 1 % 16384) (words 2 % 26)) old new
     text
@@ -73,7 +73,7 @@ IsDone link words client (Pausing stop rest) old new text = IsTold [] old new te
 IsDone link words client (Paused rest) old new text = IsLine link (lines.Resume client) old new text
 
 -- the words that are drawn for it
-abbrev pub words_for : Seat → ℕ
+abbrev pub words_for : ClientState → ℕ
 words_for Idle = 3
 words_for (Playing play) = 0
 words_for (Pausing stop rest) = 0
@@ -83,18 +83,18 @@ words_for (Paused rest) = 0
 abbrev pub client_of : (ℕ → ℕ) → ℕ
 client_of words = words 1 % 256
 
-abbrev pub seat_in : (ℕ → ℕ) → Turn → Seat
-seat_in words turn = seat_at turn.mid (client_of words)
+abbrev pub state_in : (ℕ → ℕ) → Turn → ClientState
+state_in words turn = state_at turn.mid (client_of words)
 
 -- a turn by the next words: how many slots later, 0 to 3, and one of 256 clients
 pub record IsTurn (link : Link) (words : ℕ → ℕ) (turn : Turn) : Type 0 where
   pub slot : turn.mid ≡ at_later turn.old (words 0 % 4)
-  pub done : IsDone link (after 2 words) (client_of words) (seat_in words turn) turn.mid turn.new
+  pub done : IsDone link (after 2 words) (client_of words) (state_in words turn) turn.mid turn.new
       turn.text
 
 -- the words that a turn leaves
 abbrev pub after_turn : (ℕ → ℕ) → Turn → ℕ → ℕ
-after_turn words turn = after (2 + words_for (seat_in words turn)) words
+after_turn words turn = after (2 + words_for (state_in words turn)) words
 
 -- turns one after the other
 abbrev pub AreTurns : Link → (ℕ → ℕ) → List Turn → Moment → Moment → Type 0

@@ -5,8 +5,8 @@ pub mod Spelling
 pub mod Scripts
 pub mod Reels
 pub mod Sources
-pub mod Seats
-pub mod Tracks
+pub mod ClientStates
+pub mod ReelContents
 pub mod Days
 pub mod DayLaws
 pub mod Clients

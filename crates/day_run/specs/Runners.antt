@@ -10,10 +10,11 @@ use Rattle.day_run.specs.declared.clients.Client.{Client}
 use Rattle.day_run.specs.declared.runners.Runner.{Runner}
 use Rattle.day_run.specs.declared.runners.Told.{Told}
 use Rattle.day_run.specs.declared.runners.Told.TheVariants as tolds
-use Rattle.day_run.specs.Clients.{AreBooked, AreGoing, AreTimed, AreUndone, seat_of}
-use Rattle.day_run.specs.Days.{AreRun, Link, Moment, entry_lines, first_moment}
+use Rattle.day_run.specs.Clients.{AreBooked, AreGoing, AreTimed, AreUndone, state_of}
+use Rattle.report.specs.JournalTexts.{journal_text}
+use Rattle.day_run.specs.Days.{AreRun, Link, Moment, first_moment}
 use Rattle.day_run.specs.Prints.{fault_text, full_text, offer_text, state_text}
-use Rattle.day_run.specs.Tracks.{reel_track}
+use Rattle.day_run.specs.ReelContents.{reel_content}
 
 -- the clients go on soundly, none of their plays is done, and the book has them open; the machine's
 -- now isn't later than the slot that was heard last, to which their plays have come
@@ -38,19 +39,19 @@ link_on r = record {
   steps = r.book.steps;
   limit = r.book.limit;
   slot_units = r.slot_units;
-  tracks = map (reel_track r.slot_units) r.reels.now;
+  reels = map (reel_content r.slot_units) r.reels.now;
 }
 
 abbrev pub moment_of : Runner → Moment
 moment_of r = record {
   entries = r.book.entries;
-  seats = map seat_of r.clients.items;
+  states = map state_of r.clients.items;
   heard = r.heard;
 }
 
 -- the text of what is told to a client, by the entries
 abbrev pub told_text : List Entry → Told → List ℕ
-told_text entries (tolds.Entry place) = entry_lines place (drop place entries)
+told_text entries (tolds.Entry place) = journal_text place (drop place entries)
 told_text entries (tolds.Full full) = full_text full
 told_text entries tolds.State = state_text
 told_text entries (tolds.Fault fault) = fault_text fault

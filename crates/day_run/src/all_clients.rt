@@ -8,8 +8,8 @@ ghost use Rattle.day_run.specs.declared.clients.Client.{Client};
 ghost use Rattle.day_run.specs.declared.clients.Client.TheVariants.{Idle};
 ghost use Rattle.day_run.specs.Clients.{AreBooked, AreGoing, AreIdle, AreSteps, AreTimed};
 ghost use Rattle.day_run.specs.Clients.{AreUndone};
-ghost use Rattle.day_run.specs.Clients.{IsHaltOf, halt_for, halts_of, seat_for, seat_of};
-ghost use Rattle.day_run.specs.Days.{halts};
+ghost use Rattle.day_run.specs.Clients.{IsHaltOf, halt_for, halts_of, state_for, state_of};
+ghost use Rattle.day_run.specs.Days.{halt_entries};
 
 use crate::clients::{Client, Halt, Which};
 use admission::Book;
@@ -17,7 +17,7 @@ use std::alloc::Global;
 use vod_base::NoMemory;
 
 /// How many clients a day has.
-const CLIENTS: usize = 256;
+pub(crate) const CLIENTS: usize = 256;
 
 /// Clients that play nothing.
 pub(crate) fn idle_clients<'r>(alloc: Global) -> Result<Vec<Client<'r>>, NoMemory>
@@ -61,9 +61,9 @@ pub(crate) fn end_each(book: &mut Book, clients: &mut [Client<'_>], which: Which
     ensures limit { book.new.limit ≡ book.old.limit }
     ensures timed { (slot : ℕ) → AreTimed slot clients.old → AreTimed slot clients.new }
     ensures entries { (slot : ℕ) → AreTimed slot clients.old → book.new.entries
-        ≡ book.old.entries ++ halts (halt_for which slot) 0 (map seat_of clients.old) }
-    ensures seats { (slot : ℕ) → AreTimed slot clients.old →
-        map seat_of clients.new ≡ map (seat_for which slot) (map seat_of clients.old) }
+        ≡ book.old.entries ++ halt_entries (halt_for which slot) 0 (map state_of clients.old) }
+    ensures states { (slot : ℕ) → AreTimed slot clients.old →
+        map state_of clients.new ≡ map (state_for which slot) (map state_of clients.old) }
 {
     for client in 0..clients.len() {
         let halt = clients[client].halt_of(which);

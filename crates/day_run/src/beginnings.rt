@@ -10,8 +10,8 @@ ghost use Rattle.admission.specs.Histories.{is_admission};
 ghost use Rattle.day_run.specs.Clients.{IsPlanFor, IsPlaying, IsRest, rest_of};
 ghost use Rattle.day_run.specs.Reels.{reel_sizes};
 ghost use Rattle.day_run.specs.Runners.{IsWithinRanges};
-ghost use Rattle.day_run.specs.Seats.{Track, whole_rest};
-ghost use Rattle.day_run.specs.Tracks.{reel_track};
+ghost use Rattle.day_run.specs.ClientStates.{ReelContent, whole_rest};
+ghost use Rattle.day_run.specs.ReelContents.{reel_content};
 
 use crate::clients::{Play, Rest};
 use crate::reels::Reel;
@@ -26,9 +26,9 @@ use wire_curve::{CurveFault, CurveRefused};
 /// The source of that number.
 pub(crate) fn reel_at<'r>(reels: &'r [Reel<'r>], source: usize) -> &'r Reel<'r>
     requires { source < length reels.now }
-    ensures { (slot_units : ℕ) (none : Track) →
-        slice_index_or (map (reel_track slot_units) reels.now) source none
-        ≡ reel_track slot_units result.now }
+    ensures { (slot_units : ℕ) (none : ReelContent) →
+        slice_index_or (map (reel_content slot_units) reels.now) source none
+        ≡ reel_content slot_units result.now }
 {
     match reels.get(source) {
         Some(reel) => reel,
@@ -46,7 +46,7 @@ pub(crate) fn whole_of<'r>(
     requires { IsWithinRanges slot_units buffer delay }
     ensures rest { IfSome result IsRest }
     ensures whole { IfSome result (λ rest.
-        rest_of rest ≡ whole_rest slot_units (reel_track slot_units reel.now) buffer delay) }
+        rest_of rest ≡ whole_rest slot_units (reel_content slot_units reel.now) buffer delay) }
     ensures none { IfNone result (length (reel_sizes reel.now) ≡ 0) }
 {
     let run = whole_run(reel)?;
@@ -111,7 +111,7 @@ pub(crate) fn begin_play<'r>(
     ensures start { result.pacer.start ≡ start }
     ensures begun { result.pacer.passed ≡ 0 }
 {
-    let pacer = Pacer::new(rest.reel.sending(), rest.run.sent, paced, start);
+    let pacer = Pacer::new(rest.reel.as_sending(), rest.run.sent, paced, start);
     let _sent = pacer.sent();
     Play {
         number,

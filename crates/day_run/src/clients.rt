@@ -12,10 +12,10 @@ ghost use Rattle.day_run.specs.Reels.{reel_pieces, reel_sizes};
 ghost use Rattle.day_run.specs.Clients.{IsBooked, IsGoing, IsHaltOf, IsPauseOf, IsPlaying, IsQuiet};
 ghost use Rattle.day_run.specs.Clients.{IsRest, IsStep, IsTimed, IsUndone, IsUnpaused};
 ghost use Rattle.day_run.specs.declared.clients.Client.TheVariants.{Paused};
-ghost use Rattle.day_run.specs.Clients.{after_open, halt_for, halts_of, play_of, seat_after};
-ghost use Rattle.day_run.specs.Clients.{seat_for, seat_of};
+ghost use Rattle.day_run.specs.Clients.{after_open, halt_for, halts_of, play_of, state_after_halt};
+ghost use Rattle.day_run.specs.Clients.{state_for, state_of};
 ghost use Rattle.day_run.specs.Days.{done_halt, open_halt};
-ghost use Rattle.day_run.specs.Seats.{IsPause, after_play, is_busy};
+ghost use Rattle.day_run.specs.ClientStates.{IsPause, after_play, is_busy};
 
 use crate::drains::Drain;
 use crate::reels::{Reel, Sending};
@@ -105,7 +105,7 @@ impl<'r> Client<'r> {
 
     /// Whether it plays, or its pause isn't done.
     pub(crate) fn is_busy(&self) -> bool
-        ensures { result ≡ is_busy (seat_of self.now) }
+        ensures { result ≡ is_busy (state_of self.now) }
     {
         match self {
             Client::Playing(_) | Client::Pausing(_) => true,
@@ -114,7 +114,7 @@ impl<'r> Client<'r> {
     }
 
     /// What is left to be sent to it, if it is paused.
-    pub(crate) fn left(&self) -> Option<Rest<'r>>
+    pub(crate) fn rest_left(&self) -> Option<Rest<'r>>
         ensures some { IfSome result (λ rest. self.now ≡ Paused rest) }
         ensures none { IfNone result (IsUnpaused self.now) }
     {
@@ -129,9 +129,9 @@ impl<'r> Client<'r> {
         ensures some { IfSome result (IsHaltOf self.now) }
         ensures none { IfNone result (IsUndone self.now) }
         ensures halt { (slot client : ℕ) → IsGoing self.now → IsTimed slot self.now →
-            done_halt slot client (seat_of self.now) ≡ halts_of client result }
-        ensures seat { (slot : ℕ) → IsGoing self.now → IsTimed slot self.now →
-            after_play slot (seat_of self.now) ≡ seat_after result (seat_of self.now) }
+            done_halt slot client (state_of self.now) ≡ halts_of client result }
+        ensures state { (slot : ℕ) → IsGoing self.now → IsTimed slot self.now →
+            after_play slot (state_of self.now) ≡ state_after_halt result (state_of self.now) }
     {
         match self {
             Client::Playing(play) => {
@@ -153,8 +153,8 @@ impl<'r> Client<'r> {
         ensures some { IfSome result (IsHaltOf self.now) }
         ensures none { IfNone result (IsUndone self.now) }
         ensures halt { (heard client : ℕ) → IsGoing self.now → IsTimed heard self.now →
-            open_halt heard client (seat_of self.now) ≡ halts_of client result }
-        ensures seat { after_open (seat_of self.now) ≡ seat_after result (seat_of self.now) }
+            open_halt heard client (state_of self.now) ≡ halts_of client result }
+        ensures state { after_open (state_of self.now) ≡ state_after_halt result (state_of self.now) }
     {
         match self {
             Client::Playing(play) => Some(Halt {
@@ -170,9 +170,9 @@ impl<'r> Client<'r> {
         ensures some { IfSome result (IsHaltOf self.now) }
         ensures none { IfNone result (IsUndone self.now) }
         ensures halt { (slot client : ℕ) → IsGoing self.now → IsTimed slot self.now →
-            halt_for which slot client (seat_of self.now) ≡ halts_of client result }
-        ensures seat { (slot : ℕ) → IsGoing self.now → IsTimed slot self.now →
-            seat_for which slot (seat_of self.now) ≡ seat_after result (seat_of self.now) }
+            halt_for which slot client (state_of self.now) ≡ halts_of client result }
+        ensures state { (slot : ℕ) → IsGoing self.now → IsTimed slot self.now →
+            state_for which slot (state_of self.now) ≡ state_after_halt result (state_of self.now) }
     {
         match which {
             Which::Done => self.halt_when_done(),
@@ -230,7 +230,7 @@ fn pause_play<'r>(play: Play<'r>) -> (Halt, Client<'r>)
     ensures going { IsGoing result.1 }
     ensures quiet { IsQuiet result.1 }
     ensures pause { (heard : ℕ) → play.entry.pacer.passed ≡ heard + 1 - play.entry.pacer.start →
-        IsPause (play_of play.entry) heard result.0.keep (seat_of result.1) }
+        IsPause (play_of play.entry) heard result.0.keep (state_of result.1) }
     ensures timed { (heard : ℕ) → play.entry.pacer.passed ≡ heard + 1 - play.entry.pacer.start →
         IsTimed heard result.1 }
 {

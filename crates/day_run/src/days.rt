@@ -2,7 +2,8 @@
 
 ghost use Rattle.std.specs.Prelude.{◌≡◌, ◌^◌, ◌≤◌, ◌<◌, ◌++◌, [], drop, length, IfOk, OnOk};
 ghost use Rattle.admission.specs.Histories.{IsLegal};
-ghost use Rattle.day_run.specs.Days.{IsDay, IsLine, entry_lines, last_journal, last_lines, link_of};
+ghost use Rattle.report.specs.JournalTexts.{journal_text};
+ghost use Rattle.day_run.specs.Days.{IsDay, IsLine, last_journal, last_lines, link_of};
 ghost use Rattle.day_run.specs.Days.{first_moment};
 ghost use Rattle.day_run.specs.Runners.{HasRun, IsKept, IsPrinted, IsRunner, link_on, moment_of};
 ghost use Rattle.day_run.specs.Runners.{offer_lines, told_text};
@@ -16,7 +17,7 @@ use crate::sources::reels_of;
 use crate::texts::{push_fault, push_full, push_offer, push_slot, push_state};
 use admission::{Book, Entry};
 use early_start::Offers;
-use report::{calendar_text, entry_line, law_kinds, law_state_text};
+use report::{calendar_text, journal_text, law_kinds, law_state_text};
 use slot_calendar::Profile;
 use std::alloc::Global;
 use vod_base::NoMemory;
@@ -62,30 +63,20 @@ pub fn run_script(
     let mut text = Vec::new(alloc);
     run_lines(alloc, &mut runner, &script.lines, &mut text)?;
     run_end(&mut runner, &mut text)?;
-    let Runner {
-        reels: _,
-        slot_units: _,
-        book,
-        clients: _,
-        heard: _,
-    } = runner;
     Ok(Day {
         text,
-        journal: book.into_entries(),
+        journal: runner.into_entries(),
     })
 }
 
 /// Prints the entries of a journal from a place on.
 fn print_entries(book: &Book, from: usize, text: &mut Vec<u8>) -> Result<(), NoMemory>
     ensures { OnOk result
-        (text.new.items ≡ text.old.items ++ entry_lines from (drop from book.now.entries)) }
+        (text.new.items ≡ text.old.items ++ journal_text from (drop from book.now.entries)) }
 {
     let entries = book.entries();
     law_kinds(book.calendar().profile(), entries);
-    for place in from..entries.len() {
-        entry_line(place as u64, &entries[place], text)?;
-    }
-    Ok(())
+    journal_text(from, entries, text)
 }
 
 /// Prints what a client was told.

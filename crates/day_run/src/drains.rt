@@ -1,3 +1,5 @@
+//! A link that takes what the plays of a day send, and keeps none of it.
+
 ghost use Rattle.std.specs.Prelude.{None};
 
 use vod_base::{Heard, Link, LinkFault};

@@ -7,14 +7,15 @@ ghost use Rattle.film_run.specs.Units.{IsTrace};
 ghost use Rattle.admission.specs.declared.entries.Entry.{Entry};
 ghost use Rattle.admission.specs.Histories.{IsLegal};
 ghost use Rattle.day_run.specs.Balanced.{IsReady};
-ghost use Rattle.day_run.specs.Days.{IsPlayLine, entry_lines, first_moment, rest_at, seat_at};
+ghost use Rattle.report.specs.JournalTexts.{journal_text};
+ghost use Rattle.day_run.specs.Days.{IsPlayLine, first_moment, rest_at, state_at};
 ghost use Rattle.day_run.specs.FairDays.{IsDone, IsFair, after_traces, at_later, is_full_line};
 ghost use Rattle.day_run.specs.FairDays.{made_of, traces_drawn, words_for};
 ghost use Rattle.day_run.specs.Fairs.{AreTraces, HasCome, HasTurned, IsFitting, said_text};
 ghost use Rattle.day_run.specs.Fairs.{sizes_in, with_slot};
 ghost use Rattle.day_run.specs.Runners.{IsKept, IsRunner, link_on, moment_of, told_text};
-ghost use Rattle.day_run.specs.Seats.{trace_track};
-ghost use Rattle.day_run.specs.Tracks.{reel_track};
+ghost use Rattle.day_run.specs.ClientStates.{trace_content};
+ghost use Rattle.day_run.specs.ReelContents.{reel_content};
 
 use crate::clients::Client;
 use crate::counts::{Counts, Made};
@@ -48,14 +49,7 @@ pub fn fair(alloc: Global, seed: u64, plays: u32, profile: Profile) -> Result<Da
     let mut runner = Runner::new(alloc, &reels, profile, MAX_ENTRIES, SLOT_UNITS)?;
     let counts = run_turns(alloc, &mut draws, &mut runner, plays)?;
     runner.end();
-    let Runner {
-        reels: _,
-        slot_units: _,
-        book,
-        clients: _,
-        heard: _,
-    } = runner;
-    let journal = book.into_entries();
+    let journal = runner.into_entries();
     let made = count_entries(&journal);
     let mut text = Vec::new(alloc);
     push_fair(&mut text, &counts, &made)?;
@@ -82,8 +76,8 @@ fn draw_traces(alloc: Global, draws: &mut Draws) -> Result<Vec<Vec<u64>>, NoMemo
 fn reels_of<'s>(alloc: Global, traces: &'s [Vec<u64>]) -> Result<Vec<Reel<'s>>, NoMemory>
     requires { AreTraces traces.now }
     ensures count { IfOk result (λ reels. length reels.items ≡ length traces.entry.now) }
-    ensures tracks { IfOk result (λ reels. map (reel_track 14400) reels.items
-        ≡ map (trace_track 14400) (sizes_in traces.entry.now)) }
+    ensures contents { IfOk result (λ reels. map (reel_content 14400) reels.items
+        ≡ map (trace_content 14400) (sizes_in traces.entry.now)) }
 {
     let mut reels = Vec::with_capacity(alloc, traces.len())?;
     for trace in traces {
@@ -107,7 +101,7 @@ fn play_drawn(
     ensures line { IfOk result (λ told.
         IsPlayLine (link_on runner.old) client (rest_at (link_on runner.old)
         (words_left draws.old 0 % 16) (16384 + words_left draws.old 1 % 16384)
-        (words_left draws.old 2 % 26)) (seat_at (moment_of runner.old) client)
+        (words_left draws.old 2 % 26)) (state_at (moment_of runner.old) client)
         (moment_of runner.old) (moment_of runner.new) (told_text runner.new.book.entries told)) }
     ensures left { OnOk result (words_left draws.new ≡ after 3 (words_left draws.old)) }
 {
@@ -131,10 +125,10 @@ fn turn_client(
     ensures heard { OnOk result (runner.new.heard ≡ runner.old.heard) }
     ensures done { IfOk result (λ told.
         IsDone (link_on runner.old) (words_left draws.old) client
-        (seat_at (moment_of runner.old) client) (moment_of runner.old) (moment_of runner.new)
+        (state_at (moment_of runner.old) client) (moment_of runner.old) (moment_of runner.new)
         (said_text runner.new.book.entries told)) }
     ensures left { OnOk result (words_left draws.new
-        ≡ after (words_for (seat_at (moment_of runner.old) client)) (words_left draws.old)) }
+        ≡ after (words_for (state_at (moment_of runner.old) client)) (words_left draws.old)) }
 {
     match &runner.clients[client as usize] {
         Client::Playing(_) => Ok(Some(runner.pause(client))),
@@ -171,7 +165,7 @@ fn go_on(runner: &mut Runner<'_>, later: u64, counts: &mut Counts)
 
 /// The lines of entries tell of no full journal: they begin with a digit.
 fn law_entries_other(place: u64)
-    ensures { (entries : List Entry) → is_full_line (entry_lines place entries) ≡ false }
+    ensures { (entries : List Entry) → is_full_line (journal_text place entries) ≡ false }
 {}
 
 /// Whether it is told that the journal is full.

@@ -1,3 +1,5 @@
+//! Laws of a day, of its script and of a large day, each a contract without a body.
+
 ghost use Rattle.std.specs.Prelude.{ℕ, List, ◌≡◌, ◌≤◌, ◌<◌, ◌+◌, ◌-◌, ◌⊎◌, ◌++◌, ◌∷◌, false, true};
 ghost use Rattle.std.specs.Prelude.{length, map, sum_by, All, [], ◌≢◌, slice_index};
 ghost use Rattle.std.specs.List.{list_all, range_with_len};
@@ -10,9 +12,9 @@ ghost use Rattle.admission.specs.Histories.{IsLegal, booked_after, state_after};
 ghost use Rattle.day_run.specs.Balanced.{share_of};
 ghost use Rattle.day_run.specs.Clients.{after_open};
 ghost use Rattle.day_run.specs.DayLaws.{AreClients, IsClient, IsDrawnTurn, IsFairLine, IsLink};
-ghost use Rattle.day_run.specs.DayLaws.{IsOfferTold, IsSoundSeat};
+ghost use Rattle.day_run.specs.DayLaws.{IsOfferTold, IsSoundClient};
 ghost use Rattle.day_run.specs.Days.{AreRun, IsDay, IsFaulty, IsLine, Link, Moment, booked_up_to};
-ghost use Rattle.day_run.specs.Days.{last_journal, first_moment, rest_at, seat_at, sent_up_to};
+ghost use Rattle.day_run.specs.Days.{last_journal, first_moment, rest_at, state_at, sent_up_to};
 ghost use Rattle.day_run.specs.FairDays.{IsFair, IsTurn, Turn};
 ghost use Rattle.day_run.specs.declared.scripts.Script.{Script};
 ghost use Rattle.day_run.specs.Lines.{lines_of_script};
@@ -100,7 +102,7 @@ pub fn law_script_lines()
 /// A look changes no client, no booking and no slot, only the journal; an offer changes nothing.
 pub fn law_looks()
     ensures look { (link : Link) (slot : ℕ) (old new : Moment) (text : List ℕ) →
-        IsLine link (Lines.Look slot) old new text → (new.seats ≡ old.seats)
+        IsLine link (Lines.Look slot) old new text → (new.states ≡ old.states)
         × (new.heard ≡ old.heard) × (state_after new.entries ≡ state_after old.entries) }
     ensures offer { (link : Link) (client source buffer delay wait : ℕ) (old new : Moment)
         (text : List ℕ) → IsLine link (Lines.Offer client source buffer delay wait) old new text →
@@ -138,7 +140,7 @@ pub fn law_end()
         (moment : Moment) → AreClients lines → AreLines sources lines →
         AreRun link lines texts first_moment moment → moment.heard < slot →
         booked_after (last_journal moment) slot
-        ≡ sum_by (share_of slot) (map after_open moment.seats) }
+        ≡ sum_by (share_of slot) (map after_open moment.states) }
 {}
 
 /// After lines of a script each client goes on soundly: a play is sent by the plan of what was left
@@ -146,15 +148,15 @@ pub fn law_end()
 /// whole frames and reports.
 pub fn law_clients()
     ensures { (link : Link) (lines : List Line) (texts : List (List ℕ)) (moment : Moment)
-        (client : ℕ) → IsLink link → AreClients lines → AreLines (length link.tracks) lines →
+        (client : ℕ) → IsLink link → AreClients lines → AreLines (length link.reels) lines →
         AreRun link lines texts first_moment moment → client < 256 →
-        IsSoundSeat moment.heard (seat_at moment client) }
+        IsSoundClient moment.heard (state_at moment client) }
 {}
 
 /// A script has one text and one journal.
 pub fn law_one_day()
     ensures { (link : Link) (lines : List Line) (text other : List ℕ)
         (journal others : List Entry) → IsLink link → AreClients lines →
-        AreLines (length link.tracks) lines → IsDay link lines text journal →
+        AreLines (length link.reels) lines → IsDay link lines text journal →
         IsDay link lines other others → (text ≡ other) × (journal ≡ others) }
 {}

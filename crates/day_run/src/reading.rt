@@ -43,10 +43,9 @@ pub fn read_script(alloc: Global, text: &[u8]) -> Result<Script, ScriptRefused>
         if number == MOST_LINES {
             return Err(ScriptRefused::BadScript { line: number + 1 });
         }
-        match draft.read(line, &mut words) {
-            Ok(true) => {}
-            Ok(false) => return Err(ScriptRefused::BadScript { line: number + 1 }),
-            Err(NoMemory) => return Err(ScriptRefused::NoMemory),
+        let stands = draft.read(line, &mut words)?;
+        if !stands {
+            return Err(ScriptRefused::BadScript { line: number + 1 });
         }
         number += 1;
         rest = next;

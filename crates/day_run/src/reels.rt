@@ -4,8 +4,8 @@ ghost use Rattle.std.specs.Prelude.{ℕ, ◌≡◌, ◌^◌, ◌≤◌, ◌<◌,
 ghost use Rattle.film_frames.specs.Tracks.{framed_bytes};
 ghost use Rattle.film_run.specs.Units.{IsTrace};
 ghost use Rattle.day_run.specs.Reels.{reel_pieces, reel_sizes, sending_pieces};
-ghost use Rattle.day_run.specs.Tracks.{reel_track, reel_units};
-ghost use Rattle.day_run.specs.Seats.{trace_track};
+ghost use Rattle.day_run.specs.ReelContents.{reel_content, reel_units};
+ghost use Rattle.day_run.specs.ClientStates.{trace_content};
 
 use crate::rolls::Rolled;
 use film_frames::{Frames, Part, Stored, TraceTrack, Track, law_piece_sizes};
@@ -54,8 +54,8 @@ impl<'s> Reel<'s> {
     pub(crate) fn trace(alloc: Global, sizes: &'s [u64]) -> Result<Reel<'s>, NoMemory>
         requires { IsTrace sizes.now }
         ensures sizes { IfOk result (λ reel. reel_sizes reel ≡ sizes.now) }
-        ensures track { IfOk result (λ reel. (slot_units : ℕ) →
-            reel_track slot_units reel ≡ trace_track slot_units sizes.now) }
+        ensures content { IfOk result (λ reel. (slot_units : ℕ) →
+            reel_content slot_units reel ≡ trace_content slot_units sizes.now) }
     {
         let track = TraceTrack::new(Vec::from_slice(alloc, sizes)?)?;
         let sizes = Trace::new(sizes);
@@ -80,7 +80,7 @@ impl<'s> Reel<'s> {
     }
 
     /// All of it as a track.
-    pub(crate) fn sending(&self) -> Sending<'_>
+    pub(crate) fn as_sending(&self) -> Sending<'_>
         requires { 0 < length (reel_sizes self.now) }
         ensures pieces { sending_pieces result ≡ reel_pieces self.now }
         ensures all { length (framed_bytes (reel_pieces self.now)) ≡ sum (reel_sizes self.now) }

@@ -1,3 +1,5 @@
+//! A trace that is played, with its track.
+
 ghost use Rattle.std.specs.Prelude.{◌≡◌};
 
 use film_frames::TraceTrack;

@@ -1,22 +1,24 @@
 //! A day as it runs: what clients ask and slots, one after the other, on one book.
 
 ghost use Rattle.std.specs.Prelude.{◌≡◌, ◌-◌, ◌*◌, ◌^◌, ◌≤◌, ◌<◌, length, map, min, IfOk, OnOk};
+ghost use Rattle.admission.specs.Histories.{IsLegal};
+ghost use Rattle.admission.specs.Books.{places_taken};
 ghost use Rattle.day_run.specs.Clients.{IsPlanFor, IsRest, rest_of};
 ghost use Rattle.day_run.specs.Days.{at_slot, booked_up_to, last_journal, first_moment, rest_at};
-ghost use Rattle.day_run.specs.Days.{seat_at, sent_up_to};
+ghost use Rattle.day_run.specs.Days.{state_at, sent_up_to};
 ghost use Rattle.day_run.specs.Days.{IsAsked, IsLookLine, IsOfferLine, IsPauseLine, IsPlanned};
 ghost use Rattle.day_run.specs.Days.{IsPlayLine, IsResumeLine};
 ghost use Rattle.day_run.specs.FairDays.{most_up_to};
 ghost use Rattle.day_run.specs.Runners.{IsKept, IsRunner, IsWithinRanges, link_on, moment_of};
 ghost use Rattle.day_run.specs.Runners.{offer_lines, told_text};
-ghost use Rattle.day_run.specs.Tracks.{reel_track};
+ghost use Rattle.day_run.specs.ReelContents.{reel_content};
 
 use crate::all_clients::{end_each, idle_clients, step_clients};
 use crate::beginnings::{begin_play, plan_rest, reel_at, start_of, whole_of};
 use crate::clients::{Client, Rest, Which};
 use crate::reels::Reel;
 use crate::sums::booked_between;
-use admission::{Book, Full};
+use admission::{Book, Entry, Full};
 use early_start::Offers;
 use plan_cert::Plan;
 use slot_calendar::Profile;
@@ -78,7 +80,7 @@ impl<'r> Runner<'r> {
           steps = profile;
           limit = limit;
           slot_units = slot_units;
-          tracks = map (reel_track slot_units) reels.entry.now;
+          reels = map (reel_content slot_units) reels.entry.now;
         }) }
         ensures heard { IfOk result (λ runner. runner.heard ≡ 0) }
         ensures reels { IfOk result (λ runner. runner.reels.now ≡ reels.entry.now) }
@@ -112,7 +114,7 @@ impl<'r> Runner<'r> {
         ensures heard { OnOk result (self.new.heard ≡ self.old.heard) }
         ensures line { IfOk result (λ told.
             IsPlayLine (link_on self.old) client (rest_at (link_on self.old) source buffer delay)
-            (seat_at (moment_of self.old) client) (moment_of self.old) (moment_of self.new)
+            (state_at (moment_of self.old) client) (moment_of self.old) (moment_of self.new)
             (told_text self.new.book.entries told)) }
     {
         if self.clients[client as usize].is_busy() {
@@ -131,10 +133,10 @@ impl<'r> Runner<'r> {
         ensures kept { OnOk result (IsKept self.old self.new) }
         ensures heard { OnOk result (self.new.heard ≡ self.old.heard) }
         ensures line { IfOk result (λ told.
-            IsResumeLine (link_on self.old) client (seat_at (moment_of self.old) client)
+            IsResumeLine (link_on self.old) client (state_at (moment_of self.old) client)
             (moment_of self.old) (moment_of self.new) (told_text self.new.book.entries told)) }
     {
-        match self.clients[client as usize].left() {
+        match self.clients[client as usize].rest_left() {
             Some(rest) => self.ask(alloc, client, rest),
             None => Ok(Told::State),
         }
@@ -195,7 +197,7 @@ impl<'r> Runner<'r> {
         ensures runner { IsRunner self.new }
         ensures kept { IsKept self.old self.new }
         ensures heard { self.new.heard ≡ self.old.heard }
-        ensures line { IsPauseLine (link_on self.old) client (seat_at (moment_of self.old) client)
+        ensures line { IsPauseLine (link_on self.old) client (state_at (moment_of self.old) client)
             (moment_of self.old) (moment_of self.new) (told_text self.new.book.entries result) }
     {
         match self.clients[client as usize].pause() {
@@ -283,5 +285,22 @@ impl<'r> Runner<'r> {
         ensures journal { self.new.book.entries ≡ last_journal (moment_of self.old) }
     {
         end_each(&mut self.book, &mut self.clients, Which::Open);
+    }
+
+    /// The entries of its journal.
+    pub(crate) fn into_entries(self) -> Vec<Entry>
+        ensures value { result.items ≡ self.entry.book.entries }
+        ensures legal { IsLegal self.entry.book.steps self.entry.book.entries }
+        ensures within { places_taken self.entry.book.entries ≤ self.entry.book.limit }
+        ensures few { self.entry.book.limit ≤ 1048576 }
+    {
+        let Runner {
+            reels: _,
+            slot_units: _,
+            book,
+            clients: _,
+            heard: _,
+        } = self;
+        book.into_entries()
     }
 }

@@ -7,6 +7,9 @@ ghost use Rattle.day_run.specs.Lines.{texts_at};
 ghost use Rattle.day_run.specs.Sayings.{IsAskedInRange, IsInRange, asked_in, film_in, number_in};
 ghost use Rattle.day_run.specs.Sayings.{client_in, pair_in, play_in, offer_in, saying_in};
 
+use crate::all_clients::CLIENTS;
+use admission::LATEST_SLOT;
+use early_start::MAX_WAIT;
 use vod_base::read_number;
 
 /// What a play or an offer asks for; its film or trace is the line's fourth word.
@@ -68,7 +71,7 @@ fn number_in(word: &[u8], least: u64, most: u64) -> Option<u64>
 fn client_in(word: &[u8]) -> Option<u8>
     ensures { result ≡ client_in word.now }
 {
-    let number = number_in(word, 0, 255)?;
+    let number = number_in(word, 0, CLIENTS as u64 - 1)?;
     Some(number as u8)
 }
 
@@ -116,11 +119,11 @@ fn pair_in(verb: &[u8], word: &[u8]) -> Option<Saying>
         return Some(Saying::Resume(client));
     }
     if is_text(verb, b"look") {
-        let slot = number_in(word, 0, 1 << 62)?;
+        let slot = number_in(word, 0, LATEST_SLOT)?;
         return Some(Saying::Look(slot));
     }
     if is_text(verb, b"slot") {
-        let slot = number_in(word, 1, 1 << 62)?;
+        let slot = number_in(word, 1, LATEST_SLOT)?;
         return Some(Saying::Slot(slot));
     }
     None
@@ -149,6 +152,6 @@ fn offer_in(verb: &[u8], asked: Option<Asked>, wait: &[u8]) -> Option<Saying>
         return None;
     }
     let asked = asked?;
-    let wait = number_in(wait, 0, 255)?;
+    let wait = number_in(wait, 0, MAX_WAIT)?;
     Some(Saying::Offer(asked, wait))
 }

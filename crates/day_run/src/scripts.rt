@@ -1,5 +1,8 @@
+//! The lines of a script, what it names, and why a text is none.
+
 use std::error::Error;
 use std::fmt;
+use vod_base::NoMemory;
 
 /// A line of a script. Clients are 0 to 255.
 #[derive(Clone, Copy, Debug, PartialEq, Eq)]
@@ -78,3 +81,14 @@ impl fmt::Display for ScriptRefused {
 }
 
 impl Error for ScriptRefused {}
+
+impl From<NoMemory> for ScriptRefused {
+    ghost use Rattle.std.specs.Prelude.{◌≡◌};
+    ghost use Rattle.day_run.specs.declared.scripts.ScriptRefused.TheVariants.{NoMemory as NoRoom};
+
+    ghost from_gives = { λ _ refused. refused ≡ NoRoom };
+
+    fn from(_want: NoMemory) -> ScriptRefused {
+        ScriptRefused::NoMemory
+    }
+}

@@ -1,9 +1,9 @@
 //! A script's films and traces, made ready to be played.
 
 ghost use Rattle.std.specs.Prelude.{ℕ, ◌≡◌, length, map, IfOk};
-ghost use Rattle.day_run.specs.Seats.{track_of};
+ghost use Rattle.day_run.specs.ClientStates.{source_content};
 ghost use Rattle.day_run.specs.Sources.{AreSources, IsSource};
-ghost use Rattle.day_run.specs.Tracks.{reel_track};
+ghost use Rattle.day_run.specs.ReelContents.{reel_content};
 
 use crate::reels::{Reel, Source};
 use std::alloc::Global;
@@ -13,8 +13,8 @@ use vod_base::NoMemory;
 pub(crate) fn reels_of<'s>(alloc: Global, sources: &'s [Source]) -> Result<Vec<Reel<'s>>, NoMemory>
     requires { AreSources sources.now }
     ensures count { IfOk result (λ reels. length reels.items ≡ length sources.entry.now) }
-    ensures tracks { IfOk result (λ reels. (slot_units : ℕ) →
-        map (reel_track slot_units) reels.items ≡ map (track_of slot_units) sources.entry.now) }
+    ensures contents { IfOk result (λ reels. (slot_units : ℕ) →
+        map (reel_content slot_units) reels.items ≡ map (source_content slot_units) sources.entry.now) }
 {
     let mut reels = Vec::with_capacity(alloc, sources.len())?;
     for source in sources {
@@ -27,7 +27,7 @@ pub(crate) fn reels_of<'s>(alloc: Global, sources: &'s [Source]) -> Result<Vec<R
 fn reel_of<'s>(alloc: Global, source: &'s Source) -> Result<Reel<'s>, NoMemory>
     requires { IsSource source.now }
     ensures { IfOk result (λ reel. (slot_units : ℕ) →
-        reel_track slot_units reel ≡ track_of slot_units source.entry.now) }
+        reel_content slot_units reel ≡ source_content slot_units source.entry.now) }
 {
     match source {
         Source::Film(stored) => Ok(Reel::Film(stored)),

@@ -1,12 +1,10 @@
 //! A text as its lines, and a line as its words.
 
-ghost use Rattle.std.specs.Prelude.{◌≡◌, ◌≢◌, ◌==◌, ◌∷◌, ◌<◌, [], All, length, MatchOption, OnOk};
-ghost use Rattle.std.specs.Prelude.{IfNone, IfSome, map};
+ghost use Rattle.std.specs.Prelude.{◌≡◌, ◌∷◌, ◌<◌, [], length, OnOk, IfNone, IfSome};
 ghost use Rattle.std.specs.List.{slice_split};
-ghost use Rattle.plan_cert.specs.Reading.{IsCut};
 ghost use Rattle.day_run.specs.Lines.{is_space, lines_of_script, texts_at, without_return};
 
-use vod_base::NoMemory;
+use vod_base::{NoMemory, split_at_first};
 
 /// The first line of a text, and the text after it. A line is ended by LF or CR LF, the last one
 /// also by the end of the text; where no byte stands, no line begins.
@@ -19,7 +17,7 @@ pub(crate) fn first_line(text: &[u8]) -> Option<(&[u8], &[u8])>
     if text.is_empty() {
         return None;
     }
-    match cut(text, b'\n') {
+    match split_at_first(text, b'\n') {
         Some((line, rest)) => Some((without_return(line), rest)),
         None => Some((text, &[])),
     }
@@ -31,25 +29,12 @@ pub(crate) fn split_words<'a>(line: &'a [u8], words: &mut Vec<&'a [u8]>) -> Resu
 {
     words.clear();
     let mut rest = line;
-    while let Some((word, after)) = cut(rest, b' ') {
+    while let Some((word, after)) = split_at_first(rest, b' ') {
         words.push(word)?;
         rest = after;
     }
     words.push(rest)?;
     Ok(())
-}
-
-/// The part before the first byte `c`, and the part after it.
-fn cut(text: &[u8], c: u8) -> Option<(&[u8], &[u8])>
-    ensures { MatchOption result (All (λ b. b ≢ c) text.now)
-        (λ parts. IsCut c text.now parts.0.now parts.1.now) }
-{
-    for at in 0..text.len() {
-        if text[at] == c {
-            return Some((&text[..at], &text[at + 1..]));
-        }
-    }
-    None
 }
 
 /// A line that LF ended, without a CR at its end.

@@ -26,14 +26,7 @@ pub(crate) fn booked_between(book: &Book, from: u64, to: u64) -> (u64, u64)
     for slot in from + 1..end + 1 {
         let here = calendar.booked_bytes(slot);
         booked += here;
-        peak = greater(peak, here);
+        peak = peak.max(here);
     }
     (booked, peak)
-}
-
-/// The greater of two numbers of bytes.
-fn greater(one: u64, other: u64) -> u64
-    ensures { result ≡ max one other }
-{
-    one.max(other)
 }

@@ -1,7 +1,6 @@
 //! The printed lines of a day that are no entries of the journal.
 
-ghost use Rattle.std.specs.Prelude.{◌≡◌, ◌++◌, OnOk, decimal, flat_map};
-ghost use Rattle.report.specs.Fields.{field};
+ghost use Rattle.std.specs.Prelude.{◌≡◌, ◌++◌, OnOk, flat_map};
 ghost use Rattle.day_run.specs.Prints.{fair_text, fault_text, fault_words, full_text, made_words};
 ghost use Rattle.day_run.specs.Prints.{offer_text, slot_text, slot_words, start_words, state_text};
 ghost use Rattle.day_run.specs.Prints.{sum_words, tried_text, turn_words};
@@ -9,7 +8,7 @@ ghost use Rattle.day_run.specs.Prints.{sum_words, tried_text, turn_words};
 use crate::counts::{Counts, Made};
 use admission::Full;
 use early_start::{Offers, Tried};
-use itoa::Buffer;
+use report::{push, push_field};
 use vod_base::NoMemory;
 use wire_curve::CurveFault;
 
@@ -20,8 +19,8 @@ pub(crate) fn push_state(out: &mut Vec<u8>) -> Result<(), NoMemory>
     push(out, b"refused state\n")
 }
 
-#[tactic(auto, using(std::proofs::lemmas::List::append_assoc))]
 /// Appends the line of curves that are refused.
+#[tactic(auto, using(std::proofs::lemmas::List::append_assoc))]
 pub(crate) fn push_fault(out: &mut Vec<u8>, fault: CurveFault) -> Result<(), NoMemory>
     ensures { OnOk result (out.new.items ≡ out.old.items ++ (fault_text fault)) }
 {
@@ -29,8 +28,8 @@ pub(crate) fn push_fault(out: &mut Vec<u8>, fault: CurveFault) -> Result<(), NoM
     push(out, b"\n")
 }
 
-#[tactic(auto, using(std::proofs::lemmas::List::append_assoc))]
 /// Appends the line of a full journal.
+#[tactic(auto, using(std::proofs::lemmas::List::append_assoc))]
 pub(crate) fn push_full(out: &mut Vec<u8>, full: Full) -> Result<(), NoMemory>
     ensures { OnOk result (out.new.items ≡ out.old.items ++ (full_text full)) }
 {
@@ -39,8 +38,8 @@ pub(crate) fn push_full(out: &mut Vec<u8>, full: Full) -> Result<(), NoMemory>
     push(out, b"\n")
 }
 
-#[tactic(auto, using(std::proofs::lemmas::List::append_assoc))]
 /// Appends the line of a slot.
+#[tactic(auto, using(std::proofs::lemmas::List::append_assoc))]
 pub(crate) fn push_slot(
     out: &mut Vec<u8>,
     slot: u64,
@@ -55,9 +54,9 @@ pub(crate) fn push_slot(
     push(out, b"\n")
 }
 
-#[tactic(auto, using(std::proofs::lemmas::List::append_assoc))]
 /// Appends the lines of an offer: one for each start that was tried in vain, and one for what is
 /// offered.
+#[tactic(auto, using(std::proofs::lemmas::List::append_assoc))]
 pub(crate) fn push_offer(out: &mut Vec<u8>, offers: &Offers) -> Result<(), NoMemory>
     ensures { OnOk result (out.new.items ≡ out.old.items ++ (offer_text offers.now)) }
 {
@@ -67,8 +66,8 @@ pub(crate) fn push_offer(out: &mut Vec<u8>, offers: &Offers) -> Result<(), NoMem
     push(out, b"\n")
 }
 
-#[tactic(auto, using(std::proofs::lemmas::List::append_assoc))]
 /// Appends the line of a fair.
+#[tactic(auto, using(std::proofs::lemmas::List::append_assoc))]
 pub(crate) fn push_fair(out: &mut Vec<u8>, counts: &Counts, made: &Made) -> Result<(), NoMemory>
     ensures { OnOk result (out.new.items ≡ out.old.items ++ fair_text counts.now made.now) }
 {
@@ -77,34 +76,8 @@ pub(crate) fn push_fair(out: &mut Vec<u8>, counts: &Counts, made: &Made) -> Resu
     push(out, b"\n")
 }
 
-/// Appends a text.
-fn push(out: &mut Vec<u8>, text: &[u8]) -> Result<(), NoMemory>
-    ensures { OnOk result (out.new.items ≡ out.old.items ++ text.now) }
-{
-    match out.extend_from_slice(text) {
-        Ok(()) => Ok(()),
-        Err(_) => Err(NoMemory),
-    }
-}
-
-/// Appends a number in decimal, without leading zeros.
-fn push_number(out: &mut Vec<u8>, number: u64) -> Result<(), NoMemory>
-    ensures { OnOk result (out.new.items ≡ out.old.items ++ (decimal number)) }
-{
-    push(out, Buffer::new().format(number).as_bytes())
-}
-
-#[tactic(auto, using(std::proofs::lemmas::List::append_assoc))]
-/// Appends a label and a number.
-fn push_field(out: &mut Vec<u8>, label: &[u8], number: u64) -> Result<(), NoMemory>
-    ensures { OnOk result (out.new.items ≡ out.old.items ++ (field label.now number)) }
-{
-    push(out, label)?;
-    push_number(out, number)
-}
-
-#[tactic(auto, using(std::proofs::lemmas::List::append_assoc))]
 /// Appends the name of the curves' refusal and its numbers.
+#[tactic(auto, using(std::proofs::lemmas::List::append_assoc))]
 fn push_fault_words(out: &mut Vec<u8>, fault: CurveFault) -> Result<(), NoMemory>
     ensures { OnOk result (out.new.items ≡ out.old.items ++ (fault_words fault)) }
 {
@@ -119,8 +92,8 @@ fn push_fault_words(out: &mut Vec<u8>, fault: CurveFault) -> Result<(), NoMemory
     }
 }
 
-#[tactic(auto, using(std::proofs::lemmas::List::append_assoc))]
 /// Appends the line of a start that was tried in vain.
+#[tactic(auto, using(std::proofs::lemmas::List::append_assoc))]
 fn push_tried(out: &mut Vec<u8>, tried: &Tried) -> Result<(), NoMemory>
     ensures { OnOk result (out.new.items ≡ out.old.items ++ (tried_text tried.now)) }
 {
@@ -151,8 +124,8 @@ fn push_start(out: &mut Vec<u8>, start: Option<u64>) -> Result<(), NoMemory>
     }
 }
 
-#[tactic(auto, using(std::proofs::lemmas::List::append_assoc), unfolding(crate::specs::Prints::made_words))]
 /// Appends what was made in a fair.
+#[tactic(auto, using(std::proofs::lemmas::List::append_assoc), unfolding(crate::specs::Prints::made_words))]
 fn push_made(out: &mut Vec<u8>, made: &Made) -> Result<(), NoMemory>
     ensures { OnOk result (out.new.items ≡ out.old.items ++ made_words made.now) }
 {
@@ -161,8 +134,8 @@ fn push_made(out: &mut Vec<u8>, made: &Made) -> Result<(), NoMemory>
     push_field(out, b" halted=", made.halted)
 }
 
-#[tactic(auto, using(std::proofs::lemmas::List::append_assoc), unfolding(crate::specs::Prints::sum_words))]
 /// Appends what a fair's slots brought.
+#[tactic(auto, using(std::proofs::lemmas::List::append_assoc), unfolding(crate::specs::Prints::sum_words))]
 fn push_sums(out: &mut Vec<u8>, counts: &Counts) -> Result<(), NoMemory>
     ensures { OnOk result (out.new.items ≡ out.old.items ++ sum_words counts.now) }
 {
@@ -171,8 +144,8 @@ fn push_sums(out: &mut Vec<u8>, counts: &Counts) -> Result<(), NoMemory>
     push_field(out, b" peak=", counts.peak)
 }
 
-#[tactic(auto, using(std::proofs::lemmas::List::append_assoc), unfolding(crate::specs::Prints::turn_words))]
 /// Appends the turns of a fair and what was made in them.
+#[tactic(auto, using(std::proofs::lemmas::List::append_assoc), unfolding(crate::specs::Prints::turn_words))]
 fn push_turns(out: &mut Vec<u8>, counts: &Counts, made: &Made) -> Result<(), NoMemory>
     ensures { OnOk result (out.new.items ≡ out.old.items ++ turn_words counts.now made.now) }
 {
@@ -180,8 +153,8 @@ fn push_turns(out: &mut Vec<u8>, counts: &Counts, made: &Made) -> Result<(), NoM
     push_made(out, made)
 }
 
-#[tactic(auto, using(std::proofs::lemmas::List::append_assoc), unfolding(crate::specs::Prints::slot_words))]
 /// Appends how often the journal was full, the last slot, and what the slots brought.
+#[tactic(auto, using(std::proofs::lemmas::List::append_assoc), unfolding(crate::specs::Prints::slot_words))]
 fn push_slots(out: &mut Vec<u8>, counts: &Counts) -> Result<(), NoMemory>
     ensures { OnOk result (out.new.items ≡ out.old.items ++ slot_words counts.now) }
 {

@@ -1,6 +1,6 @@
 use Rattle.std.proofs.Common.{◌<◌, length, ◌∙◌, arith}
-use Rattle.day_run.specs.Clients.{halt_for, seat_for}
-use Rattle.day_run.proofs.Sweeps.{ended-next, ended-seats, undone-next}
+use Rattle.day_run.specs.Clients.{halt_for, state_for}
+use Rattle.day_run.proofs.Sweeps.{ended-next, ended-states, undone-next}
 use Rattle.day_run.proofs.all_clients.end_each.Goals as goal
 
 pub loop-client-preserved : goal.loop-client-preserved
@@ -22,10 +22,10 @@ loop-client-preserved c =
       ended = λ slot timed.
           ended-next
           none halt inside (λ t. c.halt_of-halt.ensures.halt slot i (inv.going.each i none inside) t)
-          (λ t. c.halt_of-halt.ensures.seat slot (inv.going.each i none inside) t) done.entries done.ended done.left (inv.ended slot timed);
+          (λ t. c.halt_of-halt.ensures.state slot (inv.going.each i none inside) t) done.entries done.ended done.left (inv.ended slot timed);
     }
 
-pub returns-clause-seats : goal.returns-clause-seats
-returns-clause-seats c = λ slot timed.
-    ended-seats
+pub returns-clause-states : goal.returns-clause-states
+returns-clause-states c = λ slot timed.
+    ended-states
     (omega arith) (c.loop-client.invariant.ended slot timed)

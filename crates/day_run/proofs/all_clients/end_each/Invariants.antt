@@ -1,6 +1,6 @@
 use Rattle.std.proofs.Common.{◌≡◌, ℕ}
 use Rattle.admission.specs.Histories.{state_after}
-use Rattle.day_run.specs.Clients.{AreBooked, AreGoing, AreTimed, AreUndone, halt_for, seat_for}
+use Rattle.day_run.specs.Clients.{AreBooked, AreGoing, AreTimed, AreUndone, halt_for, state_for}
 use Rattle.day_run.proofs.Sweeps.{AreEndedTo}
 use Rattle.day_run.proofs.all_clients.end_each.Given as goal
 
@@ -13,5 +13,5 @@ invariant-loop-client l = record {
   undone : AreUndone l.client l.clients;
   limit : l.book.limit ≡ l.initial.book.limit;
   ended : (slot : ℕ) → AreTimed slot l.initial.clients
-      → AreEndedTo (halt_for l.which slot) (seat_for l.which slot) slot l.client l.initial.book.entries l.book.entries l.initial.clients l.clients;
+      → AreEndedTo (halt_for l.which slot) (state_for l.which slot) slot l.client l.initial.book.entries l.book.entries l.initial.clients l.clients;
 }

@@ -3,8 +3,8 @@ use Rattle.day_run.specs.declared.reels.Reel.{Reel}
 use Rattle.day_run.specs.declared.scripts.Line.{Line}
 use Rattle.day_run.specs.Days.{Link, link_of}
 use Rattle.day_run.specs.Runners.{HasRun, link_on, moment_of}
-use Rattle.day_run.specs.Seats.{Track}
-use Rattle.day_run.specs.Tracks.{reel_track}
+use Rattle.day_run.specs.ClientStates.{ReelContent}
+use Rattle.day_run.specs.ReelContents.{reel_content}
 use Rattle.day_run.proofs.DayRuns.{day-of}
 use Rattle.day_run.proofs.days.run_script.Goals as goal
 
@@ -15,9 +15,9 @@ returns-clause-day c =
     let here = link_on c.in_ok-runner.runner in
     let m = moment_of c.run_lines.new.runner in
     let text = c.run_lines.new.text.items in
-    let on : List Track → Link = λ ts. record { steps = c.args.profile; limit = c.args.limit; slot_units = units; tracks = ts } in
+    let on : List ReelContent → Link = λ ts. record { steps = c.args.profile; limit = c.args.limit; slot_units = units; reels = ts } in
     let R : List Line → Type 0 = λ l. HasRun here l text m in
     let same : here ≡ link =
-    c.in_ok-runner.ensures.link ∙ ap (λ (l : List Reel). on (map (reel_track units) l)) c.deref.ensures.value ∙ ap on (c.in_ok-reels.ensures.tracks units) in
+    c.in_ok-runner.ensures.link ∙ ap (λ (l : List Reel). on (map (reel_content units) l)) c.deref.ensures.value ∙ ap on (c.in_ok-reels.ensures.contents units) in
     day-of same
     (subst R c.deref-2.ensures.value c.in_ok-run_lines.ensures.run) c.in_ok-run_end.ensures.text (c.into_entries.ensures.value ∙ c.in_ok-run_end.ensures.journal)

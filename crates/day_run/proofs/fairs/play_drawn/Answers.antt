@@ -1,6 +1,6 @@
 use Rattle.std.proofs.Common.{◌+◌, ◌%◌, ap, ◌∙◌}
 use Rattle.film_make.specs.Generator.{words_left}
-use Rattle.day_run.specs.Days.{seat_at}
+use Rattle.day_run.specs.Days.{state_at}
 use Rattle.day_run.specs.Runners.{link_on, moment_of}
 use Rattle.day_run.proofs.FairTurns.{line-drawn, ok-of, second-word, third-word, three-left}
 use Rattle.day_run.proofs.fairs.play_drawn.Goals as goal
@@ -10,7 +10,7 @@ returns-clause-line c =
     let w = words_left c.args.draws.now in
     let one = c.draw-source.ensures.left in
     let two = c.draw.ensures.left in
-    line-drawn c.play.result (link_on c.args.runner.now) c.args.client (seat_at (moment_of c.args.runner.now) c.args.client) (moment_of c.args.runner.now) _ _
+    line-drawn c.play.result (link_on c.args.runner.now) c.args.client (state_at (moment_of c.args.runner.now) c.args.client) (moment_of c.args.runner.now) _ _
     c.draw-source.ensures.value
     (ap (λ n. 16384 + n) (c.from-buffer.ensures ∙ c.draw.ensures.value ∙ ap (λ n. n % 16384) (second-word w _ one)))
     (c.from-delay.ensures ∙ c.draw-2.ensures.value ∙ ap (λ n. n % 26) (third-word w _ _ one two)) c.play.ensures.line

@@ -1,7 +1,7 @@
 use Rattle.std.proofs.Common.{ap}
 use Rattle.film_make.specs.Generator.{words_left}
 use Rattle.day_run.specs.declared.clients.Client.{Client}
-use Rattle.day_run.specs.Clients.{seat_of}
+use Rattle.day_run.specs.Clients.{state_of}
 use Rattle.day_run.specs.FairDays.{words_for}
 use Rattle.day_run.proofs.FairTurns.{no-words}
 use Rattle.day_run.proofs.fairs.turn_client.Goals as goal
@@ -9,14 +9,14 @@ use Rattle.day_run.proofs.fairs.turn_client.Goals as goal
 pub returns-in-Playing-clause-left : goal.returns-in-Playing-clause-left
 returns-in-Playing-clause-left c =
     no-words c.args.runner.now.clients.items c.args.client c.requires.runner.count c.ranges.client.fits c.index.ensures
-    (ap (λ (x : Client). words_for (seat_of x)) c.in-Playing.is)
+    (ap (λ (x : Client). words_for (state_of x)) c.in-Playing.is)
 
 pub returns-in-Pausing-clause-left : goal.returns-in-Pausing-clause-left
 returns-in-Pausing-clause-left c =
     no-words c.args.runner.now.clients.items c.args.client c.requires.runner.count c.ranges.client.fits c.index.ensures
-    (ap (λ (x : Client). words_for (seat_of x)) c.in-Pausing.is)
+    (ap (λ (x : Client). words_for (state_of x)) c.in-Pausing.is)
 
 pub returns-in_ok-resume-in-Paused-clause-left : goal.returns-in_ok-resume-in-Paused-clause-left
 returns-in_ok-resume-in-Paused-clause-left c =
     no-words c.args.runner.now.clients.items c.args.client c.requires.runner.count c.ranges.client.fits c.index.ensures
-    (ap (λ (x : Client). words_for (seat_of x)) c.in-Paused.is)
+    (ap (λ (x : Client). words_for (state_of x)) c.in-Paused.is)

@@ -1,4 +1,4 @@
-use Rattle.std.proofs.Common.{◌≡◌, ◌≤◌, [], length, drop, ◌∙◌, arith, sym, ap, inl, inr}
+use Rattle.std.proofs.Common.{◌≡◌, ◌≤◌, [], length, drop, ◌∙◌, false, true, arith, sym, ap, inl, inr}
 use Rattle.std.proofs.lemmas.List.{length-drop, take_all}
 use Rattle.day_run.specs.Lines.{lines_of_script}
 use Rattle.day_run.specs.Readings.{lines_read, nothing_read, reading_of}
@@ -12,15 +12,17 @@ returns-then-number-eq-MOST_LINES-clause-refused c =
     next-line (lines_of_script c.args.text.now) c.loop-line.number c.in-Some.line.now (lines_of_script c.in-Some.next.now) (inv.left ∙ c.in-Some.ensures.some) in
     bad-next at inv.few inv.read (inl (omega arith))
 
-pub returns-in-Ok-false-clause-refused : goal.returns-in-Ok-false-clause-refused
-returns-in-Ok-false-clause-refused c =
+pub returns-then-not-stands-clause-refused : goal.returns-then-not-stands-clause-refused
+returns-then-not-stands-clause-refused c =
+    let stands : c.in_ok-stands.stands ≡ false = c.if-not-stands.true in
     let inv = c.loop-line.invariant in
     let at : NextLine (lines_of_script c.args.text.now) c.loop-line.number c.in-Some.line.now (lines_of_script c.in-Some.next.now) =
     next-line (lines_of_script c.args.text.now) c.loop-line.number c.in-Some.line.now (lines_of_script c.in-Some.next.now) (inv.left ∙ c.in-Some.ensures.some) in
-    bad-next at inv.few inv.read (inr (rw c.in-Ok-false.field-0-test at c.in-Ok-false.ensures.taken))
+    bad-next at inv.few inv.read (inr (rw stands at c.in_ok-stands.ensures.taken))
 
 pub loop-line-preserved : goal.loop-line-preserved
 loop-line-preserved c =
+    let stands : c.in_ok-stands.stands ≡ true = c.if-not-stands.false in
     let inv = c.loop-line.invariant in
     let at : NextLine (lines_of_script c.args.text.now) c.loop-line.number c.in-Some.line.now (lines_of_script c.in-Some.next.now) =
     next-line (lines_of_script c.args.text.now) c.loop-line.number c.in-Some.line.now (lines_of_script c.in-Some.next.now) (inv.left ∙ c.in-Some.ensures.some) in
@@ -28,8 +30,8 @@ loop-line-preserved c =
       few = omega arith;
       inside = at.inside;
       left = at.left;
-      read = read-next c.args.text.now at inv.read (rw c.in-Ok-true.field-0-test at c.in-Ok-true.ensures.taken);
-      draft = c.in-Ok-true.ensures.draft c.in-Ok-true.field-0-test;
+      read = read-next c.args.text.now at inv.read (rw stands at c.in_ok-stands.ensures.taken);
+      draft = c.in_ok-stands.ensures.draft stands;
     }
 
 pub returns-clause-script : goal.returns-clause-script

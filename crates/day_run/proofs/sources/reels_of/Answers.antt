@@ -1,7 +1,7 @@
 use Rattle.std.proofs.Common.{◌<◌, ◌∷◌, [], length, map, ap, ◌∙◌, arith}
 use Rattle.std.proofs.lemmas.List.{length-append, take_all}
-use Rattle.day_run.specs.Seats.{track_of}
-use Rattle.day_run.proofs.SourceTracks.{tracks-next}
+use Rattle.day_run.specs.ClientStates.{source_content}
+use Rattle.day_run.proofs.SourceReels.{contents-next}
 use Rattle.day_run.proofs.sources.reels_of.Goals as goal
 
 pub loop-source-preserved : goal.loop-source-preserved
@@ -13,10 +13,10 @@ loop-source-preserved c =
     let inside : i < length c.args.sources.now = omega arith in
     record {
       count = omega (arith, inv.count, ap length e, length-append c.loop-source.reels.items (reel ∷ []));
-      tracks = λ u. tracks-next u c.loop-source.reels.items reel c.args.sources.now i c.source-item.result inside e
-          (c.in_ok-reel_of.ensures u ∙ ap (track_of u) c.source-item.is) (inv.tracks u);
+      contents = λ u. contents-next u c.loop-source.reels.items reel c.args.sources.now i c.source-item.result inside e
+          (c.in_ok-reel_of.ensures u ∙ ap (source_content u) c.source-item.is) (inv.contents u);
     }
 
-pub returns-clause-tracks : goal.returns-clause-tracks
-returns-clause-tracks c = λ u.
-    c.loop-source.invariant.tracks u ∙ ap (map (track_of u)) (take_all c.loop-source.source-index c.args.sources.now (omega arith))
+pub returns-clause-contents : goal.returns-clause-contents
+returns-clause-contents c = λ u.
+    c.loop-source.invariant.contents u ∙ ap (map (source_content u)) (take_all c.loop-source.source-index c.args.sources.now (omega arith))

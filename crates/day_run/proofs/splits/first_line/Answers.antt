@@ -1,5 +1,6 @@
 use Rattle.std.proofs.Common.{◌==◌, ◌∷◌, length, sym, ap, ◌∙◌}
 use Rattle.day_run.specs.Lines.{lines_of_script}
+use Rattle.vod_base.proofs.FirstBytes.{none_is}
 use Rattle.day_run.proofs.Cuts.{script-cut, script-rest}
 use Rattle.day_run.proofs.splits.first_line.Goals as goal
 
@@ -10,4 +11,4 @@ returns-in-Some-clause-some c =
 
 pub returns-in-None-clause-some : goal.returns-in-None-clause-some
 returns-in-None-clause-some c =
-    script-rest c.args.text.now (λ e. cc (ap (λ t. length t == 0) e)) c.in-None.ensures
+    script-rest c.args.text.now (λ e. cc (ap (λ t. length t == 0) e)) (none_is 10 c.args.text.now c.in-None.ensures)

@@ -1,3 +1,4 @@
+use Rattle.vod_base.proofs.FirstBytes.{none_is}
 use Rattle.day_run.proofs.Cuts.{words-more, words-last}
 use Rattle.day_run.proofs.splits.split_words.Goals as goal
 
@@ -8,4 +9,4 @@ loop-word-preserved c =
 
 pub returns : goal.returns
 returns c =
-    words-last c.loop-word.words.items c.loop-word.rest c.in_ok-push-2.ensures.items c.in_default.ensures c.loop-word.invariant
+    words-last c.loop-word.words.items c.loop-word.rest c.in_ok-push-2.ensures.items (none_is 32 c.loop-word.rest.now c.in_default.ensures) c.loop-word.invariant

@@ -8,4 +8,4 @@ pub returns : goal.returns
 unfolding turn_words
 returns c =
     then_more c.push_made.result c.args.out.now.items (field (codes "fair turns=") c.args.counts.now.turns) (made_words c.args.made.now)
-    c.push_made.new.out.items c.in_ok-push_field.ensures c.push_made.ensures
+    c.push_made.new.out.items c.in_ok-push_field.ensures.whole c.push_made.ensures

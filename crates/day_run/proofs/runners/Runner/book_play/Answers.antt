@@ -6,11 +6,11 @@ use Rattle.admission.specs.Books.{Journal}
 use Rattle.admission.specs.Histories.{state_after}
 use Rattle.admission.specs.Machine.{CanHalt}
 use Rattle.day_run.specs.declared.clients.Client.TheVariants.{Playing}
-use Rattle.day_run.specs.Clients.{rest_of, seat_of}
+use Rattle.day_run.specs.Clients.{rest_of, state_of}
 use Rattle.day_run.specs.Days.{Moment}
 use Rattle.day_run.specs.Runners.{link_on, moment_of}
 use Rattle.day_run.proofs.DaySteps.{day-noted, day-played, played-now}
-use Rattle.day_run.proofs.LineSteps.{begun-timed, noted-play, seats-played, seats-same, told-full}
+use Rattle.day_run.proofs.LineSteps.{begun-timed, noted-play, states-played, states-same, told-full}
 use Rattle.day_run.proofs.runners.Runner.book_play.Goals as goal
 
 pub returns-in-Some-clause-runner : goal.returns-in-Some-clause-runner
@@ -46,11 +46,11 @@ returns-in-Some-clause-planned c =
     let late : slot ≡ old.heard = omega (arith, day.heard_fits) in
     let new : Moment = record {
       entries = c.play.new.self.entries;
-      seats = map seat_of (set old.clients.items c.args.client (Playing play));
+      states = map state_of (set old.clients.items c.args.client (Playing play));
       heard = old.heard;
     } in
-    let seats =
-    seats-played old.clients.items c.args.client play c.in-Some.ensures.some
+    let states =
+    states-played old.clients.items c.args.client play c.in-Some.ensures.some
     (c.begin_play-play.ensures.number ∙ made.place_is) c.begin_play-play.ensures.rest_is (c.begin_play-play.ensures.plan ∙ c.requires.kept)
     c.begin_play-play.ensures.start in
     record {
@@ -61,7 +61,7 @@ returns-in-Some-clause-planned c =
         answer = c.in-Ok.noted.answer;
         noted =
             noted-play c.args.plan c.in-Ok.noted.answer late c.from.ensures
-            made.answer_is made.place_is (ap (λ (j : Journal). j.entries) made.journal_is) seats refl;
+            made.answer_is made.place_is (ap (λ (j : Journal). j.entries) made.journal_is) states refl;
       });
     }
 
@@ -92,7 +92,7 @@ returns-in-None c =
           noted =
               noted-play c.args.plan
               c.in-Ok.noted.answer late c.from.ensures made.answer_is made.place_is y
-              (seats-same c.args.client (rest_of c.args.rest) c.args.plan (length old.book.entries) c.in-Ok.noted.answer c.in-None.ensures.none) refl;
+              (states-same c.args.client (rest_of c.args.rest) c.args.plan (length old.book.entries) c.in-Ok.noted.answer c.in-None.ensures.none) refl;
         });
       };
     }

@@ -1,14 +1,14 @@
 use Rattle.std.proofs.Common.{[], map, ap, ◌∙◌}
 use Rattle.admission.specs.Books.{Journal}
-use Rattle.day_run.specs.Clients.{seat_of}
+use Rattle.day_run.specs.Clients.{state_of}
 use Rattle.day_run.specs.Days.{Moment}
-use Rattle.day_run.proofs.LineSteps.{idle-seats}
+use Rattle.day_run.proofs.LineSteps.{idle-states}
 use Rattle.day_run.proofs.runners.Runner.new.Goals as goal
 
 pub returns-clause-begun : goal.returns-clause-begun
 returns-clause-begun c =
     let clients = c.in_ok-clients.clients in
-    let seats = map seat_of clients.items in
-    let made : (j : Journal) → Moment = λ j. record { entries = j.entries; seats = seats; heard = 0 } in
+    let states = map state_of clients.items in
+    let made : (j : Journal) → Moment = λ j. record { entries = j.entries; states = states; heard = 0 } in
     ap made c.in_ok-book.ensures
-    ∙ ap (λ l. record { entries = []; seats = l; heard = 0 }) (idle-seats clients.items c.in_ok-clients.ensures.count c.in_ok-clients.ensures.idle)
+    ∙ ap (λ l. record { entries = []; states = l; heard = 0 }) (idle-states clients.items c.in_ok-clients.ensures.count c.in_ok-clients.ensures.idle)

@@ -12,7 +12,7 @@ use Rattle.day_run.specs.Clients.{IsPlanFor, rest_of}
 use Rattle.day_run.specs.Days.{IsOfferLine, rest_at}
 use Rattle.day_run.specs.Prints.{offer_text}
 use Rattle.day_run.specs.Runners.{link_on, moment_of}
-use Rattle.day_run.specs.Seats.{Rest, Track, no_track, whole_rest}
+use Rattle.day_run.specs.ClientStates.{Rest, ReelContent, no_reel, whole_rest}
 use Rattle.day_run.proofs.runners.Runner.offer.Goals as goal
 
 pub returns-in_ok-offers-in-Ok : goal.returns-in_ok-offers-in-Ok
@@ -34,7 +34,7 @@ returns-in_ok-offers-in-Ok c =
     let first : c.max.result + 1 ≡ max state.now r.heard + 1 = omega (arith, c.calendar-calendar.ensures.now) in
     let F : ℕ → Type 0 = λ n. IsOffer 0 (booked_in state) (capacity_at r.book.steps) plan n found in
     let at : rest_of rest ≡ rest_at (link_on r) c.args.source c.args.buffer c.args.delay =
-    c.in-Some.ensures.whole ∙ ap (λ (t : Track). whole_rest r.slot_units t c.args.buffer c.args.delay) (sym (c.reel_at.ensures r.slot_units no_track)) in
+    c.in-Some.ensures.whole ∙ ap (λ (t : ReelContent). whole_rest r.slot_units t c.args.buffer c.args.delay) (sym (c.reel_at.ensures r.slot_units no_reel)) in
     let R : Rest → Type 0 = λ x. IsOfferLine (link_on r) x c.args.wait (moment_of r) (moment_of r) (offer_text found) in
     subst R at (inr (record {
       plan = plan;

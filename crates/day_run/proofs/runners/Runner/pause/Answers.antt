@@ -4,14 +4,14 @@ use Rattle.admission.specs.declared.entries.Command.TheVariants.{Halt}
 use Rattle.admission.specs.declared.entries.Entry.{Entry}
 use Rattle.admission.specs.Books.{Journal}
 use Rattle.day_run.specs.declared.clients.Client.{Client}
-use Rattle.day_run.specs.Clients.{IsBooked, IsGoing, IsTimed, seat_of}
+use Rattle.day_run.specs.Clients.{IsBooked, IsGoing, IsTimed, state_of}
 use Rattle.day_run.proofs.DaySteps.{day-halted, open-halt}
 use Rattle.day_run.specs.Days.{IsPauseLine, Moment}
 use Rattle.day_run.specs.Runners.{link_on, moment_of, told_text}
-use Rattle.day_run.specs.Seats.{Seat, Idle}
+use Rattle.day_run.specs.ClientStates.{ClientState, Idle}
 use Rattle.day_run.specs.declared.runners.Told.TheVariants as tolds
 use Rattle.day_run.proofs.LineSteps.{no-pause, noted-halt, pause-line}
-use Rattle.day_run.proofs.Sweeps.{seat-at, seats-set}
+use Rattle.day_run.proofs.Sweeps.{state-at, states-set}
 use Rattle.day_run.proofs.runners.Runner.pause.Goals as goal
 
 pub returns-in-Some-clause-runner : goal.returns-in-Some-clause-runner
@@ -40,19 +40,19 @@ returns-in-Some-clause-line c =
     let halt = c.in-Some.halt in
     let client = c.index_mut.result.now in
     let next = c.pause.new.self in
-    let new : Moment = record { entries = c.halt-noted.new.self.entries; seats = map seat_of (set old.clients.items c.args.client next); heard = old.heard } in
+    let new : Moment = record { entries = c.halt-noted.new.self.entries; states = map state_of (set old.clients.items c.args.client next); heard = old.heard } in
     let inside : c.args.client < length old.clients.items = omega (arith, day.count, c.ranges.client.fits) in
     let T : Client → Type 0 = λ x. IsTimed old.heard x in
     let timed = subst T (sym c.index_mut.ensures.value) (day.timed.each c.args.client client inside) in
     let made = c.halt-noted.ensures.noted in
     let e : Entry = record { maker = c.from.result; command = Halt halt.number halt.keep; answer = c.halt-noted.result.answer } in
     let text = told_text c.halt-noted.new.self.entries (tolds.Entry c.halt-noted.result.place) in
-    let at : seat_of client ≡ get_or (map seat_of old.clients.items) c.args.client Idle =
-    ap seat_of c.index_mut.ensures.value ∙ sym (seat-at old.clients.items c.args.client client inside) in
-    let P : Seat → Type 0 = λ s. IsPauseLine (link_on old) c.args.client s (moment_of old) new text in
+    let at : state_of client ≡ get_or (map state_of old.clients.items) c.args.client Idle =
+    ap state_of c.index_mut.ensures.value ∙ sym (state-at old.clients.items c.args.client client inside) in
+    let P : ClientState → Type 0 = λ s. IsPauseLine (link_on old) c.args.client s (moment_of old) new text in
     subst P at (pause-line client next (c.in-Some.ensures.pause old.heard timed)
     (noted-halt (link_on old) (moment_of old) new c.halt-noted.result.place c.args.client halt.number halt.keep e made.answer_is
-    made.place_is (ap (λ (j : Journal). j.entries) made.journal_is) (seats-set old.clients.items c.args.client next) refl c.from.ensures c.halt-noted.ensures.answer refl))
+    made.place_is (ap (λ (j : Journal). j.entries) made.journal_is) (states-set old.clients.items c.args.client next) refl c.from.ensures c.halt-noted.ensures.answer refl))
 
 pub returns-in-None-clause-line : goal.returns-in-None-clause-line
 returns-in-None-clause-line c =
@@ -60,12 +60,12 @@ returns-in-None-clause-line c =
     let day = c.requires.runner in
     let client = c.index_mut.result.now in
     let next = c.pause.new.self in
-    let new : Moment = record { entries = old.book.entries; seats = map seat_of (set old.clients.items c.args.client next); heard = old.heard } in
+    let new : Moment = record { entries = old.book.entries; states = map state_of (set old.clients.items c.args.client next); heard = old.heard } in
     let inside : c.args.client < length old.clients.items = omega (arith, day.count, c.ranges.client.fits) in
-    let at : seat_of client ≡ get_or (map seat_of old.clients.items) c.args.client Idle =
-    ap seat_of c.index_mut.ensures.value ∙ sym (seat-at old.clients.items c.args.client client inside) in
+    let at : state_of client ≡ get_or (map state_of old.clients.items) c.args.client Idle =
+    ap state_of c.index_mut.ensures.value ∙ sym (state-at old.clients.items c.args.client client inside) in
     let same : set old.clients.items c.args.client next ≡ old.clients.items =
     ap (set old.clients.items c.args.client) (c.in-None.ensures.none ∙ c.index_mut.ensures.value) ∙ set-get_or old.clients.items c.args.client client in
-    let P : Seat → Type 0 = λ s. IsPauseLine (link_on old) c.args.client s (moment_of old) new (told_text old.book.entries tolds.State) in
+    let P : ClientState → Type 0 = λ s. IsPauseLine (link_on old) c.args.client s (moment_of old) new (told_text old.book.entries tolds.State) in
     subst P at (no-pause (link_on old) c.args.client client c.in-None.ensures.idle
-    (record { kept = ap (λ l. record (moment_of old) { seats = map seat_of l }) same; text_is = refl }))
+    (record { kept = ap (λ l. record (moment_of old) { states = map state_of l }) same; text_is = refl }))

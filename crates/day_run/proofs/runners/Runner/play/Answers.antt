@@ -1,10 +1,10 @@
 use Rattle.std.proofs.Common.{◌≡◌, ◌<◌, false, length, ap, sym, ◌∙◌, arith}
-use Rattle.day_run.specs.Clients.{rest_of, seat_of}
-use Rattle.day_run.specs.Days.{rest_at, seat_at}
+use Rattle.day_run.specs.Clients.{rest_of, state_of}
+use Rattle.day_run.specs.Days.{rest_at, state_at}
 use Rattle.day_run.specs.Runners.{link_on, moment_of}
-use Rattle.day_run.specs.Seats.{Track, is_busy, no_track, whole_rest}
+use Rattle.day_run.specs.ClientStates.{ReelContent, is_busy, no_reel, whole_rest}
 use Rattle.day_run.proofs.LineSteps.{play-ok}
-use Rattle.day_run.proofs.Sweeps.{seat-at}
+use Rattle.day_run.proofs.Sweeps.{state-at}
 use Rattle.day_run.proofs.runners.Runner.play.Goals as goal
 
 pub returns-in-Some-clause-line : goal.returns-in-Some-clause-line
@@ -13,7 +13,7 @@ returns-in-Some-clause-line c =
     let client = c.index.result.now in
     let inside : c.args.client < length old.clients.items = omega (arith, c.requires.runner.count, c.ranges.client.fits) in
     let one : rest_of c.in-Some.rest ≡ rest_at (link_on old) c.args.source c.args.buffer c.args.delay =
-    c.in-Some.ensures.whole ∙ ap (λ (t : Track). whole_rest old.slot_units t c.args.buffer c.args.delay) (sym (c.reel_at.ensures old.slot_units no_track)) in
-    let own : seat_of client ≡ seat_at (moment_of old) c.args.client = ap seat_of c.index.ensures ∙ sym (seat-at old.clients.items c.args.client client inside) in
-    let free : is_busy (seat_of client) ≡ false = sym c.is_busy.ensures ∙ c.if-is_busy.false in
+    c.in-Some.ensures.whole ∙ ap (λ (t : ReelContent). whole_rest old.slot_units t c.args.buffer c.args.delay) (sym (c.reel_at.ensures old.slot_units no_reel)) in
+    let own : state_of client ≡ state_at (moment_of old) c.args.client = ap state_of c.index.ensures ∙ sym (state-at old.clients.items c.args.client client inside) in
+    let free : is_busy (state_of client) ≡ false = sym c.is_busy.ensures ∙ c.if-is_busy.false in
     play-ok c.ask.result (link_on old) c.args.client (moment_of old) _ _ one own free c.ask.ensures.asked

@@ -1,6 +1,6 @@
 use Rattle.std.proofs.Common.{map, arith}
-use Rattle.day_run.specs.Clients.{seat_of}
-use Rattle.day_run.proofs.LineSteps.{halts-sent}
+use Rattle.day_run.specs.Clients.{state_of}
+use Rattle.day_run.proofs.LineSteps.{halt_entries-sent}
 use Rattle.day_run.proofs.Sweeps.{slot-moment}
 use Rattle.day_run.proofs.runners.Runner.slot.Goals as goal
 
@@ -10,4 +10,4 @@ returns-clause-moment c =
     let day = c.requires.runner in
     slot-moment old.book.entries c.end_each.new.clients
     old.clients.ok.0 c.deref_mut.ensures.value c.deref_mut-2.ensures.value (omega arith) day.timed c.step_clients-sent.ensures.steps
-    c.end_each.ensures.entries c.end_each.ensures.seats (halts-sent c.args.slot 0 (map seat_of old.clients.items))
+    c.end_each.ensures.entries c.end_each.ensures.states (halt_entries-sent c.args.slot 0 (map state_of old.clients.items))

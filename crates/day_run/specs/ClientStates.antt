@@ -16,49 +16,49 @@ use Rattle.day_run.specs.declared.reels.Source.TheVariants.{Film, Trace}
 
 -- A film or trace as it is played: the sizes of its units on the wire, the frames and reports by
 -- which they are sent, and the time of a picture in 1/360,000 s.
-pub record Track : Type 0 where
+pub record ReelContent : Type 0 where
   pub sizes : List ℕ
   pub pieces : List (List ℕ)
   pub picture_units : ℕ
 
-abbrev pub no_track : Track
-no_track = record { sizes = []; pieces = []; picture_units = 0 }
+abbrev pub no_reel : ReelContent
+no_reel = record { sizes = []; pieces = []; picture_units = 0 }
 
 -- a trace has one picture a slot
-abbrev pub trace_track : ℕ → List ℕ → Track
-trace_track slot_units sizes =
+abbrev pub trace_content : ℕ → List ℕ → ReelContent
+trace_content slot_units sizes =
     record { sizes = sizes; pieces = zero_frames sizes; picture_units = slot_units }
 
-abbrev pub track_of : ℕ → Source → Track
-track_of slot_units (Film stored) =
+abbrev pub source_content : ℕ → Source → ReelContent
+source_content slot_units (Film stored) =
     record {
       sizes = stored_sizes stored;
       pieces = film_pieces stored;
       picture_units = picture_time stored.film.rate;
     }
-track_of slot_units (Trace sizes) = trace_track slot_units sizes.items
+source_content slot_units (Trace sizes) = trace_content slot_units sizes.items
 
--- what is still to be sent of a track, and to what kind of client
+-- what is still to be sent of a reel, and to what kind of client
 pub record Rest : Type 0 where
   pub sizes : List ℕ
   pub pieces : List (List ℕ)
   pub playback : Playback
   pub run : Run
 
--- all of a track, for a client with such a buffer and start delay
-abbrev pub whole_rest : ℕ → Track → ℕ → ℕ → Rest
-whole_rest slot_units track buffer delay = record {
-  sizes = track.sizes;
-  pieces = track.pieces;
+-- all of a reel, for a client with such a buffer and start delay
+abbrev pub whole_rest : ℕ → ReelContent → ℕ → ℕ → Rest
+whole_rest slot_units reel buffer delay = record {
+  sizes = reel.sizes;
+  pieces = reel.pieces;
   playback = record {
-    picture_units = track.picture_units;
+    picture_units = reel.picture_units;
     slot_units = slot_units;
     buffer = buffer;
     delay = delay;
   };
   run = record {
     first_unit = 0;
-    end_unit = length track.sizes;
+    end_unit = length reel.sizes;
     from_unit = 0;
     sent = 0;
     played = 0;
@@ -80,14 +80,14 @@ booking_of play = whole_play play.start play.plan
 -- What a client does: nothing; it plays; it has paused, and the frame or report in hand is sent to
 -- its end, as what a play with a plan that is cut there books; or that is done, and it may go on
 -- with the rest.
-pub data Seat : Type 0 where
-  Idle : Seat
-  Playing : (play : Play) → Seat
-  Pausing : (stop : Booked) → (rest : Rest) → Seat
-  Paused : (rest : Rest) → Seat
+pub data ClientState : Type 0 where
+  Idle : ClientState
+  Playing : (play : Play) → ClientState
+  Pausing : (stop : Booked) → (rest : Rest) → ClientState
+  Paused : (rest : Rest) → ClientState
 
 -- a client plays, or its pause isn't done
-abbrev pub is_busy : Seat → Bool
+abbrev pub is_busy : ClientState → Bool
 is_busy Idle = false
 is_busy (Playing play) = true
 is_busy (Pausing stop rest) = true
@@ -102,22 +102,22 @@ sent_by play t = min (sent_before play.segments play.start (t + 1)) play.keep
 abbrev pub growth : ℕ → ℕ → Booked → ℕ
 growth heard slot play = sent_by play slot - sent_by play heard
 
-abbrev pub sent_between : ℕ → ℕ → Seat → ℕ
+abbrev pub sent_between : ℕ → ℕ → ClientState → ℕ
 sent_between heard slot Idle = 0
 sent_between heard slot (Playing play) = growth heard slot (booking_of play)
 sent_between heard slot (Pausing stop rest) = growth heard slot stop
 sent_between heard slot (Paused rest) = 0
 
 -- a pause is done as soon as all that is kept was sent
-abbrev pub pausing_seat : ℕ → Booked → Rest → Seat
-pausing_seat slot stop rest =
+abbrev pub pausing_state : ℕ → Booked → Rest → ClientState
+pausing_state slot stop rest =
     if sent_by stop slot == stop.keep then Paused rest else Pausing stop rest
 
 -- a client once a slot was sent
-abbrev pub after_sending : ℕ → Seat → Seat
+abbrev pub after_sending : ℕ → ClientState → ClientState
 after_sending slot Idle = Idle
 after_sending slot (Playing play) = Playing play
-after_sending slot (Pausing stop rest) = pausing_seat slot stop rest
+after_sending slot (Pausing stop rest) = pausing_state slot stop rest
 after_sending slot (Paused rest) = Paused rest
 
 -- a play is done once its first slot has come and all its bytes were sent
@@ -126,7 +126,7 @@ is_done slot play = nat_le play.start slot
     && (sent_by (booking_of play) slot == total_bytes play.plan)
 
 -- a client once its play was halted, if that is done
-abbrev pub after_play : ℕ → Seat → Seat
+abbrev pub after_play : ℕ → ClientState → ClientState
 after_play slot Idle = Idle
 after_play slot (Playing play) = if is_done slot play then Idle else Playing play
 after_play slot (Pausing stop rest) = Pausing stop rest
@@ -138,11 +138,11 @@ slot_sent start heard = if nat_lt heard start then None else Some (heard - start
 
 -- A play is paused: it keeps the bytes up to the least boundary at or after what was sent. The
 -- pictures that are used in the slot in which that is reached, or later, are left.
-pub record IsPause (play : Play) (heard keep : ℕ) (seat : Seat) : Type 0 where
+pub record IsPause (play : Play) (heard keep : ℕ) (state : ClientState) : Type 0 where
   pub boundary : IsBoundaryAfter play.rest.pieces (play.rest.run.sent
       + sent_by (booking_of play) heard) (play.rest.run.sent + keep)
   pub left : Run
   pub left_is : IsLeft play.rest.sizes play.rest.playback play.rest.run play.plan
       (slot_sent play.start heard) keep left
-  pub seat_is : seat ≡
-      pausing_seat heard (cut_play play.start play.plan keep) (record play.rest { run = left })
+  pub state_is : state ≡
+      pausing_state heard (cut_play play.start play.plan keep) (record play.rest { run = left })

@@ -8,22 +8,22 @@ use Rattle.day_run.specs.declared.reels.Source.{Source}
 use Rattle.day_run.specs.declared.reels.Source.TheVariants.{Trace}
 use Rattle.day_run.specs.declared.scripts.Line.{Line}
 use Rattle.day_run.specs.Scripts.{latest_slot, slot_after}
-use Rattle.day_run.specs.Seats.{trace_track, track_of}
-use Rattle.day_run.specs.Tracks.{reel_track}
+use Rattle.day_run.specs.ClientStates.{trace_content, source_content}
+use Rattle.day_run.specs.ReelContents.{reel_content}
 use Rattle.day_run.proofs.ScriptLines.{latest-push}
 
 pub trace-reel : {source : Source} {sizes : Vec ℕ} {items : List ℕ} (r : Result Reel NoMemory) → source ≡ Trace sizes → items ≡ sizes.items
-    → IfOk r (λ reel. (u : ℕ) → reel_track u reel ≡ trace_track u items) → IfOk r (λ reel. (u : ℕ) → reel_track u reel ≡ track_of u source)
-trace-reel (Ok reel) is same has = λ u. has u ∙ ap (trace_track u) same ∙ sym (ap (track_of u) is)
+    → IfOk r (λ reel. (u : ℕ) → reel_content u reel ≡ trace_content u items) → IfOk r (λ reel. (u : ℕ) → reel_content u reel ≡ source_content u source)
+trace-reel (Ok reel) is same has = λ u. has u ∙ ap (trace_content u) same ∙ sym (ap (source_content u) is)
 trace-reel (Err e) is same has = tt
 
-pub tracks-next : {after : List Reel} (u : ℕ) (reels : List Reel) (reel : Reel) (sources : List Source) (i : ℕ)
+pub contents-next : {after : List Reel} (u : ℕ) (reels : List Reel) (reel : Reel) (sources : List Source) (i : ℕ)
     (none : Source) → i < length sources → after ≡ reels ++ reel ∷ []
-    → reel_track u reel ≡ track_of u (get_or sources i none) → map (reel_track u) reels ≡ map (track_of u) (take i sources)
-    → map (reel_track u) after ≡ map (track_of u) (take (i + 1) sources)
-tracks-next u reels reel sources i none inside a own before =
-    ap (map (reel_track u)) a ∙ map-append (reel_track u) reels (reel ∷ []) ∙ ap (λ ts. ts ++ reel_track u reel ∷ []) before
-    ∙ ap (λ t. map (track_of u) (take i sources) ++ t ∷ []) own ∙ sym (map_more (track_of u) sources i none inside)
+    → reel_content u reel ≡ source_content u (get_or sources i none) → map (reel_content u) reels ≡ map (source_content u) (take i sources)
+    → map (reel_content u) after ≡ map (source_content u) (take (i + 1) sources)
+contents-next u reels reel sources i none inside a own before =
+    ap (map (reel_content u)) a ∙ map-append (reel_content u) reels (reel ∷ []) ∙ ap (λ ts. ts ++ reel_content u reel ∷ []) before
+    ∙ ap (λ t. map (source_content u) (take i sources) ++ t ∷ []) own ∙ sym (map_more (source_content u) sources i none inside)
 
 -- the slot that was heard last, after one line more
 pub heard-next : {heard next : ℕ} (lines : List Line) (i : ℕ) (none : Line) → i < length lines → next ≡ slot_after heard (get_or lines i none)
