@@ -1,6 +1,5 @@
 -- What each request changes of a session.
-use Rattle.std.proofs.Common.{◌≡◌, ◌≢◌, ℕ, Bool, true, false, List, [], Option, Some, Result, Ok, Err, codes, refl, sym, ap, subst, inl, inr}
-use Rattle.rtsp_text.specs.Fields.{header_value}
+use Rattle.std.proofs.Common.{◌≡◌, ◌≢◌, ℕ, Bool, true, false, List, [], Option, Some, Result, Ok, Err, refl, sym, ap, subst, inl, inr}
 use Rattle.rtsp_text.specs.declared.requests.Request.{Request}
 use Rattle.film_frames.specs.declared.stores.Stored.{Stored}
 use Rattle.film_run.specs.declared.runs.Run.{Run}

@@ -1,5 +1,5 @@
 -- What a PAUSE and a TEARDOWN come to.
-use Rattle.std.proofs.Common.{◌≡◌, ℕ, ◌⊎◌, ◌&&◌, Bool, true, false, cond, List, [], ◌∷◌, Option, Some, codes, Result, Ok, Err, refl, sym, ap, subst, ◌∙◌, inl, inr}
+use Rattle.std.proofs.Common.{◌≡◌, ℕ, ◌⊎◌, ◌&&◌, Bool, true, false, cond, List, [], ◌∷◌, Some, codes, Result, Ok, Err, refl, sym, ap, subst, ◌∙◌, inl, inr}
 use Rattle.film_frames.specs.declared.stores.Stored.{Stored}
 use Rattle.pacer.specs.Pacings.{next_boundary}
 use Rattle.rtsp_text.specs.Replies.{value_named}
@@ -26,7 +26,7 @@ use Rattle.session.specs.declared.methods.Method.TheVariants.{Pause, Teardown}
 use Rattle.session.specs.Judging.{IsJudged, method_of, name_of, option_of, place_of}
 use Rattle.session.specs.Laws.{stage_of}
 use Rattle.session.specs.LookLaws.{Happening, Message, Admission, Overflow, Full, Halt, Look, Offer, Slot, Sending, AreAfter, IsAfter}
-use Rattle.session.specs.Methods.{AsksHalt, Ends, IsRefused, Pauses, PausesPlay, Takes, TearsDown}
+use Rattle.session.specs.Methods.{AsksHalt, Ends, Pauses, PausesPlay, Takes, TearsDown}
 use Rattle.session.specs.PlayLaws.{IsDeclined}
 use Rattle.session.specs.Replies.{field, session_text}
 use Rattle.session.specs.Sendings.{after_play, is_between, is_done_in, is_sending, is_taken, next_of, sent_due, sent_in, sent_reply, sent_slot, stepped_in}

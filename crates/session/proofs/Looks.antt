@@ -1,5 +1,5 @@
 -- There is room for the first looks of a connection.
-use Rattle.std.proofs.Common.{◌≡◌, ℕ, ◌+◌, ◌-◌, ◌<◌, ◌≤◌, ◌&&◌, Bool, true, false, cond, List, [], ◌∷◌, Option, Some, codes, Result, Ok, Err, refl, sym, ap, subst, ◌∙◌, inl, inr, arith}
+use Rattle.std.proofs.Common.{◌≡◌, ℕ, ◌+◌, ◌-◌, ◌<◌, ◌≤◌, ◌&&◌, Bool, true, false, cond, List, [], ◌∷◌, Some, codes, Result, Ok, Err, refl, sym, ap, subst, ◌∙◌, inl, inr, arith}
 use Rattle.std.proofs.lemmas.List.Sums.{sum_by-cons}
 use Rattle.film_frames.specs.declared.stores.Stored.{Stored}
 use Rattle.rtsp_text.specs.declared.requests.Request.{Request}
@@ -19,7 +19,7 @@ use Rattle.session.specs.Laws.{Is500}
 use Rattle.session.specs.LookLaws.{Happening, Message, Admission, Overflow, Full, Halt, Look, Offer, Slot, Sending, AreAfter, AsksBooked, HasLooksLeft, IsAfter, looks_asked, looks_in, looks_of}
 use Rattle.session.specs.Changes.{HasCode}
 use Rattle.session.specs.Methods.{Gets, IsRefused, Looks, Takes}
-use Rattle.session.specs.Replies.{code_of, refusal_text}
+use Rattle.session.specs.Replies.{refusal_text}
 use Rattle.session.specs.Sendings.{after_play, is_between, is_sending, is_taken, sent_due, sent_reply, sent_slot, stepped_in}
 use Rattle.session.specs.Standings.{Standing}
 use Rattle.session.proofs.OneHearing.{topic_once}

@@ -1,5 +1,5 @@
 -- What an offer asks and tells, and the least buffer.
-use Rattle.std.proofs.Common.{◌≡◌, ℕ, ◌<◌, ◌≤◌, ◌⊎◌, Bool, true, false, List, [], ◌∷◌, ◌++◌, map, flat_map, length, codes, decimal, Option, Some, None, Result, Ok, Err, append_assoc, refl, sym, ap, subst, ◌∙◌, inl, inr, arith}
+use Rattle.std.proofs.Common.{◌≡◌, ℕ, Bool, true, false, List, [], ◌∷◌, ◌++◌, map, flat_map, length, codes, decimal, Option, Some, None, Result, Ok, Err, append_assoc, refl, sym, ap, subst, ◌∙◌, inl, inr, arith}
 use Rattle.std.proofs.lemmas.List.Concat.{flat_map-cons}
 use Rattle.plan_cert.specs.declared.Segment.{Segment}
 use Rattle.wire_curve.specs.declared.film.Timing.{Timing}
@@ -9,14 +9,12 @@ use Rattle.wire_curve.specs.declared.film.CurveRefused.TheVariants.{Fault, NoMem
 use Rattle.wire_curve.specs.Refusal.{IsOverfull, IsRefused as HaveNoCurves}
 use Rattle.early_start.specs.Offered.{Found}
 use Rattle.early_start.specs.declared.Tried.{Tried}
-use Rattle.film_frames.specs.declared.stores.Stored.{Stored}
 use Rattle.film_run.specs.declared.runs.Run.{Run}
 use Rattle.film_run.specs.Plans.{rest_sizes, timing_of}
 use Rattle.film_run.specs.Units.{stored_sizes}
 use Rattle.rtsp_text.specs.Fields.{header_value}
 use Rattle.rtsp_text.specs.Replies.{value_named}
 use Rattle.rtsp_text.specs.declared.requests.Request.{Request}
-use Rattle.session.specs.declared.asks.Ask.{Ask}
 use Rattle.session.specs.declared.asks.Ask.TheVariants.{Offer as AskOffer}
 use Rattle.session.specs.declared.methods.Topic.{Topic}
 use Rattle.session.specs.declared.methods.Topic.TheVariants.{Nothing as NoTopic, Booked, Offer as OfferTopic, Unknown}
@@ -32,7 +30,7 @@ use Rattle.session.specs.declared.states.State.TheVariants.{Init, Ready, Playing
 use Rattle.session.specs.Hearings.{Hears, HearsOn, after_offer}
 use Rattle.session.specs.Judging.{IsJudged, IsReadAs, IsTopic, place_of}
 use Rattle.session.specs.Methods.{AsksOfferOr, AsksPlayOr, Gets, GetsOffer, HasWait, IsWaitOf, Looks, Pauses, Plays, IsSetUp, Takes, TearsDown}
-use Rattle.session.specs.OfferLaws.{IsLeastBuffer, IsLeastTold, IsOfferAsked, IsOfferRequest, IsOfferTold, IsWaitIn, found_line, tried_line, with_buffer}
+use Rattle.session.specs.OfferLaws.{IsLeastBuffer, IsLeastTold, IsOfferAsked, IsOfferRequest, IsOfferTold, IsWaitIn, found_line, tried_line}
 use Rattle.session.specs.Planning.{HasNoPlan, IsPlanned}
 use Rattle.session.specs.Playing.{curve_refusal, playback_of, run_of}
 use Rattle.session.specs.Replies.{field, joined_parts, offer_body, over_line, refusal_text, start_line}

@@ -1,5 +1,5 @@
 -- Where a halt cuts, what is counted after a run, and its note.
-use Rattle.std.proofs.Common.{◌≡◌, ℕ, ◌+◌, ◌-◌, ◌≤◌, Bool, true, false, List, [], ◌∷◌, ◌++◌, length, take, Option, Some, None, slice_get, refl, sym, ap, subst, ◌∙◌, arith}
+use Rattle.std.proofs.Common.{◌≡◌, ℕ, ◌+◌, ◌≤◌, false, List, ◌++◌, length, Option, refl, sym, ap, subst, ◌∙◌, arith}
 use Rattle.std.proofs.lemmas.List.{take_all}
 use Rattle.plan_cert.specs.Slots.{total_bytes}
 use Rattle.film_frames.specs.declared.stores.Stored.{Stored}
@@ -11,7 +11,6 @@ use Rattle.film_frames.proofs.TrackLemmas.{begin-all}
 use Rattle.pacer.specs.Boundaries.{boundary_from}
 use Rattle.pacer.specs.Pacings.{IsPacing, next_boundary, whole_pacing}
 use Rattle.pacer.proofs.PacingLemmas.{boundary-from}
-use Rattle.session.specs.declared.asks.Ask.{Ask}
 use Rattle.session.specs.declared.asks.Ask.TheVariants.{Halt as AskHalt}
 use Rattle.film_run.specs.declared.runs.Run.{Run}
 use Rattle.session.specs.declared.plans.Planned.{Planned}

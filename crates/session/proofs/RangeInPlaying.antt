@@ -1,5 +1,5 @@
 -- A PLAY with a Range in Playing is refused.
-use Rattle.std.proofs.Common.{◌≡◌, ℕ, Bool, true, false, List, [], Option, Some, is_some, codes, Result, Ok, Err, refl, sym, ap, subst, ◌∙◌, inl, inr, arith}
+use Rattle.std.proofs.Common.{◌≡◌, ℕ, Bool, true, false, List, [], Option, Some, is_some, codes, Result, Ok, Err, sym, ap, subst, ◌∙◌, inl, inr, arith}
 use Rattle.film_frames.specs.declared.stores.Stored.{Stored}
 use Rattle.rtsp_text.specs.Fields.{header_value}
 use Rattle.rtsp_text.specs.declared.requests.Request.{Request}
@@ -19,7 +19,7 @@ use Rattle.session.specs.Methods.{IsRefused, Takes}
 use Rattle.session.specs.PlayLaws.{HasRangeInPlaying, IsElseGood, IsDeclined}
 use Rattle.session.specs.Replies.{code_of, refusal_text}
 use Rattle.session.specs.Standings.{Standing, with_reply}
-use Rattle.session.proofs.OneVerdict.{AreAlike, not_both, refusal_once}
+use Rattle.session.proofs.OneVerdict.{AreAlike, refusal_once}
 use Rattle.session.proofs.Refusing.{one_code, own_code, refusal_code}
 
 -- a PLAY with a Range, heard in Playing

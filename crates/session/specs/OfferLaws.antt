@@ -1,6 +1,6 @@
 -- What is asked of the station for an offer, what the reply tells, and the least buffer that a
 -- refusal names.
-use Rattle.std.specs.Prelude.{ℕ, ◌≡◌, ◌+◌, ◌*◌, ◌<◌, ◌≤◌, ◌++◌, List, [], ◌∷◌, Option, Some, None}
+use Rattle.std.specs.Prelude.{ℕ, ◌≡◌, ◌<◌, ◌≤◌, ◌++◌, List, [], ◌∷◌, Option, Some, None}
 use Rattle.std.specs.Prelude.{codes, decimal, flat_map, length, map}
 use Rattle.vod_base.specs.Numbers.{number_of}
 use Rattle.plan_cert.specs.declared.Segment.{Segment}

@@ -1,4 +1,4 @@
-use Rattle.std.proofs.Common.{◌≡◌, ◌-◌, ◌||◌, Bool, true, if◌then◌else◌, refl, sym, ap, subst, ◌∙◌, arith}
+use Rattle.std.proofs.Common.{◌≡◌, ◌-◌, ◌||◌, true, if◌then◌else◌, sym, ap, subst, ◌∙◌, arith}
 use Rattle.session.specs.Hearings.{counts_next, is_answered, is_torn}
 use Rattle.session.specs.Inside.{IsAwaitedKept, IsNextIn, IsStateKept, IsStopAnswered, awaited_offers, awaited_plays, awaited_receipts, open_receipts}
 use Rattle.session.specs.Logs.{Logged}

@@ -1,5 +1,4 @@
 use Rattle.std.proofs.Common.{sym, subst}
-use Rattle.session.specs.Inside.{standing_of}
 use Rattle.session.specs.Standings.{CanHear}
 use Rattle.session.specs.declared.states.Next.TheVariants.{Torn}
 use Rattle.session.proofs.Askings.{halt_asked}
