@@ -98,7 +98,8 @@ bytes 15.mpg 000001ba2100010001800003 000001e000050f000001b9
 bytes 16.mpg 000001ba2100010001800003 000001e000050f000001b941
 > scan film=16.mpg
 3 vodserve: 16.mpg: BadCode 23|
-bytes 17.mpg 000001ba2100010001800003 000001e00034ffffffffffffffffffffffffffffffffff0f 000001b316012013ffffe0a0000001b80008004000000100000ffff8000001011234
+bytes 17.mpg 000001ba2100010001800003 000001e00034ffffffffffffffffffffffffffffffffff0f \
+000001b316012013ffffe0a0000001b80008004000000100000ffff8000001011234
 > scan film=17.mpg
 3 vodserve: 17.mpg: BadPacket 12|
 > plan film=0.mpg
@@ -111,6 +112,6 @@ fn scans_and_plans_films(rt: HostRuntime) -> Result<(), Fail> {
 }
 
 #[test]
-fn names_a_film_s_refusal(rt: HostRuntime) -> Result<(), Fail> {
+fn names_the_refusal_of_a_film(rt: HostRuntime) -> Result<(), Fail> {
     passes(&rt, rt.alloc(), REFUSED)
 }

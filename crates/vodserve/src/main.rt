@@ -64,6 +64,7 @@ fn is_watch(words: &[String]) -> bool {
     }
 }
 
+/// Carries out the words of the command line, over a gate of the kind that they ask for.
 fn main(rt: HostRuntime) -> ExitCode {
     let Ok(words) = program_words(&rt) else {
         return ExitCode::from(6);

@@ -34,34 +34,57 @@ pub(crate) fn passes<R: Threads + Wait + Sync + Abort>(
 /// The objects of the next run, and what the last run left that no line has read yet.
 #[derive(Drop)]
 struct Stage {
+    /// The files of the library, by their names.
     files: Vec<(String, Vec<u8>)>,
+    /// What the link of the next part hears.
     events: Vec<Event>,
+    /// What the link of the last part hears.
+    last_events: Vec<Event>,
+    /// The parts of the gate.
     parts: Vec<MemoryPart>,
+    /// The calls that are to fail.
     failing: Failing,
+    /// What the last run left.
     left: Left,
 }
 
 /// The calls of an object that are to fail in the next run, by their numbers from 1.
 #[derive(Drop)]
 struct Failing {
+    /// Calls of the library.
     library: Vec<u64>,
+    /// Calls of the output.
     out: Vec<u64>,
+    /// Calls of the error stream.
     err: Vec<u64>,
+    /// Calls of the gate.
     gate: Vec<u64>,
 }
 
-/// What a run left: its status, its texts, the numbers of its reports and entries, and what its
-/// links sent.
+/// What a run left.
 #[derive(Drop)]
 struct Left {
+    /// The status that it ended with.
     status: u64,
+    /// What it wrote to the output, and no line has read.
     out: Vec<u8>,
+    /// Whether a line has looked for a part of the output.
+    is_out_searched: bool,
+    /// What it wrote to the error stream, and no line has read.
     err: Vec<u8>,
-    counts: [usize; 2],
+    /// How many reports it handed out.
+    reports: usize,
+    /// How many entries its journal has.
+    entries: usize,
+    /// What each link sent.
     sent: Vec<Vec<u8>>,
+    /// How many bytes of the first link's lines have read.
     read: usize,
+    /// Whether a line has looked through what all links sent.
+    is_sent_searched: bool,
 }
 
+/// No call fails.
 fn no_failing(alloc: Global) -> Failing {
     Failing {
         library: Vec::new(alloc),
@@ -71,15 +94,33 @@ fn no_failing(alloc: Global) -> Failing {
     }
 }
 
+/// What is left before the first run.
 fn nothing_left(alloc: Global) -> Left {
     Left {
         status: 0,
         out: Vec::new(alloc),
+        is_out_searched: false,
         err: Vec::new(alloc),
-        counts: [0, 0],
+        reports: 0,
+        entries: 0,
         sent: Vec::new(alloc),
         read: 0,
+        is_sent_searched: false,
     }
+}
+
+/// The first so many of these events.
+fn first_events(alloc: Global, events: &[Event], count: u64) -> Result<Vec<Event>, NoMemory> {
+    let mut copies = Vec::new(alloc);
+    let count = usize::try_from(count).unwrap_or(0);
+    for event in events.iter().take(count) {
+        copies.push(match event {
+            Event::Bytes(bytes) => Event::Bytes(Vec::from_slice(alloc, bytes)?),
+            Event::Slot(slot) => Event::Slot(*slot),
+            Event::End => Event::End,
+        })?;
+    }
+    Ok(copies)
 }
 
 /// A line's first word, and what stands after it.
@@ -167,22 +208,47 @@ fn sent_of(alloc: Global, gate: &MemoryGate) -> Result<Vec<Vec<u8>>, NoMemory> {
     Ok(sent)
 }
 
+/// What a run left.
+fn left_by(
+    alloc: Global,
+    ended: &Ended,
+    out: &MemorySink,
+    err: &MemorySink,
+    gate: &MemoryGate,
+) -> Result<Left, NoMemory> {
+    Ok(Left {
+        status: u64::from(ended.status),
+        out: Vec::from_slice(alloc, out.bytes())?,
+        is_out_searched: false,
+        err: Vec::from_slice(alloc, err.bytes())?,
+        reports: ended.reports.len(),
+        entries: ended.journal.len(),
+        sent: sent_of(alloc, gate)?,
+        read: 0,
+        is_sent_searched: false,
+    })
+}
+
 impl Stage {
+    /// No objects, before the first run.
     fn new(alloc: Global) -> Stage {
         Stage {
             files: Vec::new(alloc),
             events: Vec::new(alloc),
+            last_events: Vec::new(alloc),
             parts: Vec::new(alloc),
             failing: no_failing(alloc),
             left: nothing_left(alloc),
         }
     }
 
+    /// Puts a file into the library.
     fn keep(&mut self, alloc: Global, name: &str, bytes: Vec<u8>) -> Result<(), NoMemory> {
         self.files.push((String::from_str(alloc, name)?, bytes))?;
         Ok(())
     }
 
+    /// The bytes of a file of the library.
     fn held(&self, name: &str) -> Option<&[u8]> {
         for (held, bytes) in &self.files {
             if held.as_str() == name {
@@ -223,6 +289,7 @@ impl Stage {
         Ok(text)
     }
 
+    /// The library of the next run.
     fn library(&mut self, alloc: Global) -> Result<MemoryLibrary, NoMemory> {
         let mut files = Vec::new(alloc);
         for (name, bytes) in &self.files {
@@ -267,14 +334,7 @@ impl Stage {
             );
             return Err(NoMemory);
         }
-        self.left = Left {
-            status: u64::from(ended.status),
-            out: Vec::from_slice(alloc, out.bytes())?,
-            err: Vec::from_slice(alloc, err.bytes())?,
-            counts: [ended.reports.len(), ended.journal.len()],
-            sent: sent_of(alloc, &gate)?,
-            read: 0,
-        };
+        self.left = left_by(alloc, &ended, &out, &err, &gate)?;
         if lacked_memory(&ended.reports) || self.left.sent.iter().any(|sent| is_refused(sent)) {
             return Err(NoMemory);
         }
@@ -287,6 +347,21 @@ impl Stage {
             Some(sent) => sent.get(self.left.read..).unwrap_or(&[]),
             None => &[],
         }
+    }
+
+    /// Whether lines have read all that the links sent.
+    fn all_sent_read(&self) -> bool {
+        let others = self.left.sent.get(1..).unwrap_or(&[]);
+        self.left.is_sent_searched
+            || (self.unread().is_empty() && others.iter().all(|sent| sent.is_empty()))
+    }
+
+    /// Lines are to have read all that the last run left, before that place in the script.
+    fn check_all_read<R: Abort>(&self, rt: &R, place: &str) {
+        let is_out_read = self.left.is_out_searched || self.left.out.is_empty();
+        assert!(rt; is_out_read, "output before {place}");
+        assert!(rt; self.left.err.is_empty(), "errors before {place}");
+        assert!(rt; self.all_sent_read(), "bytes of a link before {place}");
     }
 
     /// The payloads of the blocks on channel 0 that the first link sent next.
@@ -328,8 +403,11 @@ impl Stage {
             for slot in number_of(first)..=number_of(more) {
                 self.events.push(Event::Slot(slot))?;
             }
+        } else if word == "again" {
+            self.events = first_events(alloc, &self.last_events, number_of(first))?;
         } else if word == "part" {
             let events = std::mem::replace(&mut self.events, Vec::new(alloc));
+            self.last_events = first_events(alloc, &events, events.len() as u64)?;
             self.push_part(alloc, events, number_of(first))?;
         } else if word == "fails" {
             self.fail(first, number_of(more))?;
@@ -386,18 +464,17 @@ impl Stage {
         } else if word == "has" {
             let want = bytes_of(alloc, rest, b"\n")?;
             assert!(rt; has(&self.left.out, &want), "not in the output: {rest}");
+            self.left.is_out_searched = true;
             Ok(())
         } else if word == "keeps" {
             let out = std::mem::replace(&mut self.left.out, Vec::new(alloc));
             self.keep(alloc, first, out)
         } else if word == "ends" {
-            self.left.out.clear();
             assert_eq!(rt; self.left.status, number_of(first));
             Ok(())
         } else if word == "counts" {
-            let [reports, entries] = self.left.counts;
-            assert_eq!(rt; reports as u64, number_of(first), "reports");
-            assert_eq!(rt; entries as u64, number_of(more), "entries");
+            assert_eq!(rt; self.left.reports as u64, number_of(first), "reports");
+            assert_eq!(rt; self.left.entries as u64, number_of(more), "entries");
             Ok(())
         } else {
             self.check_sent(rt, alloc, word, rest)
@@ -437,6 +514,7 @@ impl Stage {
                 count = count.saturating_add(u64::from(has(sent, &want)));
             }
             assert_eq!(rt; count, number_of(first), "at {more}");
+            self.left.is_sent_searched = true;
         } else {
             assert_eq!(rt; self.left.status, number_of(word), "at {word} {rest}");
             self.read_text(rt, alloc, word == "0" || word == "1", rest)?;
@@ -470,12 +548,14 @@ impl Stage {
 /// Takes up the lines of a script, one after another.
 ///
 /// `file NAME TEXT`, `reply NAME TEXT`, `bytes NAME WORDS`, `sizes NAME FILM`, `hears TEXT`, `gets
-/// WORDS`, `slots FIRST LAST`, `part [CALL]` and `fails OBJECT CALL` say what the next run is over;
-/// `> WORDS` runs; and the lines after it say what it left: `STATUS TEXT` its status and its whole
-/// text, of the output or else of the error stream, `ends STATUS` its status alone, `out TEXT`,
-/// `err TEXT` and `is NAME` a whole text, `has TEXT` a part of the output, `counts REPORTS ENTRIES`,
-/// `says REPLY`, `sends WORDS`, `plays NAME` and `said LINKS TEXT` what its links sent. `keeps NAME`
-/// makes a file of the output. What no line reads is to be empty.
+/// WORDS`, `slots FIRST LAST`, `again COUNT` (the first so many events of the part before), `part
+/// [CALL]` and `fails OBJECT CALL` say what the next run is over; `> WORDS` runs; and the lines
+/// after it say what it left: `STATUS TEXT` its status and its whole text, of the output or else of
+/// the error stream, `out TEXT`, `err TEXT` and `is NAME` a whole text, `has TEXT` a part of the
+/// output, `ends STATUS` its status, `counts REPORTS ENTRIES`, `says
+/// REPLY`, `sends WORDS` and `plays NAME` what its first link sent next, and `said LINKS TEXT` how
+/// many links sent a text. `keeps NAME` makes a file of the output. What no line reads is to be
+/// empty, but for the rest of the output after `has`, and of what links sent after `said`.
 fn play_out<R: Threads + Wait + Sync + Abort>(
     rt: &R,
     alloc: Global,
@@ -485,12 +565,12 @@ fn play_out<R: Threads + Wait + Sync + Abort>(
     for line in script.lines() {
         let (word, rest) = word_and_rest(line);
         if word == ">" {
-            assert!(rt; stage.left.out.is_empty(), "output before {rest}");
-            assert!(rt; stage.left.err.is_empty(), "errors before {rest}");
+            stage.check_all_read(rt, rest);
             stage.run(rt, alloc, rest)?;
         } else if !line.is_empty() && word != "#" && !stage.set(alloc, word, rest)? {
             stage.check(rt, alloc, word, rest)?;
         }
     }
+    stage.check_all_read(rt, "the end");
     Ok(())
 }

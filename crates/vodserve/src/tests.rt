@@ -87,7 +87,13 @@ file cut smooth 1|slots 4|
 2 vodserve: usage|
 > serve film=b.mpg film=b.mpg
 2 vodserve: usage|
-> serve film=0.mpg film=1.mpg film=2.mpg film=3.mpg film=4.mpg film=5.mpg film=6.mpg film=7.mpg film=8.mpg film=9.mpg film=10.mpg film=11.mpg film=12.mpg film=13.mpg film=14.mpg film=15.mpg film=16.mpg film=17.mpg film=18.mpg film=19.mpg film=20.mpg film=21.mpg film=22.mpg film=23.mpg film=24.mpg film=25.mpg film=26.mpg film=27.mpg film=28.mpg film=29.mpg film=30.mpg film=31.mpg film=32.mpg film=33.mpg film=34.mpg film=35.mpg film=36.mpg film=37.mpg film=38.mpg film=39.mpg film=40.mpg film=41.mpg film=42.mpg film=43.mpg film=44.mpg film=45.mpg film=46.mpg film=47.mpg film=48.mpg film=49.mpg film=50.mpg film=51.mpg film=52.mpg film=53.mpg film=54.mpg film=55.mpg film=56.mpg film=57.mpg film=58.mpg film=59.mpg film=60.mpg film=61.mpg film=62.mpg film=63.mpg film=64.mpg
+> serve film=0.mpg film=1.mpg film=2.mpg film=3.mpg film=4.mpg film=5.mpg film=6.mpg film=7.mpg film=8.mpg film=9.mpg \
+film=10.mpg film=11.mpg film=12.mpg film=13.mpg film=14.mpg film=15.mpg film=16.mpg film=17.mpg film=18.mpg \
+film=19.mpg film=20.mpg film=21.mpg film=22.mpg film=23.mpg film=24.mpg film=25.mpg film=26.mpg film=27.mpg \
+film=28.mpg film=29.mpg film=30.mpg film=31.mpg film=32.mpg film=33.mpg film=34.mpg film=35.mpg film=36.mpg \
+film=37.mpg film=38.mpg film=39.mpg film=40.mpg film=41.mpg film=42.mpg film=43.mpg film=44.mpg film=45.mpg \
+film=46.mpg film=47.mpg film=48.mpg film=49.mpg film=50.mpg film=51.mpg film=52.mpg film=53.mpg film=54.mpg \
+film=55.mpg film=56.mpg film=57.mpg film=58.mpg film=59.mpg film=60.mpg film=61.mpg film=62.mpg film=63.mpg film=64.mpg
 2 vodserve: usage|
 > scan film=none
 3 vodserve: none: NotFound|
