@@ -1,5 +1,5 @@
 -- The words of a connection as words of a block.
-use Rattle.std.proofs.Common.{◌≡◌, ℕ, zero, suc, ◌+◌, ◌*◌, ◌%◌, ◌^◌, ◌<◌, List, slice_index, refl, ap, ◌∙◌, arith}
+use Rattle.std.proofs.Common.{◌≡◌, ℕ, zero, suc, ◌+◌, ◌*◌, ◌^◌, ◌<◌, List, slice_index, refl, ap, ◌∙◌, arith}
 use Rattle.rand_chacha.specs.Block.{block_word}
 use Rattle.rand_chacha.specs.ChaCha.{key_of}
 use Rattle.conn.specs.Words.{stream_of, words_of}

@@ -21,10 +21,10 @@ use Rattle.session.specs.Ranges.{AreSettings}
 use Rattle.session.specs.Sendings.{after_play, is_between, is_sending, is_taken, sent_due, sent_reply}
 use Rattle.session.specs.Sendings.{sent_slot, after_slot, stepped_in}
 use Rattle.session.specs.Standings.{Standing, taken_up}
-use Rattle.conn.specs.Turns.{Outcome, Part, Stage, film_bytes, slot_parts, stage}
+use Rattle.conn.specs.Turns.{Outcome, Part, Stage, film_bytes, stage}
 use Rattle.conn.specs.Rounds.{Comes, Round}
 use Rattle.conn.specs.Films.{HasSent, HasSentOn}
-use Rattle.conn.specs.Plays.{ArePlaysKept, IsKeptIn, IsSentBy, client_of, film_in, heard_by}
+use Rattle.conn.specs.Plays.{ArePlaysKept, IsKeptIn, IsSentBy, client_of, heard_by}
 use Rattle.conn.specs.Plays.{play_pieces}
 use Rattle.conn.proofs.Between.{planned_between}
 use Rattle.conn.proofs.Hearing.{AreShown, HasPlay, IsStateOf, IsWell}

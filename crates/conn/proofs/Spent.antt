@@ -3,7 +3,7 @@ use Rattle.std.proofs.Common.{◌≡◌, ℕ, ◌+◌, ◌^◌, ◌≤◌, lengt
 use Rattle.conn.specs.declared.reports.ConnEnd.{ConnEnd}
 use Rattle.conn.specs.declared.reports.ConnEnd.TheVariants.{Ended, TornDown, LinkFault, TooMuchInput, HeadTooLong, BodyTooLong, TurnsSpent, NoMemory}
 use Rattle.conn.specs.Endings.{events_heard}
-use Rattle.conn.specs.Rounds.{AtPiece, Ending, Ends, InReply, InSlot, IsStopped, IsUnheard, Overfull, PeerEnded, Unheard, ending_events}
+use Rattle.conn.specs.Rounds.{AtPiece, Ending, Ends, InReply, InSlot, IsUnheard, Overfull, PeerEnded, Unheard, ending_events}
 use Rattle.conn.specs.Sights.{HasCourse, Sight}
 use Rattle.conn.specs.Turns.{Stage}
 

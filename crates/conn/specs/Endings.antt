@@ -1,5 +1,5 @@
 -- How many events a connection heard, by what its course tells.
-use Rattle.std.specs.Prelude.{ℕ, ◌≡◌, ◌+◌, ◌^◌, length}
+use Rattle.std.specs.Prelude.{ℕ, ◌+◌, length}
 use Rattle.conn.specs.declared.reports.ConnEnd.{ConnEnd}
 use Rattle.conn.specs.Rounds.{ending_events}
 use Rattle.conn.specs.Sights.{HasCourse, Sight}

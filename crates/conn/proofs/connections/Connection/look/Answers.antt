@@ -1,6 +1,4 @@
 use Rattle.std.proofs.Common.{refl, rules}
-use Rattle.conn.specs.Keeping.{business}
-use Rattle.session.specs.declared.asks.Ask.TheVariants.{Look as AskLook}
 use Rattle.conn.proofs.Outcomes.{answered_entry, answered_full}
 use Rattle.conn.proofs.Going.{gone_look, gone_full, held_at_look}
 use Rattle.conn.proofs.connections.Connection.look.Goals as goal

@@ -1,5 +1,4 @@
 use Rattle.std.proofs.Common.{refl, rules}
-use Rattle.session.specs.declared.asks.Ask.TheVariants.{Offer as AskOffer}
 use Rattle.conn.proofs.Outcomes.{answered_offer}
 use Rattle.conn.proofs.connections.Connection.offer.Goals as goal
 

@@ -1,7 +1,6 @@
 use Rattle.std.proofs.Common.{refl}
 use Rattle.session.specs.Standings.{open_of}
 use Rattle.conn.specs.Keeping.{business}
-use Rattle.conn.specs.Sights.{sight}
 use Rattle.session.proofs.Fronts.{on_err}
 use Rattle.conn.proofs.Breaking.{broken_slot}
 use Rattle.conn.proofs.Cutting.{seat_none}
