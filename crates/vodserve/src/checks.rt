@@ -36,14 +36,8 @@ pub(crate) fn check_viewer<'a, L: Library>(
         (IsInputRefused (check_of (viewer_of viewer.entry) cert.entry.now))
         (L.files library.old) (L.faults library.old) (L.faults library.new)) }
 {
-    let curves = match viewer_curves(alloc, library, viewer) {
-        Ok(curves) => curves,
-        Err(trouble) => return Err(trouble),
-    };
-    let written = match read_input(alloc, library, cert) {
-        Ok(written) => written,
-        Err(trouble) => return Err(trouble),
-    };
+    let curves = viewer_curves(alloc, library, viewer)?;
+    let written = read_input(alloc, library, cert)?;
     let certificate = match read_cert(alloc, &written) {
         Ok(certificate) => certificate,
         Err(CertRead::BadCert { line }) => {

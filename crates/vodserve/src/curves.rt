@@ -38,10 +38,7 @@ pub(crate) fn viewer_curves<'a, L: Library>(
         (IsViewerTrouble (viewer_of viewer.entry))
         (L.files library.old) (L.faults library.old) (L.faults library.new)) }
 {
-    let pictures = match source_pictures(alloc, library, viewer.source) {
-        Ok(pictures) => pictures,
-        Err(trouble) => return Err(trouble),
-    };
+    let pictures = source_pictures(alloc, library, viewer.source)?;
     let timing = Timing {
         picture_units: pictures.picture,
         slot_units: pictures.slot,
@@ -85,14 +82,12 @@ fn trace_pictures<'a, L: Library>(
     ensures trouble { IfErr result (IsReadTrouble (IsNamed name.entry.now) IsTraceRefused
         (L.files library.old) (L.faults library.old) (L.faults library.new)) }
 {
-    match load_trace(alloc, library, name) {
-        Ok(sizes) => Ok(Pictures {
-            sizes,
-            picture: 1,
-            slot: 1,
-        }),
-        Err(trouble) => Err(trouble),
-    }
+    let sizes = load_trace(alloc, library, name)?;
+    Ok(Pictures {
+        sizes,
+        picture: 1,
+        slot: 1,
+    })
 }
 
 /// Scans a film, whose pictures have the wire sizes of its units and the time of its rate.

@@ -71,10 +71,7 @@ pub(crate) fn load_sources<'a, L: Library>(
 {
     let mut sources = Vec::new(alloc);
     for one in named {
-        let source = match load_source(alloc, library, one) {
-            Ok(source) => source,
-            Err(trouble) => return Err(trouble),
-        };
+        let source = load_source(alloc, library, one)?;
         match sources.push(source) {
             Ok(()) => {}
             Err(_) => return Err(Trouble::NoMemory),
@@ -138,14 +135,10 @@ fn load_source<'a, L: Library>(
 {
     let name = named.name.as_str();
     if named.film {
-        match load_script_film(alloc, library, name) {
-            Ok(film) => Ok(Source::Film(film)),
-            Err(trouble) => Err(trouble),
-        }
+        let film = load_script_film(alloc, library, name)?;
+        Ok(Source::Film(film))
     } else {
-        match load_trace(alloc, library, name) {
-            Ok(sizes) => Ok(Source::Trace(sizes)),
-            Err(trouble) => Err(trouble),
-        }
+        let sizes = load_trace(alloc, library, name)?;
+        Ok(Source::Trace(sizes))
     }
 }

@@ -32,19 +32,12 @@ pub(crate) fn plan_viewer<'a, L: Library>(
         (IsInputRefused (plan_of (viewer_of viewer.entry)))
         (L.files library.old) (L.faults library.old) (L.faults library.new)) }
 {
-    let curves = match viewer_curves(alloc, library, viewer) {
-        Ok(curves) => curves,
-        Err(trouble) => return Err(trouble),
-    };
-    let Ok(plan) = plan(alloc, &curves) else {
-        return Err(Trouble::NoMemory);
-    };
-    match write_cert(alloc, &plan) {
-        Ok(text) => Ok(Done {
-            status: 0,
-            text,
-            plan: Some(plan),
-        }),
-        Err(_) => Err(Trouble::NoMemory),
-    }
+    let curves = viewer_curves(alloc, library, viewer)?;
+    let plan = plan(alloc, &curves)?;
+    let text = write_cert(alloc, &plan)?;
+    Ok(Done {
+        status: 0,
+        text,
+        plan: Some(plan),
+    })
 }

@@ -26,10 +26,7 @@ pub(crate) fn load_trace<'a, L: Library>(
     ensures trouble { IfErr result (IsReadTrouble (IsNamed name.entry.now) IsTraceRefused
         (L.files library.old) (L.faults library.old) (L.faults library.new)) }
 {
-    let text = match read_input(alloc, library, name) {
-        Ok(text) => text,
-        Err(trouble) => return Err(trouble),
-    };
+    let text = read_input(alloc, library, name)?;
     match read_trace(alloc, &text) {
         Ok(sizes) => Ok(sizes),
         Err(TraceRefused::BadTrace(place)) => Err(Trouble::Refused(name, Fault::BadTrace(place))),

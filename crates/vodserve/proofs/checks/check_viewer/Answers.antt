@@ -8,42 +8,44 @@ use Rattle.vodserve.specs.Carrying.{IsDone, IsInputRefused, IsRead}
 use Rattle.std.specs.Prelude.{codes}
 use Rattle.vodserve.specs.Plans.{IsViewerTrouble}
 use Rattle.vodserve.specs.Verdict.{refused_line}
-use Rattle.vodserve.proofs.CommandLemmas.{ok_map, text_of, HasCertificate, least_checked, fault_checked}
+use Rattle.vodserve.proofs.CommandLemmas.{handed_on, ok_map, text_of, HasCertificate, least_checked, fault_checked}
 use Rattle.vodserve.proofs.checks.check_viewer.Goals as goal
 
-pub returns-in-Err-clause-trouble : goal.returns-in-Err-clause-trouble
-returns-in-Err-clause-trouble g c =
-    trouble_map (IsNamed (source_name (source_read c.args.viewer.source))) (IsRead (check_of (viewer_of c.args.viewer) c.args.cert.now))
+pub returns-in_err-curves-clause-trouble : goal.returns-in_err-curves-clause-trouble
+returns-in_err-curves-clause-trouble g c =
+    handed_on _ c.from_residual.result c.from_residual.ensures.1
+    (trouble_map (IsNamed (source_name (source_read c.args.viewer.source))) (IsRead (check_of (viewer_of c.args.viewer) c.args.cert.now))
     (IsViewerTrouble (viewer_of c.args.viewer)) (IsInputRefused (check_of (viewer_of c.args.viewer) c.args.cert.now))
     (g.L.Library.files c.args.library.now) (g.L.Library.files c.args.library.now)
     (g.L.Library.faults c.args.library.now) (g.L.Library.faults c.viewer_curves.new.library) (g.L.Library.faults c.args.library.now) (g.L.Library.faults c.viewer_curves.new.library)
-    c.in-Err.trouble (λ name is. inl is) (λ held name fault told is refused. inl (is, refused)) (λ held told. told)
-    (omega arith) (omega arith) ((c.in-Err.ensures {u = tt}).trouble)
+    c.in_err-curves.field-0.0 (λ name is. inl is) (λ held name fault told is refused. inl (is, refused)) (λ held told. told)
+    (omega arith) (omega arith) ((c.in_err-curves.ensures {u = tt}).trouble))
 
-pub returns-in-Err-read_input-clause-trouble : goal.returns-in-Err-read_input-clause-trouble
-returns-in-Err-read_input-clause-trouble g c =
-    trouble_map (IsNamed c.args.cert.now) (IsRead (check_of (viewer_of c.args.viewer) c.args.cert.now))
+pub returns-in_err-written-clause-trouble : goal.returns-in_err-written-clause-trouble
+returns-in_err-written-clause-trouble g c =
+    handed_on _ c.from_residual-in_err-written.result c.from_residual-in_err-written.ensures.1
+    (trouble_map (IsNamed c.args.cert.now) (IsRead (check_of (viewer_of c.args.viewer) c.args.cert.now))
     IsMissing (IsInputRefused (check_of (viewer_of c.args.viewer) c.args.cert.now))
     (g.L.Library.files c.viewer_curves.new.library) (g.L.Library.files c.args.library.now)
     (g.L.Library.faults c.viewer_curves.new.library) (g.L.Library.faults c.read_input.new.library) (g.L.Library.faults c.args.library.now) (g.L.Library.faults c.read_input.new.library)
-    c.in-Err-read_input.trouble (λ name is. inr is)
+    c.in_err-written.field-0.0 (λ name is. inr is)
     (λ held name fault told is missing. inr (
       is,
-      ((c.in-Ok.curves, (c.in-Ok.ensures {u = tt}).curves held told), inl (subst (λ (n : List ℕ). IsMissing held n fault) is missing)),
+      ((c.in_ok-curves.curves, (c.in_ok-curves.ensures {u = tt}).curves held told), inl (subst (λ (n : List ℕ). IsMissing held n fault) is missing)),
     ))
     (λ held told. c.viewer_curves.ensures.library.kept ∙ told)
-    (omega (arith, c.viewer_curves.ensures.library.count)) (omega arith) ((c.in-Err-read_input.ensures {u = tt}).trouble)
+    (omega (arith, c.viewer_curves.ensures.library.count)) (omega arith) ((c.in_err-written.ensures {u = tt}).trouble))
 
 pub returns-in-Err-BadCert-clause-trouble : goal.returns-in-Err-BadCert-clause-trouble
 returns-in-Err-BadCert-clause-trouble g c = (
   inr refl,
   λ held told.
       let found : file_named held c.args.cert.now ≡ Some c.deref.result.now =
-      (c.in-Ok-read_input.ensures {u = tt}).found held (c.viewer_curves.ensures.library.kept ∙ told) ∙ ap (λ (t : List ℕ). Some t) (sym c.deref.ensures.value) in
+      (c.in_ok-written.ensures {u = tt}).found held (c.viewer_curves.ensures.library.kept ∙ told) ∙ ap (λ (t : List ℕ). Some t) (sym c.deref.ensures.value) in
       inr (
         refl,
         (
-          (c.in-Ok.curves, (c.in-Ok.ensures {u = tt}).curves held told),
+          (c.in_ok-curves.curves, (c.in_ok-curves.ensures {u = tt}).curves held told),
           inr (c.deref.result.now, (found, rw c.in-Err-BadCert.field-0-is (rw c.in-Err-BadCert.field-0-is at c.in-Err-BadCert.ensures.refused))),
         ),
       ),
@@ -52,13 +54,13 @@ returns-in-Err-BadCert-clause-trouble g c = (
 pub returns-in-Ok-check-clause-done : goal.returns-in-Ok-check-clause-done
 returns-in-Ok-check-clause-done g c =
     let read : (held : List File) → g.L.Library.files c.args.library.now ≡ Some held →
-    HasCertificate held (viewer_of c.args.viewer) c.args.cert.now c.in-Ok.curves c.deref-2.result.now = λ held told. record {
-      has = (c.in-Ok.ensures {u = tt}).curves held told;
+    HasCertificate held (viewer_of c.args.viewer) c.args.cert.now c.in_ok-curves.curves c.deref-2.result.now = λ held told. record {
+      has = (c.in_ok-curves.ensures {u = tt}).curves held told;
       written = c.deref.result.now;
-      found = (c.in-Ok-read_input.ensures {u = tt}).found held (c.viewer_curves.ensures.library.kept ∙ told) ∙ ap (λ (t : List ℕ). Some t) (sym c.deref.ensures.value);
-      slots = c.in-Ok-read_cert.certificate.slots;
-      bytes = c.in-Ok-read_cert.certificate.bytes;
-      certificate = rw c.deref-2.ensures.value ((c.in-Ok-read_cert.ensures {u = tt}).read);
+      found = (c.in_ok-written.ensures {u = tt}).found held (c.viewer_curves.ensures.library.kept ∙ told) ∙ ap (λ (t : List ℕ). Some t) (sym c.deref.ensures.value);
+      slots = c.in-Ok.certificate.slots;
+      bytes = c.in-Ok.certificate.bytes;
+      certificate = rw c.deref-2.ensures.value ((c.in-Ok.ensures {u = tt}).read);
     } in
     ok_map (λ done. (done.status ≡ 0) × (c.from_slice.result ≡ Ok done.text) × (done.plan ≡ None))
     (λ done. IsDone (g.L.Library.files c.args.library.now) (check_of (viewer_of c.args.viewer) c.args.cert.now) done.status done.text.items done.plan) c.finish.result
@@ -73,20 +75,20 @@ returns-in-Ok-check-clause-done g c =
 pub returns-clause-done : goal.returns-clause-done
 returns-clause-done g c =
     let read : (held : List File) → g.L.Library.files c.args.library.now ≡ Some held →
-    HasCertificate held (viewer_of c.args.viewer) c.args.cert.now c.in-Ok.curves c.deref-2.result.now = λ held told. record {
-      has = (c.in-Ok.ensures {u = tt}).curves held told;
+    HasCertificate held (viewer_of c.args.viewer) c.args.cert.now c.in_ok-curves.curves c.deref-2.result.now = λ held told. record {
+      has = (c.in_ok-curves.ensures {u = tt}).curves held told;
       written = c.deref.result.now;
-      found = (c.in-Ok-read_input.ensures {u = tt}).found held (c.viewer_curves.ensures.library.kept ∙ told) ∙ ap (λ (t : List ℕ). Some t) (sym c.deref.ensures.value);
-      slots = c.in-Ok-read_cert.certificate.slots;
-      bytes = c.in-Ok-read_cert.certificate.bytes;
-      certificate = rw c.deref-2.ensures.value ((c.in-Ok-read_cert.ensures {u = tt}).read);
+      found = (c.in_ok-written.ensures {u = tt}).found held (c.viewer_curves.ensures.library.kept ∙ told) ∙ ap (λ (t : List ℕ). Some t) (sym c.deref.ensures.value);
+      slots = c.in-Ok.certificate.slots;
+      bytes = c.in-Ok.certificate.bytes;
+      certificate = rw c.deref-2.ensures.value ((c.in-Ok.ensures {u = tt}).read);
     } in
     ok_map (λ done. (done.status ≡ 1) × (c.refusal_text.result ≡ Ok done.text) × (done.plan ≡ None))
-    (λ done. IsDone (g.L.Library.files c.args.library.now) (check_of (viewer_of c.args.viewer) c.args.cert.now) done.status done.text.items done.plan) c.finish-in-Err-check.result
+    (λ done. IsDone (g.L.Library.files c.args.library.now) (check_of (viewer_of c.args.viewer) c.args.cert.now) done.status done.text.items done.plan) c.finish-in-Err.result
     (λ done is. (
-      inr (c.in-Err-check.fault, (is.0, text_of (refused_line c.in-Err-check.fault) c.refusal_text.result done.text c.refusal_text.ensures is.1)),
+      inr (c.in-Err.fault, (is.0, text_of (refused_line c.in-Err.fault) c.refusal_text.result done.text c.refusal_text.ensures is.1)),
       is.2,
       λ held told.
-          fault_checked (read held told) (c.in-Err-check.ensures {u = tt}).verdict c.refusal_text.ensures done is,
+          fault_checked (read held told) (c.in-Err.ensures {u = tt}).verdict c.refusal_text.ensures done is,
     ))
-    c.finish-in-Err-check.ensures.done
+    c.finish-in-Err.ensures.done

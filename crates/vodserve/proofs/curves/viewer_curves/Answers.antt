@@ -6,43 +6,45 @@ use Rattle.inputs.specs.Files.{IsNamed}
 use Rattle.vodserve.specs.Pictures.{pictures_of}
 use Rattle.wire_curve.specs.Refusal.{HasFault, IsRefused}
 use Rattle.vodserve.specs.Plans.{IsSourceTrouble, IsViewerTrouble, Pictures, timing_of}
+use Rattle.vodserve.proofs.CommandLemmas.{handed_on}
 use Rattle.vodserve.proofs.PictureLemmas.{limits_of}
 use Rattle.vodserve.proofs.curves.viewer_curves.Goals as goal
 
-pub returns-in-Err-clause-trouble : goal.returns-in-Err-clause-trouble
-returns-in-Err-clause-trouble g c =
-    trouble_map (IsNamed (source_name (source_read c.args.viewer.source))) (IsNamed (source_name (source_read c.args.viewer.source)))
+pub returns-in_err-pictures-clause-trouble : goal.returns-in_err-pictures-clause-trouble
+returns-in_err-pictures-clause-trouble g c =
+    handed_on _ c.from_residual.result c.from_residual.ensures.1
+    (trouble_map (IsNamed (source_name (source_read c.args.viewer.source))) (IsNamed (source_name (source_read c.args.viewer.source)))
     (IsSourceTrouble (source_read c.args.viewer.source)) (IsViewerTrouble (viewer_of c.args.viewer))
     (g.L.Library.files c.args.library.now) (g.L.Library.files c.args.library.now)
     (g.L.Library.faults c.args.library.now) (g.L.Library.faults c.source_pictures.new.library) (g.L.Library.faults c.args.library.now) (g.L.Library.faults c.source_pictures.new.library)
-    c.in-Err.trouble (λ name is. is) (λ held name fault told is refused. inl refused) (λ held told. told)
-    (omega arith) (omega arith) ((c.in-Err.ensures {u = tt}).trouble)
+    c.in_err-pictures.field-0.0 (λ name is. is) (λ held name fault told is refused. inl refused) (λ held told. told)
+    (omega arith) (omega arith) ((c.in_err-pictures.ensures {u = tt}).trouble))
 
 pub film_curves-requires : goal.film_curves-requires
 film_curves-requires g c =
-    subst (λ (l : List ℕ). IsWithinLimits l (timing_of (viewer_of c.args.viewer) (pictures_of c.in-Ok.pictures))) (sym c.deref.ensures.value)
-    (limits_of (viewer_of c.args.viewer) (pictures_of c.in-Ok.pictures) ((c.in-Ok.ensures {u = tt}).limits) c.requires.some_buffer c.requires.buffer_fits c.requires.startup_fits)
+    subst (λ (l : List ℕ). IsWithinLimits l (timing_of (viewer_of c.args.viewer) (pictures_of c.in_ok-pictures.pictures))) (sym c.deref.ensures.value)
+    (limits_of (viewer_of c.args.viewer) (pictures_of c.in_ok-pictures.pictures) ((c.in_ok-pictures.ensures {u = tt}).limits) c.requires.some_buffer c.requires.buffer_fits c.requires.startup_fits)
 
-pub returns-in-Ok-film_curves-clause-curves : goal.returns-in-Ok-film_curves-clause-curves
-returns-in-Ok-film_curves-clause-curves g c = λ held told. record {
-  pictures = pictures_of c.in-Ok.pictures;
-  are = (c.in-Ok.ensures {u = tt}).pictures held told;
-  accepted = rw c.deref.ensures.value at (c.in-Ok-film_curves.ensures {u = tt}).accepted;
-  curves_are = rw c.deref.ensures.value at (c.in-Ok-film_curves.ensures {u = tt}).curves;
-  sound = (c.in-Ok-film_curves.ensures {u = tt}).sound;
+pub returns-in-Ok-clause-curves : goal.returns-in-Ok-clause-curves
+returns-in-Ok-clause-curves g c = λ held told. record {
+  pictures = pictures_of c.in_ok-pictures.pictures;
+  are = (c.in_ok-pictures.ensures {u = tt}).pictures held told;
+  accepted = rw c.deref.ensures.value at (c.in-Ok.ensures {u = tt}).accepted;
+  curves_are = rw c.deref.ensures.value at (c.in-Ok.ensures {u = tt}).curves;
+  sound = (c.in-Ok.ensures {u = tt}).sound;
 }
 
 pub returns-in-Err-Fault-clause-trouble : goal.returns-in-Err-Fault-clause-trouble
 returns-in-Err-Fault-clause-trouble g c = (
   c.name.ensures,
   λ held told.
-      let pictures : Pictures = pictures_of c.in-Ok.pictures in
+      let pictures : Pictures = pictures_of c.in_ok-pictures.pictures in
       let fault : HasFault c.deref.result.now (timing_of (viewer_of c.args.viewer) pictures) c.in-Err-Fault.fault =
       subst (IsRefused c.deref.result.now (timing_of (viewer_of c.args.viewer) pictures)) c.in-Err-Fault.field-0-is ((c.in-Err-Fault.ensures {u = tt}).refused) in
       inr (
         pictures,
         (
-          (c.in-Ok.ensures {u = tt}).pictures held told,
+          (c.in_ok-pictures.ensures {u = tt}).pictures held told,
           subst (λ (l : List ℕ). HasFault l (timing_of (viewer_of c.args.viewer) pictures) c.in-Err-Fault.fault) c.deref.ensures.value fault,
         ),
       ),

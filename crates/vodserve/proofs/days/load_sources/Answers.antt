@@ -2,29 +2,31 @@ use Rattle.std.proofs.Common.{rules, ◌≡◌, ◌∙◌, ◌+◌, ◌++◌, �
 use Rattle.std.specs.List.{Contains}
 use Rattle.troubles.proofs.CauseLemmas.{trouble_map}
 use Rattle.vodserve.specs.Days.{IsFirstNamedRefused, IsNameOf, IsNamedRefused, names_in}
+use Rattle.vodserve.proofs.CommandLemmas.{handed_on}
 use Rattle.vodserve.proofs.DayLemmas.{first_named_refused, held_none, held_push, held_whole, named_contains, sources_push}
 use Rattle.vodserve.proofs.days.load_sources.Goals as goal
 
-pub returns-in-Err-clause-trouble : goal.returns-in-Err-clause-trouble
-returns-in-Err-clause-trouble g c =
-    trouble_map (IsNameOf c.one-item.result) (Contains (names_in c.args.named.now)) (IsNamedRefused c.one-item.result) (IsFirstNamedRefused c.args.named.now)
+pub returns-in_err-source-clause-trouble : goal.returns-in_err-source-clause-trouble
+returns-in_err-source-clause-trouble g c =
+    handed_on _ c.from_residual.result c.from_residual.ensures.1
+    (trouble_map (IsNameOf c.one-item.result) (Contains (names_in c.args.named.now)) (IsNamedRefused c.one-item.result) (IsFirstNamedRefused c.args.named.now)
     (g.L.Library.files c.loop-one.library) (g.L.Library.files c.args.library.now)
     (g.L.Library.faults c.loop-one.library) (g.L.Library.faults c.load_source.new.library) (g.L.Library.faults c.args.library.now) (g.L.Library.faults c.load_source.new.library)
-    c.in-Err.trouble
+    c.in_err-source.field-0.0
     (λ name is. named_contains c.args.named.now c.loop-one.one-index c.loop-one-test.true c.one-item.is is)
     (λ held name fault told is refused. first_named_refused
     c.loop-one-test.true c.one-item.is c.loop-one.invariant.count (c.loop-one.invariant.held held told) is refused)
     (λ held told. c.loop-one.invariant.library.kept ∙ told)
-    (omega (arith, c.loop-one.invariant.library.count)) (omega arith) ((c.in-Err.ensures {u = tt}).trouble)
+    (omega (arith, c.loop-one.invariant.library.count)) (omega arith) ((c.in_err-source.ensures {u = tt}).trouble))
 
 pub loop-one-preserved : goal.loop-one-preserved
 loop-one-preserved g c = record {
   count = search rules;
-  sources = sources_push c.loop-one.sources.items c.push.new.self.items c.in-Ok.source (search rules) ((c.in-Ok.ensures {u = tt}).source) c.loop-one.invariant.sources;
+  sources = sources_push c.loop-one.sources.items c.push.new.self.items c.in_ok-source.source (search rules) ((c.in_ok-source.ensures {u = tt}).source) c.loop-one.invariant.sources;
   held = λ held told.
-      held_push c.in-Ok.source (search rules)
+      held_push c.in_ok-source.source (search rules)
       c.loop-one.invariant.count c.loop-one-test.true c.one-item.is (c.loop-one.invariant.held held told)
-      ((c.in-Ok.ensures {u = tt}).held held (c.loop-one.invariant.library.kept ∙ told));
+      ((c.in_ok-source.ensures {u = tt}).held held (c.loop-one.invariant.library.kept ∙ told));
   library = search rules;
 }
 

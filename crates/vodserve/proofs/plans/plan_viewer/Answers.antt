@@ -1,16 +1,16 @@
 use Rattle.std.proofs.Common.{refl}
 use Rattle.vodserve.proofs.plans.plan_viewer.Goals as goal
 
-pub returns-in-Ok-write_cert-clause-done : goal.returns-in-Ok-write_cert-clause-done
-returns-in-Ok-write_cert-clause-done g c = (
+pub returns-clause-done : goal.returns-clause-done
+returns-clause-done g c = (
   refl,
-  (c.in-Ok-plan.plan, (refl, c.in-Ok-write_cert.ensures {u = tt})),
+  (c.in_ok-plan.plan, (refl, c.in_ok-text.ensures {u = tt})),
   λ held told. record {
-    curves = c.in-Ok.curves;
-    has = (c.in-Ok.ensures {u = tt}).curves held told;
-    segments = c.in-Ok-plan.plan;
+    curves = c.in_ok-curves.curves;
+    has = (c.in_ok-curves.ensures {u = tt}).curves held told;
+    segments = c.in_ok-plan.plan;
     plan_is = refl;
-    best = (c.in-Ok-plan.ensures {u = tt}).best;
-    certificate = c.in-Ok-write_cert.ensures {u = tt};
+    best = (c.in_ok-plan.ensures {u = tt}).best;
+    certificate = c.in_ok-text.ensures {u = tt};
   },
 )
