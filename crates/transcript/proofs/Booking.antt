@@ -14,7 +14,7 @@ use Rattle.session.specs.declared.settings.Settings.{Settings}
 use Rattle.session.specs.declared.states.Awaited.{Awaited}
 use Rattle.session.specs.declared.states.Awaited.TheVariants.{Nothing, Play, Halt, Look, Offer}
 use Rattle.session.specs.Sendings.{after_slot}
-use Rattle.session.specs.Standings.{NoAnswer, Standing, awaits_of}
+use Rattle.session.specs.Standings.{NoAnswer, Standing, awaited_answer_of}
 use Rattle.conn.specs.Rounds.{Comes, Round, entries_in, round_outcomes, rounds_outcomes, takings_outcomes}
 use Rattle.conn.specs.Turns.{Outcome, Unasked, Entered, WasFull, Offered, Part, Stage, Taking, Passed, Answered, IsFinished, IsHalted, TakesAll, entry_in, film_bytes}
 use Rattle.transcript.specs.Courses.{Follows, asked_by, askings_of, first_stage, round_askings, takings_askings}
@@ -121,7 +121,7 @@ unasked_told asked s (Entered placed) new is = absurd is
 unasked_told asked s (WasFull more entries live) new is = absurd is
 unasked_told asked s (Offered at_slot note) new is = absurd is
 
-finished_told : (asked : Awaited) (s : Standing) (halt : Outcome) (new : Standing) → IsFinished (awaits_of asked) s halt new → IsToldBy asked halt
+finished_told : (asked : Awaited) (s : Standing) (halt : Outcome) (new : Standing) → IsFinished (awaited_answer_of asked) s halt new → IsToldBy asked halt
 finished_told Nothing s halt new is = unasked_told Nothing s halt new is
 finished_told (Play prepared) s halt new is = absurd is
 finished_told (Halt keep next) s halt new is = halt_told (Halt keep next) s keep halt new (λ answer later. refl) is

@@ -1,5 +1,6 @@
 -- What was sent where a send failed is a front of what a longer course sends.
 use Rattle.std.proofs.Common.{◌≡◌, ℕ, ◌≤◌, ◌+◌, ◌++◌, ◌&&◌, if◌then◌else◌, Bool, true, false, List, [], ◌∷◌, Option, length, drop, take, arith, refl, sym, ap, subst, ◌∙◌}
+use Rattle.conn.proofs.Sighting.{takings_bytes-append}
 use Rattle.std.proofs.lemmas.Bool.{and_from, cond-true}
 use Rattle.std.proofs.lemmas.List.{append_assoc, append-nil, length-append, take_at, take_all}
 use Rattle.std.proofs.Math.Seq.{take-append-add}
@@ -12,7 +13,7 @@ use Rattle.session.specs.declared.states.Awaited.TheVariants.{Nothing, Play, Hal
 use Rattle.session.specs.declared.states.Next.TheVariants.{Done}
 use Rattle.session.specs.Hearings.{after_halt}
 use Rattle.session.specs.Sendings.{can_reply, due_bytes, after_play, is_between, is_done_in, is_sending, is_taken, sent_due, sent_in, sent_reply, sent_slot, after_slot, step_bytes, stepped_in}
-use Rattle.session.specs.Standings.{Standing, awaits, awaits_of}
+use Rattle.session.specs.Standings.{Standing, awaited_answer, awaited_answer_of}
 use Rattle.conn.specs.Rounds.{EndsInReply, HasFailedInReply, HasFailedInSlot, IsFront, Round, Runs, round_bytes, takings_bytes}
 use Rattle.conn.specs.Turns.{Answered, Entered, Film, IsFinished, Outcome, Part, Passed, Stage, Taking, TakesAll, Text, Unasked, after_reply, due_parts, parts_bytes, reply_parts, slot_parts, stage}
 use Rattle.transcript.specs.Courses.{Course, Follows, first_stage, rounds_bytes}
@@ -34,12 +35,6 @@ front-after xs front ys is = (
 bytes-append : (xs ys : List Round) → rounds_bytes (xs ++ ys) ≡ rounds_bytes xs ++ rounds_bytes ys
 bytes-append [] ys = refl
 bytes-append (x ∷ xs) ys = ap (λ bs. round_bytes x ++ bs) (bytes-append xs ys) ∙ sym (append_assoc (round_bytes x) (rounds_bytes xs) (rounds_bytes ys))
-
-takings-append : (xs ys : List Taking) → takings_bytes (xs ++ ys) ≡ takings_bytes xs ++ takings_bytes ys
-takings-append [] ys = refl
-takings-append (Passed n ∷ xs) ys = takings-append xs ys
-takings-append (Answered message outcome parts ∷ xs) ys =
-    ap (λ bs. parts_bytes parts ++ bs) (takings-append xs ys) ∙ sym (append_assoc (parts_bytes parts) (takings_bytes xs) (takings_bytes ys))
 
 -- ---- one event more
 follows-more : {mid new : Stage} {round : Round} (old : Stage) (rounds : List Round) → Follows old rounds mid → Runs mid round new → Follows old (rounds ++ round ∷ []) new
@@ -79,17 +74,17 @@ cut-short course round new sent runs front =
 record CanFinish (s : Standing) : Type 0 where
   halt : Outcome
   new : Standing
-  finished : IsFinished (awaits s) s halt new
+  finished : IsFinished (awaited_answer s) s halt new
 
 finish-none : (s : Standing) → s.awaited ≡ Nothing → CanFinish s
 finish-none s rest =
-    let F : Awaited → Type 0 = λ a. IsFinished (awaits_of a) s Unasked s in
+    let F : Awaited → Type 0 = λ a. IsFinished (awaited_answer_of a) s Unasked s in
     record { halt = Unasked; new = s; finished = subst F (sym rest) refl }
 
 finish-halt : (s : Standing) (keep : ℕ) → s.awaited ≡ Halt keep Done → CanFinish s
 finish-halt s keep halts =
     let placed : Placed = record { place = 0; entry = record { maker = 0; command = HaltCommand 0 keep; answer = Halted } } in
-    let F : Awaited → Type 0 = λ a. IsFinished (awaits_of a) s (Entered placed) (after_halt s 0) in
+    let F : Awaited → Type 0 = λ a. IsFinished (awaited_answer_of a) s (Entered placed) (after_halt s 0) in
     record {
       halt = Entered placed;
       new = after_halt s 0;
@@ -177,7 +172,7 @@ failed-reply course round message outcome front new ends =
     let text : takings_bytes (taking ∷ []) ≡ answered.text =
     append-nil (parts_bytes parts) ∙ ap parts_bytes (cond-true (can_reply answered) (Text answered.text ∷ []) [] failed.can) ∙ append-nil answered.text in
     let bytes : round_bytes longer ≡ round_bytes round ++ answered.text =
-    ap (λ bs. parts_bytes round.due ++ bs) (takings-append round.takings (taking ∷ []) ∙ ap (λ bs. takings_bytes round.takings ++ bs) text)
+    ap (λ bs. parts_bytes round.due ++ bs) (takings_bytes-append round.takings (taking ∷ []) ∙ ap (λ bs. takings_bytes round.takings ++ bs) text)
     ∙ sym (append_assoc (parts_bytes round.due) (takings_bytes round.takings) answered.text) in
     let F : List ℕ → Type 0 = λ bs. IsFront (round_bytes round ++ front) bs in
     cut-short course longer last (round_bytes round ++ front) runs (subst F (sym bytes) (front-after (round_bytes round) front answered.text failed.front_is))

@@ -1,5 +1,6 @@
 -- What a connection writes of films, event by event, is what is due of its plays.
 use Rattle.std.proofs.Common.{◌≡◌, ℕ, ◌^◌, ◌<◌, ◌≤◌, ◌++◌, ◌&&◌, ◌==◌, if◌then◌else◌, Bool, true, false, nat_lt, nat_le, List, [], ◌∷◌, take, refl, ap, sym, ◌∙◌, subst, arith}
+use Rattle.conn.proofs.Playing.{reply_state, reply_heard}
 use Rattle.std.proofs.lemmas.Bool.{eqb-true, ltb-true, true≢false, and_parts}
 use Rattle.std.proofs.lemmas.List.{append-nil}
 use Rattle.vod_base.specs.Links.{Doing, HeardBytes, HeardEnd, HeardSlot, Sent}
@@ -15,7 +16,7 @@ use Rattle.session.specs.declared.states.Setup.{Setup}
 use Rattle.session.specs.declared.states.State.{State}
 use Rattle.session.specs.declared.states.State.TheVariants.{Init, Ready, Playing, Stopping}
 use Rattle.session.specs.Sendings.{can_reply, after_play, halted_in, is_between, is_done_in, is_sending, is_taken, sent_due, sent_in, sent_reply, sent_slot, after_slot, stepped_in}
-use Rattle.session.specs.Standings.{NoAnswer, Standing, awaits, awaits_of}
+use Rattle.session.specs.Standings.{NoAnswer, Standing, awaited_answer, awaited_answer_of}
 use Rattle.session.specs.Steps.{after_stop}
 use Rattle.conn.specs.Films.{rounds_film}
 use Rattle.conn.specs.Rounds.{Comes, Round, Runs}
@@ -158,11 +159,11 @@ halted_step {s} {halt = WasFull more entries live} {new} is sound done sent asks
 halted_step {s} {halt = Offered at_slot note} {new} is sound done sent asks halted = absurd halted
 
 finishes : {s : Standing} {state : State} {halt : Outcome} {new : Standing} → s.state ≡ state → IsSound (sends_in s.state) s.waits s.heard
-    → is_done_in state ≡ true → s.awaited ≡ Halt (sent_in state) Done → IsFinished (awaits s) s halt new → Step s new (Asks s.awaited halt ∷ []) []
+    → is_done_in state ≡ true → s.awaited ≡ Halt (sent_in state) Done → IsFinished (awaited_answer s) s halt new → Step s new (Asks s.awaited halt ∷ []) []
 finishes {s} {state = Init} {halt} {new} is sound done asks finished = absurd (true≢false (sym done))
 finishes {s} {state = Ready setup paused} {halt} {new} is sound done asks finished = absurd (true≢false (sym done))
 finishes {s} {state = Playing setup play} {halt} {new} is sound done asks finished =
-    halted_step is sound done refl asks (subst (λ a. IsFinished (awaits_of a) s halt new) asks finished)
+    halted_step is sound done refl asks (subst (λ a. IsFinished (awaited_answer_of a) s halt new) asks finished)
 finishes {s} {state = Stopping setup stop} {halt} {new} is sound done asks finished = absurd (true≢false (sym done))
 
 -- nothing is asked
@@ -183,23 +184,15 @@ unasked_same s (Entered placed) new stands finished = absurd finished
 unasked_same s (WasFull more entries live) new stands finished = absurd finished
 unasked_same s (Offered at_slot note) new stands finished = absurd finished
 
-unasked_step : (s : Standing) (halt : Outcome) (new : Standing) → Stands s → IsFinished (awaits s) s halt new → Step s new (Asks s.awaited halt ∷ []) []
+unasked_step : (s : Standing) (halt : Outcome) (new : Standing) → Stands s → IsFinished (awaited_answer s) s halt new → Step s new (Asks s.awaited halt ∷ []) []
 unasked_step s halt new stands finished =
-    unasked_same s halt new stands (subst (λ a. IsFinished (awaits_of a) s halt new) stands.rest finished)
+    unasked_same s halt new stands (subst (λ a. IsFinished (awaited_answer_of a) s halt new) stands.rest finished)
 
 -- a slot that is taken up by what is being sent
 finished_step : {s : Standing} {halt : Outcome} {new : Standing} {done : Bool} → IsSound (sends_in s.state) s.waits s.heard → is_done_in s.state ≡ done
-    → s.awaited ≡ (if done then Halt (sent_in s.state) Done else Nothing) → IsFinished (awaits s) s halt new → Step s new (Asks s.awaited halt ∷ []) []
+    → s.awaited ≡ (if done then Halt (sent_in s.state) Done else Nothing) → IsFinished (awaited_answer s) s halt new → Step s new (Asks s.awaited halt ∷ []) []
 finished_step {s} {halt} {new} {done = true} sound done asks finished = finishes refl sound done asks finished
 finished_step {s} {halt} {new} {done = false} sound done asks finished = unasked_step s halt new (record { rest = asks; sound = sound }) finished
-
-pub reply_state : (goes : Bool) (s : Standing) → (if goes then sent_reply s else s).state ≡ (if goes then after_stop s.state else s.state)
-reply_state true s = refl
-reply_state false s = refl
-
-pub reply_heard : (goes : Bool) (s : Standing) → (if goes then sent_reply s else s).heard ≡ s.heard
-reply_heard true s = refl
-reply_heard false s = refl
 
 pub reply_waits : (goes : Bool) (s : Standing) → (if goes then sent_reply s else s).waits ≡ (if goes then false else s.waits)
 reply_waits true s = refl
@@ -233,7 +226,7 @@ sent_on old slot stands sending later =
     (slot_goes old.state old.waits old.text sending stands.sound later)))
 
 sent_step : {old : Standing} {halt : Outcome} {new : Standing} (slot : ℕ) → Stands old → is_sending old.state ≡ true → old.heard < slot
-    → IsFinished (awaits (after_play (sent_slot old slot))) (after_play (sent_slot old slot)) halt new
+    → IsFinished (awaited_answer (after_play (sent_slot old slot))) (after_play (sent_slot old slot)) halt new
     → Step old new (Asks (after_play (sent_slot old slot)).awaited halt ∷ []) (film_bytes (due_parts old slot))
 sent_step {old} {halt} {new} slot stands sending later finishing =
     let s : Standing = after_play (sent_slot old slot) in
@@ -261,7 +254,7 @@ idle_on old slot stands none later = record {
 slot_cases : {old : Standing} {halt : Outcome} {new : Standing} {taken sending : Bool} (slot : ℕ) → Stands old → (taken ≡ true → old.heard < slot)
     → is_sending old.state ≡ sending
     → let s : Standing = if taken then (if sending then after_play (sent_slot old slot) else record old { heard = slot }) else old in
-    IsFinished (awaits s) s halt new
+    IsFinished (awaited_answer s) s halt new
     → Step old new (Asks s.awaited halt ∷ []) (film_bytes (if taken && sending then due_parts old slot else []))
 slot_cases {old} {halt} {new} {taken = false} slot stands later is finishing = unasked_step old halt new stands finishing
 slot_cases {halt} {new} {taken = true} {sending = true} slot stands later is finishing = sent_step slot stands is (later refl) finishing
@@ -270,7 +263,7 @@ slot_cases {old} {halt} {new} {taken = true} {sending = false} slot stands later
     let on : On old s [] [] = idle_on old slot stands is (later refl) in
     then_asked on (unasked_step s halt new (record { rest = stands.rest; sound = on.sound }) finishing)
 
-pub slot_step : (old : Standing) (slot : ℕ) (halt : Outcome) (new : Standing) → Stands old → IsFinished (awaits (after_slot old slot)) (after_slot old slot) halt new
+pub slot_step : (old : Standing) (slot : ℕ) (halt : Outcome) (new : Standing) → Stands old → IsFinished (awaited_answer (after_slot old slot)) (after_slot old slot) halt new
     → Step old new (Asks (after_slot old slot).awaited halt ∷ []) (film_bytes (slot_parts old slot))
 slot_step old slot halt new stands finishing =
     slot_cases slot stands

@@ -7,7 +7,7 @@ use Rattle.film_frames.specs.declared.stores.Stored.{Stored}
 use Rattle.session.specs.declared.settings.Settings.{Settings}
 use Rattle.session.specs.declared.states.Awaited.TheVariants.{Nothing}
 use Rattle.session.specs.Sendings.{can_reply, after_play, is_between, is_sending, sent_due, sent_reply, sent_slot, after_slot, stepped_in}
-use Rattle.session.specs.Standings.{Awaits, NoAnswer, PlayAnswer, HaltAnswer, LookAnswer, OfferAnswer, Standing, awaits}
+use Rattle.session.specs.Standings.{Awaits, NoAnswer, PlayAnswer, HaltAnswer, LookAnswer, OfferAnswer, Standing, awaited_answer}
 use Rattle.conn.specs.Films.{rounds_film}
 use Rattle.conn.specs.Rounds.{Comes, Round}
 use Rattle.conn.specs.Turns.{Outcome, Unasked, Entered, WasFull, Offered, Part, Stage, Taking, Passed, Answered, IsFinished, IsHalted, TakesAll, after_reply, film_bytes}
@@ -78,7 +78,7 @@ pub comes_heard : (old opened : Stage) (event : Doing) (due : List Part) (halt :
 comes_heard old opened (HeardBytes bytes) due halt comes =
     ap (λ (s : Stage). s.session.heard) comes.3 ∙ omega arith
 comes_heard old opened (HeardSlot slot) due halt comes =
-    finished_heard (awaits (after_slot old.session slot)) (after_slot old.session slot) halt opened.session comes.1.finished ∙ slotted_heard old.session slot
+    finished_heard (awaited_answer (after_slot old.session slot)) (after_slot old.session slot) halt opened.session comes.1.finished ∙ slotted_heard old.session slot
 comes_heard old opened HeardEnd due halt comes = absurd comes
 comes_heard old opened (Sent byte) due halt comes = absurd comes
 

@@ -16,7 +16,7 @@ use Rattle.session.specs.declared.asks.Ask.TheVariants.{Reply as AskReply, Play 
 use Rattle.session.specs.declared.settings.Settings.{Settings}
 use Rattle.session.specs.PlayLaws.{slots_missed}
 use Rattle.session.specs.Sendings.{can_reply, after_play, is_between, is_sending, is_taken, missed_between, sent_due, sent_reply, sent_slot, after_slot, start_in, stepped_in}
-use Rattle.session.specs.Standings.{Awaits, HaltAnswer, LookAnswer, NoAnswer, OfferAnswer, Open, PlayAnswer, Standing, awaits, open_of}
+use Rattle.session.specs.Standings.{Awaits, HaltAnswer, LookAnswer, NoAnswer, OfferAnswer, Open, PlayAnswer, Standing, awaited_answer, open_of}
 use Rattle.session.proofs.Shapes.{HearsAs, Replies, SetsUp, AsksPlay, Stops, AsksLook, AsksOffer, hears_as}
 use Rattle.conn.specs.Rounds.{Comes, Ending, Unheard, PeerEnded, Overfull, AtPiece, InSlot, InReply, Ends, Round, Runs, RunsAll}
 use Rattle.conn.specs.Turns.{HasHeard, IsAnswered, IsClosed, IsFinished, IsHalted, IsLookAnswered, IsPlayAnswered, Outcome, Unasked, Entered, WasFull, Offered, Part, Stage, Taking, Passed, Answered, TakesAll, after_reply}
@@ -154,7 +154,7 @@ comes-late : (old opened : Stage) (event : Doing) (due : List Part) (halt : Outc
     → opened.session.late ≡ old.session.late + missed_by old.session event
 comes-late old opened (HeardBytes bytes) due halt comes = ap (λ (s : Stage). s.session.late) comes.3 ∙ omega arith
 comes-late old opened (HeardSlot slot) due halt comes =
-    finished-late (awaits (after_slot old.session slot)) (after_slot old.session slot) halt opened.session comes.1.finished ∙ slotted-late old.session slot
+    finished-late (awaited_answer (after_slot old.session slot)) (after_slot old.session slot) halt opened.session comes.1.finished ∙ slotted-late old.session slot
 comes-late old opened HeardEnd due halt comes = absurd comes
 comes-late old opened (Sent byte) due halt comes = absurd comes
 

@@ -14,7 +14,7 @@ use Rattle.session.specs.declared.states.Setup.{Setup}
 use Rattle.session.specs.declared.states.State.{State}
 use Rattle.session.specs.declared.states.State.TheVariants.{Init, Ready, Playing, Stopping}
 use Rattle.session.specs.Sendings.{can_reply, due_state, after_play, is_between, is_sending, is_taken, kept_of, sent_due, sent_reply, sent_slot, after_slot, stepped_in}
-use Rattle.session.specs.Standings.{NoAnswer, Open, Standing, awaits, awaits_of, open_in, open_of}
+use Rattle.session.specs.Standings.{NoAnswer, Open, Standing, awaited_answer, awaited_answer_of, open_in, open_of}
 use Rattle.session.specs.Steps.{IsCarried, after_stop}
 use Rattle.conn.specs.Rounds.{Comes, Ending, Unheard, PeerEnded, Overfull, AtPiece, InSlot, InReply, EndsInReply, Ends, Round, Runs, RunsAll, ending_outcomes, round_outcomes, rounds_outcomes, takings_outcomes}
 use Rattle.conn.specs.Turns.{IsClosed, IsFinished, IsHalted, Outcome, Unasked, Entered, WasFull, Offered, Part, Stage, Taking, Passed, Answered, TakesAll, after_reply, film_bytes}
@@ -108,7 +108,7 @@ unasked-finished s new (Entered placed) is = absurd is
 unasked-finished s new (WasFull more entries live) is = absurd is
 unasked-finished s new (Offered at_slot note) is = absurd is
 
-finished-turn : (s new : Standing) (awaited : Awaited) (halt : Outcome) → s.awaited ≡ awaited → IsFinished (awaits_of awaited) s halt new
+finished-turn : (s new : Standing) (awaited : Awaited) (halt : Outcome) → s.awaited ≡ awaited → IsFinished (awaited_answer_of awaited) s halt new
     → CarriesOf s (turn_of s halt ∷ []) new
 finished-turn s new Nothing halt asks is = unasked-finished s new halt is
 finished-turn s new (Play prepared) halt asks is = absurd is
@@ -219,7 +219,7 @@ stands-round : (old new : Stage) (round : Round) → Runs old round new → Stan
 stands-round old new round runs stands =
     stands_by old.session new.session (round_askings old round new runs) (film_bytes round.due) (round_step old new round runs stands)
 
-at-rest : (awaited : Awaited) → awaits_of awaited ≡ NoAnswer → awaited ≡ Nothing
+at-rest : (awaited : Awaited) → awaited_answer_of awaited ≡ NoAnswer → awaited ≡ Nothing
 at-rest Nothing rest = refl
 at-rest (Play prepared) rest = absurd (let never : ⊥ = cc rest in never)
 at-rest (Halt keep next) rest = absurd (let never : ⊥ = cc rest in never)

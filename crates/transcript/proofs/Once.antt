@@ -11,7 +11,7 @@ use Rattle.session.specs.Laws.{IsOneHearing}
 use Rattle.session.specs.Ranges.{AreFilms}
 use Rattle.session.proofs.OneHearing.{hears_once}
 use Rattle.session.specs.Sendings.{can_reply, after_play, is_between, is_sending, is_taken, sent_due, sent_reply, sent_slot, after_slot, stepped_in}
-use Rattle.session.specs.Standings.{Awaits, NoAnswer, PlayAnswer, HaltAnswer, LookAnswer, OfferAnswer, Standing, awaits}
+use Rattle.session.specs.Standings.{Awaits, NoAnswer, PlayAnswer, HaltAnswer, LookAnswer, OfferAnswer, Standing, awaited_answer}
 use Rattle.conn.specs.Turns.{Outcome, Unasked, Entered, WasFull, Offered, Part, HasStepped, IsAnswered, IsFinished, IsHalted, IsLookAnswered, IsPlayAnswered, after_reply}
 use Rattle.transcript.specs.Cuttings.{AreSameAnswers, Hearing, LackAlike, LacksMemory, answer_in}
 
@@ -182,7 +182,7 @@ pub steps_same : {old : Standing} {slot : ℕ} {due sent : List Part} {one other
     → HasStepped old slot due one new → HasStepped old slot sent other again → AreSameAnswers (answer_in one ++ ones) (answer_in other ++ others)
     → (sent ≡ due) × (again ≡ new) × AreSameAnswers ones others
 steps_same {old} {slot} {one} {other} {new} ones others is also same =
-    let both = finished_same (awaits (after_slot old slot)) (after_slot old slot) one other ones others is.finished also.finished same in
+    let both = finished_same (awaited_answer (after_slot old slot)) (after_slot old slot) one other ones others is.finished also.finished same in
     (also.parts_are ∙ sym is.parts_are, both.0, both.1)
 
 -- ---- the films stay
@@ -247,5 +247,5 @@ finished_films OfferAnswer old outcome new is = absurd is
 pub stepped_films : (old : Standing) (slot : ℕ) (due : List Part) (halt : Outcome) (new : Standing) → HasStepped old slot due halt new
     → new.films ≡ old.films
 stepped_films old slot due halt new is =
-    finished_films (awaits (after_slot old slot)) (after_slot old slot) halt new is.finished
+    finished_films (awaited_answer (after_slot old slot)) (after_slot old slot) halt new is.finished
     ∙ slot_films old slot (is_taken old slot) (is_sending old.state)

@@ -1,5 +1,6 @@
 -- Each reply of a connection stands at the first boundary from what was due when its request was taken up.
 use Rattle.std.proofs.Common.{◌≡◌, ℕ, ◌+◌, ◌-◌, ◌<◌, ◌≤◌, ◌++◌, ◌&&◌, if◌then◌else◌, Bool, true, false, min, List, [], ◌∷◌, Option, Some, None, length, refl, ap, sym, ◌∙◌, subst, inl, arith}
+use Rattle.conn.proofs.Replying.{boundary_here}
 use Rattle.std.proofs.lemmas.Bool.{true≢false}
 use Rattle.film_frames.specs.Runs.{run_pieces}
 use Rattle.film_frames.specs.Tracks.{IsBoundary, framed_bytes}
@@ -22,7 +23,7 @@ use Rattle.transcript.specs.Plays.{Asking, Asks, FilmPlay, plays_admitted, plays
 use Rattle.transcript.specs.Replies.{placed_text, placed_texts}
 use Rattle.transcript.proofs.Films.{IsOnTime, IsSound, play_with, through_time}
 use Rattle.transcript.proofs.Places.{AreLater, StandAt, from_lower, later_lower, none_due, over_at, text_at}
-use Rattle.transcript.proofs.Slots.{ended_at, ending_cases, going_cases, parts_of, stands_here, state_after, waits_after}
+use Rattle.transcript.proofs.Slots.{ended_at, ending_cases, going_cases, parts_of, state_after, waits_after}
 use Rattle.transcript.proofs.Turning.{Begins, Ends, Ending, Going, Halts, Idle, IsStill, Sends, Starts, Stays, TurnsAs, pacing_for, sends_in}
 use Rattle.transcript.proofs.Waits.{Fits, GoesTo, IsHeld, Stand, after_slot, at_here, due_far, due_going, due_here, goes_same, held_here, parts_in, slot_at, still_held}
 
@@ -188,7 +189,7 @@ ending_reply : {p : Pacing} {heard : ℕ} {text : List ℕ} {askings : List Aski
     → stands_at_boundary p ≡ true → heard ≤ end → Fits Idle heard None askings end slots parts
     → Fits (Ending p) heard (Some heard) askings end slots (Text text ∷ parts)
 ending_reply {p} {heard} {text} {end} sound stands on fits =
-    let ended = ended_at sound.0 sound.2 (stands_here p sound.0.pacing stands) refl in
+    let ended = ended_at sound.0 sound.2 (boundary_here p sound.0.pacing stands) refl in
     let over = over_fits sound.0 ended on fits in
     record {
       from = fits.from;
@@ -302,7 +303,7 @@ ended_through p heard slot sound later stands =
     let on : IsOnTime p heard = sound.0 in
     let through : IsOnTime (sent_through slot p) slot = through_time p heard slot on later in
     let one : Pacing = after_step true slot p in
-    let boundary : IsBoundary p.pieces (p.before + one.sent) = stands_here one (stopped_is slot p on.pacing) stands in
+    let boundary : IsBoundary p.pieces (p.before + one.sent) = boundary_here one (stopped_is slot p on.pacing) stands in
     let least : p.before + p.keep ≤ p.before + one.sent = sound.2 (p.before + one.sent) boundary (sent_after p slot on.pacing) in
     omega (arith, least, through.pacing.due)
 

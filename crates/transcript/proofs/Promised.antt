@@ -1,5 +1,6 @@
 -- The promise from a server to its client's meter.
 use Rattle.std.proofs.Common.{◌≡◌, ℕ, suc, ◌+◌, ◌-◌, ◌<◌, ◌≤◌, min, List, [], ◌∷◌, ◌++◌, length, take, drop, map, sum, refl, sym, ap, subst, ◌∙◌, append_assoc, arith, inl, inr}
+use Rattle.conn.proofs.Telling.{parts-more}
 use Rattle.std.proofs.lemmas.Bool.{cases_lt}
 use Rattle.std.proofs.lemmas.List.{length-map, length-take, take_all, take-take}
 use Rattle.std.proofs.lemmas.List.Sums.{sum_by-take-le}
@@ -182,12 +183,6 @@ sent-between {wish} {stored} {identity} {play} {x} {rounds} {j} whole is blocks 
 
 -- ---- what the client is fed
 
-parts-append : (a b : List Round) → rounds_parts (a ++ b) ≡ rounds_parts a ++ rounds_parts b
-parts-append [] b = refl
-parts-append (round ∷ a) b =
-    let mine = round_parts round in
-    ap (λ l. mine ++ l) (parts-append a b) ∙ sym (append_assoc mine (rounds_parts a) (rounds_parts b))
-
 event-is : (old opened : Stage) (event : Doing) (due : List Part) (halt : Outcome) → Comes old event due halt opened → IsEvent event
 event-is old opened (HeardBytes bytes) due halt comes = tt
 event-is old opened (HeardSlot slot) due halt comes = tt
@@ -228,7 +223,7 @@ fed-by wish stored course played first later j split slot =
     let bytes : length (rounds_bytes first) ≡ film + texts_length (placed_texts 0 one) =
     ap (λ (l : List ℕ). length l) (rounds_sent first) ∙ (parts-length 0 one ∙ ap (λ n. n + texts_length (placed_texts 0 one)) size) in
     let texts : placed_texts 0 one ++ placed_texts (0 + length (film_bytes one)) two ≡ placed_text 0 played.setup ∷ placed_text 0 played.played ∷ played.later =
-    sym (texts-parts 0 one two) ∙ (ap (placed_texts 0) (sym (ap rounds_parts split ∙ parts-append first later)) ∙ played.texts) in
+    sym (texts-parts 0 one two) ∙ (ap (placed_texts 0) (sym (ap rounds_parts split ∙ parts-more first later)) ∙ played.texts) in
     let F : ℕ → Type 0 = λ n. IsFromTo 0 n (placed_texts 0 one) in
     let same : 0 + length (film_bytes one) ≡ film = omega (arith, size) in
     let within : IsFromTo 0 film (placed_texts 0 one) = subst F same (texts-within 0 one) in

@@ -11,7 +11,7 @@ use Rattle.session.specs.declared.asks.Ask.TheVariants.{Reply as AskReply, Play 
 use Rattle.session.specs.declared.notes.Receipt.TheVariants.{Entry as EntryReceipt}
 use Rattle.session.specs.declared.settings.Settings.{Settings}
 use Rattle.session.specs.Sendings.{after_play, after_slot, can_reply, is_between, is_sending, is_taken, sent_due, sent_reply, sent_slot, stepped_in}
-use Rattle.session.specs.Standings.{Awaits, HaltAnswer, LookAnswer, NoAnswer, OfferAnswer, Open, PlayAnswer, Standing, awaits, open_of}
+use Rattle.session.specs.Standings.{Awaits, HaltAnswer, LookAnswer, NoAnswer, OfferAnswer, Open, PlayAnswer, Standing, awaited_answer, open_of}
 use Rattle.session.proofs.Shapes.{HearsAs, Replies, SetsUp, AsksPlay, Stops, AsksLook, AsksOffer, hears_as}
 use Rattle.conn.specs.Rounds.{Comes, Ending, Unheard, PeerEnded, Overfull, AtPiece, InSlot, InReply, Ends, Round, Runs, RunsAll, ending_outcomes, round_outcomes, rounds_outcomes, takings_outcomes}
 use Rattle.conn.specs.Turns.{HasHeard, IsAnswered, IsClosed, IsFinished, IsHalted, IsLookAnswered, IsPlayAnswered, Outcome, Unasked, Entered, WasFull, Offered, Part, Stage, Taking, Passed, Answered, TakesAll, after_reply}
@@ -170,7 +170,7 @@ logs-comes old opened (HeardBytes bytes) due halt comes =
 logs-comes old opened (HeardSlot slot) due halt comes =
     logs-then
     (logs-slot old.session slot (is_taken old.session slot) (is_sending old.session.state))
-    (logs-finished (after_slot old.session slot) opened.session (awaits (after_slot old.session slot)) halt comes.1.finished)
+    (logs-finished (after_slot old.session slot) opened.session (awaited_answer (after_slot old.session slot)) halt comes.1.finished)
 logs-comes old opened HeardEnd due halt comes = absurd comes
 logs-comes old opened (Sent byte) due halt comes = absurd comes
 

@@ -1,5 +1,6 @@
 -- The replies of a connection's course, one after another, each at its place.
 use Rattle.std.proofs.Common.{◌≡◌, ℕ, ◌+◌, ◌-◌, ◌^◌, ◌<◌, ◌≤◌, ◌++◌, ◌&&◌, if◌then◌else◌, Bool, true, false, nat_lt, nat_le, min, max, List, [], ◌∷◌, Option, Some, None, refl, ap, sym, ◌∙◌, subst, inl, inr, arith}
+use Rattle.conn.proofs.Playing.{reply_state, reply_heard}
 use Rattle.std.proofs.lemmas.Bool.{ltb-true, true≢false, and_parts}
 use Rattle.std.proofs.lemmas.List.{append-nil}
 use Rattle.vod_base.specs.Links.{Doing, HeardBytes, HeardEnd, HeardSlot, Sent}
@@ -18,7 +19,7 @@ use Rattle.session.specs.declared.states.State.{State}
 use Rattle.session.specs.declared.states.State.TheVariants.{Init, Ready, Playing, Stopping}
 use Rattle.session.specs.Hearings.{is_answered}
 use Rattle.session.specs.Sendings.{can_reply, after_play, is_between, is_done_in, is_sending, is_taken, next_of, sent_due, sent_in, sent_reply, sent_slot, after_slot, stepped_in}
-use Rattle.session.specs.Standings.{NoAnswer, Standing, awaits, awaits_of}
+use Rattle.session.specs.Standings.{NoAnswer, Standing, awaited_answer, awaited_answer_of}
 use Rattle.conn.specs.Films.{rounds_parts, takings_parts}
 use Rattle.conn.specs.Rounds.{Comes, Round, Runs}
 use Rattle.conn.specs.Turns.{Answered, Entered, IsFinished, IsHaltAnswered, IsHalted, IsReplied, Offered, Outcome, Part, Passed, Stage, Taking, TakesAll, Text, Unasked, WasFull, after_reply, due_parts, reply_parts}
@@ -26,7 +27,7 @@ use Rattle.transcript.specs.Courses.{Follows, asked_by, askings_of, first_stage,
 use Rattle.transcript.specs.Places.{AreSentAt, IsBoundaryIn, slots_from, takings_slots}
 use Rattle.transcript.specs.Plays.{Asking, Asks, plays_admitted, plays_begun, due_by as all_due, due_of, kept_by, kept_in, kept_with, plays_of}
 use Rattle.transcript.specs.Replies.{placed_texts}
-use Rattle.transcript.proofs.Filming.{Stands, course_step, done_kept, halt_state, idle_sound, opened_rest, opened_stands, reply_awaited, reply_heard, reply_state, reply_waits, round_step, sent_on, stands_by, taken_stands, turn_after, turn_step}
+use Rattle.transcript.proofs.Filming.{Stands, course_step, done_kept, halt_state, idle_sound, opened_rest, opened_stands, reply_awaited, reply_waits, round_step, sent_on, stands_by, taken_stands, turn_after, turn_step}
 use Rattle.transcript.proofs.Films.{IsOnTime, IsSound, play_with}
 use Rattle.transcript.proofs.Hearing.{comes_heard, course_heard, takes_left}
 use Rattle.transcript.proofs.Places.{AreLater, StandAt, due_then, from_lower, later_lower, over_at}
@@ -152,10 +153,10 @@ unasked_move s (Entered placed) new pending held finishing = absurd finishing
 unasked_move s (WasFull more entries live) new pending held finishing = absurd finishing
 unasked_move s (Offered at_slot note) new pending held finishing = absurd finishing
 
-rest_move : {s : Standing} {halt : Outcome} {new : Standing} {pending : Option ℕ} → s.awaited ≡ Nothing → HeldIn pending s → IsFinished (awaits s) s halt new
+rest_move : {s : Standing} {halt : Outcome} {new : Standing} {pending : Option ℕ} → s.awaited ≡ Nothing → HeldIn pending s → IsFinished (awaited_answer s) s halt new
     → Move s new pending (Asks s.awaited halt ∷ []) [] []
 rest_move {s} {halt} {new} {pending} rest held finishing =
-    unasked_move s halt new pending held (subst (λ a. IsFinished (awaits_of a) s halt new) rest finishing)
+    unasked_move s halt new pending held (subst (λ a. IsFinished (awaited_answer_of a) s halt new) rest finishing)
 
 -- a play that is done: no reply is held up, and it is halted with all that was sent
 done_unheld : {p : Pacing} {pending : Option ℕ} (waits : Bool) (heard : ℕ) → IsPacing p → p.sent ≡ p.keep → IsHeld pending (Going p) waits heard
@@ -219,23 +220,23 @@ halted_move {s} {halt = WasFull more entries live} {new} is sound done sent asks
 halted_move {s} {halt = Offered at_slot note} {new} is sound done sent asks halted held = absurd halted
 
 finishes_move : {s : Standing} {state : State} {halt : Outcome} {new : Standing} {pending : Option ℕ} → s.state ≡ state
-    → IsSound (sends_in s.state) s.waits s.heard → is_done_in state ≡ true → s.awaited ≡ Halt (sent_in state) Done → IsFinished (awaits s) s halt new
+    → IsSound (sends_in s.state) s.waits s.heard → is_done_in state ≡ true → s.awaited ≡ Halt (sent_in state) Done → IsFinished (awaited_answer s) s halt new
     → HeldIn pending s → Move s new pending (Asks s.awaited halt ∷ []) [] []
 finishes_move {s} {state = Init} {halt} {new} is sound done asks finishing held = absurd (true≢false (sym done))
 finishes_move {s} {state = Ready setup paused} {halt} {new} is sound done asks finishing held = absurd (true≢false (sym done))
 finishes_move {s} {state = Playing setup play} {halt} {new} is sound done asks finishing held =
-    halted_move is sound done refl asks (subst (λ a. IsFinished (awaits_of a) s halt new) asks finishing) held
+    halted_move is sound done refl asks (subst (λ a. IsFinished (awaited_answer_of a) s halt new) asks finishing) held
 finishes_move {s} {state = Stopping setup stop} {halt} {new} is sound done asks finishing held = absurd (true≢false (sym done))
 
 finished_move : {s : Standing} {halt : Outcome} {new : Standing} {done : Bool} {pending : Option ℕ} → IsSound (sends_in s.state) s.waits s.heard
-    → is_done_in s.state ≡ done → s.awaited ≡ (if done then Halt (sent_in s.state) Done else Nothing) → IsFinished (awaits s) s halt new → HeldIn pending s
+    → is_done_in s.state ≡ done → s.awaited ≡ (if done then Halt (sent_in s.state) Done else Nothing) → IsFinished (awaited_answer s) s halt new → HeldIn pending s
     → Move s new pending (Asks s.awaited halt ∷ []) [] []
 finished_move {s} {halt} {new} {done = true} sound is asks finishing held = finishes_move refl sound is asks finishing held
 finished_move {s} {halt} {new} {done = false} sound is asks finishing held = rest_move asks held finishing
 
 sent_move : {old : Standing} {halt : Outcome} {new : Standing} {pending : Option ℕ} (slot : ℕ) → Stands old → HeldIn pending old
     → IsSound (sends_in (after_play (sent_slot old slot)).state) (after_play (sent_slot old slot)).waits (after_play (sent_slot old slot)).heard
-    → is_sending old.state ≡ true → old.heard < slot → IsFinished (awaits (after_play (sent_slot old slot))) (after_play (sent_slot old slot)) halt new
+    → is_sending old.state ≡ true → old.heard < slot → IsFinished (awaited_answer (after_play (sent_slot old slot))) (after_play (sent_slot old slot)) halt new
     → Move old new pending (Asks (after_play (sent_slot old slot)).awaited halt ∷ []) [] (due_parts old slot)
 sent_move {old} {halt} {new} {pending} slot stands held sound sending later finishing =
     let s : Standing = after_play (sent_slot old slot) in
@@ -304,7 +305,7 @@ slot_sound {old} {taken = true} {sending = false} slot stands later is = idle_so
 slot_move : {old : Standing} {halt : Outcome} {new : Standing} {pending : Option ℕ} {taken sending : Bool} (slot : ℕ) → Stands old → HeldIn pending old
     → (taken ≡ true → old.heard < slot) → is_sending old.state ≡ sending
     → let s : Standing = if taken then (if sending then after_play (sent_slot old slot) else record old { heard = slot }) else old in
-    IsSound (sends_in s.state) s.waits s.heard → IsFinished (awaits s) s halt new
+    IsSound (sends_in s.state) s.waits s.heard → IsFinished (awaited_answer s) s halt new
     → Move old new pending (Asks s.awaited halt ∷ []) [] (if taken && sending then due_parts old slot else [])
 slot_move {halt} {new} {taken = false} slot stands held later is sound finishing = rest_move stands.rest held finishing
 slot_move {halt} {new} {taken = true} {sending = true} slot stands held later is sound finishing =

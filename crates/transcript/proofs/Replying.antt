@@ -9,7 +9,7 @@ use Rattle.session.specs.declared.states.Awaited.TheVariants.{Nothing, Halt}
 use Rattle.session.specs.declared.states.Next.TheVariants.{Done}
 use Rattle.session.specs.Hearings.{is_answered}
 use Rattle.session.specs.Sendings.{can_reply, after_play, is_between, is_done_in, is_sending, is_taken, next_of, sent_due, sent_in, sent_reply, sent_slot, after_slot, step_bytes, stepped_in}
-use Rattle.session.specs.Standings.{Awaits, NoAnswer, PlayAnswer, HaltAnswer, LookAnswer, OfferAnswer, Standing, awaits}
+use Rattle.session.specs.Standings.{Awaits, NoAnswer, PlayAnswer, HaltAnswer, LookAnswer, OfferAnswer, Standing, awaited_answer}
 use Rattle.conn.specs.Films.{round_parts, rounds_parts, takings_parts}
 use Rattle.conn.specs.Rounds.{Comes, Round}
 use Rattle.conn.specs.Turns.{Answered, Entered, Film, IsFinished, IsHalted, IsReplied, Offered, Outcome, Part, Passed, Stage, Taking, TakesAll, Text, Unasked, WasFull, due_parts, film_bytes, slot_parts}
@@ -136,10 +136,10 @@ slot_cases old slot true true rest =
     )
 
 slot_replies : (old : Standing) (slot : ℕ) (halt : Outcome) (new : Standing) → old.awaited ≡ Nothing
-    → IsFinished (awaits (after_slot old slot)) (after_slot old slot) halt new → Replies old (texts_in (slot_parts old slot)) [] new
+    → IsFinished (awaited_answer (after_slot old slot)) (after_slot old slot) halt new → Replies old (texts_in (slot_parts old slot)) [] new
 slot_replies old slot halt new rest finishing =
     let cases = slot_cases old slot (is_taken old slot) (is_sending old.state) rest in
-    ap (λ ts. texts_in (slot_parts old slot) ++ ts) (finished_waiting (awaits (after_slot old slot)) (after_slot old slot) halt new cases.1 finishing)
+    ap (λ ts. texts_in (slot_parts old slot) ++ ts) (finished_waiting (awaited_answer (after_slot old slot)) (after_slot old slot) halt new cases.1 finishing)
     ∙ cases.0 ∙ sym (append-nil (waiting_reply old))
 
 comes_replies : (old opened : Stage) (event : Doing) (due : List Part) (halt : Outcome) → Comes old event due halt opened → Stands old.session

@@ -14,7 +14,7 @@ use Rattle.session.specs.declared.states.Awaited.{Awaited}
 use Rattle.session.specs.declared.states.Awaited.TheVariants.{Nothing, Play, Halt, Look, Offer}
 use Rattle.session.specs.declared.states.Prepared.{Prepared}
 use Rattle.session.specs.Sendings.{after_slot}
-use Rattle.session.specs.Standings.{Standing, awaits_of}
+use Rattle.session.specs.Standings.{Standing, awaited_answer_of}
 use Rattle.conn.specs.Rounds.{Comes, Round, Runs}
 use Rattle.conn.specs.Turns.{Outcome, Unasked, Entered, WasFull, Offered, Part, Stage, Taking, Passed, Answered, IsFinished, TakesAll, film_bytes}
 use Rattle.transcript.specs.Courses.{Follows, IsParted, asked_by, askings_of, round_askings, takings_askings}
@@ -230,7 +230,7 @@ takes-late old new (Answered message outcome parts ∷ takings) takes stands =
     )
 
 -- the halt of a play that is done begins none
-halt-none : (asked : Awaited) (halt : Outcome) (s new : Standing) → IsFinished (awaits_of asked) s halt new → (askings : List Asking) → plays_begun asked halt askings ≡ []
+halt-none : (asked : Awaited) (halt : Outcome) (s new : Standing) → IsFinished (awaited_answer_of asked) s halt new → (askings : List Asking) → plays_begun asked halt askings ≡ []
 halt-none Nothing Unasked s new is = λ askings. refl
 halt-none Nothing (Entered placed) s new is = absurd is
 halt-none Nothing (WasFull more entries live) s new is = λ askings. refl

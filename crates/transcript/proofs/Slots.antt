@@ -1,5 +1,7 @@
 -- What a slot and a reply make of what is sent of films.
 use Rattle.std.proofs.Common.{◌≡◌, ℕ, ◌+◌, ◌<◌, ◌≤◌, ◌++◌, ◌&&◌, if◌then◌else◌, Bool, true, false, List, [], ◌∷◌, length, refl, ap, sym, ◌∙◌, subst, arith}
+use Rattle.conn.proofs.Replying.{boundary_here}
+use Rattle.conn.proofs.Playing.{film_cases}
 use Rattle.std.proofs.lemmas.Bool.{eqb-true, true≢false}
 use Rattle.std.proofs.lemmas.List.{append-nil}
 use Rattle.film_frames.specs.Tracks.{IsBoundary, framed_bytes}
@@ -25,13 +27,6 @@ ended_at {p} {slot} {place} on last boundary is =
     let least : p.before + p.keep ≤ place = last place boundary (omega (arith, is)) in
     omega (arith, least, is, on.even, on.pacing.due)
 
-pub stands_here : (p : Pacing) → IsPacing p → stands_at_boundary p ≡ true → IsBoundary p.pieces (p.before + p.sent)
-stands_here p is stands =
-    let inside : p.before + p.sent ≤ length (framed_bytes p.pieces) = omega (arith, is.whole, is.most, is.due, is.sent) in
-    let next = boundary-from p.pieces (p.before + p.sent) inside in
-    let same : next_boundary p ≡ p.sent = eqb-true (next_boundary p) p.sent stands in
-    subst (IsBoundary p.pieces) (omega (arith, same, next.after)) next.boundary
-
 -- ---- a reply
 
 pub same_on : (sends : Sends) (waits : Bool) (slot : ℕ) → IsSound sends waits slot → GoesOn sends sends slot slot waits [] []
@@ -51,7 +46,7 @@ replied_on (Ready setup paused) waits slot sound between = same_on Idle false sl
 replied_on (Playing setup play) waits slot sound between = same_on (Going play.pacer) false slot sound
 replied_on (Stopping setup stop) waits slot sound between =
     let p : Pacing = stop.pacer in
-    over_on p slot sound.0 (ended_at sound.0 sound.2 (stands_here p sound.0.pacing between) refl)
+    over_on p slot sound.0 (ended_at sound.0 sound.2 (boundary_here p sound.0.pacing between) refl)
 
 pub reply_on : (goes : Bool) (state : State) (waits : Bool) (slot : ℕ) → IsSound (sends_in state) waits slot → (goes ≡ true → is_between state ≡ true)
     → GoesOn (sends_in state) (sends_in (if goes then after_stop state else state)) slot slot (if goes then false else waits) [] []
@@ -75,13 +70,6 @@ parts_of waits state text slot =
     ∷ (if is_between (stepped_in true slot state)
     then Text text ∷ Film (step_bytes false slot (stepped_in true slot state)) ∷ [] else [])
     else Film (step_bytes false slot state) ∷ []
-
-film_cases : (waits between : Bool) (one after plain text : List ℕ) →
-    film_bytes (if waits then Film one ∷ (if between then Text text ∷ Film after ∷ [] else []) else Film plain ∷ [])
-    ≡ (if waits then one ++ (if between then after else []) else plain)
-film_cases false between one after plain text = append-nil plain
-film_cases true false one after plain text = refl
-film_cases true true one after plain text = ap (λ bs. one ++ bs) (append-nil after)
 
 -- the film's bytes of a pacing in a slot
 film_of : (waits : Bool) (p : Pacing) (text : List ℕ) (slot : ℕ) → IsPacing p →
@@ -135,7 +123,7 @@ ending_over p heard slot sound later stands =
     let one : Pacing = after_step true slot p in
     let inside : p.before + p.sent ≤ length (framed_bytes p.pieces) = omega (arith, on.pacing.whole, on.pacing.most, on.pacing.due, on.pacing.sent) in
     let next = boundary-from p.pieces (p.before + p.sent) inside in
-    let boundary : IsBoundary p.pieces (p.before + one.sent) = stands_here one (stopped_is slot p on.pacing) stands in
+    let boundary : IsBoundary p.pieces (p.before + one.sent) = boundary_here one (stopped_is slot p on.pacing) stands in
     let least : p.before + p.keep ≤ p.before + one.sent = sound.2 (p.before + one.sent) boundary (omega (arith, next.after, on.pacing.sent)) in
     let ended : (sent_through slot p).sent ≡ p.keep = omega (arith, least, through.pacing.due) in
     record {

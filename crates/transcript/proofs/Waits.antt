@@ -1,5 +1,6 @@
 -- A reply that waits, and where it is sent: what each doing of a connection makes of it.
 use Rattle.std.proofs.Common.{◌≡◌, ℕ, ◌+◌, ◌-◌, ◌<◌, ◌≤◌, ◌++◌, if◌then◌else◌, Bool, true, false, min, List, [], ◌∷◌, Option, Some, None, length, drop, refl, ap, sym, ◌∙◌, subst, inl, inr, arith, eq-eqb}
+use Rattle.conn.proofs.Replying.{boundary_here}
 use Rattle.std.proofs.lemmas.Bool.{cases_lt, true≢false}
 use Rattle.std.proofs.lemmas.List.{append_assoc, length-take, length-drop}
 use Rattle.film_frames.specs.Tracks.{IsBoundary, IsBoundaryAfter, framed_bytes}
@@ -14,7 +15,6 @@ use Rattle.transcript.specs.Plays.{Asking, FilmPlay, due_of, kept_in, plays_of}
 use Rattle.transcript.specs.Replies.{placed_texts}
 use Rattle.transcript.proofs.Films.{IsOnTime, play_with, through_time}
 use Rattle.transcript.proofs.Places.{AreFrom, AreLater, IsAtNext, StandAt, film_at, later_lower, text_at, with_pending}
-use Rattle.transcript.proofs.Slots.{stands_here}
 use Rattle.transcript.proofs.Turning.{Ending, Going, Idle, Sends}
 
 -- what was sent and what is sent from here on, with the slots in which the requests were taken up whose replies come
@@ -117,7 +117,7 @@ pub at_here : (p : Pacing) (heard : ℕ) → IsOnTime p heard → stands_at_boun
 at_here p heard on stands =
     let here = due_here p heard on in
     record {
-      boundary = stands_here p on.pacing stands;
+      boundary = boundary_here p on.pacing stands;
       after = omega (arith, here);
       least = λ place boundary from. omega (arith, here, from);
     }
@@ -160,7 +160,7 @@ next_reached {p} {taken} slot is held stands =
     let q : Pacing = after_step true slot p in
     let next = boundary-from p.pieces (p.before + p.sent) (inside_of p is) in
     record {
-      boundary = stands_here q (stopped_is slot p is) stands;
+      boundary = boundary_here q (stopped_is slot p is) stands;
       after = omega (arith, held.due, next.after, is.sent);
       least = λ place boundary from.
           let past = held.none place boundary from in

@@ -1,5 +1,6 @@
 -- Parts that are sent are the film's bytes with the texts among them.
 use Rattle.std.specs.Prelude.{⊤}
+use Rattle.conn.proofs.Replying.{film_bytes-append, takings_film}
 use Rattle.std.proofs.Common.{◌≡◌, ℕ, ◌+◌, ◌-◌, ◌≤◌, ◌++◌, if◌then◌else◌, Bool, true, false, List, [], ◌∷◌, length, take, drop, refl, ap, sym, ◌∙◌, arith}
 use Rattle.std.proofs.lemmas.List.{append-nil, append_assoc}
 use Rattle.std.proofs.Math.Seq.{drop-append-add, take-append-add}
@@ -49,25 +50,6 @@ parts_woven place (Text text ∷ parts) =
     ap (λ bs. text ++ bs) (parts_woven place parts) ∙ ap (λ n. take n film ++ (text ++ with_texts place (drop n film) texts)) none
 
 -- the film's bytes among all parts are those of the slots
-film_bytes-append : (xs ys : List Part) → film_bytes (xs ++ ys) ≡ film_bytes xs ++ film_bytes ys
-film_bytes-append [] ys = refl
-film_bytes-append (Film bytes ∷ xs) ys =
-    ap (λ bs. bytes ++ bs) (film_bytes-append xs ys) ∙ sym (append_assoc bytes (film_bytes xs) (film_bytes ys))
-film_bytes-append (Text text ∷ xs) ys = film_bytes-append xs ys
-
-no_film : (goes : Bool) (text : List ℕ) → film_bytes (if goes then Text text ∷ [] else []) ≡ []
-no_film true text = refl
-no_film false text = refl
-
-takings_film : (old new : Stage) (takings : List Taking) → TakesAll old takings new → film_bytes (takings_parts takings) ≡ []
-takings_film old new [] takes = refl
-takings_film old new (Passed n ∷ takings) takes = takings_film takes.0 new takings takes.1.1
-takings_film old new (Answered message outcome parts ∷ takings) takes =
-    film_bytes-append parts (takings_parts takings)
-    ∙ ap (λ bs. bs ++ film_bytes (takings_parts takings))
-    (ap film_bytes takes.1.0.parts_are ∙ no_film (can_reply takes.1.0.answered) takes.1.0.answered.text)
-    ∙ takings_film takes.0 new takings takes.1.1
-
 pub course_film : (old new : Stage) (rounds : List Round) → Follows old rounds new → film_bytes (rounds_parts rounds) ≡ rounds_film rounds
 course_film old new [] follows = refl
 course_film old new (round ∷ rounds) follows =
