@@ -5,24 +5,24 @@ use Rattle.vod_base.specs.Outside.{IsFrontMore, more}
 use Rattle.std.proofs.lemmas.List.{append_assoc, append-nil, take_all, take_more, length-take-le}
 use Rattle.admission.specs.declared.entries.Entry.{Entry}
 use Rattle.report.specs.EntryLines.{entry_line}
-use Rattle.vodserve.specs.Served.{journal_lines}
+use Rattle.report.specs.JournalTexts.{journal_text}
 
-journal_lines-more : (place : ℕ) (entries : List Entry) (entry : Entry) →
-    journal_lines place (entries ++ entry ∷ []) ≡ journal_lines place entries ++ entry_line (place + length entries) entry
-journal_lines-more place [] entry = append-nil (entry_line place entry) ∙ ap (λ (n : ℕ). entry_line n entry) (sym (add-zero place))
-journal_lines-more place (first ∷ entries) entry =
-    ap (λ (l : List ℕ). entry_line place first ++ l) (journal_lines-more (place + 1) entries entry)
-    ∙ ap (λ (n : ℕ). entry_line place first ++ (journal_lines (place + 1) entries ++ entry_line n entry)) (omega arith)
-    ∙ sym (append_assoc (entry_line place first) (journal_lines (place + 1) entries) (entry_line (place + length (first ∷ entries)) entry))
+journal_text-more : (place : ℕ) (entries : List Entry) (entry : Entry) →
+    journal_text place (entries ++ entry ∷ []) ≡ journal_text place entries ++ entry_line (place + length entries) entry
+journal_text-more place [] entry = append-nil (entry_line place entry) ∙ ap (λ (n : ℕ). entry_line n entry) (sym (add-zero place))
+journal_text-more place (first ∷ entries) entry =
+    ap (λ (l : List ℕ). entry_line place first ++ l) (journal_text-more (place + 1) entries entry)
+    ∙ ap (λ (n : ℕ). entry_line place first ++ (journal_text (place + 1) entries ++ entry_line n entry)) (omega arith)
+    ∙ sym (append_assoc (entry_line place first) (journal_text (place + 1) entries) (entry_line (place + length (first ∷ entries)) entry))
 
 -- a line more
-pub journal_lines-take : (entries : List Entry) (i : ℕ) (entry : Entry) → i < length entries → entry ≡ get_or entries i entry →
-    journal_lines 0 (take (i + 1) entries) ≡ journal_lines 0 (take i entries) ++ entry_line i entry
-journal_lines-take entries i entry within at =
-    ap (journal_lines 0) (take_more entries i entry within)
-    ∙ journal_lines-more 0 (take i entries) (get_or entries i entry)
-    ∙ ap (λ (n : ℕ). journal_lines 0 (take i entries) ++ entry_line n (get_or entries i entry)) (zero-add (length (take i entries)) ∙ length-take-le i entries (omega (arith, within)))
-    ∙ ap (λ (e : Entry). journal_lines 0 (take i entries) ++ entry_line i e) (sym at)
+pub journal_text-take : (entries : List Entry) (i : ℕ) (entry : Entry) → i < length entries → entry ≡ get_or entries i entry →
+    journal_text 0 (take (i + 1) entries) ≡ journal_text 0 (take i entries) ++ entry_line i entry
+journal_text-take entries i entry within at =
+    ap (journal_text 0) (take_more entries i entry within)
+    ∙ journal_text-more 0 (take i entries) (get_or entries i entry)
+    ∙ ap (λ (n : ℕ). journal_text 0 (take i entries) ++ entry_line n (get_or entries i entry)) (zero-add (length (take i entries)) ∙ length-take-le i entries (omega (arith, within)))
+    ∙ ap (λ (e : Entry). journal_text 0 (take i entries) ++ entry_line i e) (sym at)
 
 -- a text that was to be written left a front of itself
 pub written_front : {E : Type 0} (result : Result (Unit {0}) E) (told told' : Option (List ℕ)) (text : List ℕ) → OnOk result (told' ≡ more told text) →

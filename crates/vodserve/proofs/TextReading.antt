@@ -20,7 +20,8 @@ use Rattle.plan_cert.proofs.Decimals.{not_in_decimal}
 use Rattle.troubles.specs.Said.{number_text}
 use Rattle.troubles.proofs.WordLemmas.{AreShort, HasNo, none_by, numbers_back, numbers_of, split, split_words}
 use Rattle.vodserve.specs.ScanText.{film_line, kind_text, mark, scan_text, unit_line, unit_lines, unit_marks, unit_name, unit_places}
-use Rattle.vodserve.specs.Served.{journal_lines, last_line, served_text}
+use Rattle.report.specs.JournalTexts.{journal_text}
+use Rattle.vodserve.specs.Served.{last_line, served_text}
 use Rattle.vodserve.specs.TextLaws.{AreAlike, IsSameScan, IsShortFault, IsShortUnit}
 use Rattle.vodserve.specs.Verdict.{refused_line}
 use Rattle.vodserve.specs.Verdict.{cert_fault_text, fault_name, fault_number}
@@ -300,7 +301,7 @@ pub last_line_of : (entries : List Entry) (connections : ℕ) → HasLastLine en
 last_line_of entries connections =
     let slots = flat_map (slot_line (booked_in (state_after entries))) (booked_slots (state_after entries).now (booked_in (state_after entries))) in
     record {
-      front = journal_lines 0 entries ++ (first_words (state_after entries).now ++ (codes "\n" ++ (slots ++ codes "end")));
+      front = journal_text 0 entries ++ (first_words (state_after entries).now ++ (codes "\n" ++ (slots ++ codes "end")));
       shape = simp append_assoc;
     }
 

@@ -13,7 +13,7 @@ use Rattle.conn.specs.Parts.{Outlet}
 use Rattle.conn.specs.declared.reports.PartEnd.{PartEnd}
 use Rattle.conn.specs.declared.reports.PartEnd.TheVariants.{AllTaken, GateFault as PartFault}
 use Rattle.conn.specs.declared.reports.PartEnd.TheVariants.{NoMemory as PartNoMemory}
-use Rattle.report.specs.EntryLines.{entry_line}
+use Rattle.report.specs.JournalTexts.{journal_text}
 use Rattle.report.specs.CalendarTexts.{calendar_text}
 use Rattle.inputs.specs.Films.{IsHeldRefused}
 use Rattle.troubles.specs.Causes.{IsReadTrouble}
@@ -25,11 +25,6 @@ use Rattle.command_words.specs.Settings.{setting_value}
 use Rattle.command_words.specs.Words.{Serving}
 use Rattle.vodserve.specs.Worked.{MayBeServed}
 
--- the lines of entries, of which the first stands at a place
-abbrev pub journal_lines : ℕ → List Entry → List ℕ
-journal_lines place [] = []
-journal_lines place (entry ∷ entries) = entry_line place entry ++ journal_lines (place + 1) entries
-
 -- how many connections were served, and how many entries the journal has
 abbrev pub last_line : ℕ → ℕ → List ℕ
 last_line connections entries =
@@ -39,7 +34,7 @@ last_line connections entries =
 -- the journal, what is booked from the machine's now on, and the last line
 abbrev pub served_text : List Entry → ℕ → List ℕ
 served_text entries connections =
-    journal_lines 0 entries
+    journal_text 0 entries
     ++ calendar_text (state_after entries).now (booked_in (state_after entries))
     ++ last_line connections (length entries)
 

@@ -2,11 +2,12 @@
 
 ghost use Rattle.std.specs.Prelude.{◌≡◌, ◌≤◌, ◌++◌, List, ℕ, codes, decimal, length, IfOk, OnOk};
 ghost use Rattle.report.specs.EntryLines.{entry_line};
+ghost use Rattle.report.specs.JournalTexts.{journal_text};
 ghost use Rattle.report.specs.CalendarTexts.{calendar_text};
 ghost use Rattle.admission.specs.Histories.{IsLegal, state_after};
 ghost use Rattle.admission.specs.Machine.{booked_in};
 ghost use Rattle.slot_calendar.specs.declared.profiles.CapStep.{CapStep};
-ghost use Rattle.vodserve.specs.Served.{IsPrinted, journal_lines, last_line, served_text};
+ghost use Rattle.vodserve.specs.Served.{IsPrinted, last_line, served_text};
 
 use crate::serving::Closed;
 use admission::{Book, Entry};
@@ -78,7 +79,7 @@ fn push_last(text: &mut Vec<u8>, connections: u64, entries: u64) -> Result<(), N
 /// The lines of a journal.
 fn journal_text(alloc: Global, profile: &Profile, entries: &[Entry]) -> Result<Vec<u8>, NoMemory>
     requires { IsLegal profile.now entries.now }
-    ensures { IfOk result (λ text. text.items ≡ journal_lines 0 entries.now) }
+    ensures { IfOk result (λ text. text.items ≡ journal_text 0 entries.now) }
 {
     law_answer_kinds();
     let mut text = Vec::new(alloc);
