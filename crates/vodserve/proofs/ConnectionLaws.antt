@@ -24,7 +24,7 @@ use Rattle.command_words.specs.Words.{Serving}
 use Rattle.vodserve.specs.Laws.{IsReceiptIn, IsReportIn, IsServedPart, ServesEach, TellsItsJournal}
 use Rattle.vodserve.specs.Run.{HasServed as HasServedFilms, World}
 use Rattle.vodserve.specs.declared.run.Ended.{Ended}
-use Rattle.vodserve.specs.Worked.{AllWorked, HasBack, HasWorked, all_reports, settings_of}
+use Rattle.vodserve.specs.Worked.{AllWorked, HasBack, HasWorked, IsOpenedOnce, all_reports, settings_of}
 use Rattle.vodserve.proofs.ServeLaws.{HasRunAll, ended_whole, given_back, run_all, worker_of}
 
 all_left : {A : Type 0} (P : A → Type 0) (xs ys : List A) → All P (xs ++ ys) → All P xs
@@ -225,6 +225,7 @@ serves_each before after seed serving ended gate serves told have_run =
       films = run.served.films;
       loaded = run.served.loaded;
       journal = run.served.journal;
+      once = subst (λ (g : Option Content). IfSome g (IsOpenedOnce before.gate.told)) told run.served.once;
       parts = worked.parts;
       count = worked.count;
       reports = reports_whole before after seed serving ended run.served run.found;

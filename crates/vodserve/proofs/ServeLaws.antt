@@ -1,6 +1,7 @@
 -- The laws over a server's run.
 use Rattle.std.proofs.Common.{◌≡◌, ◌≢◌, ◌⊎◌, ◌∙◌, ◌<◌, ℕ, List, [], ◌∷◌, length, Option, Some, None, inl, inr, sym, subst, refl, arith, zero-add}
 use Rattle.std.specs.Prelude.{All, IfSome, slice_index_or}
+use Rattle.std.specs.List.{Contains}
 use Rattle.vod_base.specs.Outside.{File, HasRisen}
 use Rattle.vod_base.specs.Gates.{Content, Failed, NoMore, Part}
 use Rattle.admission.specs.declared.entries.Entry.{Entry}
@@ -11,23 +12,25 @@ use Rattle.conn.specs.declared.reports.PartEnd.{PartEnd}
 use Rattle.conn.specs.declared.reports.PartEnd.TheVariants.{AllTaken, GateFault as PartFault, NoMemory as PartNoMemory}
 use Rattle.film_frames.specs.declared.stores.Stored.{Stored}
 use Rattle.command_words.specs.Words.{Serving}
+use Rattle.inputs.specs.Films.{IsHeldRefused}
 use Rattle.troubles.specs.Statuses.{status_of}
+use Rattle.troubles.specs.declared.faults.Fault.{Fault}
 use Rattle.troubles.specs.declared.faults.Trouble.{Trouble}
 use Rattle.troubles.specs.declared.faults.Trouble.TheVariants.{Usage, Refused, StoreFault, SinkFault, NoMemory, GateFault, LinkFault}
 use Rattle.vodserve.specs.Laws.{GivesEachBack, HasGivenBack, HasNoFault, HaveRun, IsServable, LeavesNoneOut, ServesNoRefused, ServesWhatItMay}
 use Rattle.vodserve.specs.Run.{Ends, HasServed, Serves, World}
-use Rattle.vodserve.specs.Served.{HasFewer, IsPrinted, IsServeTrouble}
+use Rattle.vodserve.specs.Served.{IsPrinted, IsServeTrouble}
 use Rattle.vodserve.specs.declared.run.Ended.{Ended}
-use Rattle.vodserve.specs.Worked.{AllWorked, AreLeft, HasBack, HasWorked, IsOpenAs, HasParts, MayBeServed, opening_of, settings_of}
+use Rattle.vodserve.specs.Worked.{AllWorked, AreLeft, HasBack, HasTooFew, HasWorked, IsOpenAs, IsOpenedOnce, HasParts, MayBeServed, opening_of, settings_of}
 use Rattle.vodserve.proofs.WorkerLemmas.{risen_some}
-use Rattle.vodserve.proofs.ServeLemmas.{all_accepted, worker_worked}
+use Rattle.vodserve.proofs.ServeLemmas.{loaded_accepted, worker_worked}
 
 -- what keeps from serving, where nothing is refused and nothing failed, is want of memory
 kept_by_memory : {before after : World} {serving : Serving} (trouble : Trouble) → IsServable serving before.store.told → HasNoFault before after →
     IsServeTrouble serving before.store.told before.store.faults after.store.faults before.gate after.gate trouble → status_of trouble ≡ 6
 kept_by_memory Usage may none is = absurd is
-kept_by_memory (Refused name fault) may none is = absurd (may.accepted name.now fault is.0 (is.1 may.held may.told_is).refused)
-kept_by_memory (StoreFault name) may none is = absurd (none.store is.1)
+kept_by_memory (Refused name fault) may none is = absurd (may.accepted name.now fault is.0.0 (is.0.1 may.held may.told_is).refused)
+kept_by_memory (StoreFault name) may none is = absurd (none.store is.0.1)
 kept_by_memory SinkFault may none is = absurd is
 kept_by_memory NoMemory may none is = refl
 kept_by_memory GateFault may none is = absurd (none.gate is.0)
@@ -62,14 +65,36 @@ not_none NoMemory is = omega (arith, is)
 not_none GateFault is = omega (arith, is)
 not_none LinkFault is = omega (arith, is)
 
+-- of films that may be served none is refused
+not_accepted : (serving : Serving) (held : List File) (name : List ℕ) (fault : Fault) → All (MayBeServed held) serving.films → Contains serving.films name →
+    IsHeldRefused held name fault → ⊥
+not_accepted serving held name fault may named refused = subst (MayBeServed held) named.2 (may named.0 name named.1) fault refused
+
+-- where a film is refused the gate is as it was
+same_gate : (serving : Serving) (told : Option (List File)) (faults faults' : ℕ) (gate gate' : Outlet) (trouble : Trouble) (held : List File) (name : List ℕ) (fault : Fault) →
+    IsServeTrouble serving told faults faults' gate gate' trouble → told ≡ Some held → Contains serving.films name → IsHeldRefused held name fault → gate' ≡ gate
+same_gate serving told faults faults' gate gate' Usage held name fault is tells named refused = absurd is
+same_gate serving told faults faults' gate gate' (Refused other cause) held name fault is tells named refused = is.1
+same_gate serving told faults faults' gate gate' (StoreFault other) held name fault is tells named refused = is.1
+same_gate serving told faults faults' gate gate' SinkFault held name fault is tells named refused = absurd is
+same_gate serving told faults faults' gate gate' NoMemory held name fault is tells named refused = elim is [
+  | inl same ↦ same
+  | inr opened ↦ absurd (not_accepted serving held name fault (opened.accepted held tells) named refused)
+]
+same_gate serving told faults faults' gate gate' GateFault held name fault is tells named refused =
+    absurd (not_accepted serving held name fault (is.1.accepted held tells) named refused)
+same_gate serving told faults faults' gate gate' LinkFault held name fault is tells named refused = absurd is
+
 -- a film that is refused is never served
 pub serves_no_refused : ServesNoRefused
-serves_no_refused before after seed serving ended held name fault (inl kept) told named refused =
-    (λ zero. not_none kept.0 (sym kept.1.3.status ∙ zero), kept.1.1, kept.1.2)
+serves_no_refused before after seed serving ended held name fault (inl kept) told named refused = (
+  λ zero. not_none kept.0 (sym kept.1.3.status ∙ zero),
+  kept.1.1,
+  same_gate serving before.store.told before.store.faults after.store.faults before.gate after.gate kept.0 held name fault kept.1.0 told named refused,
+  kept.1.2,
+)
 serves_no_refused before after seed serving ended held name fault (inr served) told named refused =
-    let may : All (MayBeServed held) serving.films =
-    subst (All (MayBeServed held)) served.loaded.names_are (all_accepted before.store.told held served.films told served.loaded.held) in
-    absurd (subst (MayBeServed held) named.2 (may named.0 name named.1) fault refused)
+    absurd (not_accepted serving held name fault (loaded_accepted serving before.store.told served.films served.loaded held told) named refused)
 
 -- ---- how a server's run ended
 
@@ -125,12 +150,12 @@ not_kept serving told faults faults' gate gate' SinkFault is tells of_run = is
 not_kept {content} serving told faults faults' gate gate' NoMemory is tells of_run =
     other_status 6 (length content.parts ≡ serving.listening.workers) (λ e. omega (arith, e)) (λ e. omega (arith, e)) (λ e. omega (arith, e)) of_run
 not_kept {content} serving told faults faults' gate gate' GateFault is tells of_run =
-    let fewer : length content.parts < serving.listening.workers = subst (HasFewer serving.listening.workers) tells is.1 in
+    let few : HasTooFew serving.listening.workers content = subst (λ (g : Option Content). IfSome g (HasTooFew serving.listening.workers)) tells is.1.few in
     elim of_run [
       | inl zero ↦ omega (arith, zero)
       | inr more ↦ elim more [
         | inl five ↦ omega (arith, five)
-        | inr seven ↦ omega (arith, seven.1, fewer)
+        | inr seven ↦ omega (arith, seven.1, few.fewer)
       ]
     ]
 not_kept serving told faults faults' gate gate' LinkFault is tells of_run = is
@@ -221,6 +246,7 @@ gives_each_back before after seed serving ended gate serves told have_run =
     let worked = run.served.worked in
     let none : PartReport = record { end = AllTaken; reports = ended.reports } in
     record {
+      once = subst (λ (g : Option Content). IfSome g (IsOpenedOnce before.gate.told)) told run.served.once;
       opening = subst (IsOpenAs (opening_of serving)) told worked.open_as;
       count = subst (HasParts serving.listening.workers) told worked.split;
       each = λ worker inside.
@@ -249,6 +275,7 @@ leaves_none_out before after seed serving ended gate (inr served) status told =
     let worked = served.worked in
     let none : PartReport = record { end = AllTaken; reports = ended.reports } in
     record {
+      once = subst (λ (g : Option Content). IfSome g (IsOpenedOnce before.gate.told)) told served.once;
       opening = subst (IsOpenAs (opening_of serving)) told worked.open_as;
       count = subst (HasParts serving.listening.workers) told worked.split;
       each = λ worker inside.

@@ -1,6 +1,6 @@
 -- The films that words name.
-use Rattle.std.proofs.Common.{◌≡◌, ◌≢◌, ◌∙◌, ◌+◌, ◌<◌, ◌≤◌, ◌&&◌, not, ℕ, true, List, [], ◌∷◌, ◌++◌, length, drop, get_or, Option, Some, None, refl, sym, ap, subst, suc, zero, arith, string_bytes, String, Global, add-one, add-zero, length-append}
-use Rattle.std.specs.Prelude.{All, codes, map, nat_le, option_map, slice_index_or}
+use Rattle.std.proofs.Common.{◌≡◌, ◌≢◌, ◌∙◌, ◌+◌, ◌<◌, ◌≤◌, ◌&&◌, not, ℕ, true, List, [], ◌∷◌, ◌++◌, length, drop, get_or, Option, Some, None, inl, inr, refl, sym, ap, subst, suc, zero, arith, string_bytes, String, Global, add-one, add-zero, length-append}
+use Rattle.std.specs.Prelude.{All, IfSome, codes, map, nat_le, option_map, slice_index_or}
 use Rattle.std.specs.List.{Contains, list_all, list_any}
 use Rattle.std.specs.Option.{option_to_list}
 use Rattle.std.specs.Str.{bytes_eq}
@@ -35,9 +35,9 @@ use Rattle.troubles.specs.declared.faults.Fault.{Fault}
 use Rattle.troubles.specs.declared.faults.Trouble.{Trouble}
 use Rattle.troubles.specs.declared.faults.Trouble.TheVariants.{Usage, Refused, StoreFault, SinkFault, NoMemory, GateFault, LinkFault}
 use Rattle.inputs.specs.Films.{IsHeldRefused}
-use Rattle.vodserve.specs.Worked.{AllWorked, AreLeft, HasOne, HasWorked, HaveWorked, IsHeld, IsOpenAs, MayBeServed, opening_of, settings_of}
+use Rattle.vodserve.specs.Worked.{AllWorked, AreLeft, AreLoaded, HasOne, HasTooFew, HasWorked, HaveWorked, IsHeld, IsOpenAs, IsOpenedOnce, MayBeServed, opening_of, settings_of}
 use Rattle.vodserve.specs.Workers.{AreJoined, AreWorkers, HasFinished, IsMakeTrouble, report_of}
-use Rattle.vodserve.specs.Served.{HasFewer, IsFirstRefused, IsJournal, IsNewlyOpen, IsServeTrouble, IsWordNamed}
+use Rattle.vodserve.specs.Served.{HasOnlyOpened, IsFirstRefused, IsJournal, IsNewlyOpen, IsServeTrouble, IsWordNamed}
 use Rattle.vodserve.specs.declared.workers.Worker.{Worker}
 use Rattle.vodserve.proofs.WorkerLemmas.{IsStationOf, all_worked, counted_parts, risen_since, risen_some}
 
@@ -133,27 +133,38 @@ held_film told film name named is may = λ held told_is. (
   subst (MayBeServed held) (sym named) (may held told_is),
 )
 
--- a trouble of reading keeps from serving
-pub read_serves : (serving : Serving) (told : Option (List File)) (faults faults' : ℕ) (gate gate' : Outlet) (t : Trouble) →
-    IsReadTrouble (Contains serving.films) (IsFirstRefused serving.films) told faults faults' t → IsServeTrouble serving told faults faults' gate gate' t
-read_serves serving told faults faults' gate gate' Usage is = is
-read_serves serving told faults faults' gate gate' (Refused name fault) is = is
-read_serves serving told faults faults' gate gate' (StoreFault name) is = is
-read_serves serving told faults faults' gate gate' SinkFault is = is
-read_serves serving told faults faults' gate gate' NoMemory is = tt
-read_serves serving told faults faults' gate gate' GateFault is = absurd is
-read_serves serving told faults faults' gate gate' LinkFault is = absurd is
+-- a trouble of reading keeps from serving, before the gate is opened
+pub read_serves : (serving : Serving) (told : Option (List File)) (faults faults' : ℕ) (gate : Outlet) (t : Trouble) →
+    IsReadTrouble (Contains serving.films) (IsFirstRefused serving.films) told faults faults' t → IsServeTrouble serving told faults faults' gate gate t
+read_serves serving told faults faults' gate Usage is = is
+read_serves serving told faults faults' gate (Refused name fault) is = (is, refl)
+read_serves serving told faults faults' gate (StoreFault name) is = (is, refl)
+read_serves serving told faults faults' gate SinkFault is = is
+read_serves serving told faults faults' gate NoMemory is = inl refl
+read_serves serving told faults faults' gate GateFault is = absurd is
+read_serves serving told faults faults' gate LinkFault is = absurd is
 
--- and so does one of making workers
+-- films that were loaded may be served
+pub loaded_accepted : (serving : Serving) (told : Option (List File)) (films : List Stored) → AreLoaded told serving.films films →
+    (held : List File) → told ≡ Some held → All (MayBeServed held) serving.films
+loaded_accepted serving told films loaded held is =
+    subst (All (MayBeServed held)) loaded.names_are (all_accepted told held films is loaded.held)
+
+-- the gate was opened, and no worker ran
+pub only_opened : (serving : Serving) (told : Option (List File)) (films : List Stored) (gate gate' : Option Content) → AreLoaded told serving.films films →
+    IfSome gate' (IsOpenedOnce gate) → IfSome gate' (HasTooFew serving.listening.workers) → HasOnlyOpened serving told gate gate'
+only_opened serving told films gate gate' loaded once few = record { accepted = loaded_accepted serving told films loaded; once = once; few = few }
+
+-- and so does a trouble of making workers
 pub make_serves : (serving : Serving) (told : Option (List File)) (faults faults' gate' : ℕ) (gate gate'' : Outlet) (t : Trouble) → IsMakeTrouble gate' gate''.faults t →
-    gate.faults ≤ gate' → HasFewer serving.listening.workers gate''.told → IsServeTrouble serving told faults faults' gate gate'' t
-make_serves serving told faults faults' gate' gate gate'' Usage is low fewer = is
-make_serves serving told faults faults' gate' gate gate'' (Refused name fault) is low fewer = absurd is
-make_serves serving told faults faults' gate' gate gate'' (StoreFault name) is low fewer = absurd is
-make_serves serving told faults faults' gate' gate gate'' SinkFault is low fewer = is
-make_serves serving told faults faults' gate' gate gate'' NoMemory is low fewer = tt
-make_serves serving told faults faults' gate' gate gate'' GateFault is low fewer = (λ end. omega (arith, is end, low), fewer)
-make_serves serving told faults faults' gate' gate gate'' LinkFault is low fewer = absurd is
+    gate.faults ≤ gate' → HasOnlyOpened serving told gate.told gate''.told → IsServeTrouble serving told faults faults' gate gate'' t
+make_serves serving told faults faults' gate' gate gate'' Usage is low opened = is
+make_serves serving told faults faults' gate' gate gate'' (Refused name fault) is low opened = absurd is
+make_serves serving told faults faults' gate' gate gate'' (StoreFault name) is low opened = absurd is
+make_serves serving told faults faults' gate' gate gate'' SinkFault is low opened = is
+make_serves serving told faults faults' gate' gate gate'' NoMemory is low opened = inr opened
+make_serves serving told faults faults' gate' gate gate'' GateFault is low opened = (λ end. omega (arith, is end, low), opened)
+make_serves serving told faults faults' gate' gate gate'' LinkFault is low opened = absurd is
 
 -- what is told of a gate that was opened
 pub newly_open : (how : Opening) (gate gate' : Option Content) → gate' ≡ option_map (after_open (Some how)) gate → IsNewlyOpen how gate'
@@ -163,11 +174,6 @@ newly_open how (Some c) gate' is = subst (IsNewlyOpen how) (sym is) (refl, refl)
 pub newly_open_as : (how : Opening) (gate : Option Content) → IsNewlyOpen how gate → IsOpenAs how gate
 newly_open_as how None is = tt
 newly_open_as how (Some c) is = is.0
-
--- a gate that couldn't be opened has no parts
-pub lost_fewer : (workers : ℕ) (gate gate' : Option Content) → gate' ≡ option_map (after_open None) gate → 1 ≤ workers → HasFewer workers gate'
-lost_fewer workers None gate' is some = subst (HasFewer workers) (sym is) tt
-lost_fewer workers (Some c) gate' is some = subst (HasFewer workers) (sym is) (omega (arith, some))
 
 -- the journal of a station that was closed
 pub closed_journal : {G : Type 0} {told : G → Option Content} {serving : Serving} {hall : Hall}

@@ -1,5 +1,6 @@
 -- The gate of a client.
-use Rattle.std.proofs.Common.{ℕ, Option, subst}
+use Rattle.std.proofs.Common.{ℕ, Option, Result, Ok, Err, subst}
+use Rattle.std.specs.Prelude.{OnErr}
 use Rattle.vod_base.specs.Gates.{Content}
 use Rattle.command_words.specs.Words.{Watching}
 use Rattle.rtsp_client.specs.declared.wishes.Wish.{Wish}
@@ -12,3 +13,8 @@ pub opened_for : (watching : Watching) (wish : Wish) (gate : Option Content) →
 opened_for watching wish gate is open_as =
     subst (λ (n : ℕ). IsOpenAs (opening_at watching.port n) gate) is.slot
     (subst (λ (n : ℕ). IsOpenAs (opening_at n wish.slot_units) gate) is.port open_as)
+
+-- what holds after an error, from what else holds after it
+pub on_err_map : {T E P Q : Type 0} (r : Result T E) → (P → Q) → OnErr r P → OnErr r Q
+on_err_map (Ok t) f p = tt
+on_err_map (Err e) f p = f p

@@ -9,7 +9,7 @@ use Rattle.std.proofs.lemmas.Bool.{cases_lt}
 use Rattle.std.proofs.lemmas.List.{append-nil, append_assoc, get_or-set_other, get_or-set_same, map-append}
 use Rattle.std.proofs.lemmas.List.Elements.{All-append, All-cons, All-head, All-nil, All-tail}
 use Rattle.vod_base.specs.Outside.{HasRisen}
-use Rattle.vod_base.specs.Gates.{Content, Part, IsOpen, IsOut, new_part, after_rejoin, split_off, told_rejoined}
+use Rattle.vod_base.specs.Gates.{Content, Failed, Part, IsOpen, IsOut, new_part, after_empty_take, after_open, after_rejoin, split_off, told_rejoined}
 use Rattle.vod_base.specs.declared.gates.Opening.{Opening}
 use Rattle.film_frames.specs.declared.stores.Stored.{Stored}
 use Rattle.admission.specs.declared.entries.Entry.{Entry}
@@ -26,9 +26,8 @@ use Rattle.conn.specs.declared.reports.PartReport.{PartReport}
 use Rattle.conn.specs.declared.reports.PartEnd.{PartEnd}
 use Rattle.command_words.specs.Words.{Serving}
 use Rattle.conn.specs.declared.reports.PartEnd.TheVariants.{AllTaken, GateFault as PartFault, NoMemory}
-use Rattle.vodserve.specs.Served.{HasFewer}
-use Rattle.vodserve.specs.Worked.{AllWorked, AreLeft, HasBack, HasOne, HasParts, HasWorked, IsOpenAs, IsWorse, all_reports, settings_of, terms_for}
-use Rattle.vodserve.specs.Workers.{AreBack, AreJoined, AreOut, AreWorkers, HasFinished, IsWorker, joined_of, report_of}
+use Rattle.vodserve.specs.Worked.{AllWorked, AreLeft, HasBack, HasOne, HasParts, HasTooFew, HasWorked, IsIdle, IsOpenAs, IsOpenedOnce, IsWorse, all_reports, settings_of, terms_for}
+use Rattle.vodserve.specs.Workers.{AreBack, AreJoined, AreOut, AreWorkers, HasFinished, IsFresh, IsNotOpened, IsWorker, joined_of, report_of}
 use Rattle.vodserve.specs.declared.workers.Worker.{Worker}
 
 -- a worker more
@@ -362,10 +361,6 @@ pub counted_parts : (from count workers : ℕ) (gate : Option Content) → IfSom
 counted_parts from count workers None out same = tt
 counted_parts from count workers (Some c) out same = out.counted ∙ same
 
-pub fewer_parts : (from count workers : ℕ) (gate : Option Content) → IfSome gate (AreOut from count) → count < workers → HasFewer workers gate
-fewer_parts from count workers None out less = tt
-fewer_parts from count workers (Some c) out less = omega (arith, out.counted, less)
-
 pub risen_on : (f g h : ℕ) → HasRisen f g → g ≤ h → HasRisen f h
 risen_on f g h risen high = λ end. omega (arith, risen (omega (arith, high, end)), high)
 
@@ -418,3 +413,91 @@ risen_some old new risen = elim (cases_lt new (2 ^ 64 - 1)) [
   | inl below ↦ omega (arith, risen below)
   | inr end ↦ omega (arith, end)
 ]
+
+-- ---- how often a gate was opened
+
+pub not_opened_here : (gate : Option Content) → IfSome gate (IsNotOpened gate)
+not_opened_here None = tt
+not_opened_here (Some c) = record { told = c; told_is = refl; openings = refl; own = refl }
+
+-- nothing is told of a gate from which nothing was told
+none_told : (P : Content → Type 0) (gate : Option Content) → gate ≡ None → IfSome gate P
+none_told P gate is = subst (λ (g : Option Content). IfSome g P) (sym is) tt
+
+pub not_opened_split : (before gate gate' : Option Content) → IfSome gate (IsNotOpened before) → gate' ≡ option_map split_off gate → IfSome gate' (IsNotOpened before)
+not_opened_split before None gate' since is = none_told (IsNotOpened before) gate' is
+not_opened_split before (Some c) gate' since is = subst (λ (g : Option Content). IfSome g (IsNotOpened before)) (sym is)
+    (record { told = since.told; told_is = since.told_is; openings = since.openings; own = since.own })
+
+pub not_opened_back : (before part gate gate' : Option Content) → IfSome gate (IsNotOpened before) → gate' ≡ told_rejoined part gate → IfSome gate' (IsNotOpened before)
+not_opened_back before None None gate' since is = none_told (IsNotOpened before) gate' is
+not_opened_back before (Some p) None gate' since is = none_told (IsNotOpened before) gate' is
+not_opened_back before None (Some c) gate' since is = none_told (IsNotOpened before) gate' is
+not_opened_back before (Some p) (Some c) gate' since is = subst (λ (g : Option Content). IfSome g (IsNotOpened before)) (sym is)
+    (record { told = since.told; told_is = since.told_is; openings = since.openings; own = since.own })
+
+pub not_opened_on : (before mid gate : Option Content) → IfSome mid (IsNotOpened before) → IfSome gate (IsNotOpened mid) → IfSome gate (IsNotOpened before)
+not_opened_on before mid None first since = tt
+not_opened_on before mid (Some c) first since =
+    let middle : IsNotOpened before since.told = subst (λ (g : Option Content). IfSome g (IsNotOpened before)) since.told_is first in
+    record { told = middle.told; told_is = middle.told_is; openings = since.openings ∙ middle.openings; own = since.own ∙ middle.own }
+
+pub opened_once : (how : Option Opening) (before gate : Option Content) → gate ≡ option_map (after_open how) before → IfSome gate (IsOpenedOnce before)
+opened_once how None gate is = none_told (IsOpenedOnce None) gate is
+opened_once how (Some c) gate is = subst (λ (g : Option Content). IfSome g (IsOpenedOnce (Some c))) (sym is)
+    (record { told = c; told_is = refl; openings = refl; own = refl })
+
+pub once_since : (before mid gate : Option Content) → IfSome mid (IsOpenedOnce before) → IfSome gate (IsNotOpened mid) → IfSome gate (IsOpenedOnce before)
+once_since before mid None once since = tt
+once_since before mid (Some c) once since =
+    let middle : IsOpenedOnce before since.told = subst (λ (g : Option Content). IfSome g (IsOpenedOnce before)) since.told_is once in
+    record { told = middle.told; told_is = middle.told_is; openings = since.openings ∙ middle.openings; own = since.own ∙ middle.own }
+
+-- ---- parts that gave no connection
+
+-- a gate that was opened just now has no parts
+pub opened_few : (count : ℕ) (how : Option Opening) (before gate : Option Content) → gate ≡ option_map (after_open how) before → 1 ≤ count → IfSome gate (HasTooFew count)
+opened_few count how None gate is some = none_told (HasTooFew count) gate is
+opened_few count how (Some c) gate is some = subst (λ (g : Option Content). IfSome g (HasTooFew count)) (sym is)
+    (record { fewer = omega (arith, some); idle = λ k inside. absurd (omega (arith, inside)) })
+
+-- workers that did nothing gave back parts of which no connection was taken
+idle_back : {G : Type 0} (told : G → Option Content) (faults : G → ℕ) (from : ℕ) (workers : List (Worker G)) (gate : Content) → AreBack told (Some gate) from workers →
+    All (IsFresh told faults) workers → (k : ℕ) → from ≤ k → k < from + length workers → (part : Part) × ((slice_index_or gate.parts k None ≡ Some part) × IsIdle part)
+idle_back told faults from [] gate back fresh k low high = absurd (omega (arith, low, high))
+idle_back told faults from (worker ∷ workers) gate back fresh k low high =
+    elim (cases_lt from k) [
+      | inl after ↦ idle_back told faults (from + 1) workers gate back.1 (All-tail (IsFresh told faults) worker workers fresh) k (omega (arith, after)) (omega (arith, high))
+      | inr here ↦
+          let is : from ≡ k = omega (arith, here, low) in
+          let first : IsFresh told faults worker = All-head (IsFresh told faults) worker workers fresh in
+          let untouched : IsUntouched back.0.0 = subst (λ (p : Option Content). IfSome p IsUntouched) back.0.1.0 first.part in
+          (back.0.0.own, (subst (λ (n : ℕ). slice_index_or gate.parts n None ≡ Some back.0.0.own) is back.0.1.1, record { given = untouched.given; back = untouched.back }))
+    ]
+
+pub joined_few : {G : Type 0} (told : G → Option Content) (faults : G → ℕ) (hall : Hall) (count : ℕ) (workers : List (Worker G)) (seat : Sitting) (gate : Option Content) →
+    AreJoined told hall (length workers) workers seat gate → All (IsFresh told faults) workers → length workers < count → IfSome gate (HasTooFew count)
+joined_few told faults hall count workers seat None joined fresh fewer = tt
+joined_few told faults hall count workers seat (Some c) joined fresh fewer = record {
+  fewer = omega (arith, joined.out.counted, fewer);
+  idle = λ k inside. idle_back told faults 0 workers c joined.back fresh k (omega arith) (omega (arith, inside, joined.out.counted));
+}
+
+-- a part that failed at once gave no connection
+pub failed_few : (how : Option Opening) (before door part split failed gate : Option Content) → door ≡ option_map (after_open how) before → part ≡ option_map new_part door →
+    split ≡ option_map split_off door → failed ≡ option_map (after_empty_take Failed) part → gate ≡ told_rejoined failed split → IfSome gate (HasTooFew 2)
+failed_few how before door part split failed gate opens parts splits fails rejoins =
+    subst (λ (g : Option Content). IfSome g (HasTooFew 2))
+    (ap (λ (o : Option Content). told_rejoined (option_map (after_empty_take Failed) (option_map new_part o)) (option_map split_off o)) (sym opens)
+    ∙ ap (λ (p : Option Content). told_rejoined (option_map (after_empty_take Failed) p) (option_map split_off door)) (sym parts)
+    ∙ ap (λ (s : Option Content). told_rejoined (option_map (after_empty_take Failed) part) s) (sym splits)
+    ∙ ap (λ (f : Option Content). told_rejoined f split) (sym fails) ∙ sym rejoins)
+    (here how before)
+  where
+    here : (how : Option Opening) (before : Option Content) → IfSome (told_rejoined (option_map (after_empty_take Failed) (option_map new_part (option_map (after_open how) before)))
+        (option_map split_off (option_map (after_open how) before))) (HasTooFew 2)
+    here how None = tt
+    here how (Some c) = record {
+      fewer = omega arith;
+      idle = λ k inside. let first : 0 ≡ k = omega (arith, inside) in subst (λ (n : ℕ). (part : Part) × ((slice_index_or (after_rejoin (after_empty_take Failed (new_part (after_open how c))).own (split_off (after_open how c))).parts n None ≡ Some part) × IsIdle part)) first (_, (refl, record { given = refl; back = refl }));
+    }

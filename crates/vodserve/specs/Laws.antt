@@ -21,7 +21,8 @@ use Rattle.conn.specs.declared.reports.PartReport.{PartReport}
 use Rattle.inputs.specs.Films.{IsHeldRefused}
 use Rattle.troubles.specs.declared.faults.Fault.{Fault}
 use Rattle.command_words.specs.Words.{Serving}
-use Rattle.vodserve.specs.Worked.{AreLoaded, all_reports, opening_of, settings_of, terms_for}
+use Rattle.vodserve.specs.Worked.{AreLoaded, IsOpenedOnce, all_reports, opening_of, settings_of}
+use Rattle.vodserve.specs.Worked.{terms_for}
 use Rattle.vodserve.specs.Run.{HasServedNothing, Serves, World}
 use Rattle.vodserve.specs.Served.{IsJournal}
 use Rattle.vodserve.specs.declared.run.Ended.{Ended}
@@ -47,13 +48,15 @@ ServesWhatItMay =
     Serves before after seed serving ended → IsServable serving before.store.told →
     HasNoFault before after → (ended.status ≡ 0) ⊎ (ended.status ≡ 6)
 
--- a film that is refused is never served: the server does nothing, and says so by its status
+-- a film that is refused is never served: the server does nothing, opens no gate, and says so by its
+-- status
 abbrev pub ServesNoRefused : Type 0
 ServesNoRefused =
     (before after : World) (seed : List ℕ) (serving : Serving) (ended : Ended) (held : List File)
     (name : List ℕ) (fault : Fault) → Serves before after seed serving ended →
     before.store.told ≡ Some held → Contains serving.films name → IsHeldRefused held name fault →
-    (ended.status ≢ 0) × (after.out ≡ before.out) × HasServedNothing ended
+    (ended.status ≢ 0) × (after.out ≡ before.out) × (after.gate ≡ before.gate)
+    × HasServedNothing ended
 
 -- the workers of a server ran: with status 0 or 5, and with 7 where as many parts as workers were
 -- split from the gate
@@ -69,8 +72,11 @@ pub record HasGivenBack (before after : World) (part : Part) : Type 0 where
   pub last : (part.last ≡ NoMore)
       ⊎ ((part.last ≡ Failed) × HasRisen before.gate.faults after.gate.faults)
 
--- a gate was opened as the words say, and something holds of each worker's part of it
-pub record IsGateOf (IsPart : Part → Type 0) (serving : Serving) (gate : Content) : Type 0 where
+-- a gate was opened once, as the words say, no connection was taken but from its parts, and
+-- something holds of each worker's part
+pub record IsGateOf (IsPart : Part → Type 0) (serving : Serving) (before : Option Content)
+    (gate : Content) : Type 0 where
+  pub once : IsOpenedOnce before gate
   pub opening : gate.opening ≡ Some (opening_of serving)
   pub count : length gate.parts ≡ serving.listening.workers
   pub each : (worker : ℕ) → worker < serving.listening.workers → (part : Part)
@@ -81,14 +87,15 @@ abbrev pub GivesEachBack : Type 0
 GivesEachBack =
     (before after : World) (seed : List ℕ) (serving : Serving) (ended : Ended) (gate : Content) →
     Serves before after seed serving ended → after.gate.told ≡ Some gate →
-    HaveRun serving ended gate → IsGateOf (HasGivenBack before after) serving gate
+    HaveRun serving ended gate → IsGateOf (HasGivenBack before after) serving before.gate.told gate
 
 -- status 0 says that no connection was left out: each part gave connections until it had no more
 abbrev pub LeavesNoneOut : Type 0
 LeavesNoneOut =
     (before after : World) (seed : List ℕ) (serving : Serving) (ended : Ended) (gate : Content) →
     Serves before after seed serving ended → ended.status ≡ 0 →
-    after.gate.told ≡ Some gate → IsGateOf (λ part. part.last ≡ NoMore) serving gate
+    after.gate.told ≡ Some gate →
+    IsGateOf (λ part. part.last ≡ NoMore) serving before.gate.told gate
 
 -- a receipt of a seat tells an entry of the journal: the one at its place, with its answer
 abbrev pub IsReceiptIn : List Entry → ℕ → Receipt → Type 0
@@ -137,14 +144,15 @@ pub record IsServedPart (films : List Stored) (seed : List ℕ) (serving : Servi
       (slice_index_or reports k no_report)
   pub entries : entries_told reports ≡ map receipt_for (made_by (worker + 1) journal)
 
--- the films are those of the library, the journal is a legal history over the capacity, each
--- connection of each worker was served, and the reports are those of the first worker, then those
--- of the next, and so on
+-- the films are those of the library, the journal is a legal history over the capacity, the gate was
+-- opened once, each connection of each worker was served, and the reports are those of the first
+-- worker, then those of the next, and so on
 pub record HasServedAll (before : World) (seed : List ℕ) (serving : Serving) (ended : Ended)
     (gate : Content) : Type 0 where
   pub films : List Stored
   pub loaded : AreLoaded before.store.told serving.films films
   pub journal : IsJournal serving ended.journal.items
+  pub once : IsOpenedOnce before.gate.told gate
   pub parts : List PartReport
   pub count : length parts ≡ serving.listening.workers
   pub reports : ended.reports.items ≡ all_reports parts

@@ -1,7 +1,7 @@
 -- What a run of the program did: it carried out what the words ask for, or it said what kept it
 -- from that.
 use Rattle.std.specs.Prelude.{◌≡◌, ℕ, ◌≤◌, Bool, List, [], length, Option, Some, None, Result, Ok}
-use Rattle.std.specs.Prelude.{Err, ◌⊎◌, ⊤}
+use Rattle.std.specs.Prelude.{Err, IfSome, ◌⊎◌}
 use Rattle.vod_base.specs.Outside.{File, HasRisen, more, IsFrontMore}
 use Rattle.plan_cert.specs.declared.Segment.{Segment}
 use Rattle.slot_calendar.specs.declared.profiles.CapStep.{CapStep}
@@ -40,7 +40,7 @@ use Rattle.film_frames.specs.declared.stores.Stored.{Stored}
 use Rattle.conn.specs.Parts.{Outlet, outlet}
 use Rattle.conn.specs.declared.reports.PartEnd.{PartEnd}
 use Rattle.conn.specs.declared.reports.PartEnd.TheVariants.{GateFault as PartFault}
-use Rattle.vodserve.specs.Worked.{AreLoaded, HaveWorked, IsOpenAs}
+use Rattle.vodserve.specs.Worked.{AreLoaded, HasTooFew, HaveWorked, IsOpenAs, IsOpenedOnce}
 use Rattle.vodserve.specs.Served.{IsJournal, IsPrinted, IsServeTrouble, served_text}
 use Rattle.vodserve.specs.Carrying.{IfTold, IsDone, IsRead, IsInputRefused}
 use Rattle.vodserve.specs.declared.done.Done.{Done}
@@ -150,8 +150,9 @@ Ends out out' err err' text end ended =
     × (IsPrinted out.faults out'.faults out.told out'.told text end (Some trouble)
     × Fails err err' trouble ended))
 
--- a server that served: the films as they were loaded, the journal, what the workers did, and the
--- text that tells of it; where a worker ended by a fault of the gate, the gate counted one
+-- a server that served: the films as they were loaded, the journal, what the workers did over the
+-- one opening of the gate, and the text that tells of it; where a worker ended by a fault of the
+-- gate, the gate counted one
 pub record HasServed (before after : World) (seed : List ℕ) (serving : Serving) (ended : Ended)
     : Type 0 where
   pub films : List Stored
@@ -160,6 +161,7 @@ pub record HasServed (before after : World) (seed : List ℕ) (serving : Serving
   pub end : PartEnd
   pub worked : HaveWorked films seed serving ended.journal.items before.gate after.gate end
       ended.reports.items
+  pub once : IfSome after.gate.told (IsOpenedOnce before.gate.told)
   pub fault : end ≡ PartFault → HasRisen before.gate.faults after.gate.faults
   pub ends : Ends before.out after.out before.err after.err
       (served_text ended.journal.items (length ended.reports.items)) end ended
@@ -176,7 +178,8 @@ Serves before after seed serving ended =
 -- words without meaning: the line alone
 abbrev pub IsUsage : World → World → Ended → Type 0
 IsUsage before after ended =
-    (after.out ≡ before.out) × (after.gate ≡ before.gate) × HasServedNothing ended
+    (after.store ≡ before.store) × (after.out ≡ before.out) × (after.gate ≡ before.gate)
+    × HasServedNothing ended
     × Fails before.err after.err Usage ended
 
 -- a text was written whole, and the status is 0; or a fault left a front of it, and was said
@@ -234,13 +237,15 @@ RunsFair out out' err err' run ended =
 abbrev pub IsOpenFor : Watching → Outlet → Type 0
 IsOpenFor watching gate = IsOpenAs (opening_at watching.port watching.pace.slot) gate.told
 
--- what keeps a client from a film: no connection at the port; the gate, which counted a fault; or
--- want of memory
+-- what keeps a client from a film: no connection at the port; want of memory, and then the gate is
+-- as it was; or the gate, which counted a fault and gave no connection
 abbrev pub IsWatchTrouble : Watching → Outlet → Outlet → Trouble → Type 0
 IsWatchTrouble watching gate gate' (Refused name NoConnection) =
     (name.now ≡ watching.film) × IsOpenFor watching gate' × HasPart gate'.told idle_part
-IsWatchTrouble watching gate gate' NoMemory = ⊤
+    × IfSome gate'.told (IsOpenedOnce gate.told)
+IsWatchTrouble watching gate gate' NoMemory = gate' ≡ gate
 IsWatchTrouble watching gate gate' GateFault = HasRisen gate.faults gate'.faults
+    × IfSome gate'.told (IsOpenedOnce gate.told) × IfSome gate'.told (HasTooFew 2)
 IsWatchTrouble watching gate gate' _ = ⊥
 
 -- a server's fault, as the refusal of the film
@@ -264,12 +269,14 @@ EndsWatch err err' film WatchLinkFault ended = Fails err err' LinkFault ended
 EndsWatch err err' film WatchSinkFault ended = Fails err err' SinkFault ended
 EndsWatch err err' film WatchNoMemory ended = Fails err err' NoMemory ended
 
--- a client that watched a film over the one connection of a gate that was opened as the words say
-pub record HasWatchedFilm (out out' err err' : Seen (List ℕ)) (gate' : Outlet)
+-- a client that watched a film over the one connection of a gate that was opened once, as the words
+-- say
+pub record HasWatchedFilm (out out' err err' : Seen (List ℕ)) (gate gate' : Outlet)
     (watching : Watching) (ended : Ended) : Type 0 where
   pub wish : Wish
   pub wish_is : IsWishOf watching wish
   pub open_as : IsOpenFor watching gate'
+  pub once : IfSome gate'.told (IsOpenedOnce gate.told)
   pub end : WatchEnd
   pub heard : HasHeardFilm wish gate'.told out.faults out'.faults out.told out'.told end
   pub nothing : HasServedNothing ended
@@ -282,17 +289,19 @@ Watches out out' err err' gate gate' watching ended =
     ((trouble : Trouble)
     × (IsWatchTrouble watching gate gate' trouble × (out' ≡ out) × HasServedNothing ended
     × Fails err err' trouble ended))
-    ⊎ HasWatchedFilm out out' err err' gate' watching ended
+    ⊎ HasWatchedFilm out out' err err' gate gate' watching ended
 
 -- one definition for each command
 abbrev pub Does : World → World → List ℕ → Order → Ended → Type 0
-Does before after seed help ended = Prints before after help ended
-Does before after seed version ended = Prints before after version ended
+Does before after seed help ended =
+    (after.store ≡ before.store) × Prints before after help ended
+Does before after seed version ended =
+    (after.store ≡ before.store) × Prints before after version ended
 Does before after seed (plan_of viewer) ended = Prints before after (plan_of viewer) ended
 Does before after seed (check_of viewer cert) ended =
     Prints before after (check_of viewer cert) ended
 Does before after seed (make_of kind number pictures) ended =
-    Prints before after (make_of kind number pictures) ended
+    (after.store ≡ before.store) × Prints before after (make_of kind number pictures) ended
 Does before after seed (scan_of film) ended = Prints before after (scan_of film) ended
 Does before after seed (day_of run) ended =
     (after.gate ≡ before.gate)

@@ -1,5 +1,5 @@
 -- What a server prints and leaves.
-use Rattle.std.specs.Prelude.{◌≡◌, ◌≢◌, ℕ, ◌+◌, ◌<◌, List, [], ◌∷◌, ◌++◌, length, codes, decimal}
+use Rattle.std.specs.Prelude.{◌≡◌, ◌≢◌, ◌⊎◌, ℕ, ◌+◌, ◌<◌, List, [], ◌∷◌, ◌++◌, length, codes, decimal}
 use Rattle.std.specs.Prelude.{All, Option, Some, None, IfSome}
 use Rattle.std.specs.List.{Contains}
 use Rattle.vod_base.specs.Outside.{File, HasRisen, IsFrontMore, more}
@@ -23,7 +23,7 @@ use Rattle.troubles.specs.declared.faults.Trouble.TheVariants.{Refused, StoreFau
 use Rattle.troubles.specs.declared.faults.Trouble.TheVariants.{NoMemory, GateFault}
 use Rattle.command_words.specs.Settings.{setting_value}
 use Rattle.command_words.specs.Words.{Serving}
-use Rattle.vodserve.specs.Worked.{MayBeServed}
+use Rattle.vodserve.specs.Worked.{HasTooFew, IsOpenedOnce, MayBeServed}
 
 -- how many connections were served, and how many entries the journal has
 abbrev pub last_line : ℕ → ℕ → List ℕ
@@ -46,9 +46,13 @@ pub record IsJournal (serving : Serving) (entries : List Entry) : Type 0 where
   pub first : made_by 0 entries ≡ []
   pub others : (maker : ℕ) → serving.listening.workers < maker → made_by maker entries ≡ []
 
--- fewer parts than workers were split from a gate
-abbrev pub HasFewer : ℕ → Option Content → Type 0
-HasFewer workers told = IfSome told (λ content. length content.parts < workers)
+-- a server whose workers didn't run: its films may be served, the gate was opened once, and of
+-- fewer parts than workers none gave a connection
+pub record HasOnlyOpened (serving : Serving) (store : Option (List File))
+    (gate gate' : Option Content) : Type 0 where
+  pub accepted : (held : List File) → store ≡ Some held → All (MayBeServed held) serving.films
+  pub once : IfSome gate' (IsOpenedOnce gate)
+  pub few : IfSome gate' (HasTooFew serving.listening.workers)
 
 -- the first film of these names that is refused: each before it may be served
 pub record IsFirstRefused (names : List (List ℕ)) (held : List File) (name : List ℕ) (fault : Fault)
@@ -59,19 +63,23 @@ pub record IsFirstRefused (names : List (List ℕ)) (held : List File) (name : L
   pub accepted : All (MayBeServed held) before
   pub refused : IsHeldRefused held name fault
 
--- what keeps a server from its work: the first film that is refused, in the order of the words; the
--- library, memory, or the gate, which counted a fault and gave a part too few
+-- what keeps a server from its work: the first film that is refused, in the order of the words, or
+-- the library, and then the gate is as it was; want of memory; or the gate, which counted a fault.
+-- No part of the gate gave a connection
 abbrev pub IsServeTrouble : Serving → Option (List File) → ℕ → ℕ → Outlet → Outlet → Trouble →
     Type 0
 IsServeTrouble serving told faults faults' gate gate' (Refused name fault) =
     IsReadTrouble (Contains serving.films) (IsFirstRefused serving.films) told faults faults'
     (Refused name fault)
+    × (gate' ≡ gate)
 IsServeTrouble serving told faults faults' gate gate' (StoreFault name) =
     IsReadTrouble (Contains serving.films) (IsFirstRefused serving.films) told faults faults'
     (StoreFault name)
-IsServeTrouble serving told faults faults' gate gate' NoMemory = Unit {0}
+    × (gate' ≡ gate)
+IsServeTrouble serving told faults faults' gate gate' NoMemory =
+    (gate' ≡ gate) ⊎ HasOnlyOpened serving told gate.told gate'.told
 IsServeTrouble serving told faults faults' gate gate' GateFault =
-    HasRisen gate.faults gate'.faults × HasFewer serving.listening.workers gate'.told
+    HasRisen gate.faults gate'.faults × HasOnlyOpened serving told gate.told gate'.told
 IsServeTrouble serving told faults faults' gate gate' _ = ⊥
 
 -- a gate that was opened in this way, and not split since

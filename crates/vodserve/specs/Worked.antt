@@ -2,8 +2,8 @@
 use Rattle.std.specs.Prelude.{◌≡◌, ◌≢◌, ◌⊎◌, ℕ, ◌+◌, ◌<◌, ⊤, List, [], ◌∷◌, ◌++◌, All, length}
 use Rattle.std.specs.Prelude.{slice_index_or, string_bytes, Option, Some, None, IfSome}
 use mathlib.Core.List.{IsPrefix}
-use Rattle.vod_base.specs.Outside.{File, HasRisen}
-use Rattle.vod_base.specs.Gates.{Content}
+use Rattle.vod_base.specs.Outside.{File, HasRisen, one_more}
+use Rattle.vod_base.specs.Gates.{Content, Part}
 use Rattle.vod_base.specs.declared.gates.Opening.{Opening}
 use Rattle.film_frames.specs.declared.stores.Stored.{Stored}
 use Rattle.admission.specs.declared.entries.Entry.{Entry}
@@ -65,6 +65,24 @@ pub record AreLoaded (told : Option (List File)) (names : List (List ℕ)) (film
 -- a gate is open in this way
 abbrev pub IsOpenAs : Opening → Option Content → Type 0
 IsOpenAs opening told = IfSome told (λ content. content.opening ≡ Some opening)
+
+-- a gate was opened once more than before, and no connection was taken from it but by its parts
+pub record IsOpenedOnce (before : Option Content) (gate : Content) : Type 0 where
+  pub told : Content
+  pub told_is : before ≡ Some told
+  pub openings : gate.openings ≡ one_more told.openings
+  pub own : gate.own ≡ told.own
+
+-- a part that gave no connection
+pub record IsIdle (part : Part) : Type 0 where
+  pub given : part.given ≡ 0
+  pub back : part.back ≡ []
+
+-- of a gate fewer parts were split than it was to have; each is back, and gave no connection
+pub record HasTooFew (count : ℕ) (gate : Content) : Type 0 where
+  pub fewer : length gate.parts < count
+  pub idle : (k : ℕ) → k < length gate.parts →
+      (part : Part) × ((slice_index_or gate.parts k None ≡ Some part) × IsIdle part)
 
 -- so many parts were split from a gate
 abbrev pub HasParts : ℕ → Option Content → Type 0

@@ -1,6 +1,6 @@
 -- The workers of a server.
 use Rattle.std.specs.Prelude.{◌≡◌, ℕ, ◌+◌, ◌<◌, ◌≤◌, ⊤, List, [], ◌∷◌, All, length, map}
-use Rattle.std.specs.Prelude.{slice_index_or, Option, None, IfSome}
+use Rattle.std.specs.Prelude.{slice_index_or, Option, Some, None, IfSome}
 use mathlib.Core.List.{IsPrefix}
 use Rattle.vod_base.specs.Outside.{HasRisen}
 use Rattle.vod_base.specs.Gates.{Content}
@@ -55,6 +55,13 @@ AreWorkers told faults hall from [] = ⊤
 AreWorkers told faults hall from (worker ∷ workers) =
     (worker.number ≡ from) × IsWorker told faults hall worker
     × AreWorkers told faults hall (from + 1) workers
+
+-- a gate wasn't opened since, and no connection was taken from it but by its parts
+pub record IsNotOpened (before : Option Content) (gate : Content) : Type 0 where
+  pub told : Content
+  pub told_is : before ≡ Some told
+  pub openings : gate.openings ≡ told.openings
+  pub own : gate.own ≡ told.own
 
 -- of the gate's parts those from one on are out
 pub record AreOut (from count : ℕ) (content : Content) : Type 0 where

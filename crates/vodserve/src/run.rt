@@ -1,3 +1,5 @@
+//! The commands of the program, behind one call.
+
 ghost use Rattle.std.specs.Prelude.{◌≡◌, ◌≤◌, ◌⊎◌, None, Bool, length, ℕ, List, Option, Result};
 ghost use Rattle.std.specs.Prelude.{IfOk, IfErr};
 ghost use Rattle.command_words.specs.Words.{Order, check_of, meaning};

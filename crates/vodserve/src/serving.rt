@@ -1,3 +1,5 @@
+//! A server: its films are loaded, its gate is opened, and its workers are run.
+
 ghost use Rattle.std.specs.Prelude.{◌≡◌, ◌≤◌, ◌++◌, Some, true, codes, All, IfSome, IfOk, IfErr};
 ghost use Rattle.std.specs.Prelude.{OnOk};
 ghost use Rattle.std.specs.List.{Contains};
@@ -13,10 +15,11 @@ ghost use Rattle.command_words.specs.Orders.{serving_of};
 ghost use Rattle.command_words.specs.Ranges.{IsServingInRange};
 ghost use Rattle.troubles.specs.Causes.{IsReadOnly, IsReadTrouble};
 ghost use Rattle.inputs.specs.Films.{IsHeldRefused};
-ghost use Rattle.vodserve.specs.Served.{HasFewer, IsFirstRefused, IsJournal, IsNewlyOpen};
+ghost use Rattle.vodserve.specs.Served.{IsFirstRefused, IsJournal, IsNewlyOpen};
 ghost use Rattle.vodserve.specs.Served.{IsServeTrouble, IsWordNamed};
-ghost use Rattle.vodserve.specs.Worked.{AreLoaded, HaveWorked, IsHeld, opening_of};
-ghost use Rattle.vodserve.specs.Workers.{IsMakeTrouble};
+ghost use Rattle.vodserve.specs.Worked.{AreLoaded, HasTooFew, HaveWorked, IsHeld, IsOpenedOnce};
+ghost use Rattle.vodserve.specs.Worked.{opening_of};
+ghost use Rattle.vodserve.specs.Workers.{IsMakeTrouble, IsNotOpened};
 
 use crate::workers::{Service, join_workers, make_workers, run_workers};
 use admission::Book;
@@ -82,6 +85,8 @@ pub(crate) fn prepare<'a, L: Library, G: Gate>(
     ensures seat { IfOk result (λ prepared. prepared.seat ≡ first_seat prepared.station) }
     ensures opened { IfOk result (λ prepared.
         IsNewlyOpen (opening_of (serving_of serving.entry.now)) (G.told gate.new)) }
+    ensures once { IfOk result (λ prepared.
+        IfSome (G.told gate.new) (IsOpenedOnce (G.told gate.old))) }
     ensures trouble { IfErr result (IsServeTrouble (serving_of serving.entry.now)
         (L.files library.old) (L.faults library.old) (L.faults library.new)
         (outlet (G.faults gate.old) (G.told gate.old))
@@ -111,7 +116,7 @@ pub(crate) fn prepare<'a, L: Library, G: Gate>(
 }
 
 /// Runs the workers over the open gate and closes the station. Where a seat or a part can't be made
-/// no worker runs.
+/// no worker runs, and the parts go back into the gate.
 pub(crate) fn run_server<R: Threads + Wait + Sync, G: Gate + Send + Drop>(
     rt: &R,
     alloc: Global,
@@ -137,8 +142,9 @@ where
         (outlet (G.faults gate.new) (G.told gate.new))
         closed.end closed.reports.items) }
     ensures trouble { IfErr result (IsMakeTrouble (G.faults gate.old) (G.faults gate.new)) }
-    ensures fewer { IfErr result (λ trouble.
-        HasFewer (serving_of serving.entry.now).listening.workers (G.told gate.new)) }
+    ensures since { IfSome (G.told gate.new) (IsNotOpened (G.told gate.old)) }
+    ensures few { IfErr result (λ trouble. IfSome (G.told gate.new)
+        (HasTooFew (serving_of serving.entry.now).listening.workers)) }
 {
     let Prepared {
         films,
@@ -151,6 +157,7 @@ where
         startup: serving.pace.startup,
     };
     let mut workers = Vec::new(alloc);
+    let mut reports = Vec::new(alloc);
     match make_workers(
         alloc,
         &station,
@@ -160,7 +167,10 @@ where
         &mut workers,
     ) {
         Ok(()) => {}
-        Err(trouble) => return Err(trouble),
+        Err(trouble) => {
+            let _ = join_workers(&station, &mut seat, gate, workers, &mut reports);
+            return Err(trouble);
+        }
     }
     let service = Service {
         station: &station,
@@ -169,7 +179,6 @@ where
         seed,
     };
     run_workers(rt, alloc, service, &mut workers);
-    let mut reports = Vec::new(alloc);
     let end = join_workers(&station, &mut seat, gate, workers, &mut reports);
     let book = station.close(seat);
     Ok(Closed { book, reports, end })

@@ -12,7 +12,7 @@ ghost use Rattle.vodserve.specs.Run.{EndsWatch, HasServedNothing, SaysWatched, W
 ghost use Rattle.vodserve.specs.Run.{sight_of};
 ghost use Rattle.vodserve.specs.Watches.{Hears, HearsPart, IsSameOutput, IsWishOf, opening_at};
 ghost use Rattle.vodserve.specs.Watches.{refusal_of, watched_text};
-ghost use Rattle.vodserve.specs.Worked.{IsOpenAs};
+ghost use Rattle.vodserve.specs.Worked.{HasTooFew, IsOpenAs, IsOpenedOnce};
 
 use crate::run::{Ended, end_with};
 use command_words::Watching;
@@ -146,6 +146,8 @@ fn watch_gate<O: Sink, G: Gate + Drop>(
         (O.written out.old) (O.written out.new)) }
     ensures opened { OnOk result (IsOpenAs (opening_at wish.entry.now.port
         wish.entry.now.slot_units) (G.told gate.new)) }
+    ensures once { IfSome (G.told gate.new) (IsOpenedOnce (G.told gate.old)) }
+    ensures few { OnErr result (IfSome (G.told gate.new) (HasTooFew 2)) }
     ensures heard { IfOk result (Hears wish.entry.now (G.told gate.new)
         (O.faults out.old) (O.faults out.new) (O.written out.old) (O.written out.new)) }
 {

@@ -1,3 +1,5 @@
+//! The workers of a server: each serves the connections of its part of the gate.
+
 ghost use Rattle.std.specs.Prelude.{◌≡◌, ◌<◌, ◌≤◌, ◌⊎◌, ◌++◌, ◌∷◌, [], List, length, map, All};
 ghost use Rattle.std.specs.Prelude.{IfSome, IfErr, OnOk};
 ghost use Rattle.vod_base.specs.Outside.{HasRisen};
@@ -5,10 +7,11 @@ ghost use Rattle.vod_base.specs.declared.gates.Opening.{Opening};
 ghost use Rattle.session.specs.Standings.{AreFilms, AreSettings};
 ghost use Rattle.station.specs.Seats.{first_seat};
 ghost use Rattle.conn.specs.declared.reports.PartReport.{PartReport};
-ghost use Rattle.vodserve.specs.Served.{HasFewer, IsNewlyOpen};
+ghost use Rattle.vodserve.specs.Served.{IsNewlyOpen};
 ghost use Rattle.vodserve.specs.Worked.{AreLeft, IsOpenAs, IsWorse};
 ghost use Rattle.vodserve.specs.Workers.{AreJoined, AreOut, AreWorkers, HasFinished, IsFresh};
-ghost use Rattle.vodserve.specs.Workers.{IsMakeTrouble, IsWorker, report_of, split_seat};
+ghost use Rattle.vodserve.specs.Workers.{IsMakeTrouble, IsNotOpened, IsWorker, report_of};
+ghost use Rattle.vodserve.specs.Workers.{split_seat};
 
 use conn::{ConnReport, PartEnd, PartReport, serve_part};
 use film_frames::Stored;
@@ -63,7 +66,8 @@ pub(crate) fn make_workers<G: Gate + Drop>(
     ensures parts { IfSome (G.told gate.new) (AreOut 0 (length workers.new.items)) }
     ensures made { OnOk result (length workers.new.items ≡ count) }
     ensures trouble { IfErr result (IsMakeTrouble (G.faults gate.old) (G.faults gate.new)) }
-    ensures fewer { IfErr result (λ trouble. HasFewer count (G.told gate.new)) }
+    ensures fewer { IfErr result (λ trouble. length workers.new.items < count) }
+    ensures since { IfSome (G.told gate.new) (IsNotOpened (G.told gate.old)) }
 {
     for number in 0..count {
         if workers.reserve(1).is_err() {
@@ -137,6 +141,7 @@ pub(crate) fn join_workers<G: Gate + Drop>(
     ensures joined { AreJoined G.told station.now (length workers.items) workers.items
         seat.new (G.told gate.new) }
     ensures left { AreLeft (map report_of workers.items) result reports.new.items }
+    ensures since { IfSome (G.told gate.new) (IsNotOpened (G.told gate.old)) }
     ensures opened { (opening : Opening) →
         IsOpenAs opening (G.told gate.old) → IsOpenAs opening (G.told gate.new) }
     ensures count { G.faults gate.old ≤ G.faults gate.new }

@@ -23,12 +23,14 @@ returns-in-Check g c = record {
 pub returns-in-Make : goal.returns-in-Make
 returns-in-Make g c = record {
   ran = ran_as _ _ _ _ _ ((c.in-Some.ensures {u = tt}).order) c.in-Make.is
-      (record { kept = refl; count = omega arith }) c.print-in-Make.ensures.count (omega arith)
-      (printed c.finish-in-Make.result refl
-      c.print-in-Make.ensures.nothing
-      (made_done None (made_of c.in-Make.kind) c.in-Make.seed c.in-Make.pictures c.make.result c.make.ensures c.finish-in-Make.result c.finish-in-Make.ensures.done)
-      (no_memory _ _ _ (make_of (made_of c.in-Make.kind) c.in-Make.seed c.in-Make.pictures) c.finish-in-Make.result c.finish-in-Make.ensures.trouble)
-      c.print-in-Make.ensures.printed);
+      (record { kept = refl; count = omega arith }) c.print-in-Make.ensures.count (omega arith) (
+        refl,
+        printed c.finish-in-Make.result refl
+            c.print-in-Make.ensures.nothing
+            (made_done None (made_of c.in-Make.kind) c.in-Make.seed c.in-Make.pictures c.make.result c.make.ensures c.finish-in-Make.result c.finish-in-Make.ensures.done)
+            (no_memory _ _ _ (make_of (made_of c.in-Make.kind) c.in-Make.seed c.in-Make.pictures) c.finish-in-Make.result c.finish-in-Make.ensures.trouble)
+            c.print-in-Make.ensures.printed,
+      );
 }
 
 pub returns-in-Scan : goal.returns-in-Scan
@@ -42,19 +44,23 @@ returns-in-Scan g c = record {
 pub returns-in-Help : goal.returns-in-Help
 returns-in-Help g c = record {
   ran = ran_as _ _ _ _ _ ((c.in-Some.ensures {u = tt}).order) c.in-Help.is
-      (record { kept = refl; count = omega arith }) c.print.ensures.count (omega arith)
-      (printed c.finish.result refl c.print.ensures.nothing
-      (help_done None c.help.result c.help.ensures c.finish.result c.finish.ensures.done)
-      (no_memory _ _ _ help c.finish.result c.finish.ensures.trouble) c.print.ensures.printed);
+      (record { kept = refl; count = omega arith }) c.print.ensures.count (omega arith) (
+        refl,
+        printed c.finish.result refl c.print.ensures.nothing
+            (help_done None c.help.result c.help.ensures c.finish.result c.finish.ensures.done)
+            (no_memory _ _ _ help c.finish.result c.finish.ensures.trouble) c.print.ensures.printed,
+      );
 }
 
 pub returns-in-Version : goal.returns-in-Version
 returns-in-Version g c = record {
   ran = ran_as _ _ _ _ _ ((c.in-Some.ensures {u = tt}).order) c.in-Version.is
-      (record { kept = refl; count = omega arith }) c.print-in-Version.ensures.count (omega arith)
-      (printed c.finish-in-Version.result refl c.print-in-Version.ensures.nothing
-      (version_done None c.version.result c.version.ensures c.finish-in-Version.result c.finish-in-Version.ensures.done)
-      (no_memory _ _ _ version c.finish-in-Version.result c.finish-in-Version.ensures.trouble) c.print-in-Version.ensures.printed);
+      (record { kept = refl; count = omega arith }) c.print-in-Version.ensures.count (omega arith) (
+        refl,
+        printed c.finish-in-Version.result refl c.print-in-Version.ensures.nothing
+            (version_done None c.version.result c.version.ensures c.finish-in-Version.result c.finish-in-Version.ensures.done)
+            (no_memory _ _ _ version c.finish-in-Version.result c.finish-in-Version.ensures.trouble) c.print-in-Version.ensures.printed,
+      );
 }
 
 pub returns-in-Day : goal.returns-in-Day

@@ -1,4 +1,4 @@
-use Rattle.std.proofs.Common.{◌≡◌, ◌∙◌, ℕ, List, length, inr, sym, ap, subst}
+use Rattle.std.proofs.Common.{◌≡◌, ◌∙◌, ℕ, List, length, inl, inr, refl, sym, ap, subst}
 use Rattle.admission.specs.declared.entries.Entry.{Entry}
 use Rattle.conn.specs.Parts.{Outlet}
 use Rattle.conn.specs.declared.reports.ConnReport.{ConnReport}
@@ -7,7 +7,8 @@ use Rattle.command_words.specs.Orders.{serving_of}
 use Rattle.vodserve.specs.Served.{IsJournal, served_text}
 use Rattle.vodserve.specs.Worked.{HaveWorked}
 use Rattle.vodserve.specs.Run.{Ends, Seen, gate_seen, sight_of}
-use Rattle.vodserve.proofs.ServeLemmas.{fault_risen, have_worked_since}
+use Rattle.vodserve.proofs.ServeLemmas.{fault_risen, have_worked_since, make_serves, only_opened}
+use Rattle.vodserve.proofs.WorkerLemmas.{once_since}
 use Rattle.vodserve.proofs.run.serve.Goals as goal
 
 pub returns-in-Ok-run_server-clause-serves : goal.returns-in-Ok-run_server-clause-serves
@@ -38,7 +39,27 @@ returns-in-Ok-run_server-clause-serves g c =
       journal = subst (λ (es : List Entry). IsJournal serving es) (sym c.end_server.ensures.journal) ((c.in-Ok-run_server.ensures {u = tt}).closed);
       end = c.in-Ok-run_server.closed.end;
       worked = worked;
+      once = once_since before.told opened.told after.told ((c.in-Ok.ensures {u = tt}).once) c.run_server.ensures.since;
       fault = fault_risen
           worked;
       ends = subst (λ (text : List ℕ). Ends out out' err err' text c.in-Ok-run_server.closed.end c.end_server.result) same c.end_server.ensures.ends;
     })
+
+pub returns-in-Err-run_server-clause-serves : goal.returns-in-Err-run_server-clause-serves
+returns-in-Err-run_server-clause-serves g c =
+    let serving : Serving = serving_of c.args.serving.now in
+    let before : Outlet = gate_seen g.G.Gate.faults g.G.Gate.told c.args.gate.now in
+    let opened : Outlet = gate_seen g.G.Gate.faults g.G.Gate.told c.prepare.new.gate in
+    let after : Outlet = gate_seen g.G.Gate.faults g.G.Gate.told c.run_server.new.gate in
+    inl (
+      c.in-Err-run_server.trouble,
+      (
+        make_serves serving (g.L.Library.files c.args.library.now) (g.L.Library.faults c.args.library.now) (g.L.Library.faults c.prepare.new.library) opened.faults before after
+            c.in-Err-run_server.trouble ((c.in-Err-run_server.ensures {u = tt}).trouble) c.prepare.ensures.count
+            (only_opened serving (g.L.Library.files c.args.library.now) c.in-Ok.prepared.films.items before.told after.told ((c.in-Ok.ensures {u = tt}).loaded)
+            (once_since before.told opened.told after.told ((c.in-Ok.ensures {u = tt}).once) c.run_server.ensures.since) ((c.in-Err-run_server.ensures {u = tt}).few)),
+        refl,
+        c.end_with-in-Err-run_server.ensures.nothing,
+        c.end_with-in-Err-run_server.ensures.fails,
+      ),
+    )

@@ -7,7 +7,7 @@ use Rattle.command_words.specs.Orders.{serving_of}
 use Rattle.vodserve.specs.Worked.{opening_of, settings_of}
 use Rattle.vodserve.specs.Workers.{HasFinished}
 use Rattle.vodserve.proofs.ServeLemmas.{closed_journal, have_worked, newly_open_as}
-use Rattle.vodserve.proofs.WorkerLemmas.{all_joined, all_workers, risen_since}
+use Rattle.vodserve.proofs.WorkerLemmas.{all_joined, all_workers, joined_few, not_opened_on, risen_since}
 use Rattle.vodserve.proofs.serving.run_server.Goals as goal
 
 pub make_workers-requires-clause-opened : goal.make_workers-requires-clause-opened
@@ -21,6 +21,16 @@ pub close-book-requires-clause-all : goal.close-book-requires-clause-all
 close-book-requires-clause-all g c =
     all_joined g.G.Gate.faults
     c.run_workers.ensures.workers c.join_workers-end.ensures.joined
+
+pub returns-clause-since : goal.returns-clause-since
+returns-clause-since g c =
+    not_opened_on (g.G.Gate.told c.args.gate.now) (g.G.Gate.told c.make_workers.new.gate) (g.G.Gate.told c.join_workers-end.new.gate) c.make_workers.ensures.since
+    c.join_workers-end.ensures.since
+
+pub returns-in-Err-clause-few : goal.returns-in-Err-clause-few
+returns-in-Err-clause-few g c =
+    joined_few g.G.Gate.told g.G.Gate.faults c.args.prepared.station c.args.serving.now.listening.workers c.make_workers.new.workers.items c.join_workers.new.seat
+    (g.G.Gate.told c.join_workers.new.gate) c.join_workers.ensures.joined c.make_workers.ensures.fresh ((c.in-Err.ensures {u = tt}).fewer)
 
 pub returns-clause-closed : goal.returns-clause-closed
 returns-clause-closed g c =

@@ -9,7 +9,7 @@ use Rattle.conn.specs.declared.reports.PartReport.{PartReport}
 use Rattle.vodserve.specs.Worked.{AreLeft}
 use Rattle.vodserve.specs.Workers.{AreWorkers, IsWorker, report_of}
 use Rattle.vodserve.specs.declared.workers.Worker.{Worker}
-use Rattle.vodserve.proofs.WorkerLemmas.{all_push, first_split, first_worker, join_one, one_done, rest_workers, risen_on, risen_since, back_still_open}
+use Rattle.vodserve.proofs.WorkerLemmas.{all_push, first_split, first_worker, join_one, not_opened_back, not_opened_here, one_done, rest_workers, risen_on, risen_since, back_still_open}
 use Rattle.vodserve.proofs.workers.join_workers.Goals as goal
 
 pub loop-workers-init : goal.loop-workers-init
@@ -37,6 +37,7 @@ loop-workers-init g c = (
       whole = inr c.requires.none;
     };
     opened = λ opening is. is;
+    since = not_opened_here (g.G.Gate.told c.args.gate.now);
     count = omega arith;
     counted = All-nil (λ (w : Worker _). _);
   },
@@ -66,6 +67,8 @@ loop-workers-preserved g c =
         left = subst (λ (ps : List PartReport). AreLeft ps c.add_reports-end.result c.add_reports-end.new.reports.items) (sym (map-append report_of done (worker ∷ [])))
             (c.add_reports-end.ensures.left (map report_of done) inv.left);
         opened = λ opening is. back_still_open opening (g.G.Gate.told worker.part) (g.G.Gate.told c.loop-workers.gate) (g.G.Gate.told c.rejoin.new.self) (inv.opened opening is)
+            c.rejoin.ensures.joined;
+        since = not_opened_back (g.G.Gate.told c.args.gate.now) (g.G.Gate.told worker.part) (g.G.Gate.told c.loop-workers.gate) (g.G.Gate.told c.rejoin.new.self) inv.since
             c.rejoin.ensures.joined;
         count = omega (arith, c.rejoin.ensures.count, inv.count);
         counted = all_push

@@ -4,7 +4,7 @@ use Rattle.station.specs.Seats.{Sitting, after_split}
 use Rattle.conn.specs.declared.reports.PartEnd.TheVariants.{AllTaken}
 use Rattle.vodserve.specs.Workers.{AreWorkers, IsFresh, IsWorker}
 use Rattle.vodserve.specs.declared.workers.Worker.{Worker}
-use Rattle.vodserve.proofs.WorkerLemmas.{all_push, new_untouched, workers_push, told_out_more, split_open, split_still_open, new_number}
+use Rattle.vodserve.proofs.WorkerLemmas.{all_push, new_untouched, not_opened_split, workers_push, told_out_more, split_open, split_still_open, new_number}
 use Rattle.vodserve.proofs.workers.make_workers.Goals as goal
 
 pub loop-number-preserved : goal.loop-number-preserved
@@ -43,6 +43,8 @@ loop-number-preserved g c =
       opened = split_open (g.G.Gate.told c.loop-number.gate) (g.G.Gate.told c.split.new.self) c.loop-number.invariant.opened ((c.in-Ok.ensures {u = tt}).split);
       kept = λ opening is.
           split_still_open opening (g.G.Gate.told c.loop-number.gate) (g.G.Gate.told c.split.new.self) (c.loop-number.invariant.kept opening is) ((c.in-Ok.ensures {u = tt}).split);
+      since = not_opened_split (g.G.Gate.told c.args.gate.now) (g.G.Gate.told c.loop-number.gate) (g.G.Gate.told c.split.new.self) c.loop-number.invariant.since
+          ((c.in-Ok.ensures {u = tt}).split);
       parts = told_out_more c.loop-number.number (g.G.Gate.told c.loop-number.gate) (g.G.Gate.told c.split.new.self) c.loop-number.invariant.parts
           ((c.in-Ok.ensures {u = tt}).split);
       count = omega (arith, c.split.ensures.count, c.loop-number.invariant.count);
