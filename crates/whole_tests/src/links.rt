@@ -4,7 +4,7 @@ ghost use Rattle.std.specs.Prelude.{◌≡◌, IfOk};
 ghost use Rattle.session.specs.Ranges.{AreFilms};
 ghost use Rattle.station.specs.Seats.{IsSameSeat, IsSplit, first_seat};
 
-use crate::scripts::{bytes_of, message_of, numbers_of, word_and_rest};
+use crate::scripts::{bytes_of, compare_front, message_of, numbers_of, word_and_rest};
 use crate::talks::{SETTINGS, WORDS};
 use admission::{Answer, Book, Command, Entry};
 use conn::{ConnEnd, serve_connection};
@@ -88,13 +88,7 @@ impl Visit {
 
     /// Reads what was sent next, which is to be this.
     fn read<R: Abort>(&mut self, rt: &R, alloc: Global, want: &[u8]) -> Result<(), NoMemory> {
-        let got = self.unread();
-        assert!(rt;
-            got.starts_with(want),
-            "wanted {} and got {}",
-            String::from_utf8_lossy(alloc, want)?,
-            String::from_utf8_lossy(alloc, got)?
-        );
+        compare_front(rt, alloc, self.unread(), want)?;
         self.read = self.read.saturating_add(want.len());
         Ok(())
     }
@@ -279,17 +273,21 @@ fn visit_station<R: Wait + Abort>(
     for line in lines.lines() {
         visit.take(rt, alloc, station, seat, films, line)?;
     }
+    assert!(rt;
+        visit.events.is_empty() && visit.unread().is_empty(),
+        "left over: {lines}"
+    );
     Ok(())
 }
 
-/// Serves the connections of a scene, and compares the journal that they leave.
+/// Serves the connections of a scene, and compares the journal that they leave, if one is given.
 fn visit_all<R: Wait + Abort>(
     rt: &R,
     alloc: Global,
     films: &[Stored],
     head: &str,
     lines: &str,
-    journal: &str,
+    journal: Option<&str>,
 ) -> Result<(), NoMemory>
     requires { AreFilms films.now }
 {
@@ -298,11 +296,13 @@ fn visit_all<R: Wait + Abort>(
     visit_station(rt, alloc, &station, &mut seat, films, lines)?;
     let book = station.close(seat);
     let text = journal_of(alloc, &book)?;
-    assert!(rt;
-        journal.is_empty() || text.strip_suffix(b"\n") == Some(journal.as_bytes()),
-        "{}",
-        String::from_utf8_lossy(alloc, &text)?
-    );
+    if let Some(journal) = journal {
+        assert!(rt;
+            text.strip_suffix(b"\n") == Some(journal.as_bytes()),
+            "{}",
+            String::from_utf8_lossy(alloc, &text)?
+        );
+    }
     Ok(())
 }
 
@@ -320,7 +320,10 @@ pub(crate) fn serve_all<R: Wait + Abort>(
     requires { AreFilms films.now }
 {
     for scene in script.split("\n\n") {
-        let (talks, journal) = scene.split_once("\njournal\n").unwrap_or((scene, ""));
+        let (talks, journal) = match scene.split_once("\njournal\n") {
+            Some((talks, journal)) => (talks, Some(journal)),
+            None => (scene, None),
+        };
         let Some((head, lines)) = talks.split_once('\n') else {
             return Err(NoMemory);
         };

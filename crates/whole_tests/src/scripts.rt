@@ -1,6 +1,7 @@
 //! What stands in a script's lines.
 
 use std::alloc::Global;
+use std::process::Abort;
 use vod_base::{NoMemory, read_number};
 
 /// A line's first word, and what stands after it.
@@ -42,4 +43,20 @@ pub(crate) fn numbers_of(text: &str) -> [u64; 4] {
         }
     }
     numbers
+}
+
+/// Compares what was sent next, which is to begin so.
+pub(crate) fn compare_front<R: Abort>(
+    rt: &R,
+    alloc: Global,
+    sent: &[u8],
+    want: &[u8],
+) -> Result<(), NoMemory> {
+    assert!(rt;
+        sent.starts_with(want),
+        "wanted {} and got {}",
+        String::from_utf8_lossy(alloc, want)?,
+        String::from_utf8_lossy(alloc, sent)?
+    );
+    Ok(())
 }

@@ -4,10 +4,10 @@ ghost use Rattle.std.specs.Prelude.{◌≡◌, IfOk, length, true};
 ghost use Rattle.interleave.specs.Pieces.{IsRequestLength};
 ghost use Rattle.session.specs.Ranges.{AreFilms};
 ghost use Rattle.session.specs.Standings.{AsksFor, IsAtRest, IsHalt, IsLook, IsOffer, IsPlay};
-ghost use Rattle.session.specs.Standings.{awaits, open_of};
+ghost use Rattle.session.specs.Standings.{awaited_answer, open_of};
 
 use crate::films::server_films;
-use crate::scripts::{bytes_of, message_of, numbers_of, word_and_rest};
+use crate::scripts::{bytes_of, compare_front, message_of, numbers_of, word_and_rest};
 use early_start::Offers;
 use film_frames::Stored;
 use interleave::{Demux, Step};
@@ -98,7 +98,7 @@ impl<'a> Talk<'a> {
     }
 
     fn play<R: Abort>(&mut self, rt: &R, plan: &Plan, told: Told<'_>)
-        requires { IsPlay (awaits self.old.session) }
+        requires { IsPlay (awaited_answer self.old.session) }
         ensures { IsAtRest self.new.session }
     {
         let [first, second, third, fourth] = told.numbers;
@@ -115,7 +115,7 @@ impl<'a> Talk<'a> {
     }
 
     fn halt<R: Abort>(&mut self, rt: &R, keep: u64, told: Told<'_>)
-        requires { IsHalt (awaits self.old.session) (open_of self.old.session) }
+        requires { IsHalt (awaited_answer self.old.session) (open_of self.old.session) }
         ensures { IsAtRest self.new.session }
     {
         assert!(rt; told.kind == "halted", "a halt was asked for");
@@ -125,7 +125,7 @@ impl<'a> Talk<'a> {
     }
 
     fn look<R: Abort>(&mut self, rt: &R, told: Told<'_>)
-        requires { IsLook (awaits self.old.session) }
+        requires { IsLook (awaited_answer self.old.session) }
         ensures { IsAtRest self.new.session }
     {
         let [first, second, third, fourth] = told.numbers;
@@ -138,7 +138,7 @@ impl<'a> Talk<'a> {
     }
 
     fn offer<R: Abort>(&mut self, rt: &R, plan: Plan, mut offers: Offers, told: Told<'_>)
-        requires { IsOffer (awaits self.old.session) }
+        requires { IsOffer (awaited_answer self.old.session) }
         ensures { IsAtRest self.new.session }
     {
         let [seen, first, _, _] = told.numbers;
@@ -240,13 +240,7 @@ impl<'a> Talk<'a> {
     fn read<R: Abort>(&mut self, rt: &R, alloc: Global, want: &[u8]) -> Result<(), NoMemory>
         ensures { self.new.session ≡ self.old.session }
     {
-        let got = self.unread();
-        assert!(rt;
-            got.starts_with(want),
-            "wanted {} and got {}",
-            String::from_utf8_lossy(alloc, want)?,
-            String::from_utf8_lossy(alloc, got)?
-        );
+        compare_front(rt, alloc, self.unread(), want)?;
         self.read = self.read.saturating_add(want.len());
         Ok(())
     }
