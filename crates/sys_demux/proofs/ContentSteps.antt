@@ -18,8 +18,9 @@ stuffing_ends count byte rest (inl other) = stuffing_other (16 - count) byte res
 stuffing_ends count byte rest (inr many) = stuffing_none (16 - count) byte rest (omega (arith, many))
 
 -- the same of what is said of each rest
-pub says_same : {X : Type 0} (left : ℕ) (least : X → ℕ) (from : X → List ℕ → Option (List ℕ)) (f g : List ℕ → Option (List ℕ)) (o : Option X) → ((rest : List ℕ) → f rest ≡ g rest) →
+pub says_same : {X : Type 0} {f g : List ℕ → Option (List ℕ)} (left : ℕ) (least : X → ℕ)
+    (from : X → List ℕ → Option (List ℕ)) (o : Option X) → ((rest : List ℕ) → f rest ≡ g rest) →
     MatchOption o ((rest : List ℕ) → length rest ≡ left → g rest ≡ None) (λ next. (least next ≤ left) × ((rest : List ℕ) → length rest ≡ left → g rest ≡ from next rest)) →
     MatchOption o ((rest : List ℕ) → length rest ≡ left → f rest ≡ None) (λ next. (least next ≤ left) × ((rest : List ℕ) → length rest ≡ left → f rest ≡ from next rest))
-says_same left least from f g None same h = λ rest long. same rest ∙ h rest long
-says_same left least from f g (Some next) same h = (h.0, λ rest long. same rest ∙ h.1 rest long)
+says_same left least from None same h = λ rest long. same rest ∙ h rest long
+says_same left least from (Some next) same h = (h.0, λ rest long. same rest ∙ h.1 rest long)

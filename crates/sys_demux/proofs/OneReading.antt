@@ -10,6 +10,7 @@ use Rattle.sys_demux.specs.Items.{Item, with_prefix, item_bytes, zeros_of, choos
 use Rattle.sys_demux.specs.Items.{chosen_next, chosen_after, IsItem, AreItems, video_of, bytes_of}
 use Rattle.sys_demux.specs.Items.Item.{Pack, Packet}
 use Rattle.sys_demux.specs.Streams.{IsEnd, LacksEnd, IsFault, IsSystem, IsRefused}
+use Rattle.sys_demux.specs.Streams.{IsBadByte, IsBadPacket}
 use Rattle.sys_demux.specs.States.{IsShown}
 use Rattle.sys_demux.specs.declared.faults.SystemFault.{SystemFault}
 use Rattle.sys_demux.specs.declared.faults.SystemFault.TheVariants.{NotPack, BadCode, BadPacket}
@@ -80,17 +81,26 @@ zeros_front (suc (suc (suc n))) zero l s e =
 zeros_front (suc (suc (suc n))) (suc m) l s e =
     omega (arith, zeros_front (suc (suc n)) m l s (tail_same 0 0 (0 ∷ 0 ∷ (replicate n 0 ++ l)) (with_prefix m s) e))
 
--- a byte other than 00 after bytes 00 isn't where a prefix can have it
-bad_no_prefix : {byte : ℕ} (n m : ℕ) (l s : List ℕ) → replicate n 0 ++ byte ∷ l ≡ with_prefix m s → byte ≢ 0 → (byte ≡ 1 → n < 2) → ⊥
-bad_no_prefix {byte} zero zero l s e some early = some (head_same byte 0 l (0 ∷ 1 ∷ s) e)
-bad_no_prefix {byte} zero (suc m) l s e some early = some (head_same byte 0 l (with_prefix m s) e)
-bad_no_prefix {byte} (suc zero) zero l s e some early = some (head_same byte 0 l (1 ∷ s) (tail_same 0 0 (byte ∷ l) (0 ∷ 1 ∷ s) e))
-bad_no_prefix {byte} (suc (suc zero)) zero l s e some early =
-    let one : byte ≡ 1 = head_same byte 1 l s (tail_same 0 0 (byte ∷ l) (1 ∷ s) (tail_same 0 0 (0 ∷ byte ∷ l) (0 ∷ 1 ∷ s) e)) in omega (arith, early one)
-bad_no_prefix {byte} (suc (suc (suc n))) zero l s e some early =
+-- a byte that no bytes 00 and prefix have after so many bytes 00
+record IsOutside (count byte : ℕ) : Type 0 where
+  some : byte ≢ 0
+  early : byte ≡ 1 → count < 2
+
+bad_no_prefix : {byte : ℕ} (n m : ℕ) (l s : List ℕ) → replicate n 0 ++ byte ∷ l ≡ with_prefix m s → IsOutside n byte → ⊥
+bad_no_prefix {byte} zero zero l s e bad = bad.some (head_same byte 0 l (0 ∷ 1 ∷ s) e)
+bad_no_prefix {byte} zero (suc m) l s e bad = bad.some (head_same byte 0 l (with_prefix m s) e)
+bad_no_prefix {byte} (suc zero) zero l s e bad = bad.some (head_same byte 0 l (1 ∷ s) (tail_same 0 0 (byte ∷ l) (0 ∷ 1 ∷ s) e))
+bad_no_prefix {byte} (suc (suc zero)) zero l s e bad =
+    let one : byte ≡ 1 = head_same byte 1 l s (tail_same 0 0 (byte ∷ l) (1 ∷ s) (tail_same 0 0 (0 ∷ byte ∷ l) (0 ∷ 1 ∷ s) e)) in omega (arith, bad.early one)
+bad_no_prefix {byte} (suc (suc (suc n))) zero l s e bad =
     zero_one (replicate n 0 ++ byte ∷ l) s (tail_same 0 0 (0 ∷ (replicate n 0 ++ byte ∷ l)) (1 ∷ s) (tail_same 0 0 (0 ∷ 0 ∷ (replicate n 0 ++ byte ∷ l)) (0 ∷ 1 ∷ s) e))
-bad_no_prefix {byte} (suc n) (suc m) l s e some early =
-    bad_no_prefix n m l s (tail_same 0 0 (replicate n 0 ++ byte ∷ l) (with_prefix m s) e) some (λ one. omega (arith, early one))
+bad_no_prefix {byte} (suc n) (suc m) l s e bad =
+    bad_no_prefix n m l s (tail_same 0 0 (replicate n 0 ++ byte ∷ l) (with_prefix m s) e)
+    (record { some = bad.some; early = λ one. omega (arith, bad.early one) })
+
+-- a byte other than 00 after bytes 00 isn't where a prefix can have it
+byte_no_prefix : {start place : ℕ} {t : List ℕ} (m : ℕ) (s : List ℕ) → IsBadByte start t place → t ≡ with_prefix m s → ⊥
+byte_no_prefix m s f e = bad_no_prefix f.count m f.rest s (sym f.is ∙ e) (record { some = f.some; early = f.early })
 
 -- bytes 00 and another byte
 zeros_no_bad : (n m byte : ℕ) (l : List ℕ) → replicate n 0 ≡ replicate m 0 ++ byte ∷ l → byte ≢ 0 → ⊥
@@ -99,11 +109,12 @@ zeros_no_bad zero (suc m) byte l e some = let bad : 0 ≡ length (0 ∷ (replica
 zeros_no_bad (suc n) zero byte l e some = some (sym (head_same 0 byte (replicate n 0) l e))
 zeros_no_bad (suc n) (suc m) byte l e some = zeros_no_bad n m byte l (tail_same 0 0 (replicate n 0) (replicate m 0 ++ byte ∷ l) e) some
 
-bad_once : {n m : ℕ} (a b : ℕ) (r s : List ℕ) → replicate n 0 ++ a ∷ r ≡ replicate m 0 ++ b ∷ s → a ≢ 0 → b ≢ 0 → n ≡ m
-bad_once {n = zero} {m = zero} a b r s e x y = refl
-bad_once {n = zero} {m = suc m} a b r s e x y = absurd (x (head_same a 0 r (replicate m 0 ++ b ∷ s) e))
-bad_once {n = suc n} {m = zero} a b r s e x y = absurd (y (sym (head_same 0 b (replicate n 0 ++ a ∷ r) s e)))
-bad_once {n = suc n} {m = suc m} a b r s e x y = let more = bad_once {n = n} {m = m} a b r s (tail_same 0 0 (replicate n 0 ++ a ∷ r) (replicate m 0 ++ b ∷ s) e) x y in omega (arith, more)
+bad_once : {n m a b : ℕ} (r s : List ℕ) → replicate n 0 ++ a ∷ r ≡ replicate m 0 ++ b ∷ s → a ≢ 0 → b ≢ 0 → n ≡ m
+bad_once {n = zero} {m = zero} r s e x y = refl
+bad_once {n = zero} {m = suc m} {a} {b} r s e x y = absurd (x (head_same a 0 r (replicate m 0 ++ b ∷ s) e))
+bad_once {n = suc n} {m = zero} {a} {b} r s e x y = absurd (y (sym (head_same 0 b (replicate n 0 ++ a ∷ r) s e)))
+bad_once {n = suc n} {m = suc m} {a} {b} r s e x y =
+    let more = bad_once {n = n} {m = m} r s (tail_same 0 0 (replicate n 0 ++ a ∷ r) (replicate m 0 ++ b ∷ s) e) x y in omega (arith, more)
 
 -- the bytes after an item's prefix
 abbrev rest_of : Item → List ℕ
@@ -180,10 +191,10 @@ mark_other {rest} {mark} chosen (Pack n (b ∷ r)) x p e other =
 mark_other {rest} {mark} chosen (Packet n k h l r) x p e other = omega (arith, p.kind_is, head_same k 186 (h ∷ l ∷ (r ++ x)) (mark ∷ rest) e)
 
 -- a content that stands whole has a header
-content_bad : {kind high low : ℕ} (chosen : Option ℕ) (a : Item) (x front rest : List ℕ) → IsItem chosen a → rest_of a ++ x ≡ kind ∷ high ∷ low ∷ (front ++ rest) → 187 ≤ kind →
-    is_chosen (choose chosen kind) kind ≡ true → length front ≤ high * 256 + low → ((more : List ℕ) → length front + length more ≡ high * 256 + low → video_in (front ++ more) ≡ None) → ⊥
-content_bad {kind} {high} {low} chosen (Pack n r) x front rest p e kind_is is within none = omega (arith, kind_is, head_same 186 kind (r ++ x) (high ∷ low ∷ (front ++ rest)) e)
-content_bad {kind} {high} {low} chosen (Packet n k h l r) x front rest p e kind_is is within none =
+content_bad : {chosen : Option ℕ} {start place : ℕ} {t : List ℕ} (a : Item) (x : List ℕ) → (f : IsBadPacket chosen start t place) → IsItem chosen a →
+    rest_of a ++ x ≡ f.kind ∷ f.high ∷ f.low ∷ (f.front ++ f.rest) → ⊥
+content_bad (Pack n r) x f p e = omega (arith, f.kind_is, head_same 186 f.kind (r ++ x) (f.high ∷ f.low ∷ (f.front ++ f.rest)) e)
+content_bad {chosen} (Packet n k h l r) x f p e =
     let kinds : k ≡ kind = head_same k kind (h ∷ l ∷ (r ++ x)) (high ∷ low ∷ (front ++ rest)) e in
     let e1 : h ∷ l ∷ (r ++ x) ≡ high ∷ low ∷ (front ++ rest) = tail_same k kind (h ∷ l ∷ (r ++ x)) (high ∷ low ∷ (front ++ rest)) e in
     let highs : h ≡ high = head_same h high (l ∷ (r ++ x)) (low ∷ (front ++ rest)) e1 in
@@ -196,20 +207,24 @@ content_bad {kind} {high} {low} chosen (Packet n k h l r) x front rest p e kind_
     (sym (append_assoc (take (length front) r) (drop (length front) r) x) ∙ ap (λ (t : List ℕ). t ++ x) (take-append-drop (length front) r) ∙ whole) cut in
     let split : r ≡ front ++ drop (length front) r = sym (take-append-drop (length front) r) ∙ ap (λ (t : List ℕ). t ++ drop (length front) r) fronts.0 in
     let nothing : video_in r ≡ None = ap video_in split ∙ none (drop (length front) r) (omega (arith, size, within, length-drop (length front) r)) in
-    let some = p.header (subst (λ z. is_chosen (choose chosen z) z ≡ true) (sym kinds) is) in
+    let some = p.header (subst (λ z. is_chosen (choose chosen z) z ≡ true) (sym kinds) chosen_is) in
     let bad : IsSome {T = List ℕ} None = subst (λ (o : Option (List ℕ)). IsSome o) nothing some in
     let wrong : false ≡ true = bad in
     cc
+  where open f use {kind, high, low, front, rest, chosen_is, within, none}
 
-fault_no_item : {t : List ℕ} (chosen : Option ℕ) (start : ℕ) (a : Item) (x : List ℕ) (fault : SystemFault) → IsItem chosen a → item_bytes a ++ x ≡ t → IsFault chosen start t fault → ⊥
-fault_no_item chosen start a x (NotPack place) p e f = mark_other chosen a x p (from_prefix a x e f.is).rest f.other
-fault_no_item {t} chosen start a x (BadCode place) p e (inl f) =
-    bad_no_prefix f.count (zeros_of a) f.rest (rest_of a ++ x) (sym f.is ∙ as_prefixed a x t e) f.some f.early
-fault_no_item chosen start a x (BadCode place) p e (inr f) =
+-- what no item stands in front of
+Stops : Option ℕ → List ℕ → Type 0
+Stops chosen t = (a : Item) (x : List ℕ) → IsItem chosen a → item_bytes a ++ x ≡ t → ⊥
+
+fault_stops : (chosen : Option ℕ) (start : ℕ) (t : List ℕ) (fault : SystemFault) → IsFault chosen start t fault → Stops chosen t
+unfolding Stops
+fault_stops chosen start t (NotPack place) f = λ a x p e. mark_other chosen a x p (from_prefix a x e f.is).rest f.other
+fault_stops chosen start t (BadCode place) (inl f) = λ a x p e. byte_no_prefix (zeros_of a) (rest_of a ++ x) f (as_prefixed a x t e)
+fault_stops chosen start t (BadCode place) (inr f) = λ a x p e.
     let kind = kind_of_item chosen a x p (from_prefix a x e f.is).rest in omega (arith, kind, f.low)
-fault_no_item chosen start a x (BadPacket place) p e f =
-    content_bad chosen a x f.front f.rest p (from_prefix a x e f.is).rest f.kind_is f.chosen_is f.within f.none
-fault_no_item chosen start a x (Truncated place) p e f =
+fault_stops chosen start t (BadPacket place) f = λ a x p e. content_bad a x f p (from_prefix a x e f.is).rest
+fault_stops chosen start t (Truncated place) f = λ a x p e.
     let same = item_once chosen p f.is_item
     (sym (append_assoc (item_bytes a) x f.lacking) ∙ ap (λ (l : List ℕ). l ++ f.lacking) e ∙ sym f.is ∙ sym (append-nil (item_bytes f.item))) in
     omega (arith, ap length same.rest, length-append x f.lacking, f.some)
@@ -233,8 +248,10 @@ cut_prefixed chosen start t place f = front_prefixed t f.lacking (rest_of f.item
 
 -- a fault that bytes show stands in no front of an item
 cut_shows_none : {chosen : Option ℕ} {start : ℕ} {t : List ℕ} {place : ℕ} (fault : SystemFault) → LacksEnd chosen start t place → IsShown fault → IsFault chosen start t fault → ⊥
+unfolding Stops
 cut_shows_none {chosen} {start} {t} {place} fault cut shown f =
-    fault_no_item chosen start cut.item [] fault cut.is_item (append-nil (item_bytes cut.item) ∙ cut.is) (fault_stays chosen start t cut.lacking fault shown f)
+    fault_stops chosen start (t ++ cut.lacking) fault (fault_stays {chosen = chosen} {start = start} {tail = t} {fault = fault} cut.lacking (record { shown = shown; fault_is = f }))
+    cut.item [] cut.is_item (append-nil (item_bytes cut.item) ∙ cut.is)
 
 -- an end is no fault
 pub end_no_fault : (chosen : Option ℕ) (start : ℕ) (t : List ℕ) (fault : SystemFault) → IsEnd t → IsFault chosen start t fault → ⊥
@@ -242,7 +259,7 @@ end_no_fault chosen start t (NotPack place) (inl z) f = zeros_no_prefix z.count 
 end_no_fault chosen start t (NotPack place) (inr c) f = let bad = (kinds_once c.rest (f.mark ∷ f.rest) c.is f.is).1 in omega (arith, bad)
 end_no_fault chosen start t (BadCode place) (inl z) (inl f) = zeros_no_bad z.count f.count f.byte f.rest (sym z.are ∙ f.is) f.some
 end_no_fault chosen start t (BadCode place) (inl z) (inr f) = zeros_no_prefix z.count f.zeros (f.kind ∷ f.rest) (sym z.are ∙ f.is)
-end_no_fault chosen start t (BadCode place) (inr c) (inl f) = bad_no_prefix f.count c.zeros f.rest (185 ∷ c.rest) (sym f.is ∙ c.is) f.some f.early
+end_no_fault chosen start t (BadCode place) (inr c) (inl f) = byte_no_prefix c.zeros (185 ∷ c.rest) f c.is
 end_no_fault chosen start t (BadCode place) (inr c) (inr f) = let bad = (kinds_once c.rest f.rest c.is f.is).1 in omega (arith, bad, f.low)
 end_no_fault chosen start t (BadPacket place) (inl z) f = zeros_no_prefix z.count f.zeros (f.kind ∷ f.high ∷ f.low ∷ (f.front ++ f.rest)) (sym z.are ∙ f.is)
 end_no_fault chosen start t (BadPacket place) (inr c) f =
@@ -259,28 +276,28 @@ places_same {place} {m} start a b e = omega (arith, a, b, e)
 fault_once : {one other : SystemFault} (chosen : Option ℕ) (start : ℕ) (t : List ℕ) → IsFault chosen start t one → IsFault chosen start t other → one ≡ other
 fault_once {one = NotPack p} {other = NotPack q} chosen start t f g =
     ap NotPack (places_same start f.place_is g.place_is (kinds_once (f.mark ∷ f.rest) (g.mark ∷ g.rest) f.is g.is).0)
-fault_once {one = NotPack p} {other = BadCode q} chosen start t f (inl g) = absurd (bad_no_prefix g.count f.zeros g.rest (186 ∷ f.mark ∷ f.rest) (sym g.is ∙ f.is) g.some g.early)
+fault_once {one = NotPack p} {other = BadCode q} chosen start t f (inl g) = absurd (byte_no_prefix f.zeros (186 ∷ f.mark ∷ f.rest) g f.is)
 fault_once {one = NotPack p} {other = BadCode q} chosen start t f (inr g) = absurd (let bad = (kinds_once (f.mark ∷ f.rest) g.rest f.is g.is).1 in omega (arith, bad, g.low))
 fault_once {one = NotPack p} {other = BadPacket q} chosen start t f g =
     absurd (let bad = (kinds_once (f.mark ∷ f.rest) (g.high ∷ g.low ∷ (g.front ++ g.rest)) f.is g.is).1 in omega (arith, bad, g.kind_is))
 fault_once {one = NotPack p} {other = Truncated q} chosen start t f g = absurd (cut_shows_none (NotPack p) g tt f)
-fault_once {one = BadCode p} {other = NotPack q} chosen start t (inl f) g = absurd (bad_no_prefix f.count g.zeros f.rest (186 ∷ g.mark ∷ g.rest) (sym f.is ∙ g.is) f.some f.early)
+fault_once {one = BadCode p} {other = NotPack q} chosen start t (inl f) g = absurd (byte_no_prefix g.zeros (186 ∷ g.mark ∷ g.rest) f g.is)
 fault_once {one = BadCode p} {other = NotPack q} chosen start t (inr f) g = absurd (let bad = (kinds_once f.rest (g.mark ∷ g.rest) f.is g.is).1 in omega (arith, bad, f.low))
 fault_once {one = BadCode p} {other = BadCode q} chosen start t (inl f) (inl g) =
-    ap BadCode (places_same start f.place_is g.place_is (bad_once f.byte g.byte f.rest g.rest (sym f.is ∙ g.is) f.some g.some))
-fault_once {one = BadCode p} {other = BadCode q} chosen start t (inl f) (inr g) = absurd (bad_no_prefix f.count g.zeros f.rest (g.kind ∷ g.rest) (sym f.is ∙ g.is) f.some f.early)
-fault_once {one = BadCode p} {other = BadCode q} chosen start t (inr f) (inl g) = absurd (bad_no_prefix g.count f.zeros g.rest (f.kind ∷ f.rest) (sym g.is ∙ f.is) g.some g.early)
+    ap BadCode (places_same start f.place_is g.place_is (bad_once f.rest g.rest (sym f.is ∙ g.is) f.some g.some))
+fault_once {one = BadCode p} {other = BadCode q} chosen start t (inl f) (inr g) = absurd (byte_no_prefix g.zeros (g.kind ∷ g.rest) f g.is)
+fault_once {one = BadCode p} {other = BadCode q} chosen start t (inr f) (inl g) = absurd (byte_no_prefix f.zeros (f.kind ∷ f.rest) g f.is)
 fault_once {one = BadCode p} {other = BadCode q} chosen start t (inr f) (inr g) =
     ap BadCode (places_same start f.place_is g.place_is (kinds_once f.rest g.rest f.is g.is).0)
 fault_once {one = BadCode p} {other = BadPacket q} chosen start t (inl f) g =
-    absurd (bad_no_prefix f.count g.zeros f.rest (g.kind ∷ g.high ∷ g.low ∷ (g.front ++ g.rest)) (sym f.is ∙ g.is) f.some f.early)
+    absurd (byte_no_prefix g.zeros (g.kind ∷ g.high ∷ g.low ∷ (g.front ++ g.rest)) f g.is)
 fault_once {one = BadCode p} {other = BadPacket q} chosen start t (inr f) g =
     absurd (let bad = (kinds_once f.rest (g.high ∷ g.low ∷ (g.front ++ g.rest)) f.is g.is).1 in omega (arith, bad, f.low, g.kind_is))
 fault_once {one = BadCode p} {other = Truncated q} chosen start t f g = absurd (cut_shows_none (BadCode p) g tt f)
 fault_once {one = BadPacket p} {other = NotPack q} chosen start t f g =
     absurd (let bad = (kinds_once (f.high ∷ f.low ∷ (f.front ++ f.rest)) (g.mark ∷ g.rest) f.is g.is).1 in omega (arith, bad, f.kind_is))
 fault_once {one = BadPacket p} {other = BadCode q} chosen start t f (inl g) =
-    absurd (bad_no_prefix g.count f.zeros g.rest (f.kind ∷ f.high ∷ f.low ∷ (f.front ++ f.rest)) (sym g.is ∙ f.is) g.some g.early)
+    absurd (byte_no_prefix f.zeros (f.kind ∷ f.high ∷ f.low ∷ (f.front ++ f.rest)) g f.is)
 fault_once {one = BadPacket p} {other = BadCode q} chosen start t f (inr g) =
     absurd (let bad = (kinds_once (f.high ∷ f.low ∷ (f.front ++ f.rest)) g.rest f.is g.is).1 in omega (arith, bad, g.low, f.kind_is))
 fault_once {one = BadPacket p} {other = BadPacket q} chosen start t f g =
@@ -294,57 +311,64 @@ fault_once {one = Truncated p} {other = Truncated q} chosen start t f g =
     ap Truncated (places_same start f.place_is g.place_is
     (prefix_once (zeros_of f.item) (zeros_of g.item) (drop (zeros_of f.item + 3) t) (drop (zeros_of g.item + 3) t) (sym (cut_prefixed chosen start t p f) ∙ cut_prefixed chosen start t q g)).zeros)
 
--- what no item stands in front of
-Stops : Option ℕ → List ℕ → Type 0
-Stops chosen t = (a : Item) (x : List ℕ) → IsItem chosen a → item_bytes a ++ x ≡ t → ⊥
-
+-- nothing stands in front of an end
 end_stops : (chosen : Option ℕ) (t : List ℕ) → IsEnd t → Stops chosen t
 unfolding Stops
 end_stops chosen t end = λ a x p e. item_no_end chosen a x p e end
-
-fault_stops : (chosen : Option ℕ) (start : ℕ) (t : List ℕ) (fault : SystemFault) → IsFault chosen start t fault → Stops chosen t
-unfolding Stops
-fault_stops chosen start t fault f = λ a x p e. fault_no_item chosen start a x fault p e f
 
 -- one list of items
 record AreSame (items items' : List Item) (t t' : List ℕ) : Type 0 where
   items_are : items ≡ items'
   tail_is : t ≡ t'
 
-items_once : (chosen : Option ℕ) (items items' : List Item) (t t' : List ℕ) → AreItems chosen items → AreItems chosen items' → bytes_of items ++ t ≡ bytes_of items' ++ t' →
-    Stops (chosen_after chosen items) t → Stops (chosen_after chosen items') t' → AreSame items items' t t'
+-- items, and what no item stands in front of
+record AreRead (chosen : Option ℕ) (items : List Item) (t : List ℕ) : Type 0 where
+  are : AreItems chosen items
+  stops : Stops (chosen_after chosen items) t
+
+items_once : {chosen : Option ℕ} {items items' : List Item} {t t' : List ℕ} → AreRead chosen items t → AreRead chosen items' t' → bytes_of items ++ t ≡ bytes_of items' ++ t' →
+    AreSame items items' t t'
 unfolding Stops
-items_once chosen [] [] t t' p q e s s' = record { items_are = refl; tail_is = e }
-items_once chosen [] (y ∷ ys) t t' p q e s s' = absurd (s y (bytes_of ys ++ t') q.0 (sym (append_assoc (item_bytes y) (bytes_of ys) t') ∙ sym e))
-items_once chosen (x ∷ xs) [] t t' p q e s s' = absurd (s' x (bytes_of xs ++ t) p.0 (sym (append_assoc (item_bytes x) (bytes_of xs) t) ∙ e))
-items_once chosen (x ∷ xs) (y ∷ ys) t t' p q e s s' =
-    let same = item_once chosen p.0 q.0
+items_once {items = []} {items' = []} one other e = record { items_are = refl; tail_is = e }
+items_once {items = []} {items' = y ∷ ys} {t'} one other e = absurd (one.stops y (bytes_of ys ++ t') other.are.0 (sym (append_assoc (item_bytes y) (bytes_of ys) t') ∙ sym e))
+items_once {items = x ∷ xs} {items' = []} {t} one other e = absurd (other.stops x (bytes_of xs ++ t) one.are.0 (sym (append_assoc (item_bytes x) (bytes_of xs) t) ∙ e))
+items_once {chosen} {items = x ∷ xs} {items' = y ∷ ys} {t} {t'} one other e =
+    let same = item_once chosen one.are.0 other.are.0
     (sym (append_assoc (item_bytes x) (bytes_of xs) t) ∙ e ∙ append_assoc (item_bytes y) (bytes_of ys) t') in
     let next : chosen_next chosen y ≡ chosen_next chosen x = ap (chosen_next chosen) (sym same.item) in
-    let more = items_once (chosen_next chosen x) xs ys t t' p.1 (subst (λ c. AreItems c ys) next q.1) same.rest s (subst (λ c. Stops (chosen_after c ys) t') next s') in
+    let later : AreRead (chosen_next chosen y) ys t' = record { are = other.are.1; stops = other.stops } in
+    let more = items_once {chosen = chosen_next chosen x} {items = xs} {items' = ys} {t = t} {t' = t'}
+    (record { are = one.are.1; stops = one.stops }) (subst (λ c. AreRead c ys t') next later) same.rest in
     record { items_are = ap (λ z. z ∷ xs) same.item ∙ ap (λ zs. y ∷ zs) more.items_are; tail_is = more.tail_is }
+
+system_read : {bytes video : List ℕ} (s : IsSystem bytes video) → AreRead None s.items s.tail
+system_read s = record { are = s.are; stops = end_stops (chosen_after None s.items) s.tail s.end }
+
+refused_read : {bytes : List ℕ} {fault : SystemFault} (s : IsRefused bytes fault) → AreRead None s.items s.tail
+refused_read {fault} s = record {
+  are = s.are;
+  stops = fault_stops (chosen_after None s.items) (length (bytes_of s.items)) s.tail fault s.fault_is;
+}
 
 -- a stream has one list of items
 pub system_once : (bytes one other : List ℕ) (a : IsSystem bytes one) (b : IsSystem bytes other) → (a.items ≡ b.items) × (a.tail ≡ b.tail)
 system_once bytes one other a b =
-    let same = items_once None a.items b.items a.tail b.tail a.are b.are (sym a.bytes_are ∙ b.bytes_are) (end_stops (chosen_after None a.items) a.tail a.end) (end_stops (chosen_after None b.items) b.tail b.end) in
+    let same = items_once (system_read a) (system_read b) (sym a.bytes_are ∙ b.bytes_are) in
     (same.items_are, same.tail_is)
 
 pub video_once : (bytes one other : List ℕ) → IsSystem bytes one → IsSystem bytes other → one ≡ other
 video_once bytes one other a b =
-    let same = items_once None a.items b.items a.tail b.tail a.are b.are (sym a.bytes_are ∙ b.bytes_are) (end_stops (chosen_after None a.items) a.tail a.end) (end_stops (chosen_after None b.items) b.tail b.end) in
+    let same = items_once (system_read a) (system_read b) (sym a.bytes_are ∙ b.bytes_are) in
     a.video_is ∙ ap (video_of None) same.items_are ∙ sym b.video_is
 
 pub not_both : (bytes video : List ℕ) (fault : SystemFault) → IsSystem bytes video → IsRefused bytes fault → ⊥
 not_both bytes video fault a b =
-    let same = items_once None a.items b.items a.tail b.tail a.are b.are (sym a.bytes_are ∙ b.bytes_are) (end_stops (chosen_after None a.items) a.tail a.end)
-    (fault_stops (chosen_after None b.items) (length (bytes_of b.items)) b.tail fault b.fault_is) in
+    let same = items_once (system_read a) (refused_read b) (sym a.bytes_are ∙ b.bytes_are) in
     end_no_fault (chosen_after None b.items) (length (bytes_of b.items)) b.tail fault (subst IsEnd same.tail_is a.end) b.fault_is
 
 pub refused_once : (bytes : List ℕ) (one other : SystemFault) → IsRefused bytes one → IsRefused bytes other → one ≡ other
 refused_once bytes one other a b =
-    let same = items_once None a.items b.items a.tail b.tail a.are b.are (sym a.bytes_are ∙ b.bytes_are)
-    (fault_stops (chosen_after None a.items) (length (bytes_of a.items)) a.tail one a.fault_is) (fault_stops (chosen_after None b.items) (length (bytes_of b.items)) b.tail other b.fault_is) in
+    let same = items_once (refused_read a) (refused_read b) (sym a.bytes_are ∙ b.bytes_are) in
     fault_once (chosen_after None b.items) (length (bytes_of b.items)) b.tail
     (subst (λ (zs : List Item). IsFault (chosen_after None zs) (length (bytes_of zs)) b.tail one) same.items_are
     (subst (λ (l : List ℕ). IsFault (chosen_after None a.items) (length (bytes_of a.items)) l one) same.tail_is a.fault_is)) b.fault_is

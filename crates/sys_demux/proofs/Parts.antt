@@ -116,11 +116,19 @@ length_passed {before} {kind} {high} {total} {start} {place} {now} {part} {kept}
           )
     ]
 
--- a packet of the chosen kind without content
-pub length_none : (before : Option ℕ) (kind high low total : ℕ) (start place : ℕ) (now : Option ℕ) (part kept : List ℕ) → IsAtPrefix start place (kind ∷ high ∷ []) now (choose before kind) part kept → 187 ≤ kind →
-    is_chosen (choose before kind) kind ≡ true → total ≡ high * 256 + low → total ≡ 0 → LeadsTo before start place now (part ++ low ∷ []) kept (Failed (BadPacket place))
+-- the length of a packet of the chosen kind ends with this byte
+pub record LengthRead (before : Option ℕ) (start place : ℕ) (now : Option ℕ) (part kept : List ℕ) (kind low total : ℕ) : Type 0 where
+  pub high : ℕ
+  pub at_prefix : IsAtPrefix start place (kind ∷ high ∷ []) now (choose before kind) part kept
+  pub kind_is : 187 ≤ kind
+  pub chosen_is : is_chosen (choose before kind) kind ≡ true
+  pub total_is : total ≡ high * 256 + low
+
+-- the packet has no content
+pub length_none : {before : Option ℕ} {start place : ℕ} {now : Option ℕ} {part kept : List ℕ} {kind low total : ℕ} → LengthRead before start place now part kept kind low total →
+    total ≡ 0 → LeadsTo before start place now (part ++ low ∷ []) kept (Failed (BadPacket place))
 unfolding video_in
-length_none before kind high low total start place now part kept h kind_is chosen total_is none =
+length_none {before} {start} {place} {part} {kind} {low} read none =
     let bad : IsBadPacket before start (part ++ low ∷ []) place = record {
       zeros = h.zeros;
       kind = kind;
@@ -130,18 +138,19 @@ length_none before kind high low total start place now part kept h kind_is chose
       rest = [];
       is = ap (λ (l : List ℕ). l ++ low ∷ []) h.are ∙ prefixed_more h.zeros (kind ∷ high ∷ []) (low ∷ []);
       kind_is = kind_is;
-      chosen_is = chosen;
+      chosen_is = chosen_is;
       within = omega arith;
       none = λ more long. ap (λ (l : List ℕ). from_stuffing 16 l) (nil_from_length more (omega (arith, long, total_is, none)));
       place_is = h.place_is;
     } in
     inl (bad, h.none, tt)
+  where open read use {high, at_prefix as h, kind_is, chosen_is, total_is}
 
--- a packet of the chosen kind with some content
-pub length_header : (before : Option ℕ) (kind high low total : ℕ) (start place : ℕ) (now : Option ℕ) (part kept : List ℕ) → IsAtPrefix start place (kind ∷ high ∷ []) now (choose before kind) part kept → 187 ≤ kind →
-    is_chosen (choose before kind) kind ≡ true → total ≡ high * 256 + low → LeadsTo before start place now (part ++ low ∷ []) kept (InHeader (Stuffing 0) total)
+-- the packet has some content
+pub length_header : {before : Option ℕ} {start place : ℕ} {now : Option ℕ} {part kept : List ℕ} {kind low total : ℕ} → LengthRead before start place now part kept kind low total →
+    LeadsTo before start place now (part ++ low ∷ []) kept (InHeader (Stuffing 0) total)
 unfolding video_in
-length_header before kind high low total start place now part kept h kind_is chosen total_is =
+length_header {kind} {low} read =
     inl (record {
       zeros = h.zeros;
       kind = kind;
@@ -150,17 +159,18 @@ length_header before kind high low total start place now part kept h kind_is cho
       front = [];
       are = ap (λ (l : List ℕ). l ++ low ∷ []) h.are ∙ prefixed_more h.zeros (kind ∷ high ∷ []) (low ∷ []);
       kind_is = kind_is;
-      chosen_is = chosen;
+      chosen_is = chosen_is;
       length_is = omega (arith, total_is);
       video_is = λ rest long. refl;
       place_is = h.place_is;
       now_is = h.now_is;
       none = h.none;
     })
+  where open read use {high, at_prefix as h, kind_is, chosen_is, total_is}
 
 -- one byte more of a content
-front_more : {part : List ℕ} (zeros kind high low byte : ℕ) (front : List ℕ) → part ≡ with_prefix zeros (kind ∷ high ∷ low ∷ front) → part ++ byte ∷ [] ≡ with_prefix zeros (kind ∷ high ∷ low ∷ (front ++ byte ∷ []))
-front_more zeros kind high low byte front are = ap (λ (l : List ℕ). l ++ byte ∷ []) are ∙ prefixed_more zeros (kind ∷ high ∷ low ∷ front) (byte ∷ [])
+front_more : {part : List ℕ} (zeros : ℕ) (front : List ℕ) (byte : ℕ) → part ≡ with_prefix zeros front → part ++ byte ∷ [] ≡ with_prefix zeros (front ++ byte ∷ [])
+front_more zeros front byte are = ap (λ (l : List ℕ). l ++ byte ∷ []) are ∙ prefixed_more zeros front (byte ∷ [])
 
 -- a byte that no content has there
 pub header_bad : {chosen : Option ℕ} {start place left : ℕ} {now : Option ℕ} {part kept : List ℕ} {header : Header}
@@ -175,7 +185,7 @@ header_bad {chosen} {start} {place} {left} {part} {kept} {header} byte h none =
       low = h.low;
       front = h.front ++ byte ∷ [];
       rest = [];
-      is = front_more h.zeros h.kind h.high h.low byte h.front h.are ∙ ap (λ (l : List ℕ). with_prefix h.zeros (h.kind ∷ h.high ∷ h.low ∷ l)) (sym (append-nil (h.front ++ byte ∷ [])));
+      is = front_more h.zeros (h.kind ∷ h.high ∷ h.low ∷ h.front) byte h.are ∙ ap (λ (l : List ℕ). with_prefix h.zeros (h.kind ∷ h.high ∷ h.low ∷ l)) (sym (append-nil (h.front ++ byte ∷ [])));
       kind_is = h.kind_is;
       chosen_is = h.chosen_is;
       within = omega (arith, size, h.length_is);
@@ -201,7 +211,7 @@ chosen_done {chosen} {start} {place} {left} {kept} {video} {header} byte rest h 
         length_is = omega (arith, length-append (h.front ++ byte ∷ []) rest, length-append h.front (byte ∷ []), long, h.length_is);
         header = λ _. subst P (sym found) refl;
       };
-      bytes_are = sym (ap (λ (l : List ℕ). l ++ rest) (front_more h.zeros h.kind h.high h.low byte h.front h.are) ∙ prefixed_more h.zeros (h.kind ∷ h.high ∷ h.low ∷ (h.front ++ byte ∷ [])) rest);
+      bytes_are = sym (ap (λ (l : List ℕ). l ++ rest) (front_more h.zeros (h.kind ∷ h.high ∷ h.low ∷ h.front) byte h.are) ∙ prefixed_more h.zeros (h.kind ∷ h.high ∷ h.low ∷ (h.front ++ byte ∷ [])) rest);
       zeros_are = refl;
       next_is = sym h.now_is;
       video_is = cond-true (is_chosen (choose chosen h.kind) h.kind) (unwrap_or (video_in content) []) [] h.chosen_is ∙ ap (λ o. unwrap_or o []) found ∙ sym (ap (λ (l : List ℕ). l ++ video) h.none);
@@ -222,7 +232,7 @@ goes_on {start} {place} {left} {kept} {header} {next} byte h same =
       high = h.high;
       low = h.low;
       front = h.front ++ byte ∷ [];
-      are = front_more h.zeros h.kind h.high h.low byte h.front h.are;
+      are = front_more h.zeros (h.kind ∷ h.high ∷ h.low ∷ h.front) byte h.are;
       kind_is = h.kind_is;
       chosen_is = h.chosen_is;
       length_is = omega (arith, size, h.length_is);

@@ -106,48 +106,60 @@ moved {state'} {place} {place'} {now} {seen} {video} s p n r =
 more_after : (tail front rest more : List ℕ) → tail ≡ front ++ rest → tail ++ more ≡ front ++ (rest ++ more)
 more_after tail front rest more is = ap (λ (l : List ℕ). l ++ more) is ∙ append_assoc front rest more
 
-pub fault_stays : (chosen : Option ℕ) (start : ℕ) (tail more : List ℕ) (fault : SystemFault) → IsShown fault → IsFault chosen start tail fault → IsFault chosen start (tail ++ more) fault
-fault_stays chosen start tail more (NotPack place) shown f = record {
-  zeros = f.zeros;
-  mark = f.mark;
-  rest = f.rest ++ more;
-  is = ap (λ (l : List ℕ). l ++ more) f.is ∙ prefixed_more f.zeros (186 ∷ f.mark ∷ f.rest) more;
-  other = f.other;
-  place_is = f.place_is;
-}
-fault_stays chosen start tail more (BadCode place) shown (inl f) = inl (record {
-  count = f.count;
-  byte = f.byte;
-  rest = f.rest ++ more;
-  is = more_after tail (replicate f.count 0) (f.byte ∷ f.rest) more f.is;
-  some = f.some;
-  early = f.early;
-  place_is = f.place_is;
-})
-fault_stays chosen start tail more (BadCode place) shown (inr f) = inr (record {
-  zeros = f.zeros;
-  kind = f.kind;
-  rest = f.rest ++ more;
-  is = ap (λ (l : List ℕ). l ++ more) f.is ∙ prefixed_more f.zeros (f.kind ∷ f.rest) more;
-  low = f.low;
-  place_is = f.place_is;
-})
-fault_stays chosen start tail more (BadPacket place) shown f = record {
-  zeros = f.zeros;
-  kind = f.kind;
-  high = f.high;
-  low = f.low;
-  front = f.front;
-  rest = f.rest ++ more;
-  is = ap (λ (l : List ℕ). l ++ more) f.is ∙ prefixed_more f.zeros (f.kind ∷ f.high ∷ f.low ∷ (f.front ++ f.rest)) more
-      ∙ ap (λ (l : List ℕ). with_prefix f.zeros (f.kind ∷ f.high ∷ f.low ∷ l)) (append_assoc f.front f.rest more);
-  kind_is = f.kind_is;
-  chosen_is = f.chosen_is;
-  within = f.within;
-  none = f.none;
-  place_is = f.place_is;
-}
-fault_stays chosen start tail more (Truncated place) shown f = absurd shown
+-- a fault that the bytes after some items show
+pub record Shows (chosen : Option ℕ) (start : ℕ) (tail : List ℕ) (fault : SystemFault) : Type 0 where
+  pub shown : IsShown fault
+  pub fault_is : IsFault chosen start tail fault
+
+pub fault_stays : {chosen : Option ℕ} {start : ℕ} {tail : List ℕ} {fault : SystemFault} (more : List ℕ) → Shows chosen start tail fault → IsFault chosen start (tail ++ more) fault
+fault_stays {fault = NotPack place} more shows =
+    let f = shows.fault_is in
+    record {
+      zeros = f.zeros;
+      mark = f.mark;
+      rest = f.rest ++ more;
+      is = ap (λ (l : List ℕ). l ++ more) f.is ∙ prefixed_more f.zeros (186 ∷ f.mark ∷ f.rest) more;
+      other = f.other;
+      place_is = f.place_is;
+    }
+fault_stays {tail} {fault = BadCode place} more shows =
+    elim (shows.fault_is) [
+      | inl f ↦ inl (record {
+          count = f.count;
+          byte = f.byte;
+          rest = f.rest ++ more;
+          is = more_after tail (replicate f.count 0) (f.byte ∷ f.rest) more f.is;
+          some = f.some;
+          early = f.early;
+          place_is = f.place_is;
+        })
+      | inr f ↦ inr (record {
+          zeros = f.zeros;
+          kind = f.kind;
+          rest = f.rest ++ more;
+          is = ap (λ (l : List ℕ). l ++ more) f.is ∙ prefixed_more f.zeros (f.kind ∷ f.rest) more;
+          low = f.low;
+          place_is = f.place_is;
+        })
+    ]
+fault_stays {fault = BadPacket place} more shows =
+    let f = shows.fault_is in
+    record {
+      zeros = f.zeros;
+      kind = f.kind;
+      high = f.high;
+      low = f.low;
+      front = f.front;
+      rest = f.rest ++ more;
+      is = ap (λ (l : List ℕ). l ++ more) f.is ∙ prefixed_more f.zeros (f.kind ∷ f.high ∷ f.low ∷ (f.front ++ f.rest)) more
+          ∙ ap (λ (l : List ℕ). with_prefix f.zeros (f.kind ∷ f.high ∷ f.low ∷ l)) (append_assoc f.front f.rest more);
+      kind_is = f.kind_is;
+      chosen_is = f.chosen_is;
+      within = f.within;
+      none = f.none;
+      place_is = f.place_is;
+    }
+fault_stays {fault = Truncated place} more shows = absurd shows.shown
 
 pub failed_refused : {fault : SystemFault} {place : ℕ} {now : Option ℕ} {seen video : List ℕ} (more : List ℕ) → IsReached (Failed fault) place now seen video → IsRefused (seen ++ more) fault
 failed_refused {fault} {place} {seen} more r = record {
@@ -155,7 +167,8 @@ failed_refused {fault} {place} {seen} more r = record {
   tail = r.part ++ more;
   are = r.are;
   bytes_are = more_after seen (bytes_of r.items) r.part more r.seen_is;
-  fault_is = fault_stays (chosen_after None r.items) (length (bytes_of r.items)) r.part more fault r.is_part.2 r.is_part.0;
+  fault_is = fault_stays {chosen = chosen_after None r.items} {start = length (bytes_of r.items)} {tail = r.part} {fault = fault} more
+      (record { shown = r.is_part.2; fault_is = r.is_part.0 });
 }
 
 -- a place in a header, or in an item
@@ -234,18 +247,27 @@ rest_cut {start} {place} {kept} {left} h =
 pack_whole : IsPack (32 ∷ replicate 7 0)
 pack_whole = record { eight = refl; mark = refl }
 
-prefix_cut : {chosen : Option ℕ} {start place : ℕ} {now wanted : Option ℕ} {rest part kept : List ℕ}
-    (lacking : List ℕ) (item : ℕ → Item) → IsAtPrefix start place rest now wanted part kept →
-    ((zeros : ℕ) → IsItem chosen (item zeros)) → ((zeros : ℕ) → zeros_of (item zeros) ≡ zeros) → ((zeros : ℕ) → item_bytes (item zeros) ≡ with_prefix zeros (rest ++ lacking)) → 0 < length lacking → LacksEnd chosen start part place
-prefix_cut {start} {place} {rest} {kept} lacking item h is zeros_are bytes some = record {
+-- an item for each number of bytes 00 before it: its prefix, these bytes and some more
+record WholeItem (chosen : Option ℕ) (rest : List ℕ) : Type 0 where
+  lacking : List ℕ
+  item : ℕ → Item
+  is_item : (zeros : ℕ) → IsItem chosen (item zeros)
+  zeros_are : (zeros : ℕ) → zeros_of (item zeros) ≡ zeros
+  bytes_are : (zeros : ℕ) → item_bytes (item zeros) ≡ with_prefix zeros (rest ++ lacking)
+  some : 0 < length lacking
+
+prefix_cut : {chosen : Option ℕ} {start place : ℕ} {now wanted : Option ℕ} {rest part kept : List ℕ} → IsAtPrefix start place rest now wanted part kept →
+    WholeItem chosen rest → LacksEnd chosen start part place
+prefix_cut {start} {rest} h whole = record {
   item = item h.zeros;
   lacking = lacking;
-  is_item = is h.zeros;
-  is = bytes h.zeros ∙ sym (ap (λ (l : List ℕ). l ++ lacking) h.are ∙ prefixed_more h.zeros rest lacking);
+  is_item = is_item h.zeros;
+  is = bytes_are h.zeros ∙ sym (ap (λ (l : List ℕ). l ++ lacking) h.are ∙ prefixed_more h.zeros rest lacking);
   begun = omega (arith, zeros_are h.zeros, ap length h.are, length-prefixed h.zeros rest);
   some = some;
   place_is = h.place_is ∙ ap (λ n. start + n) (sym (zeros_are h.zeros));
 }
+  where open whole use {lacking, item, is_item, zeros_are, bytes_are, some}
 
 packet_whole : (chosen : Option ℕ) (kind high : ℕ) → 187 ≤ kind → IsPacket chosen kind high 1 (15 ∷ replicate (high * 256) 0)
 unfolding video_in
@@ -255,60 +277,93 @@ packet_whole chosen kind high kind_is = record {
   header = λ _. refl;
 }
 
+-- after the prefix a pack lacks its mark, or its kind too
+pack_lacks : {chosen : Option ℕ} → WholeItem chosen (186 ∷ [])
+pack_lacks = record {
+  lacking = 32 ∷ replicate 7 0;
+  item = λ zeros. Pack zeros (32 ∷ replicate 7 0);
+  is_item = λ zeros. pack_whole;
+  zeros_are = λ zeros. refl;
+  bytes_are = λ zeros. refl;
+  some = omega arith;
+}
+
+kind_lacks : {chosen : Option ℕ} → WholeItem chosen []
+kind_lacks = record {
+  lacking = 186 ∷ 32 ∷ replicate 7 0;
+  item = λ zeros. Pack zeros (32 ∷ replicate 7 0);
+  is_item = λ zeros. pack_whole;
+  zeros_are = λ zeros. refl;
+  bytes_are = λ zeros. refl;
+  some = omega arith;
+}
+
+-- and a packet a byte of its length, or both
+low_lacks : (chosen : Option ℕ) (kind high : ℕ) → 187 ≤ kind → WholeItem chosen (kind ∷ high ∷ [])
+low_lacks chosen kind high kind_is = record {
+  lacking = 1 ∷ 15 ∷ replicate (high * 256) 0;
+  item = λ zeros. Packet zeros kind high 1 (15 ∷ replicate (high * 256) 0);
+  is_item = λ zeros. packet_whole chosen kind high kind_is;
+  zeros_are = λ zeros. refl;
+  bytes_are = λ zeros. refl;
+  some = omega arith;
+}
+
+high_lacks : (chosen : Option ℕ) (kind : ℕ) → 187 ≤ kind → WholeItem chosen (kind ∷ [])
+high_lacks chosen kind kind_is = record {
+  lacking = 0 ∷ 1 ∷ 15 ∷ replicate (0 * 256) 0;
+  item = λ zeros. Packet zeros kind 0 1 (15 ∷ replicate (0 * 256) 0);
+  is_item = λ zeros. packet_whole chosen kind 0 kind_is;
+  zeros_are = λ zeros. refl;
+  bytes_are = λ zeros. refl;
+  some = omega arith;
+}
+
 -- the stream ends inside an item
-inside_cut : {fault : SystemFault} (chosen : Option ℕ) (start place : ℕ) (now : Option ℕ) (part kept : List ℕ)
-    (state : Place) → is_sound state ≡ true → IsPart chosen start place now part kept state →
-    end_fault state place ≡ Some fault → IsFault chosen start part fault
-inside_cut {fault} chosen start place now part kept (Zeros zeros) sound is ends = absurd (none-some fault ends)
-inside_cut {fault} chosen start place now part kept Kind sound is ends =
-    subst (λ f. IsFault chosen start part f) (same_Some (Truncated place) fault ends)
-    (prefix_cut (186 ∷ 32 ∷ replicate 7 0) (λ zeros. Pack zeros (32 ∷ replicate 7 0)) is (λ zeros. pack_whole) (λ zeros. refl) (λ zeros. refl) (omega arith))
-inside_cut {fault} chosen start place now part kept Mark sound is ends =
-    subst (λ f. IsFault chosen start part f) (same_Some (Truncated place) fault ends)
-    (prefix_cut (32 ∷ replicate 7 0) (λ zeros. Pack zeros (32 ∷ replicate 7 0)) is (λ zeros. pack_whole) (λ zeros. refl) (λ zeros. refl) (omega arith))
-inside_cut {fault} chosen start place now part kept (High kind) sound is ends =
-    subst (λ f. IsFault chosen start part f) (same_Some (Truncated place) fault ends)
-    (prefix_cut (0 ∷ 1 ∷ 15 ∷ replicate (0 * 256) 0) (λ zeros. Packet zeros kind 0 1 (15 ∷ replicate (0 * 256) 0)) is.0 (λ zeros. packet_whole chosen kind 0 is.1)
-    (λ zeros. refl) (λ zeros. refl) (omega arith))
-inside_cut {fault} chosen start place now part kept (Low kind high) sound is ends =
-    subst (λ f. IsFault chosen start part f) (same_Some (Truncated place) fault ends)
-    (prefix_cut (1 ∷ 15 ∷ replicate (high * 256) 0) (λ zeros. Packet zeros kind high 1 (15 ∷ replicate (high * 256) 0)) is.0 (λ zeros. packet_whole chosen kind high is.1)
-    (λ zeros. refl) (λ zeros. refl) (omega arith))
-inside_cut {fault} chosen start place now part kept (InHeader header left) sound is ends =
+inside_cut : {fault : SystemFault} {state : Place} {place : ℕ} {now : Option ℕ} {seen video : List ℕ} (r : IsReached state place now seen video) → is_sound state ≡ true →
+    end_fault state place ≡ Some fault → IsFault (chosen_after None r.items) (length (bytes_of r.items)) r.part fault
+inside_cut {fault} {state = Zeros zeros} r sound ends = absurd (none-some fault ends)
+inside_cut {fault} {state = Kind} {place} r sound ends = subst (IsFault (chosen_after None r.items) (length (bytes_of r.items)) r.part) (same_Some (Truncated place) fault ends) (prefix_cut r.is_part kind_lacks)
+inside_cut {fault} {state = Mark} {place} r sound ends = subst (IsFault (chosen_after None r.items) (length (bytes_of r.items)) r.part) (same_Some (Truncated place) fault ends) (prefix_cut r.is_part pack_lacks)
+inside_cut {fault} {state = High kind} {place} r sound ends =
+    subst (IsFault (chosen_after None r.items) (length (bytes_of r.items)) r.part) (same_Some (Truncated place) fault ends)
+    (prefix_cut r.is_part.0 (high_lacks (chosen_after None r.items) kind r.is_part.1))
+inside_cut {fault} {state = Low kind high} {place} r sound ends =
+    subst (IsFault (chosen_after None r.items) (length (bytes_of r.items)) r.part) (same_Some (Truncated place) fault ends)
+    (prefix_cut r.is_part.0 (low_lacks (chosen_after None r.items) kind high r.is_part.1))
+inside_cut {fault} {state = InHeader header left} {place} r sound ends =
     let enough = sound_header header left sound in
-    subst (λ f. IsFault chosen start part f) (same_Some (Truncated place) fault ends) (header_cut is enough.0 enough.1)
-inside_cut {fault} chosen start place now part kept (Pass left) sound is ends =
-    subst (λ f. IsFault chosen start part f) (same_Some (Truncated place) fault ends) (rest_cut is)
-inside_cut {fault} chosen start place now part kept (Video left) sound is ends =
-    subst (λ f. IsFault chosen start part f) (same_Some (Truncated place) fault ends) (rest_cut is)
-inside_cut {fault} chosen start place now part kept End sound is ends = absurd (none-some fault ends)
-inside_cut {fault} chosen start place now part kept (Failed other) sound is ends = subst (λ f. IsFault chosen start part f) (same_Some other fault ends) is.0
+    subst (IsFault (chosen_after None r.items) (length (bytes_of r.items)) r.part) (same_Some (Truncated place) fault ends) (header_cut r.is_part enough.0 enough.1)
+inside_cut {fault} {state = Pass left} {place} r sound ends = subst (IsFault (chosen_after None r.items) (length (bytes_of r.items)) r.part) (same_Some (Truncated place) fault ends) (rest_cut r.is_part)
+inside_cut {fault} {state = Video left} {place} r sound ends = subst (IsFault (chosen_after None r.items) (length (bytes_of r.items)) r.part) (same_Some (Truncated place) fault ends) (rest_cut r.is_part)
+inside_cut {fault} {state = End} r sound ends = absurd (none-some fault ends)
+inside_cut {fault} {state = Failed other} r sound ends = subst (IsFault (chosen_after None r.items) (length (bytes_of r.items)) r.part) (same_Some other fault ends) r.is_part.0
 
 pub ended_refused : {state : Place} {place : ℕ} {now : Option ℕ} {seen video : List ℕ} {fault : SystemFault} → is_sound state ≡ true → IsReached state place now seen video → end_fault state place ≡ Some fault → IsRefused seen fault
-ended_refused {state} {place} {now} sound r ends = record {
+ended_refused sound r ends = record {
   items = r.items;
   tail = r.part;
   are = r.are;
   bytes_are = r.seen_is;
-  fault_is = inside_cut (chosen_after None r.items) (length (bytes_of r.items)) place now r.part r.kept state sound r.is_part ends;
+  fault_is = inside_cut r sound ends;
 }
 
 -- the stream ends where it may
-at_end : {part kept : List ℕ} (chosen : Option ℕ) (start place : ℕ) (now : Option ℕ) (state : Place) → IsPart chosen start place now part kept state → end_fault state place ≡ None → IsEnd part × (kept ≡ [])
-at_end {kept} chosen start place now (Zeros zeros) is ends = (inl (record { count = is.count; are = is.are }), is.none)
-at_end {kept} chosen start place now Kind is ends = absurd (none-some (Truncated place) (sym ends))
-at_end {kept} chosen start place now Mark is ends = absurd (none-some (Truncated place) (sym ends))
-at_end {kept} chosen start place now (High kind) is ends = absurd (none-some (Truncated place) (sym ends))
-at_end {kept} chosen start place now (Low kind high) is ends = absurd (none-some (Truncated place) (sym ends))
-at_end {kept} chosen start place now (InHeader header left) is ends = absurd (none-some (Truncated place) (sym ends))
-at_end {kept} chosen start place now (Pass left) is ends = absurd (none-some (Truncated place) (sym ends))
-at_end {kept} chosen start place now (Video left) is ends = absurd (none-some (Truncated place) (sym ends))
-at_end {kept} chosen start place now End is ends = (inr (record { zeros = is.zeros; rest = is.rest; is = is.are }), is.none)
-at_end {kept} chosen start place now (Failed fault) is ends = absurd (none-some fault (sym ends))
+at_end : {state : Place} {place : ℕ} {now : Option ℕ} {seen video : List ℕ} (r : IsReached state place now seen video) → end_fault state place ≡ None → IsEnd r.part × (r.kept ≡ [])
+at_end {state = Zeros zeros} r ends = (inl (record { count = r.is_part.count; are = r.is_part.are }), r.is_part.none)
+at_end {state = Kind} {place} r ends = absurd (none-some (Truncated place) (sym ends))
+at_end {state = Mark} {place} r ends = absurd (none-some (Truncated place) (sym ends))
+at_end {state = High kind} {place} r ends = absurd (none-some (Truncated place) (sym ends))
+at_end {state = Low kind high} {place} r ends = absurd (none-some (Truncated place) (sym ends))
+at_end {state = InHeader header left} {place} r ends = absurd (none-some (Truncated place) (sym ends))
+at_end {state = Pass left} {place} r ends = absurd (none-some (Truncated place) (sym ends))
+at_end {state = Video left} {place} r ends = absurd (none-some (Truncated place) (sym ends))
+at_end {state = End} r ends = (inr (record { zeros = r.is_part.zeros; rest = r.is_part.rest; is = r.is_part.are }), r.is_part.none)
+at_end {state = Failed fault} r ends = absurd (none-some fault (sym ends))
 
 pub ended_system : {state : Place} {place : ℕ} {now : Option ℕ} {seen video : List ℕ} → IsReached state place now seen video → end_fault state place ≡ None → IsSystem seen video
-ended_system {state} {place} {now} r ends =
-    let end = at_end (chosen_after None r.items) (length (bytes_of r.items)) place now state r.is_part ends in
+ended_system r ends =
+    let end = at_end r ends in
     record {
       items = r.items;
       tail = r.part;

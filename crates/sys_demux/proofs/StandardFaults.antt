@@ -79,9 +79,15 @@ its_kind first stream fits (inl none) =
 its_kind first stream fits (inr same) =
     ap (λ o. is_chosen (choose (kind_by o) (video_kind stream)) (video_kind stream)) same ∙ eq-eqb (video_kind stream) (video_kind stream) refl
 
-pub packet_refused : (elements : List Element) (front stream : ℕ) (content : List ℕ) → AreElements elements → stream < 16 → ((first_stream elements ≡ None) ⊎ (first_stream elements ≡ Some stream)) →
-    ((video : List ℕ) → HasHeader content video → ⊥) → IsRefused (stream_bytes elements ++ packet_bytes front (video_kind stream) content) (BadPacket (length (stream_bytes elements) + front))
-packet_refused elements front stream content are fits first never =
+-- a packet of the first stream of video, and a content that has no header
+pub record HasNoHeader (first : Option ℕ) (stream : ℕ) (content : List ℕ) : Type 0 where
+  pub fits : stream < 16
+  pub first_is : (first ≡ None) ⊎ (first ≡ Some stream)
+  pub never : (video : List ℕ) → HasHeader content video → ⊥
+
+pub packet_refused : {stream : ℕ} {content : List ℕ} (elements : List Element) (front : ℕ) → AreElements elements → HasNoHeader (first_stream elements) stream content →
+    IsRefused (stream_bytes elements ++ packet_bytes front (video_kind stream) content) (BadPacket (length (stream_bytes elements) + front))
+packet_refused {stream} {content} elements front are bad =
     let kind = video_kind stream in
     let high = length content / 256 in
     let low = length content % 256 in
@@ -96,8 +102,9 @@ packet_refused elements front stream content are fits first never =
       rest = [];
       is = ap (λ (l : List ℕ). with_prefix front (kind ∷ high ∷ low ∷ l)) (sym (append-nil content));
       kind_is = omega arith;
-      chosen_is = its_kind (first_stream elements) stream fits first;
+      chosen_is = its_kind (first_stream elements) stream fits first_is;
       within = omega arith;
       none = λ more long. ap (λ (l : List ℕ). video_in (content ++ l)) (nil_from_length more (omega (arith, long))) ∙ ap video_in (append-nil content) ∙ none;
       place_is = refl;
     })
+  where open bad use {fits, first_is, never}

@@ -46,11 +46,17 @@ strip {chosen} {items = x ∷ xs} {items' = y ∷ ys} {l} {t} p q e end =
 none_begins : (kept whole : List ℕ) → kept ≡ [] → Begins kept whole
 none_begins kept whole none = record { rest = whole; is = sym (ap (λ (l : List ℕ). l ++ whole) none) }
 
+-- a part, the bytes after it and an end are items and an end
+record IsFollowed (chosen : Option ℕ) (part more : List ℕ) (items : List Item) (t : List ℕ) : Type 0 where
+  are : AreItems chosen items
+  bytes : part ++ more ≡ bytes_of items ++ t
+  end : IsEnd t
+
 -- an item of which some bytes are to come
-short_rest : {chosen : Option ℕ} {start place : ℕ} {now : Option ℕ} {part kept t : List ℕ} {left : ℕ}
-    {video : List ℕ → List ℕ} (more : List ℕ) (items : List Item) → IsAtRest chosen start place now part kept left video →
-    length more < left → AreItems chosen items → part ++ more ≡ bytes_of items ++ t → IsEnd t → Begins kept (video_of chosen items)
-short_rest {chosen} {start} {place} {part} {kept} {t} {left} more [] h less are e end =
+short_rest : {chosen : Option ℕ} {start place : ℕ} {now : Option ℕ} {part kept more t : List ℕ} {left : ℕ}
+    {video : List ℕ → List ℕ} {items : List Item} → IsAtRest chosen start place now part kept left video →
+    length more < left → IsFollowed chosen part more items t → Begins kept (video_of chosen items)
+short_rest {chosen} {start} {place} {part} {more} {t} {left} {items = []} h less followed =
     let pad : List ℕ = replicate (left - length more) 0 in
     let size : length pad ≡ left - length more = length-replicate {A = ℕ} (left - length more) 0 in
     let d = h.ends (more ++ pad) (omega (arith, length-append more pad, size, less)) in
@@ -63,63 +69,67 @@ short_rest {chosen} {start} {place} {part} {kept} {t} {left} more [] h less are 
       some = omega (arith, size, less);
       place_is = h.place_is ∙ ap (λ n. start + n) (sym d.zeros_are);
     } in
-    absurd (end_no_fault chosen start t (Truncated place) end (subst (λ (l : List ℕ). LacksEnd chosen start l place) e cut))
-short_rest {chosen} {start} {place} {part} {kept} {t} {left} more (y ∷ ys) h less are e end =
+    absurd (end_no_fault chosen start t (Truncated place) end (subst (λ (l : List ℕ). LacksEnd chosen start l place) bytes cut))
+  where open followed use {bytes, end}
+short_rest {chosen} {start} {place} {part} {more} {t} {left} {items = y ∷ ys} h less followed =
     let pad : List ℕ = replicate (left - length more) 0 in
     let size : length pad ≡ left - length more = length-replicate {A = ℕ} (left - length more) 0 in
     let d = h.ends (more ++ pad) (omega (arith, length-append more pad, size, less)) in
     let same = item_once chosen d.is_item are.0
-    (append-nil (item_bytes d.item) ∙ d.bytes_are ∙ sym (append_assoc part more pad) ∙ ap (λ (l : List ℕ). l ++ pad) (e ∙ append_assoc (item_bytes y) (bytes_of ys) t) ∙ append_assoc (item_bytes y) (bytes_of ys ++ t) pad) in
+    (append-nil (item_bytes d.item) ∙ d.bytes_are ∙ sym (append_assoc part more pad) ∙ ap (λ (l : List ℕ). l ++ pad) (bytes ∙ append_assoc (item_bytes y) (bytes_of ys) t) ∙ append_assoc (item_bytes y) (bytes_of ys ++ t) pad) in
     absurd (omega (arith, ap length same.rest, length-append (bytes_of ys ++ t) pad, size, less))
+  where open followed use {are, bytes}
 
-long_rest : {chosen : Option ℕ} {start place : ℕ} {now : Option ℕ} {part kept t : List ℕ} {left : ℕ}
-    {video : List ℕ → List ℕ} (more : List ℕ) (items : List Item) → IsAtRest chosen start place now part kept left video →
-    left ≤ length more → AreItems chosen items → part ++ more ≡ bytes_of items ++ t → IsEnd t → Begins kept (video_of chosen items)
-long_rest {chosen} {start} {place} {part} {kept} {left} more [] h enough are e end =
+long_rest : {chosen : Option ℕ} {start place : ℕ} {now : Option ℕ} {part kept more t : List ℕ} {left : ℕ}
+    {video : List ℕ → List ℕ} {items : List Item} → IsAtRest chosen start place now part kept left video →
+    left ≤ length more → IsFollowed chosen part more items t → Begins kept (video_of chosen items)
+long_rest {chosen} {part} {more} {left} {items = []} h enough followed =
     let d = h.ends (take left more) (length-take-le left more enough) in
     let whole : item_bytes d.item ++ drop left more ≡ part ++ more =
     ap (λ (l : List ℕ). l ++ drop left more) d.bytes_are ∙ append_assoc part (take left more) (drop left more) ∙ ap (λ (l : List ℕ). part ++ l) (take-append-drop left more) in
-    absurd (item_no_end chosen d.item (drop left more) d.is_item (whole ∙ e) end)
-long_rest {chosen} {start} {place} {part} {kept} {t} {left} {video} more (y ∷ ys) h enough are e end =
+    absurd (item_no_end chosen d.item (drop left more) d.is_item (whole ∙ bytes) end)
+  where open followed use {bytes, end}
+long_rest {chosen} {part} {kept} {more} {t} {left} {video} {items = y ∷ ys} h enough followed =
     let d = h.ends (take left more) (length-take-le left more enough) in
     let whole : item_bytes d.item ++ drop left more ≡ part ++ more =
     ap (λ (l : List ℕ). l ++ drop left more) d.bytes_are ∙ append_assoc part (take left more) (drop left more) ∙ ap (λ (l : List ℕ). part ++ l) (take-append-drop left more) in
-    let same = item_once chosen d.is_item are.0 (whole ∙ e ∙ append_assoc (item_bytes y) (bytes_of ys) t) in
+    let same = item_once chosen d.is_item are.0 (whole ∙ bytes ∙ append_assoc (item_bytes y) (bytes_of ys) t) in
     record {
       rest = video (take left more) ++ video_of (chosen_next chosen y) ys;
       is = ap (λ (v : List ℕ). v ++ video_of (chosen_next chosen y) ys) (ap (item_video chosen) (sym same.item) ∙ d.video_is)
           ∙ append_assoc kept (video (take left more)) (video_of (chosen_next chosen y) ys);
     }
+  where open followed use {are, bytes}
 
-rest_begins : {chosen : Option ℕ} {start place : ℕ} {now : Option ℕ} {part kept t : List ℕ} {left : ℕ}
-    {video : List ℕ → List ℕ} (more : List ℕ) (items : List Item) → IsAtRest chosen start place now part kept left video →
-    AreItems chosen items → part ++ more ≡ bytes_of items ++ t → IsEnd t → Begins kept (video_of chosen items)
-rest_begins {start} {place} {kept} {left} more items h are e end =
+rest_begins : {chosen : Option ℕ} {start place : ℕ} {now : Option ℕ} {part kept more t : List ℕ} {left : ℕ}
+    {video : List ℕ → List ℕ} {items : List Item} → IsAtRest chosen start place now part kept left video →
+    IsFollowed chosen part more items t → Begins kept (video_of chosen items)
+rest_begins {more} {left} h followed =
     elim (cases_lt (length more) left) [
-      | inl less ↦ short_rest more items h less are e end
-      | inr enough ↦ long_rest more items h enough are e end
+      | inl less ↦ short_rest h less followed
+      | inr enough ↦ long_rest h enough followed
     ]
 
-part_begins : {kept t : List ℕ} (chosen : Option ℕ) (start place : ℕ) (now : Option ℕ) (part more : List ℕ)
-    (state : Place) (items : List Item) → IsPart chosen start place now part kept state →
-    AreItems chosen items → part ++ more ≡ bytes_of items ++ t → IsEnd t → Begins kept (video_of chosen items)
-part_begins {kept} chosen start place now part more (Zeros zeros) items h are e end = none_begins kept (video_of chosen items) h.none
-part_begins {kept} chosen start place now part more Kind items h are e end = none_begins kept (video_of chosen items) h.none
-part_begins {kept} chosen start place now part more Mark items h are e end = none_begins kept (video_of chosen items) h.none
-part_begins {kept} chosen start place now part more (High kind) items h are e end = none_begins kept (video_of chosen items) h.0.none
-part_begins {kept} chosen start place now part more (Low kind high) items h are e end = none_begins kept (video_of chosen items) h.0.none
-part_begins {kept} chosen start place now part more (InHeader header left) items h are e end = none_begins kept (video_of chosen items) h.none
-part_begins {kept} chosen start place now part more (Pass left) items h are e end = rest_begins more items h are e end
-part_begins {kept} chosen start place now part more (Video left) items h are e end = rest_begins more items h are e end
-part_begins {kept} chosen start place now part more End items h are e end = none_begins kept (video_of chosen items) h.none
-part_begins {kept} chosen start place now part more (Failed fault) items h are e end = none_begins kept (video_of chosen items) h.1
+part_begins : {state : Place} {place : ℕ} {now : Option ℕ} {seen video more t : List ℕ} {items : List Item}
+    (r : IsReached state place now seen video) → IsFollowed (chosen_after None r.items) r.part more items t → Begins r.kept (video_of (chosen_after None r.items) items)
+part_begins {state = Zeros zeros} {items} r followed = none_begins r.kept (video_of (chosen_after None r.items) items) r.is_part.none
+part_begins {state = Kind} {items} r followed = none_begins r.kept (video_of (chosen_after None r.items) items) r.is_part.none
+part_begins {state = Mark} {items} r followed = none_begins r.kept (video_of (chosen_after None r.items) items) r.is_part.none
+part_begins {state = High kind} {items} r followed = none_begins r.kept (video_of (chosen_after None r.items) items) r.is_part.0.none
+part_begins {state = Low kind high} {items} r followed = none_begins r.kept (video_of (chosen_after None r.items) items) r.is_part.0.none
+part_begins {state = InHeader header left} {items} r followed = none_begins r.kept (video_of (chosen_after None r.items) items) r.is_part.none
+part_begins {state = Pass left} r followed = rest_begins r.is_part followed
+part_begins {state = Video left} r followed = rest_begins r.is_part followed
+part_begins {state = End} {items} r followed = none_begins r.kept (video_of (chosen_after None r.items) items) r.is_part.none
+part_begins {state = Failed fault} {items} r followed = none_begins r.kept (video_of (chosen_after None r.items) items) r.is_part.1
 
 pub video_begins : {state : Place} {place : ℕ} {now : Option ℕ} {seen video whole : List ℕ} (more : List ℕ) → IsReached state place now seen video → IsSystem (seen ++ more) whole → (rest : List ℕ) × (whole ≡ video ++ rest)
-video_begins {state} {place} {now} {whole} more r system =
+video_begins more r system =
     let bytes : bytes_of r.items ++ (r.part ++ more) ≡ bytes_of system.items ++ system.tail =
     sym (append_assoc (bytes_of r.items) r.part more) ∙ ap (λ (l : List ℕ). l ++ more) (sym r.seen_is) ∙ system.bytes_are in
     let known = strip r.are system.are bytes system.end in
-    let begins = part_begins (chosen_after None r.items) (length (bytes_of r.items)) place now r.part more state known.more r.is_part known.are known.bytes system.end in (
+    let followed : IsFollowed (chosen_after None r.items) r.part more known.more system.tail = record { are = known.are; bytes = known.bytes; end = system.end } in
+    let begins = part_begins r followed in (
       begins.rest,
       system.video_is ∙ known.video ∙ ap (λ (l : List ℕ). video_of None r.items ++ l) begins.is ∙ sym (append_assoc (video_of None r.items) r.kept begins.rest)
           ∙ ap (λ (l : List ℕ). l ++ begins.rest) (sym r.video_is),

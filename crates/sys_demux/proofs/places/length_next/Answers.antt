@@ -1,7 +1,7 @@
 use Rattle.std.proofs.Common.{◌+◌, ◌*◌, ◌++◌, ◌∷◌, [], sym, ap, subst, ◌∙◌, arith}
 use Rattle.sys_demux.specs.Items.{is_chosen}
 use Rattle.sys_demux.specs.States.{LeadsTo}
-use Rattle.sys_demux.proofs.Parts.{length_passed, length_none, length_header}
+use Rattle.sys_demux.proofs.Parts.{LengthRead, length_passed, length_none, length_header}
 use Rattle.sys_demux.proofs.places.length_next.Goals as goal
 
 pub returns-then-not-is_chosen-clause-next : goal.returns-then-not-is_chosen-clause-next
@@ -12,10 +12,22 @@ returns-then-not-is_chosen-clause-next c = λ before start part kept h kind_is.
 
 pub returns-then-length-eq0-clause-next : goal.returns-then-length-eq0-clause-next
 returns-then-length-eq0-clause-next c = λ before start part kept h kind_is.
-    length_none before c.args.kind c.args.high c.args.low (c.from.result * 256 + c.from-2.result) start c.args.item c.args.chosen part kept h kind_is
-    (ap (λ o. is_chosen o c.args.kind) (sym h.now_is) ∙ sym c.is_chosen.ensures ∙ c.if-not-is_chosen.false) (omega (arith, c.from.ensures, c.from-2.ensures)) c.if-length-eq0.true
+    let read : LengthRead before start c.args.item c.args.chosen part kept c.args.kind c.args.low (c.from.result * 256 + c.from-2.result) = record {
+      high = c.args.high;
+      at_prefix = h;
+      kind_is = kind_is;
+      chosen_is = ap (λ o. is_chosen o c.args.kind) (sym h.now_is) ∙ sym c.is_chosen.ensures ∙ c.if-not-is_chosen.false;
+      total_is = omega (arith, c.from.ensures, c.from-2.ensures);
+    } in
+    length_none read c.if-length-eq0.true
 
 pub returns-else-length-eq0-clause-next : goal.returns-else-length-eq0-clause-next
 returns-else-length-eq0-clause-next c = λ before start part kept h kind_is.
-    length_header before c.args.kind c.args.high c.args.low (c.from.result * 256 + c.from-2.result) start c.args.item c.args.chosen part kept h kind_is
-    (ap (λ o. is_chosen o c.args.kind) (sym h.now_is) ∙ sym c.is_chosen.ensures ∙ c.if-not-is_chosen.false) (omega (arith, c.from.ensures, c.from-2.ensures))
+    let read : LengthRead before start c.args.item c.args.chosen part kept c.args.kind c.args.low (c.from.result * 256 + c.from-2.result) = record {
+      high = c.args.high;
+      at_prefix = h;
+      kind_is = kind_is;
+      chosen_is = ap (λ o. is_chosen o c.args.kind) (sym h.now_is) ∙ sym c.is_chosen.ensures ∙ c.if-not-is_chosen.false;
+      total_is = omega (arith, c.from.ensures, c.from-2.ensures);
+    } in
+    length_header read
