@@ -211,7 +211,8 @@ content_bad {chosen} (Packet n k h l r) x f p e =
     let bad : IsSome {T = List ℕ} None = subst (λ (o : Option (List ℕ)). IsSome o) nothing some in
     let wrong : false ≡ true = bad in
     cc
-  where open f use {kind, high, low, front, rest, chosen_is, within, none}
+  where
+    open f use {kind, high, low, front, rest, chosen_is, within, none}
 
 -- what no item stands in front of
 Stops : Option ℕ → List ℕ → Type 0

@@ -144,7 +144,8 @@ length_none {before} {start} {place} {part} {kind} {low} read none =
       place_is = h.place_is;
     } in
     inl (bad, h.none, tt)
-  where open read use {high, at_prefix as h, kind_is, chosen_is, total_is}
+  where
+    open read use {high, at_prefix as h, kind_is, chosen_is, total_is}
 
 -- the packet has some content
 pub length_header : {before : Option ℕ} {start place : ℕ} {now : Option ℕ} {part kept : List ℕ} {kind low total : ℕ} → LengthRead before start place now part kept kind low total →
@@ -166,7 +167,8 @@ length_header {kind} {low} read =
       now_is = h.now_is;
       none = h.none;
     })
-  where open read use {high, at_prefix as h, kind_is, chosen_is, total_is}
+  where
+    open read use {high, at_prefix as h, kind_is, chosen_is, total_is}
 
 -- one byte more of a content
 front_more : {part : List ℕ} (zeros : ℕ) (front : List ℕ) (byte : ℕ) → part ≡ with_prefix zeros front → part ++ byte ∷ [] ≡ with_prefix zeros (front ++ byte ∷ [])

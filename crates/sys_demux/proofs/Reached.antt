@@ -8,7 +8,7 @@ use Rattle.std.proofs.lemmas.List.{append_assoc, append-nil, length-append, leng
 use Rattle.std.proofs.lemmas.List.Concat.{flat_map-append}
 use Rattle.std.proofs.lemmas.Option.{none-some, same_Some}
 use Rattle.sys_demux.specs.Contents.{video_in}
-use Rattle.sys_demux.specs.Items.{Item, with_prefix, item_bytes, zeros_of, choose, chosen_next}
+use Rattle.sys_demux.specs.Items.{Item, with_prefix, item_bytes, zeros_of, chosen_next}
 use Rattle.sys_demux.specs.Items.{chosen_after, IsPack, IsPacket, IsItem, AreItems, item_video}
 use Rattle.sys_demux.specs.Items.{video_of, bytes_of}
 use Rattle.sys_demux.specs.Items.Item.{Pack, Packet}
@@ -125,22 +125,22 @@ fault_stays {fault = NotPack place} more shows =
 fault_stays {tail} {fault = BadCode place} more shows =
     elim (shows.fault_is) [
       | inl f ↦ inl (record {
-          count = f.count;
-          byte = f.byte;
-          rest = f.rest ++ more;
-          is = more_after tail (replicate f.count 0) (f.byte ∷ f.rest) more f.is;
-          some = f.some;
-          early = f.early;
-          place_is = f.place_is;
-        })
+        count = f.count;
+        byte = f.byte;
+        rest = f.rest ++ more;
+        is = more_after tail (replicate f.count 0) (f.byte ∷ f.rest) more f.is;
+        some = f.some;
+        early = f.early;
+        place_is = f.place_is;
+      })
       | inr f ↦ inr (record {
-          zeros = f.zeros;
-          kind = f.kind;
-          rest = f.rest ++ more;
-          is = ap (λ (l : List ℕ). l ++ more) f.is ∙ prefixed_more f.zeros (f.kind ∷ f.rest) more;
-          low = f.low;
-          place_is = f.place_is;
-        })
+        zeros = f.zeros;
+        kind = f.kind;
+        rest = f.rest ++ more;
+        is = ap (λ (l : List ℕ). l ++ more) f.is ∙ prefixed_more f.zeros (f.kind ∷ f.rest) more;
+        low = f.low;
+        place_is = f.place_is;
+      })
     ]
 fault_stays {fault = BadPacket place} more shows =
     let f = shows.fault_is in
@@ -267,7 +267,8 @@ prefix_cut {start} {rest} h whole = record {
   some = some;
   place_is = h.place_is ∙ ap (λ n. start + n) (sym (zeros_are h.zeros));
 }
-  where open whole use {lacking, item, is_item, zeros_are, bytes_are, some}
+  where
+    open whole use {lacking, item, is_item, zeros_are, bytes_are, some}
 
 packet_whole : (chosen : Option ℕ) (kind high : ℕ) → 187 ≤ kind → IsPacket chosen kind high 1 (15 ∷ replicate (high * 256) 0)
 unfolding video_in

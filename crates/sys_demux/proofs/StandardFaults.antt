@@ -107,4 +107,5 @@ packet_refused {stream} {content} elements front are bad =
       none = λ more long. ap (λ (l : List ℕ). video_in (content ++ l)) (nil_from_length more (omega (arith, long))) ∙ ap video_in (append-nil content) ∙ none;
       place_is = refl;
     })
-  where open bad use {fits, first_is, never}
+  where
+    open bad use {fits, first_is, never}

@@ -8,7 +8,7 @@ use Rattle.std.proofs.lemmas.List.{take-append-drop, length-take-le}
 use Rattle.sys_demux.specs.Items.{Item, item_bytes, chosen_next, chosen_after, AreItems, item_video}
 use Rattle.sys_demux.specs.Items.{video_of, bytes_of}
 use Rattle.sys_demux.specs.Streams.{IsEnd, LacksEnd, IsSystem}
-use Rattle.sys_demux.specs.States.{IsAtRest, IsPart, IsReached}
+use Rattle.sys_demux.specs.States.{IsAtRest, IsReached}
 use Rattle.sys_demux.specs.declared.faults.SystemFault.TheVariants.{Truncated}
 use Rattle.sys_demux.specs.declared.places.Place.{Place}
 use Rattle.sys_demux.specs.declared.places.Place.TheVariants.{Zeros, Kind, Mark, High, Low}
@@ -70,7 +70,8 @@ short_rest {chosen} {start} {place} {part} {more} {t} {left} {items = []} h less
       place_is = h.place_is ∙ ap (λ n. start + n) (sym d.zeros_are);
     } in
     absurd (end_no_fault chosen start t (Truncated place) end (subst (λ (l : List ℕ). LacksEnd chosen start l place) bytes cut))
-  where open followed use {bytes, end}
+  where
+    open followed use {bytes, end}
 short_rest {chosen} {start} {place} {part} {more} {t} {left} {items = y ∷ ys} h less followed =
     let pad : List ℕ = replicate (left - length more) 0 in
     let size : length pad ≡ left - length more = length-replicate {A = ℕ} (left - length more) 0 in
@@ -78,7 +79,8 @@ short_rest {chosen} {start} {place} {part} {more} {t} {left} {items = y ∷ ys} 
     let same = item_once chosen d.is_item are.0
     (append-nil (item_bytes d.item) ∙ d.bytes_are ∙ sym (append_assoc part more pad) ∙ ap (λ (l : List ℕ). l ++ pad) (bytes ∙ append_assoc (item_bytes y) (bytes_of ys) t) ∙ append_assoc (item_bytes y) (bytes_of ys ++ t) pad) in
     absurd (omega (arith, ap length same.rest, length-append (bytes_of ys ++ t) pad, size, less))
-  where open followed use {are, bytes}
+  where
+    open followed use {are, bytes}
 
 long_rest : {chosen : Option ℕ} {start place : ℕ} {now : Option ℕ} {part kept more t : List ℕ} {left : ℕ}
     {video : List ℕ → List ℕ} {items : List Item} → IsAtRest chosen start place now part kept left video →
@@ -88,7 +90,8 @@ long_rest {chosen} {part} {more} {left} {items = []} h enough followed =
     let whole : item_bytes d.item ++ drop left more ≡ part ++ more =
     ap (λ (l : List ℕ). l ++ drop left more) d.bytes_are ∙ append_assoc part (take left more) (drop left more) ∙ ap (λ (l : List ℕ). part ++ l) (take-append-drop left more) in
     absurd (item_no_end chosen d.item (drop left more) d.is_item (whole ∙ bytes) end)
-  where open followed use {bytes, end}
+  where
+    open followed use {bytes, end}
 long_rest {chosen} {part} {kept} {more} {t} {left} {video} {items = y ∷ ys} h enough followed =
     let d = h.ends (take left more) (length-take-le left more enough) in
     let whole : item_bytes d.item ++ drop left more ≡ part ++ more =
@@ -99,7 +102,8 @@ long_rest {chosen} {part} {kept} {more} {t} {left} {video} {items = y ∷ ys} h 
       is = ap (λ (v : List ℕ). v ++ video_of (chosen_next chosen y) ys) (ap (item_video chosen) (sym same.item) ∙ d.video_is)
           ∙ append_assoc kept (video (take left more)) (video_of (chosen_next chosen y) ys);
     }
-  where open followed use {are, bytes}
+  where
+    open followed use {are, bytes}
 
 rest_begins : {chosen : Option ℕ} {start place : ℕ} {now : Option ℕ} {part kept more t : List ℕ} {left : ℕ}
     {video : List ℕ → List ℕ} {items : List Item} → IsAtRest chosen start place now part kept left video →

@@ -3,7 +3,7 @@ use Rattle.std.proofs.Common.{get_or, sym, subst, ◌∙◌, arith, append_assoc
 use Rattle.std.proofs.lemmas.List.{append-nil, length-append, length-take-le}
 use Rattle.sys_demux.specs.Streams.{IsRefused}
 use Rattle.sys_demux.specs.States.{IsReached, LeadsTo}
-use Rattle.sys_demux.specs.declared.places.Place.TheVariants.{Zeros, Pass, Video}
+use Rattle.sys_demux.specs.declared.places.Place.TheVariants.{Zeros, Pass}
 use Rattle.sys_demux.proofs.Parts.{rest_leads, video_leads}
 use Rattle.sys_demux.proofs.Reached.{step, moved, failed_refused, failed_at, first_taken}
 use Rattle.sys_demux.proofs.unwrapper.Unwrapper.feed.Goals as goal

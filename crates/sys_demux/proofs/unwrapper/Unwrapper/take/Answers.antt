@@ -1,9 +1,7 @@
 use Rattle.std.proofs.Common.{◌≡◌, ◌+◌, ◌-◌, ◌++◌, ◌∷◌, [], true, sym, subst, ◌∙◌, arith, inl}
 use Rattle.std.proofs.lemmas.List.{length-append}
-use Rattle.sys_demux.specs.Items.{choose}
 use Rattle.sys_demux.specs.Sound.{is_sound}
 use Rattle.sys_demux.specs.States.{IsReached, IsAtHeader}
-use Rattle.sys_demux.specs.declared.places.Place.TheVariants.{Zeros, Kind, Mark, High, Low}
 use Rattle.sys_demux.specs.declared.places.Place.TheVariants.{InHeader}
 use Rattle.sys_demux.proofs.Parts.{high_more}
 use Rattle.sys_demux.proofs.Reached.{step_byte, moved, sound_header}
