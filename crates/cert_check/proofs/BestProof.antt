@@ -18,7 +18,7 @@ use Rattle.cert_check.proofs.SlotExcess.{line_over, over-plan_slots}
 use Rattle.cert_check.proofs.LeastExcess.{KeepsBetween, least}
 use Rattle.cert_check.proofs.LineKeeps.{KeepsAt, line_keeps}
 use Rattle.cert_check.proofs.OneList.{one_list}
-use Rattle.cert_check.proofs.TautForms.{AreClosed, bound_after, slots_are, runs_from_taut, ends_from_taut}
+use Rattle.cert_check.proofs.TautForms.{AreClosed, bound_after, slots_are, runs_from_taut, ends_from_taut, line_from_taut}
 
 -- a segment that stays between curves has slots
 no_empties : (lo hi : ℕ → ℕ) (k v : ℕ) (segments : List Segment) → RunsTaut lo hi k v segments → All (λ s. 1 ≤ s.slots) segments
@@ -95,7 +95,7 @@ over_in_parts {from} {low} {up} {segments} closed taut {m} {y} fine p =
     let ends' : bound_at from low (total_slots segments) ≡ from + total_bytes segments = ap (bound_at from low) (omega arith) ∙ ends.low in
     let line : over p (plan_slots segments) ≡ line_over p segments = over-plan_slots p segments (no_empties (bound_at from low) (bound_at from up) 0 from segments runs) in
     let most : m * line_over p segments ≤ over (m * p) y =
-    least p from segments runs ends' (fine.same_length ∙ sym slots) (keeps_from_feasible m from low up y fine) in
+    least p from segments (record { runs = runs; ends = ends'; same_length = fine.same_length ∙ sym slots }) (keeps_from_feasible m from low up y fine) in
     rw line most
 
 -- in whole bytes
@@ -108,8 +108,8 @@ over_whole {from} {low} {up} {segments} closed taut {y} fine p =
 
 -- above any rate
 excess_any : {from : ℕ} {low up : List ℕ} {segments : List Segment} → AreClosed low up → IsTaut from low up segments →
-    (y : List ℕ) → IsFeasible from low up y → (p q : ℕ) → 1 ≤ q → excess (plan_slots segments) p q ≤ excess y p q
-excess_any {from} {low} {segments} closed taut y fine p q some =
+    {y : List ℕ} → IsFeasible from low up y → (p q : ℕ) → 1 ≤ q → excess (plan_slots segments) p q ≤ excess y p q
+excess_any {from} {low} {segments} closed taut {y} fine p q some =
     let a = p / q in
     let r = p % q in
     let e = q - r in
@@ -129,7 +129,7 @@ pub best : (from : ℕ) (low up : List ℕ) (segments : List Segment) → AreClo
 best from low up segments closed taut = record {
   taut = taut;
   feasible = feasible from low up segments (slots_are from low up segments taut) (runs_from_taut from low up segments closed taut);
-  least_excess = excess_any closed taut;
+  least_excess = λ y fine. excess_any closed taut fine;
   least_excess_in_parts = λ m y fine p.
       let h : m * over p (plan_slots segments) ≤ over (m * p) y = over_in_parts closed taut fine p in
       rw (excess-one p (plan_slots segments), excess-one (m * p) y) h;
@@ -138,9 +138,7 @@ best from low up segments closed taut = record {
       let h : over peak (plan_slots segments) ≤ over peak y = over_whole closed taut fine peak in
       peak_from_over peak (plan_slots segments) (omega (arith, none, h));
   only = λ others taut'.
-      one_list
-      (runs_from_taut from low up others closed taut') (ends_from_taut from low up others closed taut')
-      (runs_from_taut from low up segments closed taut) (ends_from_taut from low up segments closed taut)
+      one_list (line_from_taut from low up others closed taut') (line_from_taut from low up segments closed taut)
       (slots_are from low up others taut' ∙ sym (slots_are from low up segments taut));
 }
 

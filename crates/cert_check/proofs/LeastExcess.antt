@@ -9,6 +9,8 @@ use Rattle.std.proofs.lemmas.List.{take-append-drop, length-take-le, length-drop
 use Rattle.std.proofs.lemmas.List.Sums.{sum_by-cons, sum_by-append}
 use Rattle.plan_cert.specs.declared.Segment.{Segment}
 use Rattle.plan_cert.specs.Slots.{total_slots, total_bytes}
+use Rattle.slope_frac.specs.Order.{IsBelow}
+use Rattle.cert_check.specs.Line.{slope_of}
 use Rattle.cert_check.specs.Taut.{Bends, RunsTaut}
 use Rattle.cert_check.proofs.Over.{over, sum-le-over}
 use Rattle.cert_check.proofs.SlotExcess.{line_over}
@@ -61,27 +63,40 @@ pub record Bounds (m p v held : ℕ) (segments : List Segment) (ys : List ℕ) :
   pub hot : IsHot p segments → m * line_over p segments + m * v ≤ over (m * p) ys + held
   pub cold : IsCold p segments → m * line_over p segments ≤ over (m * p) ys
 
--- one hot segment of n slots and b bytes: `a` are the numbers of its slots, `rest_over` and `rest_line` what comes after it
-hot_step : (m p v held n b sum_a over_a rest_over rest_line : ℕ) → n * p < b → sum_a ≤ over_a + n * (m * p) →
-    m * rest_line + m * (v + b) ≤ rest_over + (held + sum_a) → m * ((b - n * p) + rest_line) + m * v ≤ over_a + rest_over + held
-hot_step m p v held n b sum_a over_a rest_over rest_line is_hot few rest =
+-- a segment above p from height v, where the running sum is `held`: what the numbers of its slots are together and send
+-- above m * p, and what those after it send above, as the line does
+record HotSegment (m p v held : ℕ) : Type 0 where
+  pub segment : Segment
+  pub own_sum : ℕ
+  pub own_over : ℕ
+  pub rest_over : ℕ
+  pub rest_line : ℕ
+  pub is_hot : segment.slots * p < segment.bytes
+  pub few : own_sum ≤ own_over + segment.slots * (m * p)
+  pub after : m * rest_line + m * (v + segment.bytes) ≤ rest_over + (held + own_sum)
+
+hot_step : {m p v held : ℕ} (hot : HotSegment m p v held) →
+    m * ((hot.segment.bytes - hot.segment.slots * p) + hot.rest_line) + m * v ≤ hot.own_over + hot.rest_over + held
+hot_step {m} {p} hot =
     let d = b - n * p in
-    let split : b ≡ n * p + d = omega arith in
+    let split : b ≡ n * p + d = omega (arith, hot.is_hot) in
     let all : m * b ≡ m * (n * p + d) = ap (λ x. m * x) split in
-    omega (arith, all, few, rest)
+    omega (arith, all, hot.few, hot.after)
+  where
+    open hot use {segment.{slots as n, bytes as b}}
 
 -- a segment above p that is followed by one at most p doesn't rise
-no_rise : (p n b n' b' : ℕ) → n * p < b → b' ≤ n' * p → b * n' < b' * n → ⊥
-no_rise p n b n' b' is_hot is_cold rises =
-    let one : n * p * n' ≤ b * n' = mul-le-mul_right n' (omega arith) in
-    let two : b' * n ≤ n' * p * n = mul-le-mul_right n is_cold in
+no_rise : (p : ℕ) (s next : Segment) → s.slots * p < s.bytes → next.bytes ≤ next.slots * p → IsBelow (slope_of s) (slope_of next) → ⊥
+no_rise p s next is_hot is_cold rises =
+    let one : s.slots * p * next.slots ≤ s.bytes * next.slots = mul-le-mul_right next.slots (omega arith) in
+    let two : next.bytes * s.slots ≤ next.slots * p * s.slots = mul-le-mul_right s.slots is_cold in
     omega (arith, one, two, rises)
 
 -- a segment at most p that is followed by one above p doesn't fall
-no_fall : (p n b n' b' : ℕ) → b ≤ n * p → n' * p < b' → b' * n < b * n' → ⊥
-no_fall p n b n' b' is_cold is_hot falls =
-    let one : n' * p * n ≤ b' * n = mul-le-mul_right n (omega arith) in
-    let two : b * n' ≤ n * p * n' = mul-le-mul_right n' is_cold in
+no_fall : (p : ℕ) (s next : Segment) → s.bytes ≤ s.slots * p → next.slots * p < next.bytes → IsBelow (slope_of next) (slope_of s) → ⊥
+no_fall p s next is_cold is_hot falls =
+    let one : next.slots * p * s.slots ≤ next.bytes * s.slots = mul-le-mul_right s.slots (omega arith) in
+    let two : s.bytes * next.slots ≤ s.slots * p * next.slots = mul-le-mul_right next.slots is_cold in
     omega (arith, one, two, falls)
 
 -- what comes after a hot segment, in the form that `hot_step` takes
@@ -93,7 +108,7 @@ after_hot {m} {p} {lo} {k} {v} {held} {rest = next ∷ others} {zs} s is_hot ben
     elim (cases_lt (next.slots * p) next.bytes) [
       | inl next_hot ↦ bounds.hot next_hot
       | inr next_cold ↦ elim bend [
-        | inl rise ↦ absurd (no_rise p s.slots s.bytes next.slots next.bytes is_hot next_cold rise.0)
+        | inl rise ↦ absurd (no_rise p s next is_hot next_cold rise.0)
         | inr fall ↦ (
             let least : m * lo (k + 0) ≤ held + 0 = keeps.above 0 (omega arith) in
             let here : m * lo (k + 0) ≡ m * lo k = ap (λ c. m * lo c) (add-zero k) in
@@ -113,7 +128,7 @@ after_cold {m} {p} {lo} {hi} {k} {v} {held} {rest = next ∷ others} {zs} s is_c
     elim (cases_lt (next.slots * p) next.bytes) [
       | inr next_cold ↦ bounds.cold next_cold
       | inl next_hot ↦ elim bend [
-        | inr fall ↦ absurd (no_fall p s.slots s.bytes next.slots next.bytes is_cold next_hot fall.0)
+        | inr fall ↦ absurd (no_fall p s next is_cold next_hot fall.0)
         | inl rise ↦ (
             let most : held + 0 ≤ m * hi (k + 0) = keeps.below 0 (omega arith) in
             let here : m * hi (k + 0) ≡ m * hi k = ap (λ c. m * hi c) (add-zero k) in
@@ -154,21 +169,36 @@ bounds {m} {p} {lo} {hi} {k} {v} {held} {segments = s ∷ rest} {ys} runs ends s
     let few : sum (take s.slots ys) ≤ over (m * p) (take s.slots ys) + length (take s.slots ys) * (m * p) = sum-le-over (m * p) (take s.slots ys) in
     let few' : sum (take s.slots ys) ≤ over (m * p) (take s.slots ys) + s.slots * (m * p) = subst (λ c. sum (take s.slots ys) ≤ over (m * p) (take s.slots ys) + c * (m * p)) count few in
     record {
-      hot = λ is_hot. rw (line, whole) (hot_step m p v held s.slots s.bytes (sum (take s.slots ys)) (over (m * p) (take s.slots ys)) (over (m * p) (drop s.slots ys)) (line_over p rest) is_hot few'
-          (after_hot s is_hot runs.1 keeps' rest'));
+      hot = λ is_hot.
+          let here : HotSegment m p v held = record {
+            segment = s;
+            own_sum = sum (take s.slots ys);
+            own_over = over (m * p) (take s.slots ys);
+            rest_over = over (m * p) (drop s.slots ys);
+            rest_line = line_over p rest;
+            is_hot = is_hot;
+            few = few';
+            after = after_hot s is_hot runs.1 keeps' rest';
+          } in
+          rw (line, whole) (hot_step here);
       cold = λ is_cold.
           let after : m * line_over p rest ≤ over (m * p) (drop s.slots ys) = after_cold s is_cold runs.1 keeps' rest' in
           let none : s.bytes - s.slots * p ≡ 0 = omega arith in
           rw (line, whole, none) (omega (arith, after));
     }
 
+-- segments that run taut from height v to where the lower curve ends, and as many numbers as they have slots
+pub record IsTautBeside (lo hi : ℕ → ℕ) (v : ℕ) (segments : List Segment) (ys : List ℕ) : Type 0 where
+  pub runs : RunsTaut lo hi 0 v segments
+  pub ends : lo (total_slots segments) ≡ v + total_bytes segments
+  pub same_length : length ys ≡ total_slots segments
+
 -- from a place where the curves meet, or where the first segment is cold, the line goes over p by no more than ys
-pub least : {m : ℕ} {lo hi : ℕ → ℕ} {ys : List ℕ} (p v : ℕ) (segments : List Segment) →
-    RunsTaut lo hi 0 v segments → lo (total_slots segments) ≡ v + total_bytes segments → length ys ≡ total_slots segments →
+pub least : {m : ℕ} {lo hi : ℕ → ℕ} {ys : List ℕ} (p v : ℕ) (segments : List Segment) → IsTautBeside lo hi v segments ys →
     KeepsBetween m lo hi 0 (m * v) ys → m * line_over p segments ≤ over (m * p) ys
-least {m} {lo} {ys} p v segments runs ends same keeps =
-    let ends' : lo (0 + total_slots segments) ≡ v + total_bytes segments = subst (λ c. lo c ≡ v + total_bytes segments) (omega arith) ends in
-    let both : Bounds m p v (m * v) segments ys = bounds runs ends' same keeps in
+least {m} {lo} {ys} p v segments line keeps =
+    let ends' : lo (0 + total_slots segments) ≡ v + total_bytes segments = subst (λ c. lo c ≡ v + total_bytes segments) (omega arith) line.ends in
+    let both : Bounds m p v (m * v) segments ys = bounds line.runs ends' line.same_length keeps in
     from_both segments both
   where
     from_both : (segs : List Segment) → Bounds m p v (m * v) segs ys → m * line_over p segs ≤ over (m * p) ys

@@ -8,19 +8,24 @@ use Rattle.plan_cert.specs.Slots.{plan_slots, total_slots}
 use Rattle.plan_cert.proofs.SlotSums.{sum-take-in, sum-take-past}
 use Rattle.cert_check.specs.Taut.{RunsTaut}
 
-floor_above : (v n b t h : ℕ) → 0 < n → h * n ≤ v * n + t * b → h ≤ v + t * b / n
-floor_above v n b t h pos under =
+-- the floor of a segment's line from height v, against a whole number
+floor_above : (v : ℕ) (s : Segment) (t h : ℕ) → 0 < s.slots → h * s.slots ≤ v * s.slots + t * s.bytes → h ≤ v + t * s.bytes / s.slots
+floor_above v s t h pos under =
     let q = t * b / n in
     let over : t * b < t * b / n * n + n = lt-div-mul-add pos in
     let all : h * n < (v + q + 1) * n = omega (arith, under, over) in
     let less : h < v + q + 1 = lt_of_mul-lt-mul_right n all in
     omega (arith, less)
+  where
+    open s use {slots as n, bytes as b}
 
-floor_below : (v n b t h : ℕ) → 0 < n → v * n + t * b ≤ h * n → v + t * b / n ≤ h
-floor_below v n b t h pos above =
+floor_below : (v : ℕ) (s : Segment) (t h : ℕ) → 0 < s.slots → v * s.slots + t * s.bytes ≤ h * s.slots → v + t * s.bytes / s.slots ≤ h
+floor_below v s t h pos above =
     let flat : t * b / n * n ≤ t * b = div-mul-le_self (t * b) n in
     let all : (v + t * b / n) * n ≤ h * n = omega (arith, above, flat) in
     le_of_mul-le-mul_right all pos
+  where
+    open s use {slots as n, bytes as b}
 
 -- through t slots of the line
 pub record KeepsAt (lo hi : ℕ → ℕ) (k v t : ℕ) (segments : List Segment) : Type 0 where
@@ -35,16 +40,16 @@ line_keeps {lo} {hi} {k} {v} {s} {rest = []} runs {t} few =
     let within : t ≤ s.slots = omega (arith, few, slots, none) in
     let here : sum (take t (plan_slots (s ∷ []))) ≡ t * s.bytes / s.slots = sum-take-in s [] t runs.0.some within in
     record {
-      above = rw here (floor_above v s.slots s.bytes t (lo (k + t)) runs.0.some (runs.0.above t within));
-      below = rw here (floor_below v s.slots s.bytes t (hi (k + t)) runs.0.some (runs.0.below t within));
+      above = rw here (floor_above v s t (lo (k + t)) runs.0.some (runs.0.above t within));
+      below = rw here (floor_below v s t (hi (k + t)) runs.0.some (runs.0.below t within));
     }
 line_keeps {lo} {hi} {k} {v} {s} {rest = next ∷ rest} runs {t} few =
     elim (cases_lt s.slots t) [
       | inr within ↦ (
           let here : sum (take t (plan_slots (s ∷ next ∷ rest))) ≡ t * s.bytes / s.slots = sum-take-in s (next ∷ rest) t runs.0.some within in
           record {
-            above = rw here (floor_above v s.slots s.bytes t (lo (k + t)) runs.0.some (runs.0.above t within));
-            below = rw here (floor_below v s.slots s.bytes t (hi (k + t)) runs.0.some (runs.0.below t within));
+            above = rw here (floor_above v s t (lo (k + t)) runs.0.some (runs.0.above t within));
+            below = rw here (floor_below v s t (hi (k + t)) runs.0.some (runs.0.below t within));
           }
           )
       | inl past ↦ (

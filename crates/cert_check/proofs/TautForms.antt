@@ -8,7 +8,7 @@ use Rattle.cert_check.specs.Line.{segment_at, line_top, line_under}
 use Rattle.cert_check.specs.Taut.{RunsTaut}
 use Rattle.cert_check.specs.Fault.{IsTaut}
 use Rattle.cert_check.proofs.Outside.{Faultless, runs_from_faultless, faultless_from_runs}
-use Rattle.cert_check.proofs.Unique.{EndsOn}
+use Rattle.cert_check.proofs.Unique.{EndsOn, IsTautLine}
 
 -- what the proofs need of two sound curves: as many numbers, at least one, and one end
 pub record AreClosed (low up : List ℕ) : Type 0 where
@@ -86,11 +86,16 @@ ends_from_taut from low up segments closed taut =
       high = ap (bound_at from up) place ∙ bound_end from up (length low) closed.some_slot ∙ sym total;
     }
 
+pub line_from_taut : (from : ℕ) (low up : List ℕ) (segments : List Segment) → AreClosed low up → IsTaut from low up segments →
+    IsTautLine (bound_at from low) (bound_at from up) 0 from segments
+line_from_taut from low up segments closed taut =
+    record { runs = runs_from_taut from low up segments closed taut; ends = ends_from_taut from low up segments closed taut }
+
 -- a list that runs taut, over the curves' slots and to their end, has no fault
-pub taut_from_runs : (from : ℕ) (low up : List ℕ) (segments : List Segment) → AreClosed low up →
+pub taut_from_runs : {low up : List ℕ} (from : ℕ) (segments : List Segment) → AreClosed low up →
     RunsTaut (bound_at from low) (bound_at from up) 0 from segments → total_slots segments ≡ length low →
     from + total_bytes segments ≡ slice_index up (length low - 1) → IsTaut from low up segments
-taut_from_runs from low up segments closed runs slots total =
+taut_from_runs {low} {up} from segments closed runs slots total =
     let place : 0 + total_slots segments ≡ length low = omega (arith, slots) in
     let low_end : bound_at from low (0 + total_slots segments) ≡ from + total_bytes segments =
     ap (bound_at from low) place ∙ bound_end from low (length low) closed.some_slot ∙ closed.meet ∙ sym total in

@@ -8,7 +8,7 @@ use Rattle.cert_check.specs.declared.walk.Walk.{Walk}
 use Rattle.cert_check.specs.First.{IsFirst}
 use Rattle.cert_check.specs.Fault.{IsBelowLow, IsAboveUp}
 use Rattle.cert_check.specs.Line.{segment_at, line_top, line_under, end_place, end_height}
-use Rattle.cert_check.specs.Whole.{IsWhole, StandsAt, next_walk}
+use Rattle.cert_check.specs.Whole.{AddsUp, StandsAt, next_walk}
 use Rattle.cert_check.proofs.LineAt.{LineIn, line_in}
 use Rattle.cert_check.proofs.Turns.{end_place_is, end_height_is}
 
@@ -28,7 +28,7 @@ pub record Goes (from : ℕ) (segments : List Segment) (t : ℕ) (walk : Walk) :
   pub some : 1 ≤ walk.passed
 
 -- one slot further
-pub goes_on : {from : ℕ} {low up : List ℕ} {segments : List Segment} {t : ℕ} {walk : Walk} → IsWhole from low up segments →
+pub goes_on : {from : ℕ} {low up : List ℕ} {segments : List Segment} {t : ℕ} {walk : Walk} → AddsUp from low up segments →
     StandsAt from segments t walk → t < length low → Goes from segments (t + 1) (next_walk segments walk)
 goes_on {from} {low} {segments} {t} {walk} whole stands few =
     let s = segment_at segments walk.index in

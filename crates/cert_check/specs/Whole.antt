@@ -11,7 +11,7 @@ use Rattle.cert_check.specs.First.{IsFirst}
 use Rattle.cert_check.specs.Fault.{IsBelowLow, IsAboveUp}
 use Rattle.cert_check.specs.Line.{segment_at}
 
-pub record IsWhole (from : ℕ) (low up : List ℕ) (segments : List Segment) : Type 0 where
+pub record AddsUp (from : ℕ) (low up : List ℕ) (segments : List Segment) : Type 0 where
   pub some : (i : ℕ) → i < length segments → 1 ≤ (segment_at segments i).slots
   pub slots : total_slots segments ≡ length low
   pub bytes : from + total_bytes segments ≡ slice_index up (length up - 1)
@@ -48,6 +48,6 @@ Leaves from low up segments Nowhere = ((j : ℕ) → ¬ IsBelowLow from low segm
 
 -- the checker's first five steps found nothing
 pub record StaysWithin (from : ℕ) (low up : List ℕ) (segments : List Segment) : Type 0 where
-  pub whole : IsWhole from low up segments
+  pub whole : AddsUp from low up segments
   pub not_below : (j : ℕ) → ¬ IsBelowLow from low segments j
   pub not_above : (j : ℕ) → ¬ IsAboveUp from up segments j

@@ -5,7 +5,7 @@ ghost use Rattle.slope_frac.specs.Order.{IsBelow, IsLevel};
 ghost use Rattle.cert_check.specs.Line.{slope_of};
 ghost use Rattle.cert_check.specs.First.{IsFirst};
 ghost use Rattle.cert_check.specs.Fault.{IsEqualAt, IsRiseOffUpper, IsFallOffLower};
-ghost use Rattle.cert_check.specs.Whole.{IsWhole};
+ghost use Rattle.cert_check.specs.Whole.{AddsUp};
 
 use plan_cert::Segment;
 use slope_frac::{Slope, compare};
@@ -26,7 +26,7 @@ pub fn first_equal(segments: &[Segment]) -> Option<u64>
 
 /// The first segment after which the slope rises off the upper curve.
 pub fn first_rise_off(curves: &Curves, segments: &[Segment]) -> Option<u64>
-    requires { IsWhole curves.now.from curves.now.low.items curves.now.up.items segments.now }
+    requires { AddsUp curves.now.from curves.now.low.items curves.now.up.items segments.now }
     ensures { MatchOption result ((i : ℕ) →
         ¬ IsRiseOffUpper curves.now.from curves.now.up.items segments.now i)
         (IsFirst (IsRiseOffUpper curves.now.from curves.now.up.items segments.now)) }
@@ -47,7 +47,7 @@ pub fn first_rise_off(curves: &Curves, segments: &[Segment]) -> Option<u64>
 
 /// The first segment after which the slope falls off the lower curve.
 pub fn first_fall_off(curves: &Curves, segments: &[Segment]) -> Option<u64>
-    requires { IsWhole curves.now.from curves.now.low.items curves.now.up.items segments.now }
+    requires { AddsUp curves.now.from curves.now.low.items curves.now.up.items segments.now }
     ensures { MatchOption result ((i : ℕ) →
         ¬ IsFallOffLower curves.now.from curves.now.low.items segments.now i)
         (IsFirst (IsFallOffLower curves.now.from curves.now.low.items segments.now)) }

@@ -1,7 +1,7 @@
 //! A walk along the line of segments, slot by slot, between the two curves.
 
 ghost use Rattle.std.specs.Prelude.{ℕ, ◌≡◌, ◌+◌, ◌*◌, ◌^◌, ◌<◌, ◌≤◌, length};
-ghost use Rattle.cert_check.specs.Whole.{IsWhole, next_walk, Leaves};
+ghost use Rattle.cert_check.specs.Whole.{AddsUp, next_walk, Leaves};
 ghost use Rattle.cert_check.specs.Line.{segment_at};
 
 use plan_cert::Segment;
@@ -20,7 +20,7 @@ pub enum Outside {
 
 /// Where the exact line first leaves the curves, by one pass over the slots.
 pub fn first_outside(curves: &Curves, segments: &[Segment]) -> Outside
-    requires { IsWhole curves.now.from curves.now.low.items curves.now.up.items segments.now }
+    requires { AddsUp curves.now.from curves.now.low.items curves.now.up.items segments.now }
     ensures { Leaves curves.now.from curves.now.low.items curves.now.up.items segments.now result }
 {
     let low = curves.low.as_slice();

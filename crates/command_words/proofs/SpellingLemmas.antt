@@ -14,7 +14,7 @@ use Rattle.std.proofs.Math.ListN.{get_or-append}
 use Rattle.std.proofs.Math.Seq.{get_or-append_seam}
 use Rattle.vod_base.specs.Names.{is_good_name}
 use Rattle.vod_base.specs.Numbers.{number_of}
-use Rattle.plan_cert.proofs.Decimals.{number_of-decimal}
+use Rattle.vod_base.proofs.Written.{decimal_read}
 use Rattle.slot_calendar.specs.declared.profiles.CapStep.{CapStep}
 use Rattle.slot_calendar.specs.Profiles.{no_step, step_at}
 use Rattle.command_words.specs.Settings.{one_name, in_range, one_number, number_or}
@@ -28,7 +28,7 @@ own = numerals_by_value (λ ds. list_all is_ascii_digit ds ≡ true) (search rul
 -- a number in its range
 pub number_back : (least most n : ℕ) → IsWithin least most n → n < 2 ^ 64 → in_range least most (number_of (decimal n)) ≡ Some n
 number_back least most n within small =
-    ap (in_range least most) (number_of-decimal n small)
+    ap (in_range least most) (decimal_read n small)
     ∙ ap (λ (b : Bool). if b && nat_le n most then Some n else None) (le-leb least n within.0)
     ∙ ap (λ (b : Bool). if b then Some n else None) (le-leb n most within.1)
 
@@ -104,8 +104,8 @@ step_back step short =
     ∙ step_of_cut (decimal step.from ++ 58 ∷ decimal step.bytes) (decimal step.from) (decimal step.bytes)
     (inside_of 58 (decimal step.from) (decimal step.bytes) refl plain) (before_of 58 (decimal step.from) (decimal step.bytes) refl plain)
     (after_of 58 (decimal step.from) (decimal step.bytes) refl plain)
-    ∙ ap (λ (o : Option ℕ). step_from o (number_of (decimal step.bytes))) (number_of-decimal step.from short.from)
-    ∙ ap (λ (o : Option ℕ). step_from (Some step.from) o) (number_of-decimal step.bytes short.bytes)
+    ∙ ap (λ (o : Option ℕ). step_from o (number_of (decimal step.bytes))) (decimal_read step.from short.from)
+    ∙ ap (λ (o : Option ℕ). step_from (Some step.from) o) (decimal_read step.bytes short.bytes)
 
 -- a step's text has no comma
 step_one : (step : CapStep) → IsShort step → has_no 44 (step_text step) ≡ true

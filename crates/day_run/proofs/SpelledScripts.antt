@@ -10,7 +10,7 @@ use Rattle.std.proofs.lemmas.List.{append_assoc, append-nil, get_or-take, get_or
 use Rattle.std.proofs.lemmas.List.Sums.{position_or_len_is}
 use Rattle.std.proofs.lemmas.Slice.Eq.{bytes_eq-Decides}
 use Rattle.vod_base.specs.Names.{is_good_name}
-use Rattle.plan_cert.proofs.Decimals.{number_of-decimal}
+use Rattle.vod_base.proofs.Written.{decimal_read}
 use Rattle.day_run.specs.declared.scripts.Line.{Line}
 use Rattle.day_run.specs.declared.scripts.Line.TheVariants.{Play, Pause, Resume, Look, Slot, Offer}
 use Rattle.day_run.specs.declared.sayings.Asked.{Asked}
@@ -25,11 +25,11 @@ use Rattle.day_run.proofs.SpelledLines.{decimal-word, kind-word, name-word, spac
 -- ---- numbers
 number-back : (least most n : ℕ) → n < 2 ^ 64 → least ≤ n → n ≤ most → number_in least most (decimal n) ≡ Some n
 number-back least most n small low high =
-    ap (in_range least most) (number_of-decimal n small) ∙ cond-true (nat_le least n && nat_le n most) (Some n) None (and_from (nat_le least n) (nat_le n most) (le-leb least n low) (le-leb n most high))
+    ap (in_range least most) (decimal_read n small) ∙ cond-true (nat_le least n && nat_le n most) (Some n) None (and_from (nat_le least n) (nat_le n most) (le-leb least n low) (le-leb n most high))
 
 number-out : (least most n : ℕ) → n < 2 ^ 64 → (least ≤ n → n ≤ most → ⊥) → number_in least most (decimal n) ≡ None
 number-out least most n small out =
-    ap (in_range least most) (number_of-decimal n small)
+    ap (in_range least most) (decimal_read n small)
     ∙ cond-false (nat_le least n && nat_le n most) (Some n) None (false_from_ne_true (nat_le least n && nat_le n most) (λ both.
     let parts = and_parts (nat_le least n) (nat_le n most) both in
     out (leb-true least n parts.0) (leb-true n most parts.1)))

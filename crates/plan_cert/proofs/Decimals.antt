@@ -10,16 +10,11 @@ use Rattle.std.proofs.lemmas.List.{append_cancel_left, append_assoc, take_at, ta
 use Rattle.std.proofs.lemmas.List.Elements.{All-from_get_or, All-head, All-tail}
 use Rattle.std.proofs.lemmas.Fmt.{digits_decimal, digits_value-decimal, decimal_nonempty, decimal-digits_value, first_decimal, decimal_digit}
 use Rattle.std.proofs.lemmas.Str.Parse.{IsNumeralModel, numerals_by_value, not_in_digits}
-use Rattle.vod_base.specs.Numbers.{is_decimal, number_of}
 use Rattle.vod_base.specs.Splits.{IsSplitAtFirst}
 use Rattle.vod_base.proofs.FirstBytes.{none_is}
-use Rattle.vod_base.proofs.Written.{decimal_read, own}
+use Rattle.vod_base.proofs.Written.{own}
 use Rattle.plan_cert.specs.declared.Segment.{Segment}
 use Rattle.plan_cert.specs.Reading.{IsNumberLine, AreNumbers}
-
--- a decimal form is read as its number
-pub number_of-decimal : (n : ℕ) → n < 2 ^ 64 → number_of (decimal n) ≡ Some n
-number_of-decimal = decimal_read
 
 -- a decimal form has no leading zero
 pub no_leading_zero : (n : ℕ) → n < 2 ^ 64 → 1 < length (decimal n) → slice_index (decimal n) 0 ≡ 48 → ⊥
@@ -39,14 +34,15 @@ pub not_in_decimal : (c n : ℕ) → n < 2 ^ 64 → ¬ (IsInRange 48 57 c) → A
 not_in_decimal c n small other = All-from_get_or (λ b. b ≢ c) (decimal n) 0 (λ i inside. not_in_digits own (decimal n) c (digits_decimal own n small) other i inside)
 
 -- a text has one first place of a byte
-pub same_cut : (c : ℕ) (xs ys ws bs : List ℕ) → xs ++ c ∷ ws ≡ ys ++ c ∷ bs → All (λ b. b ≢ c) xs → All (λ b. b ≢ c) ys → (xs ≡ ys) × (ws ≡ bs)
-same_cut c [] [] ws bs e none none' = (refl, cc)
-same_cut c [] (y ∷ ys) ws bs e none none' = absurd (All-head (λ b. b ≢ c) y ys none' (cc))
-same_cut c (x ∷ xs) [] ws bs e none none' = absurd (All-head (λ b. b ≢ c) x xs none (cc))
-same_cut c (x ∷ xs) (y ∷ ys) ws bs e none none' =
+pub same_cut : {ws bs : List ℕ} (c : ℕ) (xs ys : List ℕ) → xs ++ c ∷ ws ≡ ys ++ c ∷ bs → All (λ b. b ≢ c) xs
+    → All (λ b. b ≢ c) ys → (xs ≡ ys) × (ws ≡ bs)
+same_cut c [] [] e none none' = (refl, cc)
+same_cut c [] (y ∷ ys) e none none' = absurd (All-head (λ b. b ≢ c) y ys none' (cc))
+same_cut c (x ∷ xs) [] e none none' = absurd (All-head (λ b. b ≢ c) x xs none (cc))
+same_cut {ws} {bs} c (x ∷ xs) (y ∷ ys) e none none' =
     let first : x ≡ y = cc in
     let others : xs ++ c ∷ ws ≡ ys ++ c ∷ bs = cc in
-    let rest = same_cut c xs ys ws bs others (All-tail (λ b. b ≢ c) x xs none) (All-tail (λ b. b ≢ c) y ys none') in
+    let rest = same_cut {ws = ws} {bs = bs} c xs ys others (All-tail (λ b. b ≢ c) x xs none) (All-tail (λ b. b ≢ c) y ys none') in
     let same : xs ≡ ys = rest.0 in
     (cc, rest.1)
 
@@ -63,7 +59,7 @@ numbers_cut text front after s cut numbers =
     let not_digit : ¬ (IsInRange 48 57 32) = λ within. omega (arith, within.0) in
     let small : s.slots < 2 ^ 64 = omega (arith, numbers.few_slots) in
     let whole : front ++ 32 ∷ after ≡ decimal s.slots ++ 32 ∷ decimal s.bytes = sym cut.parts ∙ numbers.words ∙ append_assoc (decimal s.slots) (codes " ") (decimal s.bytes) in
-    same_cut 32 front (decimal s.slots) after (decimal s.bytes) whole (none_is 32 front cut.first) (not_in_decimal 32 s.slots small not_digit)
+    same_cut {ws = after} {bs = decimal s.bytes} 32 front (decimal s.slots) whole (none_is 32 front cut.first) (not_in_decimal 32 s.slots small not_digit)
 
 -- a first digit 0 stands alone, where no more digits stand after it
 pub lead_one : (ds : List ℕ) (b : Bool) → b ≡ false → ((1 < length ds) × (slice_index ds 0 ≡ 48) → b ≡ true) → slice_index ds 0 ≡ 48 → length ds ≡ 1

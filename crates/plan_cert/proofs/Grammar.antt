@@ -154,11 +154,19 @@ not_one_more k line over (Slots n i number) = omega (arith, i)
 not_one_more k line over (Bytes n i number) = omega (arith, i)
 not_one_more k line over (Piece s i few piece) = omega (arith, over, few)
 
+-- a text by the three lines of its head: where each is cut off, and what it is
+pub record IsHeadOf (text title rest slots_line rest2 bytes_line rest3 : List ℕ) (slots bytes : ℕ) : Type 0 where
+  pub title_cut : text ≡ title ++ 10 ∷ rest
+  pub title_is : title ≡ codes "smooth 1"
+  pub slots_cut : rest ≡ slots_line ++ 10 ∷ rest2
+  pub slots_is : slots_line ≡ codes "slots " ++ decimal slots
+  pub bytes_cut : rest2 ≡ bytes_line ++ 10 ∷ rest3
+  pub bytes_is : bytes_line ≡ codes "bytes " ++ decimal bytes
+
 -- the text of the head, put together from its lines
-pub head_text : {text title rest slots_line rest2 bytes_line : List ℕ} (rest3 : List ℕ) (slots bytes : ℕ) →
-    text ≡ title ++ 10 ∷ rest → title ≡ codes "smooth 1" → rest ≡ slots_line ++ 10 ∷ rest2 → slots_line ≡ codes "slots " ++ decimal slots →
-    rest2 ≡ bytes_line ++ 10 ∷ rest3 → bytes_line ≡ codes "bytes " ++ decimal bytes → text ≡ cert_head slots bytes ++ rest3
-head_text {text} {rest} {rest2} rest3 slots bytes cut1 title_is cut2 slots_is cut3 bytes_is =
+pub head_text : {text title rest slots_line rest2 bytes_line : List ℕ} (rest3 : List ℕ) (slots bytes : ℕ)
+    → IsHeadOf text title rest slots_line rest2 bytes_line rest3 slots bytes → text ≡ cert_head slots bytes ++ rest3
+head_text {text} {rest} {rest2} rest3 slots bytes given =
     let third : rest2 ≡ (codes "bytes " ++ decimal bytes) ++ 10 ∷ rest3 = cut3 ∙ ap (λ l. l ++ 10 ∷ rest3) bytes_is in
     let second : rest ≡ (codes "slots " ++ decimal slots) ++ 10 ∷ ((codes "bytes " ++ decimal bytes) ++ 10 ∷ rest3) =
     cut2 ∙ ap (λ l. l ++ 10 ∷ rest2) slots_is ∙ ap (λ r. (codes "slots " ++ decimal slots) ++ 10 ∷ r) third in
@@ -166,6 +174,8 @@ head_text {text} {rest} {rest2} rest3 slots bytes cut1 title_is cut2 slots_is cu
     cut1 ∙ ap (λ l. l ++ 10 ∷ rest) title_is ∙ ap (λ r. codes "smooth 1" ++ 10 ∷ r) second in
     let joined : codes "smooth 1" ++ 10 ∷ ((codes "slots " ++ decimal slots) ++ 10 ∷ ((codes "bytes " ++ decimal bytes) ++ 10 ∷ rest3)) ≡ cert_head slots bytes ++ rest3 = simp append_assoc in
     first ∙ joined
+  where
+    open given use {title_cut as cut1, title_is, slots_cut as cut2, slots_is, bytes_cut as cut3, bytes_is}
 
 -- one more segment's line
 pub piece_text : {text rest line : List ℕ} (after : List ℕ) (segments : List Segment) (s : Segment) → text ≡ flat_map segment_line segments ++ rest →

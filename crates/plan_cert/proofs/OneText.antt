@@ -62,7 +62,14 @@ lines-certificate slots bytes segments small_slots small_bytes small =
     let third = (codes "bytes " ++ decimal bytes) ++ 10 ∷ body in
     let second = (codes "slots " ++ decimal slots) ++ 10 ∷ third in
     let shape : codes "smooth 1" ++ 10 ∷ second ≡ cert_head slots bytes ++ body =
-    head_text body slots bytes refl refl refl refl refl refl in
+    head_text body slots bytes (record {
+      title_cut = refl;
+      title_is = refl;
+      slots_cut = refl;
+      slots_is = refl;
+      bytes_cut = refl;
+      bytes_is = refl;
+    }) in
     let whole : cert_head slots bytes ++ flat_map segment_line segments ++ codes "end\n" ≡ codes "smooth 1" ++ 10 ∷ second =
     append_assoc (cert_head slots bytes) (flat_map segment_line segments) (codes "end\n") ∙ sym shape in
     let clean_slots = All-append (λ b. b ≢ 10) (codes "slots ") (decimal slots) (no_lf_by (codes "slots ") refl) (number_clean slots small_slots) in
@@ -85,7 +92,7 @@ same_words s t few few' e =
     let rest : decimal s.slots ++ 32 ∷ decimal s.bytes ≡ decimal t.slots ++ 32 ∷ decimal t.bytes =
     append_cancel_left (codes "segment ") (decimal s.slots ++ 32 ∷ decimal s.bytes) (decimal t.slots ++ 32 ∷ decimal t.bytes) (sym (shape s) ∙ e ∙ shape t) in
     let no_space : (n : ℕ) → n ≤ 2 ^ 42 → All (λ b. b ≢ 32) (decimal n) = λ (n : ℕ) small. not_in_decimal 32 n (omega arith) (λ within. omega (arith, within.0)) in
-    let parts = same_cut 32 (decimal s.slots) (decimal t.slots) (decimal s.bytes) (decimal t.bytes) rest (no_space s.slots few.0) (no_space t.slots few'.0) in
+    let parts = same_cut {ws = decimal s.bytes} {bs = decimal t.bytes} 32 (decimal s.slots) (decimal t.slots) rest (no_space s.slots few.0) (no_space t.slots few'.0) in
     let slots : s.slots ≡ t.slots = decimal_injective s.slots t.slots (omega (arith, few.0)) (omega (arith, few'.0)) parts.0 in
     let bytes : s.bytes ≡ t.bytes = decimal_injective s.bytes t.bytes (omega (arith, few.1)) (omega (arith, few'.1)) parts.1 in
     ap (λ n. pair n s.bytes) slots ∙ ap (λ b. pair t.slots b) bytes
@@ -101,26 +108,53 @@ same_list (x ∷ xs) (y ∷ ys) few few' e =
     let rest : xs ≡ ys = same_list xs ys (All-tail IsFew x xs few) (All-tail IsFew y ys few') others in
     cc
 
-pub record IsSame (slots bytes : ℕ) (xs : List Segment) (slots' bytes' : ℕ) (ys : List Segment) : Type 0 where
-  pub slots_are : slots ≡ slots'
-  pub bytes_are : bytes ≡ bytes'
-  pub segments_are : xs ≡ ys
+-- what a certificate tells: the two numbers at its head and its segments
+pub record Contents : Type 0 where
+  pub slots : ℕ
+  pub bytes : ℕ
+  pub segments : List Segment
+  pub few_slots : slots ≤ 2 ^ 42
+  pub few_bytes : bytes ≤ 2 ^ 42
+  pub few : All IsFew segments
 
-pub one_text : (slots bytes : ℕ) (xs : List Segment) (slots' bytes' : ℕ) (ys : List Segment) →
-    slots ≤ 2 ^ 42 → bytes ≤ 2 ^ 42 → All IsFew xs → slots' ≤ 2 ^ 42 → bytes' ≤ 2 ^ 42 → All IsFew ys →
-    cert_head slots bytes ++ flat_map segment_line xs ++ codes "end\n" ≡ cert_head slots' bytes' ++ flat_map segment_line ys ++ codes "end\n" →
-    IsSame slots bytes xs slots' bytes' ys
-one_text slots bytes xs slots' bytes' ys small_slots small_bytes few small_slots' small_bytes' few' e =
+pub record IsSame (one other : Contents) : Type 0 where
+  pub slots_are : one.slots ≡ other.slots
+  pub bytes_are : one.bytes ≡ other.bytes
+  pub segments_are : one.segments ≡ other.segments
+
+pub one_text : (one other : Contents)
+    → cert_head one.slots one.bytes ++ flat_map segment_line one.segments ++ codes "end\n"
+    ≡ cert_head other.slots other.bytes ++ flat_map segment_line other.segments ++ codes "end\n"
+    → IsSame one other
+one_text one other e =
     let lines : lines_are slots bytes xs ≡ lines_are slots' bytes' ys =
-    sym (lines-certificate slots bytes xs small_slots small_bytes few) ∙ ap lines_of e ∙ lines-certificate slots' bytes' ys small_slots' small_bytes' few' in
+    sym (lines-certificate slots bytes xs few_slots few_bytes few) ∙ ap lines_of e ∙ lines-certificate slots' bytes' ys few_slots' few_bytes' few' in
     let second : codes "slots " ++ decimal slots ≡ codes "slots " ++ decimal slots' = ap (λ ls. get_or ls.whole 1 []) lines in
     let third : codes "bytes " ++ decimal bytes ≡ codes "bytes " ++ decimal bytes' = ap (λ ls. get_or ls.whole 2 []) lines in
     let rest : body_of xs ≡ body_of ys = ap (λ ls. drop 3 ls.whole) lines in
     record {
-      slots_are = decimal_injective slots slots' (omega (arith, small_slots)) (omega (arith, small_slots')) (append_cancel_left (codes "slots ") (decimal slots) (decimal slots') second);
-      bytes_are = decimal_injective bytes bytes' (omega (arith, small_bytes)) (omega (arith, small_bytes')) (append_cancel_left (codes "bytes ") (decimal bytes) (decimal bytes') third);
+      slots_are = decimal_injective slots slots' (omega (arith, few_slots)) (omega (arith, few_slots')) (append_cancel_left (codes "slots ") (decimal slots) (decimal slots') second);
+      bytes_are = decimal_injective bytes bytes' (omega (arith, few_bytes)) (omega (arith, few_bytes')) (append_cancel_left (codes "bytes ") (decimal bytes) (decimal bytes') third);
       segments_are = same_list xs ys few few' (append_cancel_right (map segment_words xs) (map segment_words ys) (codes "end" ∷ []) rest);
     }
+  where
+    open one use {slots, bytes, segments as xs, few_slots, few_bytes, few}
+    open other use {slots as slots', bytes as bytes', segments as ys, few_slots as few_slots', few_bytes as few_bytes', few as few'}
+
+abbrev contents_of : {text : List ℕ} {slots bytes : ℕ} {segments : List Segment} → IsCertificate text slots bytes segments → Contents
+contents_of {segments} certificate = record {
+  slots = total_slots segments;
+  bytes = total_bytes segments;
+  segments = segments;
+  few_slots = omega (arith, certificate.slots_are, certificate.small_slots);
+  few_bytes = omega (arith, certificate.bytes_are, certificate.small_bytes);
+  few = certificate.small.small;
+}
+
+-- a text is the certificate of one list of segments
+pub one_certificate : {text : List ℕ} {slots bytes slots' bytes' : ℕ} {xs ys : List Segment}
+    → IsCertificate text slots bytes xs → IsCertificate text slots' bytes' ys → xs ≡ ys
+one_certificate one other = (one_text (contents_of one) (contents_of other) (sym one.text_is ∙ other.text_is)).segments_are
 
 -- ---- no bad line
 end_is_no_piece : (i : ℕ) (line : List ℕ) → 3 ≤ i → line ≡ codes "end" → MayStand i line → ⊥
@@ -181,8 +215,9 @@ nothing_after {segments} slots bytes small_slots small_bytes small after =
       ]
     ]
 
-pub certificate_has_no_bad_line : (text : List ℕ) (slots bytes : ℕ) (segments : List Segment) (line : ℕ) → IsCertificate text slots bytes segments → IsBadLine text line → ⊥
-certificate_has_no_bad_line text slots bytes segments line cert bad =
+pub certificate_has_no_bad_line : {text : List ℕ} {slots bytes : ℕ} {segments : List Segment} (line : ℕ)
+    → IsCertificate text slots bytes segments → IsBadLine text line → ⊥
+certificate_has_no_bad_line {text} {segments} line cert bad =
     let s = total_slots segments in
     let b = total_bytes segments in
     let small_slots : s ≤ 2 ^ 42 = omega (arith, cert.slots_are, cert.small_slots) in
@@ -193,9 +228,15 @@ certificate_has_no_bad_line text slots bytes segments line cert bad =
       | inr other ↦ elim other [
         | inl after ↦ nothing_after s b small_slots small_bytes cert.small (subst (λ ls. IsAfterEnd ls bad.0) lines after)
         | inr wrong ↦ (
-            let same : IsSame wrong.slots wrong.bytes wrong.segments s b segments =
-            one_text wrong.slots wrong.bytes wrong.segments s b segments wrong.small_slots wrong.small_bytes wrong.small.small small_slots small_bytes cert.small.small
-            (sym wrong.text_is ∙ cert.text_is) in
+            let told : Contents = record {
+              slots = wrong.slots;
+              bytes = wrong.bytes;
+              segments = wrong.segments;
+              few_slots = wrong.small_slots;
+              few_bytes = wrong.small_bytes;
+              few = wrong.small.small;
+            } in
+            let same : IsSame told (contents_of cert) = one_text told (contents_of cert) (sym wrong.text_is ∙ cert.text_is) in
             let slots_are : total_slots wrong.segments ≡ wrong.slots = ap total_slots same.segments_are ∙ sym same.slots_are in
             let bytes_are : total_bytes wrong.segments ≡ wrong.bytes = ap total_bytes same.segments_are ∙ sym same.bytes_are in
             elim wrong.wrong [ inl slots ↦ slots.1 slots_are | inr bytes ↦ bytes.2 bytes_are ]
@@ -205,13 +246,8 @@ certificate_has_no_bad_line text slots bytes segments line cert bad =
 
 -- so a certificate is read, and as its own segments
 pub exact_reading : {text : List ℕ} (read : Result CertText CertRead) → IfOk read (λ cert. IsCertificate text cert.slots cert.bytes cert.segments.items) →
-    IfErr read (IsRefused text) → (slots bytes : ℕ) (segments : List Segment) → IsCertificate text slots bytes segments →
+    IfErr read (IsRefused text) → {slots bytes : ℕ} {segments : List Segment} → IsCertificate text slots bytes segments →
     MatchResult read (λ cert. cert.segments.items ≡ segments) (λ refusal. refusal ≡ NoMemory)
-exact_reading {text} (Ok cert) good bad slots bytes segments certificate =
-    let same = one_text (total_slots cert.segments.items) (total_bytes cert.segments.items) cert.segments.items (total_slots segments) (total_bytes segments) segments
-    (omega (arith, good.slots_are, good.small_slots)) (omega (arith, good.bytes_are, good.small_bytes)) good.small.small
-    (omega (arith, certificate.slots_are, certificate.small_slots)) (omega (arith, certificate.bytes_are, certificate.small_bytes)) certificate.small.small
-    (sym good.text_is ∙ certificate.text_is) in
-    same.segments_are
-exact_reading {text} (Err (BadCert line)) good bad slots bytes segments certificate = absurd (certificate_has_no_bad_line text slots bytes segments line certificate bad)
-exact_reading {text} (Err NoMemory) good bad slots bytes segments certificate = refl
+exact_reading (Ok cert) good bad certificate = one_certificate good certificate
+exact_reading (Err (BadCert line)) good bad certificate = absurd (certificate_has_no_bad_line line certificate bad)
+exact_reading (Err NoMemory) good bad certificate = refl

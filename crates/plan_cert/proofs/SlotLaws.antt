@@ -8,7 +8,7 @@ use Rattle.std.proofs.lemmas.List.FromFn.{get_or-map-range_with_len}
 use Rattle.plan_cert.specs.declared.Segment.{Segment}
 use Rattle.plan_cert.specs.Slots.{slot_of, slots_of, plan_slots, total_slots, sum_through}
 use Rattle.plan_cert.proofs.Floors.{quotient_is, slot_bounds}
-use Rattle.plan_cert.proofs.SlotSums.{length-slots_of}
+use Rattle.plan_cert.proofs.SlotSums.{IsSegmentAt, length-slots_of}
 
 -- the running sum never falls
 pub sum_through_rises : (segments : List Segment) (t u : ℕ) → t ≤ u → sum_through segments t ≤ sum_through segments u
@@ -18,21 +18,22 @@ sum_through_rises segments t u h =
     omega (arith, part, ap sum same)
 
 -- slot j of segment i
-pub slot_in : (segments : List Segment) (s : Segment) (i j : ℕ) → i < length segments → s ≡ slice_index_or segments i s → j < s.slots →
+pub slot_in : {s : Segment} (segments : List Segment) (i j : ℕ) → IsSegmentAt s segments i → j < s.slots →
     slice_index (plan_slots segments) (total_slots (take i segments) + j) ≡ slot_of s j
-slot_in [] s i j inside is few = absurd (omega (arith, inside))
-slot_in (x ∷ rest) s zero j inside is few =
-    let few' : j < x.slots = subst (λ y. j < y.slots) is few in
+slot_in [] i j at few = absurd (omega (arith, at.inside))
+slot_in (x ∷ rest) zero j at few =
+    let few' : j < x.slots = subst (λ y. j < y.slots) at.segment_is few in
     let within : j < length (slots_of x) = omega (arith, length-slots_of x) in
     let here : slice_index (slots_of x ++ plan_slots rest) j ≡ slice_index (slots_of x) j = get_or_append_left (slots_of x) (plan_slots rest) 0 j within in
     let slot : slice_index (slots_of x) j ≡ slot_of x j = get_or-map-range_with_len (slot_of x) 0 x.slots j j 0 few' (zero-add j) in
-    ap (slice_index (plan_slots (x ∷ rest))) (zero-add j) ∙ here ∙ slot ∙ ap (λ y. slot_of y j) (sym is)
-slot_in (x ∷ rest) s (suc i) j inside is few =
+    ap (slice_index (plan_slots (x ∷ rest))) (zero-add j) ∙ here ∙ slot ∙ ap (λ y. slot_of y j) (sym at.segment_is)
+slot_in (x ∷ rest) (suc i) j at few =
     let slots : total_slots (x ∷ take i rest) ≡ x.slots + total_slots (take i rest) = sum_by-cons (λ y. y.slots) x (take i rest) in
     let place : total_slots (x ∷ take i rest) + j ≡ length (slots_of x) + (total_slots (take i rest) + j) = omega (arith, slots, length-slots_of x) in
     let next : slice_index (slots_of x ++ plan_slots rest) (length (slots_of x) + (total_slots (take i rest) + j)) ≡ slice_index (plan_slots rest) (total_slots (take i rest) + j) =
     get_or-append-add (slots_of x) (plan_slots rest) (total_slots (take i rest) + j) 0 in
-    ap (slice_index (plan_slots (x ∷ rest))) place ∙ next ∙ slot_in rest s i j (omega (arith, inside)) is few
+    ap (slice_index (plan_slots (x ∷ rest))) place ∙ next
+    ∙ slot_in rest i j (record { inside = omega (arith, at.inside); segment_is = at.segment_is }) few
 
 -- the quotient rounded up, where a slot sends one byte more than the quotient rounded down
 rounded_up : (b n j : ℕ) → 0 < n → (j + 1) * b / n ≡ j * b / n + b / n + 1 → (b + (n - 1)) / n ≡ b / n + 1

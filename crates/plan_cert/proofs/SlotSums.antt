@@ -66,31 +66,43 @@ sum-plan_slots (s ∷ rest) some =
     let all : total_bytes (s ∷ rest) ≡ s.bytes + total_bytes rest = sum_by-cons (λ x. x.bytes) s rest in
     omega (arith, both, all, sum-slots_of s pos, sum-plan_slots rest (All-tail (λ x. 1 ≤ x.slots) s rest some))
 
+-- a segment of a plan, at its place
+pub record IsSegmentAt (s : Segment) (segments : List Segment) (i : ℕ) : Type 0 where
+  pub inside : i < length segments
+  pub segment_is : s ≡ slice_index_or segments i s
+
 -- through j slots of segment i
-pub sum-take-at : {s : Segment} (segments : List Segment) (i j : ℕ) → All (λ x. 1 ≤ x.slots) segments → i < length segments → s ≡ slice_index_or segments i s → j ≤ s.slots →
-    sum (take (total_slots (take i segments) + j) (plan_slots segments)) ≡ total_bytes (take i segments) + j * s.bytes / s.slots
-sum-take-at {s} [] i j some inside is few = absurd (omega (arith, inside))
-sum-take-at {s} (x ∷ rest) zero j some inside is few =
+pub sum-take-at : {s : Segment} (segments : List Segment) (i j : ℕ) → All (λ x. 1 ≤ x.slots) segments
+    → IsSegmentAt s segments i → j ≤ s.slots
+    → sum (take (total_slots (take i segments) + j) (plan_slots segments)) ≡ total_bytes (take i segments) + j * s.bytes / s.slots
+sum-take-at {s} [] i j some given few = absurd (omega (arith, given.inside))
+sum-take-at {s} (x ∷ rest) zero j some given few =
     let pos : 0 < x.slots = All-head (λ y. 1 ≤ y.slots) x rest some in
-    let few' : j ≤ x.slots = subst (λ y. j ≤ y.slots) is few in
+    let few' : j ≤ x.slots = subst (λ y. j ≤ y.slots) given.segment_is few in
     let none : total_slots [] + j ≡ j = omega arith in
     let here : sum (take j (plan_slots (x ∷ rest))) ≡ j * x.bytes / x.slots = sum-take-in x rest j pos few' in
-    let same : j * x.bytes / x.slots ≡ j * s.bytes / s.slots = ap (λ y. j * y.bytes / y.slots) (sym is) in
+    let same : j * x.bytes / x.slots ≡ j * s.bytes / s.slots = ap (λ y. j * y.bytes / y.slots) (sym given.segment_is) in
     ap (λ n. sum (take n (plan_slots (x ∷ rest)))) none ∙ here ∙ same ∙ omega arith
-sum-take-at {s} (x ∷ rest) (suc i) j some inside is few =
+sum-take-at {s} (x ∷ rest) (suc i) j some given few =
     let pos : 0 < x.slots = All-head (λ y. 1 ≤ y.slots) x rest some in
     let slots : total_slots (x ∷ take i rest) ≡ x.slots + total_slots (take i rest) = sum_by-cons (λ y. y.slots) x (take i rest) in
     let bytes : total_bytes (x ∷ take i rest) ≡ x.bytes + total_bytes (take i rest) = sum_by-cons (λ y. y.bytes) x (take i rest) in
     let place : total_slots (x ∷ take i rest) + j ≡ x.slots + (total_slots (take i rest) + j) = omega (arith, slots) in
     let after : sum (take (total_slots (take i rest) + j) (plan_slots rest)) ≡ total_bytes (take i rest) + j * s.bytes / s.slots =
-    sum-take-at rest i j (All-tail (λ y. 1 ≤ y.slots) x rest some) (omega (arith, inside)) is few in
+    sum-take-at rest i j (All-tail (λ y. 1 ≤ y.slots) x rest some) (record {
+      inside = omega (arith, given.inside);
+      segment_is = given.segment_is;
+    }) few in
     ap (λ n. sum (take n (plan_slots (x ∷ rest)))) place ∙ sum-take-past x rest (total_slots (take i rest) + j) pos ∙ omega (arith, after, bytes)
 
 -- the running sum through a slot that has a place
 pub sum_through-at : {segments : List Segment} {slot : ℕ} {s : Segment} {passed before : ℕ} → IsPlan segments → IsPlace segments slot s passed before →
     before + (passed + 1) * s.bytes / s.slots ≡ sum_through segments slot
 sum_through-at {segments} {slot} {s} {passed} plan place =
-    let h = sum-take-at segments place.index (passed + 1) plan.no_empty place.inside place.segment_is (omega (arith, place.within)) in
+    let h = sum-take-at segments place.index (passed + 1) plan.no_empty (record {
+      inside = place.inside;
+      segment_is = place.segment_is;
+    }) (omega (arith, place.within)) in
     let at : total_slots (take place.index segments) + (passed + 1) ≡ slot + 1 = omega (arith, place.slot_is) in
     let whole : sum (take (slot + 1) (plan_slots segments)) ≡ total_bytes (take place.index segments) + (passed + 1) * s.bytes / s.slots =
     ap (λ n. sum (take n (plan_slots segments))) (sym at) ∙ h in
@@ -107,7 +119,10 @@ pub slot-at : {segments : List Segment} {slot : ℕ} {s : Segment} {passed befor
     (passed + 1) * s.bytes / s.slots - passed * s.bytes / s.slots ≡ slice_index (plan_slots segments) slot
 slot-at {segments} {slot} {s} {passed} plan place =
     let through = sum_through-at plan place in
-    let h = sum-take-at segments place.index passed plan.no_empty place.inside place.segment_is (omega (arith, place.within)) in
+    let h = sum-take-at segments place.index passed plan.no_empty (record {
+      inside = place.inside;
+      segment_is = place.segment_is;
+    }) (omega (arith, place.within)) in
     let up_to : sum (take slot (plan_slots segments)) ≡ total_bytes (take place.index segments) + passed * s.bytes / s.slots =
     ap (λ n. sum (take n (plan_slots segments))) place.slot_is ∙ h in
     let within : total_slots (take place.index segments) + (slice_index_or segments place.index s).slots ≤ total_slots segments =

@@ -11,7 +11,7 @@ use Rattle.plan_cert.specs.Reading.{IsNamed}
 use Rattle.plan_cert.specs.Feasible.{excess}
 use Rattle.plan_cert.proofs.SlotSums.{sum-take-slots_of}
 use Rattle.plan_cert.proofs.Grammar.{head_text}
-use Rattle.plan_cert.proofs.OneText.{one_text}
+use Rattle.plan_cert.proofs.OneText.{Contents, one_text}
 
 abbrev ended : List ℕ → List ℕ
 ended line = line ++ codes "\n"
@@ -35,14 +35,27 @@ text_lines segments =
     let whole : cert_text segments ≡ cert_head (total_slots segments) (total_bytes segments) ++ body =
     append_assoc (cert_head (total_slots segments) (total_bytes segments)) (flat_map segment_line segments) (codes "end\n")
     ∙ ap (λ l. cert_head (total_slots segments) (total_bytes segments) ++ l) (body_lines segments) in
-    whole ∙ sym (head_text body (total_slots segments) (total_bytes segments)
-    refl refl (append_assoc slots (codes "\n") third) refl (append_assoc bytes (codes "\n") body) refl)
+    whole ∙ sym (head_text body (total_slots segments) (total_bytes segments) (record {
+      title_cut = refl;
+      title_is = refl;
+      slots_cut = append_assoc slots (codes "\n") third;
+      slots_is = refl;
+      bytes_cut = append_assoc bytes (codes "\n") body;
+      bytes_is = refl;
+    }))
 
 pub one_list : (segments others : List Segment) → IsNamed segments → IsNamed others → cert_text segments ≡ cert_text others → segments ≡ others
 one_list segments others one other e =
-    let same = one_text (total_slots segments) (total_bytes segments) segments (total_slots others) (total_bytes others) others
-    one.few_slots one.few_bytes one.small.small other.few_slots other.few_bytes other.small.small e in
-    same.segments_are
+    let contents = λ (list : List Segment) (is : IsNamed list).
+    let told : Contents = record {
+      slots = total_slots list;
+      bytes = total_bytes list;
+      segments = list;
+      few_slots = is.few_slots;
+      few_bytes = is.few_bytes;
+      few = is.small.small;
+    } in told in
+    (one_text (contents segments one) (contents others other) e).segments_are
 
 pub excess_parts : (x : List ℕ) (p q : ℕ) → excess x p q + sum_by (λ b. min (q * b) p) x ≡ q * sum x
 excess_parts [] p q = omega arith

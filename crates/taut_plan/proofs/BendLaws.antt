@@ -8,7 +8,7 @@ use Rattle.taut_plan.specs.declared.points.Side.TheVariants.{Lower, Upper}
 use Rattle.taut_plan.specs.Slopes.{IsWithin, IsInside, other_side}
 use Rattle.taut_plan.specs.Chain.{on_curve, IsChain}
 use Rattle.taut_plan.specs.Funnel.{KeepsApart, IsCrossing, IsUncrossed}
-use Rattle.taut_plan.proofs.SlopeLaws.{within_within, inside_within, within_itself, inside_weaker, inside_not_within, turns_apart}
+use Rattle.taut_plan.proofs.SlopeLaws.{Seen, SeenCorner, within_within, inside_within, within_itself, inside_weaker, inside_not_within, turns_apart}
 
 -- on the other side the order is turned
 pub other_within : (side : Side) (o a b : Point) → IsWithin (other_side side) o a b → IsWithin side o b a
@@ -90,7 +90,8 @@ own_moves {side} {curve} {other} {t} {s} {o} {b} (p ∷ rest) chain corner =
     let gone = corner.before_new in
     elim (cases_lt p.place t) [
       | inl lt ↦ (let within_p : IsWithin side o p b = subst (λ h. IsWithin side o (record { place = p.place; height = h }) b) (sym on) (corner.own_within p.place later lt) in
-          let new = inside_within side o (on_curve curve t) p b corner.later (edge.beyond t lt (omega arith)) within_p in
+          let seen : Seen = record { from = o; first = on_curve curve t; second = p; third = b } in
+          let new = inside_within side seen corner.later (edge.beyond t lt (omega arith)) within_p in
           absurd (inside_not_within side o b (on_curve curve t) corner.crossed (inside_weaker side o (on_curve curve t) b new)))
       | inr ge ↦ (let at : p.place ≡ t = omega (arith, ge, near) in
           let is : p ≡ on_curve curve t = is_on_curve curve p on ∙ ap (on_curve curve) at in
@@ -101,7 +102,16 @@ own_moves {side} {curve} {other} {t} {s} {o} {b} (p ∷ rest) chain corner =
               on = on;
               before = λ j past upto. elim (cases_lt j t) [
                 | inl old ↦ (let first = corner.later in
-                    turns_apart side o b (on_curve curve j) p first (omega (arith, past)) (omega (arith, at, gone)) (corner.own_within j (omega (arith, past, first)) old) out)
+                    let seen : SeenCorner = record {
+                      from = o;
+                      corner = b;
+                      one = on_curve curve j;
+                      other = p;
+                      ahead = first;
+                      one_beyond = omega (arith, past);
+                      other_beyond = omega (arith, at, gone);
+                    } in
+                    turns_apart side seen (corner.own_within j (omega (arith, past, first)) old) out)
                 | inr new ↦ (let same : j ≡ t = omega (arith, new, upto, at) in
                     let e : p ≡ on_curve curve j = is ∙ ap (on_curve curve) (sym same) in
                     subst (λ q. IsWithin side b (on_curve curve j) q) (sym e) (within_itself side b (on_curve curve j)))
@@ -127,22 +137,31 @@ crossing_moves {side} {curve} {other} {s} {o} {own} {b} state corner =
       others = state.others.1;
       apart = record {
         apart = λ i j i_past i_before j_past j_upto.
-            turns_apart side o b (on_curve curve i) (on_curve other j) first (omega (arith, i_past)) (omega (arith, j_past))
-            (corner.own_within i (omega (arith, i_past, first)) i_before)
+            let seen : SeenCorner = record {
+              from = o;
+              corner = b;
+              one = on_curve curve i;
+              other = on_curve other j;
+              ahead = first;
+              one_beyond = omega (arith, i_past);
+              other_beyond = omega (arith, j_past);
+            } in
+            turns_apart side seen (corner.own_within i (omega (arith, i_past, first)) i_before)
             (inside_weaker side o b (on_curve other j) (corner.others_after j j_past j_upto));
       };
     }
 
 -- The new point stands within the other chain: so the curves stand apart with it.
-uncrossed_within : {s : ℕ} (side : Side) (curve other : ℕ → ℕ) (t : ℕ) (o : Point) (chain : List Point)
-    → IsChain (other_side side) other s o chain
-    → IsUncrossed side o chain (on_curve curve t) → (j : ℕ) → o.place < j → j ≤ s
+uncrossed_within : {side : Side} {curve other : ℕ → ℕ} {t s : ℕ} {o : Point} {own others : List Point}
+    → IsCrossing side curve other t s o own others
+    → IsUncrossed side o others (on_curve curve t) → (j : ℕ) → o.place < j → j ≤ s
     → IsWithin side o (on_curve curve t) (on_curve other j)
-uncrossed_within {s} side curve other t o [] at_end un j after upto = absurd (omega (arith, at_end, after, upto))
-uncrossed_within {s} side curve other t o (b ∷ rest) chain un j after upto =
-    let edge = chain.0 in
+uncrossed_within {s} {others = []} state un j after upto = absurd (omega (arith, state.others, after, upto))
+uncrossed_within {side} {curve} {other} {t} {o} {others = b ∷ rest} state un j after upto =
+    let edge = state.others.0 in
     let later = edge.later in
-    within_within side o (on_curve curve t) b (on_curve other j) later un
+    let seen : Seen = record { from = o; first = on_curve curve t; second = b; third = on_curve other j } in
+    within_within side seen later un
     (elim (cases_lt b.place j) [
       | inl beyond ↦ inside_weaker side o b (on_curve other j) (other_inside side o (on_curve other j) b (edge.beyond j beyond upto))
       | inr before ↦ other_within side o (on_curve other j) b (edge.before j after before)
@@ -151,11 +170,11 @@ uncrossed_within {s} side curve other t o (b ∷ rest) chain un j after upto =
 pub apart_again : {side : Side} {curve other : ℕ → ℕ} {t s : ℕ} {o : Point} {own others : List Point}
     → IsCrossing side curve other t s o own others
     → IsUncrossed side o others (on_curve curve t) → KeepsApart side curve other (t + 1) s o
-apart_again {side} {curve} {other} {t} {s} {o} {others} state un = record {
+apart_again {side} {curve} {other} {t} {s} {o} {own} state un = record {
   apart = λ i j i_after i_before j_after j_upto.
       elim (cases_lt i t) [
         | inl old ↦ state.apart.apart i j i_after old j_after j_upto
         | inr new ↦ (let e : t ≡ i = omega (arith, new, i_before) in
-            subst (λ k. IsWithin side o (on_curve curve k) (on_curve other j)) e (uncrossed_within side curve other t o others state.others un j j_after j_upto))
+            subst (λ k. IsWithin side o (on_curve curve k) (on_curve other j)) e (uncrossed_within {own = own} state un j j_after j_upto))
       ];
 }

@@ -5,7 +5,7 @@ use Rattle.taut_plan.specs.declared.points.Point.{Point}
 use Rattle.taut_plan.specs.declared.points.Side.{Side}
 use Rattle.taut_plan.specs.Slopes.{IsWithin, IsInside}
 use Rattle.taut_plan.specs.Chain.{on_curve, IsFurthest, IsChain, last_point}
-use Rattle.taut_plan.proofs.SlopeLaws.{within_within, within_itself, inside_weaker, turns_on}
+use Rattle.taut_plan.proofs.SlopeLaws.{Seen, SeenCorner, within_within, within_itself, inside_weaker, turns_on}
 
 -- A chain up to place s that place s + 1 is to join: beyond its last point, place s + 1 is the furthest out.
 abbrev pub IsOpen : Side → (ℕ → ℕ) → ℕ → Point → List Point → Type 0
@@ -17,21 +17,32 @@ pub chain_opens : (side : Side) (curve : ℕ → ℕ) (s : ℕ) (o : Point) (cha
 chain_opens side curve s o [] at_end = (omega (arith, at_end), λ j later near. absurd (omega (arith, at_end, later, near)))
 chain_opens side curve s o (p ∷ rest) chain = (chain.0, chain_opens side curve s p rest chain.1)
 
--- the last point leaves, since place s + 1 stands at least as far out as it
-pub open_pops : (side : Side) (curve : ℕ → ℕ) (s : ℕ) (o : Point) (front : List Point) (q : Point)
-    → IsOpen side curve s o (front ++ q ∷ []) → IsWithin side (last_point o front) q (on_curve curve (s + 1))
-    → IsOpen side curve s o front
-open_pops side curve s o [] q open_ out =
+-- a side's curve, and the place up to which it is read
+pub record ReadCurve : Type 0 where
+  pub side : Side
+  pub curve : ℕ → ℕ
+  pub last : ℕ
+
+-- the last point leaves, since the next place stands at least as far out as it
+pub open_pops : (read : ReadCurve) (o : Point) (front : List Point) (q : Point)
+    → IsOpen read.side read.curve read.last o (front ++ q ∷ [])
+    → IsWithin read.side (last_point o front) q (on_curve read.curve (read.last + 1))
+    → IsOpen read.side read.curve read.last o front
+open_pops read o [] q open_ out =
     let edge = open_.0 in
     let later = edge.later in
     let near = edge.near in (
       omega (arith, later, near),
-      λ j after upto. elim (cases_lt q.place j) [
-        | inl beyond ↦ within_within side o (on_curve curve j) q (on_curve curve (s + 1)) later (inside_weaker side o (on_curve curve j) q (edge.beyond j beyond upto)) out
-        | inr before ↦ within_within side o (on_curve curve j) q (on_curve curve (s + 1)) later (edge.before j after before) out
-      ],
+      λ j after upto.
+          let seen : Seen = record { from = o; first = on_curve curve j; second = q; third = on_curve curve (s + 1) } in
+          elim (cases_lt q.place j) [
+            | inl beyond ↦ within_within side seen later (inside_weaker side o (on_curve curve j) q (edge.beyond j beyond upto)) out
+            | inr before ↦ within_within side seen later (edge.before j after before) out
+          ],
     )
-open_pops side curve s o (p ∷ front) q open_ out = (open_.0, open_pops side curve s p front q open_.1 out)
+  where
+    open read use {side, curve, last as s}
+open_pops read o (p ∷ front) q open_ out = (open_.0, open_pops read p front q open_.1 out)
 
 -- where nothing is left, place s + 1 is the whole chain
 pub open_joins_alone : (side : Side) (curve : ℕ → ℕ) (s : ℕ) (o : Point) → IsOpen side curve s o []
@@ -68,7 +79,16 @@ turns_before {side} {curve} {s} {o} {p} (x ∷ rest) edge open_ turns =
     let three = next.near in
     let same = next.on in
     let beyond = edge.beyond x.place two three in
-    turns_on side o p x (on_curve curve (s + 1)) one two (omega (arith, two, three)) (subst (λ y. IsInside side o (record { place = x.place; height = y }) p) (sym same) beyond) turns
+    let seen : SeenCorner = record {
+      from = o;
+      corner = p;
+      one = x;
+      other = on_curve curve (s + 1);
+      ahead = one;
+      one_beyond = omega (arith, two);
+      other_beyond = omega (arith, two, three);
+    } in
+    turns_on side seen (omega (arith, two, three)) (subst (λ y. IsInside side o (record { place = x.place; height = y }) p) (sym same) beyond) turns
 
 -- the edge of a point that place s + 1 stands inside of goes on
 longer : {side : Side} {curve : ℕ → ℕ} {s : ℕ} {o p : Point} → IsFurthest side curve s o p

@@ -10,22 +10,31 @@ use Rattle.taut_plan.specs.declared.points.Side.TheVariants.{Lower, Upper}
 use Rattle.taut_plan.specs.Slopes.{slope_le, slope_lt, IsWithin, IsInside, other_side}
 use Rattle.taut_plan.specs.Chain.{on_curve}
 use Rattle.taut_plan.specs.Funnel.{IsBand, KeepsApart, curve_on}
-use Rattle.taut_plan.specs.Path.{GoesOn, IsPath, IsWhole, segment_to}
+use Rattle.taut_plan.specs.Path.{GoesOn, IsPath, IsTautPath, segment_to}
 use Rattle.taut_plan.proofs.BendLaws.{IsCorner}
 use Rattle.taut_plan.proofs.PathLaws.{IsRise, IsFall, goes_on_rise, goes_on_fall}
 
--- The ray of n slots and b bytes from height v, where h is its end, against a height y at offset i.
-ray_le : {h : ℕ} (v n b i y : ℕ) → h ≡ v + b → slope_le v n h i y → v * n + i * b ≤ y * n
-ray_le {h} v n b i y is le = let e : i * h ≡ i * (v + b) = ap (λ x. i * x) is in omega (arith, le, e)
+-- a ray, from a height
+record Ray : Type 0 where
+  pub height : ℕ
+  pub slots : ℕ
+  pub bytes : ℕ
 
-ray_lt : {h : ℕ} (v n b i y : ℕ) → h ≡ v + b → slope_lt v n h i y → v * n + i * b < y * n
-ray_lt {h} v n b i y is lt = let e : i * h ≡ i * (v + b) = ap (λ x. i * x) is in omega (arith, lt, e)
+abbrev ray_to : Point → Point → Ray
+ray_to from to = record { height = from.height; slots = to.place - from.place; bytes = to.height - from.height }
 
-ray_ge : {h : ℕ} (v n b i y : ℕ) → h ≡ v + b → slope_le v i y n h → y * n ≤ v * n + i * b
-ray_ge {h} v n b i y is le = let e : i * h ≡ i * (v + b) = ap (λ x. i * x) is in omega (arith, le, e)
+-- The ray, where h is its end, against a height y at offset i.
+ray_le : {h : ℕ} (ray : Ray) (i y : ℕ) → h ≡ ray.height + ray.bytes → slope_le ray.height ray.slots h i y → ray.height * ray.slots + i * ray.bytes ≤ y * ray.slots
+ray_le {h} ray i y is le = let e : i * h ≡ i * (ray.height + ray.bytes) = ap (λ x. i * x) is in omega (arith, le, e)
 
-ray_gt : {h : ℕ} (v n b i y : ℕ) → h ≡ v + b → slope_lt v i y n h → y * n < v * n + i * b
-ray_gt {h} v n b i y is lt = let e : i * h ≡ i * (v + b) = ap (λ x. i * x) is in omega (arith, lt, e)
+ray_lt : {h : ℕ} (ray : Ray) (i y : ℕ) → h ≡ ray.height + ray.bytes → slope_lt ray.height ray.slots h i y → ray.height * ray.slots + i * ray.bytes < y * ray.slots
+ray_lt {h} ray i y is lt = let e : i * h ≡ i * (ray.height + ray.bytes) = ap (λ x. i * x) is in omega (arith, lt, e)
+
+ray_ge : {h : ℕ} (ray : Ray) (i y : ℕ) → h ≡ ray.height + ray.bytes → slope_le ray.height i y ray.slots h → y * ray.slots ≤ ray.height * ray.slots + i * ray.bytes
+ray_ge {h} ray i y is le = let e : i * h ≡ i * (ray.height + ray.bytes) = ap (λ x. i * x) is in omega (arith, le, e)
+
+ray_gt : {h : ℕ} (ray : Ray) (i y : ℕ) → h ≡ ray.height + ray.bytes → slope_lt ray.height i y ray.slots h → y * ray.slots < ray.height * ray.slots + i * ray.bytes
+ray_gt {h} ray i y is lt = let e : i * h ≡ i * (ray.height + ray.bytes) = ap (λ x. i * x) is in omega (arith, lt, e)
 
 -- The same over points, at an offset from the first one.
 line_below : (curve : ℕ → ℕ) (o b : Point) (i : ℕ) → o.height ≤ b.height
@@ -33,7 +42,7 @@ line_below : (curve : ℕ → ℕ) (o b : Point) (i : ℕ) → o.height ≤ b.he
     → o.height * (b.place - o.place) + i * (b.height - o.height) ≤ curve (o.place + i) * (b.place - o.place)
 line_below curve o b i up h =
     let e : (o.place + i) - o.place ≡ i = omega arith in
-    ray_le o.height (b.place - o.place) (b.height - o.height) i (curve (o.place + i)) (omega (arith, up))
+    ray_le (ray_to o b) i (curve (o.place + i)) (omega (arith, up))
     (subst (λ d. slope_le o.height (b.place - o.place) b.height d (curve (o.place + i))) e h)
 
 line_under : (curve : ℕ → ℕ) (o b : Point) (i : ℕ) → o.height ≤ b.height
@@ -41,7 +50,7 @@ line_under : (curve : ℕ → ℕ) (o b : Point) (i : ℕ) → o.height ≤ b.he
     → o.height * (b.place - o.place) + i * (b.height - o.height) < curve (o.place + i) * (b.place - o.place)
 line_under curve o b i up h =
     let e : (o.place + i) - o.place ≡ i = omega arith in
-    ray_lt o.height (b.place - o.place) (b.height - o.height) i (curve (o.place + i)) (omega (arith, up))
+    ray_lt (ray_to o b) i (curve (o.place + i)) (omega (arith, up))
     (subst (λ d. slope_lt o.height (b.place - o.place) b.height d (curve (o.place + i))) e h)
 
 line_above : (curve : ℕ → ℕ) (o b : Point) (i : ℕ) → o.height ≤ b.height
@@ -49,7 +58,7 @@ line_above : (curve : ℕ → ℕ) (o b : Point) (i : ℕ) → o.height ≤ b.he
     → curve (o.place + i) * (b.place - o.place) ≤ o.height * (b.place - o.place) + i * (b.height - o.height)
 line_above curve o b i up h =
     let e : (o.place + i) - o.place ≡ i = omega arith in
-    ray_ge o.height (b.place - o.place) (b.height - o.height) i (curve (o.place + i)) (omega (arith, up))
+    ray_ge (ray_to o b) i (curve (o.place + i)) (omega (arith, up))
     (subst (λ d. slope_le o.height d (curve (o.place + i)) (b.place - o.place) b.height) e h)
 
 line_over : (curve : ℕ → ℕ) (o b : Point) (i : ℕ) → o.height ≤ b.height
@@ -57,22 +66,28 @@ line_over : (curve : ℕ → ℕ) (o b : Point) (i : ℕ) → o.height ≤ b.hei
     → curve (o.place + i) * (b.place - o.place) < o.height * (b.place - o.place) + i * (b.height - o.height)
 line_over curve o b i up h =
     let e : (o.place + i) - o.place ≡ i = omega arith in
-    ray_gt o.height (b.place - o.place) (b.height - o.height) i (curve (o.place + i)) (omega (arith, up))
+    ray_gt (ray_to o b) i (curve (o.place + i)) (omega (arith, up))
     (subst (λ d. slope_lt o.height d (curve (o.place + i)) (b.place - o.place) b.height) e h)
 
 -- at the start of a ray
-starts_above : (curve : ℕ → ℕ) (k v n b i : ℕ) → i ≤ 0 → curve k ≤ v → curve (k + i) * n ≤ v * n + i * b
-starts_above curve k v n b i none le =
+starts_above : (curve : ℕ → ℕ) (k : ℕ) (ray : Ray) (i : ℕ) → i ≤ 0 → curve k ≤ ray.height
+    → curve (k + i) * ray.slots ≤ ray.height * ray.slots + i * ray.bytes
+starts_above curve k ray i none le =
     let e : k ≡ k + i = omega (arith, none) in
     let up : curve k * n ≤ v * n = mul-le-mul_right n le in
     subst (λ p. curve p * n ≤ v * n + i * b) e (omega (arith, up))
+  where
+    open ray use {height as v, slots as n, bytes as b}
 
-starts_below : (curve : ℕ → ℕ) (k v n b i : ℕ) → i ≤ 0 → v ≤ curve k → v * n + i * b ≤ curve (k + i) * n
-starts_below curve k v n b i none le =
+starts_below : (curve : ℕ → ℕ) (k : ℕ) (ray : Ray) (i : ℕ) → i ≤ 0 → ray.height ≤ curve k
+    → ray.height * ray.slots + i * ray.bytes ≤ curve (k + i) * ray.slots
+starts_below curve k ray i none le =
     let e : k ≡ k + i = omega (arith, none) in
     let z : 0 ≡ i = omega (arith, none) in
     let up : v * n ≤ curve k * n = mul-le-mul_right n le in
     subst (λ p. v * n + i * b ≤ curve p * n) e (subst (λ j. v * n + j * b ≤ curve k * n) z (omega (arith, up)))
+  where
+    open ray use {height as v, slots as n, bytes as b}
 
 -- a corner of the upper chain
 pub rise_of_corner : {lo hi : ℕ → ℕ} {t s : ℕ} {o b : Point} → IsCorner Lower lo hi t s o b → t ≤ s + 1
@@ -93,11 +108,11 @@ rise_of_corner {lo} {hi} {t} {s} {o} {b} corner newest above below up ordered =
       on = let e : o.height + (b.height - o.height) ≡ b.height = omega (arith, up) in e ∙ (corner.on ∙ ap hi (sym end));
       above = λ i upto. elim (cases_lt 0 i) [
         | inl pos ↦ line_above lo o b i up (corner.own_within (o.place + i) (omega (arith, pos)) (omega (arith, upto, end, new)))
-        | inr none ↦ starts_above lo o.place o.height n (b.height - o.height) i none above
+        | inr none ↦ starts_above lo o.place (ray_to o b) i none above
       ];
       below = λ i upto. elim (cases_lt 0 i) [
         | inl pos ↦ line_below hi o b i up (corner.others_beyond (o.place + i) (omega (arith, pos)) (omega (arith, upto, end)))
-        | inr none ↦ starts_below hi o.place o.height n (b.height - o.height) i none below
+        | inr none ↦ starts_below hi o.place (ray_to o b) i none below
       ];
       far = t - o.place;
       later = omega (arith, later, new);
@@ -131,11 +146,11 @@ fall_of_corner {lo} {hi} {t} {s} {o} {b} corner newest above below up ordered =
       on = let e : o.height + (b.height - o.height) ≡ b.height = omega (arith, up) in e ∙ (corner.on ∙ ap lo (sym end));
       above = λ i upto. elim (cases_lt 0 i) [
         | inl pos ↦ line_above lo o b i up (corner.others_beyond (o.place + i) (omega (arith, pos)) (omega (arith, upto, end)))
-        | inr none ↦ starts_above lo o.place o.height n (b.height - o.height) i none above
+        | inr none ↦ starts_above lo o.place (ray_to o b) i none above
       ];
       below = λ i upto. elim (cases_lt 0 i) [
         | inl pos ↦ line_below hi o b i up (corner.own_within (o.place + i) (omega (arith, pos)) (omega (arith, upto, end, new)))
-        | inr none ↦ starts_below hi o.place o.height n (b.height - o.height) i none below
+        | inr none ↦ starts_below hi o.place (ray_to o b) i none below
       ];
       far = t - o.place;
       later = omega (arith, later, new);
@@ -150,36 +165,43 @@ fall_of_corner {lo} {hi} {t} {s} {o} {b} corner newest above below up ordered =
       ];
     }
 
-above_start : (v t z n h : ℕ) → slope_lt v t z n h → v ≤ z → v < h
-above_start v t z n h lt le =
+above_start : {z : ℕ} (v t n h : ℕ) → slope_lt v t z n h → v ≤ z → v < h
+above_start {z} v t n h lt le =
     let up : n * v ≤ n * z = mul-le-mul_left n le in
     let all : t * v < t * h = omega (arith, lt, up) in
     lt_of_mul-lt-mul_left t all
 
+-- the new point's place t, after o and of the curves' places up to n: the other chain is read up to s, which is t or t - 1
+pub record IsNewPlace (n t s : ℕ) (o : Point) : Type 0 where
+  pub fits : t ≤ n
+  pub newest : t ≤ s + 1
+  pub not_past : s ≤ t
+  pub beyond : o.place < t
+
 -- the line never falls to a corner
-pub corner_rises : {side : Side} {lo hi : ℕ → ℕ} {from n t s : ℕ} {o b : Point} → IsBand lo hi from n → t ≤ n
-    → s ≤ t → o.place < t → o.height ≤ hi o.place
+pub corner_rises : {side : Side} {lo hi : ℕ → ℕ} {from n t s : ℕ} {o b : Point} → IsBand lo hi from n
+    → IsNewPlace n t s o → o.height ≤ hi o.place
     → IsCorner side (curve_on lo hi side) (curve_on lo hi (other_side side)) t s o b → o.height ≤ b.height
-corner_rises {side = Lower} {lo} {from} {s} {o} {b} band fits most past below corner =
+corner_rises {side = Lower} {lo} {from} {s} {o} {b} band new below corner =
     let later = corner.later in
     let near = corner.near in
     let on = corner.on in
-    let up = band.high_rises o.place b.place (omega (arith, later)) (omega (arith, near, most, fits)) in
+    let up = band.high_rises o.place b.place (omega (arith, later)) (omega (arith, near, new.not_past, new.fits)) in
     omega (arith, below, up, on)
-corner_rises {side = Upper} {lo} {hi} {from} {t} {s} {o} {b} band fits most past below corner =
-    let up = band.high_rises o.place t (omega (arith, past)) fits in
-    let lt = above_start o.height (t - o.place) (hi t) (b.place - o.place) b.height corner.crossed (omega (arith, below, up)) in
+corner_rises {side = Upper} {lo} {hi} {from} {t} {s} {o} {b} band new below corner =
+    let up = band.high_rises o.place t (omega (arith, new.beyond)) new.fits in
+    let lt = above_start o.height (t - o.place) (b.place - o.place) b.height corner.crossed (omega (arith, below, up)) in
     omega (arith, lt)
 
 -- the path goes on to a corner
 pub path_bends : {side : Side} {lo hi : ℕ → ℕ} {from n t s : ℕ} {o b : Point} {segments : List Segment}
-    → IsBand lo hi from n → t ≤ n → t ≤ s + 1 → s ≤ t → o.place < t
-    → IsPath lo hi from o segments → IsCorner side (curve_on lo hi side) (curve_on lo hi (other_side side)) t s o b
+    → IsBand lo hi from n → IsNewPlace n t s o → IsPath lo hi from o segments
+    → IsCorner side (curve_on lo hi side) (curve_on lo hi (other_side side)) t s o b
     → IsPath lo hi from b (segments ++ segment_to o b ∷ [])
-path_bends {side} {lo} {hi} {from} {n} {t} {s} {o} {b} {segments} band fits newest most past path corner =
+path_bends {side} {lo} {hi} {from} {n} {t} {s} {o} {b} {segments} band new path corner =
     let later = corner.later in
     let near = corner.near in
-    let up = corner_rises band fits most past path.below corner in
+    let up = corner_rises band new path.below corner in
     let place : o.place + (b.place - o.place) ≡ b.place = omega (arith, later) in
     let height : o.height + (b.height - o.height) ≡ b.height = omega (arith, up) in
     let slots = path.slots in
@@ -187,33 +209,32 @@ path_bends {side} {lo} {hi} {from} {n} {t} {s} {o} {b} {segments} band fits newe
     record {
       slots = let e = sum_by_push (λ (x : Segment). x.slots) segments (segment_to o b) in omega (arith, e, slots, place);
       bytes = let e = sum_by_push (λ (x : Segment). x.bytes) segments (segment_to o b) in omega (arith, e, bytes, height);
-      above = stands_above side lo hi from n t s o b band fits most corner;
-      below = stands_below side lo hi from n t s o b band fits most corner;
+      above = stands_above side lo hi band new corner;
+      below = stands_below side lo hi band new corner;
       goes_on = subst (λ p. GoesOn lo hi from p b.height (segments ++ segment_to o b ∷ [])) place
           (subst (λ h. GoesOn lo hi from (o.place + (b.place - o.place)) h (segments ++ segment_to o b ∷ [])) height
-          (goes side lo hi from t s o b segments newest path (band.ordered t fits) up corner));
+          (goes side lo hi path (band.ordered t new.fits) up corner));
     }
   where
-    stands_above : (side : Side) (lo hi : ℕ → ℕ) (from n t s : ℕ) (o b : Point) → IsBand lo hi from n → t ≤ n → s ≤ t
+    stands_above : (side : Side) (lo hi : ℕ → ℕ) → IsBand lo hi from n → IsNewPlace n t s o
         → IsCorner side (curve_on lo hi side) (curve_on lo hi (other_side side)) t s o b → lo b.place ≤ b.height
-    stands_above Lower lo hi from n t s o b band fits most corner =
-        let near = corner.near in let on = corner.on in let le = band.ordered b.place (omega (arith, near, most, fits)) in omega (arith, on, le)
-    stands_above Upper lo hi from n t s o b band fits most corner = let on = corner.on in omega (arith, on)
+    stands_above Lower lo hi band new corner =
+        let near = corner.near in let on = corner.on in let le = band.ordered b.place (omega (arith, near, new.not_past, new.fits)) in omega (arith, on, le)
+    stands_above Upper lo hi band new corner = let on = corner.on in omega (arith, on)
 
-    stands_below : (side : Side) (lo hi : ℕ → ℕ) (from n t s : ℕ) (o b : Point) → IsBand lo hi from n → t ≤ n → s ≤ t
+    stands_below : (side : Side) (lo hi : ℕ → ℕ) → IsBand lo hi from n → IsNewPlace n t s o
         → IsCorner side (curve_on lo hi side) (curve_on lo hi (other_side side)) t s o b → b.height ≤ hi b.place
-    stands_below Lower lo hi from n t s o b band fits most corner = let on = corner.on in omega (arith, on)
-    stands_below Upper lo hi from n t s o b band fits most corner =
-        let near = corner.near in let on = corner.on in let le = band.ordered b.place (omega (arith, near, most, fits)) in omega (arith, on, le)
+    stands_below Lower lo hi band new corner = let on = corner.on in omega (arith, on)
+    stands_below Upper lo hi band new corner =
+        let near = corner.near in let on = corner.on in let le = band.ordered b.place (omega (arith, near, new.not_past, new.fits)) in omega (arith, on, le)
 
-    goes : (side : Side) (lo hi : ℕ → ℕ) (from t s : ℕ) (o b : Point) (segments : List Segment) → t ≤ s + 1
-        → IsPath lo hi from o segments → lo t ≤ hi t → o.height ≤ b.height
+    goes : (side : Side) (lo hi : ℕ → ℕ) → IsPath lo hi from o segments → lo t ≤ hi t → o.height ≤ b.height
         → IsCorner side (curve_on lo hi side) (curve_on lo hi (other_side side)) t s o b
         → GoesOn lo hi from (o.place + (b.place - o.place)) (o.height + (b.height - o.height)) (segments ++ segment_to o b ∷ [])
-    goes Lower lo hi from t s o b segments newest path ordered up corner =
-        goes_on_rise path.goes_on (rise_of_corner corner newest path.above path.below up ordered)
-    goes Upper lo hi from t s o b segments newest path ordered up corner =
-        goes_on_fall path.goes_on (fall_of_corner corner newest path.above path.below up ordered)
+    goes Lower lo hi path ordered up corner =
+        goes_on_rise path.goes_on (rise_of_corner corner new.newest path.above path.below up ordered)
+    goes Upper lo hi path ordered up corner =
+        goes_on_fall path.goes_on (fall_of_corner corner new.newest path.above path.below up ordered)
 
 pub path_rises : {lo hi : ℕ → ℕ} {from n : ℕ} {o : Point} {segments : List Segment} → IsBand lo hi from n
     → o.place < n → IsPath lo hi from o segments → o.height ≤ hi n
@@ -225,7 +246,7 @@ path_rises {lo} {from} {n} {o} band past path =
 -- the segments with the last one, to where the curves meet
 pub path_ends : {lo hi : ℕ → ℕ} {from n : ℕ} {o : Point} {segments : List Segment} → IsBand lo hi from n
     → o.place < n → IsPath lo hi from o segments
-    → KeepsApart Upper hi lo (n + 1) n o → IsWhole lo hi from n (segments ++ segment_to o (on_curve hi n) ∷ [])
+    → KeepsApart Upper hi lo (n + 1) n o → IsTautPath lo hi from n (segments ++ segment_to o (on_curve hi n) ∷ [])
 path_ends {lo} {hi} {from} {n} {o} {segments} band past path keeps =
     let up = band.high_rises o.place n (omega (arith, past)) (omega arith) in
     let below = path.below in
@@ -239,12 +260,12 @@ path_ends {lo} {hi} {from} {n} {o} {segments} band past path keeps =
     let on_low : o.height + (hi n - o.height) ≡ lo (o.place + d) = let e : o.height + (hi n - o.height) ≡ hi n = omega (arith, rises) in e ∙ (sym band.meet ∙ ap lo (sym end)) in
     let above : (i : ℕ) → i ≤ d → lo (o.place + i) * d ≤ o.height * d + i * (hi n - o.height) = λ i upto. elim (cases_lt 0 i) [
       | inl pos ↦ line_above lo o (on_curve hi n) i rises (keeps.apart n (o.place + i) past (omega arith) (omega (arith, pos)) (omega (arith, upto, end)))
-      | inr none ↦ starts_above lo o.place o.height d (hi n - o.height) i none path.above
+      | inr none ↦ starts_above lo o.place (ray_to o (on_curve hi n)) i none path.above
     ] in
     let under : (i : ℕ) → i ≤ d → o.height * d + i * (hi n - o.height) ≤ hi (o.place + i) * d = λ i upto. elim (cases_lt 0 i) [
       | inl pos ↦ line_below hi o (on_curve hi n) i rises (subst (λ h. IsWithin Lower o (record { place = n; height = h }) (on_curve hi (o.place + i))) band.meet
           (keeps.apart (o.place + i) n (omega (arith, pos)) (omega (arith, upto, end)) past (omega arith)))
-      | inr none ↦ starts_below hi o.place o.height d (hi n - o.height) i none below
+      | inr none ↦ starts_below hi o.place (ray_to o (on_curve hi n)) i none below
     ] in
     let some : 1 ≤ d = omega (arith, past) in
     record {

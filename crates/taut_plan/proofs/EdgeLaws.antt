@@ -5,7 +5,7 @@ use Rattle.taut_plan.specs.declared.points.Point.{Point}
 use Rattle.taut_plan.specs.declared.points.Side.{Side}
 use Rattle.taut_plan.specs.Slopes.{IsWithin, IsInside}
 use Rattle.taut_plan.specs.Chain.{on_curve, IsChain, last_point, IsLastEdge, IsPassed, IsHeld, IsReady, EdgesAscend}
-use Rattle.taut_plan.proofs.ChainLaws.{IsOpen, open_pops, open_joins, open_joins_alone}
+use Rattle.taut_plan.proofs.ChainLaws.{ReadCurve, IsOpen, open_pops, open_joins, open_joins_alone}
 
 last_point-push : (o : Point) (chain : List Point) (p : Point) → last_point o (chain ++ p ∷ []) ≡ p
 last_point-push o [] p = refl
@@ -29,17 +29,17 @@ edge_of_more {o} {chain} {first} {second} b many is_first is_second = record {
 }
 
 -- the edges of a chain that is open for place s + 1
-open_ascends : (side : Side) (curve : ℕ → ℕ) (s : ℕ) (o : Point) (front : List Point) (q : Point)
-    → IsOpen side curve s o (front ++ q ∷ [])
-    → ((last_point o front).place ≤ q.place) × (q.place ≤ s + 1)
-open_ascends side curve s o [] q open_ = let later = open_.0.later in let near = open_.0.near in (omega (arith, later), omega (arith, near))
-open_ascends side curve s o (p ∷ front) q open_ = open_ascends side curve s p front q open_.1
+open_ascends : (read : ReadCurve) (o : Point) (front : List Point) (q : Point)
+    → IsOpen read.side read.curve read.last o (front ++ q ∷ [])
+    → ((last_point o front).place ≤ q.place) × (q.place ≤ read.last + 1)
+open_ascends read o [] q open_ = let later = open_.0.later in let near = open_.0.near in (omega (arith, later), omega (arith, near))
+open_ascends read o (p ∷ front) q open_ = open_ascends read p front q open_.1
 
 pub edges_ascend : {o : Point} {chain : List Point} {point : Point} (side : Side) (curve : ℕ → ℕ) (s : ℕ)
     → point ≡ on_curve curve (s + 1) → IsOpen side curve s o chain
     → EdgesAscend o chain point
 edges_ascend {o} {chain} {point} side curve s is open_ first second edge =
-    let up = open_ascends side curve s o edge.front second (subst (IsOpen side curve s o) edge.is open_) in
+    let up = open_ascends (record { side = side; curve = curve; last = s }) o edge.front second (subst (IsOpen side curve s o) edge.is open_) in
     (subst (λ (p : Point). p.place ≤ second.place) (sym edge.begins) up.0, subst (λ (p : Point). second.place ≤ p.place) (sym is) up.1)
 
 -- what is left without the last point
@@ -58,7 +58,8 @@ pop_step {side} {o} {old} {new} {point} curve s is open_ passed left =
     let out : IsWithin side (last_point o edge.front) passed.second (on_curve curve (s + 1)) =
     subst (λ p. IsWithin side (last_point o edge.front) passed.second p) is (subst (λ f. IsWithin side f passed.second point) edge.begins passed.passed) in
     let e : new ≡ edge.front = left ∙ without_last old edge.front passed.second edge.is in
-    subst (IsOpen side curve s o) (sym e) (open_pops side curve s o edge.front passed.second (subst (IsOpen side curve s o) edge.is open_) out)
+    subst (IsOpen side curve s o) (sym e)
+    (open_pops (record { side = side; curve = curve; last = s }) o edge.front passed.second (subst (IsOpen side curve s o) edge.is open_) out)
 
 -- the new point joins
 pub join_step : {side : Side} {o : Point} {old : List Point} {point : Point} (curve : ℕ → ℕ) (s : ℕ)

@@ -54,7 +54,7 @@ joins {side} {curve} {s} {o} (suc n) (p ∷ rest) few open_ =
     let same : IsOpen side curve s o (e.front ++ e.last ∷ []) = subst (IsOpen side curve s o) e.is open_ in
     elim (further side (last_point o e.front) (on_curve curve (s + 1)) e.last) [
       | inl turns ↦ record { chain = (e.front ++ e.last ∷ []) ++ on_curve curve (s + 1) ∷ []; is = (open_joins e.front e.last same turns).joined }
-      | inr out ↦ joins n e.front (omega (arith, few, ap length e.is, length-append e.front (e.last ∷ []))) (open_pops side curve s o e.front e.last same out)
+      | inr out ↦ joins n e.front (omega (arith, few, ap length e.is, length-append e.front (e.last ∷ []))) (open_pops (record { side = side; curve = curve; last = s }) o e.front e.last same out)
     ]
 
 -- ---- one side takes in the next slot's end
@@ -86,7 +86,7 @@ crosses {side} {lo} {hi} {from} {n} {t} {s} {o} {segments} {own} {others = corne
     elim (further side o corner point) [
       | inl out ↦ (
           let crossed : IsCrossed side o (corner ∷ rest) point corner = record { rest = rest; is = refl; crossed = out } in
-          let bent = bends_at band fits refl path state crossed refl in
+          let bent = bends_at {left = rest} band path state (record { point = point; point_is = refl; fits = fits; crossed = crossed; left_is = refl }) in
           crosses {side = side} {lo = lo} {hi = hi} {from = from} {n = n} {t = t} {s = s} {o = corner} {segments = segments ++ segment_to o corner ∷ []} {own = own} {others = rest} band fits bent.path bent.crossing
           )
       | inr within ↦ record {

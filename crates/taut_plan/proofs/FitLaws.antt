@@ -75,15 +75,18 @@ edges_fit {curve} {o} {chain} {point} side s is open_ o_fits all first second ed
       ends = subst Fits (sym is) (all (s + 1) (omega arith));
     }
 
-pub first_fits : {side : Side} {curve other : ℕ → ℕ} {t s : ℕ} {o : Point} {own others : List Point} {point : Point}
-    (n : ℕ)
-    → point ≡ on_curve curve t → IsCrossing side curve other t s o own others → t ≤ n → Fits o
-    → ((j : ℕ) → j ≤ n → Fits (on_curve curve j)) → ((j : ℕ) → j ≤ n → Fits (on_curve other j))
+-- the points of both curves up to place n are of a plan
+pub record BothFit (curve other : ℕ → ℕ) (n : ℕ) : Type 0 where
+  pub own : (j : ℕ) → j ≤ n → Fits (on_curve curve j)
+  pub others : (j : ℕ) → j ≤ n → Fits (on_curve other j)
+
+pub first_fits : {side : Side} {curve other : ℕ → ℕ} {n t s : ℕ} {o : Point} {own others : List Point} {point : Point}
+    → point ≡ on_curve curve t → IsCrossing side curve other t s o own others → t ≤ n → Fits o → BothFit curve other n
     → FirstFits o others point
-first_fits {other} {s} {others = []} {point} n is state fits o_fits all others_all = tt
-first_fits {other} {t} {s} {others = b ∷ rest} {point} n is state fits o_fits all others_all = record {
+first_fits {other} {s} {others = []} {point} is state fits o_fits all = tt
+first_fits {other} {t} {s} {others = b ∷ rest} {point} is state fits o_fits all = record {
   begins = o_fits;
   passes = let most = state.not_past in
-      furthest_fits state.others.0 (λ j le. others_all j (omega (arith, le, most, fits)));
-  ends = subst Fits (sym is) (all t fits);
+      furthest_fits state.others.0 (λ j le. all.others j (omega (arith, le, most, fits)));
+  ends = subst Fits (sym is) (all.own t fits);
 }

@@ -9,7 +9,7 @@ use Rattle.taut_plan.specs.Chain.{on_curve, IsChain}
 use Rattle.taut_plan.specs.Funnel.{IsBand, IsCrossing, IsCrossed, IsUncrossed, FirstIsBetween, IsFunnel, curve_on, others_known}
 use Rattle.taut_plan.specs.Path.{IsPath, segment_to}
 use Rattle.taut_plan.proofs.BendLaws.{IsOrdered, corner_of, crossing_moves, apart_again}
-use Rattle.taut_plan.proofs.CornerLaws.{corner_rises, path_bends}
+use Rattle.taut_plan.proofs.CornerLaws.{IsNewPlace, corner_rises, path_bends}
 
 pub known_least : (side : Side) (slot : ℕ) → slot ≤ others_known side slot
 known_least Lower slot = omega arith
@@ -60,23 +60,33 @@ pub record IsBent (side : Side) (lo hi : ℕ → ℕ) (from t s : ℕ) (o corner
   pub path : IsPath lo hi from corner (segments ++ segment_to o corner ∷ [])
   pub crossing : IsCrossing side (curve_on lo hi side) (curve_on lo hi (other_side side)) t s corner own others
 
+-- the new point, of the curve's place t, stands outside of the other chain's first edge, whose end leaves that chain
+pub record GivesWay (side : Side) (curve : ℕ → ℕ) (n t : ℕ) (o corner : Point) (others left : List Point) : Type 0 where
+  pub point : Point
+  pub point_is : point ≡ on_curve curve t
+  pub fits : t ≤ n
+  pub crossed : IsCrossed side o others point corner
+  pub left_is : left ≡ drop 1 others
+
 pub bends_at : {side : Side} {lo hi : ℕ → ℕ} {from n t s : ℕ} {o corner : Point} {segments : List Segment}
-    {own others left : List Point} {point : Point}
-    → IsBand lo hi from n → t ≤ n → point ≡ on_curve (curve_on lo hi side) t → IsPath lo hi from o segments
+    {own others left : List Point}
+    → IsBand lo hi from n → IsPath lo hi from o segments
     → IsCrossing side (curve_on lo hi side) (curve_on lo hi (other_side side)) t s o own others
-    → IsCrossed side o others point corner → left ≡ drop 1 others
+    → GivesWay side (curve_on lo hi side) n t o corner others left
     → IsBent side lo hi from t s o corner segments own left
-bends_at {side} {lo} {hi} {from} {t} {s} {o} {corner} {own} {left} {point} band fits is path state crossed gone =
+bends_at {side} {lo} {hi} {from} {n} {t} {s} {o} {corner} {own} {left} band path state way =
+    let crossed = way.crossed in
+    let new : IsNewPlace n t s o = record { fits = way.fits; newest = state.newest; not_past = state.not_past; beyond = state.beyond } in
     let state' : IsCrossing side (curve_on lo hi side) (curve_on lo hi (other_side side)) t s o own (corner ∷ crossed.rest) =
     subst (IsCrossing side (curve_on lo hi side) (curve_on lo hi (other_side side)) t s o own) crossed.is state in
-    let out : IsInside side o corner (on_curve (curve_on lo hi side) t) = subst (λ p. IsInside side o corner p) is crossed.crossed in
-    let there = corner_of state' (ordered_on side lo hi t (band.ordered t fits)) out in
-    let e : left ≡ crossed.rest = gone ∙ ap (drop 1) crossed.is in
+    let out : IsInside side o corner (on_curve (curve_on lo hi side) t) = subst (λ p. IsInside side o corner p) way.point_is crossed.crossed in
+    let there = corner_of state' (ordered_on side lo hi t (band.ordered t way.fits)) out in
+    let e : left ≡ crossed.rest = way.left_is ∙ ap (drop 1) crossed.is in
     let later = there.later in
     record {
       later = omega (arith, later);
-      higher = corner_rises band fits state.not_past state.beyond path.below there;
-      path = path_bends band fits state.newest state.not_past state.beyond path there;
+      higher = corner_rises band new path.below there;
+      path = path_bends band new path there;
       crossing = subst (IsCrossing side (curve_on lo hi side) (curve_on lo hi (other_side side)) t s corner own) (sym e)
           (crossing_moves state' there);
     }

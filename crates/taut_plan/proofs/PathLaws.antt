@@ -6,6 +6,7 @@ use Rattle.slope_frac.specs.Order.{IsBelow}
 use Rattle.plan_cert.specs.declared.Segment.{Segment}
 use Rattle.cert_check.specs.Line.{slope_of}
 use Rattle.cert_check.specs.Taut.{Bends, RunsTaut}
+use Rattle.cert_check.proofs.Unique.{Bend}
 use Rattle.taut_plan.specs.Path.{HasOneSlope, GoesOn}
 
 -- The line rises at the corner, which stands on the upper curve: n slots and b bytes from place k and height v.
@@ -31,59 +32,78 @@ pub record IsFall (lo hi : ℕ → ℕ) (k v : ℕ) (s : Segment) : Type 0 where
   pub free : (i : ℕ) → s.slots < i → i ≤ far → lo (k + i) * s.slots < v * s.slots + i * s.bytes
 
 -- a point above the first ray and on or below the second shows the second to be steeper
-steeper_by : (v n b n' b' i y : ℕ) → 1 ≤ n' → v * n + (n + i) * b < y * n → y * n' ≤ (v + b) * n' + i * b'
-    → b * n' < b' * n
-steeper_by v n b n' b' i y some above below =
-    let pos : 0 < n' = omega arith in
+steeper_by : (bend : Bend) (i y : ℕ)
+    → bend.height * bend.first.slots + (bend.first.slots + i) * bend.first.bytes < y * bend.first.slots
+    → y * bend.next.slots ≤ (bend.height + bend.first.bytes) * bend.next.slots + i * bend.next.bytes
+    → IsBelow (slope_of bend.first) (slope_of bend.next)
+steeper_by bend i y above below =
+    let pos : 0 < n' = omega (arith, bend.some) in
     let one : (v * n + (n + i) * b) * n' < y * n * n' = mul-lt-mul_of_pos_right above pos in
     let two : y * n' * n ≤ ((v + b) * n' + i * b') * n = mul-le-mul_right n below in
     let all : i * (b * n') < i * (b' * n) = omega (arith, one, two) in
     lt_of_mul-lt-mul_left i all
+  where
+    open bend use {height as v, first.{slots as n, bytes as b}, next.{slots as n', bytes as b'}}
 
-flatter_by : (v n b n' b' i y : ℕ) → 1 ≤ n' → y * n < v * n + (n + i) * b → (v + b) * n' + i * b' ≤ y * n'
-    → b' * n < b * n'
-flatter_by v n b n' b' i y some below above =
-    let pos : 0 < n' = omega arith in
+flatter_by : (bend : Bend) (i y : ℕ)
+    → y * bend.first.slots < bend.height * bend.first.slots + (bend.first.slots + i) * bend.first.bytes
+    → (bend.height + bend.first.bytes) * bend.next.slots + i * bend.next.bytes ≤ y * bend.next.slots
+    → IsBelow (slope_of bend.next) (slope_of bend.first)
+flatter_by bend i y below above =
+    let pos : 0 < n' = omega (arith, bend.some) in
     let one : y * n * n' < (v * n + (n + i) * b) * n' = mul-lt-mul_of_pos_right below pos in
     let two : ((v + b) * n' + i * b') * n ≤ y * n' * n = mul-le-mul_right n above in
     let all : i * (b' * n) < i * (b * n') = omega (arith, one, two) in
     lt_of_mul-lt-mul_left i all
+  where
+    open bend use {height as v, first.{slots as n, bytes as b}, next.{slots as n', bytes as b'}}
 
 -- two offsets one after the other
 offsets : (curve : ℕ → ℕ) (k n i : ℕ) → curve (k + n + i) ≡ curve (k + (n + i))
 offsets curve k n i = ap curve (omega arith)
 
-steeper_at : {lo hi : ℕ → ℕ} {k v : ℕ} {s : Segment} (next : Segment) → IsRise lo hi k v s → 1 ≤ next.slots → (i : ℕ) → 1 ≤ i
-    → hi (k + s.slots + i) * next.slots ≤ (v + s.bytes) * next.slots + i * next.bytes → (far : ℕ) → s.slots + i ≤ far
-    → ((j : ℕ) → s.slots < j → j ≤ far → v * s.slots + j * s.bytes < hi (k + j) * s.slots)
-    → IsBelow (slope_of s) (slope_of next)
-steeper_at {lo} {hi} {k} {v} {s} next rise some i later touches far within free =
-    steeper_by v s.slots s.bytes next.slots next.bytes i (hi (k + (s.slots + i))) some (free (s.slots + i) (omega (arith, later)) within)
-    (subst (λ h. h * next.slots ≤ (v + s.bytes) * next.slots + i * next.bytes) (offsets hi k s.slots i) touches)
+-- the meeting of the next segment's ray with the curve, at or before the place up to which the curve is beyond this one's
+record IsMetBy (bend : Bend) (far : ℕ) : Type 0 where
+  pub at : ℕ
+  pub later : 1 ≤ at
+  pub within : bend.first.slots + at ≤ far
 
-flatter_at : {lo hi : ℕ → ℕ} {k v : ℕ} {s : Segment} (next : Segment) → IsFall lo hi k v s → 1 ≤ next.slots → (i : ℕ) → 1 ≤ i
-    → (v + s.bytes) * next.slots + i * next.bytes ≤ lo (k + s.slots + i) * next.slots → (far : ℕ) → s.slots + i ≤ far
-    → ((j : ℕ) → s.slots < j → j ≤ far → lo (k + j) * s.slots < v * s.slots + j * s.bytes)
-    → IsBelow (slope_of next) (slope_of s)
-flatter_at {lo} {k} {v} {s} next fall some i later touches far within free =
-    flatter_by v s.slots s.bytes next.slots next.bytes i (lo (k + (s.slots + i))) some (free (s.slots + i) (omega (arith, later)) within)
+steeper_at : {lo hi : ℕ → ℕ} (bend : Bend) (rise : IsRise lo hi bend.place bend.height bend.first) (met : IsMetBy bend rise.far)
+    → hi (bend.place + bend.first.slots + met.at) * bend.next.slots ≤ (bend.height + bend.first.bytes) * bend.next.slots + met.at * bend.next.bytes
+    → IsBelow (slope_of bend.first) (slope_of bend.next)
+steeper_at {hi} bend rise met touches =
+    let i = met.at in
+    steeper_by bend i (hi (k + (s.slots + i))) (rise.free (s.slots + i) (omega (arith, met.later)) met.within)
+    (subst (λ h. h * next.slots ≤ (v + s.bytes) * next.slots + i * next.bytes) (offsets hi k s.slots i) touches)
+  where
+    open bend use {place as k, height as v, first as s, next}
+
+flatter_at : {lo hi : ℕ → ℕ} (bend : Bend) (fall : IsFall lo hi bend.place bend.height bend.first) (met : IsMetBy bend fall.far)
+    → (bend.height + bend.first.bytes) * bend.next.slots + met.at * bend.next.bytes ≤ lo (bend.place + bend.first.slots + met.at) * bend.next.slots
+    → IsBelow (slope_of bend.next) (slope_of bend.first)
+flatter_at {lo} bend fall met touches =
+    let i = met.at in
+    flatter_by bend i (lo (k + (s.slots + i))) (fall.free (s.slots + i) (omega (arith, met.later)) met.within)
     (subst (λ h. (v + s.bytes) * next.slots + i * next.bytes ≤ h * next.slots) (offsets lo k s.slots i) touches)
+  where
+    open bend use {place as k, height as v, first as s, next}
 
 rise_bends : {lo hi : ℕ → ℕ} {k v : ℕ} {s : Segment} (rest : List Segment) → IsRise lo hi k v s
     → HasOneSlope lo hi (k + s.slots) (v + s.bytes) rest
     → Bends lo hi (k + s.slots) (v + s.bytes) s rest
 rise_bends {lo} {s} [] rise one = tt
-rise_bends {lo} {k} {v} {s} (next ∷ rest) rise one =
+rise_bends {lo} {hi} {k} {v} {s} (next ∷ rest) rise one =
+    let bend : Bend = record { place = k; height = v; first = s; next = next; some = one.0 } in
     let meets = one.2 in
     let later = rise.later in
     let i = rise.far - s.slots in
     let is : s.slots + i ≡ rise.far = omega (arith, later) in
     inl (
       elim (cases_lt rise.far (s.slots + meets.far)) [
-        | inl past ↦ steeper_by v s.slots s.bytes next.slots next.bytes i (lo (k + rise.far)) one.0
+        | inl past ↦ steeper_by bend i (lo (k + rise.far))
             (subst (λ f. v * s.slots + f * s.bytes < lo (k + rise.far) * s.slots) (sym is) rise.leaves)
             (subst (λ h. h * next.slots ≤ (v + s.bytes) * next.slots + i * next.bytes) (offsets lo k s.slots i ∙ ap (λ f. lo (k + f)) is) (meets.free i (omega (arith, past, later))))
-        | inr within ↦ steeper_at next rise one.0 meets.far meets.later meets.touches rise.far within rise.free
+        | inr within ↦ steeper_at {lo = lo} {hi = hi} bend rise (record { at = meets.far; later = meets.later; within = within }) meets.touches
       ],
       rise.on,
     )
@@ -93,16 +113,17 @@ fall_bends : {lo hi : ℕ → ℕ} {k v : ℕ} {s : Segment} (rest : List Segmen
     → Bends lo hi (k + s.slots) (v + s.bytes) s rest
 fall_bends {lo} {s} [] fall one = tt
 fall_bends {lo} {hi} {k} {v} {s} (next ∷ rest) fall one =
+    let bend : Bend = record { place = k; height = v; first = s; next = next; some = one.0 } in
     let meets = one.1 in
     let later = fall.later in
     let i = fall.far - s.slots in
     let is : s.slots + i ≡ fall.far = omega (arith, later) in
     inr (
       elim (cases_lt fall.far (s.slots + meets.far)) [
-        | inl past ↦ flatter_by v s.slots s.bytes next.slots next.bytes i (hi (k + fall.far)) one.0
+        | inl past ↦ flatter_by bend i (hi (k + fall.far))
             (subst (λ f. hi (k + fall.far) * s.slots < v * s.slots + f * s.bytes) (sym is) fall.leaves)
             (subst (λ h. (v + s.bytes) * next.slots + i * next.bytes ≤ h * next.slots) (offsets hi k s.slots i ∙ ap (λ f. hi (k + f)) is) (meets.free i (omega (arith, past, later))))
-        | inr within ↦ flatter_at next fall one.0 meets.far meets.later meets.touches fall.far within fall.free
+        | inr within ↦ flatter_at {lo = lo} {hi = hi} bend fall (record { at = meets.far; later = meets.later; within = within }) meets.touches
       ],
       fall.on,
     )
@@ -146,18 +167,15 @@ fall_slope {lo} {k} {v} {s} rest fall =
       },
     )
 
-regroup : (lo hi : ℕ → ℕ) (from : ℕ) (segments rest : List Segment) (s : Segment)
-    → RunsTaut lo hi 0 from (segments ++ (s ∷ rest))
-    → RunsTaut lo hi 0 from ((segments ++ s ∷ []) ++ rest)
-regroup lo hi from segments rest s runs = let e : (segments ++ s ∷ []) ++ rest ≡ segments ++ (s ∷ rest) = append_assoc segments (s ∷ []) rest in
-    subst (λ segs. RunsTaut lo hi 0 from segs) (sym e) runs
+regroup : (segments rest : List Segment) (s : Segment) → segments ++ (s ∷ rest) ≡ (segments ++ s ∷ []) ++ rest
+regroup segments rest s = sym (append_assoc segments (s ∷ []) rest)
 
 pub goes_on_rise : {lo hi : ℕ → ℕ} {from k v : ℕ} {segments : List Segment} {s : Segment}
     → GoesOn lo hi from k v segments → IsRise lo hi k v s
     → GoesOn lo hi from (k + s.slots) (v + s.bytes) (segments ++ s ∷ [])
 goes_on_rise {lo} {hi} {from} {segments} {s} goes rise = record {
   on = λ rest one runs.
-      regroup lo hi from segments rest s (goes.on (s ∷ rest) (rise_slope rest rise)
+      subst (RunsTaut lo hi 0 from) (regroup segments rest s) (goes.on (s ∷ rest) (rise_slope rest rise)
       (record { some = rise.some; above = rise.above; below = rise.below }, rise_bends rest rise one, runs));
 }
 
@@ -166,6 +184,6 @@ pub goes_on_fall : {lo hi : ℕ → ℕ} {from k v : ℕ} {segments : List Segme
     → GoesOn lo hi from (k + s.slots) (v + s.bytes) (segments ++ s ∷ [])
 goes_on_fall {lo} {hi} {from} {segments} {s} goes fall = record {
   on = λ rest one runs.
-      regroup lo hi from segments rest s (goes.on (s ∷ rest) (fall_slope rest fall)
+      subst (RunsTaut lo hi 0 from) (regroup segments rest s) (goes.on (s ∷ rest) (fall_slope rest fall)
       (record { some = fall.some; above = fall.above; below = fall.below }, fall_bends rest fall one, runs));
 }

@@ -6,69 +6,136 @@ use Rattle.taut_plan.specs.declared.points.Side.{Side}
 use Rattle.taut_plan.specs.declared.points.Side.TheVariants.{Lower, Upper}
 use Rattle.taut_plan.specs.Slopes.{slope_le, slope_lt, IsWithin, IsInside}
 
-le_le : (v i y p h r z : ℕ) → 0 < p → slope_le v i y p h → slope_le v p h r z → slope_le v i y r z
-le_le v i y p h r z pos a b =
+-- from a height, a rise to point a is at most as steep as one to point b; places are offsets here
+abbrev IsFlatAs : ℕ → Point → Point → Type 0
+IsFlatAs v a b = slope_le v a.place a.height b.place b.height
+
+-- it is flatter
+abbrev IsFlatter : ℕ → Point → Point → Type 0
+IsFlatter v a b = slope_lt v a.place a.height b.place b.height
+
+-- three points ahead of a height, by their offsets
+record Ahead : Type 0 where
+  pub height : ℕ
+  pub first : Point
+  pub second : Point
+  pub third : Point
+
+le_le : (seen : Ahead) → 0 < seen.second.place → IsFlatAs seen.height seen.first seen.second
+    → IsFlatAs seen.height seen.second seen.third → IsFlatAs seen.height seen.first seen.third
+le_le seen pos a b =
     let one : r * (p * y + i * v) ≤ r * (p * v + i * h) = mul-le-mul_left r a in
     let two : i * (r * h + p * v) ≤ i * (r * v + p * z) = mul-le-mul_left i b in
     let all : p * (r * y + i * v) ≤ p * (r * v + i * z) = omega (arith, one, two) in
     le_of_mul-le-mul_left all pos
+  where
+    open seen use {height as v, first.{place as i, height as y}, second.{place as p, height as h}, third.{place as r, height as z}}
 
-le_lt : (v i y p h r z : ℕ) → 0 < i → slope_le v i y p h → slope_lt v p h r z → slope_lt v i y r z
-le_lt v i y p h r z pos a b =
+le_lt : (seen : Ahead) → 0 < seen.first.place → IsFlatAs seen.height seen.first seen.second
+    → IsFlatter seen.height seen.second seen.third → IsFlatter seen.height seen.first seen.third
+le_lt seen pos a b =
     let one : r * (p * y + i * v) ≤ r * (p * v + i * h) = mul-le-mul_left r a in
     let two : i * (r * h + p * v) < i * (r * v + p * z) = mul-lt-mul_of_pos_left b pos in
     let all : p * (r * y + i * v) < p * (r * v + i * z) = omega (arith, one, two) in
     lt_of_mul-lt-mul_left p all
+  where
+    open seen use {height as v, first.{place as i, height as y}, second.{place as p, height as h}, third.{place as r, height as z}}
 
-lt_le : (v i y p h r z : ℕ) → 0 < r → slope_lt v i y p h → slope_le v p h r z → slope_lt v i y r z
-lt_le v i y p h r z pos a b =
+lt_le : (seen : Ahead) → 0 < seen.third.place → IsFlatter seen.height seen.first seen.second
+    → IsFlatAs seen.height seen.second seen.third → IsFlatter seen.height seen.first seen.third
+lt_le seen pos a b =
     let one : r * (p * y + i * v) < r * (p * v + i * h) = mul-lt-mul_of_pos_left a pos in
     let two : i * (r * h + p * v) ≤ i * (r * v + p * z) = mul-le-mul_left i b in
     let all : p * (r * y + i * v) < p * (r * v + i * z) = omega (arith, one, two) in
     lt_of_mul-lt-mul_left p all
+  where
+    open seen use {height as v, first.{place as i, height as y}, second.{place as p, height as h}, third.{place as r, height as z}}
 
--- Three points ahead of v, at offsets p, p + x and p + t. Where the second stands below the ray to the first, and the third
--- below the ray from the first to the second, the third stands below the ray to the first.
-falls_on : (v p x t h y z : ℕ) → 0 < p → 0 < t → slope_lt v (p + x) y p h → slope_lt h t z x y
-    → slope_lt v (p + t) z p h
-falls_on v p x t h y z pos some a b =
+-- a point ahead of a height by its offset, and two more by their offsets from that point
+record Turn : Type 0 where
+  pub height : ℕ
+  pub corner : Point
+  pub one : Point
+  pub other : Point
+
+-- a point at an offset from another one
+abbrev beyond : Point → Point → Point
+beyond corner p = record { place = corner.place + p.place; height = p.height }
+
+-- Where the one point stands below the ray to the corner, and the other one below the ray from the corner to it, the other
+-- one stands below the ray to the corner.
+falls_on : (turn : Turn) → 0 < turn.corner.place → 0 < turn.other.place
+    → IsFlatter turn.height (beyond turn.corner turn.one) turn.corner → IsFlatter turn.corner.height turn.other turn.one
+    → IsFlatter turn.height (beyond turn.corner turn.other) turn.corner
+falls_on turn pos some a b =
     let one : t * (p * y + (p + x) * v) < t * (p * v + (p + x) * h) = mul-lt-mul_of_pos_left a some in
     let two : p * (x * z + t * h) < p * (x * h + t * y) = mul-lt-mul_of_pos_left b pos in
     let all : x * (p * z + (p + t) * v) < x * (p * v + (p + t) * h) = omega (arith, one, two) in
     lt_of_mul-lt-mul_left x all
+  where
+    open turn use {height as v, corner.{place as p, height as h}, one.{place as x, height as y}, other.{place as t, height as z}}
 
-rises_on : (v p x t h y z : ℕ) → 0 < p → 0 < t → slope_lt v p h (p + x) y → slope_lt h x y t z
-    → slope_lt v p h (p + t) z
-rises_on v p x t h y z pos some a b =
+rises_on : (turn : Turn) → 0 < turn.corner.place → 0 < turn.other.place
+    → IsFlatter turn.height turn.corner (beyond turn.corner turn.one) → IsFlatter turn.corner.height turn.one turn.other
+    → IsFlatter turn.height turn.corner (beyond turn.corner turn.other)
+rises_on turn pos some a b =
     let one : t * ((p + x) * h + p * v) < t * ((p + x) * v + p * y) = mul-lt-mul_of_pos_left a some in
     let two : p * (t * y + x * h) < p * (t * h + x * z) = mul-lt-mul_of_pos_left b pos in
     let all : x * ((p + t) * h + p * v) < x * ((p + t) * v + p * z) = omega (arith, one, two) in
     lt_of_mul-lt-mul_left x all
+  where
+    open turn use {height as v, corner.{place as p, height as h}, one.{place as x, height as y}, other.{place as t, height as z}}
 
--- Seen from the point at offset p, one that stood at or below the ray to it is flatter than one that stood at or above.
-turns_at : (v p j t h y z : ℕ) → 0 < p → slope_le v (p + j) y p h → slope_le v p h (p + t) z → slope_le h j y t z
-turns_at v p j t h y z pos a b =
+-- Seen from the corner, one that stood at or below the ray to it is flatter than one that stood at or above.
+turns_at : (turn : Turn) → 0 < turn.corner.place → IsFlatAs turn.height (beyond turn.corner turn.one) turn.corner
+    → IsFlatAs turn.height turn.corner (beyond turn.corner turn.other) → IsFlatAs turn.corner.height turn.one turn.other
+turns_at turn pos a b =
     let one : t * (p * y + (p + j) * v) ≤ t * (p * v + (p + j) * h) = mul-le-mul_left t a in
     let two : j * ((p + t) * h + p * v) ≤ j * ((p + t) * v + p * z) = mul-le-mul_left j b in
     let all : p * (t * y + j * h) ≤ p * (t * h + j * z) = omega (arith, one, two) in
     le_of_mul-le-mul_left all pos
+  where
+    open turn use {height as v, corner.{place as p, height as h}, one.{place as j, height as y}, other.{place as t, height as z}}
 
 -- The same laws over points
+abbrev offset : Point → Point → Point
+offset from p = record { place = p.place - from.place; height = p.height }
 
-pub within_within : (side : Side) (o a b c : Point) → o.place < b.place → IsWithin side o a b
-    → IsWithin side o b c → IsWithin side o a c
-within_within Lower o a b c later p q = le_le o.height (a.place - o.place) a.height (b.place - o.place) b.height (c.place - o.place) c.height (omega arith) p q
-within_within Upper o a b c later p q = le_le o.height (c.place - o.place) c.height (b.place - o.place) b.height (a.place - o.place) a.height (omega arith) q p
+-- three points as one more sees them
+pub record Seen : Type 0 where
+  pub from : Point
+  pub first : Point
+  pub second : Point
+  pub third : Point
 
-pub within_inside : (side : Side) (o a b c : Point) → o.place < a.place → IsWithin side o a b
-    → IsInside side o b c → IsInside side o a c
-within_inside Lower o a b c later p q = le_lt o.height (a.place - o.place) a.height (b.place - o.place) b.height (c.place - o.place) c.height (omega arith) p q
-within_inside Upper o a b c later p q = lt_le o.height (c.place - o.place) c.height (b.place - o.place) b.height (a.place - o.place) a.height (omega arith) q p
+-- they ascend on the lower curve, and are turned on the upper one
+abbrev ahead : Seen → Ahead
+ahead seen = record {
+  height = seen.from.height;
+  first = offset seen.from seen.first;
+  second = offset seen.from seen.second;
+  third = offset seen.from seen.third;
+}
 
-pub inside_within : (side : Side) (o a b c : Point) → o.place < c.place → IsInside side o a b
-    → IsWithin side o b c → IsInside side o a c
-inside_within Lower o a b c later p q = lt_le o.height (a.place - o.place) a.height (b.place - o.place) b.height (c.place - o.place) c.height (omega arith) p q
-inside_within Upper o a b c later p q = le_lt o.height (c.place - o.place) c.height (b.place - o.place) b.height (a.place - o.place) a.height (omega arith) q p
+abbrev turned : Seen → Ahead
+turned seen = record {
+  height = seen.from.height;
+  first = offset seen.from seen.third;
+  second = offset seen.from seen.second;
+  third = offset seen.from seen.first;
+}
+
+pub within_within : (side : Side) (seen : Seen) → seen.from.place < seen.second.place
+    → IsWithin side seen.from seen.first seen.second → IsWithin side seen.from seen.second seen.third
+    → IsWithin side seen.from seen.first seen.third
+within_within Lower seen later p q = le_le (ahead seen) (omega arith) p q
+within_within Upper seen later p q = le_le (turned seen) (omega arith) q p
+
+pub inside_within : (side : Side) (seen : Seen) → seen.from.place < seen.third.place
+    → IsInside side seen.from seen.first seen.second → IsWithin side seen.from seen.second seen.third
+    → IsInside side seen.from seen.first seen.third
+inside_within Lower seen later p q = lt_le (ahead seen) (omega arith) p q
+inside_within Upper seen later p q = le_lt (turned seen) (omega arith) q p
 
 pub within_itself : (side : Side) (o a : Point) → IsWithin side o a a
 within_itself Lower o a = omega arith
@@ -82,26 +149,53 @@ pub inside_not_within : (side : Side) (o a b : Point) → IsInside side o a b �
 inside_not_within Lower o a b h k = omega (arith, h, k)
 inside_not_within Upper o a b h k = omega (arith, h, k)
 
--- a chain that turns at p and again at x keeps what is beyond inside
-pub turns_on : (side : Side) (o p x c : Point) → o.place < p.place → p.place < x.place → p.place < c.place
-    → IsInside side o x p → IsInside side p c x → IsInside side o c p
-turns_on Lower o p x c op px pc a b =
-    let e : x.place - o.place ≡ (p.place - o.place) + (x.place - p.place) = omega arith in
-    let f : c.place - o.place ≡ (p.place - o.place) + (c.place - p.place) = omega arith in
-    rw f (falls_on o.height (p.place - o.place) (x.place - p.place) (c.place - p.place) p.height x.height c.height (omega arith) (omega arith) (rw e at a) b)
-turns_on Upper o p x c op px pc a b =
-    let e : x.place - o.place ≡ (p.place - o.place) + (x.place - p.place) = omega arith in
-    let f : c.place - o.place ≡ (p.place - o.place) + (c.place - p.place) = omega arith in
-    rw f (rises_on o.height (p.place - o.place) (x.place - p.place) (c.place - p.place) p.height x.height c.height (omega arith) (omega arith) (rw e at a) b)
+-- a point's corner ahead, and two points at or beyond it
+pub record SeenCorner : Type 0 where
+  pub from : Point
+  pub corner : Point
+  pub one : Point
+  pub other : Point
+  pub ahead : from.place < corner.place
+  pub one_beyond : corner.place ≤ one.place
+  pub other_beyond : corner.place ≤ other.place
 
--- seen from p, a point that stood within the ray to p is within one that the ray to p stood within
-pub turns_apart : (side : Side) (o p a b : Point) → o.place < p.place → p.place ≤ a.place → p.place ≤ b.place
-    → IsWithin side o a p → IsWithin side o p b → IsWithin side p a b
-turns_apart Lower o p a b op pa pb h k =
-    let e : a.place - o.place ≡ (p.place - o.place) + (a.place - p.place) = omega arith in
-    let f : b.place - o.place ≡ (p.place - o.place) + (b.place - p.place) = omega arith in
-    turns_at o.height (p.place - o.place) (a.place - p.place) (b.place - p.place) p.height a.height b.height (omega arith) (rw e at h) (rw f at k)
-turns_apart Upper o p a b op pa pb h k =
-    let e : a.place - o.place ≡ (p.place - o.place) + (a.place - p.place) = omega arith in
-    let f : b.place - o.place ≡ (p.place - o.place) + (b.place - p.place) = omega arith in
-    turns_at o.height (p.place - o.place) (b.place - p.place) (a.place - p.place) p.height b.height a.height (omega arith) (rw f at k) (rw e at h)
+abbrev turn_of : SeenCorner → Turn
+turn_of seen = record {
+  height = seen.from.height;
+  corner = offset seen.from seen.corner;
+  one = offset seen.corner seen.one;
+  other = offset seen.corner seen.other;
+}
+
+abbrev turned_corner : SeenCorner → SeenCorner
+turned_corner seen = record {
+  from = seen.from;
+  corner = seen.corner;
+  one = seen.other;
+  other = seen.one;
+  ahead = seen.ahead;
+  one_beyond = seen.other_beyond;
+  other_beyond = seen.one_beyond;
+}
+
+one_offset : (seen : SeenCorner) → seen.one.place - seen.from.place ≡ (seen.corner.place - seen.from.place) + (seen.one.place - seen.corner.place)
+one_offset seen = omega (arith, seen.ahead, seen.one_beyond)
+
+other_offset : (seen : SeenCorner) → seen.other.place - seen.from.place ≡ (seen.corner.place - seen.from.place) + (seen.other.place - seen.corner.place)
+other_offset seen = omega (arith, seen.ahead, seen.other_beyond)
+
+-- a chain that turns at the corner and again at the one point keeps what is beyond inside
+pub turns_on : (side : Side) (seen : SeenCorner) → seen.corner.place < seen.other.place → IsInside side seen.from seen.one seen.corner
+    → IsInside side seen.corner seen.other seen.one → IsInside side seen.from seen.other seen.corner
+turns_on Lower seen past a b =
+    rw (other_offset seen) (falls_on (turn_of seen) (omega (arith, seen.ahead)) (omega (arith, past)) (rw (one_offset seen) at a) b)
+turns_on Upper seen past a b =
+    rw (other_offset seen) (rises_on (turn_of seen) (omega (arith, seen.ahead)) (omega (arith, past)) (rw (one_offset seen) at a) b)
+
+-- seen from the corner, a point that stood within the ray to it is within one that the ray to it stood within
+pub turns_apart : (side : Side) (seen : SeenCorner) → IsWithin side seen.from seen.one seen.corner
+    → IsWithin side seen.from seen.corner seen.other → IsWithin side seen.corner seen.one seen.other
+turns_apart Lower seen h k =
+    turns_at (turn_of seen) (omega (arith, seen.ahead)) (rw (one_offset seen) at h) (rw (other_offset seen) at k)
+turns_apart Upper seen h k =
+    turns_at (turn_of (turned_corner seen)) (omega (arith, seen.ahead)) (rw (other_offset seen) at k) (rw (one_offset seen) at h)

@@ -47,7 +47,7 @@ pub record IsPath (lo hi : ℕ → ℕ) (from : ℕ) (corner : Point) (segments 
   pub goes_on : GoesOn lo hi from corner.place corner.height segments
 
 -- The segments with the last one, to place n, where the curves meet.
-pub record IsWhole (lo hi : ℕ → ℕ) (from n : ℕ) (segments : List Segment) : Type 0 where
+pub record IsTautPath (lo hi : ℕ → ℕ) (from n : ℕ) (segments : List Segment) : Type 0 where
   pub slots : total_slots segments ≡ n
   pub bytes : from + total_bytes segments ≡ hi n
   pub runs : RunsTaut lo hi 0 from segments

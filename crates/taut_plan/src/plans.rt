@@ -8,7 +8,7 @@ ghost use Rattle.cert_check.specs.Best.{IsBestPlan};
 ghost use Rattle.taut_plan.specs.Slopes.{other_side};
 ghost use Rattle.taut_plan.specs.Funnel.{IsFunnel, IsCrossed, IsUncrossed, FirstIsBetween};
 ghost use Rattle.taut_plan.specs.Funnel.{FirstFits, others_known};
-ghost use Rattle.taut_plan.specs.Path.{IsPath, IsWhole};
+ghost use Rattle.taut_plan.specs.Path.{IsPath, IsTautPath};
 ghost use Rattle.taut_plan.specs.Sides.{lower_of, upper_of, side_of};
 
 use crate::chains::join;
@@ -95,7 +95,7 @@ fn extend(
 fn taut_segments(alloc: Global, curves: &Curves) -> Result<Vec<Segment>, AllocError>
     requires { IsSound curves.now.from curves.now.low.items curves.now.up.items }
     ensures { IfOk result (λ segments.
-        IsWhole (lower_of curves.now) (upper_of curves.now) curves.now.from
+        IsTautPath (lower_of curves.now) (upper_of curves.now) curves.now.from
         (length curves.now.low.items) segments.items) }
 {
     let slots = curves.low.len();

@@ -15,8 +15,9 @@ use Rattle.mpeg_scan.proofs.BoundLemmas.{film-rate}
 use Rattle.session.specs.Films.{length_ms}
 use Rattle.session.specs.Replies.{field, joined_parts, play_fields, play_text}
 use Rattle.transcript.specs.Replied.{IsPlayRead}
-use Rattle.plan_cert.proofs.Decimals.{number_of-decimal, no_leading_zero}
+use Rattle.plan_cert.proofs.Decimals.{no_leading_zero}
 use Rattle.vod_base.specs.Numbers.{number_of}
+use Rattle.vod_base.proofs.Written.{decimal_read}
 use Rattle.rtsp_fields.specs.Descriptions.{seconds_text}
 use Rattle.rtsp_client.specs.Films.{units_until}
 use Rattle.interleave.specs.Pieces.{IsRequestLength}
@@ -100,7 +101,7 @@ point-read {text} {s} n a b c is s_is small la lb lc =
     ∙ (ap (λ l. drop (length s + 1) l) (sym (append_assoc s (46 ∷ []) ((48 + a) ∷ (48 + b) ∷ (48 + c) ∷ [])))
     ∙ drop_at (s ++ 46 ∷ []) ((48 + a) ∷ (48 + b) ∷ (48 + c) ∷ []) (length s + 1) (length-append s (46 ∷ [])))) in
     let read : milliseconds (decimal n) ((48 + a) ∷ (48 + b) ∷ (48 + c) ∷ []) ≡ Some (n * 1000 + (a * 100 + b * 10 + c)) =
-    ap (λ o. option_and_then (λ t. option_map (λ f. t * 1000 + f) (number_of ((48 + a) ∷ (48 + b) ∷ (48 + c) ∷ []))) o) (number_of-decimal n small)
+    ap (λ o. option_and_then (λ t. option_map (λ f. t * 1000 + f) (number_of ((48 + a) ∷ (48 + b) ∷ (48 + c) ∷ []))) o) (decimal_read n small)
     ∙ ap (λ o. option_map (λ f. n * 1000 + f) o) (three a b c la lb lc) in
     cond-true (has_point text) (milliseconds (take (length text - 4) text) (drop (length text - 3) text)) None point
     ∙ (ap (λ l. milliseconds l (drop (length text - 3) text)) seconds ∙ (ap (milliseconds (decimal n)) digits ∙ read))
@@ -145,7 +146,7 @@ named-sequence id range info sequence slots = refl
 
 start-read : (slots : ℕ) → 1 ≤ slots → slots ≤ 2 ^ 62 + 1 → option_and_then start_within (number_of (decimal slots)) ≡ Some slots
 start-read slots some few =
-    ap (λ o. option_and_then start_within o) (number_of-decimal slots (omega (arith, few)))
+    ap (λ o. option_and_then start_within o) (decimal_read slots (omega (arith, few)))
     ∙ cond-true (nat_le 1 slots && nat_le slots (2 ^ 62 + 1)) (Some slots) None (ap (λ b. b && nat_le slots (2 ^ 62 + 1)) (le-leb 1 slots some) ∙ le-leb slots (2 ^ 62 + 1) few)
 
 named-read : (message id info : List ℕ) (sequence end_ms slots : ℕ) → IsRequestLength message (length message)
@@ -165,7 +166,7 @@ named-read message id info sequence end_ms slots size plain is small short some 
       answer = record {
         reason = reason 200;
         line = back.reply.line;
-        sequence = ap (λ v. option_and_then number_of v) (value (codes "CSeq") ∙ named-sequence id range info sequence slots) ∙ number_of-decimal sequence small;
+        sequence = ap (λ v. option_and_then number_of v) (value (codes "CSeq") ∙ named-sequence id range info sequence slots) ∙ decimal_read sequence small;
       };
       session = ap (λ v. option_map session_id v) (value (codes "Session") ∙ named-session id range info sequence slots);
       range = ap (λ v. option_and_then range_end v) (value (codes "Range") ∙ named-range id range info sequence slots) ∙ range-read end_ms short;

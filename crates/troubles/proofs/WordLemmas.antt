@@ -6,7 +6,8 @@ use Rattle.std.proofs.lemmas.List.{append-nil}
 use Rattle.std.proofs.lemmas.List.Elements.{All-append, All-cons, All-head, All-nil, All-tail, All-weaker}
 use Rattle.std.proofs.lemmas.List.Splits.{slice_split_at, slice_split_none}
 use Rattle.vod_base.specs.Numbers.{number_of}
-use Rattle.plan_cert.proofs.Decimals.{not_in_decimal, number_of-decimal}
+use Rattle.vod_base.proofs.Written.{decimal_read}
+use Rattle.plan_cert.proofs.Decimals.{not_in_decimal}
 use Rattle.troubles.specs.Said.{number_text}
 
 -- a text without this byte
@@ -66,5 +67,5 @@ numbers_of words = map (λ word. value_of (number_of word)) words
 pub numbers_back : (numbers : List ℕ) → AreShort numbers → numbers_of (map decimal numbers) ≡ numbers
 numbers_back [] short = refl
 numbers_back (n ∷ ns) short =
-    ap (λ (o : Option ℕ). value_of o ∷ numbers_of (map decimal ns)) (number_of-decimal n (All-head (λ k. k < 2 ^ 64) n ns short))
+    ap (λ (o : Option ℕ). value_of o ∷ numbers_of (map decimal ns)) (decimal_read n (All-head (λ k. k < 2 ^ 64) n ns short))
     ∙ ap (λ (l : List ℕ). n ∷ l) (numbers_back ns (All-tail (λ k. k < 2 ^ 64) n ns short))

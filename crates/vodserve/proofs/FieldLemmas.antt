@@ -15,7 +15,7 @@ pub record AreSame (n m : ℕ) (xs ys : List ℕ) : Type 0 where
 -- a number in front of a byte that is no digit
 pub number_cut : {n m : ℕ} {xs ys : List ℕ} (c : ℕ) → ¬ (IsInRange 48 57 c) → n < 2 ^ 64 → m < 2 ^ 64 → decimal n ++ c ∷ xs ≡ decimal m ++ c ∷ ys → AreSame n m xs ys
 number_cut {n} {m} {xs} {ys} c other small small' e =
-    let parts = same_cut c (decimal n) (decimal m) xs ys e (not_in_decimal c n small other) (not_in_decimal c m small' other) in
+    let parts = same_cut {ws = xs} {bs = ys} c (decimal n) (decimal m) e (not_in_decimal c n small other) (not_in_decimal c m small' other) in
     record { number = decimal_injective n m small small' parts.0; rest = parts.1 }
 
 -- the same in front of a blank and a label that goes on, and at the end of a line

@@ -5,8 +5,7 @@ use Rattle.std.proofs.lemmas.Bool.{cases_order}
 use Rattle.vod_base.specs.Outside.{File, file_named}
 use Rattle.plan_cert.specs.declared.Segment.{Segment}
 use Rattle.plan_cert.specs.Reading.{IsBadLine, IsCertificate}
-use Rattle.plan_cert.specs.Slots.{total_bytes, total_slots}
-use Rattle.plan_cert.proofs.OneText.{certificate_has_no_bad_line, one_text}
+use Rattle.plan_cert.proofs.OneText.{certificate_has_no_bad_line, one_certificate}
 use Rattle.cert_check.specs.Fault.{IsFirstFault, IsTaut, IsThere, kind_of, number_of}
 use Rattle.cert_check.specs.declared.CertFault.{CertFault}
 use Rattle.cert_check.specs.declared.CertFault.TheVariants.{EmptySegment, WrongLength, WrongTotal, BelowLow, AboveUp, EqualSlopes, RiseOffUpper, FallOffLower}
@@ -18,14 +17,6 @@ use Rattle.vodserve.specs.Carrying.{IsInputRefused}
 use Rattle.vodserve.specs.Plans.{HasCurves, IsCertRefused, IsChecked, IsNoCert, IsVerdict}
 use Rattle.vodserve.specs.Verdict.{cert_fault_text}
 use Rattle.vodserve.proofs.OneAnswer.{AreSame, curves_not_refused, curves_once, no_file}
-
--- a text is the certificate of one list of segments
-segments_once : {text : List ℕ} {slots bytes slots' bytes' : ℕ} {xs ys : List Segment} → IsCertificate text slots bytes xs → IsCertificate text slots' bytes' ys → xs ≡ ys
-segments_once {text} {xs} {ys} p q =
-    (one_text (total_slots xs) (total_bytes xs) xs (total_slots ys) (total_bytes ys) ys
-    (omega (arith, p.slots_are, p.small_slots)) (omega (arith, p.bytes_are, p.small_bytes)) p.small.small
-    (omega (arith, q.slots_are, q.small_slots)) (omega (arith, q.bytes_are, q.small_bytes)) q.small.small
-    (sym p.text_is ∙ q.text_is)).segments_are
 
 -- what is taut has no fault
 no_fault : {from : ℕ} {low up : List ℕ} {segments : List Segment} (fault : CertFault) → IsTaut from low up segments → IsThere from low up segments fault → ⊥
@@ -86,7 +77,7 @@ pub checked_once : (held : List File) (viewer : Viewer) (cert : List ℕ) (statu
 checked_once held viewer cert status status' text text' p q =
     let same : AreSame q.curves p.curves = curves_once held viewer q.curves p.curves q.has p.has in
     let one : q.written ≡ p.written = one_file held cert q.written p.written q.found p.found in
-    let segments : q.segments ≡ p.segments = segments_once
+    let segments : q.segments ≡ p.segments = one_certificate
     (subst (λ (t : List ℕ). IsCertificate t q.slots q.bytes q.segments) one q.certificate) p.certificate in
     verdict_once p.curves.from p.curves.low.items p.curves.up.items p.segments p.verdict
     (subst (λ (s : List Segment). IsVerdict p.curves.from p.curves.low.items p.curves.up.items s status' text') segments
@@ -99,7 +90,7 @@ cert_not_refused : {written : List ℕ} {slots bytes : ℕ} {segments : List Seg
     (fault : Fault) → file_named held cert ≡ Some written →
     IsCertificate written slots bytes segments → IsNoCert held cert fault → ⊥
 cert_not_refused {written} {slots} {bytes} {segments} held cert (BadCert line) found certificate refused =
-    certificate_has_no_bad_line written slots bytes segments line certificate
+    certificate_has_no_bad_line line certificate
     (subst (λ (t : List ℕ). IsBadLine t line) (one_file held cert refused.0 written refused.1.0 found) refused.1.1)
 cert_not_refused {written} held cert other found certificate refused = refused
 

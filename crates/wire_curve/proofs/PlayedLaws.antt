@@ -30,20 +30,29 @@ due_rises timing j k some le =
     let slots = le-div (j * timing.picture_units / timing.slot_units) (k * timing.picture_units) timing.slot_units (omega (arith, some)) (omega (arith, floor, times)) in
     omega (arith, slots)
 
+-- of n + d pictures the first n count with their sizes, and the others with nothing
+record CountsFirst (sizes : List ℕ) (f : ℕ → ℕ) (n d : ℕ) : Type 0 where
+  pub fits : n + d ≤ length sizes
+  pub counted : (k : ℕ) → k < n → f k ≡ get_or sizes k 0
+  pub uncounted : (k : ℕ) → n ≤ k → k < n + d → f k ≡ 0
+
 -- the sum of the pictures that are used is that of the first n
-first_sum : (sizes : List ℕ) (f : ℕ → ℕ) (n d : ℕ) → n + d ≤ length sizes
-    → ((k : ℕ) → k < n → f k ≡ get_or sizes k 0) → ((k : ℕ) → n ≤ k → k < n + d → f k ≡ 0)
+first_sum : (sizes : List ℕ) (f : ℕ → ℕ) (n d : ℕ) → CountsFirst sizes f n d
     → sum_by f (range_with_len 0 (n + d)) ≡ sum (take n sizes)
-first_sum sizes f n zero fits used unused =
-    let same = sum_by-range-add (λ k. get_or sizes k 0) (λ k. 0) f 0 n (λ k l u. let e = used k (omega (arith, u)) in omega (arith, e)) in
+first_sum sizes f n zero it =
+    let same = sum_by-range-add (λ k. get_or sizes k 0) (λ k. 0) f 0 n (λ k l u. let e = it.counted k (omega (arith, u)) in omega (arith, e)) in
     let none = sum_by-range-zero (λ k. 0) 0 n (λ k l u. refl) in
-    let taken = sum_by-range-take sizes n (omega (arith, fits)) in
+    let taken = sum_by-range-take sizes n (omega (arith, it.fits)) in
     let e : n + zero ≡ n = omega arith in
     subst (λ m. sum_by f (range_with_len 0 m) ≡ sum (take n sizes)) (sym e) (omega (arith, same, none, taken))
-first_sum sizes f n (suc d) fits used unused =
-    let before = first_sum sizes f n d (omega (arith, fits)) used (λ k l u. unused k l (omega (arith, u))) in
+first_sum sizes f n (suc d) it =
+    let before = first_sum sizes f n d (record {
+      fits = omega (arith, it.fits);
+      counted = it.counted;
+      uncounted = λ k l u. it.uncounted k l (omega (arith, u));
+    }) in
     let step = sum_by-range_more f (n + d) in
-    let last = unused (n + d) (omega arith) (omega arith) in
+    let last = it.uncounted (n + d) (omega arith) (omega arith) in
     let e : (n + d) + 1 ≡ n + suc d = omega arith in
     subst (λ m. sum_by f (range_with_len 0 m) ≡ sum (take n sizes)) e (omega (arith, before, step, last))
 
@@ -60,9 +69,11 @@ used_of_first sizes timing n t are =
     let d = length sizes - n in
     let e : n + d ≡ length sizes = omega (arith, within) in
     let f : ℕ → ℕ = λ k. cond (ltb (due_slot timing k) t) (get_or sizes k 0) 0 in
-    let first = first_sum sizes f n d (omega (arith, e))
-    (λ k lt. cond_used (due_slot timing k) t (get_or sizes k 0) (are.used k lt))
-    (λ k l u. cond_unused (due_slot timing k) t (get_or sizes k 0) (are.unused k l (omega (arith, u, e)))) in
+    let first = first_sum sizes f n d (record {
+      fits = omega (arith, e);
+      counted = λ k lt. cond_used (due_slot timing k) t (get_or sizes k 0) (are.used k lt);
+      uncounted = λ k l u. cond_unused (due_slot timing k) t (get_or sizes k 0) (are.unused k l (omega (arith, u, e)));
+    }) in
     let all : sum_by f (range_with_len 0 (length sizes)) ≡ sum (take n sizes) =
     subst (λ m. sum_by f (range_with_len 0 m) ≡ sum (take n sizes)) e first in
     omega (arith, all)

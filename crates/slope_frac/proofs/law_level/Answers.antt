@@ -9,8 +9,8 @@ returns-clause-same_below c =
     let b = c.args.b in
     let d = c.args.c in
     λ level. (
-      λ h. at_most_below b.bytes b.slots a.bytes a.slots d.bytes d.slots c.requires.one c.requires.other (le_of_eq (sym level)) h,
-      λ h. at_most_below a.bytes a.slots b.bytes b.slots d.bytes d.slots c.requires.other c.requires.one (le_of_eq level) h,
+      λ h. at_most_below (record { first = b; between = a; last = d; some_slot = c.requires.one }) c.requires.other (le_of_eq (sym level)) h,
+      λ h. at_most_below (record { first = a; between = b; last = d; some_slot = c.requires.other }) c.requires.one (le_of_eq level) h,
     )
 
 pub returns-clause-same_above : goal.returns-clause-same_above
@@ -19,6 +19,6 @@ returns-clause-same_above c =
     let b = c.args.b in
     let d = c.args.c in
     λ level. (
-      λ h. below_at_most d.bytes d.slots a.bytes a.slots b.bytes b.slots c.requires.one c.requires.other h (le_of_eq level),
-      λ h. below_at_most d.bytes d.slots b.bytes b.slots a.bytes a.slots c.requires.other c.requires.one h (le_of_eq (sym level)),
+      λ h. below_at_most (record { first = d; between = a; last = b; some_slot = c.requires.one }) c.requires.other h (le_of_eq level),
+      λ h. below_at_most (record { first = d; between = b; last = a; some_slot = c.requires.other }) c.requires.one h (le_of_eq (sym level)),
     )

@@ -62,8 +62,13 @@ returns c =
     record {
       small_slots = c.in-Some-number_after.ensures.small;
       small_bytes = c.in-Some-number_after-2.ensures.small;
-      text_is = head_text c.in-Some-split_at_first-2.rest.now
-          c.in-Some-number_after.slots c.in-Some-number_after-2.bytes c.in-Some.ensures.parts (c.is_text.ensures.0 c.if-not-is_text.false)
-          c.in-Some-split_at_first.ensures.parts c.in-Some-number_after.ensures.words c.in-Some-split_at_first-2.ensures.parts c.in-Some-number_after-2.ensures.words;
+      text_is = head_text c.in-Some-split_at_first-2.rest.now c.in-Some-number_after.slots c.in-Some-number_after-2.bytes (record {
+        title_cut = c.in-Some.ensures.parts;
+        title_is = c.is_text.ensures.0 c.if-not-is_text.false;
+        slots_cut = c.in-Some-split_at_first.ensures.parts;
+        slots_is = c.in-Some-number_after.ensures.words;
+        bytes_cut = c.in-Some-split_at_first-2.ensures.parts;
+        bytes_is = c.in-Some-number_after-2.ensures.words;
+      });
       read = r3;
     }

@@ -30,26 +30,34 @@ crossing-requires-clause-fit c =
     let slot = c.requires.slot in
     let beyond = c.loop-corner.invariant.crossing.beyond in
     let fits : c.args.slot + 1 ≤ length curves.low.items = omega (arith, slot) in
-    first_fits (length curves.low.items)
-    c.in_ok-point.ensures.point c.loop-corner.invariant.crossing fits
+    first_fits c.in_ok-point.ensures.point c.loop-corner.invariant.crossing fits
     (corner_fits c.requires.sound (omega (arith, beyond, fits)) c.loop-corner.invariant.path.below)
-    (point_fits c.args.side c.requires.sound)
-    (point_fits (other_side c.args.side) c.requires.sound)
+    (record { own = point_fits c.args.side c.requires.sound; others = point_fits (other_side c.args.side) c.requires.sound })
 
 pub bend_at-requires-clause-higher : goal.bend_at-requires-clause-higher
 bend_at-requires-clause-higher c =
     let curves = c.args.curves.now in
-    let bent = bends_at
-    (band_of_sound curves.from curves.low.items curves.up.items c.requires.sound) (omega arith)
-    c.in_ok-point.ensures.point c.loop-corner.invariant.path c.loop-corner.invariant.crossing c.in-Some.ensures c.pop_first.ensures in
+    let band = band_of_sound curves.from curves.low.items curves.up.items c.requires.sound in
+    let bent = bends_at band c.loop-corner.invariant.path c.loop-corner.invariant.crossing (record {
+      point = _;
+      point_is = c.in_ok-point.ensures.point;
+      fits = omega arith;
+      crossed = c.in-Some.ensures;
+      left_is = c.pop_first.ensures;
+    }) in
     bent.higher
 
 pub loop-corner-preserved : goal.loop-corner-preserved
 loop-corner-preserved c =
     let curves = c.args.curves.now in
-    let bent = bends_at
-    (band_of_sound curves.from curves.low.items curves.up.items c.requires.sound) (omega arith)
-    c.in_ok-point.ensures.point c.loop-corner.invariant.path c.loop-corner.invariant.crossing c.in-Some.ensures c.pop_first.ensures in
+    let band = band_of_sound curves.from curves.low.items curves.up.items c.requires.sound in
+    let bent = bends_at band c.loop-corner.invariant.path c.loop-corner.invariant.crossing (record {
+      point = _;
+      point_is = c.in_ok-point.ensures.point;
+      fits = omega arith;
+      crossed = c.in-Some.ensures;
+      left_is = c.pop_first.ensures;
+    }) in
     let corner = c.in-Some.corner in
     let known = others_known c.args.side c.args.slot in
     record {

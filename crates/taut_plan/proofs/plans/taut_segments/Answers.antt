@@ -1,6 +1,6 @@
 use Rattle.std.proofs.Common.{◌≡◌, ◌+◌, ◌-◌, ap, arith, sym, subst, ◌∙◌, length}
 use Rattle.taut_plan.specs.Chain.{on_curve}
-use Rattle.taut_plan.specs.Path.{IsWhole}
+use Rattle.taut_plan.specs.Path.{IsTautPath}
 use Rattle.taut_plan.specs.Sides.{lower_of, upper_of}
 use Rattle.taut_plan.proofs.BandLaws.{band_of_sound}
 use Rattle.taut_plan.proofs.WholeLaws.{ends_at}
@@ -26,4 +26,4 @@ returns c =
     let end = ends_at
     (band_of_sound curves.from curves.low.items curves.up.items c.requires) (omega arith) c.loop-slot.invariant.path c.loop-slot.invariant.funnel (c.loop-slot.invariant.beyond (omega arith))
     (c.point_at.ensures ∙ ap (on_curve (upper_of curves)) place) in
-    subst (IsWhole (lower_of curves) (upper_of curves) curves.from n) (sym c.in_ok-bend_at.ensures.segments) end.whole
+    subst (IsTautPath (lower_of curves) (upper_of curves) curves.from n) (sym c.in_ok-bend_at.ensures.segments) end.whole
