@@ -245,7 +245,7 @@ left_on a b c first second = (second.0 ∙ first.0, second.1 ∙ first.1)
 hears_left : {setup : Setup} {play : Played} (old : Standing) (message : List ℕ) (ask : Ask) (new : Standing) → Hears old message ask new →
     old.state ≡ Playing setup play → IsNoHalt ask → IsLeft old new
 hears_left {setup} {play} old message ask new hears is free =
-    let plays = hears_plays old new message ask setup play hears is free in (plays.state, plays.heard)
+    let plays = hears_plays (record { old = old; new = new; message = message; ask = ask; hears = hears }) setup play is free in (plays.state, plays.heard)
 
 ask_free : (old : Standing) (ask : Ask) (outcome : Outcome) (new : Standing) → IsAnswered old ask outcome new → IsUnhalted outcome → IsNoHalt ask
 ask_free old AskReply outcome new answered free = tt

@@ -29,6 +29,7 @@ use Rattle.session.specs.declared.states.State.{State}
 use Rattle.session.specs.declared.states.State.TheVariants.{Init, Ready, Playing, Stopping}
 use Rattle.session.specs.declared.sessions.Session.TheInside.{Inside}
 use Rattle.session.proofs.Carries.{nothing_of}
+use Rattle.session.proofs.Grounds.{Ground}
 use Rattle.session.proofs.Pausing.{keeps_within}
 use Rattle.session.proofs.Playables.{of_film}
 
@@ -50,14 +51,21 @@ ready_closed (Ready own paused) setup ready = refl
 ready_closed (Playing own play) setup ready = absurd ready
 ready_closed (Stopping own stop) setup ready = absurd ready
 
+-- what was prepared for a PLAY: the frames of a run that can be played, and its plan
+pub record PlayPrepared
+    (source : Source) (settings : Settings) (setup : Setup) (stored : Stored) (plan : List Segment) (prepared : Prepared)
+    : Type 0 where
+  pub playable : IsPlayable stored source settings setup prepared.counts prepared.run plan
+  pub frames : prepared.frames ≡ sending_of stored.film source setup prepared.counts prepared.run
+  pub bytes : length (framed_bytes (run_pieces prepared.frames)) ≡ bytes_between (stored_sizes stored) prepared.run.first_unit prepared.run.end_unit
+  pub own : prepared.plan ≡ plan
+  pub paced : prepared.paced ≡ plan
+
 -- a play that is asked for can be sent
 pub prepared_in : {source : Source} {settings : Settings} {setup : Setup} {stored : Stored} {plan : List Segment}
-    (films : List Stored) (state : State) (prepared : Prepared) → IsReadyIn state setup → IsFilmAt films setup.film stored
-    → IsPlayable stored source settings setup prepared.counts prepared.run plan
-    → prepared.frames ≡ sending_of stored.film source setup prepared.counts prepared.run
-    → length (framed_bytes (run_pieces prepared.frames)) ≡ bytes_between (stored_sizes stored) prepared.run.first_unit prepared.run.end_unit
-    → prepared.plan ≡ plan → prepared.paced ≡ plan → IsPreparedIn films source settings state prepared
-prepared_in {source} {settings} {setup} {stored} films state prepared ready at playable frames bytes own paced =
+    {prepared : Prepared} (films : List Stored) (state : State) → IsReadyIn state setup → IsFilmAt films setup.film stored
+    → PlayPrepared source settings setup stored plan prepared → IsPreparedIn films source settings state prepared
+prepared_in {source} {settings} {setup} {stored} {prepared} films state ready at given =
     let same : IsPlayable stored source settings setup prepared.counts prepared.run prepared.plan =
     subst (λ (l : List Segment). IsPlayable stored source settings setup prepared.counts prepared.run l) (sym own) playable in
     let boundary : IsBoundary (run_pieces prepared.frames) prepared.run.sent =
@@ -66,14 +74,21 @@ prepared_in {source} {settings} {setup} {stored} films state prepared ready at p
     (record { going = record { boundary = boundary; whole = same.bytes ∙ sym bytes }; paced = paced ∙ sym own })
     (of_film films setup.film stored (λ s. IsPreparedAs s source settings setup prepared) at
     (record { playable = same; frames_are = frames }))
+  where
+    open given use {playable, frames, bytes, own, paced}
+
+-- a play is sent as it was prepared
+pub record PlayAdmitted (prepared : Prepared) (play : Played) : Type 0 where
+  pub pacing : IsPacing play.pacer
+  pub run : play.run ≡ prepared.run
+  pub plan : play.plan ≡ prepared.plan
+  pub pacer : play.pacer ≡ whole_pacing (run_pieces prepared.frames) prepared.run.sent prepared.paced play.start
 
 -- what an admission makes of it
 pub admitted_state : {source : Source} {settings : Settings} {setup : Setup} {prepared : Prepared} {play : Played}
-    (films : List Stored) (paused : Option Run) → IsSetup (length films) setup
-    → IsPreparedIn films source settings (Ready setup paused) prepared → IsPacing play.pacer → play.run ≡ prepared.run
-    → play.plan ≡ prepared.plan → play.pacer ≡ whole_pacing (run_pieces prepared.frames) prepared.run.sent prepared.paced play.start
-    → IsStateKept films source settings prepared.counts (Playing setup play)
-admitted_state {source} {settings} {setup} {prepared} {play} films paused is_setup kept pacing run plan pacer = (
+    (films : List Stored) (paused : Option Run) → IsSetup (length films) setup → IsPreparedIn films source settings (Ready setup paused) prepared
+    → PlayAdmitted prepared play → IsStateKept films source settings prepared.counts (Playing setup play)
+admitted_state {source} {settings} {setup} {prepared} {play} films paused is_setup kept given = (
   is_setup,
   record {
     pacing = pacing;
@@ -89,6 +104,8 @@ admitted_state {source} {settings} {setup} {prepared} {play} films paused is_set
             ∙ ap (λ (r : Run). run_pieces (sending_of stored.film source setup prepared.counts r)) (sym run);
       },
 )
+  where
+    open given use {pacing, run, plan, pacer}
 
 pub admitted_going : {lost : Bool} {play : Played} {paced : List Segment} (setup : Setup) (pieces : List (List ℕ))
     (before start : ℕ)
@@ -100,14 +117,14 @@ admitted_going setup pieces before start pacer same = λ linked. record {
 }
 
 -- what a halt leads to can be sent on
-pub next_in : (films : List Stored) (source : Source) (settings : Settings) (counts : Counts) (lost : Bool) (state : State)
-    (awaited : Awaited) → IsAwaitedKept films source settings counts lost state awaited
-    → IsNextIn films source counts state (next_of awaited)
-next_in films source settings counts lost state Nothing kept = tt
-next_in films source settings counts lost state (Play prepared) kept = tt
-next_in films source settings counts lost state (Halt keep next) kept = kept.1
-next_in films source settings counts lost state (Look sequence) kept = tt
-next_in films source settings counts lost state (Offer sequence) kept = tt
+pub next_in : (ground : Ground) (lost : Bool) (state : State) (awaited : Awaited)
+    → IsAwaitedKept ground.films ground.source ground.settings ground.counts lost state awaited
+    → IsNextIn ground.films ground.source ground.counts state (next_of awaited)
+next_in ground lost state Nothing kept = tt
+next_in ground lost state (Play prepared) kept = tt
+next_in ground lost state (Halt keep next) kept = kept.1
+next_in ground lost state (Look sequence) kept = tt
+next_in ground lost state (Offer sequence) kept = tt
 
 -- a play of which a halt is asked is the same but for what is kept
 halting_kept : {source : Source} {settings : Settings} {counts : Counts} {setup : Setup} {play : Played}

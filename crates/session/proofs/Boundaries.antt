@@ -5,16 +5,22 @@ use Rattle.pacer.specs.Boundaries.{boundary_from}
 use Rattle.pacer.specs.Pacings.{IsPacing, Pacing, due_by, next_boundary, stands_at_boundary, after_step}
 use Rattle.pacer.proofs.PacingLemmas.{boundary-from, boundary-is}
 
-stops_at : {pieces : List (List ℕ)} {end : ℕ} (before sent due : ℕ) → IsBoundary pieces end → before + sent ≤ end
-    → end ≤ length (framed_bytes pieces) → 0 < due - min due (boundary_from pieces (before + sent) - before)
+-- what was sent of a run ends before a boundary inside of it
+record SentWithin (pieces : List (List ℕ)) (end before sent : ℕ) : Type 0 where
+  pub ends : IsBoundary pieces end
+  pub within : before + sent ≤ end
+  pub most : end ≤ length (framed_bytes pieces)
+
+stops_at : {pieces : List (List ℕ)} {end : ℕ} (before sent due : ℕ) → SentWithin pieces end before sent
+    → 0 < due - min due (boundary_from pieces (before + sent) - before)
     → boundary_from pieces (before + min due (boundary_from pieces (before + sent) - before)) - before
     ≡ min due (boundary_from pieces (before + sent) - before)
-stops_at {pieces} {end} before sent due ends within most left =
+stops_at {pieces} {end} before sent due given left =
     let inside : before + sent ≤ length (framed_bytes pieces) = omega arith in
     let next : IsBoundaryAfter pieces (before + sent) (boundary_from pieces (before + sent)) =
     boundary-from pieces (before + sent) inside in
     let place = boundary_from pieces (before + sent) in
-    let below : place ≤ end = next.least end ends within in
+    let below : place ≤ end = next.least end given.ends given.within in
     let above : before + sent ≤ place = next.after in
     let reached : before + min due (place - before) ≡ place = omega arith in
     let fits : place ≤ length (framed_bytes pieces) = omega arith in
@@ -33,4 +39,4 @@ stop_between slot old new is_old is left =
     subst Stands (sym is)
     (λ more. eq-eqb (boundary_from old.pieces (old.before + min (due_by old slot) (next_boundary old)) - old.before)
     (min (due_by old slot) (next_boundary old))
-    (stops_at old.before old.sent (due_by old slot) is_old.ends within most more)) left
+    (stops_at old.before old.sent (due_by old slot) (record { ends = is_old.ends; within = within; most = most }) more)) left

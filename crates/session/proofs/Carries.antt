@@ -24,6 +24,7 @@ use Rattle.session.specs.declared.states.Setup.{Setup}
 use Rattle.session.specs.declared.states.Source.{Source}
 use Rattle.session.specs.declared.states.State.{State}
 use Rattle.session.specs.declared.states.State.TheVariants.{Init, Ready, Playing, Stopping}
+use Rattle.session.proofs.Grounds.{Ground}
 
 play_kept : (old new : Played) → IsPacedPlay old → new.run ≡ old.run → new.plan ≡ old.plan → IsSamePacing old.pacer new.pacer → IsPacedPlay new
 play_kept old new kept run plan same = record {
@@ -42,87 +43,98 @@ playing_kept {stored} {source} {settings} {setup} {counts} {old} {new} kept run 
   pieces = same.pieces ∙ kept.pieces ∙ ap (λ (r : Run). run_pieces (sending_of stored.film source setup counts r)) (sym run);
 }
 
-pub state_kept : (films : List Stored) (source : Source) (settings : Settings) (counts : Counts) (old new : State)
-    → IsStateKept films source settings counts old → IsCarried old new → IsStateKept films source settings counts new
-state_kept films source settings counts Init Init kept carried = tt
-state_kept films source settings counts Init (Ready s p) kept carried = absurd carried
-state_kept films source settings counts Init (Playing s p) kept carried = absurd carried
-state_kept films source settings counts Init (Stopping s p) kept carried = absurd carried
-state_kept films source settings counts (Ready setup paused) Init kept carried = absurd carried
-state_kept films source settings counts (Ready setup paused) (Ready s p) kept carried =
+pub state_kept : (ground : Ground) (old new : State)
+    → IsStateKept ground.films ground.source ground.settings ground.counts old → IsCarried old new
+    → IsStateKept ground.films ground.source ground.settings ground.counts new
+state_kept ground Init Init kept carried = tt
+state_kept ground Init (Ready s p) kept carried = absurd carried
+state_kept ground Init (Playing s p) kept carried = absurd carried
+state_kept ground Init (Stopping s p) kept carried = absurd carried
+state_kept ground (Ready setup paused) Init kept carried = absurd carried
+state_kept ground (Ready setup paused) (Ready s p) kept carried =
     subst (λ (x : State). IsStateKept films source settings counts x) (let same : Ready setup paused ≡ Ready s p = cc in same) kept
-state_kept films source settings counts (Ready setup paused) (Playing s p) kept carried = absurd carried
-state_kept films source settings counts (Ready setup paused) (Stopping s p) kept carried = absurd carried
-state_kept films source settings counts (Playing setup play) Init kept carried = absurd carried
-state_kept films source settings counts (Playing setup play) (Ready s p) kept carried = absurd carried
-state_kept films source settings counts (Playing setup play) (Playing s p) kept carried =
-    subst (λ (x : Setup). IsStateKept films source settings counts (Playing x p)) (sym carried.0) (
+  where
+    open ground use {films, source, settings, counts}
+state_kept ground (Ready setup paused) (Playing s p) kept carried = absurd carried
+state_kept ground (Ready setup paused) (Stopping s p) kept carried = absurd carried
+state_kept ground (Playing setup play) Init kept carried = absurd carried
+state_kept ground (Playing setup play) (Ready s p) kept carried = absurd carried
+state_kept ground (Playing setup play) (Playing s p) kept carried =
+    subst (λ (x : Setup). IsStateKept ground.films ground.source ground.settings ground.counts (Playing x p)) (sym carried.0) (
       kept.0,
       play_kept play p kept.1 carried.1 carried.4 carried.5,
       λ stored at. playing_kept (kept.2 stored at) carried.1 carried.4 carried.5,
     )
-state_kept films source settings counts (Playing setup play) (Stopping s p) kept carried = absurd carried
-state_kept films source settings counts (Stopping setup stop) Init kept carried = absurd carried
-state_kept films source settings counts (Stopping setup stop) (Ready s p) kept carried = absurd carried
-state_kept films source settings counts (Stopping setup stop) (Playing s p) kept carried = absurd carried
-state_kept films source settings counts (Stopping setup stop) (Stopping s p) kept carried =
+state_kept ground (Playing setup play) (Stopping s p) kept carried = absurd carried
+state_kept ground (Stopping setup stop) Init kept carried = absurd carried
+state_kept ground (Stopping setup stop) (Ready s p) kept carried = absurd carried
+state_kept ground (Stopping setup stop) (Playing s p) kept carried = absurd carried
+state_kept ground (Stopping setup stop) (Stopping s p) kept carried =
     subst (λ (x : Setup). IsStateKept films source settings counts (Stopping x p)) (sym carried.0) (
       kept.0,
       carried.3.pacing,
       subst (λ (paused : Option Run). IsPausedIn films source counts setup paused) (sym carried.1) kept.2,
     )
+  where
+    open ground use {films, source, settings, counts}
 
-pub settled_kept : (films : List Stored) (source : Source) (settings : Settings) (counts : Counts) (state : State)
-    → IsStateKept films source settings counts state → IsStateKept films source settings counts (after_stop state)
-settled_kept films source settings counts Init kept = kept
-settled_kept films source settings counts (Ready setup paused) kept = kept
-settled_kept films source settings counts (Playing setup play) kept = kept
-settled_kept films source settings counts (Stopping setup stop) kept = (kept.0, kept.2)
+pub settled_kept : (ground : Ground) (state : State)
+    → IsStateKept ground.films ground.source ground.settings ground.counts state
+    → IsStateKept ground.films ground.source ground.settings ground.counts (after_stop state)
+settled_kept ground Init kept = kept
+settled_kept ground (Ready setup paused) kept = kept
+settled_kept ground (Playing setup play) kept = kept
+settled_kept ground (Stopping setup stop) kept = (kept.0, kept.2)
 
-going_kept : (lost : Bool) (old new : State) → IsGoing lost old → IsCarried old new → IsEven new → is_done_in new ≡ false
-    → IsGoing lost new
-going_kept lost old Init going carried even undone = tt
-going_kept lost old (Ready s p) going carried even undone = tt
-going_kept lost Init (Playing s p) going carried even undone = absurd carried
-going_kept lost (Ready setup paused) (Playing s p) going carried even undone = absurd carried
-going_kept lost (Playing setup play) (Playing s p) going carried even undone = λ linked. record {
-  even = even;
-  whole = carried.5.keep ∙ (going linked).whole ∙ ap total_bytes (sym carried.4);
+-- a slot carried a state on in which no halt is asked, and all that is due was sent
+pub record SteppedOn (lost : Bool) (old new : State) : Type 0 where
+  pub going : IsGoing lost old
+  pub carried : IsCarried old new
+  pub even : IsEven new
+
+going_kept : {lost : Bool} (old new : State) → SteppedOn lost old new → is_done_in new ≡ false → IsGoing lost new
+going_kept old Init given undone = tt
+going_kept old (Ready s p) given undone = tt
+going_kept Init (Playing s p) given undone = absurd given.carried
+going_kept (Ready setup paused) (Playing s p) given undone = absurd given.carried
+going_kept (Playing setup play) (Playing s p) given undone = λ linked. record {
+  even = given.even;
+  whole = given.carried.5.keep ∙ (given.going linked).whole ∙ ap total_bytes (sym given.carried.4);
   going = undone;
 }
-going_kept lost (Stopping setup stop) (Playing s p) going carried even undone = absurd carried
-going_kept lost old (Stopping s p) going carried even undone = tt
+going_kept (Stopping setup stop) (Playing s p) given undone = absurd given.carried
+going_kept old (Stopping s p) given undone = tt
 
-pub awaited_kept : (films : List Stored) (source : Source) (settings : Settings) (counts : Counts) (lost : Bool) (old new : State)
-    (awaited : Awaited) → IsGoing lost old → IsCarried old new → IsEven new → IsFinished new awaited
-    → IsAwaitedKept films source settings counts lost new awaited
-awaited_kept films source settings counts lost old new Nothing going carried even is = going_kept lost old new going carried even is
-awaited_kept films source settings counts lost old new (Play prepared) going carried even is = absurd is
-awaited_kept films source settings counts lost old new (Halt keep next) going carried even is =
-    subst (λ (n : Next). IsAwaitedKept films source settings counts lost new (Halt keep n)) (sym is.1) (is.0, tt)
-awaited_kept films source settings counts lost old new (Look sequence) going carried even is = absurd is
-awaited_kept films source settings counts lost old new (Offer sequence) going carried even is = absurd is
+pub awaited_kept : {lost : Bool} {old new : State} (ground : Ground) (awaited : Awaited) → SteppedOn lost old new
+    → IsFinished new awaited → IsAwaitedKept ground.films ground.source ground.settings ground.counts lost new awaited
+awaited_kept {old} {new} ground Nothing step is = going_kept old new step is
+awaited_kept ground (Play prepared) step is = absurd is
+awaited_kept {lost} {new} ground (Halt keep next) step is =
+    subst (λ (n : Next). IsAwaitedKept ground.films ground.source ground.settings ground.counts lost new (Halt keep n)) (sym is.1) (is.0, tt)
+awaited_kept ground (Look sequence) step is = absurd is
+awaited_kept ground (Offer sequence) step is = absurd is
 
 -- the same once the reply of a PAUSE or a TEARDOWN was sent
-pub awaited_settled : (films : List Stored) (source : Source) (settings : Settings) (counts : Counts) (lost : Bool) (old new : State)
-    (awaited : Awaited) → IsGoing lost old → IsCarried old new → IsEven new → IsFinished (after_stop new) awaited
-    → IsAwaitedKept films source settings counts lost (after_stop new) awaited
-awaited_settled films source settings counts lost old Init awaited going carried even is =
-    awaited_kept films source settings counts lost Init Init awaited tt tt tt is
-awaited_settled films source settings counts lost old (Ready s p) awaited going carried even is =
-    awaited_kept films source settings counts lost (Ready s p) (Ready s p) awaited tt (refl, refl) tt is
-awaited_settled films source settings counts lost old (Playing s p) awaited going carried even is =
-    awaited_kept films source settings counts lost old (Playing s p) awaited going carried even is
-awaited_settled films source settings counts lost old (Stopping s p) awaited going carried even is =
-    awaited_kept films source settings counts lost (Ready s p.paused) (Ready s p.paused) awaited tt (refl, refl) tt is
+pub awaited_settled : {lost : Bool} {old : State} (ground : Ground) (new : State) (awaited : Awaited)
+    → SteppedOn lost old new → IsFinished (after_stop new) awaited
+    → IsAwaitedKept ground.films ground.source ground.settings ground.counts lost (after_stop new) awaited
+awaited_settled {lost} ground Init awaited step is =
+    awaited_kept {lost = lost} {old = Init} {new = Init} ground awaited (record { going = tt; carried = tt; even = tt }) is
+awaited_settled {lost} ground (Ready s p) awaited step is =
+    awaited_kept {lost = lost} {old = Ready s p} {new = Ready s p} ground awaited (record { going = tt; carried = (refl, refl); even = tt }) is
+awaited_settled ground (Playing s p) awaited step is =
+    awaited_kept ground awaited step is
+awaited_settled {lost} ground (Stopping s p) awaited step is =
+    awaited_kept {lost = lost} {old = Ready s p.paused} {new = Ready s p.paused} ground awaited
+    (record { going = tt; carried = (refl, refl); even = tt }) is
 
 -- and where the link failed
-pub awaited_lost : (films : List Stored) (source : Source) (settings : Settings) (counts : Counts) (state : State)
-    → IsAwaitedKept films source settings counts true state Nothing
-awaited_lost films source settings counts Init = tt
-awaited_lost films source settings counts (Ready setup paused) = tt
-awaited_lost films source settings counts (Playing setup play) = λ linked. cc
-awaited_lost films source settings counts (Stopping setup stop) = tt
+pub awaited_lost : (ground : Ground) (state : State)
+    → IsAwaitedKept ground.films ground.source ground.settings ground.counts true state Nothing
+awaited_lost ground Init = tt
+awaited_lost ground (Ready setup paused) = tt
+awaited_lost ground (Playing setup play) = λ linked. cc
+awaited_lost ground (Stopping setup stop) = tt
 
 -- nothing is awaited
 pub nothing_of : (awaited : Awaited) → awaited_answer_of awaited ≡ NoAnswer → awaited ≡ Nothing

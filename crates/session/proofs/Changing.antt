@@ -1,5 +1,6 @@
 -- What each request changes of a session.
-use Rattle.std.proofs.Common.{◌≡◌, ◌≢◌, ℕ, Bool, true, false, List, [], Option, Some, Result, Ok, Err, refl, sym, ap, subst, inl, inr}
+use Rattle.std.proofs.Common.{◌≡◌, ℕ, Bool, true, false, List, [], Option, Some, codes, Result, Ok, Err, refl, sym, ap, subst, inl, inr}
+use Rattle.rtsp_text.specs.Fields.{header_value}
 use Rattle.rtsp_text.specs.declared.requests.Request.{Request}
 use Rattle.film_frames.specs.declared.stores.Stored.{Stored}
 use Rattle.film_run.specs.declared.runs.Run.{Run}
@@ -7,7 +8,6 @@ use Rattle.session.specs.declared.asks.Ask.{Ask}
 use Rattle.session.specs.declared.asks.Ask.TheVariants.{Play as AskPlay}
 use Rattle.session.specs.declared.plans.Planned.{Planned}
 use Rattle.session.specs.declared.refusals.Refusal.{Refusal}
-use Rattle.session.specs.declared.refusals.Refusal.TheVariants.{Memory}
 use Rattle.session.specs.declared.refusals.Task.{Task}
 use Rattle.session.specs.declared.refusals.Task.TheVariants.{Options as ToOptions, Describe as ToDescribe, Setup as ToSetup, Play as ToPlay, Pause as ToPause, Teardown as ToTeardown, GetParameter as ToGetParameter}
 use Rattle.session.specs.declared.states.Awaited.TheVariants.{Play}
@@ -100,20 +100,24 @@ pub hears_state : (old new : Standing) (message : List ℕ) (ask : Ask) → Hear
 hears_state old new message ask hears = (comes_changes old new message ask (comes_to old message ask new hears)).1
 
 -- a PLAY to which no refusal applies
-no_refusal : {old : Standing} {setup : Setup} {paused : Option Run} {range : Option (List ℕ)} {ask : Ask}
-    {new : Standing} (sequence : ℕ) (authority : List ℕ) (planned : Result Planned Refusal) → old.state ≡ Ready setup paused
-    → ((refusal : Refusal) → refusal ≢ Memory → ¬ IsPlanned old setup paused range (Err refusal))
-    → IsPlanned old setup paused range planned → AsksPlayOr old sequence authority setup planned ask new → AsksOrLacks old ask new
-no_refusal {old} {setup} {paused} {range} {ask} {new} sequence authority (Ok planned) ready good is (inl asks) =
+no_refusal : {old : Standing} {request : Request} {setup : Setup} {paused : Option Run} {ask : Ask} {new : Standing}
+    (authority : List ℕ) (planned : Result Planned Refusal) → old.state ≡ Ready setup paused → IsGoodPlay old setup paused request
+    → IsPlanned old setup paused (header_value request.head.now (codes "Range")) planned
+    → AsksPlayOr old request.sequence authority setup planned ask new → AsksOrLacks old ask new
+no_refusal {old} {request} {setup} {paused} {ask} {new} authority (Ok planned) ready good is (inl asks) =
+    let range = header_value request.head.now (codes "Range") in
     let own = of_film old.films setup.film is.0 (λ s. IsPlannedRun old s setup paused range planned) is.1.at is.1 asks.stored asks.at in
     inl (subst (λ a. IsPlayAskedFor old a new) (sym asks.command)
-    (play_asked sequence authority ready own asks.state))
-no_refusal {ask} {new} sequence authority (Ok planned) ready good is (inr refused) =
-    inr (record { sequence = sequence; refused = refused })
-no_refusal {old} {ask} {new} sequence authority (Err refusal) ready good is refused =
+    (play_asked request.sequence authority ready own asks.state))
+no_refusal {request} {ask} {new} authority (Ok planned) ready good is (inr refused) =
+    inr (record { sequence = request.sequence; refused = refused })
+no_refusal {old} {request} {ask} {new} authority (Err refusal) ready good is refused =
     elim (is_memory refusal) [
-      | inl memory ↦ inr (record { sequence = sequence; refused = subst (λ r. IsRefused old (Some sequence) r [] ask new) memory refused })
-      | inr other ↦ absurd (good refusal other is)
+      | inl memory ↦ inr (record {
+        sequence = request.sequence;
+        refused = subst (λ r. IsRefused old (Some request.sequence) r [] ask new) memory refused;
+      })
+      | inr other ↦ absurd (good.plan refusal other is)
     ]
 
 good_plays : {old : Standing} {request : Request} {setup : Setup} {paused : Option Run} {ask : Ask} {new : Standing}
@@ -121,8 +125,7 @@ good_plays : {old : Standing} {request : Request} {setup : Setup} {paused : Opti
     → old.state ≡ Ready setup paused → IsGoodPlay old setup paused request → Plays old.state old request authority ask new → AsksOrLacks old ask new
 good_plays {old} {request} {ask} {new} authority ready good plays =
     let is = subst (λ (s : State). Plays s old request authority ask new) ready plays in
-    no_refusal request.sequence authority is.planned ready good.plan
-    is.is_planned is.asks
+    no_refusal authority is.planned ready good is.is_planned is.asks
 
 good_takes : {old : Standing} {request : Request} {setup : Setup} {paused : Option Run} {ask : Ask} {new : Standing}
     (judgement : Result Task Refusal) → old.state ≡ Ready setup paused → IsGoodPlay old setup paused request

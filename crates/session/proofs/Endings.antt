@@ -1,9 +1,7 @@
 -- What a PAUSE and a TEARDOWN come to.
 use Rattle.std.proofs.Common.{◌≡◌, ℕ, ◌⊎◌, ◌&&◌, Bool, true, false, cond, List, [], ◌∷◌, Some, codes, Result, Ok, Err, refl, sym, ap, subst, ◌∙◌, inl, inr}
-use Rattle.film_frames.specs.declared.stores.Stored.{Stored}
 use Rattle.pacer.specs.Pacings.{next_boundary}
 use Rattle.rtsp_text.specs.Replies.{value_named}
-use Rattle.rtsp_text.specs.declared.requests.Request.{Request}
 use Rattle.rtsp_text.proofs.Once.{no_fault}
 use Rattle.session.specs.declared.asks.Ask.{Ask}
 use Rattle.session.specs.declared.asks.Ask.TheVariants.{Reply, Halt as AskHalt}
@@ -11,7 +9,6 @@ use Rattle.session.specs.declared.refusals.Refusal.{Refusal}
 use Rattle.session.specs.declared.refusals.Refusal.TheVariants.{Memory}
 use Rattle.session.specs.declared.refusals.Task.{Task}
 use Rattle.session.specs.declared.refusals.Task.TheVariants.{Options as ToOptions, Describe as ToDescribe, Setup as ToSetup, Play as ToPlay, Pause as ToPause, Teardown as ToTeardown, GetParameter as ToGetParameter}
-use Rattle.session.specs.declared.settings.Settings.{Settings}
 use Rattle.session.specs.declared.states.Awaited.{Awaited}
 use Rattle.session.specs.declared.states.Awaited.TheVariants.{Halt as ToHalt}
 use Rattle.session.specs.declared.states.Next.TheVariants.{Done, Torn}
@@ -31,6 +28,7 @@ use Rattle.session.specs.PlayLaws.{IsDeclined}
 use Rattle.session.specs.Replies.{field, session_text}
 use Rattle.session.specs.Sendings.{after_play, is_between, is_done_in, is_sending, is_taken, next_of, sent_due, sent_in, sent_reply, sent_slot, stepped_in}
 use Rattle.session.specs.Standings.{Standing}
+use Rattle.session.proofs.Grounds.{Beginning, Taken}
 use Rattle.session.proofs.OneVerdict.{method_once}
 use Rattle.session.proofs.RangeInPlaying.{refused, same_request}
 use Rattle.session.proofs.Results.{ComesTo, Lacks, Refuses, Says, SettlesSetup, AsksForPlay, AsksForHalt, AsksForLook, AsksForOffer, comes_to}
@@ -101,60 +99,63 @@ pauses_in {state = Ready setup paused} {ask} {new} sequence is pauses = absurd p
 pauses_in {state = Playing setup play} {ask} {new} sequence is pauses = paused_play is pauses
 pauses_in {state = Stopping setup stop} {ask} {new} sequence is pauses = absurd pauses
 
+-- what all requests of a method come to
+abbrev TakesMethod : (Standing → Ask → Standing → Type 0) → List ℕ → Type 0
+TakesMethod P method = (taken : Taken) (judgement : Result Task Refusal) → taken.request.method.now ≡ method
+    → IsJudged taken.old.films taken.old.id (place_of taken.old.state) taken.request judgement
+    → Takes taken.old taken.request judgement taken.ask taken.new → Comes P taken.old taken.ask taken.new
+
 -- a request of a method is refused, or does what the method's task does
 does_task : (P : Standing → Ask → Standing → Type 0) (method : Method)
-    → ((old : Standing) (request : Request) (task : Task) (ask : Ask) (new : Standing) → method_of task ≡ method
-    → Takes old request (Ok task) ask new → P old ask new)
-    → (old : Standing) (request : Request) (judgement : Result Task Refusal) (ask : Ask) (new : Standing)
-    → request.method.now ≡ name_of method → IsJudged old.films old.id (place_of old.state) request judgement
-    → Takes old request judgement ask new → Comes P old ask new
-does_task P method does old request (Ok task) ask new named judged takes =
-    inr (does old request task ask new (method_once request.method.now (method_of task) method judged.talk.spoken.named named) takes)
-does_task P method does old request (Err refusal) ask new named judged takes =
-    inl (refused (Some request.sequence) refusal (option_of request.head.now) takes)
+    → ((taken : Taken) (task : Task) → method_of task ≡ method
+    → Takes taken.old taken.request (Ok task) taken.ask taken.new → P taken.old taken.ask taken.new)
+    → TakesMethod P (name_of method)
+does_task P method does taken (Ok task) named judged takes =
+    inr (does taken task (method_once taken.request.method.now (method_of task) method judged.talk.spoken.named named) takes)
+does_task P method does taken (Err refusal) named judged takes =
+    inl (refused (Some taken.request.sequence) refusal (option_of taken.request.head.now) takes)
 
-tears_task : (old : Standing) (request : Request) (task : Task) (ask : Ask) (new : Standing) → method_of task ≡ Teardown
-    → Takes old request (Ok task) ask new → IsTornDown old ask new
-tears_task old request ToTeardown ask new is takes = tears_in request.sequence refl takes
-tears_task old request ToOptions ask new is takes = absurd cc
-tears_task old request (ToDescribe asked) ask new is takes = absurd cc
-tears_task old request (ToSetup film) ask new is takes = absurd cc
-tears_task old request (ToPlay asked) ask new is takes = absurd cc
-tears_task old request ToPause ask new is takes = absurd cc
-tears_task old request ToGetParameter ask new is takes = absurd cc
+tears_task : (taken : Taken) (task : Task) → method_of task ≡ Teardown
+    → Takes taken.old taken.request (Ok task) taken.ask taken.new → IsTornDown taken.old taken.ask taken.new
+tears_task taken ToTeardown is takes = tears_in taken.request.sequence refl takes
+tears_task taken ToOptions is takes = absurd cc
+tears_task taken (ToDescribe asked) is takes = absurd cc
+tears_task taken (ToSetup film) is takes = absurd cc
+tears_task taken (ToPlay asked) is takes = absurd cc
+tears_task taken ToPause is takes = absurd cc
+tears_task taken ToGetParameter is takes = absurd cc
 
-pauses_task : (old : Standing) (request : Request) (task : Task) (ask : Ask) (new : Standing) → method_of task ≡ Pause
-    → Takes old request (Ok task) ask new → IsPausedPlay old ask new
-pauses_task old request ToPause ask new is takes = pauses_in request.sequence refl takes
-pauses_task old request ToOptions ask new is takes = absurd cc
-pauses_task old request (ToDescribe asked) ask new is takes = absurd cc
-pauses_task old request (ToSetup film) ask new is takes = absurd cc
-pauses_task old request (ToPlay asked) ask new is takes = absurd cc
-pauses_task old request ToTeardown ask new is takes = absurd cc
-pauses_task old request ToGetParameter ask new is takes = absurd cc
+pauses_task : (taken : Taken) (task : Task) → method_of task ≡ Pause
+    → Takes taken.old taken.request (Ok task) taken.ask taken.new → IsPausedPlay taken.old taken.ask taken.new
+pauses_task taken ToPause is takes = pauses_in taken.request.sequence refl takes
+pauses_task taken ToOptions is takes = absurd cc
+pauses_task taken (ToDescribe asked) is takes = absurd cc
+pauses_task taken (ToSetup film) is takes = absurd cc
+pauses_task taken (ToPlay asked) is takes = absurd cc
+pauses_task taken ToTeardown is takes = absurd cc
+pauses_task taken ToGetParameter is takes = absurd cc
 
 -- a message of a method is refused, or comes to what its request does
-hears_on : {P : Standing → Ask → Standing → Type 0} {method : List ℕ}
-    → ((old : Standing) (request : Request) (judgement : Result Task Refusal) (ask : Ask) (new : Standing) → request.method.now ≡ method
-    → IsJudged old.films old.id (place_of old.state) request judgement → Takes old request judgement ask new → Comes P old ask new)
-    → (lost : Bool) {old : Standing} {message : List ℕ} {ask : Ask} {new : Standing} → IsOfMethod method message
+hears_on : {method : List ℕ} (P : Standing → Ask → Standing → Type 0) → TakesMethod P method → (lost : Bool) {old : Standing} {message : List ℕ} {ask : Ask} {new : Standing} → IsOfMethod method message
     → HearsOn lost old message ask new → Comes P old ask new
-hears_on {P} {method} takes true {ask} {new} is hears = inl (refused _ Memory [] hears)
-hears_on {P} {method} takes false {message} {ask} {new} is (inl fault) =
+hears_on P takes true {ask} {new} is hears = inl (refused _ Memory [] hears)
+hears_on P takes false {message} {ask} {new} is (inl fault) =
     let r = is.request in
     absurd (no_fault message r.method.now r.url.now r.sequence r.head.now r.body.now fault.fault is.is_request fault.is_fault)
-hears_on {P} {method} takes false {old} {message} {ask} {new} is (inr whole) =
+hears_on P takes false {old} {message} {ask} {new} is (inr whole) =
     let alike = same_request message is.request whole.request is.is_request whole.is_request in
-    takes old whole.request whole.hears.judgement ask new (alike.method ∙ is.method_is) whole.hears.judged whole.hears.takes
+    takes (record { old = old; new = new; request = whole.request; ask = ask }) whole.hears.judgement (alike.method ∙ is.method_is)
+    whole.hears.judged whole.hears.takes
 
 pub teardown_ends : (old new : Standing) (message : List ℕ) (ask : Ask) → IsTeardown message → Hears old message ask new
     → IsDeclined old ask new ⊎ IsTornDown old ask new
 teardown_ends old new message ask is hears =
-    hears_on {P = IsTornDown} {method = codes "TEARDOWN"} (does_task IsTornDown Teardown tears_task) old.lost {old = old} {message = message} {ask = ask} {new = new} is hears
+    hears_on IsTornDown (does_task IsTornDown Teardown tears_task) old.lost {old = old} {message = message} {ask = ask} {new = new} is hears
 
 pub pause_leaves : (old new : Standing) (message : List ℕ) (ask : Ask) → IsPause message → Hears old message ask new
     → IsDeclined old ask new ⊎ IsPausedPlay old ask new
-pause_leaves old new message ask is hears = hears_on {P = IsPausedPlay} {method = codes "PAUSE"} (does_task IsPausedPlay Pause pauses_task) old.lost {old = old} {message = message} {ask = ask} {new = new} is hears
+pause_leaves old new message ask is hears =
+    hears_on IsPausedPlay (does_task IsPausedPlay Pause pauses_task) old.lost {old = old} {message = message} {ask = ask} {new = new} is hears
 
 -- ---- only a TEARDOWN ends the session
 
@@ -267,10 +268,13 @@ all_calm (happening ∷ rest) old new is calm =
           ]
     ]
 
-pub torn_by_teardown : (films : List Stored) (settings : Settings) (words : List ℕ) (happenings : List Happening) (now : Standing)
-    → AreAfter (new_standing films settings words) happenings now → now.torn ≡ true → HasTeardown happenings
-torn_by_teardown films settings words happenings now are torn =
+pub torn_by_teardown : (begun : Beginning) (happenings : List Happening) (now : Standing)
+    → AreAfter (new_standing begun.films begun.settings begun.words) happenings now → now.torn ≡ true
+    → HasTeardown happenings
+torn_by_teardown begun happenings now are torn =
     elim (all_calm happenings (new_standing films settings words) now are (record { tearing = refl; torn = refl; awaited = refl })) [
       | inl heard ↦ heard
       | inr quiet ↦ absurd (let no : ⊥ = cc (quiet.torn, torn) in no)
     ]
+  where
+    open begun use {films, settings, words}

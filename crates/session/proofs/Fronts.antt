@@ -64,14 +64,21 @@ failed_due {stop} {slot} {p} {new} {next} failed = ap (λ (q : Pacing). q.due) f
 max_twice : (a b : ℕ) → max (max a b) b ≡ max a b
 max_twice a b = omega arith
 
+-- what a slot sends: what comes before a reply, the reply, what comes after it, and all where no reply waits
+pub record SlotSends : Type 0 where
+  pub one : List ℕ
+  pub text : List ℕ
+  pub after : List ℕ
+  pub plain : List ℕ
+
 -- both sends of a slot: a front of what comes after the first
 pub front_both : {waits between : Bool} {mid new : Option (List Doing)} (old : Option (List Doing))
-    (one text after plain : List ℕ) → waits ≡ true → between ≡ true →
-    mid ≡ told_more old (sends one) → IsFrontTold mid new (text ++ after) →
-    IsFrontTold old new (if waits then one ++ (if between then text ++ after else []) else plain)
-front_both {waits = true} {between = true} {new} old one text after plain waiting between told front = front_right old one (text ++ after) told front
-front_both {waits = true} {between = false} {new} old one text after plain waiting between told front = absurd (true≢false (sym between))
-front_both {waits = false} {between} {new} old one text after plain waiting is told front = absurd (true≢false (sym waiting))
+    (sent : SlotSends) → waits ≡ true → between ≡ true → mid ≡ told_more old (sends sent.one)
+    → IsFrontTold mid new (sent.text ++ sent.after)
+    → IsFrontTold old new (if waits then sent.one ++ (if between then sent.text ++ sent.after else []) else sent.plain)
+front_both {waits = true} {between = true} {new} old sent waiting between told front = front_right old sent.one (sent.text ++ sent.after) told front
+front_both {waits = true} {between = false} {new} old sent waiting between told front = absurd (true≢false (sym between))
+front_both {waits = false} {between} {new} old sent waiting is told front = absurd (true≢false (sym waiting))
 
 -- a slot that was stepped makes nothing more due as it is stepped again
 pub raised_twice : (stop : Bool) (slot : ℕ) (state : State) → open_in (stepped_in false slot (stepped_in stop slot state)) ≡ open_in (stepped_in stop slot state)

@@ -13,6 +13,7 @@ use Rattle.session.specs.declared.states.State.TheVariants.{Playing}
 use Rattle.session.specs.Hearings.{counts_next, is_answered, is_torn}
 use Rattle.session.specs.Inside.{IsAwaitedKept, IsNextIn, IsStateKept, IsStopAnswered, open_receipts}
 use Rattle.session.specs.Sendings.{state_after}
+use Rattle.session.proofs.Grounds.{Ground}
 
 -- how the state is kept that a halt leaves
 pub halted_kept : {source : Source} {settings : Settings} {counts : Counts} {setup : Setup} {play : Played}
@@ -23,11 +24,11 @@ halted_kept films keep Done kept left = (kept.0, tt)
 halted_kept films keep (Paused rest) kept left = (kept.0, kept.1.pacing, left)
 halted_kept films keep Torn kept left = (kept.0, kept.1.pacing, tt)
 
-pub halted_rest : (films : List Stored) (source : Source) (settings : Settings) (counts : Counts) (lost : Bool) (setup : Setup)
-    (play : Played) (next : Next) → IsAwaitedKept films source settings counts lost (state_after setup play next) Nothing
-halted_rest films source settings counts lost setup play Done = tt
-halted_rest films source settings counts lost setup play (Paused rest) = tt
-halted_rest films source settings counts lost setup play Torn = tt
+pub halted_rest : (ground : Ground) (lost : Bool) (setup : Setup) (play : Played) (next : Next)
+    → IsAwaitedKept ground.films ground.source ground.settings ground.counts lost (state_after setup play next) Nothing
+halted_rest ground lost setup play Done = tt
+halted_rest ground lost setup play (Paused rest) = tt
+halted_rest ground lost setup play Torn = tt
 
 pub halted_stop : (setup : Setup) (play : Played) (next : Next) (waits : Bool)
     → IsStopAnswered (state_after setup play next) (if is_answered next then true else waits)

@@ -9,6 +9,7 @@ use Rattle.session.specs.Hearings.{Hears}
 use Rattle.session.specs.Laws.{IsNoHalt, LeavesOr, PlaysOn}
 use Rattle.session.specs.Methods.{IsReplied}
 use Rattle.session.specs.Standings.{Standing, with_reply}
+use Rattle.session.proofs.Grounds.{HeardMessage}
 use Rattle.session.proofs.Results.{ComesTo, Lacks, Refuses, Says, SettlesSetup, AsksForPlay, AsksForHalt, AsksForLook, AsksForOffer, comes_to}
 
 plays_on : (old new : Standing) → new.state ≡ old.state → new.heard ≡ old.heard → PlaysOn old new
@@ -34,10 +35,10 @@ comes_plays {old} {new} {ask} (AsksForOffer sequence wait planned asks) playing 
     plays_on old new (ap (λ (s : Standing). s.state) asks.state) (ap (λ (s : Standing). s.heard) asks.state)
 
 -- in Playing a request that asks for no halt leaves the play
-pub hears_plays : (old new : Standing) (message : List ℕ) (ask : Ask) (setup : Setup) (play : Played) → Hears old message ask new
-    → old.state ≡ Playing setup play → IsNoHalt ask → PlaysOn old new
-hears_plays old new message ask setup play hears is free =
-    comes_plays (comes_to old message ask new hears) is free
+pub hears_plays : (heard : HeardMessage) (setup : Setup) (play : Played) → heard.old.state ≡ Playing setup play
+    → IsNoHalt heard.ask → PlaysOn heard.old heard.new
+hears_plays heard setup play is free =
+    comes_plays (comes_to heard.old heard.message heard.ask heard.new heard.hears) is free
 
 leaves : (old : Standing) (text : List ℕ) (ask : Ask) (new : Standing) → IsReplied old text ask new → LeavesOr old new
 leaves old text ask new is = inr (is.1 ∙ ap (λ (t : List ℕ). with_reply old t) (sym (ap (λ (s : Standing). s.text) is.1)))

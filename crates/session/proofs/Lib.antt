@@ -1,3 +1,4 @@
+pub mod Grounds
 pub mod Boundaries
 pub mod Halts
 pub mod SlotBytes

@@ -1,7 +1,6 @@
 -- There is room for the first looks of a connection.
 use Rattle.std.proofs.Common.{◌≡◌, ℕ, ◌+◌, ◌-◌, ◌<◌, ◌≤◌, ◌&&◌, Bool, true, false, cond, List, [], ◌∷◌, Some, codes, Result, Ok, Err, refl, sym, ap, subst, ◌∙◌, inl, inr, arith}
 use Rattle.std.proofs.lemmas.List.Sums.{sum_by-cons}
-use Rattle.film_frames.specs.declared.stores.Stored.{Stored}
 use Rattle.rtsp_text.specs.declared.requests.Request.{Request}
 use Rattle.rtsp_text.proofs.Once.{no_fault}
 use Rattle.session.specs.declared.asks.Ask.{Ask}
@@ -12,8 +11,7 @@ use Rattle.session.specs.declared.refusals.Refusal.{Refusal}
 use Rattle.session.specs.declared.refusals.Refusal.TheVariants.{Memory}
 use Rattle.session.specs.declared.refusals.Task.{Task}
 use Rattle.session.specs.declared.refusals.Task.TheVariants.{Options as ToOptions, Describe as ToDescribe, Setup as ToSetup, Play as ToPlay, Pause as ToPause, Teardown as ToTeardown, GetParameter as ToGetParameter}
-use Rattle.session.specs.declared.settings.Settings.{Settings}
-use Rattle.session.specs.Hearings.{Hears, HearsOn, new_standing}
+use Rattle.session.specs.Hearings.{HearsOn, new_standing}
 use Rattle.session.specs.Judging.{IsJudged, IsWord, option_of, place_of}
 use Rattle.session.specs.Laws.{Is500}
 use Rattle.session.specs.LookLaws.{Happening, Message, Admission, Overflow, Full, Halt, Look, Offer, Slot, Sending, AreAfter, AsksBooked, HasLooksLeft, IsAfter, looks_asked, looks_in, looks_of}
@@ -22,6 +20,7 @@ use Rattle.session.specs.Methods.{Gets, IsRefused, Looks, Takes}
 use Rattle.session.specs.Replies.{refusal_text}
 use Rattle.session.specs.Sendings.{after_play, is_between, is_sending, is_taken, sent_due, sent_reply, sent_slot, stepped_in}
 use Rattle.session.specs.Standings.{Standing}
+use Rattle.session.proofs.Grounds.{Beginning, HeardMessage, Taken}
 use Rattle.session.proofs.OneHearing.{topic_once}
 use Rattle.session.proofs.RangeInPlaying.{same_request}
 use Rattle.session.proofs.Refusing.{one_code, own_code, refusal_code}
@@ -90,43 +89,50 @@ booked_asks : (old new : Standing) (sequence : ℕ) (ask : Ask) → 0 < old.look
 booked_asks old new sequence ask some (inl look) = λ lacks. subst (λ a. Is500 a new) look.command lacks
 booked_asks old new sequence ask some (inr short) = absurd (omega (arith, some, short.later))
 
-gets_booked : {topic : Topic} (old new : Standing) (request : Request) (ask : Ask) → 0 < old.looks_left → topic ≡ Booked
-    → Gets old request topic ask new → ¬ Is500 ask new
-gets_booked {topic = NoTopic} old new request ask some is gets = absurd (let no : ⊥ = cc in no)
-gets_booked {topic = Booked} old new request ask some is gets = booked_asks old new request.sequence ask some gets
-gets_booked {topic = OfferTopic} old new request ask some is gets = absurd (let no : ⊥ = cc in no)
-gets_booked {topic = Unknown} old new request ask some is gets = absurd (let no : ⊥ = cc in no)
+gets_booked : {topic : Topic} (taken : Taken) → 0 < taken.old.looks_left → topic ≡ Booked
+    → Gets taken.old taken.request topic taken.ask taken.new → ¬ Is500 taken.ask taken.new
+gets_booked {topic = NoTopic} taken some is gets = absurd (let no : ⊥ = cc in no)
+gets_booked {topic = Booked} taken some is gets = booked_asks taken.old taken.new taken.request.sequence taken.ask some gets
+gets_booked {topic = OfferTopic} taken some is gets = absurd (let no : ⊥ = cc in no)
+gets_booked {topic = Unknown} taken some is gets = absurd (let no : ⊥ = cc in no)
 
-refuses_booked : {new : Standing} {ask : Ask} {refusal : Refusal} (old : Standing) (message : List ℕ) (sequence : ℕ)
-    (option : List ℕ)
+refuses_booked : {new : Standing} {ask : Ask} {refusal : Refusal} (old : Standing) (sequence : ℕ) (option : List ℕ)
     → (refusal ≡ Memory → ⊥) → IsRefused old (Some sequence) refusal option ask new → ¬ Is500 ask new
-refuses_booked {new} {ask} {refusal} old message sequence option other is = λ lacks.
+refuses_booked {new} {ask} {refusal} old sequence option other is = λ lacks.
     let text = refusal_text (Some sequence) refusal option in
     let code : HasCode 500 new.text = subst (λ a. Is500 a new) is.0 lacks in
     let its = subst (λ (t : List ℕ). HasCode 500 t) (ap (λ (s : Standing). s.text) is.1) code in
     let own = own_code refusal in
     other (own.memory (one_code text own.small (omega arith) (refusal_code (Some sequence) refusal option) its))
 
-takes_booked : (old new : Standing) (message : List ℕ) (request : Request) (judgement : Result Task Refusal) (ask : Ask)
-    → 0 < old.looks_left → request.method.now ≡ codes "GET_PARAMETER" → IsWord (codes "x-Booked") request.body.now
-    → IsJudged old.films old.id (place_of old.state) request judgement → Takes old request judgement ask new → ¬ Is500 ask new
-takes_booked old new message request (Ok ToGetParameter) ask some method body judged takes =
-    gets_booked old new request ask some (topic_once request.body.now Booked takes.topic body takes.is_topic) takes.gets
-takes_booked old new message request (Ok ToOptions) ask some method body judged takes =
-    absurd (let no : ⊥ = cc (judged.talk.spoken.named, method) in no)
-takes_booked old new message request (Ok (ToDescribe asked)) ask some method body judged takes =
-    absurd (let no : ⊥ = cc (judged.talk.spoken.named, method) in no)
-takes_booked old new message request (Ok (ToSetup film)) ask some method body judged takes =
-    absurd (let no : ⊥ = cc (judged.talk.spoken.named, method) in no)
-takes_booked old new message request (Ok (ToPlay asked)) ask some method body judged takes =
-    absurd (let no : ⊥ = cc (judged.talk.spoken.named, method) in no)
-takes_booked old new message request (Ok ToPause) ask some method body judged takes =
-    absurd (let no : ⊥ = cc (judged.talk.spoken.named, method) in no)
-takes_booked old new message request (Ok ToTeardown) ask some method body judged takes =
-    absurd (let no : ⊥ = cc (judged.talk.spoken.named, method) in no)
-takes_booked old new message request (Err refusal) ask some method body judged takes =
-    refuses_booked old message request.sequence (option_of request.head.now)
+-- a request for what is booked, for which there is room
+record HasBookedAsked (old : Standing) (request : Request) : Type 0 where
+  some : 0 < old.looks_left
+  method : request.method.now ≡ codes "GET_PARAMETER"
+  body : IsWord (codes "x-Booked") request.body.now
+
+takes_booked : (taken : Taken) (judgement : Result Task Refusal) → HasBookedAsked taken.old taken.request
+    → IsJudged taken.old.films taken.old.id (place_of taken.old.state) taken.request judgement
+    → Takes taken.old taken.request judgement taken.ask taken.new → ¬ Is500 taken.ask taken.new
+takes_booked taken (Ok ToGetParameter) asked judged takes =
+    gets_booked taken asked.some (topic_once taken.request.body.now Booked takes.topic asked.body takes.is_topic) takes.gets
+takes_booked taken (Ok ToOptions) asked judged takes =
+    absurd (let no : ⊥ = cc (judged.talk.spoken.named, asked.method) in no)
+takes_booked taken (Ok (ToDescribe film)) asked judged takes =
+    absurd (let no : ⊥ = cc (judged.talk.spoken.named, asked.method) in no)
+takes_booked taken (Ok (ToSetup film)) asked judged takes =
+    absurd (let no : ⊥ = cc (judged.talk.spoken.named, asked.method) in no)
+takes_booked taken (Ok (ToPlay film)) asked judged takes =
+    absurd (let no : ⊥ = cc (judged.talk.spoken.named, asked.method) in no)
+takes_booked taken (Ok ToPause) asked judged takes =
+    absurd (let no : ⊥ = cc (judged.talk.spoken.named, asked.method) in no)
+takes_booked taken (Ok ToTeardown) asked judged takes =
+    absurd (let no : ⊥ = cc (judged.talk.spoken.named, asked.method) in no)
+takes_booked taken (Err refusal) asked judged takes =
+    refuses_booked old request.sequence (option_of request.head.now)
     (λ memory. subst (λ r. IsJudged old.films old.id (place_of old.state) request (Err r)) memory judged) takes
+  where
+    open taken use {old, request}
 
 hears_booked : {lost : Bool} {old : Standing} {message : List ℕ} (new : Standing) (ask : Ask) → lost ≡ false → 0 < old.looks_left
     → AsksBooked old message → HearsOn lost old message ask new → ¬ Is500 ask new
@@ -136,11 +142,15 @@ hears_booked {lost = false} {message} new ask linked some is (inl fault) =
     absurd (no_fault message r.method.now r.url.now r.sequence r.head.now r.body.now fault.fault is.is_request fault.is_fault)
 hears_booked {lost = false} {old} {message} new ask linked some is (inr whole) =
     let alike = same_request message is.request whole.request is.is_request whole.is_request in
-    takes_booked old new message whole.request whole.hears.judgement ask some (alike.method ∙ is.method)
-    (subst (λ (b : List ℕ). IsWord (codes "x-Booked") b) (sym alike.body) is.body) whole.hears.judged whole.hears.takes
+    takes_booked (record { old = old; new = new; request = whole.request; ask = ask }) whole.hears.judgement (record {
+      some = some;
+      method = alike.method ∙ is.method;
+      body = subst (λ (b : List ℕ). IsWord (codes "x-Booked") b) (sym alike.body) is.body;
+    }) whole.hears.judged whole.hears.takes
 
-pub looks_found : (films : List Stored) (settings : Settings) (words : List ℕ) (old new : Standing) (message : List ℕ) (ask : Ask)
-    → HasLooksLeft films settings words old → AsksBooked old message → Hears old message ask new → ¬ Is500 ask new
-looks_found films settings words old new message ask has is hears =
-    let room = all_room has.happenings (new_standing films settings words) old has.are in
-    hears_booked new ask is.linked (omega (arith, room, has.few)) is hears
+pub looks_found : (begun : Beginning) (heard : HeardMessage)
+    → HasLooksLeft begun.films begun.settings begun.words heard.old → AsksBooked heard.old heard.message
+    → ¬ Is500 heard.ask heard.new
+looks_found begun heard has is =
+    let room = all_room has.happenings (new_standing begun.films begun.settings begun.words) heard.old has.are in
+    hears_booked heard.new heard.ask is.linked (omega (arith, room, has.few)) is heard.hears

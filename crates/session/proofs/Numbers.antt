@@ -16,7 +16,7 @@ use Rattle.session.specs.declared.wanted.Wanted.TheVariants.{Resumed, New}
 use Rattle.session.specs.Films.{counts_after, identity_of, sending_of}
 use Rattle.session.specs.Laws.{GoesOn, Resumes}
 use Rattle.session.specs.Planning.{IsPlannedRun}
-use Rattle.session.specs.Playing.{IsWanted, counts_for, run_of}
+use Rattle.session.specs.Playing.{IsResumed, IsWanted, counts_for, run_of}
 use Rattle.session.specs.Standings.{Standing}
 use Rattle.session.proofs.Sums.{sum_mod}
 
@@ -48,11 +48,10 @@ wanted_resumes : (film : Film) (paused : Run) (to : Option ℕ) (wanted : Wanted
 wanted_resumes film paused to (Resumed run) is = is
 wanted_resumes film paused to (New run) is = absurd is
 
-counts_resume : {counts : Counts} (film : Film) (source : Source) (setup : Setup) (paused : Run) (to : Option ℕ)
-    (wanted : Wanted)
-    → IsWanted film (Some paused) Now to wanted → counts_for film source setup counts (Some paused) wanted ≡ counts
-counts_resume film source setup paused to (Resumed run) is = refl
-counts_resume film source setup paused to (New run) is = absurd is
+counts_resume : {counts : Counts} (film : Film) (source : Source) (setup : Setup) (paused : Run) (wanted : Wanted)
+    → IsResumed paused wanted → counts_for film source setup counts (Some paused) wanted ≡ counts
+counts_resume film source setup paused (Resumed run) is = refl
+counts_resume film source setup paused (New run) is = absurd is
 
 pub resumes : (old : Standing) (stored : Stored) (setup : Setup) (paused : Run) (planned : Planned)
     → IsPlannedRun old stored setup (Some paused) None planned → Resumes old paused planned
@@ -61,7 +60,7 @@ resumes old stored setup paused planned is =
     subst (λ (s : Span). IsWanted stored.film (Some paused) s.from s.to is.wanted) is.asked.is_span is.asked.is_wanted in
     record {
       run = is.run_is ∙ wanted_resumes stored.film paused None is.wanted now;
-      counts = is.counts_is ∙ counts_resume stored.film old.source setup paused None is.wanted now;
+      counts = is.counts_is ∙ counts_resume stored.film old.source setup paused is.wanted now;
     }
 
 -- a new run goes on from what was sent of the paused one

@@ -38,7 +38,7 @@ use Rattle.session.specs.declared.states.State.{State}
 use Rattle.session.specs.declared.states.State.TheVariants.{Init, Ready, Playing, Stopping}
 use Rattle.session.specs.declared.settings.Settings.{Settings}
 use Rattle.session.specs.Films.{Names, length_ms}
-use Rattle.session.specs.Hearings.{Hears, HearsOn, HearsWhole}
+use Rattle.session.specs.Hearings.{HearsOn, HearsWhole}
 use Rattle.session.specs.Judging.{IsJudged, IsTaskOf, IsTopic, IsWord, fault_refusal, method_of, option_of, place_of}
 use Rattle.session.specs.Laws.{IsOneHearing}
 use Rattle.session.specs.Methods.{AsksHalt, AsksOffer, AsksOfferOr, AsksPlay, AsksPlayOr, Describes, Gets, GetsOffer, GetsParameter, HasWait, IsWaitOf, IsRefused, IsReplied, IsSetUp, Looks, OffersReady, Pauses, PausesPlay, Plays, SetsUp, Takes, TearsDown, prepared_of, play_front}
@@ -48,6 +48,7 @@ use Rattle.session.specs.Ranges.{AreFilms}
 use Rattle.session.specs.Replies.{describe_text, plain_text, public_text, refusal_text, session_text}
 use Rattle.session.specs.Setups.{AreChannelsOf, AsksForSetup, HasChannels, IsChosen, HasNoMeaning, IsSetupRead}
 use Rattle.session.specs.Standings.{Standing, with_reply}
+use Rattle.session.proofs.Grounds.{HeardTwice, Taken}
 use Rattle.session.proofs.Namings.{film_once, named_once}
 use Rattle.session.proofs.OnePlan.{film_at_once, planned_once}
 use Rattle.session.proofs.OneVerdict.{AreAlike, method_once, not_both, refusal_once, turned}
@@ -326,15 +327,17 @@ By old Pause r ask new = Pauses old.state old r.sequence ask new
 By old Teardown r ask new = TearsDown old.state old r.sequence ask new
 By old GetParameter r ask new = GetsParameter old r ask new
 
-by_method : (old : Standing) (request : Request) (place : Place) (task : Task) (ask : Ask) (new : Standing)
-    → IsTaskOf old.films place request.url.now task → Takes old request (Ok task) ask new → By old (method_of task) request ask new
-by_method old request place ToOptions ask new film takes = takes
-by_method old request place (ToDescribe asked) ask new film takes = (asked.authority.now, (asked.film, (film.named, takes)))
-by_method old request place (ToSetup number) ask new film takes = (film.0, (number, (film.1.named, takes)))
-by_method old request place (ToPlay asked) ask new film takes = (asked.authority.now, (asked.film, (film.named, takes)))
-by_method old request place ToPause ask new film takes = takes
-by_method old request place ToTeardown ask new film takes = takes
-by_method old request place ToGetParameter ask new film takes = takes
+by_method : (taken : Taken) (place : Place) (task : Task)
+    → IsTaskOf taken.old.films place taken.request.url.now task
+    → Takes taken.old taken.request (Ok task) taken.ask taken.new
+    → By taken.old (method_of task) taken.request taken.ask taken.new
+by_method taken place ToOptions film takes = takes
+by_method taken place (ToDescribe asked) film takes = (asked.authority.now, (asked.film, (film.named, takes)))
+by_method taken place (ToSetup number) film takes = (film.0, (number, (film.1.named, takes)))
+by_method taken place (ToPlay asked) film takes = (asked.authority.now, (asked.film, (film.named, takes)))
+by_method taken place ToPause film takes = takes
+by_method taken place ToTeardown film takes = takes
+by_method taken place ToGetParameter film takes = takes
 
 wait_once : (value : Option (List ℕ)) (one other : ℕ) → IsWaitOf value one → IsWaitOf value other → other ≡ one
 wait_once None one other is its = absurd is
@@ -423,8 +426,10 @@ module _ (old : Standing) (message : List ℕ) (ask again : Ask) (one other : St
   takes_once films (Ok a) (Ok b) judged judged' is its =
       let method : method_of b ≡ method_of a =
       method_once request.method.now (method_of b) (method_of a) (sym alike.method ∙ judged'.talk.spoken.named) judged.talk.spoken.named in
-      by_once films (method_of a) (by_method old request (place_of old.state) a ask one judged.film is)
-      (subst (λ m. By old m request' again other) method (by_method old request' (place_of old.state) b again other judged'.film its))
+      let first : Taken = record { old = old; new = one; request = request; ask = ask } in
+      let second : Taken = record { old = old; new = other; request = request'; ask = again } in
+      by_once films (method_of a) (by_method first (place_of old.state) a judged.film is)
+      (subst (λ m. By old m request' again other) method (by_method second (place_of old.state) b judged'.film its))
   takes_once films (Ok a) (Err b) judged judged' is its =
       absurd (not_both b alike judged judged')
   takes_once films (Err a) (Ok b) judged judged' is its =
@@ -467,6 +472,6 @@ hears_on_once {one} {other} {ask} false old message films (inr is) (inl its) =
 hears_on_once {one} {other} {ask} false old message films (inr is) (inr its) = whole_once films is its
 
 -- a message has one answer, state, reply and command, or memory is wanting for it
-pub hears_once : (old one other : Standing) (message : List ℕ) (ask again : Ask) → AreFilms old.films → Hears old message ask one
-    → Hears old message again other → IsOneHearing old message ask one again other
-hears_once old one other message ask again films is its = hears_on_once old.lost old message films is its
+pub hears_once : (twice : HeardTwice)
+    → IsOneHearing twice.old twice.message twice.ask twice.one twice.again twice.other
+hears_once twice = hears_on_once twice.old.lost twice.old twice.message twice.films twice.is twice.its

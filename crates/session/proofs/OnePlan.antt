@@ -109,7 +109,7 @@ asked_run_once {film} {paused} {range} {one} {other} is its =
     (subst (λ (s : Span). IsWanted film paused s.from s.to other) same its.is_wanted)
 
 wants_some : (film : Film) (paused : Option Run) (from : Origin) (to : Option ℕ) (wanted : Wanted) → IsWanted film paused from to wanted
-    → WantsNothing film paused from to → ⊥
+    → ¬ WantsNothing film paused from to
 wants_some film None Now to (Resumed run) is none = is
 wants_some film None Now to (New run) is none = is.some none
 wants_some film (Some paused) Now to wanted is none = none

@@ -221,26 +221,38 @@ turned request other alike = record {
   body = sym alike.body;
 }
 
-same_rank : {request other : Request} (films : List Stored) (id : List ℕ) (place : Place) (a b : Result Task Refusal)
-    → AreAlike request other → IsJudged films id place request a → IsJudged films id place other b → rank a ≡ rank b
-same_rank {request} {other} films id place a b alike is its =
+-- the judgements of two requests that are alike
+record TwoVerdicts (request other : Request) (films : List Stored) (id : List ℕ) (place : Place) : Type 0 where
+  pub a : Result Task Refusal
+  pub b : Result Task Refusal
+  pub alike : AreAlike request other
+  pub is : IsJudged films id place request a
+  pub its : IsJudged films id place other b
+
+same_rank : {request other : Request} {films : List Stored} {id : List ℕ} {place : Place}
+    (verdicts : TwoVerdicts request other films id place) → rank verdicts.a ≡ rank verdicts.b
+same_rank {request} {other} {films} {id} {place} verdicts =
     let stop = stops films id place other b its in
     let by_name = subst (λ (n : List ℕ). StopsAt films id place n other.url.now other.head.now (rank b)) alike.method stop in
     let by_url = subst (λ (u : List ℕ). StopsAt films id place request.method.now u other.head.now (rank b)) alike.url by_name in
     let by_head = subst (λ (h : List ℕ). StopsAt films id place request.method.now request.url.now h (rank b)) alike.head by_url in
     stops_once films id place request.method.now request.url.now request.head.now (rank a) (rank b)
     (stops films id place request a is) by_head
+  where
+    open verdicts use {a, b, alike, is, its}
 
 pub refusal_once : {request other : Request} {a b : Refusal} (films : List Stored) (id : List ℕ) (place : Place)
     → AreAlike request other → IsJudged films id place request (Err a) → IsJudged films id place other (Err b) → b ≡ a
 refusal_once {request} {other} {a} {b} films id place alike is its =
-    let same = same_rank films id place (Err a) (Err b) alike is its in
+    let verdicts : TwoVerdicts request other films id place = record { a = Err a; b = Err b; alike = alike; is = is; its = its } in
+    let same = same_rank verdicts in
     (ranked films id place other b its).is ∙ ap refusal_at (sym same) ∙ sym (ranked films id place request a is).is
 
 pub not_both : {films : List Stored} {id : List ℕ} {place : Place} {request other : Request} {task : Task}
     (refusal : Refusal)
     → AreAlike request other → IsJudged films id place request (Ok task) → IsJudged films id place other (Err refusal) → ⊥
-not_both {films} {id} {place} {other} {task} refusal alike is its =
-    let same = same_rank films id place (Ok task) (Err refusal) alike is its in
+not_both {films} {id} {place} {request} {other} {task} refusal alike is its =
+    let verdicts : TwoVerdicts request other films id place = record { a = Ok task; b = Err refusal; alike = alike; is = is; its = its } in
+    let same = same_rank verdicts in
     let below = (ranked films id place other refusal its).below in
     omega (arith, same, below)

@@ -65,43 +65,53 @@ module _ (p : Pacing) (keep : ℕ) (pacing : IsPacing p) (even : p.due ≡ p.sen
   is_halt None is = halt_none is
   is_halt (Some last) is = halt_some last is
 
--- what is left of a run ends at the boundary where the halt is
-pub left_boundary : (stored : Stored) (source : Source) (setup : Setup) (counts : Counts) (run left : Run) (p : Pacing) (keep : ℕ)
-    → p.pieces ≡ run_pieces (sending_of stored.film source setup counts run) → p.before ≡ run.sent
-    → IsBoundary p.pieces (p.before + keep) → left.first_unit ≡ run.first_unit → left.end_unit ≡ run.end_unit
-    → left.sent ≡ run.sent + keep
-    → IsBoundary (run_pieces (sending_of stored.film source setup counts left)) left.sent
-left_boundary stored source setup counts run left p keep pieces before boundary first end sent =
-    let place : p.before + keep ≡ left.sent = ap (λ n. n + keep) before ∙ sym sent in
-    let same : p.pieces ≡ run_pieces (sending_of stored.film source setup counts left) =
-    pieces ∙ ap (λ n. run_pieces (run_of stored.film n run.end_unit (identity_of source setup counts))) (sym first)
-    ∙ ap (λ n. run_pieces (run_of stored.film left.first_unit n (identity_of source setup counts))) (sym end) in
-    subst (λ (n : ℕ). IsBoundary (run_pieces (sending_of stored.film source setup counts left)) n) place
-    (subst (λ (all : List (List ℕ)). IsBoundary all (p.before + keep)) same boundary)
+-- a play is halted at the next boundary of its frames
+pub record HaltAtBoundary (play : Played) (keep : ℕ) (halted : Pacing) : Type 0 where
+  pub state : halted ≡ record play.pacer { keep = next_boundary play.pacer }
+  pub after : IsBoundaryAfter play.pacer.pieces (play.pacer.before + play.pacer.sent) (play.pacer.before + keep)
+  pub most : keep ≤ play.pacer.keep
 
 -- a play in hand is halted
 pub halts_play : {play : Played} {keep : ℕ} {halted : Pacing} (last : Option ℕ) → IsPacedPlay play → IsUnhalted play
-    → halted ≡ record play.pacer { keep = next_boundary play.pacer }
-    → IsBoundaryAfter play.pacer.pieces (play.pacer.before + play.pacer.sent) (play.pacer.before + keep) → keep ≤ play.pacer.keep
-    → slots_through last ≡ halted.passed → IsHalt play.plan last keep
-halts_play {play} {keep} {halted} last is unhalted state after most through =
+    → HaltAtBoundary play keep halted → slots_through last ≡ halted.passed → IsHalt play.plan last keep
+halts_play {play} {keep} {halted} last is unhalted halt through =
     subst (λ (plan : List Segment). IsHalt plan last keep) is.plan
-    (is_halt play.pacer keep is.pacing unhalted.even (unhalted.whole ∙ ap total_bytes (sym is.plan)) unhalted.going after most last
-    (through ∙ ap (λ (p : Pacing). p.passed) state))
+    (is_halt play.pacer keep is.pacing unhalted.even (unhalted.whole ∙ ap total_bytes (sym is.plan)) unhalted.going halt.after halt.most last
+    (through ∙ ap (λ (p : Pacing). p.passed) halt.state))
 
 -- what it keeps is of its plan
 pub keeps_within : (play : Played) (keep : ℕ) → IsUnhalted play → keep ≤ play.pacer.keep → keep ≤ total_bytes play.plan
 keeps_within play keep unhalted most = subst (λ (n : ℕ). keep ≤ n) unhalted.whole most
 
+-- what a halt leaves of a play's run, which fits in the client's buffer
+pub record LeftRun (stored : Stored) (play : Played) (playback : Playback) (last : Option ℕ) (keep : ℕ) (left : Run)
+    : Type 0 where
+  pub left_is : IsLeft (stored_sizes stored) playback play.run play.plan last keep left
+  pub run_is : IsRun (stored_sizes stored) left
+  pub fits : Fits playback.buffer left
+
+-- it ends at the boundary where the halt is
+left_boundary : {stored : Stored} {source : Source} {settings : Settings} {setup : Setup} {counts : Counts} {play : Played}
+    {playback : Playback} {last : Option ℕ} {keep : ℕ} {left : Run} → IsPacedPlay play
+    → IsPlaying stored source settings setup counts play → IsBoundary play.pacer.pieces (play.pacer.before + keep)
+    → IsLeft (stored_sizes stored) playback play.run play.plan last keep left
+    → IsBoundary (run_pieces (sending_of stored.film source setup counts left)) left.sent
+left_boundary {stored} {source} {setup} {counts} {play} {keep} {left} is playing boundary left_is =
+    let p = play.pacer in
+    let place : p.before + keep ≡ left.sent = ap (λ n. n + keep) is.before ∙ sym left_is.sent_is in
+    let same : p.pieces ≡ run_pieces (sending_of stored.film source setup counts left) =
+    playing.pieces ∙ ap (λ n. run_pieces (run_of stored.film n play.run.end_unit (identity_of source setup counts))) (sym left_is.first_is)
+    ∙ ap (λ n. run_pieces (run_of stored.film left.first_unit n (identity_of source setup counts))) (sym left_is.end_is) in
+    subst (λ (n : ℕ). IsBoundary (run_pieces (sending_of stored.film source setup counts left)) n) place
+    (subst (λ (all : List (List ℕ)). IsBoundary all (p.before + keep)) same boundary)
+
 -- what it leaves can be sent on
-pub left_runs : {stored : Stored} {source : Source} {settings : Settings} {setup : Setup} {counts : Counts}
-    {play : Played} {playback : Playback} {last : Option ℕ} {keep : ℕ} {left : Run} → IsPacedPlay play → IsPlaying stored source settings setup counts play
+pub left_runs : {stored : Stored} {source : Source} {settings : Settings} {setup : Setup} {counts : Counts} {play : Played}
+    {playback : Playback} {last : Option ℕ} {keep : ℕ} {left : Run} → IsPacedPlay play → IsPlaying stored source settings setup counts play
     → playback ≡ playback_of stored.film settings setup → IsBoundary play.pacer.pieces (play.pacer.before + keep)
-    → IsLeft (stored_sizes stored) playback play.run play.plan last keep left → IsRun (stored_sizes stored) left
-    → Fits playback.buffer left → IsRunOf stored source setup counts left
-left_runs {stored} {source} {setup} {counts} {play} {last} {keep} {left} is playing same boundary left_is run fits = record {
-  run_is = run;
-  fits = subst (λ (p : Playback). Fits p.buffer left) same fits;
-  boundary = left_boundary stored source setup counts play.run left play.pacer keep playing.pieces is.before boundary left_is.first_is
-      left_is.end_is left_is.sent_is;
+    → LeftRun stored play playback last keep left → IsRunOf stored source setup counts left
+left_runs {left} is playing same boundary rest = record {
+  run_is = rest.run_is;
+  fits = subst (λ (p : Playback). Fits p.buffer left) same rest.fits;
+  boundary = left_boundary is playing boundary rest.left_is;
 }

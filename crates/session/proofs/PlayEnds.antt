@@ -25,7 +25,7 @@ use Rattle.session.specs.declared.states.State.{State}
 use Rattle.session.specs.declared.states.State.TheVariants.{Init, Ready, Playing, Stopping}
 use Rattle.session.specs.Films.{IsFilmAt, counts_after, identity_of, sending_of}
 use Rattle.session.specs.Changes.{IsPlayAsked}
-use Rattle.session.specs.Hearings.{Hears, after_admission, after_halt, counts_of, counts_done, counts_next, halted_counts, is_answered}
+use Rattle.session.specs.Hearings.{after_admission, after_halt, counts_of, counts_done, counts_next, halted_counts, is_answered}
 use Rattle.session.specs.Laws.{GoesOn}
 use Rattle.session.specs.Methods.{prepared_of}
 use Rattle.session.specs.PlayLaws.{HasCountedAll, IsNoted, IsSentAsAsked, KeepsToBoundary}
@@ -33,6 +33,7 @@ use Rattle.session.specs.Playing.{IsPlayable}
 use Rattle.session.specs.Sendings.{admitted_in, halted_notes, kept_of, next_of, note_of}
 use Rattle.session.specs.Standings.{HaltAnswer, Standing, awaited_answer_of}
 use Rattle.session.proofs.Carries.{nothing_of}
+use Rattle.session.proofs.Grounds.{HeardMessage, PlayInHand}
 use Rattle.session.proofs.Numbers.{identity_goes_on}
 use Rattle.session.proofs.Results.{ComesTo, Lacks, Refuses, Says, SettlesSetup, AsksForPlay, AsksForHalt, AsksForLook, AsksForOffer, comes_to}
 
@@ -77,10 +78,12 @@ comes_halts {new} (AsksForLook sequence look) playing pacing = absurd (let no : 
 comes_halts {new} (AsksForOffer sequence wait planned asks) playing pacing =
     absurd (let no : ⊥ = cc (asks.command) in no)
 
-pub halts_at_boundary : (old new : Standing) (message : List ℕ) (keep : ℕ) (setup : Setup) (play : Played)
-    → Hears old message (AskHalt keep) new → old.state ≡ Playing setup play → IsPacing play.pacer → KeepsToBoundary play keep
-halts_at_boundary old new message keep setup play hears playing pacing =
-    comes_halts (comes_to old message (AskHalt keep) new hears) playing pacing
+pub halts_at_boundary : (heard : HeardMessage) (keep : ℕ) → heard.ask ≡ AskHalt keep → (hand : PlayInHand heard.old)
+    → IsPacing hand.play.pacer → KeepsToBoundary hand.play keep
+halts_at_boundary heard keep halt hand pacing =
+    comes_halts (subst (λ a. ComesTo old message a new) halt (comes_to old message ask new hears)) hand.playing pacing
+  where
+    open heard use {old, new, message, ask, hears}
 
 -- ---- what is counted after a run
 
@@ -97,24 +100,26 @@ all_sent sending =
     }) in
     take_all (count_ended (length (framed_bytes blocks)) blocks) (pieces_in sending) (omega (arith, count, ended))
 
-counts_of_done : {stored : Stored} (old : Standing) (setup : Setup) (play : Played) (keep : ℕ) (next : Next) → is_answered next ≡ false
-    → IsFilmAt old.films setup.film stored
-    → counts_next old.films old.source old.counts setup play.run keep next ≡ counts_after old.counts (sending_of stored.film old.source setup old.counts play.run) (play.run.sent + keep)
-counts_of_done old setup play keep Done none at =
-    ap (counts_done old.source old.counts setup play.run keep) at
-counts_of_done old setup play keep (Paused run) none at = absurd (let no : ⊥ = cc in no)
-counts_of_done old setup play keep Torn none at = absurd (let no : ⊥ = cc in no)
+counts_of_done : {stored : Stored} (old : Standing) (hand : PlayInHand old) (keep : ℕ) (next : Next) → is_answered next ≡ false
+    → IsFilmAt old.films hand.setup.film stored
+    → counts_next old.films old.source old.counts hand.setup hand.play.run keep next
+    ≡ counts_after old.counts (sending_of stored.film old.source hand.setup old.counts hand.play.run) (hand.play.run.sent + keep)
+counts_of_done old hand keep Done none at =
+    ap (counts_done old.source old.counts hand.setup hand.play.run keep) at
+counts_of_done old hand keep (Paused run) none at = absurd (let no : ⊥ = cc in no)
+counts_of_done old hand keep Torn none at = absurd (let no : ⊥ = cc in no)
 
-pub run_counted : (old : Standing) (place : ℕ) (stored : Stored) (setup : Setup) (play : Played) → old.state ≡ Playing setup play
-    → is_answered (next_of old.awaited) ≡ false → IsFilmAt old.films setup.film stored
-    → play.run.sent + kept_of old.awaited play.pacer.due ≡ length (framed_bytes (run_pieces (sending_of stored.film old.source setup old.counts play.run)))
-    → HasCountedAll (identity_of old.source setup old.counts) (identity_of old.source setup (after_halt old place).counts)
-    (sending_of stored.film old.source setup old.counts play.run)
-run_counted old place stored setup play playing none at all =
+pub run_counted : {stored : Stored} (old : Standing) (place : ℕ) (hand : PlayInHand old)
+    → is_answered (next_of old.awaited) ≡ false → IsFilmAt old.films hand.setup.film stored
+    → hand.play.run.sent + kept_of old.awaited hand.play.pacer.due
+    ≡ length (framed_bytes (run_pieces (sending_of stored.film old.source hand.setup old.counts hand.play.run)))
+    → HasCountedAll (identity_of old.source hand.setup old.counts) (identity_of old.source hand.setup (after_halt old place).counts)
+    (sending_of stored.film old.source hand.setup old.counts hand.play.run)
+run_counted {stored} old place hand none at all =
     let sending = sending_of stored.film old.source setup old.counts play.run in
     let end = length (framed_bytes (run_pieces sending)) in
     let counts : halted_counts old old.state ≡ counts_after old.counts sending end =
-    ap (halted_counts old) playing ∙ counts_of_done old setup play (kept_of old.awaited play.pacer.due) (next_of old.awaited) none at
+    ap (halted_counts old) playing ∙ counts_of_done old hand (kept_of old.awaited play.pacer.due) (next_of old.awaited) none at
     ∙ ap (counts_after old.counts sending) all in
     let its = identity_goes_on old.source setup old.counts sending end in
     let goes = subst (λ (c : Counts). GoesOn (identity_of old.source setup old.counts) (identity_of old.source setup c)
@@ -123,6 +128,8 @@ run_counted old place stored setup play playing none at all =
     n (octets_in (pieces_in sending))) (ap frames_in (all_sent sending))
     (subst (λ n. GoesOn (identity_of old.source setup old.counts) (identity_of old.source setup (halted_counts old old.state))
     (frames_before sending end) n) (ap octets_in (all_sent sending)) goes)
+  where
+    open hand use {setup, play, playing}
 
 -- ---- the note of a play
 
@@ -133,15 +140,16 @@ kept_asked (Halt other next) due keep is = cc
 kept_asked (Look sequence) due keep is = absurd (let no : ⊥ = cc in no)
 kept_asked (Offer sequence) due keep is = absurd (let no : ⊥ = cc in no)
 
-pub play_noted : (old : Standing) (place : ℕ) (stored : Stored) (setup : Setup) (play : Played) → old.state ≡ Playing setup play
-    → IsPlayable stored old.source old.settings setup old.counts play.run play.plan
-    → kept_of old.awaited play.pacer.due ≤ total_bytes play.plan → IsNoted stored play old (after_halt old place)
-play_noted old place stored setup play playing playable within = record {
-  note = note_of setup play (kept_of old.awaited play.pacer.due);
-  plays = ap (λ s. old.plays ++ halted_notes s old.awaited) playing;
+pub play_noted : (old : Standing) (place : ℕ) (stored : Stored) (hand : PlayInHand old)
+    → IsPlayable stored old.source old.settings hand.setup old.counts hand.play.run hand.play.plan
+    → kept_of old.awaited hand.play.pacer.due ≤ total_bytes hand.play.plan
+    → IsNoted stored hand.play old (after_halt old place)
+play_noted old place stored hand playable within = record {
+  note = note_of hand.setup hand.play (kept_of old.awaited hand.play.pacer.due);
+  plays = ap (λ s. old.plays ++ halted_notes s old.awaited) hand.playing;
   sound = record { run_is = playable.run_of.run_is; plan_is = playable.plan_is; keep = within };
-  asked = λ keep is. kept_asked old.awaited play.pacer.due keep is;
-  due = λ rest. ap (λ (a : Awaited). kept_of a play.pacer.due) (nothing_of old.awaited rest);
+  asked = λ keep is. kept_asked old.awaited hand.play.pacer.due keep is;
+  due = λ rest. ap (λ (a : Awaited). kept_of a hand.play.pacer.due) (nothing_of old.awaited rest);
 }
 
 -- ---- what is admitted

@@ -10,7 +10,6 @@ use Rattle.rtsp_fields.specs.declared.ranges.Span.{Span}
 use Rattle.rtsp_fields.specs.declared.ranges.Origin.{Origin}
 use Rattle.rtsp_fields.specs.declared.ranges.Origin.TheVariants.{Now, At}
 use Rattle.session.specs.Films.{IsFilmAt, OfFilm, identity_of}
-use Rattle.session.specs.Planning.{IsPausedIn}
 use Rattle.session.specs.Playing.{IsAskedRun, IsNoRange, IsRunOf, IsSpanOf, IsWanted, WantsNothing, counts_for, run_of}
 use Rattle.session.specs.declared.states.Counts.{Counts}
 use Rattle.session.specs.declared.states.Setup.{Setup}
@@ -25,13 +24,6 @@ of_film films number stored P at holds other is =
     let same : stored ≡ other = cc in
     subst P same holds
 
-pub paused_of : {stored : Stored} (films : List Stored) (source : Source) (counts : Counts) (setup : Setup)
-    (paused : Option Run)
-    → IsPausedIn films source counts setup paused → IsFilmAt films setup.film stored
-    → IfSome paused (λ run. IsRunOf stored source setup counts run)
-paused_of films source counts setup None kept at = tt
-paused_of {stored} films source counts setup (Some run) kept at = kept stored at
-
 new_goes_on : {stored : Stored} {source : Source} {setup : Setup} {counts : Counts} {from : ℕ} {to : Option ℕ}
     {run : Run}
     → IsAsked stored.film from to run → IsRunOf stored source setup counts run
@@ -41,37 +33,48 @@ new_goes_on {stored} {source} {setup} {counts} {from} {run} asked = record {
   boundary = none-at-boundary stored.film run asked.new.sent_is (identity_of source setup counts);
 }
 
-wanted_goes_on : {stored : Stored} {source : Source} {setup : Setup} (counts : Counts) (paused : Option Run)
-    (from : Origin) (to : Option ℕ) (wanted : Wanted) → IfSome paused (λ run. IsRunOf stored source setup counts run)
+-- what was sent before, and a paused run can be sent on after it
+record SentBefore (stored : Stored) (source : Source) (setup : Setup) (paused : Option Run) : Type 0 where
+  pub counts : Counts
+  pub kept : IfSome paused (λ run. IsRunOf stored source setup counts run)
+
+wanted_goes_on : {stored : Stored} {source : Source} {setup : Setup} (paused : Option Run)
+    (before : SentBefore stored source setup paused) (from : Origin) (to : Option ℕ) (wanted : Wanted)
     → IsWanted stored.film paused from to wanted
-    → IsRunOf stored source setup (counts_for stored.film source setup counts paused wanted) (run_of wanted)
-wanted_goes_on counts None Now to (Resumed run) kept is = absurd is
-wanted_goes_on counts None Now to (New run) kept is =
+    → IsRunOf stored source setup (counts_for stored.film source setup before.counts paused wanted) (run_of wanted)
+wanted_goes_on None before Now to (Resumed run) is = absurd is
+wanted_goes_on None before Now to (New run) is =
     new_goes_on is
-wanted_goes_on {stored} {source} {setup} counts (Some paused) Now to (Resumed run) kept is =
-    subst (λ (r : Run). IsRunOf stored source setup counts r) (sym is) kept
-wanted_goes_on counts (Some paused) Now to (New run) kept is = absurd is
-wanted_goes_on counts None (At time) to (Resumed run) kept is = absurd is
-wanted_goes_on counts None (At time) to (New run) kept is =
+wanted_goes_on {stored} {source} {setup} (Some paused) before Now to (Resumed run) is =
+    subst (λ (r : Run). IsRunOf stored source setup before.counts r) (sym is) before.kept
+wanted_goes_on (Some paused) before Now to (New run) is = absurd is
+wanted_goes_on None before (At time) to (Resumed run) is = absurd is
+wanted_goes_on None before (At time) to (New run) is =
     new_goes_on is
-wanted_goes_on counts (Some paused) (At time) to (Resumed run) kept is = absurd is
-wanted_goes_on counts (Some paused) (At time) to (New run) kept is =
+wanted_goes_on (Some paused) before (At time) to (Resumed run) is = absurd is
+wanted_goes_on (Some paused) before (At time) to (New run) is =
     new_goes_on is
 
 pub goes_on : {stored : Stored} {source : Source} {setup : Setup} {paused : Option Run} {range : Option (List ℕ)}
     {wanted : Wanted} (counts : Counts) → IfSome paused (λ run. IsRunOf stored source setup counts run) → IsAskedRun stored.film paused range wanted
     → IsRunOf stored source setup (counts_for stored.film source setup counts paused wanted) (run_of wanted)
 goes_on {paused} {wanted} counts kept asked =
-    wanted_goes_on counts paused asked.span.from asked.span.to wanted kept asked.is_wanted
+    wanted_goes_on paused (record { counts = counts; kept = kept }) asked.span.from asked.span.to wanted asked.is_wanted
 
 -- a Range gives one span
 pub span_of_once : (range : Option (List ℕ)) (a b : Span) → IsSpanOf range a → IsSpanOf range b → a ≡ b
 span_of_once None a b one other = one ∙ sym other
 span_of_once (Some value) a b one other = span_once value a b one other
 
-pub asked_in : (film : Film) (paused : Option Run) (range : Option (List ℕ)) (span : Span) (wanted : Option Wanted) → IsSpanOf range span
-    → MatchOption wanted (WantsNothing film paused span.from span.to) (IsWanted film paused span.from span.to)
-    → MatchOption wanted (IsNoRange film paused range) (IsAskedRun film paused range)
-asked_in film paused range span None is none = λ other same.
-    subst (λ (s : Span). WantsNothing film paused s.from s.to) (span_of_once range span other is same) none
-asked_in film paused range span (Some wanted) is asked = record { span = span; is_span = is; is_wanted = asked }
+-- a Range, and the span that it means
+pub record ReadRange : Type 0 where
+  pub range : Option (List ℕ)
+  pub span : Span
+  pub is_span : IsSpanOf range span
+
+pub asked_in : (film : Film) (paused : Option Run) → (read : ReadRange) (wanted : Option Wanted)
+    → MatchOption wanted (WantsNothing film paused read.span.from read.span.to) (IsWanted film paused read.span.from read.span.to)
+    → MatchOption wanted (IsNoRange film paused read.range) (IsAskedRun film paused read.range)
+asked_in film paused read None none = λ other same.
+    subst (λ (s : Span). WantsNothing film paused s.from s.to) (span_of_once read.range read.span other read.is_span same) none
+asked_in film paused read (Some wanted) asked = record { span = read.span; is_span = read.is_span; is_wanted = asked }

@@ -13,12 +13,13 @@ use Rattle.session.specs.declared.refusals.Task.{Task}
 use Rattle.session.specs.declared.refusals.Task.TheVariants.{Options as ToOptions, Describe as ToDescribe, Setup as ToSetup, Play as ToPlay, Pause as ToPause, Teardown as ToTeardown, GetParameter as ToGetParameter}
 use Rattle.session.specs.declared.states.State.{State}
 use Rattle.session.specs.Changes.{HasCode}
-use Rattle.session.specs.Hearings.{Hears, HearsOn}
+use Rattle.session.specs.Hearings.{HearsOn}
 use Rattle.session.specs.Judging.{IsJudged, IsReadAs, option_of, place_of}
 use Rattle.session.specs.Methods.{IsRefused, Takes}
 use Rattle.session.specs.PlayLaws.{HasRangeInPlaying, IsElseGood, IsDeclined}
 use Rattle.session.specs.Replies.{code_of, refusal_text}
 use Rattle.session.specs.Standings.{Standing, with_reply}
+use Rattle.session.proofs.Grounds.{HeardMessage}
 use Rattle.session.proofs.OneVerdict.{AreAlike, refusal_once}
 use Rattle.session.proofs.Refusing.{one_code, own_code, refusal_code}
 
@@ -116,39 +117,47 @@ ranged_in old message request is = record {
   playing = ap (λ (s : State). (place_of s).playing) is.playing;
 }
 
-pub range_refused : (old new : Standing) (message : List ℕ) (ask : Ask) (request : Request) → Hears old message ask new
-    → HasRangeInPlaying old message request → IsDeclined old ask new
-range_refused old new message ask request hears is =
-    hears_on_refused old.lost is.is_request (ranged_in old message request is) hears
+pub range_refused : {request : Request} (heard : HeardMessage) → HasRangeInPlaying heard.old heard.message request
+    → IsDeclined heard.old heard.ask heard.new
+range_refused {request} heard is =
+    hears_on_refused heard.old.lost is.is_request (ranged_in heard.old heard.message request is) heard.hears
+
+-- a PLAY with a Range, heard in Playing, that would else be good, under another reading
+record RangedPlay (old : Standing) (request other : Request) : Type 0 where
+  pub alike : AreAlike request other
+  pub ranged : IsRanged (place_of old.state) request
+  pub good : IsElseGood old request
 
 -- its code, where no other refusal comes before
 takes_455 : {old : Standing} {request other : Request} (judgement : Result Task Refusal) (ask : Ask) (new : Standing)
-    → AreAlike request other → IsRanged (place_of old.state) request → IsElseGood old request
-    → IsJudged old.films old.id (place_of old.state) other judgement → Takes old other judgement ask new → HasCode 455 new.text
-takes_455 {old} {request} {other} (Ok task) ask new alike ranged good judged takes =
-    absurd (never_taken (ranged_as (place_of old.state) request other alike ranged) judged)
-takes_455 {old} {request} {other} (Err refusal) ask new alike ranged good judged takes =
+    → RangedPlay old request other → IsJudged old.films old.id (place_of old.state) other judgement
+    → Takes old other judgement ask new → HasCode 455 new.text
+takes_455 {old} {request} {other} (Ok task) ask new play judged takes =
+    absurd (never_taken (ranged_as (place_of old.state) request other play.alike play.ranged) judged)
+takes_455 {old} {request} {other} (Err refusal) ask new play judged takes =
     let own : IsJudged old.films old.id (place_of old.state) request (Err NotNow) = record {
       method = PlayMethod;
-      talk = good.talk;
-      film = good.film;
-      state = λ timely. let none = timely ranged.playing in let no : ⊥ = cc (none, ranged.range) in no;
+      talk = play.good.talk;
+      film = play.good.film;
+      state = λ timely. let none = timely play.ranged.playing in let no : ⊥ = cc (none, play.ranged.range) in no;
     } in
-    let same : refusal ≡ NotNow = refusal_once old.films old.id (place_of old.state) alike own judged in
+    let same : refusal ≡ NotNow = refusal_once old.films old.id (place_of old.state) play.alike own judged in
     let text : new.text ≡ refusal_text (Some other.sequence) NotNow (option_of other.head.now) =
     ap (λ (s : Standing). s.text) takes.1 ∙ ap (λ r. refusal_text (Some other.sequence) r (option_of other.head.now)) same in
     subst (λ (t : List ℕ). HasCode 455 t) (sym text) (refusal_code (Some other.sequence) NotNow (option_of other.head.now))
 
 hears_455 : {lost : Bool} {old : Standing} {message : List ℕ} {request : Request} (ask : Ask) (new : Standing) → lost ≡ false
-    → IsReadAs message request → IsRanged (place_of old.state) request → IsElseGood old request → HearsOn lost old message ask new → HasCode 455 new.text
-hears_455 {lost = true} ask new linked is ranged good hears = absurd (let no : ⊥ = cc in no)
-hears_455 {lost = false} {message} {request} ask new linked is ranged good (inl fault) =
-    absurd (no_fault message request.method.now request.url.now request.sequence request.head.now request.body.now fault.fault is fault.is_fault)
-hears_455 {lost = false} {message} {request} ask new linked is ranged good (inr whole) =
-    takes_455 whole.hears.judgement ask new (same_request message request whole.request is whole.is_request)
-    ranged good whole.hears.judged whole.hears.takes
+    → HasRangeInPlaying old message request → IsElseGood old request → HearsOn lost old message ask new → HasCode 455 new.text
+hears_455 {lost = true} ask new linked is good hears = absurd (let no : ⊥ = cc in no)
+hears_455 {lost = false} {message} {request} ask new linked is good (inl fault) =
+    absurd (no_fault message request.method.now request.url.now request.sequence request.head.now request.body.now fault.fault is.is_request fault.is_fault)
+hears_455 {lost = false} {old} {message} {request} ask new linked is good (inr whole) =
+    takes_455 whole.hears.judgement ask new (record {
+      alike = same_request message request whole.request is.is_request whole.is_request;
+      ranged = ranged_in old message request is;
+      good = good;
+    }) whole.hears.judged whole.hears.takes
 
-pub range_455 : (old new : Standing) (message : List ℕ) (ask : Ask) (request : Request) → Hears old message ask new
-    → HasRangeInPlaying old message request → IsElseGood old request → HasCode 455 new.text
-range_455 old new message ask request hears is good =
-    hears_455 ask new good.linked is.is_request (ranged_in old message request is) good hears
+pub range_455 : {request : Request} (heard : HeardMessage) → HasRangeInPlaying heard.old heard.message request
+    → IsElseGood heard.old request → HasCode 455 heard.new.text
+range_455 heard is good = hears_455 heard.ask heard.new good.linked is good heard.hears

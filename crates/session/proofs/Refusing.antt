@@ -10,9 +10,9 @@ use Rattle.session.specs.declared.refusals.Refusal.TheVariants.{BadRequest, Vers
 use Rattle.session.specs.Changes.{HasCode, IsNoRefusal, RefusesNone}
 use Rattle.session.specs.Hearings.{Hears}
 use Rattle.session.specs.Laws.{Is500, IsWanting, NeverLacks}
-use Rattle.session.specs.Ranges.{AreFilms}
 use Rattle.session.specs.Replies.{code_of, refusal_text}
 use Rattle.session.specs.Standings.{Standing}
+use Rattle.session.proofs.Grounds.{HeardTwice}
 use Rattle.session.proofs.OneHearing.{hears_once}
 use Rattle.session.proofs.Results.{ComesTo, Lacks, Refuses, Says, SettlesSetup, AsksForPlay, AsksForHalt, AsksForLook, AsksForOffer, comes_to}
 
@@ -168,10 +168,10 @@ same_wanting : {one other : Standing} {ask again : Ask} (old : Standing) (messag
 same_wanting {one} {other} {ask} old message is its = (is.0 ∙ sym its.0, is.1 ∙ sym its.1)
 
 -- where memory is found for both hearings of a message, or for none, they come to the same
-pub hears_same : {one other : Standing} {ask again : Ask} (old : Standing) (message : List ℕ) → AreFilms old.films → Hears old message ask one
-    → Hears old message again other → (Is500 ask one → Is500 again other) → (Is500 again other → Is500 ask one) → (ask ≡ again) × (one ≡ other)
-hears_same {one} {other} {ask} {again} old message films is its there back =
-    elim (hears_once old one other message ask again films is its) [
+pub hears_same : (twice : HeardTwice) → (Is500 twice.ask twice.one → Is500 twice.again twice.other)
+    → (Is500 twice.again twice.other → Is500 twice.ask twice.one) → (twice.ask ≡ twice.again) × (twice.one ≡ twice.other)
+hears_same twice there back =
+    elim (hears_once twice) [
       | inl same ↦ (sym same.ask_is, sym same.session_is)
       | inr lacks ↦
           elim lacks [
@@ -181,6 +181,8 @@ hears_same {one} {other} {ask} {again} old message films is its there back =
                 (hears_500 old one message ask is (back (wanting_500 old other message again second))) second
           ]
     ]
+  where
+    open twice use {old, one, other, message, ask, again, is, its}
 
 -- what is begun with the station is no want of memory
 comes_never : (old new : Standing) (message : List ℕ) (ask : Ask) → ComesTo old message ask new → NeverLacks ask new

@@ -13,7 +13,6 @@ use Rattle.mpeg_scan.specs.declared.films.Film.{Film}
 use Rattle.mpeg_scan.specs.Rates.{picture_time}
 use Rattle.film_frames.specs.declared.stores.Stored.{Stored}
 use Rattle.film_frames.specs.Runs.{frames_before}
-use Rattle.film_run.specs.declared.runs.Run.{Run}
 use Rattle.rtsp_fields.specs.Descriptions.{description_text, seconds_text}
 use Rattle.rtsp_fields.specs.Ranges.{IsSpan}
 use Rattle.rtsp_fields.specs.Times.{IsTime}
@@ -36,7 +35,6 @@ use Rattle.session.specs.declared.states.Setup.{Setup}
 use Rattle.session.specs.Films.{begins_at, identity_of, length_ms, milliseconds_at, sending_of, timestamp_at}
 use Rattle.session.specs.Hearings.{after_admission, after_full, after_look, after_overflow, started_text}
 use Rattle.session.specs.Methods.{Describes, IsSetUp, first_number, play_front}
-use Rattle.session.specs.Planning.{IsPlannedRun}
 use Rattle.session.specs.PublicLaws.{IsPublicTold}
 use Rattle.session.specs.declared.states.State.TheVariants.{Ready}
 use Rattle.session.specs.Replies.{code_of, describe_text, field, joined_parts, look_body, play_fields, public_text, transport_value}
@@ -44,7 +42,7 @@ use Rattle.session.specs.Standings.{Standing, sequence_of}
 use Rattle.std.specs.Int.{w32, to_be_bytes}
 use Rattle.hex.specs.Hex.{encode_lower}
 use Rattle.session.specs.declared.states.Counts.{Counts}
-use Rattle.session.specs.Telling.{AreTicks, IsFilmTold, IsFullTold, IsLookTold, IsOverflowTold, IsPlayTold, IsSetupTold, IsShort, IsStartTold, TellsInfo, TellsSpan, phrase_of}
+use Rattle.session.specs.Telling.{AreTicks, IsFilmTold, IsFullTold, IsLookTold, IsOverflowTold, IsPlayTold, IsSetupTold, IsShort, IsStartTold, IsTellable, TellsInfo, TellsSpan, phrase_of}
 use Rattle.session.proofs.Numbers.{number_goes_on}
 use Rattle.session.proofs.Sums.{sum_mod}
 
@@ -289,14 +287,13 @@ info_told {stored} {authority} old setup planned is good =
         ap (λ l. codes "url=rtsp://" ++ (a ++ (47 ∷ (n ++ (codes "/video;seq=" ++ (q ++ (codes ";rtptime=" ++ l))))))) (append-nil t)
         ∙ sym inner ∙ sym right
 
-pub play_told : (old : Standing) (stored : Stored) (setup : Setup) (paused : Option Run) (range : Option (List ℕ)) (planned : Planned)
-    (sequence : ℕ) (url authority : List ℕ) (name : Option (List ℕ)) → IsPlannedRun old stored setup paused range planned
-    → IsRead url authority name → is_good_name (string_bytes stored.name) ≡ true
+pub play_told : (old : Standing) (stored : Stored) (setup : Setup) (planned : Planned) (sequence : ℕ) {authority : List ℕ}
+    → IsTellable old stored setup planned authority
     → IsPlayTold old stored setup planned sequence authority (play_front old stored setup planned sequence authority)
 unfolding value_named
-play_told old stored setup paused range planned sequence url authority name is read good =
-    let run_is = is.goes_on.run_is in
-    let can = is.can_play in
+play_told old stored setup planned sequence {authority} is =
+    let run_is = is.planned_is.goes_on.run_is in
+    let can = is.planned_is.can_play in
     let brief = can.playback_is.picture_units_fit in
     let few = can.sizes_are.few in
     record {
@@ -317,15 +314,16 @@ play_told old stored setup paused range planned sequence url authority name is r
             ∷ decimal (first_number old stored setup planned) ∷ codes ";rtptime="
             ∷ decimal (timestamp_at stored.film old.source planned.run.from_unit) ∷ []);
         info_is = refl;
-        told = info_told old setup planned (authority_of url authority name read) good;
+        told = info_told old setup planned (authority_of is.url authority is.name is.read) is.good;
       };
     }
 
 -- the reply of a DESCRIBE
-film_text : (sequence : ℕ) (url authority name : List ℕ) (asked : Option (List ℕ)) (film : Film) → IsRead url authority asked
-    → is_good_name name ≡ true → IsShort film → IsFilmTold sequence authority name film (describe_text sequence authority name (length_ms film))
+film_text : {url authority : List ℕ} {asked : Option (List ℕ)} {film : Film} (sequence : ℕ) (name : List ℕ)
+    → IsRead url authority asked → is_good_name name ≡ true → IsShort film
+    → IsFilmTold sequence authority name film (describe_text sequence authority name (length_ms film))
 unfolding value_named
-film_text sequence url authority name asked film read good short =
+film_text {url} {authority} {asked} {film} sequence name read good short =
     let base : codes "rtsp://" ++ (authority ++ (47 ∷ name ++ codes "/")) ≡ joined_parts (codes "rtsp://" ∷ authority ∷ codes "/" ∷ name ∷ codes "/" ∷ []) =
     base_is authority name in
     record {
@@ -355,12 +353,12 @@ pub film_told : {old new : Standing} {sequence number : ℕ} {url authority : Li
 film_told {new} {sequence} {number} {url} {authority} {asked} {ask} is read good short =
     subst (λ (t : List ℕ). IsFilmTold sequence authority (string_bytes is.stored.name) is.stored.film t)
     (sym (ap (λ (s : Standing). s.text) is.reply.1))
-    (film_text sequence url authority (string_bytes is.stored.name) asked is.stored.film read good short)
+    (film_text sequence (string_bytes is.stored.name) read good short)
 
 -- the start of an admitted play
-pub start_told : (old : Standing) (place start sequence : ℕ) (fields : List Field) → old.heard < start
+pub start_told : {sequence : ℕ} {fields : List Field} (old : Standing) (place start : ℕ) → old.heard < start
     → old.text ≡ reply_front 200 (Some sequence) fields → IsStartTold old start sequence fields (after_admission old place start).text
-start_told old place start sequence fields later front =
+start_told {sequence} {fields} old place start later front =
     let slots : ℕ = start - old.heard in
     let own = field (codes "x-Start") (decimal (start - old.heard)) in
     let more : old.text ++ field_line own ≡ reply_front 200 (Some sequence) (fields ++ own ∷ []) =
@@ -373,10 +371,11 @@ start_told old place start sequence fields later front =
     }
 
 -- the reply of a SETUP
-pub setup_told : (old new : Standing) (sequence : ℕ) (setup : Setup) (counts : Counts) (ask : Ask)
-    → IsSetUp old sequence (Ok setup) ask new → IsSetupTold sequence (identity_of old.source setup counts) old.id new.text
+pub setup_told : {ask : Ask} (old new : Standing) (sequence : ℕ) (setup : Setup) (counts : Counts)
+    → IsSetUp old sequence (Ok setup) ask new
+    → IsSetupTold sequence (identity_of old.source setup counts) old.id new.text
 unfolding value_named
-setup_told old new sequence setup counts ask is = record {
+setup_told old new sequence setup counts is = record {
   fields = field (codes "Transport") (transport_value setup.media setup.control old.source.ssrc) ∷ field (codes "Session") old.id ∷ [];
   transport = transport_value setup.media setup.control old.source.ssrc;
   text_is = ap (λ (s : Standing). s.text) is.1;

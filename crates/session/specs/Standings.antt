@@ -68,13 +68,6 @@ awaited_answer_of (Offer sequence) = OfferAnswer
 abbrev pub awaited_answer : Standing → Awaits
 awaited_answer standing = awaited_answer_of standing.awaited
 
--- the same two by their short names
-abbrev pub awaits_of : Awaited → Awaits
-awaits_of awaited = awaited_answer_of awaited
-
-abbrev pub awaits : Standing → Awaits
-awaits standing = awaited_answer standing
-
 -- an open booking: its plan, the slot in which it begins, and what is due of it
 pub record Open : Type 0 where
   pub plan : List Segment

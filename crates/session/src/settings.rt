@@ -1,3 +1,5 @@
+//! The settings of a server.
+
 /// What a server is set to for all its sessions.
 #[derive(Clone, Copy, Debug, PartialEq, Eq)]
 pub struct Settings {

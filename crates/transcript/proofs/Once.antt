@@ -34,7 +34,17 @@ pub hears_same : {old one other : Standing} {message : List ℕ} {ask again : As
     → Hears old message again other → LackAlike (hearing old message ask one) (hearing old message again other)
     → (again ≡ ask) × (other ≡ one)
 hears_same {old} {one} {other} {message} {ask} {again} films hears also alike =
-    hears_by alike (hears_once old one other message ask again films hears also)
+    hears_by alike (hears_once (record {
+      old = old;
+      one = one;
+      other = other;
+      message = message;
+      ask = ask;
+      again = again;
+      films = films;
+      is = hears;
+      its = also;
+    }))
 
 -- ---- the station answers
 

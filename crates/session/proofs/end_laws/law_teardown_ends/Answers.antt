@@ -5,4 +5,5 @@ pub returns-clause-ends : goal.returns-clause-ends
 returns-clause-ends c = teardown_ends
 
 pub returns-clause-alone : goal.returns-clause-alone
-returns-clause-alone c = torn_by_teardown
+returns-clause-alone c = λ films settings words happenings now are torn.
+    torn_by_teardown (record { films = films; settings = settings; words = words }) happenings now are torn

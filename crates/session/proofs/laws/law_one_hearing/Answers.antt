@@ -3,7 +3,18 @@ use Rattle.session.proofs.Refusing.{hears_500, hears_never}
 use Rattle.session.proofs.laws.law_one_hearing.Goals as goal
 
 pub returns-clause-one : goal.returns-clause-one
-returns-clause-one c = hears_once
+returns-clause-one c = λ old one other message ask again films is its.
+    hears_once (record {
+      old = old;
+      one = one;
+      other = other;
+      message = message;
+      ask = ask;
+      again = again;
+      films = films;
+      is = is;
+      its = its;
+    })
 
 pub returns-clause-memory : goal.returns-clause-memory
 returns-clause-memory c = hears_500

@@ -3,4 +3,4 @@ use Rattle.session.proofs.laws.law_play_told.Goals as goal
 
 pub returns : goal.returns
 returns c = λ old stored setup planned sequence authority is.
-    play_told old stored setup is.paused is.range planned sequence is.url authority is.name is.planned_is is.read is.good
+    play_told old stored setup planned sequence is

@@ -5,4 +5,4 @@ pub returns-clause-ready : goal.returns-clause-ready
 returns-clause-ready c = setup_ready
 
 pub returns-clause-told : goal.returns-clause-told
-returns-clause-told c = setup_told
+returns-clause-told c = λ old new sequence setup counts ask is. setup_told old new sequence setup counts is

@@ -14,6 +14,9 @@ returns-in_err-send_both-clause-front g c =
     let front : IsFrontTold (g.K.Link.told c.step-2.new.link) (g.K.Link.told c.send_both.new.link)
     (c.args.reply.now ++ step_bytes false c.args.slot (stepped_in true c.args.slot c.args.state.now)) = search rules in
     on_err c.from_residual-in_err-send_both.result
-    (front_both (g.K.Link.told c.args.link.now)
-    (step_bytes true c.args.slot c.args.state.now) c.args.reply.now
-    (step_bytes false c.args.slot (stepped_in true c.args.slot c.args.state.now)) (step_bytes false c.args.slot c.args.state.now) waits between told front)
+    (front_both (g.K.Link.told c.args.link.now) (record {
+      one = step_bytes true c.args.slot c.args.state.now;
+      text = c.args.reply.now;
+      after = step_bytes false c.args.slot (stepped_in true c.args.slot c.args.state.now);
+      plain = step_bytes false c.args.slot c.args.state.now;
+    }) waits between told front)

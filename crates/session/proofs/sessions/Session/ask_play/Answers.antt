@@ -16,7 +16,7 @@ use Rattle.session.specs.declared.notes.OfferNote.{OfferNote}
 use Rattle.session.specs.declared.notes.PlayNote.{PlayNote}
 use Rattle.session.specs.declared.notes.Receipt.{Receipt}
 use Rattle.session.specs.declared.states.Awaited.TheVariants.{Play}
-use Rattle.session.proofs.Askings.{prepared_in, ready_closed}
+use Rattle.session.proofs.Askings.{PlayPrepared, prepared_in, ready_closed}
 use Rattle.session.proofs.sessions.Session.ask_play.Goals as goal
 
 pub put_play-requires-clause-name_line : goal.put_play-requires-clause-name_line
@@ -52,21 +52,26 @@ invariant_of-self-2 c =
     subst (λ (s : Standing). OfFilm s.films setup.film (λ film. IsPlayable film s.source s.settings setup planned.counts planned.run
     planned.plan)) (sym c.self.view_is) c.requires.run stored c.stored_at-stored.ensures.film in
     let closed : open_receipts inside.state ≡ 0 = ready_closed inside.state setup ready in
+    let prepared : PlayPrepared inside.source inside.settings setup stored planned.plan (record {
+      run = planned.run;
+      counts = planned.counts;
+      frames = c.frames_of-frames.result;
+      plan = c.in-Ok.own;
+      paced = c.in-Ok.paced;
+      sequence = sequence;
+    }) = record {
+      playable = playable;
+      frames = c.frames_of-frames.ensures.frames;
+      bytes = c.frames_of-frames.ensures.bytes;
+      own = c.in-Ok.ensures.own;
+      paced = c.in-Ok.ensures.paced;
+    } in
     record {
       films = c.self.invariant.films;
       settings = c.self.invariant.settings;
       id = c.self.invariant.id;
       state = c.self.invariant.state;
-      awaited = prepared_in films inside.state
-          (record {
-            run = planned.run;
-            counts = planned.counts;
-            frames = c.frames_of-frames.result;
-            plan = c.in-Ok.own;
-            paced = c.in-Ok.paced;
-            sequence = sequence;
-          }) ready c.stored_at-stored.ensures.film playable c.frames_of-frames.ensures.frames c.frames_of-frames.ensures.bytes
-          c.in-Ok.ensures.own c.in-Ok.ensures.paced;
+      awaited = prepared_in films inside.state ready c.stored_at-stored.ensures.film prepared;
       stop = c.self.invariant.stop;
       receipt_room = omega (arith, c.in-Ok-reserve_for_play.ensures.room);
       play_room = omega (arith, c.in-Ok-reserve_for_play.ensures.plays);

@@ -48,7 +48,8 @@ invariant_of-self c =
       films = c.self.invariant.films;
       settings = c.self.invariant.settings;
       id = c.self.invariant.id;
-      state = admitted_state films c.in-Ready.field-1 ready.0 kept pacing refl refl pacer;
+      state = admitted_state films c.in-Ready.field-1 ready.0 kept
+          (record { pacing = pacing; run = refl; plan = refl; pacer = pacer });
       awaited = subst (λ (a : Awaited). IsAwaitedKept films inside.source inside.settings prepared.counts inside.lost
           (Playing setup play) a) (sym none)
           (admitted_going setup (run_pieces prepared.frames) prepared.run.sent c.args.start pacer kept.0.paced);

@@ -10,6 +10,7 @@ use Rattle.session.specs.declared.states.Next.{Next}
 use Rattle.session.specs.declared.states.State.{State}
 use Rattle.session.specs.declared.states.State.TheVariants.{Playing}
 use Rattle.session.proofs.Askings.{next_in}
+use Rattle.session.proofs.Grounds.{ground_of}
 use Rattle.session.proofs.Halts.{halted_closed, halted_kept, halted_rest, halted_stop, halted_torn, or_if}
 use Rattle.session.proofs.sessions.Session.hear_halt.Goals as goal
 
@@ -36,7 +37,7 @@ invariant_of-self c =
     let left : IsNextIn films inside.source inside.counts (Playing setup play) next =
     subst (λ (s : State). IsNextIn films inside.source inside.counts s next) was
     (subst (λ (n : Next). IsNextIn films inside.source inside.counts inside.state n) asked
-    (next_in films inside.source inside.settings inside.counts inside.lost inside.state inside.awaited c.self.invariant.awaited)) in
+    (next_in (ground_of inside) inside.lost inside.state inside.awaited c.self.invariant.awaited)) in
     let none : c.replace-asked.new.dest ≡ Nothing = c.replace-asked.ensures.after in
     let is : state ≡ state_after setup play next = c.state_and_note-state.ensures.state in
     let counted : counts ≡ counts_next films inside.source inside.counts setup play.run keep next = c.counts_next-self-inside.ensures in
@@ -61,7 +62,7 @@ invariant_of-self c =
           (halted_kept films keep next kept left));
       awaited = subst (λ (a : Awaited). IsAwaitedKept films inside.source inside.settings counts inside.lost state a) (sym none)
           (subst (λ (s : State). IsAwaitedKept films inside.source inside.settings counts inside.lost s Nothing) (sym is)
-          (halted_rest films inside.source inside.settings counts inside.lost setup play next));
+          (halted_rest (record { films = films; source = inside.source; settings = inside.settings; counts = counts }) inside.lost setup play next));
       stop = subst (IsStopAnswered state) (sym waits)
           (subst (λ (s : State). IsStopAnswered s (if is_answered next then true else inside.waits)) (sym is)
           (halted_stop setup play next inside.waits));

@@ -25,8 +25,11 @@ run_after-left-requires-clause-halt c =
     let state : inside.state ≡ Playing setup play = sym c.in-Playing.ensures.value in
     let hear : CanHear (standing_of inside) = subst CanHear (sym c.self.view_is) c.requires.hear in
     halts_play c.last_slot-last.result
-    (playing_in inside setup play c.self.invariant state hear).1 (unhalted inside setup play c.self.invariant state hear)
-    c.ask_halt-keep.ensures.state c.ask_halt-keep.ensures.boundary c.ask_halt-keep.ensures.most c.last_slot-last.ensures
+    (playing_in inside setup play c.self.invariant state hear).1 (unhalted inside setup play c.self.invariant state hear) (record {
+      state = c.ask_halt-keep.ensures.state;
+      after = c.ask_halt-keep.ensures.boundary;
+      most = c.ask_halt-keep.ensures.most;
+    }) c.last_slot-last.ensures
 
 pub invariant_of-self : goal.invariant_of-self
 invariant_of-self c =
@@ -43,7 +46,11 @@ invariant_of-self c =
     (of_film inside.films.now setup.film stored (λ s. IsRunOf s inside.source setup inside.counts left) c.stored_at-stored.ensures.film
     (left_runs
     kept.1 (kept.2 stored c.stored_at-stored.ensures.film) c.playback_of-playback.ensures.playback
-    c.ask_halt-keep.ensures.boundary.boundary c.run_after-left.ensures.left c.run_after-left.ensures.run c.run_after-left.ensures.fits))
+    c.ask_halt-keep.ensures.boundary.boundary (record {
+      left_is = c.run_after-left.ensures.left;
+      run_is = c.run_after-left.ensures.run;
+      fits = c.run_after-left.ensures.fits;
+    })))
 
 pub returns-clause-exact : goal.returns-clause-exact
 returns-clause-exact c =

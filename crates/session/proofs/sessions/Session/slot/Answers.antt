@@ -8,6 +8,7 @@ use Rattle.session.specs.declared.states.Awaited.TheVariants.{Nothing}
 use Rattle.session.specs.declared.states.State.{State}
 use Rattle.session.proofs.Carries.{awaited_kept, awaited_lost, awaited_settled, finished_none}
 use Rattle.session.proofs.Carries.{nothing_of, receipts_kept, receipts_settled, settled_kept, state_kept, stop_kept, stop_settled}
+use Rattle.session.proofs.Grounds.{ground_of}
 use Rattle.session.proofs.sessions.Session.slot.Goals as goal
 
 pub invariant_of-self-in_default-send_due : goal.invariant_of-self-in_default-send_due
@@ -23,9 +24,9 @@ invariant_of-self-in_default-send_due g c =
       films = c.self.invariant.films;
       settings = c.self.invariant.settings;
       id = c.self.invariant.id;
-      state = state_kept films inside.source inside.settings inside.counts inside.state new c.self.invariant.state carried;
+      state = state_kept (ground_of inside) inside.state new c.self.invariant.state carried;
       awaited = subst (λ (a : Awaited). IsAwaitedKept films inside.source inside.settings inside.counts true new a) (sym none)
-          (awaited_lost films inside.source inside.settings inside.counts new);
+          (awaited_lost (ground_of inside) new);
       stop = stop_kept inside.waits inside.state new c.self.invariant.stop carried;
       receipt_room = omega (arith, c.self.invariant.receipt_room);
       play_room = omega (arith, c.self.invariant.play_room);
@@ -64,10 +65,9 @@ invariant_of-self-then-replied g c =
       settings = c.self.invariant.settings;
       id = c.self.invariant.id;
       state = subst (λ (s : State). IsStateKept films inside.source inside.settings inside.counts s) (sym is)
-          (settled_kept films inside.source inside.settings inside.counts new
-          (state_kept films inside.source inside.settings inside.counts inside.state new c.self.invariant.state carried));
+          (settled_kept (ground_of inside) new (state_kept (ground_of inside) inside.state new c.self.invariant.state carried));
       awaited = subst (λ (s : State). IsAwaitedKept films inside.source inside.settings inside.counts inside.lost s awaited) (sym is)
-          (awaited_settled films inside.source inside.settings inside.counts inside.lost inside.state new awaited going carried even
+          (awaited_settled (ground_of inside) new awaited (record { going = going; carried = carried; even = even })
           (subst (λ (s : State). IsFinished s awaited) is finished));
       stop = subst (λ (s : State). IsStopAnswered s false) (sym is) (stop_settled false new);
       receipt_room = omega (arith, c.self.invariant.receipt_room);
@@ -103,8 +103,8 @@ invariant_of-self-2 g c =
       films = c.self.invariant.films;
       settings = c.self.invariant.settings;
       id = c.self.invariant.id;
-      state = state_kept films inside.source inside.settings inside.counts inside.state new c.self.invariant.state carried;
-      awaited = awaited_kept films inside.source inside.settings inside.counts inside.lost inside.state new awaited going carried even
+      state = state_kept (ground_of inside) inside.state new c.self.invariant.state carried;
+      awaited = awaited_kept {old = inside.state} (ground_of inside) awaited (record { going = going; carried = carried; even = even })
           finished;
       stop = stop_kept inside.waits inside.state new c.self.invariant.stop carried;
       receipt_room = omega (arith, c.self.invariant.receipt_room);

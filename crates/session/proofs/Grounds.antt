@@ -1,0 +1,69 @@
+-- What a session stands on while its state moves, and what it hears.
+use Rattle.std.proofs.Common.{◌≡◌, ℕ, List}
+use Rattle.film_frames.specs.declared.stores.Stored.{Stored}
+use Rattle.rtsp_text.specs.declared.requests.Request.{Request}
+use Rattle.session.specs.Hearings.{Hears}
+use Rattle.session.specs.Ranges.{AreFilms}
+use Rattle.session.specs.Standings.{Standing}
+use Rattle.session.specs.declared.asks.Ask.{Ask}
+use Rattle.session.specs.declared.sessions.Session.TheInside.{Inside}
+use Rattle.session.specs.declared.settings.Settings.{Settings}
+use Rattle.session.specs.declared.states.Counts.{Counts}
+use Rattle.session.specs.declared.states.Play.{Play as Played}
+use Rattle.session.specs.declared.states.Setup.{Setup}
+use Rattle.session.specs.declared.states.Source.{Source}
+use Rattle.session.specs.declared.states.State.TheVariants.{Playing}
+
+-- the ground of a session: its films, its source, its settings, and what was sent before
+pub record Ground : Type 0 where
+  pub films : List Stored
+  pub source : Source
+  pub settings : Settings
+  pub counts : Counts
+
+abbrev pub ground_of : Inside → Ground
+ground_of session = record {
+  films = session.films.now;
+  source = session.source;
+  settings = session.settings;
+  counts = session.counts;
+}
+
+-- what a session begins with: the server's films and settings, and the connection's words
+pub record Beginning : Type 0 where
+  pub films : List Stored
+  pub settings : Settings
+  pub words : List ℕ
+
+-- a message that was heard, what it asks of the station, and the session before and after it
+pub record HeardMessage : Type 0 where
+  pub old : Standing
+  pub new : Standing
+  pub message : List ℕ
+  pub ask : Ask
+  pub hears : Hears old message ask new
+
+-- a message that the same session heard twice
+pub record HeardTwice : Type 0 where
+  pub old : Standing
+  pub one : Standing
+  pub other : Standing
+  pub message : List ℕ
+  pub ask : Ask
+  pub again : Ask
+  pub films : AreFilms old.films
+  pub is : Hears old message ask one
+  pub its : Hears old message again other
+
+-- a request that was taken up, what it asks of the station, and the session before and after it
+pub record Taken : Type 0 where
+  pub old : Standing
+  pub new : Standing
+  pub request : Request
+  pub ask : Ask
+
+-- a play that a session has in hand
+pub record PlayInHand (old : Standing) : Type 0 where
+  pub setup : Setup
+  pub play : Played
+  pub playing : old.state ≡ Playing setup play
