@@ -143,17 +143,17 @@ pub record HasSlice (Has : ℕ → ℕ → Type 0) (at : ℕ) : Type 0 where
   pub before : place < at
   pub none : NoneIn Has place at IsHeadKind
 
-slice-by : {h s : Bool} {Has : ℕ → ℕ → Type 0} {c : Code} {past : List Code} {at : ℕ} (n : ℕ) →
+slice-by : {h s : Bool} {Has : ℕ → ℕ → Type 0} {c : Code} {past : List Code} {at n : ℕ} →
     is_head c.kind ≡ h → is_slice c.kind ≡ s → Knows Has (c ∷ past) at → Spaced (c ∷ past)
     → (0 < n → HasSlice Has c.place) → 0 < cond h 0 (cond s (n + 1) n) → HasSlice Has at
-slice-by {h = true} {s} {Has} {c} {at} n head slice k spaced before some = absurd (omega (arith, some))
-slice-by {h = false} {s = true} {Has} {c} {past} {at} n head slice k spaced before some = record {
+slice-by {h = true} {s} {Has} {c} {at} head slice k spaced before some = absurd (omega (arith, some))
+slice-by {h = false} {s = true} {Has} {c} {past} {at} head slice k spaced before some = record {
   place = c.place;
   code = (c.kind, (has-new Has c past at k, slice-kind c.kind slice));
   before = new-below Has c past at k;
   none = none-from IsHeadKind k spaced (no-head c.kind head);
 }
-slice-by {h = false} {s = false} {Has} {c} {past} {at} n head slice k spaced before some =
+slice-by {h = false} {s = false} {Has} {c} {past} {at} head slice k spaced before some =
     let it = before some in record {
       place = it.place;
       code = it.code;
@@ -165,7 +165,7 @@ pub slice-there : (Has : ℕ → ℕ → Type 0) (past : List Code) (at : ℕ) �
     Spaced past → 0 < slices_of past → HasSlice Has at
 slice-there Has [] at k spaced some = absurd (omega (arith, some))
 slice-there Has (c ∷ past) at k spaced some =
-    slice-by (slices_of past) refl refl k spaced
+    slice-by {n = slices_of past} refl refl k spaced
     (slice-there Has past c.place (older Has c past at k spaced) spaced.1) some
 
 -- ---- the latest unit's head

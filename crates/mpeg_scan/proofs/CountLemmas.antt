@@ -11,7 +11,7 @@ use Rattle.mpeg_scan.specs.Words.{is_head, is_slice, tally_of, slices_of, all_sl
 use Rattle.mpeg_scan.specs.Faults.{first_refusal, kind_fault, second_fault, first_slice_fault, count_fault, code_fault, head_fault, left_without_slices, first_fault, end_fault, last_fault, latest_fault, refusal_of}
 use Rattle.mpeg_scan.specs.Calls.{Call, head_call, slice_call, unit_call, unit_at, unit_end, calls_at, calls_of, all_calls}
 use Rattle.mpeg_scan.specs.Counts.{Count, group_of, next_count, counts_after, no_count, AreNumbered}
-use Rattle.mpeg_scan.proofs.TileLemmas.{slice-apart, first_slice-accepted, first-is, told-cons, told-nil, ended-none, accepted-whole}
+use Rattle.mpeg_scan.proofs.TileLemmas.{Told, raw_calls, told_at, slice-apart, first_slice-accepted, first-is, told-cons, told-nil, ended-none, accepted-whole}
 use Rattle.mpeg_scan.proofs.StepLemmas.{accepted-older, code-accepted, otherwise-first, otherwise-second}
 
 -- what a count has to do with the pictures, slices and groups of the codes: `has` says that the latest
@@ -41,17 +41,27 @@ after_unit k starts = record {
   before_group = cond starts k.units k.before_group;
 }
 
-unit-counted : (pictures all n before : ℕ) (has starts : Bool) (k : Count) (from to : ℕ) (u : PictureUnit) → Agrees pictures has all n before starts k → 0 < n → u.first_slice ≡ all - n → u.slices ≡ n → u.starts_group ≡ starts → u.presentation ≡ before + u.temporal → counts_after (Some k) (slice_call from to ∷ unit_call u ∷ []) ≡ Some (after_unit k starts)
+-- a unit of the latest slices, numbered in its group
+record IsNext (u : PictureUnit) (all n before : ℕ) (starts : Bool) : Type 0 where
+  first : u.first_slice ≡ all - n
+  slices : u.slices ≡ n
+  group : u.starts_group ≡ starts
+  shown : u.presentation ≡ before + u.temporal
+
+unit-counted : {pictures all n before : ℕ} {has starts : Bool} {k : Count} {u : PictureUnit} (from to : ℕ) → Agrees pictures has all n before starts k → 0 < n → IsNext u all n before starts →
+    counts_after (Some k) (slice_call from to ∷ unit_call u ∷ []) ≡ Some (after_unit k starts)
 unfolding after_unit
-unit-counted pictures all n before has starts k from to u agrees some first slices group shown =
+unit-counted {starts} {k} {u} from to agrees some next =
     let grown : Count = record k { slices = k.slices + 1 } in
     let same : group_of grown u ≡ cond starts k.units k.before_group = ap (λ b. cond b k.units k.before_group) group in
     counts-unit grown u (omega (arith, first, slices, agrees.open_slice some, agrees.held)) (shown ∙ ap (λ m. m + u.temporal) (agrees.group ∙ sym same))
     ∙ ap (λ m. Some (record { units = k.units + 1; slices = k.slices + 1; before_group = m })) same
+  where
+    open next use {first, slices, group, shown}
 
-unit-agrees : (pictures all n before : ℕ) (has starts : Bool) (k : Count) → Agrees pictures has all n before starts k → 0 < n → Agrees pictures false all 0 before false (after_unit k starts)
+unit-agrees : {pictures all n before : ℕ} {has starts : Bool} {k : Count} → Agrees pictures has all n before starts k → 0 < n → Agrees pictures false all 0 before false (after_unit k starts)
 unfolding after_unit
-unit-agrees pictures all n before has starts k agrees some = record {
+unit-agrees {k} agrees some = record {
   units = agrees.units ∙ ap (λ b. k.units + cond b 1 0) (agrees.sliced some) ∙ omega arith;
   ended = λ none. agrees.open_slice some;
   open_slice = λ more. absurd (omega arith);
@@ -122,29 +132,55 @@ group-bare : {pictures all n before : ℕ} {has starts : Bool} {k : Count} → A
 group-bare {pictures} {all} {before} {starts} {k} agrees none alone =
     subst (λ b. Agrees pictures b all 0 pictures true k) (sym alone) (group-agrees pictures all before starts k (bare agrees none alone))
 
-raw-count : {t0 t8 s q : Bool} {pictures all n before : ℕ} {has starts : Bool} {k : Count} (t3 : Bool)
-    (unit slice place : ℕ) (u : PictureUnit)
-    → Agrees pictures has all n before starts k → (q ≡ true → 0 < n) → (q ≡ false → n ≡ 0)
-    → (s ≡ true → (t0 || (t3 || t8)) ≡ false) → (t8 ≡ true → t0 ≡ false)
-    → ((t0 || (t3 || t8)) ≡ true → q ≡ false → has ≡ false) → (s ≡ true → q ≡ false → has ≡ true)
-    → u.first_slice ≡ all - n → u.slices ≡ n → u.starts_group ≡ starts → u.presentation ≡ before + u.temporal
-    → Counted k (cond s (cond (not q) (head_call unit place ∷ []) (slice_call slice place ∷ [])) (cond ((t0 || (t3 || t8)) && q) (slice_call slice place ∷ unit_call u ∷ []) []))
+-- a code that fits what stands before it: s, h: it is a slice, a head code; q, has: the latest unit has slices, a
+-- picture
+pub record CodeFits (s h q has : Bool) : Type 0 where
+  pub apart : s ≡ true → h ≡ false
+  pub alone : h ≡ true → q ≡ false → has ≡ false
+  pub with_picture : s ≡ true → q ≡ false → has ≡ true
+
+-- the same of a code by all those tests, after a unit of n slices
+record NextCode (t0 t3 t8 s q has : Bool) (n : ℕ) : Type 0 where
+  fits : CodeFits s (t0 || (t3 || t8)) q has
+  other : t8 ≡ true → t0 ≡ false
+  some : q ≡ true → 0 < n
+  none : q ≡ false → n ≡ 0
+
+raw-count : {t0 t3 t8 s q : Bool} {pictures all n before : ℕ} {has starts : Bool} {k : Count} (told : Told) → Agrees pictures has all n before starts k → NextCode t0 t3 t8 s q has n
+    → IsNext told.ended all n before starts
+    → Counted k (raw_calls s (t0 || (t3 || t8)) q (not q) told)
     (cond t0 (pictures + 1) pictures) (cond t0 true (cond ((t0 || (t3 || t8)) && q) false has)) (cond s (all + 1) all) (cond (t0 || (t3 || t8)) 0 (cond s (n + 1) n)) (cond t8 pictures before) (cond t8 true (cond ((t0 || (t3 || t8)) && q) false starts))
-raw-count {t0 = true} {s = true} {all} {starts} t3 unit slice place u agrees some none apart other alone with_picture first slices group shown = absurd (true≢false (apart refl))
-raw-count {t0 = false} {s = true} {all} {starts} true unit slice place u agrees some none apart other alone with_picture first slices group shown = absurd (true≢false (apart refl))
-raw-count {t0 = false} {t8 = true} {s = true} {all} {starts} false unit slice place u agrees some none apart other alone with_picture first slices group shown = absurd (true≢false (apart refl))
-raw-count {t0 = false} {t8 = false} {s = true} {q = true} {all} {starts} {k} false unit slice place u agrees some none apart other alone with_picture first slices group shown = record { count = record k { slices = k.slices + 1 }; told = refl; agrees = later-agrees agrees (some refl) }
-raw-count {t0 = false} {t8 = false} {s = true} {q = false} {all} {starts} {k} false unit slice place u agrees some none apart other alone with_picture first slices group shown = record { count = k; told = refl; agrees = first-agrees agrees (none refl) (with_picture refl refl) }
-raw-count {t0 = true} {t8 = true} {s = false} {all} {starts} t3 unit slice place u agrees some none apart other alone with_picture first slices group shown = absurd (true≢false (other refl))
-raw-count {t0 = true} {t8 = false} {s = false} {q = true} {pictures} {all} {n} {before} {has} {starts} {k} t3 unit slice place u agrees some none apart other alone with_picture first slices group shown = record { count = after_unit k starts; told = unit-counted pictures all n before has starts k slice place u agrees (some refl) first slices group shown; agrees = picture-agrees pictures all before false (after_unit k starts) (unit-agrees pictures all n before has starts k agrees (some refl)) }
-raw-count {t0 = false} {t8 = true} {s = false} {q = true} {pictures} {all} {n} {before} {has} {starts} {k} true unit slice place u agrees some none apart other alone with_picture first slices group shown = record { count = after_unit k starts; told = unit-counted pictures all n before has starts k slice place u agrees (some refl) first slices group shown; agrees = group-agrees pictures all before false (after_unit k starts) (unit-agrees pictures all n before has starts k agrees (some refl)) }
-raw-count {t0 = false} {t8 = true} {s = false} {q = true} {pictures} {all} {n} {before} {has} {starts} {k} false unit slice place u agrees some none apart other alone with_picture first slices group shown = record { count = after_unit k starts; told = unit-counted pictures all n before has starts k slice place u agrees (some refl) first slices group shown; agrees = group-agrees pictures all before false (after_unit k starts) (unit-agrees pictures all n before has starts k agrees (some refl)) }
-raw-count {t0 = false} {t8 = false} {s = false} {q = true} {pictures} {all} {n} {before} {has} {starts} {k} true unit slice place u agrees some none apart other alone with_picture first slices group shown = record { count = after_unit k starts; told = unit-counted pictures all n before has starts k slice place u agrees (some refl) first slices group shown; agrees = unit-agrees pictures all n before has starts k agrees (some refl) }
-raw-count {t0 = true} {t8 = false} {s = false} {q = false} {pictures} {all} {before} {starts} {k} t3 unit slice place u agrees some none apart other alone with_picture first slices group shown = record { count = k; told = refl; agrees = picture-agrees pictures all before starts k (bare agrees (none refl) (alone refl refl)) }
-raw-count {t0 = false} {t8 = true} {s = false} {q = false} {all} {starts} {k} true unit slice place u agrees some none apart other alone with_picture first slices group shown = record { count = k; told = refl; agrees = group-bare agrees (none refl) (alone refl refl) }
-raw-count {t0 = false} {t8 = true} {s = false} {q = false} {all} {starts} {k} false unit slice place u agrees some none apart other alone with_picture first slices group shown = record { count = k; told = refl; agrees = group-bare agrees (none refl) (alone refl refl) }
-raw-count {t0 = false} {t8 = false} {s = false} {q = false} {all} {starts} {k} true unit slice place u agrees some none apart other alone with_picture first slices group shown = record { count = k; told = refl; agrees = none-left agrees (none refl) }
-raw-count {t0 = false} {t8 = false} {s = false} {all} {starts} {k} false unit slice place u agrees some none apart other alone with_picture first slices group shown = record { count = k; told = refl; agrees = agrees }
+raw-count {t0 = true} {s = true} told agrees code next = absurd (true≢false (code.fits.apart refl))
+raw-count {t0 = false} {t3 = true} {s = true} told agrees code next = absurd (true≢false (code.fits.apart refl))
+raw-count {t0 = false} {t3 = false} {t8 = true} {s = true} told agrees code next = absurd (true≢false (code.fits.apart refl))
+raw-count {t0 = false} {t3 = false} {t8 = false} {s = true} {q = true} {k} told agrees code next = record { count = record k { slices = k.slices + 1 }; told = refl; agrees = later-agrees agrees (code.some refl) }
+raw-count {t0 = false} {t3 = false} {t8 = false} {s = true} {q = false} {k} told agrees code next = record { count = k; told = refl; agrees = first-agrees agrees (code.none refl) (code.fits.with_picture refl refl) }
+raw-count {t0 = true} {t8 = true} {s = false} told agrees code next = absurd (true≢false (code.other refl))
+raw-count {t0 = true} {t8 = false} {s = false} {q = true} {pictures} {all} {before} {starts} {k} told agrees code next = record {
+  count = after_unit k starts;
+  told = unit-counted told.slice told.place agrees (code.some refl) next;
+  agrees = picture-agrees pictures all before false (after_unit k starts) (unit-agrees agrees (code.some refl));
+}
+raw-count {t0 = false} {t3 = true} {t8 = true} {s = false} {q = true} {pictures} {all} {before} {starts} {k} told agrees code next = record {
+  count = after_unit k starts;
+  told = unit-counted told.slice told.place agrees (code.some refl) next;
+  agrees = group-agrees pictures all before false (after_unit k starts) (unit-agrees agrees (code.some refl));
+}
+raw-count {t0 = false} {t3 = false} {t8 = true} {s = false} {q = true} {pictures} {all} {before} {starts} {k} told agrees code next = record {
+  count = after_unit k starts;
+  told = unit-counted told.slice told.place agrees (code.some refl) next;
+  agrees = group-agrees pictures all before false (after_unit k starts) (unit-agrees agrees (code.some refl));
+}
+raw-count {t0 = false} {t3 = true} {t8 = false} {s = false} {q = true} {starts} {k} told agrees code next = record {
+  count = after_unit k starts;
+  told = unit-counted told.slice told.place agrees (code.some refl) next;
+  agrees = unit-agrees agrees (code.some refl);
+}
+raw-count {t0 = true} {t8 = false} {s = false} {q = false} {pictures} {all} {before} {starts} {k} told agrees code next = record { count = k; told = refl; agrees = picture-agrees pictures all before starts k (bare agrees (code.none refl) (code.fits.alone refl refl)) }
+raw-count {t0 = false} {t3 = true} {t8 = true} {s = false} {q = false} {k} told agrees code next = record { count = k; told = refl; agrees = group-bare agrees (code.none refl) (code.fits.alone refl refl) }
+raw-count {t0 = false} {t3 = false} {t8 = true} {s = false} {q = false} {k} told agrees code next = record { count = k; told = refl; agrees = group-bare agrees (code.none refl) (code.fits.alone refl refl) }
+raw-count {t0 = false} {t3 = true} {t8 = false} {s = false} {q = false} {k} told agrees code next = record { count = k; told = refl; agrees = none-left agrees (code.none refl) }
+raw-count {t0 = false} {t3 = false} {t8 = false} {s = false} {k} told agrees code next = record { count = k; told = refl; agrees = agrees }
 
 -- ---- all codes
 
@@ -190,6 +226,15 @@ CountedBy k calls past =
 pub empty-count : (n : ℕ) → ltb 0 n ≡ false → n ≡ 0
 empty-count n h = let none = ltb-false 0 n h in omega arith
 
+pub code-fits : (c d : Code) (past : List Code) → code_fault (tally_of (d ∷ past)) c.place c.kind ≡ None → CodeFits (is_slice c.kind) (is_head c.kind) (ltb 0 (slices_of (d ∷ past))) (is_some (picture_of (d ∷ past)))
+code-fits c d past e =
+    let t = tally_of (d ∷ past) in
+    record {
+      apart = slice-apart c.kind;
+      alone = λ head bare. second-none t c.kind (second-accepted t c.place c.kind e) head (empty-count (slices_of (d ∷ past)) bare);
+      with_picture = λ slice bare. first-some t c.place c.kind (first_slice-accepted t c.place c.kind e) slice (empty-count (slices_of (d ∷ past)) bare);
+    }
+
 code-count : (c d : Code) (past : List Code) (k : Count) → code_fault (tally_of (d ∷ past)) c.place c.kind ≡ None → Agrees (pictures_of (d ∷ past)) (is_some (picture_of (d ∷ past))) (all_slices_of (d ∷ past)) (slices_of (d ∷ past)) (before_group_of (d ∷ past)) (starts_group (d ∷ past)) k → CountedBy k (calls_at (tally_of (d ∷ past)) c.place c.kind) (c ∷ (d ∷ past))
 unfolding calls_at
 code-count c d past k e agrees =
@@ -198,9 +243,14 @@ code-count c d past k e agrees =
     let n = slices_of older in
     let q = ltb 0 n in
     let u = unit_at t c.place in
-    let none = λ (h : q ≡ false). empty-count n h in
-    let raw = raw-count (eqb c.kind 0xb3) t.unit t.slice c.place u agrees (ltb-true 0 n) none (slice-apart c.kind) (λ group. ap (λ m. eqb m 0) (eqb-true c.kind 0xb8 group))
-    (λ head bare. second-none t c.kind (second-accepted t c.place c.kind e) head (none bare)) (λ slice bare. first-some t c.place c.kind (first_slice-accepted t c.place c.kind e) slice (none bare)) refl refl refl refl in
+    let code : NextCode (eqb c.kind 0) (eqb c.kind 0xb3) (eqb c.kind 0xb8) (is_slice c.kind) q (is_some (picture_of older)) n = record {
+      fits = code-fits c d past e;
+      other = λ group. ap (λ m. eqb m 0) (eqb-true c.kind 0xb8 group);
+      some = ltb-true 0 n;
+      none = empty-count n;
+    } in
+    let next : IsNext u (all_slices_of older) n (before_group_of older) (starts_group older) = record { first = refl; slices = refl; group = refl; shown = refl } in
+    let raw = raw-count (told_at t c.place) agrees code next in
     let calls : List Call = cond (is_slice c.kind) (cond (not q) (head_call t.unit c.place ∷ []) (slice_call t.slice c.place ∷ [])) (cond (is_head c.kind && q) (slice_call t.slice c.place ∷ unit_call u ∷ []) []) in
     let with_has = subst (λ b. Counted k calls (pictures_of (c ∷ older)) b (all_slices_of (c ∷ older)) (slices_of (c ∷ older)) (before_group_of (c ∷ older)) (cond (eqb c.kind 0xb8) true (cond (is_head c.kind && q) false (starts_group older)))) (sym (some-cond (eqb c.kind 0) (is_head c.kind && q) (header_of c) (picture_of older))) raw in
     let with_starts = subst (λ b. Counted k calls (pictures_of (c ∷ older)) (is_some (picture_of (c ∷ older))) (all_slices_of (c ∷ older)) (slices_of (c ∷ older)) (before_group_of (c ∷ older)) (cond b true (cond (is_head c.kind && q) false (starts_group older)))) (sym (or-false (eqb c.kind 0xb8))) with_has in
@@ -251,7 +301,8 @@ whole-count (c ∷ past) n accepted ended =
     let all : List Code = c ∷ past in
     let some = ended-none (tally_of all) (otherwise-second (latest_fault all n) (last_fault (tally_of all)) ended) in
     let k = told-counted c past accepted in
-    let end = unit-counted (pictures_of all) (all_slices_of all) (slices_of all) (before_group_of all) (is_some (picture_of all)) (starts_group all) k.count (slice_of all) n (unit_at (tally_of all) n) k.agrees some refl refl refl refl in record {
+    let next : IsNext (unit_at (tally_of all) n) (all_slices_of all) (slices_of all) (before_group_of all) (starts_group all) = record { first = refl; slices = refl; group = refl; shown = refl } in
+    let end = unit-counted (slice_of all) n k.agrees some next in record {
       last = after_unit k.count (starts_group all);
       counted = counts-append (Some no_count) (calls_of all) (unit_end (tally_of all) n) ∙ ap (λ (o : Option Count). counts_after o (unit_end (tally_of all) n)) k.told ∙ end;
       units = sym (k.agrees.units ∙ ap (λ b. k.count.units + cond b 1 0) (k.agrees.sliced some));

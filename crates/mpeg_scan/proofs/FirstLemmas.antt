@@ -7,18 +7,18 @@ use Rattle.mpeg_scan.specs.declared.units.Unit.{Unit as PictureUnit}
 use Rattle.mpeg_scan.specs.Codes.{read, codes_of}
 use Rattle.mpeg_scan.specs.Words.{is_head, is_slice, rate_code, rate_of, slices_of, starts_group, tally_of}
 use Rattle.mpeg_scan.specs.Faults.{end_fault, first_fault, header_fault, last_fault, latest_fault, picture_fault, rate_fault}
-use Rattle.mpeg_scan.specs.Calls.{Call, head_call, slice_call, unit_call, calls_at, calls_of, unit_at, unit_end}
+use Rattle.mpeg_scan.specs.Calls.{Call, head_call, slice_call, calls_at, calls_of, unit_at, unit_end}
 use Rattle.mpeg_scan.specs.Films.{IsFilm, units_in}
 use Rattle.mpeg_scan.specs.Tiles.{first_of}
 use Rattle.mpeg_scan.specs.Places.{HasCode, StandsAt}
 use Rattle.mpeg_scan.specs.Standard.{AnyKind, IsFirstCode, StandsThere}
 use Rattle.mpeg_scan.specs.Layout.{AreChained, BeginsSequence}
 use Rattle.mpeg_scan.proofs.StepLemmas.{accepted-older, otherwise-first, otherwise-second}
-use Rattle.mpeg_scan.proofs.TileLemmas.{Spaced, accepted-whole, all-below, ended-none, first-is, placed-codes, slice-apart, told-cons, told-nil}
+use Rattle.mpeg_scan.proofs.TileLemmas.{Spaced, Told, accepted-whole, all-below, ended-none, first-is, placed-codes, raw_calls, slice-apart, told-cons, told-nil, told_at}
 use Rattle.mpeg_scan.proofs.BoundLemmas.{codes-rate, older-judged, sequence-judged, some-cond-none}
 use Rattle.mpeg_scan.proofs.FilmLemmas.{length-read, units_in-append}
 use Rattle.mpeg_scan.proofs.PlaceLemmas.{at-bytes, codes-stand}
-use Rattle.mpeg_scan.proofs.TextLemmas.{TextIs, TextsAre, codes-texts, text-byte}
+use Rattle.mpeg_scan.proofs.TextLemmas.{Same, TextIs, TextsAre, codes-texts, text-byte}
 use Rattle.mpeg_scan.proofs.LaidLemmas.{film-chained}
 
 -- ---- the first unit starts a group
@@ -40,18 +40,23 @@ first-true : (units : List PictureUnit) (s : Bool) → FirstStarts units s → F
 first-true [] s first = refl
 first-true (u ∷ units) s first = first
 
--- one code more, over plain values: s, h, b8: it is a slice, a head code, a group header; e: no slice so far
-raw-first : {s h b8 st : Bool} (q e : Bool) (units : List PictureUnit) (unit : PictureUnit) (a b c d : ℕ) → (s ≡ true → h ≡ false) → (s ≡ true → b8 ≡ false) → unit.starts_group ≡ st → FirstStarts units st
-    → FirstStarts (units ++ units_in (cond s (cond e (head_call a b ∷ []) (slice_call c d ∷ [])) (cond (h && q) (slice_call c d ∷ unit_call unit ∷ []) []))) (cond (b8 || false) true (cond (h && q) false st))
-raw-first {s = true} {h = true} q e units unit a b c d apart other is first = absurd (true≢false (apart refl))
-raw-first {s = true} {h = false} {b8 = true} q e units unit a b c d apart other is first = absurd (true≢false (other refl))
-raw-first {s = true} {h = false} {b8 = false} {st} q true units unit a b c d apart other is first = first-same units st first
-raw-first {s = true} {h = false} {b8 = false} {st} q false units unit a b c d apart other is first = first-same units st first
-raw-first {s = false} {h = true} {b8} {st} true e units unit a b c d apart other is first = first-more units unit st (cond (b8 || false) true false) first is
-raw-first {s = false} {h = true} {b8 = true} {st} false e units unit a b c d apart other is first = first-true units st first
-raw-first {s = false} {h = true} {b8 = false} {st} false e units unit a b c d apart other is first = first-same units st first
-raw-first {s = false} {h = false} {b8 = true} {st} q e units unit a b c d apart other is first = first-true units st first
-raw-first {s = false} {h = false} {b8 = false} {st} q e units unit a b c d apart other is first = first-same units st first
+-- a slice's code is no head's and no group's: s, h, b8: it is a slice, a head code, a group header
+record SliceApart (s h b8 : Bool) : Type 0 where
+  no_head : s ≡ true → h ≡ false
+  no_group : s ≡ true → b8 ≡ false
+
+-- one code more, by those tests; q, e: there were slices, there were none
+raw-first : {s h b8 : Bool} (q e : Bool) (units : List PictureUnit) (told : Told) → SliceApart s h b8 → FirstStarts units told.ended.starts_group
+    → FirstStarts (units ++ units_in (raw_calls s h q e told)) (cond (b8 || false) true (cond (h && q) false told.ended.starts_group))
+raw-first {s = true} {h = true} q e units told apart first = absurd (true≢false (apart.no_head refl))
+raw-first {s = true} {h = false} {b8 = true} q e units told apart first = absurd (true≢false (apart.no_group refl))
+raw-first {s = true} {h = false} {b8 = false} q true units told apart first = first-same units told.ended.starts_group first
+raw-first {s = true} {h = false} {b8 = false} q false units told apart first = first-same units told.ended.starts_group first
+raw-first {s = false} {h = true} {b8} true e units told apart first = first-more units told.ended told.ended.starts_group (cond (b8 || false) true false) first refl
+raw-first {s = false} {h = true} {b8 = true} false e units told apart first = first-true units told.ended.starts_group first
+raw-first {s = false} {h = true} {b8 = false} false e units told apart first = first-same units told.ended.starts_group first
+raw-first {s = false} {h = false} {b8 = true} q e units told apart first = first-true units told.ended.starts_group first
+raw-first {s = false} {h = false} {b8 = false} q e units told apart first = first-same units told.ended.starts_group first
 
 head-other : (a b c : Bool) → (a || (b || c)) ≡ false → c ≡ false
 head-other true b c e = absurd (true≢false e)
@@ -67,7 +72,8 @@ unfolding calls_at
 first-step c d past units first =
     let older : List Code = d ∷ past in
     let t = tally_of older in
-    raw-first (ltb 0 (slices_of older)) (eqb (slices_of older) 0) units (unit_at t c.place) t.unit c.place t.slice c.place (slice-apart c.kind) (slice-other c.kind) refl first
+    let apart : SliceApart (is_slice c.kind) (is_head c.kind) (eqb c.kind 0xb8) = record { no_head = slice-apart c.kind; no_group = slice-other c.kind } in
+    raw-first (ltb 0 (slices_of older)) (eqb (slices_of older) 0) units (told_at t c.place) apart first
 
 first-code : (c : Code) → c.kind ≡ 0xb3 → FirstStarts (units_in (calls_at (tally_of []) c.place c.kind)) (starts_group (c ∷ []))
 unfolding calls_at
@@ -190,12 +196,27 @@ pub record FirstText (r : List ℕ) (c : Code) : Type 0 where
   pub is : TextIs r stop c
   pub long : c.place + 12 ≤ stop
 
-pub first_in-text : (r : List ℕ) (c : Code) (past : List Code) (end stop : ℕ) → first_fault (c ∷ past) ≡ None → latest_fault (c ∷ past) end ≡ None → end ≤ stop → TextsAre r stop (c ∷ past) → FirstText r (first_in c past)
+-- codes that are accepted up to an end, and their texts in so many bytes
+pub record AreJudged (r : List ℕ) (c : Code) (past : List Code) (end stop : ℕ) : Type 0 where
+  pub accepted : first_fault (c ∷ past) ≡ None
+  pub judged : latest_fault (c ∷ past) end ≡ None
+  pub far : end ≤ stop
+  pub texts : TextsAre r stop (c ∷ past)
+
+-- so those before the latest
+pub older-are_judged : {r : List ℕ} {c d : Code} {past : List Code} {end stop : ℕ} → AreJudged r c (d ∷ past) end stop → AreJudged r d past c.place (c.place + 4)
+older-are_judged {c} {d} {past} are = record {
+  accepted = accepted-older c (d ∷ past) are.accepted;
+  judged = older-judged c (d ∷ past) are.accepted;
+  far = omega arith;
+  texts = are.texts.1;
+}
+
+pub first_in-text : {r : List ℕ} {c : Code} {past : List Code} {end stop : ℕ} → AreJudged r c past end stop → FirstText r (first_in c past)
 unfolding first_in
-first_in-text r c [] end stop accepted judged far texts =
-    record { stop = stop; is = texts.0; long = omega (arith, long-header 0 c end (first-is c accepted) judged) }
-first_in-text r c (d ∷ past) end stop accepted judged far texts =
-    first_in-text r d past c.place (c.place + 4) (accepted-older c (d ∷ past) accepted) (older-judged c (d ∷ past) accepted) (omega arith) texts.1
+first_in-text {c} {past = []} {end} {stop} are =
+    record { stop = stop; is = are.texts.0; long = omega (arith, are.far, long-header 0 c end (first-is c are.accepted) are.judged) }
+first_in-text {past = d ∷ past} are = first_in-text {c = d} {past = past} (older-are_judged are)
 
 record Begins (bytes : List ℕ) (past : List Code) : Type 0 where
   begins : BeginsSequence bytes (rate_of past) (first_of past)
@@ -208,12 +229,14 @@ codes-begin bytes (c ∷ past) codes accepted ended texts =
     let n = length r in
     let judged = otherwise-first (latest_fault (c ∷ past) n) (last_fault (tally_of (c ∷ past))) ended in
     let f = first_in c past in
-    let text = first_in-text r c past n n accepted judged (omega arith) texts in
+    let are : AreJudged r c past n n = record { accepted = accepted; judged = judged; far = omega arith; texts = texts } in
+    let text = first_in-text are in
     let long : length r ≡ length bytes = length-read bytes [] ∙ omega arith in
     let place : first_of (c ∷ past) ≡ f.place = first_in-place c past in
     let has : HasCode f.place 0xb3 (codes_of r) =
     subst (λ (l : List Code). HasCode f.place 0xb3 l) (sym codes) (subst (λ k. HasCode f.place k (c ∷ past)) (first_in-kind c past accepted) (first_in-has c past)) in
-    let byte : get_or f.text 3 0 ≡ get_or bytes (f.place + 4 + 3) 0 = text-byte bytes 3 (at-bytes bytes) (omega arith) (omega (arith, text.long)) text.is long in
+    let same : Same bytes r = record { byte = at-bytes bytes; long = long } in
+    let byte : get_or f.text 3 0 ≡ get_or bytes (f.place + 4 + 3) 0 = text-byte 3 same (omega arith) (omega (arith, text.long)) text.is in
     let here : f.place + 4 + 3 ≡ f.place + 7 = omega arith in
     let rate : rate_of (c ∷ past) ≡ get_or bytes (f.place + 7) 0 % 16 =
     first_in-rate c past n accepted judged ∙ ap (λ b. b % 16) (byte ∙ ap (λ i. get_or bytes i 0) here) in
@@ -230,8 +253,8 @@ chained-first from to [] unit is chained = cc
 chained-first from to (u ∷ units) unit is chained = let same : u ≡ unit = cc in ap (λ (v : PictureUnit). v.from) (sym same) ∙ chained.0
 
 -- the first unit begins with the sequence header of the film's rate
-pub film-begins : (bytes : List ℕ) (rate : ℕ) (units : List PictureUnit) (starts : List ℕ) → IsFilm bytes rate units starts → (unit : PictureUnit) → slice_get units 0 ≡ Some unit → BeginsSequence bytes rate unit.from
-film-begins bytes rate units starts film unit is =
+pub film-begins : {bytes : List ℕ} {rate : ℕ} {units : List PictureUnit} {starts : List ℕ} → IsFilm bytes rate units starts → (unit : PictureUnit) → slice_get units 0 ≡ Some unit → BeginsSequence bytes rate unit.from
+film-begins {bytes} {rate} {units} {starts} film unit is =
     let r = read [] bytes in
     let none = accepted-whole r film.accepted in
     let begins = codes-begin bytes (codes_of r) refl (otherwise-first (first_fault (codes_of r)) (end_fault (codes_of r) (length r)) none) (otherwise-second (first_fault (codes_of r)) (end_fault (codes_of r) (length r)) none) (codes-texts r) in

@@ -8,8 +8,8 @@ use Rattle.mpeg_scan.specs.Words.{is_head, is_slice, tally_of, slices_of, pictur
 use Rattle.mpeg_scan.specs.Faults.{code_fault, first_fault, end_fault, last_fault, latest_fault, refusal_of}
 use Rattle.mpeg_scan.specs.Grammar.{Phase, nowhere, in_head, after_picture, in_slices, next_phase, then_phase, phase_after, IsGrammatical}
 use Rattle.mpeg_scan.proofs.StepLemmas.{accepted-older, code-accepted, otherwise-first, otherwise-second}
-use Rattle.mpeg_scan.proofs.TileLemmas.{slice-apart, first_slice-accepted, first-is, ended-none, accepted-whole}
-use Rattle.mpeg_scan.proofs.CountLemmas.{some-cond, empty-count, second-none, second-accepted, first-some}
+use Rattle.mpeg_scan.proofs.TileLemmas.{first-is, ended-none, accepted-whole}
+use Rattle.mpeg_scan.proofs.CountLemmas.{CodeFits, code-fits, some-cond}
 
 -- the phase that the words on codes tell: q: there are slices, has: there is a picture
 abbrev pub phase_by : Bool → Bool → Phase
@@ -28,22 +28,22 @@ next-raw true has kind = refl
 next-raw false true kind = refl
 next-raw false false kind = refl
 
-raw-phase : {s q has : Bool} (t0 x : Bool) (n : ℕ) → ltb 0 n ≡ q → (s ≡ true → (t0 || x) ≡ false) → ((t0 || x) ≡ true → q ≡ false → has ≡ false) → (s ≡ true → q ≡ false → has ≡ true)
+raw-phase : {s q has : Bool} (t0 x : Bool) (n : ℕ) → ltb 0 n ≡ q → CodeFits s (t0 || x) q has
     → raw_next (phase_by q has) t0 (t0 || x) s ≡ Some (phase_by (ltb 0 (cond (t0 || x) 0 (cond s (n + 1) n))) (cond t0 true (cond ((t0 || x) && q) false has)))
-raw-phase {s = true} true x n is apart alone held = absurd (true≢false (apart refl))
-raw-phase {s = true} false true n is apart alone held = absurd (true≢false (apart refl))
-raw-phase {s = true} {q = true} {has} false false n is apart alone held = ap (λ b. Some (phase_by b has)) (sym (lt-ltb 0 (n + 1) (omega arith)))
-raw-phase {s = true} {q = false} {has = true} false false n is apart alone held = ap (λ b. Some (phase_by b true)) (sym (lt-ltb 0 (n + 1) (omega arith)))
-raw-phase {s = true} {q = false} {has = false} false false n is apart alone held = absurd (false≢true (held refl refl))
-raw-phase {s = false} {q = true} true x n is apart alone held = refl
-raw-phase {s = false} {q = false} {has = true} true x n is apart alone held = absurd (true≢false (alone refl refl))
-raw-phase {s = false} {q = false} {has = false} true x n is apart alone held = refl
-raw-phase {s = false} {q = true} false true n is apart alone held = refl
-raw-phase {s = false} {q = false} {has = true} false true n is apart alone held = absurd (true≢false (alone refl refl))
-raw-phase {s = false} {q = false} {has = false} false true n is apart alone held = refl
-raw-phase {s = false} {q = true} {has} false false n is apart alone held = ap (λ b. Some (phase_by b has)) (sym is)
-raw-phase {s = false} {q = false} {has = true} false false n is apart alone held = ap (λ b. Some (phase_by b true)) (sym is)
-raw-phase {s = false} {q = false} {has = false} false false n is apart alone held = ap (λ b. Some (phase_by b false)) (sym is)
+raw-phase {s = true} true x n is fits = absurd (true≢false (fits.apart refl))
+raw-phase {s = true} false true n is fits = absurd (true≢false (fits.apart refl))
+raw-phase {s = true} {q = true} {has} false false n is fits = ap (λ b. Some (phase_by b has)) (sym (lt-ltb 0 (n + 1) (omega arith)))
+raw-phase {s = true} {q = false} {has = true} false false n is fits = ap (λ b. Some (phase_by b true)) (sym (lt-ltb 0 (n + 1) (omega arith)))
+raw-phase {s = true} {q = false} {has = false} false false n is fits = absurd (false≢true (fits.with_picture refl refl))
+raw-phase {s = false} {q = true} true x n is fits = refl
+raw-phase {s = false} {q = false} {has = true} true x n is fits = absurd (true≢false (fits.alone refl refl))
+raw-phase {s = false} {q = false} {has = false} true x n is fits = refl
+raw-phase {s = false} {q = true} false true n is fits = refl
+raw-phase {s = false} {q = false} {has = true} false true n is fits = absurd (true≢false (fits.alone refl refl))
+raw-phase {s = false} {q = false} {has = false} false true n is fits = refl
+raw-phase {s = false} {q = true} {has} false false n is fits = ap (λ b. Some (phase_by b has)) (sym is)
+raw-phase {s = false} {q = false} {has = true} false false n is fits = ap (λ b. Some (phase_by b true)) (sym is)
+raw-phase {s = false} {q = false} {has = false} false false n is fits = ap (λ b. Some (phase_by b false)) (sym is)
 
 abbrev pub phase_of : List Code → Phase
 phase_of past = phase_by (ltb 0 (slices_of past)) (is_some (picture_of past))
@@ -55,8 +55,7 @@ phase-step c d past e =
     let n = slices_of older in
     let q = ltb 0 n in
     next-raw q (is_some (picture_of older)) c.kind
-    ∙ raw-phase (eqb c.kind 0) (eqb c.kind 0xb3 || eqb c.kind 0xb8) n refl (slice-apart c.kind)
-    (λ head bare. second-none t c.kind (second-accepted t c.place c.kind e) head (empty-count n bare)) (λ slice bare. first-some t c.place c.kind (first_slice-accepted t c.place c.kind e) slice (empty-count n bare))
+    ∙ raw-phase (eqb c.kind 0) (eqb c.kind 0xb3 || eqb c.kind 0xb8) n refl (code-fits c d past e)
     ∙ ap (λ b. Some (phase_by (ltb 0 (slices_of (c ∷ older))) b)) (sym (some-cond (eqb c.kind 0) (is_head c.kind && q) (header_of c) (picture_of older)))
 
 first-phase : (c : Code) → c.kind ≡ 0xb3 → next_phase nowhere c.kind ≡ Some (phase_of (c ∷ []))

@@ -1,5 +1,5 @@
 -- The refusals of a header, of the bits of its bytes.
-use Rattle.std.proofs.Common.{ℕ, Bool, true, false, cond, eqb, ltb, leb, not, ◌&&◌, ◌||◌, ◌+◌, ◌-◌, ◌/◌, ◌%◌, ◌<◌, ◌≤◌, ◌≡◌, ◌⊎◌, List, [], ◌∷◌, Option, Some, None, length, get_or, sym, ◌∙◌, ap, refl, subst, inl, inr, arith}
+use Rattle.std.proofs.Common.{ℕ, Bool, true, false, cond, eqb, ltb, leb, not, ◌&&◌, ◌||◌, ◌+◌, ◌-◌, ◌/◌, ◌%◌, ◌<◌, ◌≤◌, ◌≡◌, ◌⊎◌, List, [], ◌∷◌, Option, Some, None, get_or, sym, ◌∙◌, ap, refl, subst, inl, inr, arith}
 use Rattle.std.proofs.lemmas.Bool.{cases_lt, eqb-true, eq-eqb, ne_eqb, ltb-true, ltb-false, lt-ltb, le-ltb, leb-true, le-leb, and_parts, and_from, or_left, or_right, or_parts, not_from_false, false≢true, true≢false}
 use Rattle.mpeg_scan.specs.declared.codes.Code.{Code}
 use Rattle.mpeg_scan.specs.declared.faults.FilmFault.{FilmFault}
@@ -9,11 +9,10 @@ use Rattle.mpeg_scan.specs.Faults.{first_fault, header_fault, latest_fault, pict
 use Rattle.mpeg_scan.specs.Refusals.{HeaderRefusal, IsBadRate, IsBadType, IsLatest, IsOtherRate, IsSequence, IsShortHeader, Otherwise, has_vectors, header_bytes, picture_rate}
 use Rattle.mpeg_scan.specs.Standard.{IsHeadKind, NoneIn, picture_coding_type}
 use Rattle.mpeg_scan.proofs.BoundLemmas.{codes-rate, older-judged}
-use Rattle.mpeg_scan.proofs.FirstLemmas.{first_in, first_in-has, first_in-kind, first_in-rate, first_in-text, first-least}
+use Rattle.mpeg_scan.proofs.FirstLemmas.{AreJudged, first_in, first_in-has, first_in-kind, first_in-rate, first_in-text, first-least}
 use Rattle.mpeg_scan.proofs.StepLemmas.{accepted-older}
-use Rattle.mpeg_scan.proofs.TextLemmas.{TextIs, TextsAre, text-byte}
+use Rattle.mpeg_scan.proofs.TextLemmas.{Same, TextIs, TextsAre, text-byte}
 use Rattle.mpeg_scan.proofs.TileLemmas.{Spaced}
-use Rattle.mpeg_scan.proofs.PlaceLemmas.{at as at_byte}
 use Rattle.mpeg_scan.proofs.DecideLemmas.{Decides, both-cond, decide, neither, none-of, only-first, only-second}
 use Rattle.mpeg_scan.proofs.BeforeLemmas.{Knows, latest-is, latest-new, older}
 
@@ -202,12 +201,11 @@ short-at {bytes} {c} {at} is s =
 abbrev Refused : (ℕ → ℕ → Type 0) → List ℕ → ℕ → Option FilmFault → Type 0
 Refused Has bytes at o = Decides (HeaderRefusal Has bytes at) o
 
-sequence-decides : (Has : ℕ → ℕ →
-    Type 0) (bytes : List ℕ) (c : Code) (past : List Code) (at rate : ℕ) →
+sequence-decides : {Has : ℕ → ℕ → Type 0} {bytes : List ℕ} {c : Code} {past : List Code} {at rate : ℕ} →
     Header Has bytes c past at rate → c.kind ≡ 0xb3
     → Refused Has bytes at
     (cond (ltb (at - c.place) 12) (Some (ShortHeader c.place)) (rate_fault rate c))
-sequence-decides Has bytes c past at rate h is =
+sequence-decides {Has} {bytes} {c} {past} {at} {rate} h is =
     let short = short-here h in
     both-cond {P = IsShortHeader Has bytes at} {Q = Otherwise (IsBadRate Has bytes at) (IsBadType Has bytes at)} {b = ltb (at - c.place) 12} {h = ShortHeader c.place} {o = rate_fault rate c}
     (λ e. short-new {Has = Has} {bytes = bytes} {c = c} {past = past} {at = at} {rate = rate} {kind = 0xb3} h is (inr (inl refl))
@@ -241,11 +239,10 @@ sequence-decides Has bytes c past at rate h is =
     )))
     (no-type h (λ e. absurd (omega (arith, e, is)))))
 
-group-decides : (Has : ℕ → ℕ →
-    Type 0) (bytes : List ℕ) (c : Code) (past : List Code) (at rate : ℕ) →
+group-decides : {Has : ℕ → ℕ → Type 0} {bytes : List ℕ} {c : Code} {past : List Code} {at rate : ℕ} →
     Header Has bytes c past at rate → c.kind ≡ 0xb8
     → Refused Has bytes at (cond (ltb (at - c.place) 8) (Some (ShortHeader c.place)) None)
-group-decides Has bytes c past at rate h is =
+group-decides {Has} {bytes} {c} {past} {at} {rate} h is =
     let short = short-here h in
     both-cond {P = IsShortHeader Has bytes at} {Q = Otherwise (IsBadRate Has bytes at) (IsBadType Has bytes at)} {b = ltb (at - c.place) 8} {h = ShortHeader c.place} {o = None}
     (λ e. short-new {Has = Has} {bytes = bytes} {c = c} {past = past} {at = at} {rate = rate} {kind = 0xb8} h is (inr (inr refl))
@@ -390,10 +387,10 @@ kinds-decide : {three eight zero_is : Bool} {Has : ℕ → ℕ → Type 0} {byte
     (cond three (cond (ltb (at - c.place) 12) (Some (ShortHeader c.place)) (rate_fault rate c))
     (cond eight (cond (ltb (at - c.place) 8) (Some (ShortHeader c.place)) None)
     (cond zero_is (picture_fault c at) None)))
-kinds-decide {three = true} {Has} {bytes} {c} {past} {at} {rate} a b z h =
-    sequence-decides Has bytes c past at rate h (eqb-true c.kind 0xb3 a)
-kinds-decide {three = false} {eight = true} {Has} {bytes} {c} {past} {at} {rate} a b z h =
-    group-decides Has bytes c past at rate h (eqb-true c.kind 0xb8 b)
+kinds-decide {three = true} {c} a b z h =
+    sequence-decides h (eqb-true c.kind 0xb3 a)
+kinds-decide {three = false} {eight = true} {c} a b z h =
+    group-decides h (eqb-true c.kind 0xb8 b)
 kinds-decide {three = false} {eight = false} {zero_is = true} {Has} {c} {at} a b z h =
     picture-decides h (eqb-true c.kind 0 z)
 kinds-decide {three = false} {eight = false} {zero_is = false} {Has} {bytes} {c} {at} a b z h =
@@ -408,15 +405,10 @@ header-decides {Has} {c} {at} h =
 
 -- ---- the header before a place
 
--- the bytes, given the latest first, and in order
-pub record Same (bytes r : List ℕ) : Type 0 where
-  pub byte : (i : ℕ) → at_byte r i ≡ get_or bytes i 256
-  pub long : length r ≡ length bytes
-
 text-fits : {bytes r : List ℕ} {stop to : ℕ} {c : Code} → Same bytes r → TextIs r stop c →
     to ≤ stop → Fits bytes to c
-text-fits {bytes} {r} {stop} {c} same text far k small below =
-    text-byte bytes k same.byte small (omega (arith, below, far)) text same.long
+text-fits same text far k small below =
+    text-byte k same small (omega (arith, below, far)) text
 
 rate-known : {Has : ℕ → ℕ → Type 0} {bytes r : List ℕ} {past : List Code} {at : ℕ} → Same bytes r →
     Knows Has past at → Spaced past → TextsAre r (at + 4) past → first_fault past ≡ None →
@@ -426,7 +418,8 @@ rate-known {Has} {r} {past = []} {at} same k spaced texts accepted judged =
 rate-known {Has} {bytes} {r} {past = c ∷ past} {at} same k spaced texts accepted judged =
     let first = first_in c past in
     let has = first_in-has c past in
-    let text = first_in-text r c past at (at + 4) accepted judged (omega arith) texts in
+    let are : AreJudged r c past at (at + 4) = record { accepted = accepted; judged = judged; far = omega arith; texts = texts } in
+    let text = first_in-text are in
     let rate = codes-rate c past at accepted judged in
     its_rate (record {
       first = first.place;

@@ -14,12 +14,12 @@ use Rattle.mpeg_scan.proofs.CountLemmas.{film-numbered}
 use Rattle.mpeg_scan.proofs.TileLemmas.{film-tiles}
 use Rattle.mpeg_scan.specs.Layout.{AreChained, AreInOrder, IsLaid, AreLaid, unit_starts}
 
-pub laid-at : (end : ℕ) (starts : List ℕ) (units : List PictureUnit) (k : ℕ) (unit : PictureUnit) → slice_get units k ≡ Some unit → AreLaid end starts units → (unit.to ≤ end) × IsLaid starts unit
-laid-at end starts [] k unit is laid = cc
-laid-at end starts (first ∷ units) zero unit is laid =
+pub laid-at : {unit : PictureUnit} (end : ℕ) (starts : List ℕ) (units : List PictureUnit) (k : ℕ) → slice_get units k ≡ Some unit → AreLaid end starts units → (unit.to ≤ end) × IsLaid starts unit
+laid-at end starts [] k is laid = cc
+laid-at {unit} end starts (first ∷ units) zero is laid =
     let P : PictureUnit → Type 0 = λ u. (u.to ≤ end) × IsLaid starts u in
     let same : first ≡ unit = cc in subst P same laid.0
-laid-at end starts (first ∷ units) (suc k) unit is laid = laid-at end starts units k unit is laid.1
+laid-at end starts (first ∷ units) (suc k) is laid = laid-at end starts units k is laid.1
 
 -- one slice more
 in_order-more : (cur : List ℕ) (head at b : ℕ) → AreInOrder head cur at → at + 4 ≤ b → AreInOrder head (cur ++ at ∷ []) b
@@ -28,7 +28,7 @@ in_order-more (s ∷ []) head at b order least = (order.0, (order.1.0, (refl, (l
 in_order-more (s ∷ (next ∷ cur)) head at b order least = (order.0, (order.1.0, in_order-more (next ∷ cur) next at b order.1.1 least))
 
 -- the slices of a unit, after those before it
-own-slices : {cur : List ℕ} {first n : ℕ} (before rest : List ℕ) → first ≡ length before → n ≡ length cur → take n (drop first ((before ++ cur) ++ rest)) ≡ cur
+pub own-slices : {cur : List ℕ} {first n : ℕ} (before rest : List ℕ) → first ≡ length before → n ≡ length cur → take n (drop first ((before ++ cur) ++ rest)) ≡ cur
 own-slices {cur} {first} {n} before rest f m =
     ap (λ (l : List ℕ). take n (drop first l)) (append_assoc before cur rest)
     ∙ ap (λ i. take n (drop i (before ++ (cur ++ rest)))) f
@@ -80,7 +80,7 @@ part-below (unit_call unit ∷ calls) (within from head_end at n) to parts =
     let fits = part-fits ((eqb unit.from from && (eqb unit.head_end head_end && eqb unit.to at)) && (eqb unit.slices n && ltb 0 n)) (between at) calls to parts in
     part-below calls (between at) to fits.1
 
-count-fits : (b : Bool) (k : Count) (calls : List Call) → IsSome (counts_after (cond b (Some k) None) calls) → (b ≡ true) × IsSome (counts_after (Some k) calls)
+pub count-fits : (b : Bool) (k : Count) (calls : List Call) → IsSome (counts_after (cond b (Some k) None) calls) → (b ≡ true) × IsSome (counts_after (Some k) calls)
 count-fits true k calls e = (refl, e)
 count-fits false k [] e = cc
 count-fits false k (call ∷ calls) e = cc
@@ -92,7 +92,7 @@ pub record UnitFits (unit : PictureUnit) (from head_end at n : ℕ) : Type 0 whe
   pub slices : unit.slices ≡ n
   pub some : 0 < n
 
-unit-fits : (unit : PictureUnit) (from head_end at n : ℕ) → ((eqb unit.from from && (eqb unit.head_end head_end && eqb unit.to at)) && (eqb unit.slices n && ltb 0 n)) ≡ true → UnitFits unit from head_end at n
+pub unit-fits : (unit : PictureUnit) (from head_end at n : ℕ) → ((eqb unit.from from && (eqb unit.head_end head_end && eqb unit.to at)) && (eqb unit.slices n && ltb 0 n)) ≡ true → UnitFits unit from head_end at n
 unit-fits unit from head_end at n e =
     let both = and_parts (eqb unit.from from && (eqb unit.head_end head_end && eqb unit.to at)) (eqb unit.slices n && ltb 0 n) e in
     let first = and_parts (eqb unit.from from) (eqb unit.head_end head_end && eqb unit.to at) both.0 in
@@ -123,49 +123,63 @@ unit-laid {unit} {from} {head_end} {at} {past} rest fits count inside =
       in_order = subst (λ (l : List ℕ). AreInOrder unit.head_end l unit.to) starts order;
     }
 
-part-laid : (calls : List Call) (part : Part) (k : Count) (to : ℕ) (past : List ℕ) → parts_after (Some part) calls ≡ Some (between to) → IsSome (counts_after (Some k) calls) → k.slices ≡ length past → Stands part past → AreLaid to (past ++ slices_in calls) (units_in calls)
+-- the places of all slices so far, where the parts so far come to this one
+record SoFar (part : Part) (k : Count) (past : List ℕ) : Type 0 where
+  slices : k.slices ≡ length past
+  stands : Stands part past
+
+part-laid : (calls : List Call) {part : Part} {k : Count} {to : ℕ} {past : List ℕ} → parts_after (Some part) calls ≡ Some (between to) → IsSome (counts_after (Some k) calls) → SoFar part k past →
+    AreLaid to (past ++ slices_in calls) (units_in calls)
 unfolding place_of
-part-laid [] part k to past parts counts slices stands = tt
-part-laid (head_call a b ∷ calls) (between at) k to past parts counts slices stands =
+part-laid [] parts counts so_far = tt
+part-laid (head_call a b ∷ calls) {part = between at} {k} {to} {past} parts counts so_far =
     let fits = part-fits (eqb a at && (ltb a b && leb (b - a) 1380)) (within a b b 0) calls to parts in
     let head = and_parts (ltb a b) (leb (b - a) 1380) (and_parts (eqb a at) (ltb a b && leb (b - a) 1380) fits.0).1 in
     let less = ltb-true a b head.0 in
     let short = leb-true (b - a) 1380 head.1 in
-    part-laid calls (within a b b 0) k to past fits.1 counts slices
-    (record { before = past; cur = []; past_is = sym (append-nil past); count = refl; head = less; short = omega (arith, less, short); in_order = refl })
-part-laid (slice_call a b ∷ calls) (between at) k to past parts counts slices stands = absurd (false≢true (part-fits false (between at) calls to parts).0)
-part-laid (unit_call unit ∷ calls) (between at) k to past parts counts slices stands = absurd (false≢true (part-fits false (between at) calls to parts).0)
-part-laid (head_call a b ∷ calls) (within from head_end at n) k to past parts counts slices stands = absurd (false≢true (part-fits false (between at) calls to parts).0)
-part-laid (slice_call a b ∷ calls) (within from head_end at n) k to past parts counts slices stands =
+    let next : SoFar (within a b b 0) k past = record {
+      slices = so_far.slices;
+      stands = record { before = past; cur = []; past_is = sym (append-nil past); count = refl; head = less; short = omega (arith, less, short); in_order = refl };
+    } in
+    part-laid calls fits.1 counts next
+part-laid (slice_call a b ∷ calls) {part = between at} {to} parts counts so_far = absurd (false≢true (part-fits false (between at) calls to parts).0)
+part-laid (unit_call unit ∷ calls) {part = between at} {to} parts counts so_far = absurd (false≢true (part-fits false (between at) calls to parts).0)
+part-laid (head_call a b ∷ calls) {part = within from head_end at n} {to} parts counts so_far = absurd (false≢true (part-fits false (between at) calls to parts).0)
+part-laid (slice_call a b ∷ calls) {part = within from head_end at n} {k} {to} {past} parts counts so_far =
+    let stands : Inside from head_end at n past = so_far.stands in
     let fits = part-fits (eqb a at && leb (a + 4) b) (within from head_end b (n + 1)) calls to parts in
     let slice = and_parts (eqb a at) (leb (a + 4) b) fits.0 in
     let here = eqb-true a at slice.0 in
     let least = leb-true (a + 4) b slice.1 in
-    subst (λ (l : List ℕ). AreLaid to l (units_in calls)) (append_assoc past (a ∷ []) (slices_in calls))
-    (part-laid calls (within from head_end b (n + 1)) (record k { slices = k.slices + 1 }) to (past ++ a ∷ []) fits.1 counts (omega (arith, slices, length-append past (a ∷ [])))
-    (record {
-      before = stands.before;
-      cur = stands.cur ++ a ∷ [];
-      past_is = ap (λ (l : List ℕ). l ++ a ∷ []) stands.past_is ∙ append_assoc stands.before stands.cur (a ∷ []);
-      count = omega (arith, stands.count, length-append stands.cur (a ∷ []));
-      head = stands.head;
-      short = stands.short;
-      in_order = subst (λ s. AreInOrder head_end (stands.cur ++ s ∷ []) b) (sym here) (in_order-more stands.cur head_end at b stands.in_order (omega (arith, here, least)));
-    }))
-part-laid (unit_call unit ∷ calls) (within from head_end at n) k to past parts counts slices stands =
+    let next : SoFar (within from head_end b (n + 1)) (record k { slices = k.slices + 1 }) (past ++ a ∷ []) = record {
+      slices = omega (arith, so_far.slices, length-append past (a ∷ []));
+      stands = record {
+        before = stands.before;
+        cur = stands.cur ++ a ∷ [];
+        past_is = ap (λ (l : List ℕ). l ++ a ∷ []) stands.past_is ∙ append_assoc stands.before stands.cur (a ∷ []);
+        count = omega (arith, stands.count, length-append stands.cur (a ∷ []));
+        head = stands.head;
+        short = stands.short;
+        in_order = subst (λ s. AreInOrder head_end (stands.cur ++ s ∷ []) b) (sym here) (in_order-more stands.cur head_end at b stands.in_order (omega (arith, here, least)));
+      };
+    } in
+    subst (λ (l : List ℕ). AreLaid to l (units_in calls)) (append_assoc past (a ∷ []) (slices_in calls)) (part-laid calls fits.1 counts next)
+part-laid (unit_call unit ∷ calls) {part = within from head_end at n} {k} {to} {past} parts counts so_far =
     let fits = part-fits ((eqb unit.from from && (eqb unit.head_end head_end && eqb unit.to at)) && (eqb unit.slices n && ltb 0 n)) (between at) calls to parts in
     let agrees = count-fits (eqb (unit.first_slice + unit.slices) k.slices && eqb unit.presentation (group_of k unit + unit.temporal))
     (record { units = k.units + 1; slices = k.slices; before_group = group_of k unit }) calls counts in
-    let count = eqb-true (unit.first_slice + unit.slices) k.slices (and_parts (eqb (unit.first_slice + unit.slices) k.slices) (eqb unit.presentation (group_of k unit + unit.temporal)) agrees.0).0 in (
-      (subst (λ p. p ≤ to) (sym (unit-fits unit from head_end at n fits.0).end) (part-below calls (between at) to fits.1), unit-laid (slices_in calls) (unit-fits unit from head_end at n fits.0) (count ∙ slices) stands),
-      part-laid calls (between at) (record { units = k.units + 1; slices = k.slices; before_group = group_of k unit }) to past fits.1 agrees.1 slices tt,
+    let count = eqb-true (unit.first_slice + unit.slices) k.slices (and_parts (eqb (unit.first_slice + unit.slices) k.slices) (eqb unit.presentation (group_of k unit + unit.temporal)) agrees.0).0 in
+    let next : SoFar (between at) (record { units = k.units + 1; slices = k.slices; before_group = group_of k unit }) past = record { slices = so_far.slices; stands = tt } in (
+      (subst (λ p. p ≤ to) (sym (unit-fits unit from head_end at n fits.0).end) (part-below calls (between at) to fits.1), unit-laid (slices_in calls) (unit-fits unit from head_end at n fits.0) (count ∙ so_far.slices) so_far.stands),
+      part-laid calls fits.1 agrees.1 next,
     )
 
 pub film-laid : (bytes : List ℕ) (rate : ℕ) (units : List PictureUnit) (starts : List ℕ) → IsFilm bytes rate units starts → AreLaid (length bytes) starts units
 film-laid bytes rate units starts film =
     let calls = all_calls (read [] bytes) in
     let end : length (read [] bytes) ≡ length bytes = length-read bytes [] ∙ omega arith in
-    let laid = part-laid calls (between (first_of (codes_of (read [] bytes)))) no_count (length (read [] bytes)) [] (film-tiles (read [] bytes) film.accepted) (film-numbered (read [] bytes) film.accepted) refl tt in
+    let start : SoFar (between (first_of (codes_of (read [] bytes)))) no_count [] = record { slices = refl; stands = tt } in
+    let laid = part-laid calls (film-tiles (read [] bytes) film.accepted) (film-numbered (read [] bytes) film.accepted) start in
     subst (λ e. AreLaid e starts units) end
     (subst (λ (l : List ℕ). AreLaid (length (read [] bytes)) l units) (sym film.slices) (subst (λ (l : List PictureUnit). AreLaid (length (read [] bytes)) (slices_in calls) l) (sym film.units) laid))
 

@@ -34,33 +34,44 @@ make from head_end to first_slice slices temporal presentation kind vectors has_
       starts_group = starts_group;
     }
 
-same-unit : {u v : PictureUnit} → u.from ≡ v.from → u.head_end ≡ v.head_end → u.to ≡ v.to →
-    u.first_slice ≡ v.first_slice → u.slices ≡ v.slices → u.temporal ≡ v.temporal →
-    u.presentation ≡ v.presentation → u.kind ≡ v.kind → u.vectors ≡ v.vectors →
-    u.has_sequence ≡ v.has_sequence → u.starts_group ≡ v.starts_group → u ≡ v
-same-unit {u} {v} a b c d e f g h i j k =
+-- two units, field by field
+record AreSameFields (u v : PictureUnit) : Type 0 where
+  from : u.from ≡ v.from
+  head_end : u.head_end ≡ v.head_end
+  to : u.to ≡ v.to
+  first_slice : u.first_slice ≡ v.first_slice
+  slices : u.slices ≡ v.slices
+  temporal : u.temporal ≡ v.temporal
+  presentation : u.presentation ≡ v.presentation
+  kind : u.kind ≡ v.kind
+  vectors : u.vectors ≡ v.vectors
+  has_sequence : u.has_sequence ≡ v.has_sequence
+  starts_group : u.starts_group ≡ v.starts_group
+
+same-unit : {u v : PictureUnit} → AreSameFields u v → u ≡ v
+same-unit {u} {v} same =
     ap (λ (x : ℕ). make x u.head_end u.to u.first_slice u.slices u.temporal u.presentation
-    u.kind u.vectors u.has_sequence u.starts_group) a
+    u.kind u.vectors u.has_sequence u.starts_group) same.from
     ∙ ap (λ (x : ℕ). make v.from x u.to u.first_slice u.slices u.temporal u.presentation u.kind
-    u.vectors u.has_sequence u.starts_group) b
+    u.vectors u.has_sequence u.starts_group) same.head_end
     ∙ ap (λ (x : ℕ). make v.from v.head_end x u.first_slice u.slices u.temporal u.presentation
-    u.kind u.vectors u.has_sequence u.starts_group) c
+    u.kind u.vectors u.has_sequence u.starts_group) same.to
     ∙ ap (λ (x : ℕ). make v.from v.head_end v.to x u.slices u.temporal u.presentation u.kind
-    u.vectors u.has_sequence u.starts_group) d
+    u.vectors u.has_sequence u.starts_group) same.first_slice
     ∙ ap (λ (x : ℕ). make v.from v.head_end v.to v.first_slice x u.temporal u.presentation
-    u.kind u.vectors u.has_sequence u.starts_group) e
+    u.kind u.vectors u.has_sequence u.starts_group) same.slices
     ∙ ap (λ (x : ℕ). make v.from v.head_end v.to v.first_slice v.slices x u.presentation u.kind
-    u.vectors u.has_sequence u.starts_group) f
+    u.vectors u.has_sequence u.starts_group) same.temporal
     ∙ ap (λ (x : ℕ). make v.from v.head_end v.to v.first_slice v.slices v.temporal x u.kind
-    u.vectors u.has_sequence u.starts_group) g
+    u.vectors u.has_sequence u.starts_group) same.presentation
     ∙ ap (λ (x : Kind). make v.from v.head_end v.to v.first_slice v.slices v.temporal
-    v.presentation x u.vectors u.has_sequence u.starts_group) h
+    v.presentation x u.vectors u.has_sequence u.starts_group) same.kind
     ∙ ap (λ (x : ℕ). make v.from v.head_end v.to v.first_slice v.slices v.temporal
-    v.presentation v.kind x u.has_sequence u.starts_group) i
+    v.presentation v.kind x u.has_sequence u.starts_group) same.vectors
     ∙ ap (λ (x : Bool). make v.from v.head_end v.to v.first_slice v.slices v.temporal
-    v.presentation v.kind v.vectors x u.starts_group) j
+    v.presentation v.kind v.vectors x u.starts_group) same.has_sequence
     ∙ ap (λ (x : Bool). make v.from v.head_end v.to v.first_slice v.slices v.temporal
-    v.presentation v.kind v.vectors v.has_sequence x) k
+    v.presentation v.kind v.vectors v.has_sequence x) same.starts_group
 
 bool-same : (a b : Bool) → (a ≡ true → b ≡ true) → (b ≡ true → a ≡ true) → a ≡ b
 bool-same true b one other = sym (one refl)
@@ -104,19 +115,25 @@ head-same bytes u v one other from = elim (cases_lt u.head_end v.head_end) [
 abbrev Ends : List ℕ → ℕ → Type 0
 Ends bytes to = (to ≡ length bytes) ⊎ StandsThere (StandsAt bytes) to IsHeadKind
 
-end-not-less : {bytes : List ℕ} {u v : PictureUnit} → IsUnitOf bytes u → IsUnitOf bytes v →
-    u.head_end ≡ v.head_end → Ends bytes u.to → v.to ≤ length bytes → u.to < v.to → ⊥
-end-not-less one other head (inl end) low less = omega (arith, end, low, less)
-end-not-less {u} one other head (inr code) low less =
-    other.slices u.to code.0 code.1.0 (omega (arith, head, one.rest)) less code.1.1
+-- a unit of the bytes that ends where it may
+record IsUnitWithin (bytes : List ℕ) (u : PictureUnit) : Type 0 where
+  unit : IsUnitOf bytes u
+  ends : Ends bytes u.to
+  within : u.to ≤ length bytes
 
-end-same : {bytes : List ℕ} {u v : PictureUnit} → IsUnitOf bytes u → IsUnitOf bytes v →
-    u.head_end ≡ v.head_end → Ends bytes u.to → Ends bytes v.to → u.to ≤ length bytes →
-    v.to ≤ length bytes → u.to ≡ v.to
-end-same {u} {v} one other head ends also low under = elim (cases_lt u.to v.to) [
-  | inl less ↦ absurd (end-not-less one other head ends under less)
+end-not-less : {bytes : List ℕ} {u v : PictureUnit} → IsUnitWithin bytes u →
+    IsUnitWithin bytes v → u.head_end ≡ v.head_end → u.to < v.to → ⊥
+end-not-less {u} one other head less = elim (one.ends) [
+  | inl end ↦ omega (arith, end, other.within, less)
+  | inr code ↦ other.unit.slices u.to code.0 code.1.0 (omega (arith, head, one.unit.rest)) less code.1.1
+]
+
+end-same : {bytes : List ℕ} {u v : PictureUnit} → IsUnitWithin bytes u →
+    IsUnitWithin bytes v → u.head_end ≡ v.head_end → u.to ≡ v.to
+end-same {u} {v} one other head = elim (cases_lt u.to v.to) [
+  | inl less ↦ absurd (end-not-less one other head less)
   | inr more ↦ elim (cases_lt v.to u.to) [
-    | inl less ↦ absurd (end-not-less other one (sym head) also low less)
+    | inl less ↦ absurd (end-not-less other one (sym head) less)
     | inr same ↦ omega (arith, more, same)
   ]
 ]
@@ -139,15 +156,19 @@ group-same {bytes} {from} {at} {end} from_is to_is (inl first) =
 group-same {from} {at} {end} from_is to_is (inr it) =
     inr (stands-same from_is to_is it)
 
-units-same : {bytes : List ℕ} {u v : PictureUnit} (number group : ℕ) → IsUnitOf bytes u →
-    IsUnitOf bytes v → u.from ≡ v.from → Ends bytes u.to → Ends bytes v.to → u.to ≤ length bytes →
-    v.to ≤ length bytes
-    → u.presentation ≡ cond u.starts_group number group + u.temporal →
-    v.presentation ≡ cond v.starts_group number group + v.temporal → u ≡ v
-units-same {bytes} {u} {v} number group one other from ends also low under shown known =
+-- such a unit, numbered after so many units, and those before its group
+record IsNumberedUnit (bytes : List ℕ) (number group : ℕ) (u : PictureUnit) : Type 0 where
+  lies : IsUnitWithin bytes u
+  shown : u.presentation ≡ cond u.starts_group number group + u.temporal
+
+units-same : {bytes : List ℕ} {number group : ℕ} {u v : PictureUnit} → IsNumberedUnit bytes number group u →
+    IsNumberedUnit bytes number group v → u.from ≡ v.from → u ≡ v
+units-same {bytes} {number} {group} {u} {v} left right from =
+    let one = left.lies.unit in
+    let other = right.lies.unit in
     let Has = StandsAt bytes in
     let head = head-same bytes u v one other from in
-    let to = end-same one other head ends also low under in
+    let to = end-same left.lies right.lies head in
     let place : other.picture.place ≡
     one.picture.place =
     one.picture.only other.picture.place other.picture.code
@@ -179,9 +200,22 @@ units-same {bytes} {u} {v} number group one other from ends also low under shown
     let first : u.first_slice ≡ v.first_slice = omega (arith, all, slices) in
     let presentation : u.presentation ≡
     v.presentation =
-    shown ∙ ap (λ b. cond b number group + u.temporal) starts ∙ ap (λ n.
-    cond v.starts_group number group + n) temporal ∙ sym known in
-    same-unit from head to first slices temporal presentation kind vectors sequence starts
+    left.shown ∙ ap (λ b. cond b number group + u.temporal) starts ∙ ap (λ n.
+    cond v.starts_group number group + n) temporal ∙ sym right.shown in
+    let same : AreSameFields u v = record {
+      from = from;
+      head_end = head;
+      to = to;
+      first_slice = first;
+      slices = slices;
+      temporal = temporal;
+      presentation = presentation;
+      kind = kind;
+      vectors = vectors;
+      has_sequence = sequence;
+      starts_group = starts;
+    } in
+    same-unit same
 
 -- ---- a list of units
 
@@ -211,24 +245,39 @@ not-at-end : (bytes : List ℕ) (from : ℕ) (u : PictureUnit) → IsUnitOf byte
     from ≡ length bytes → ⊥
 not-at-end bytes from u is same end = omega (arith, same, end, is.begins.1.0.fits)
 
-lists-same : {us vs : List PictureUnit} (bytes : List ℕ) (from number group : ℕ) → All bytes us →
-    All bytes vs → AreChained from us (length bytes) → AreChained from vs (length bytes) →
-    ArePresented number group us → ArePresented number group vs → us ≡ vs
-lists-same {us = []} {vs = []} bytes from number group one other chained also shown known = refl
-lists-same {us = []} {vs = v ∷ vs} bytes from number group one other chained also shown known =
-    absurd (not-at-end bytes from v other.0 also.0 chained)
-lists-same {us = u ∷ us} {vs = []} bytes from number group one other chained also shown known =
-    absurd (not-at-end bytes from u one.0 chained.0 also)
-lists-same {us = u ∷ us} {vs = v ∷ vs} bytes from number group one other chained also shown known =
-    let e : u ≡ v = units-same {bytes = bytes} {u = u} {v = v} number group one.0 other.0 (chained.0 ∙ sym also.0)
-    (chain-ends bytes u.to us one.1 chained.1) (chain-ends bytes v.to vs other.1 also.1)
-    (chain-low bytes u.to us one.1 chained.1)
-    (chain-low bytes v.to vs other.1 also.1) shown.0 known.0 in
-    let rest : us ≡ vs =
-    lists-same {us = us} {vs = vs} bytes v.to (number + 1) (cond v.starts_group number group) one.1 other.1
-    (subst (λ (w : PictureUnit). AreChained w.to us (length bytes)) e chained.1) also.1
-    (subst (λ (w : PictureUnit). ArePresented (number
-    + 1) (cond w.starts_group number group) us) e shown.1) known.1 in
+-- units of the bytes, one after another from a place to the end, numbered from these numbers on
+record AreFrom (bytes : List ℕ) (from number group : ℕ) (us : List PictureUnit) : Type 0 where
+  each : All bytes us
+  chained : AreChained from us (length bytes)
+  presented : ArePresented number group us
+
+-- the first of them, and those after it
+first_unit : {bytes : List ℕ} {from number group : ℕ} {u : PictureUnit} {us : List PictureUnit} →
+    AreFrom bytes from number group (u ∷ us) → IsNumberedUnit bytes number group u
+first_unit {bytes} {u} {us} are = record {
+  lies = record {
+    unit = are.each.0;
+    ends = chain-ends bytes u.to us are.each.1 are.chained.1;
+    within = chain-low bytes u.to us are.each.1 are.chained.1;
+  };
+  shown = are.presented.0;
+}
+
+rest_units : {bytes : List ℕ} {from number group : ℕ} {u : PictureUnit} {us : List PictureUnit} →
+    AreFrom bytes from number group (u ∷ us) → AreFrom bytes u.to (number + 1) (cond u.starts_group number group) us
+rest_units are = record { each = are.each.1; chained = are.chained.1; presented = are.presented.1 }
+
+lists-same : {bytes : List ℕ} {from number group : ℕ} {us vs : List PictureUnit} → AreFrom bytes from number group us →
+    AreFrom bytes from number group vs → us ≡ vs
+lists-same {us = []} {vs = []} one other = refl
+lists-same {bytes} {from} {us = []} {vs = v ∷ vs} one other =
+    absurd (not-at-end bytes from v other.each.0 other.chained.0 one.chained)
+lists-same {bytes} {from} {us = u ∷ us} {vs = []} one other =
+    absurd (not-at-end bytes from u one.each.0 one.chained.0 other.chained)
+lists-same {bytes} {number} {group} {us = u ∷ us} {vs = v ∷ vs} one other =
+    let e : u ≡ v = units-same (first_unit one) (first_unit other) (one.chained.0 ∙ sym other.chained.0) in
+    let rest : us ≡ vs = lists-same {from = v.to} {number = number + 1} {group = cond v.starts_group number group} {us = us} {vs = vs} (subst (λ (w : PictureUnit).
+    AreFrom bytes w.to (number + 1) (cond w.starts_group number group) us) e (rest_units one)) (rest_units other) in
     ap (λ (w : PictureUnit). w ∷ us) e ∙ ap (λ (l : List PictureUnit). v ∷ l) rest
 
 one-first : {bytes : List ℕ} {p q : ℕ} → StandsThere (StandsAt bytes) p AnyKind →
@@ -241,10 +290,17 @@ pub one-list : (bytes : List ℕ) (units others : List PictureUnit) → AreUnits
     AreUnitsOf bytes others → units ≡ others
 one-list bytes units others one other =
     let from = one-first other.code other.first one.code one.first in
-    lists-same bytes one.from 0 0 (all-of bytes units one.each)
-    (all-of bytes others other.each)
-    one.chained (subst (λ p.
-    AreChained p others (length bytes)) from other.chained) one.presented other.presented
+    let left : AreFrom bytes one.from 0 0 units = record {
+      each = all-of bytes units one.each;
+      chained = one.chained;
+      presented = one.presented;
+    } in
+    let right : AreFrom bytes one.from 0 0 others = record {
+      each = all-of bytes others other.each;
+      chained = subst (λ p. AreChained p others (length bytes)) from other.chained;
+      presented = other.presented;
+    } in
+    lists-same left right
 
 pub film-units_of : (bytes : List ℕ) (rate : ℕ) (units : List PictureUnit) (starts : List ℕ) →
     IsFilm bytes rate units starts → AreUnitsOf bytes units

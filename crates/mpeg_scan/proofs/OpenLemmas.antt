@@ -106,43 +106,57 @@ none-new c past OfKind below other place kind (inr old) after is = omega (arith,
 abbrev pub Below : Code → List Code → Type 0
 Below c past = (place kind : ℕ) → HasCode place kind past → place < c.place
 
+-- a flag that is set where a code of the kind stands from there on
+abbrev IsSet : List Code → ℕ → ℕ → Bool → Type 0
+IsSet past from k flag = (place : ℕ) → HasCode place k past → from ≤ place → flag ≡ true
+
 -- a code of that kind that is not the new one
-seq-more : {k : ℕ} {seq : Bool} (c : Code) (past : List Code) (from : ℕ) → (c.kind ≡ k → ⊥) → ((place : ℕ) → HasCode place k past → from ≤ place → seq ≡ true) → (place : ℕ) → HasCode place k (c ∷ past) → from ≤ place → seq ≡ true
+seq-more : {k : ℕ} {seq : Bool} (c : Code) (past : List Code) (from : ℕ) → (c.kind ≡ k → ⊥) → IsSet past from k seq → IsSet (c ∷ past) from k seq
 seq-more {seq} c past from other set place (inl new) after = absurd (other new.1)
 seq-more {seq} c past from other set place (inr old) after = set place old after
 
 -- ---- the picture as codes come
 
-pictured-only : {place its : ℕ} (c : Code) (past : List Code) (from : ℕ) → (c.kind ≡ 0 → ⊥) → ((other : ℕ) → HasCode other 0 past → from ≤ other → other ≡ its) → HasCode place 0 (c ∷ past) → from ≤ place → place ≡ its
-pictured-only {place} c past from other only (inl new) after = absurd (other new.1)
-pictured-only {place} c past from other only (inr old) after = only place old after
+-- the only picture from there on
+abbrev IsOnly : List Code → ℕ → ℕ → Type 0
+IsOnly past from its = (other : ℕ) → HasCode other 0 past → from ≤ other → other ≡ its
 
-picture-more : {n m : ℕ} (c : Code) (past : List Code) (from head_end : ℕ) (o : Option Header) → (IsHeadKind c.kind → ⊥) → (0 < m → 0 < n) → PictureIs past from head_end n o → PictureIs (c ∷ past) from head_end m o
-picture-more {m} c past from head_end None other grows none = none-more c past from Zero (λ e. other (inl e)) none
-picture-more {m} c past from head_end (Some h) other grows is = record {
-  code = is.code;
-  member = inr is.member;
-  kind = is.kind;
-  header = is.header;
-  after = is.after;
-  only = λ place has after. pictured-only c past from (λ e. other (inl e)) is.only has after;
-  last = none-more c past (is.code.place + 1) IsHeadKind other is.last;
-  before = λ some. is.before (grows some);
-}
+pictured-only : {its : ℕ} (c : Code) (past : List Code) (from : ℕ) → (c.kind ≡ 0 → ⊥) → IsOnly past from its → IsOnly (c ∷ past) from its
+pictured-only c past from other only place (inl new) after = absurd (other new.1)
+pictured-only c past from other only place (inr old) after = only place old after
+
+picture-more : {past : List Code} {from head_end n m : ℕ} {o : Option Header} {seq grp : Bool} (c : Code) → Open past from head_end n o seq grp → (IsHeadKind c.kind → ⊥) → (0 < m → 0 < n) →
+    PictureIs (c ∷ past) from head_end m o
+picture-more {past} {from} {o = None} c open_ other grows = none-more c past from Zero (λ e. other (inl e)) open_.picture_is
+picture-more {past} {from} {o = Some h} c open_ other grows =
+    let is = open_.picture_is in
+    record {
+      code = is.code;
+      member = inr is.member;
+      kind = is.kind;
+      header = is.header;
+      after = is.after;
+      only = pictured-only c past from (λ e. other (inl e)) is.only;
+      last = none-more c past (is.code.place + 1) IsHeadKind other is.last;
+      before = λ some. is.before (grows some);
+    }
 
 -- the first slice
-picture-first : (c : Code) (past : List Code) (from head_end n : ℕ) (o : Option Header) → Below c past → (IsHeadKind c.kind → ⊥) → is_some o ≡ true → PictureIs past from head_end n o → PictureIs (c ∷ past) from c.place (n + 1) o
-picture-first c past from head_end n None below other some is = absurd (false≢true some)
-picture-first c past from head_end n (Some h) below other some is = record {
-  code = is.code;
-  member = inr is.member;
-  kind = is.kind;
-  header = is.header;
-  after = is.after;
-  only = λ place has after. pictured-only c past from (λ e. other (inl e)) is.only has after;
-  last = none-more c past (is.code.place + 1) IsHeadKind other is.last;
-  before = λ _. below is.code.place 0 (subst (λ k. HasCode is.code.place k past) is.kind (member-has is.code past is.member));
-}
+picture-first : {past : List Code} {from head_end n : ℕ} {o : Option Header} {seq grp : Bool} (c : Code) → Open past from head_end n o seq grp → Below c past → (IsHeadKind c.kind → ⊥) → is_some o ≡ true →
+    PictureIs (c ∷ past) from c.place (n + 1) o
+picture-first {o = None} c open_ below other some = absurd (false≢true some)
+picture-first {past} {from} {o = Some h} c open_ below other some =
+    let is = open_.picture_is in
+    record {
+      code = is.code;
+      member = inr is.member;
+      kind = is.kind;
+      header = is.header;
+      after = is.after;
+      only = pictured-only c past from (λ e. other (inl e)) is.only;
+      last = none-more c past (is.code.place + 1) IsHeadKind other is.last;
+      before = λ _. below is.code.place 0 (subst (λ k. HasCode is.code.place k past) is.kind (member-has is.code past is.member));
+    }
 
 new-only : {from place : ℕ} (c : Code) (past : List Code) → NoneFrom past from Zero → HasCode place 0 (c ∷ past) → from ≤ place → place ≡ c.place
 new-only {from} {place} c past none (inl new) after = sym new.0
@@ -178,33 +192,37 @@ later-group : (c : Code) (past : List Code) (from : ℕ) → from ≤ c.place �
 later-group c past from after (inl firsts) = inl (λ place kind has. firsts-more c past after firsts has)
 later-group c past from after (inr (place, has)) = inr (place, (inr has.0, has.1))
 
-head-old : {place kind : ℕ} (c : Code) (past : List Code) (from head_end : ℕ) → head_end ≤ c.place → ((p k : ℕ) → HasCode p k past → from ≤ p → p < head_end → IsSliceKind k → ⊥) → HasCode place kind (c ∷ past) → from ≤ place → place < head_end → IsSliceKind kind → ⊥
-head-old {place} c past from head_end far none (inl new) after before is = omega (arith, new.0, far, before)
-head-old {place} {kind} c past from head_end far none (inr old) after before is = none place kind old after before is
+-- no slice stands between these places
+abbrev NoSlice : List Code → ℕ → ℕ → Type 0
+NoSlice past from to = (place kind : ℕ) → HasCode place kind past → from ≤ place → place < to → IsSliceKind kind → ⊥
 
-head-other : {place kind : ℕ} (c : Code) (past : List Code) (from head_end : ℕ) → (IsSliceKind c.kind → ⊥) → ((p k : ℕ) → HasCode p k past → from ≤ p → p < head_end → IsSliceKind k → ⊥) → HasCode place kind (c ∷ past) → from ≤ place → place < head_end → IsSliceKind kind → ⊥
-head-other {place} c past from head_end other none (inl new) after before is = other (subst (λ k. IsSliceKind k) (sym new.1) is)
-head-other {place} {kind} c past from head_end other none (inr old) after before is = none place kind old after before is
+head-old : (c : Code) (past : List Code) (from head_end : ℕ) → head_end ≤ c.place → NoSlice past from head_end → NoSlice (c ∷ past) from head_end
+head-old c past from head_end far none place kind (inl new) after before is = omega (arith, new.0, far, before)
+head-old c past from head_end far none place kind (inr old) after before is = none place kind old after before is
 
-head-first : {from place kind : ℕ} (c : Code) (past : List Code) → NoneFrom past from IsSliceKind → HasCode place kind (c ∷ past) → from ≤ place → place < c.place → IsSliceKind kind → ⊥
-head-first {from} {place} c past none (inl new) after before is = omega (arith, new.0, before)
-head-first {from} {place} {kind} c past none (inr old) after before is = none place kind old after is
+head-other : (c : Code) (past : List Code) (from head_end : ℕ) → (IsSliceKind c.kind → ⊥) → NoSlice past from head_end → NoSlice (c ∷ past) from head_end
+head-other c past from head_end other none place kind (inl new) after before is = other (subst (λ k. IsSliceKind k) (sym new.1) is)
+head-other c past from head_end other none place kind (inr old) after before is = none place kind old after before is
+
+head-first : {from : ℕ} (c : Code) (past : List Code) → NoneFrom past from IsSliceKind → NoSlice (c ∷ past) from c.place
+head-first {from} c past none place kind (inl new) after before is = omega (arith, new.0, before)
+head-first {from} c past none place kind (inr old) after before is = none place kind old after is
 
 -- a slice after others of its unit
-later-slice : (c : Code) (past : List Code) (from head_end n : ℕ) (o : Option Header) (seq grp : Bool) → Below c past → IsSliceKind c.kind → 0 < n → Open past from head_end n o seq grp → Open (c ∷ past) from head_end (n + 1) o seq grp
-later-slice c past from head_end n o seq grp below slice some open_ =
+later-slice : {c : Code} {past : List Code} {from head_end n : ℕ} {o : Option Header} {seq grp : Bool} → Below c past → IsSliceKind c.kind → 0 < n → Open past from head_end n o seq grp → Open (c ∷ past) from head_end (n + 1) o seq grp
+later-slice {c} {past} {from} {head_end} below slice some open_ =
     let other = λ (h : IsHeadKind c.kind). apart c.kind slice h in
     let after : from ≤ c.place = omega (arith, below from open_.begins.0 open_.begins.1.0) in
     let far : head_end ≤ c.place = omega (arith, below head_end (open_.head_ends some).0 (open_.head_ends some).1.0) in
     record {
       begins = (open_.begins.0, (inr open_.begins.1.0, open_.begins.1.1));
       bare = λ none. absurd (omega (arith, none));
-      head = λ _ place kind has from_ before is. head-old c past from head_end far (open_.head some) has from_ before is;
+      head = λ _. head-old c past from head_end far (open_.head some);
       head_ends = λ _. ((open_.head_ends some).0, (inr (open_.head_ends some).1.0, (open_.head_ends some).1.1));
       order = λ _. open_.order some;
       some = λ _. open_.some some;
       sliced = λ _. none-more c past head_end IsHeadKind other (open_.sliced some);
-      picture_is = picture-more c past from head_end o other (λ _. some) open_.picture_is;
+      picture_is = picture-more c open_ other (λ _. some);
       seq_there = λ e. later-code c past from (open_.seq_there e);
       seq_set = seq-more c past from (λ e. other (inr (inl e))) open_.seq_set;
       grp_there = λ e. later-group c past from after (open_.grp_there e);
@@ -213,19 +231,19 @@ later-slice c past from head_end n o seq grp below slice some open_ =
     }
 
 -- the first slice of its unit
-first-slice : (c : Code) (past : List Code) (from head_end n : ℕ) (o : Option Header) (seq grp : Bool) → Below c past → IsSliceKind c.kind → n ≡ 0 → is_some o ≡ true → Open past from head_end n o seq grp → Open (c ∷ past) from c.place (n + 1) o seq grp
-first-slice c past from head_end n o seq grp below slice none with_picture open_ =
+first-slice : {c : Code} {past : List Code} {from head_end n : ℕ} {o : Option Header} {seq grp : Bool} → Below c past → IsSliceKind c.kind → n ≡ 0 → is_some o ≡ true → Open past from head_end n o seq grp → Open (c ∷ past) from c.place (n + 1) o seq grp
+first-slice {c} {past} {from} below slice none with_picture open_ =
     let other = λ (h : IsHeadKind c.kind). apart c.kind slice h in
     let after : from < c.place = below from open_.begins.0 open_.begins.1.0 in
     record {
       begins = (open_.begins.0, (inr open_.begins.1.0, open_.begins.1.1));
       bare = λ e. absurd (omega (arith, e));
-      head = λ _ place kind has from_ before is. head-first c past (open_.bare none) has from_ before is;
+      head = λ _. head-first c past (open_.bare none);
       head_ends = λ _. (c.kind, (inl (refl, refl), slice));
       order = λ _. after;
       some = λ _. with_picture;
       sliced = λ _. none-new c past IsHeadKind below other;
-      picture_is = picture-first c past from head_end n o below other with_picture open_.picture_is;
+      picture_is = picture-first c open_ below other with_picture;
       seq_there = λ e. later-code c past from (open_.seq_there e);
       seq_set = seq-more c past from (λ e. other (inr (inl e))) open_.seq_set;
       grp_there = λ e. later-group c past from (omega (arith, after)) (open_.grp_there e);
@@ -234,18 +252,18 @@ first-slice c past from head_end n o seq grp below slice none with_picture open_
     }
 
 -- a code that is neither a head's nor a slice's
-other-code : (c : Code) (past : List Code) (from head_end n : ℕ) (o : Option Header) (seq grp : Bool) → Below c past → (IsHeadKind c.kind → ⊥) → (IsSliceKind c.kind → ⊥) → Open past from head_end n o seq grp → Open (c ∷ past) from head_end n o seq grp
-other-code c past from head_end n o seq grp below other no_slice open_ =
+other-code : {c : Code} {past : List Code} {from head_end n : ℕ} {o : Option Header} {seq grp : Bool} → Below c past → (IsHeadKind c.kind → ⊥) → (IsSliceKind c.kind → ⊥) → Open past from head_end n o seq grp → Open (c ∷ past) from head_end n o seq grp
+other-code {c} {past} {from} {head_end} below other no_slice open_ =
     let after : from ≤ c.place = omega (arith, below from open_.begins.0 open_.begins.1.0) in
     record {
       begins = (open_.begins.0, (inr open_.begins.1.0, open_.begins.1.1));
       bare = λ none. none-more c past from IsSliceKind no_slice (open_.bare none);
-      head = λ some place kind has from_ before is. head-other c past from head_end no_slice (open_.head some) has from_ before is;
+      head = λ some. head-other c past from head_end no_slice (open_.head some);
       head_ends = λ some. ((open_.head_ends some).0, (inr (open_.head_ends some).1.0, (open_.head_ends some).1.1));
       order = open_.order;
       some = open_.some;
       sliced = λ some. none-more c past head_end IsHeadKind other (open_.sliced some);
-      picture_is = picture-more c past from head_end o other (λ some. some) open_.picture_is;
+      picture_is = picture-more c open_ other (λ some. some);
       seq_there = λ e. later-code c past from (open_.seq_there e);
       seq_set = seq-more c past from (λ e. other (inr (inl e))) open_.seq_set;
       grp_there = λ e. later-group c past from after (open_.grp_there e);
@@ -255,16 +273,17 @@ other-code c past from head_end n o seq grp below other no_slice open_ =
 
 -- ---- a code of a head, by the tests on its kind
 
-picture-head : {t0 : Bool} {from : ℕ} (c : Code) (past : List Code) (head_end n : ℕ) (o : Option Header) → Below c past → (t0 ≡ true → c.kind ≡ 0) → (c.kind ≡ 0 → t0 ≡ true) → from ≤ c.place → is_some o ≡ false → PictureIs past from head_end n o → PictureIs (c ∷ past) from head_end 0 (cond t0 (Some (header_of c)) o)
-picture-head {from} c past head_end n (Some h) below is set after none picture = absurd (true≢false none)
-picture-head {t0 = true} {from} c past head_end n None below is set after none picture = picture-new below (is refl) after picture
-picture-head {t0 = false} {from} c past head_end n None below is set after none picture = none-more c past from Zero (λ e. false≢true (set e)) picture
+picture-head : {t0 t3 t8 : Bool} {past : List Code} {from head_end n : ℕ} {o : Option Header} {seq grp : Bool} (c : Code) → Open past from head_end n o seq grp → Kinds t0 t3 t8 false c.kind → Below c past →
+    from ≤ c.place → is_some o ≡ false → PictureIs (c ∷ past) from head_end 0 (cond t0 (Some (header_of c)) o)
+picture-head {o = Some h} c open_ kinds below after none = absurd (true≢false none)
+picture-head {t0 = true} {o = None} c open_ kinds below after none = picture-new below (kinds.zero_is refl) after open_.picture_is
+picture-head {t0 = false} {past} {from} {o = None} c open_ kinds below after none = none-more c past from Zero (λ e. false≢true (kinds.is_zero e)) open_.picture_is
 
-flag-there : {t seq : Bool} {k : ℕ} (c : Code) (past : List Code) (from : ℕ) → from ≤ c.place → (t ≡ true → c.kind ≡ k) → (seq ≡ true → (place : ℕ) × (HasCode place k past × (from ≤ place))) → cond t true seq ≡ true → (place : ℕ) × (HasCode place k (c ∷ past) × (from ≤ place))
-flag-there {t = true} {seq} c past from after is there e = (c.place, (inl (refl, is refl), after))
-flag-there {t = false} {seq} c past from after is there e = let old = there e in (old.0, (inr old.1.0, old.1.1))
+flag-there : {t seq : Bool} {k from : ℕ} (c : Code) (past : List Code) → from ≤ c.place → (t ≡ true → c.kind ≡ k) → (seq ≡ true → (place : ℕ) × (HasCode place k past × (from ≤ place))) → cond t true seq ≡ true → (place : ℕ) × (HasCode place k (c ∷ past) × (from ≤ place))
+flag-there {t = true} {seq} c past after is there e = (c.place, (inl (refl, is refl), after))
+flag-there {t = false} {seq} c past after is there e = let old = there e in (old.0, (inr old.1.0, old.1.1))
 
-flag-set : {t seq : Bool} {k : ℕ} (c : Code) (past : List Code) (from : ℕ) → (c.kind ≡ k → t ≡ true) → ((place : ℕ) → HasCode place k past → from ≤ place → seq ≡ true) → (place : ℕ) → HasCode place k (c ∷ past) → from ≤ place → cond t true seq ≡ true
+flag-set : {t seq : Bool} {k : ℕ} (c : Code) (past : List Code) (from : ℕ) → (c.kind ≡ k → t ≡ true) → IsSet past from k seq → IsSet (c ∷ past) from k (cond t true seq)
 flag-set {t = true} {seq} c past from set there place has after = refl
 flag-set {t = false} {seq} c past from set there place (inl new) after = absurd (false≢true (set new.1))
 flag-set {t = false} {seq} c past from set there place (inr old) after = there place old after
@@ -278,9 +297,9 @@ set-first true grp e = refl
 set-first false grp e = e
 
 -- in the head of the latest unit
-more-head : (t0 t3 t8 : Bool) (c : Code) (past : List Code) (from head_end n : ℕ) (o : Option Header) (seq grp : Bool) → Below c past → Kinds t0 t3 t8 false c.kind → IsHeadKind c.kind → n ≡ 0 → is_some o ≡ false → Open past from head_end n o seq grp
+more-head : {t0 t3 t8 : Bool} {c : Code} {past : List Code} {from head_end n : ℕ} {o : Option Header} {seq grp : Bool} → Below c past → Kinds t0 t3 t8 false c.kind → IsHeadKind c.kind → n ≡ 0 → is_some o ≡ false → Open past from head_end n o seq grp
     → Open (c ∷ past) from head_end 0 (cond t0 (Some (header_of c)) o) (cond t3 true seq) (cond t8 true grp)
-more-head t0 t3 t8 c past from head_end n o seq grp below kinds head none bare open_ =
+more-head {t8} {c} {past} {from} {grp} below kinds head none bare open_ =
     let after : from ≤ c.place = omega (arith, below from open_.begins.0 open_.begins.1.0) in
     record {
       begins = (open_.begins.0, (inr open_.begins.1.0, open_.begins.1.1));
@@ -290,15 +309,15 @@ more-head t0 t3 t8 c past from head_end n o seq grp below kinds head none bare o
       order = λ some. absurd (omega (arith, some));
       some = λ some. absurd (omega (arith, some));
       sliced = λ some. absurd (omega (arith, some));
-      picture_is = picture-head c past head_end n o below kinds.zero_is kinds.is_zero after bare open_.picture_is;
-      seq_there = flag-there c past from after kinds.three_is open_.seq_there;
+      picture_is = picture-head c open_ kinds below after bare;
+      seq_there = flag-there c past after kinds.three_is open_.seq_there;
       seq_set = flag-set c past from kinds.is_three open_.seq_set;
       grp_there = group-there c past after kinds.eight_is open_.grp_there;
       grp_set = flag-set c past from kinds.is_eight open_.grp_set;
       grp_first = λ firsts. set-first t8 grp (open_.grp_first (λ place kind has. firsts place kind (inr has)));
     }
 
-nothing-there : (c : Code) (past : List Code) (k : ℕ) → Below c past → (place : ℕ) → HasCode place k past → c.place ≤ place → false ≡ true
+nothing-there : (c : Code) (past : List Code) (k : ℕ) → Below c past → IsSet past c.place k false
 nothing-there c past k below place has after = absurd (omega (arith, below place k has, after))
 
 picture-begun : {t0 : Bool} (c : Code) (past : List Code) (head_end : ℕ) → Below c past → (t0 ≡ true → c.kind ≡ 0) → (c.kind ≡ 0 → t0 ≡ true) → PictureIs (c ∷ past) c.place head_end 0 (cond t0 (Some (header_of c)) None)
@@ -313,9 +332,9 @@ begun-group : (t : Bool) (c : Code) (past : List Code) → (t ≡ true → c.kin
 begun-group t c past is e = inr (begun-flag t c past 0xb8 is e)
 
 -- a new unit
-new-unit : (t0 t3 t8 : Bool) (c : Code) (past : List Code) (from head_end n : ℕ) (o : Option Header) (seq grp : Bool) → Below c past → Kinds t0 t3 t8 false c.kind → IsHeadKind c.kind → Open past from head_end n o seq grp
+new-unit : {t0 t3 t8 : Bool} {c : Code} {past : List Code} {from head_end n : ℕ} {o : Option Header} {seq grp : Bool} → Below c past → Kinds t0 t3 t8 false c.kind → IsHeadKind c.kind → Open past from head_end n o seq grp
     → Open (c ∷ past) c.place head_end 0 (cond t0 (Some (header_of c)) None) (cond t3 true false) (cond t8 true false)
-new-unit t0 t3 t8 c past from head_end n o seq grp below kinds head open_ =
+new-unit {t3} {t8} {c} {past} {from} {head_end} below kinds head open_ =
     record {
       begins = (c.kind, (inl (refl, refl), head));
       bare = λ _. none-new c past IsSliceKind below (λ slice. apart c.kind slice head);
@@ -361,7 +380,14 @@ first-code c is = record {
   grp_first = λ _. refl;
 }
 
--- ---- all of them as one step: q and e: there were slices, there were none
+-- ---- all of them as one step
+
+-- two tests on the number of slices so far: whether there were any, and whether there were none
+pub record Sliced (q e : Bool) (n : ℕ) : Type 0 where
+  pub some : q ≡ true → 0 < n
+  pub none : q ≡ false → n ≡ 0
+  pub zero_is : e ≡ true → n ≡ 0
+  pub more : e ≡ false → 0 < n
 
 no-head : (kind : ℕ) → Kinds false false false false kind → IsHeadKind kind → ⊥
 no-head kind kinds (inl e) = false≢true (kinds.is_zero e)
@@ -370,22 +396,22 @@ no-head kind kinds (inr (inr e)) = false≢true (kinds.is_eight e)
 
 pub step-open : {t0 t3 t8 s q e : Bool} {c : Code} {past : List Code} {from head_end n : ℕ} {o : Option Header}
     {seq grp : Bool}
-    → Kinds t0 t3 t8 s c.kind → Below c past → (q ≡ true → 0 < n) → (q ≡ false → n ≡ 0) → (e ≡ true → n ≡ 0) → (e ≡ false → 0 < n)
+    → Kinds t0 t3 t8 s c.kind → Below c past → Sliced q e n
     → ((t0 || (t3 || t8)) ≡ true → n ≡ 0 → is_some o ≡ false) → (s ≡ true → n ≡ 0 → is_some o ≡ true) → Open past from head_end n o seq grp
     → Open (c ∷ past) (cond ((t0 || (t3 || t8)) && q) c.place from) (cond (s && e) c.place head_end) (cond (t0 || (t3 || t8)) 0 (cond s (n + 1) n))
     (cond t0 (Some (header_of c)) (cond ((t0 || (t3 || t8)) && q) None o)) (cond t3 true (cond ((t0 || (t3 || t8)) && q) false seq)) (cond (t8 || false) true (cond ((t0 || (t3 || t8)) && q) false grp))
-step-open {t0 = true} {s = true} {c} {from} {seq} kinds below some none zero_ more alone with_ open_ = absurd (apart c.kind (kinds.slice_is refl) (inl (kinds.zero_is refl)))
-step-open {t0 = false} {t3 = true} {s = true} {c} {from} {seq} kinds below some none zero_ more alone with_ open_ = absurd (apart c.kind (kinds.slice_is refl) (inr (inl (kinds.three_is refl))))
-step-open {t0 = false} {t3 = false} {t8 = true} {s = true} {c} {from} {seq} kinds below some none zero_ more alone with_ open_ = absurd (apart c.kind (kinds.slice_is refl) (inr (inr (kinds.eight_is refl))))
-step-open {t0 = false} {t3 = false} {t8 = false} {s = true} {e = true} {c} {past} {from} {head_end = he} {n} {o} {seq} {grp} kinds below some none zero_ more alone with_ open_ = first-slice c past from he n o seq grp below (kinds.slice_is refl) (zero_ refl) (with_ refl (zero_ refl)) open_
-step-open {t0 = false} {t3 = false} {t8 = false} {s = true} {e = false} {c} {past} {from} {head_end = he} {n} {o} {seq} {grp} kinds below some none zero_ more alone with_ open_ = later-slice c past from he n o seq grp below (kinds.slice_is refl) (more refl) open_
-step-open {t0 = false} {t3 = false} {t8 = false} {s = false} {c} {past} {from} {head_end = he} {n} {o} {seq} {grp} kinds below some none zero_ more alone with_ open_ = other-code c past from he n o seq grp below (λ h. no-head c.kind kinds h) (λ slice. false≢true (kinds.is_slice slice)) open_
-step-open {t0 = true} {t3 = true} {s = false} {c} {from} {seq} kinds below some none zero_ more alone with_ open_ = absurd (omega (arith, kinds.zero_is refl, kinds.three_is refl))
-step-open {t0 = true} {t3 = false} {t8 = true} {s = false} {c} {from} {seq} kinds below some none zero_ more alone with_ open_ = absurd (omega (arith, kinds.zero_is refl, kinds.eight_is refl))
-step-open {t0 = true} {t3 = false} {t8 = false} {s = false} {q = true} {c} {past} {from} {head_end = he} {n} {o} {seq} {grp} kinds below some none zero_ more alone with_ open_ = new-unit true false false c past from he n o seq grp below kinds (inl (kinds.zero_is refl)) open_
-step-open {t0 = true} {t3 = false} {t8 = false} {s = false} {q = false} {c} {past} {from} {head_end = he} {n} {o} {seq} {grp} kinds below some none zero_ more alone with_ open_ = more-head true false false c past from he n o seq grp below kinds (inl (kinds.zero_is refl)) (none refl) (alone refl (none refl)) open_
-step-open {t0 = false} {t3 = true} {t8 = true} {s = false} {c} {from} {seq} kinds below some none zero_ more alone with_ open_ = absurd (omega (arith, kinds.three_is refl, kinds.eight_is refl))
-step-open {t0 = false} {t3 = true} {t8 = false} {s = false} {q = true} {c} {past} {from} {head_end = he} {n} {o} {seq} {grp} kinds below some none zero_ more alone with_ open_ = new-unit false true false c past from he n o seq grp below kinds (inr (inl (kinds.three_is refl))) open_
-step-open {t0 = false} {t3 = true} {t8 = false} {s = false} {q = false} {c} {past} {from} {head_end = he} {n} {o} {seq} {grp} kinds below some none zero_ more alone with_ open_ = more-head false true false c past from he n o seq grp below kinds (inr (inl (kinds.three_is refl))) (none refl) (alone refl (none refl)) open_
-step-open {t0 = false} {t3 = false} {t8 = true} {s = false} {q = true} {c} {past} {from} {head_end = he} {n} {o} {seq} {grp} kinds below some none zero_ more alone with_ open_ = new-unit false false true c past from he n o seq grp below kinds (inr (inr (kinds.eight_is refl))) open_
-step-open {t0 = false} {t3 = false} {t8 = true} {s = false} {q = false} {c} {past} {from} {head_end = he} {n} {o} {seq} {grp} kinds below some none zero_ more alone with_ open_ = more-head false false true c past from he n o seq grp below kinds (inr (inr (kinds.eight_is refl))) (none refl) (alone refl (none refl)) open_
+step-open {t0 = true} {s = true} {c} kinds below sliced alone with_ open_ = absurd (apart c.kind (kinds.slice_is refl) (inl (kinds.zero_is refl)))
+step-open {t0 = false} {t3 = true} {s = true} {c} kinds below sliced alone with_ open_ = absurd (apart c.kind (kinds.slice_is refl) (inr (inl (kinds.three_is refl))))
+step-open {t0 = false} {t3 = false} {t8 = true} {s = true} {c} kinds below sliced alone with_ open_ = absurd (apart c.kind (kinds.slice_is refl) (inr (inr (kinds.eight_is refl))))
+step-open {t0 = false} {t3 = false} {t8 = false} {s = true} {e = true} {c} kinds below sliced alone with_ open_ = first-slice below (kinds.slice_is refl) (sliced.zero_is refl) (with_ refl (sliced.zero_is refl)) open_
+step-open {t0 = false} {t3 = false} {t8 = false} {s = true} {e = false} {c} kinds below sliced alone with_ open_ = later-slice below (kinds.slice_is refl) (sliced.more refl) open_
+step-open {t0 = false} {t3 = false} {t8 = false} {s = false} {c} kinds below sliced alone with_ open_ = other-code below (λ h. no-head c.kind kinds h) (λ slice. false≢true (kinds.is_slice slice)) open_
+step-open {t0 = true} {t3 = true} {s = false} {c} kinds below sliced alone with_ open_ = absurd (omega (arith, kinds.zero_is refl, kinds.three_is refl))
+step-open {t0 = true} {t3 = false} {t8 = true} {s = false} {c} kinds below sliced alone with_ open_ = absurd (omega (arith, kinds.zero_is refl, kinds.eight_is refl))
+step-open {t0 = true} {t3 = false} {t8 = false} {s = false} {q = true} {c} kinds below sliced alone with_ open_ = new-unit below kinds (inl (kinds.zero_is refl)) open_
+step-open {t0 = true} {t3 = false} {t8 = false} {s = false} {q = false} {c} kinds below sliced alone with_ open_ = more-head below kinds (inl (kinds.zero_is refl)) (sliced.none refl) (alone refl (sliced.none refl)) open_
+step-open {t0 = false} {t3 = true} {t8 = true} {s = false} {c} kinds below sliced alone with_ open_ = absurd (omega (arith, kinds.three_is refl, kinds.eight_is refl))
+step-open {t0 = false} {t3 = true} {t8 = false} {s = false} {q = true} {c} kinds below sliced alone with_ open_ = new-unit below kinds (inr (inl (kinds.three_is refl))) open_
+step-open {t0 = false} {t3 = true} {t8 = false} {s = false} {q = false} {c} kinds below sliced alone with_ open_ = more-head below kinds (inr (inl (kinds.three_is refl))) (sliced.none refl) (alone refl (sliced.none refl)) open_
+step-open {t0 = false} {t3 = false} {t8 = true} {s = false} {q = true} {c} kinds below sliced alone with_ open_ = new-unit below kinds (inr (inr (kinds.eight_is refl))) open_
+step-open {t0 = false} {t3 = false} {t8 = true} {s = false} {q = false} {c} kinds below sliced alone with_ open_ = more-head below kinds (inr (inr (kinds.eight_is refl))) (sliced.none refl) (alone refl (sliced.none refl)) open_

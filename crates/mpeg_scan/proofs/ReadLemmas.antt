@@ -55,7 +55,11 @@ record Quiet (r q : List ℕ) (n : ℕ) : Type 0 where
   none : latest_prefix q ≡ Nothing
   more : length q ≡ length r + n
 
-quiet-run : (xs r : List ℕ) → ((k : ℕ) → k < length xs → get_or xs k 0 ≡ 0 → ⊥) → latest_prefix r ≡ Nothing → is_text_full (latest_of (codes_of r)) ≡ true → Quiet r (read r xs) (length xs)
+-- none of the first n bytes is 0
+abbrev AreNonzero : List ℕ → ℕ → Type 0
+AreNonzero xs n = (k : ℕ) → k < n → get_or xs k 0 ≡ 0 → ⊥
+
+quiet-run : (xs r : List ℕ) → AreNonzero xs (length xs) → latest_prefix r ≡ Nothing → is_text_full (latest_of (codes_of r)) ≡ true → Quiet r (read r xs) (length xs)
 quiet-run [] r nonzero none full = record { same = refl; none = none; more = omega arith }
 quiet-run (x ∷ xs) r nonzero none full =
     let same : codes_of (x ∷ r) ≡ codes_of r = codes-plain x r (ap is_whole none) ∙ note-full (codes_of r) x full in
@@ -63,20 +67,20 @@ quiet-run (x ∷ xs) r nonzero none full =
     let rest = quiet-run xs (x ∷ r) (λ k within. nonzero (suc k) (omega arith)) still (ap (λ (l : List Code). is_text_full (latest_of l)) same ∙ full) in
     record { same = rest.same ∙ same; none = rest.none; more = omega (arith, rest.more) }
 
-front-nonzero : (xs : List ℕ) (n : ℕ) → n ≤ length xs → ((k : ℕ) → k < n → get_or xs k 0 ≡ 0 → ⊥) → (k : ℕ) → k < length (take n xs) → get_or (take n xs) k 0 ≡ 0 → ⊥
+front-nonzero : (xs : List ℕ) (n : ℕ) → n ≤ length xs → AreNonzero xs n → AreNonzero (take n xs) (length (take n xs))
 front-nonzero xs n bound nonzero k within zero_there =
     let below : k < n = omega (arith, length-take-le n xs bound) in
     nonzero k below (sym (get_or-take n xs k 0 below) ∙ zero_there)
 
-skipped : {s : Progress} {r : List ℕ} (xs : List ℕ) (n : ℕ) → n ≤ length xs → ((k : ℕ) → k < n → get_or xs k 0 ≡ 0 → ⊥) → (s.prefix ≡ Nothing) × (is_text_full s.latest ≡ true) → HasRead s r → Quiet r (read r (take n xs)) (length (take n xs))
+skipped : {s : Progress} {r : List ℕ} (xs : List ℕ) (n : ℕ) → n ≤ length xs → AreNonzero xs n → (s.prefix ≡ Nothing) × (is_text_full s.latest ≡ true) → HasRead s r → Quiet r (read r (take n xs)) (length (take n xs))
 skipped {s} {r} xs n bound nonzero quiet kept =
     quiet-run (take n xs) r (front-nonzero xs n bound nonzero) (sym kept.prefix ∙ quiet.0)
     (sym (ap is_text_full kept.latest) ∙ quiet.1)
 
-pub skipped-same : {s : Progress} {r : List ℕ} (xs : List ℕ) (n : ℕ) → n ≤ length xs → ((k : ℕ) → k < n → get_or xs k 0 ≡ 0 → ⊥) → (s.prefix ≡ Nothing) × (is_text_full s.latest ≡ true) → HasRead s r → codes_of (read r (take n xs)) ≡ codes_of r
+pub skipped-same : {s : Progress} {r : List ℕ} (xs : List ℕ) (n : ℕ) → n ≤ length xs → AreNonzero xs n → (s.prefix ≡ Nothing) × (is_text_full s.latest ≡ true) → HasRead s r → codes_of (read r (take n xs)) ≡ codes_of r
 skipped-same {s} {r} xs n bound nonzero quiet kept = (skipped xs n bound nonzero quiet kept).same
 
-pub skipped-kept : {s : Progress} {r : List ℕ} (xs : List ℕ) (n : ℕ) → n ≤ length xs → ((k : ℕ) → k < n → get_or xs k 0 ≡ 0 → ⊥) → (s.prefix ≡ Nothing) × (is_text_full s.latest ≡ true) → HasRead s r → HasRead (skipped_scan s n) (read r (take n xs))
+pub skipped-kept : {s : Progress} {r : List ℕ} (xs : List ℕ) (n : ℕ) → n ≤ length xs → AreNonzero xs n → (s.prefix ≡ Nothing) × (is_text_full s.latest ≡ true) → HasRead s r → HasRead (skipped_scan s n) (read r (take n xs))
 skipped-kept {s} {r} xs n bound nonzero quiet kept =
     let run = skipped xs n bound nonzero quiet kept in record {
       fed = omega (arith, run.more, length-take-le n xs bound, kept.fed);

@@ -11,13 +11,13 @@ use Rattle.mpeg_scan.specs.Faults.{code_fault, count_fault, fault_at, first_faul
 use Rattle.mpeg_scan.specs.Places.{HasCode}
 use Rattle.mpeg_scan.specs.Refusals.{BeginsUnit, CodeRefusal, CountRefusal, HasPictures, HeaderRefusal, IsExtension, IsItsPicture, IsLongFilm, IsLongGroup, IsLongHead, IsOpenHead, IsSystemCode, KindRefusal, LacksPicture, LacksSequence, LacksSlices, Otherwise, SecondRefusal, SliceRefusal}
 use Rattle.mpeg_scan.specs.Standard.{IsFirstCode, IsHeadKind, IsSliceKind, StandsThere}
-use Rattle.mpeg_scan.proofs.TextLemmas.{TextsAre}
+use Rattle.mpeg_scan.proofs.TextLemmas.{Same, TextsAre}
 use Rattle.mpeg_scan.proofs.TileLemmas.{Spaced}
 use Rattle.std.proofs.lemmas.Option.{same_Some}
 use Rattle.mpeg_scan.proofs.DecideLemmas.{Decides, both, both-cond, decide, decide-if, decide-with, neither, no-more, none-of, only-second}
 use Rattle.mpeg_scan.proofs.BeforeLemmas.{Knows, PictureThere, head-kind, no-head, no-slice, not-open, one-head, one-picture, open-head, picture-there, slice-kind, slice-there, has-new, new-below}
 use Rattle.mpeg_scan.proofs.SinceLemmas.{codes-from, codes-since, group-tests, most-since, picture-tests, since-all, since-group}
-use Rattle.mpeg_scan.proofs.HeaderLemmas.{Same, latest-decides}
+use Rattle.mpeg_scan.proofs.HeaderLemmas.{latest-decides}
 
 -- a code of a kind stands at a place, and the codes before it are these
 pub record AtCode (Has : ℕ → ℕ → Type 0) (past : List Code) (at kind : ℕ) : Type 0 where
@@ -337,11 +337,11 @@ count-decides Has past at kind c =
 
 -- ---- a code
 
-pub code-decides : (Has : ℕ → ℕ → Type 0) (bytes r : List ℕ) (past : List Code) (at kind : ℕ) →
+pub code-decides : {Has : ℕ → ℕ → Type 0} {bytes r : List ℕ} {past : List Code} {at kind : ℕ} →
     Same bytes r → AtCode Has past at kind → TextsAre r (at + 4) past → first_fault past ≡ None →
     Decides (CodeRefusal Has bytes at) (fault_at past at kind)
 unfolding fault_at
-code-decides Has bytes r past at kind same c texts accepted =
+code-decides {Has} {bytes} {past} {at} {kind} same c texts accepted =
     let t = tally_of past in
     both (HeaderRefusal Has bytes at)
     (Otherwise (KindRefusal Has at)

@@ -15,13 +15,13 @@ use Rattle.mpeg_scan.specs.Standard.{AnyKind, StandsThere}
 use Rattle.mpeg_scan.proofs.FilmLemmas.{length-read}
 use Rattle.mpeg_scan.proofs.StepLemmas.{accepted-older, otherwise-second}
 use Rattle.mpeg_scan.proofs.PlaceLemmas.{at-bytes, codes-stand}
-use Rattle.mpeg_scan.proofs.TextLemmas.{TextsAre, codes-texts}
+use Rattle.mpeg_scan.proofs.TextLemmas.{Same, TextsAre, codes-texts}
 use Rattle.mpeg_scan.proofs.TileLemmas.{Spaced, all-below, placed-codes, room-after}
 use Rattle.std.proofs.lemmas.Option.{same_Some}
 use Rattle.mpeg_scan.proofs.DecideLemmas.{Decides, both, both-cond, neither, no-more, none-of, only-first, only-second}
 use Rattle.mpeg_scan.proofs.BeforeLemmas.{Knows, PictureThere, earlier, has-new, here, new-below, not-open, older, one-head, open-head, picture-there, slice-there, where-is}
-use Rattle.mpeg_scan.proofs.HeaderLemmas.{Same, latest-decides}
-use Rattle.mpeg_scan.proofs.RefusalLemmas.{begins-after, code-decides, picture-slices}
+use Rattle.mpeg_scan.proofs.HeaderLemmas.{latest-decides}
+use Rattle.mpeg_scan.proofs.RefusalLemmas.{AtCode, begins-after, code-decides, picture-slices}
 
 -- the codes before a place, and the bytes that they stand in
 record Film (Has : ℕ → ℕ →
@@ -50,32 +50,32 @@ latest-code : {Has : ℕ → ℕ → Type 0} {bytes r : List ℕ} {c : Code} {pa
     Decides (CodeRefusal Has bytes c.place) (fault_at past c.place c.kind)
 latest-code {Has} {bytes} {r} {c} {past} {end} {stop} film accepted =
     let code = has-new Has c past end film.knows in
-    code-decides Has bytes r past c.place c.kind film.same (record {
+    let at_code : AtCode Has past c.place c.kind = record {
       knows = older Has c past end film.knows film.spaced;
       spaced = film.spaced.1;
       code = code;
       one = λ other has. film.single c.place c.kind other code has;
-    }) film.texts.1 accepted
+    } in
+    code-decides film.same at_code film.texts.1 accepted
 
 -- where none of them is refused, none is
 abbrev Clear : (ℕ → ℕ → Type 0) → List ℕ → ℕ → Type 0
 Clear Has bytes end = (other : ℕ) → StandsThere Has other AnyKind → other < end → (g : FilmFault) →
     CodeRefusal Has bytes other g → ⊥
 
-all-clear : (Has : ℕ → ℕ → Type 0) (bytes r : List ℕ) (past : List Code) (end stop : ℕ) →
+all-clear : {Has : ℕ → ℕ → Type 0} {bytes r : List ℕ} {past : List Code} {end stop : ℕ} →
     Film Has bytes r past end stop → first_fault past ≡ None → Clear Has bytes end
 unfolding first_fault
-all-clear Has bytes r [] end stop film accepted other code before g refused =
+all-clear {past = []} film accepted other code before g refused =
     film.knows.back other code.0 code.1.0 before
-all-clear Has bytes r (c ∷ past) end stop film accepted other code before g refused =
+all-clear {Has} {bytes} {past = c ∷ past} film accepted other code before g refused =
     let before_that = accepted-older c past accepted in
     elim (where-is film.knows film.spaced code.1.0 before) [
       | here e m ↦ no-more (CodeRefusal Has bytes c.place) (fault_at past c.place c.kind)
           (latest-code film before_that)
           (otherwise-second (first_fault past) (fault_at past c.place c.kind) accepted) g
           (subst (λ v. CodeRefusal Has bytes v g) (sym e) refused)
-      | earlier far ↦ all-clear Has bytes r past c.place (c.place
-          + 4) (film-older film) before_that other code far g refused
+      | earlier far ↦ all-clear {past = past} (film-older film) before_that other code far g refused
     ]
 
 -- the first of the codes before a place that is refused
@@ -126,17 +126,16 @@ first-step {o = Some g} {Has} {r} {c} {past} {end} {stop} film one new clear f =
   ],
 )
 
-first-decides : (Has : ℕ → ℕ → Type 0) (bytes r : List ℕ) (past : List Code) (end stop : ℕ) →
+first-decides : {Has : ℕ → ℕ → Type 0} {bytes r : List ℕ} {past : List Code} {end stop : ℕ} →
     Film Has bytes r past end stop → Decides (FirstBefore Has bytes end) (first_fault past)
 unfolding first_fault
-first-decides Has bytes r [] end stop film =
+first-decides {Has} {bytes} {past = []} {end} film =
     none-of (FirstBefore Has bytes end) (λ f p. film.knows.back p.at p.code.0 p.code.1.0 p.before)
-first-decides Has bytes r (c ∷ past) end stop film =
+first-decides {past = c ∷ past} film =
     let before = film-older film in
     first-step film
-    (first-decides Has bytes r past c.place (c.place + 4) before)
-    (λ none. latest-code film none) (λ none.
-    all-clear Has bytes r past c.place (c.place + 4) before none)
+    (first-decides {past = past} before)
+    (λ none. latest-code film none) (λ none. all-clear before none)
 
 -- ---- the end
 
@@ -204,12 +203,12 @@ last-decides Has (c ∷ past) end k spaced all =
     (λ f p. p.0 c.place c.kind (has-new Has c past end k))
     (unfinished refl k spaced)
 
-end-decides : (Has : ℕ → ℕ → Type 0) (bytes r : List ℕ) (past : List Code) (end stop : ℕ) →
+end-decides : {Has : ℕ → ℕ → Type 0} {bytes r : List ℕ} {past : List Code} {end stop : ℕ} →
     Film Has bytes r past end stop → ((place kind : ℕ) → Has place kind → place < end) →
     first_fault past ≡ None
     → Decides (EndRefusal Has bytes end) (end_fault past end)
 unfolding end_fault
-end-decides Has bytes r past end stop film all accepted =
+end-decides {Has} {bytes} {past} {end} film all accepted =
     both (HeaderRefusal Has bytes end)
     (Otherwise (LacksCodes Has) (Otherwise (LacksSlices Has end) (LacksPicture Has end)))
     (latest_fault past end) (last_fault (tally_of past))
@@ -275,8 +274,8 @@ codes-decide bytes =
     subst (λ m. Decides (Otherwise (FirstRefusal Has bytes) (EndRefusal Has bytes m))
     (first_refusal (first_fault past) (end_fault past n))) long
     (both (FirstRefusal Has bytes) (EndRefusal Has bytes n) (first_fault past) (end_fault past n)
-    (first-anywhere Has bytes n (first_fault past) all (first-decides Has bytes r past n n film))
-    (λ none. end-decides Has bytes r past n n film all none))
+    (first-anywhere Has bytes n (first_fault past) all (first-decides film))
+    (λ none. end-decides film all none))
 
 film-decides : (bytes : List ℕ) → Decides (IsRefusedFor bytes) (refusal_of (read [] bytes))
 unfolding refusal_of

@@ -107,18 +107,24 @@ code-begun t place kind e slice =
     begun-by (leb 0xb9 kind) (eqb kind 0xb5) place (ne_eqb kind 0xb3 (λ is. absurd (omega (arith, (slice-kind kind slice).1))))
     (otherwise-first (kind_fault t place kind) (first_refusal (second_fault t kind) (first_refusal (first_slice_fault t place kind) (count_fault t place kind))) e)
 
--- a unit's first slice: the head before it has 1 to 1,380 bytes
-pub head-some : {t : Tally} {place : ℕ} (latest : Option Code) (tally : Tally) (kind : ℕ) → code_judgement latest tally place kind ≡ None → t ≡ tally_with latest tally → HasRoom (tally_with latest tally) place → is_slice kind ≡ true → t.unit < place
-head-some {t} {place} latest tally kind e is room slice =
-    let unit : t.unit ≡ (tally_with latest tally).unit = ap (λ (v : Tally). v.unit) is in
-    omega (arith, unit, room.unit (code-begun (tally_with latest tally) place kind (code_judgement-code latest tally place kind e) slice))
+-- a slice's code that isn't refused, and the tally with the code before it
+pub record SliceTaken (t : Tally) (latest : Option Code) (tally : Tally) (place kind : ℕ) : Type 0 where
+  pub judged : code_judgement latest tally place kind ≡ None
+  pub tally_is : t ≡ tally_with latest tally
+  pub slice : is_slice kind ≡ true
 
-pub head-short : {t : Tally} (latest : Option Code) (tally : Tally) (place kind : ℕ) → code_judgement latest tally place kind ≡ None → t ≡ tally_with latest tally → is_slice kind ≡ true → t.slices ≡ 0 → place ≤ t.unit + 1380
-head-short {t} latest tally place kind e is slice none =
+-- a unit's first slice: the head before it has 1 to 1,380 bytes
+pub head-some : {t tally : Tally} {latest : Option Code} {place kind : ℕ} → SliceTaken t latest tally place kind → HasRoom (tally_with latest tally) place → t.unit < place
+head-some {t} {tally} {latest} {place} {kind} taken room =
+    let unit : t.unit ≡ (tally_with latest tally).unit = ap (λ (v : Tally). v.unit) taken.tally_is in
+    omega (arith, unit, room.unit (code-begun (tally_with latest tally) place kind (code_judgement-code latest tally place kind taken.judged) taken.slice))
+
+pub head-short : {t tally : Tally} {latest : Option Code} {place kind : ℕ} → SliceTaken t latest tally place kind → t.slices ≡ 0 → place ≤ t.unit + 1380
+head-short {t} {tally} {latest} {place} {kind} taken none =
     let now = tally_with latest tally in
-    let unit : t.unit ≡ now.unit = ap (λ (v : Tally). v.unit) is in
-    let slices : t.slices ≡ now.slices = ap (λ (v : Tally). v.slices) is in
-    omega (arith, unit, first_slice-head now place kind (first_slice-accepted now place kind (code_judgement-code latest tally place kind e)) slice (sym slices ∙ none))
+    let unit : t.unit ≡ now.unit = ap (λ (v : Tally). v.unit) taken.tally_is in
+    let slices : t.slices ≡ now.slices = ap (λ (v : Tally). v.slices) taken.tally_is in
+    omega (arith, unit, first_slice-head now place kind (first_slice-accepted now place kind (code_judgement-code latest tally place kind taken.judged)) taken.slice (sym slices ∙ none))
 
 -- ---- after a code
 
@@ -140,22 +146,30 @@ length-slice kind slice =
     let other = ne_eqb kind 0 (λ none. absurd (omega (arith, (slice-kind kind slice).0))) in
     length-no_zero (eqb kind 1) (eqb kind 0) other
 
-unit-by : {q : Bool} (h : Bool) (place unit l fed : ℕ) → l ≤ 1 → place + 3 ≤ fed → (q ≡ true → unit + 3 ≤ place) → cond (not q || h) place unit + 3 + l ≤ fed + 1
-unit-by {q = true} true place unit l fed short at before = omega (arith, short, at)
-unit-by {q = true} false place unit l fed short at before = omega (arith, short, at, before refl)
-unit-by {q = false} h place unit l fed short at before = omega (arith, short, at)
+-- the prefix that a code's kind begins: at most a byte, and none where it is a slice
+record PrefixAfter (s : Bool) (l : ℕ) : Type 0 where
+  short : l ≤ 1
+  none : s ≡ true → l ≡ 0
 
-slice-by : {s : Bool} {l : ℕ} (h : Bool) (place slice n fed : ℕ) → l ≤ 1 → (s ≡ true → l ≡ 0) → place + 3 ≤ fed → (0 < n → slice + 4 ≤ place) → 0 < cond h 0 (cond s (one_more n) n) → cond s place slice + 4 + l ≤ fed + 1
-slice-by {s = true} {l} h place slice n fed short none at before some = omega (arith, none refl, at)
-slice-by {s = false} {l} true place slice n fed short none at before some = absurd (omega (arith, some))
-slice-by {s = false} {l} false place slice n fed short none at before some = omega (arith, short, at, before some)
+prefix-after : (kind : ℕ) → PrefixAfter (is_slice kind) (prefix_length (next_prefix Whole kind))
+prefix-after kind = record { short = length-kind kind; none = length-slice kind }
+
+unit-by : {q : Bool} {place l fed : ℕ} (h : Bool) (unit : ℕ) → l ≤ 1 → place + 3 ≤ fed → (q ≡ true → unit + 3 ≤ place) → cond (not q || h) place unit + 3 + l ≤ fed + 1
+unit-by {q = true} true unit short at before = omega (arith, short, at)
+unit-by {q = true} false unit short at before = omega (arith, short, at, before refl)
+unit-by {q = false} h unit short at before = omega (arith, short, at)
+
+slice-by : {s : Bool} {place n l fed : ℕ} (h : Bool) (slice : ℕ) → PrefixAfter s l → place + 3 ≤ fed → (0 < n → slice + 4 ≤ place) → 0 < cond h 0 (cond s (one_more n) n) → cond s place slice + 4 + l ≤ fed + 1
+slice-by {s = true} h slice prefix at before some = omega (arith, prefix.none refl, at)
+slice-by {s = false} true slice prefix at before some = absurd (omega (arith, some))
+slice-by {s = false} false slice prefix at before some = omega (arith, prefix.short, at, before some)
 
 code-ahead : (t : Tally) (place kind fed : ℕ) → place + 3 ≤ fed → HasRoom t place → HasRoomAhead (fed + 1) (next_prefix Whole kind) (Some (record { place = place; kind = kind; text = [] })) t
 unfolding next
 code-ahead t place kind fed at room = record {
   read = omega (arith, length-kind kind, at);
-  unit = λ b. unit-by (is_head kind && ltb 0 t.slices) place t.unit (prefix_length (next_prefix Whole kind)) fed (length-kind kind) at room.unit;
-  slice = λ some. slice-by (is_head kind) place t.slice t.slices fed (length-kind kind) (length-slice kind) at room.slice some;
+  unit = λ b. unit-by (is_head kind && ltb 0 t.slices) t.unit (length-kind kind) at room.unit;
+  slice = λ some. slice-by {n = t.slices} (is_head kind) t.slice (prefix-after kind) at room.slice some;
 }
 
 whole-is : (p : Prefix) → is_whole p ≡ true → p ≡ Whole
@@ -175,9 +189,9 @@ coded-ahead {s} {n} {m} {place} x whole noted at is room =
     subst (λ (v : Progress). IsAhead v) (sym is)
     (subst (λ f. HasRoomAhead f n.prefix (Some code) (tally_now n)) (sym fed) (subst (λ (p : Prefix). HasRoomAhead (s.fed + 1) p (Some code) (tally_now n)) (sym prefix) made))
 
-pub coded-awaits : (Ready : ℕ → Type 0) (n m : Progress) (x place : ℕ) → m ≡ scan_with_code n place x → AwaitsSliceAfter Ready (tally_now n) place x → AwaitsSlice Ready (tally_now m)
+pub coded-awaits : {m : Progress} (Ready : ℕ → Type 0) (n : Progress) (x place : ℕ) → m ≡ scan_with_code n place x → AwaitsSliceAfter Ready (tally_now n) place x → AwaitsSlice Ready (tally_now m)
 unfolding next
-coded-awaits Ready n m x place is awaits =
+coded-awaits Ready n x place is awaits =
     subst (λ (v : Progress). AwaitsSlice Ready (tally_now v)) (sym is) awaits
 
 -- ---- as a run is passed over

@@ -1,5 +1,5 @@
 -- The slices of an accepted film are those of its slice codes, in their order.
-use Rattle.std.proofs.Common.{ℕ, Bool, true, false, cond, eqb, ltb, leb, ◌&&◌, ◌+◌, ◌<◌, ◌≡◌, ◌⊎◌, ◌↔◌, List, [], ◌∷◌, ◌++◌, None, length, sym, ◌∙◌, ap, refl, subst, inl, inr, arith}
+use Rattle.std.proofs.Common.{ℕ, Bool, true, false, cond, eqb, ltb, leb, ◌+◌, ◌<◌, ◌≡◌, ◌⊎◌, ◌↔◌, List, [], ◌∷◌, ◌++◌, None, length, sym, ◌∙◌, ap, refl, subst, inl, inr, arith}
 use Rattle.std.proofs.lemmas.Bool.{cases_Bool, eqb-true, eq-eqb, ne_eqb, ltb-true, ltb-false, true≢false, false≢true, and_parts, and_from, leb-true, le-leb}
 use Rattle.std.proofs.lemmas.List.{append-nil}
 use Rattle.mpeg_scan.specs.declared.codes.Code.{Code}
@@ -7,12 +7,12 @@ use Rattle.mpeg_scan.specs.declared.units.Unit.{Unit as PictureUnit}
 use Rattle.mpeg_scan.specs.Codes.{read, codes_of}
 use Rattle.mpeg_scan.specs.Words.{is_slice, slice_of, slices_of, tally_of}
 use Rattle.mpeg_scan.specs.Faults.{end_fault, first_fault, last_fault, latest_fault}
-use Rattle.mpeg_scan.specs.Calls.{head_call, slice_call, unit_call, calls_at, calls_of, unit_at, unit_end}
+use Rattle.mpeg_scan.specs.Calls.{calls_at, calls_of, unit_end}
 use Rattle.mpeg_scan.specs.Films.{IsFilm, slices_in}
 use Rattle.mpeg_scan.specs.Places.{HasCode, StandsAt}
 use Rattle.mpeg_scan.specs.Standard.{IsAmong, IsSliceKind, StandsThere, slice_places}
 use Rattle.mpeg_scan.proofs.StepLemmas.{otherwise-second}
-use Rattle.mpeg_scan.proofs.TileLemmas.{accepted-whole, ended-none, slice-apart, told-cons, told-nil}
+use Rattle.mpeg_scan.proofs.TileLemmas.{Told, accepted-whole, ended-none, raw_calls, slice-apart, told-cons, told-nil, told_at}
 use Rattle.mpeg_scan.proofs.FilmLemmas.{slices_in-append}
 use Rattle.mpeg_scan.proofs.PlaceLemmas.{codes-stand}
 
@@ -35,30 +35,34 @@ some-count n e = elim (cases_Bool (ltb 0 n)) [
   | inr f ↦ absurd (let none : n ≡ 0 = omega (arith, ltb-false 0 n f) in true≢false (sym (eq-eqb n 0 none) ∙ e))
 ]
 
--- one code more, over plain values: s, h: it is a slice, a head code; e, q: the unit has no slice, or some, so far
-raw-slices : {s h e q : Bool} {places : List ℕ} (n slice at a b : ℕ) (unit : PictureUnit) (before : List ℕ) → (s ≡ true → h ≡ false) → eqb n 0 ≡ e → (e ≡ true → q ≡ false) → (e ≡ false → q ≡ true)
-    → before ++ cond e [] (slice ∷ []) ≡ places
-    → (before ++ slices_in (cond s (cond e (head_call a b ∷ []) (slice_call slice at ∷ [])) (cond (h && q) (slice_call slice at ∷ unit_call unit ∷ []) [])))
-    ++ pending (cond h 0 (cond s (n + 1) n)) (cond s at slice) ≡ cond s (places ++ at ∷ []) places
-raw-slices {s = true} {h = true} n slice at a b unit before apart en none some is = absurd (true≢false (apart refl))
-raw-slices {s = true} {h = false} {e = true} n slice at a b unit before apart en none some is =
-    ap (λ l. (before ++ []) ++ l) (pending-some (n + 1) at (omega arith)) ∙ ap (λ l. l ++ at ∷ []) is
-raw-slices {s = true} {h = false} {e = false} n slice at a b unit before apart en none some is =
-    ap (λ l. (before ++ slice ∷ []) ++ l) (pending-some (n + 1) at (omega arith)) ∙ ap (λ l. l ++ at ∷ []) is
-raw-slices {s = false} {h = true} {e = true} {q = true} n slice at a b unit before apart en none some is = absurd (true≢false (none refl))
-raw-slices {s = false} {h = true} {e = true} {q = false} n slice at a b unit before apart en none some is = append-nil (before ++ []) ∙ is
-raw-slices {s = false} {h = true} {e = false} {q = true} n slice at a b unit before apart en none some is = append-nil (before ++ slice ∷ []) ∙ is
-raw-slices {s = false} {h = true} {e = false} {q = false} n slice at a b unit before apart en none some is = absurd (false≢true (some refl))
-raw-slices {s = false} {h = false} {e} n slice at a b unit before apart en none some is =
-    ap (λ v. (before ++ []) ++ cond v [] (slice ∷ [])) en ∙ ap (λ l. l ++ cond e [] (slice ∷ [])) (append-nil before) ∙ is
+-- tests on the number of slices of the unit: e, q: there are none, there are some
+record IsCounted (e q : Bool) (n : ℕ) : Type 0 where
+  is : eqb n 0 ≡ e
+  none : e ≡ true → q ≡ false
+  some : e ≡ false → q ≡ true
+
+-- one code more; s, h: it is a slice, a head code
+raw-slices : {s h e q : Bool} {n : ℕ} {places : List ℕ} (told : Told) (before : List ℕ) → (s ≡ true → h ≡ false) → IsCounted e q n → before ++ cond e [] (told.slice ∷ []) ≡ places
+    → (before ++ slices_in (raw_calls s h q e told)) ++ pending (cond h 0 (cond s (n + 1) n)) (cond s told.place told.slice) ≡ cond s (places ++ told.place ∷ []) places
+raw-slices {s = true} {h = true} told before apart counted is = absurd (true≢false (apart refl))
+raw-slices {s = true} {h = false} {e = true} {n} told before apart counted is =
+    ap (λ l. (before ++ []) ++ l) (pending-some (n + 1) told.place (omega arith)) ∙ ap (λ l. l ++ told.place ∷ []) is
+raw-slices {s = true} {h = false} {e = false} {n} told before apart counted is =
+    ap (λ l. (before ++ told.slice ∷ []) ++ l) (pending-some (n + 1) told.place (omega arith)) ∙ ap (λ l. l ++ told.place ∷ []) is
+raw-slices {s = false} {h = true} {e = true} {q = true} told before apart counted is = absurd (true≢false (counted.none refl))
+raw-slices {s = false} {h = true} {e = true} {q = false} told before apart counted is = append-nil (before ++ []) ∙ is
+raw-slices {s = false} {h = true} {e = false} {q = true} told before apart counted is = append-nil (before ++ told.slice ∷ []) ∙ is
+raw-slices {s = false} {h = true} {e = false} {q = false} told before apart counted is = absurd (false≢true (counted.some refl))
+raw-slices {s = false} {h = false} {e} told before apart counted is =
+    ap (λ v. (before ++ []) ++ cond v [] (told.slice ∷ [])) counted.is ∙ ap (λ l. l ++ cond e [] (told.slice ∷ [])) (append-nil before) ∙ is
 
 step-slices : (c : Code) (past : List Code) → slices_in (calls_of past) ++ pending (slices_of past) (slice_of past) ≡ slice_places past
     → (slices_in (calls_of past) ++ slices_in (calls_at (tally_of past) c.place c.kind)) ++ pending (slices_of (c ∷ past)) (slice_of (c ∷ past)) ≡ slice_places (c ∷ past)
 unfolding calls_at
 step-slices c past is =
     let n = slices_of past in
-    raw-slices n (slice_of past) c.place (tally_of past).unit c.place (unit_at (tally_of past) c.place) (slices_in (calls_of past))
-    (slice-apart c.kind) refl (none-count n) (some-count n) is
+    let counted : IsCounted (eqb n 0) (ltb 0 n) n = record { is = refl; none = none-count n; some = some-count n } in
+    raw-slices (told_at (tally_of past) c.place) (slices_in (calls_of past)) (slice-apart c.kind) counted is
 
 told-slices : (past : List Code) → slices_in (calls_of past) ++ pending (slices_of past) (slice_of past) ≡ slice_places past
 told-slices [] = ap (λ l. slices_in l ++ []) told-nil

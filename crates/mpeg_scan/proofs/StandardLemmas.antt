@@ -11,17 +11,18 @@ use Rattle.mpeg_scan.specs.declared.units.Unit.{Unit as PictureUnit}
 use Rattle.mpeg_scan.specs.Codes.{read, codes_of}
 use Rattle.mpeg_scan.specs.Words.{all_slices_of, has_sequence, head_end_of, header_of, is_head, is_slice, picture_of, slices_of, starts_group, tally_of, temporal_of, type_of, unit_of, rate_of, vectors_of}
 use Rattle.mpeg_scan.specs.Faults.{end_fault, first_fault, header_fault, last_fault, latest_fault, rate_fault}
-use Rattle.mpeg_scan.specs.Calls.{Call, head_call, slice_call, unit_call, calls_at, kind_of, no_header, calls_of, unit_at, unit_end}
+use Rattle.mpeg_scan.specs.Calls.{Call, head_call, slice_call, calls_at, kind_of, no_header, calls_of, unit_at, unit_end}
 use Rattle.mpeg_scan.specs.Films.{IsFilm, units_in}
 use Rattle.mpeg_scan.specs.Places.{HasCode, StandsAt}
 use Rattle.mpeg_scan.specs.Standard.{Counts, HasFields, HasPicture, IsFirstCode, IsHeadKind, IsSliceKind, IsUnitOf, NoneIn, StandsIn, StandsThere, UnitIs, type_number, vector_fields}
 use Rattle.mpeg_scan.proofs.StepLemmas.{accepted-older, code-accepted, otherwise-first, otherwise-second}
-use Rattle.mpeg_scan.proofs.TileLemmas.{After, Spaced, accepted-whole, all-below, ended-none, first-is, first_slice-accepted, placed-codes, room-after, slice-apart, told-cons, told-nil}
+use Rattle.mpeg_scan.proofs.TileLemmas.{After, Spaced, Told, accepted-whole, all-below, ended-none, first-is, first_slice-accepted, placed-codes, raw_calls, room-after, slice-apart, told-cons, told-nil, told_at}
 use Rattle.mpeg_scan.proofs.CountLemmas.{empty-count, first-some, second-accepted, second-none}
-use Rattle.mpeg_scan.proofs.BoundLemmas.{older-judged, some-cond-none}
+use Rattle.mpeg_scan.proofs.BoundLemmas.{some-cond-none}
 use Rattle.mpeg_scan.proofs.FilmLemmas.{length-read, units_in-append}
-use Rattle.mpeg_scan.proofs.PlaceLemmas.{at as at_byte, at-bytes, codes-stand}
-use Rattle.mpeg_scan.proofs.TextLemmas.{TextIs, TextsAre, codes-texts, text-byte}
+use Rattle.mpeg_scan.proofs.FirstLemmas.{AreJudged, older-are_judged}
+use Rattle.mpeg_scan.proofs.PlaceLemmas.{at-bytes, codes-stand}
+use Rattle.mpeg_scan.proofs.TextLemmas.{Same, TextIs, TextsAre, codes-texts, text-byte}
 use Rattle.mpeg_scan.proofs.OpenLemmas.{Below, Firsts, Member, Open, Pictured, first-code, kinds-of, member-has, step-open}
 use Rattle.mpeg_scan.specs.Codes.{latest_prefix}
 use Rattle.mpeg_scan.proofs.BeforeLemmas.{Knows}
@@ -51,7 +52,8 @@ open-codes c (d ∷ past) accepted spaced =
     let n = slices_of older in
     let fault = code-accepted c older accepted in
     step-open
-    (kinds-of c.kind) (all-below older spaced.1 spaced.0) (ltb-true 0 n) (empty-count n) (eqb-true n 0) (none-some n)
+    (kinds-of c.kind) (all-below older spaced.1 spaced.0)
+    (record { some = ltb-true 0 n; none = empty-count n; zero_is = eqb-true n 0; more = none-some n })
     (λ head none. second-none t c.kind (second-accepted t c.place c.kind fault) head none)
     (λ slice none. first-some t c.place c.kind (first_slice-accepted t c.place c.kind fault) slice none)
     (open-codes d past (accepted-older c older accepted) spaced.1)
@@ -76,8 +78,14 @@ pub record Closed (past : List Code) (unit : PictureUnit) : Type 0 where
   pub head_some : unit.from < unit.head_end
   pub rest_some : unit.head_end < unit.to
 
-close-picture : {past : List Code} {unit : PictureUnit} {n : ℕ} {h : Header} → 0 < n → unit.temporal ≡ h.temporal → unit.kind ≡ kind_of h.coding → unit.vectors ≡ h.vectors → Pictured past unit.from unit.head_end n h → HasPicture (Has past) (CodeFields past) unit
-close-picture {past} {h} some temporal kind vectors is = record {
+-- a unit with what this header says of its picture
+record HasHeader (unit : PictureUnit) (h : Header) : Type 0 where
+  temporal : unit.temporal ≡ h.temporal
+  kind : unit.kind ≡ kind_of h.coding
+  vectors : unit.vectors ≡ h.vectors
+
+close-picture : {past : List Code} {unit : PictureUnit} {n : ℕ} {h : Header} → 0 < n → HasHeader unit h → Pictured past unit.from unit.head_end n h → HasPicture (Has past) (CodeFields past) unit
+close-picture {past} {h} some header is = record {
   place = is.code.place;
   code = subst (λ k. HasCode is.code.place k past) is.kind (member-has is.code past is.member);
   after = is.after;
@@ -89,9 +97,9 @@ close-picture {past} {h} some temporal kind vectors is = record {
     member = is.member;
     zero_is = is.kind;
     place_is = refl;
-    temporal = temporal ∙ ap (λ (v : Header). v.temporal) is.header;
-    kind = kind ∙ ap (λ (v : Header). kind_of v.coding) is.header;
-    vectors = vectors ∙ ap (λ (v : Header). v.vectors) is.header;
+    temporal = header.temporal ∙ ap (λ (v : Header). v.temporal) is.header;
+    kind = header.kind ∙ ap (λ (v : Header). kind_of v.coding) is.header;
+    vectors = header.vectors ∙ ap (λ (v : Header). v.vectors) is.header;
   };
 }
 
@@ -109,11 +117,10 @@ group-open : (past : List Code) (unit : PictureUnit) (n : ℕ) (o : Option Heade
 group-open past unit n o open_ (inl firsts) = open_.grp_first firsts
 group-open past unit n o open_ (inr it) = open_.grp_set it.place it.code it.after
 
-close-by : {past : List Code} {unit : PictureUnit} {n : ℕ} {o : Option Header} → Open past unit.from unit.head_end n o unit.has_sequence unit.starts_group → 0 < n
-    → unit.temporal ≡ (unwrap_or o no_header).temporal → unit.kind ≡ kind_of (unwrap_or o no_header).coding → unit.vectors ≡ (unwrap_or o no_header).vectors
+close-by : {past : List Code} {unit : PictureUnit} {n : ℕ} {o : Option Header} → Open past unit.from unit.head_end n o unit.has_sequence unit.starts_group → 0 < n → HasHeader unit (unwrap_or o no_header)
     → ((place kind : ℕ) → HasCode place kind past → place < unit.to) → Counts (Has past) IsSliceKind unit.head_end unit.to unit.slices → Counts (Has past) IsSliceKind 0 unit.to (unit.first_slice + unit.slices) → Closed past unit
-close-by {o = None} open_ some temporal kind vectors below own all = absurd (false≢true (open_.some some))
-close-by {past} {unit} {n} {o = Some h} open_ some temporal kind vectors below own all = record {
+close-by {o = None} open_ some header below own all = absurd (false≢true (open_.some some))
+close-by {past} {unit} {n} {o = Some h} open_ some header below own all = record {
   unit_is = record {
     begins = open_.begins;
     head = open_.head some;
@@ -122,7 +129,7 @@ close-by {past} {unit} {n} {o = Some h} open_ some temporal kind vectors below o
     own = own;
     all = all;
     slices = λ place k has after before is. open_.sliced some place k has after is;
-    picture = close-picture some temporal kind vectors open_.picture_is;
+    picture = close-picture some header open_.picture_is;
     sequence = (
       λ e. let it = open_.seq_there e in record { place = it.0; code = it.1.0; after = it.1.1; before = in-head unit open_ some it.1.0 (inr (inl refl)) },
       λ it. open_.seq_set it.place it.code it.after,
@@ -150,7 +157,8 @@ close : (past : List Code) (to : ℕ) → OpenOf past → Spaced past → 0 < sl
 close past to open_ spaced some below =
     let k : Knows (Has past) past to = record { there = λ place kind has. has; below = below; back = λ place kind has before. has } in
     let count : all_slices_of past ≡ all_slices_of past - slices_of past + slices_of past = omega (arith, few-slices past) in
-    close-by open_ some refl refl refl below
+    let header : HasHeader (unit_at (tally_of past) to) (unwrap_or (picture_of past) no_header) = record { temporal = refl; kind = refl; vectors = refl } in
+    close-by open_ some header below
     (own-slices k spaced (λ place kind has after before is. open_.sliced some place kind has after is)
     (λ from none place slice far before. own-first open_ some below none slice far))
     (subst (λ n. Counts (Has past) IsSliceKind 0 to n) count (all-slices (Has past) past to k spaced))
@@ -171,7 +179,11 @@ shrinks-by {from} {place} c past far (inr old) after before = record { place = p
 stands-shrinks : {from to kind : ℕ} (c : Code) (past : List Code) → to ≤ c.place → StandsIn (Has (c ∷ past)) from to kind → StandsIn (Has past) from to kind
 stands-shrinks {from} c past far it = shrinks-by c past far it.code it.after it.before
 
-only-grows : {its : ℕ} (c : Code) (past : List Code) (from to : ℕ) → to ≤ c.place → ((other : ℕ) → HasCode other 0 past → from ≤ other → other < to → other ≡ its) → (other : ℕ) → HasCode other 0 (c ∷ past) → from ≤ other → other < to → other ≡ its
+-- the only picture between these places
+abbrev IsOnlyIn : List Code → ℕ → ℕ → ℕ → Type 0
+IsOnlyIn past from to its = (other : ℕ) → HasCode other 0 past → from ≤ other → other < to → other ≡ its
+
+only-grows : {its : ℕ} (c : Code) (past : List Code) (from to : ℕ) → to ≤ c.place → IsOnlyIn past from to its → IsOnlyIn (c ∷ past) from to its
 only-grows c past from to far only other (inl new) after before = absurd (omega (arith, new.0, far, before))
 only-grows c past from to far only other (inr old) after before = only other old after before
 
@@ -250,14 +262,14 @@ all-at at [] k is all = cc
 all-at {past} {unit} at (u ∷ units) zero is all = let same : u ≡ unit = cc in subst (λ (v : PictureUnit). Closed past v) same all.0.0
 all-at {past} {unit} at (u ∷ units) (suc k) is all = all-at {past = past} {unit = unit} at units k is all.1
 
--- the unit that ends at a code, over plain values
-closed-call : {s h q : Bool} {c : Code} {past : List Code} {unit : PictureUnit} (e : Bool) (a b x y : ℕ) → (s ≡ true → h ≡ false) → (h ≡ true → q ≡ true → Closed (c ∷ past) unit × (unit.to ≤ c.place))
-    → AllClosed (c ∷ past) c.place (units_in (cond s (cond e (head_call a b ∷ []) (slice_call x y ∷ [])) (cond (h && q) (slice_call x y ∷ unit_call unit ∷ []) [])))
-closed-call {s = true} {h} {c} true a b x y apart closed = tt
-closed-call {s = true} {h} {c} false a b x y apart closed = tt
-closed-call {s = false} {h = true} {q = true} {c} e a b x y apart closed = (closed refl refl, tt)
-closed-call {s = false} {h = true} {q = false} {c} e a b x y apart closed = tt
-closed-call {s = false} {h = false} {c} e a b x y apart closed = tt
+-- the unit that ends at a code, by tests: s, h: it is a slice, a head code; q, e: there were slices, there were none
+closed-call : {s h q : Bool} {c : Code} {past : List Code} (e : Bool) (told : Told) → (s ≡ true → h ≡ false) → (h ≡ true → q ≡ true → Closed (c ∷ past) told.ended × (told.ended.to ≤ c.place))
+    → AllClosed (c ∷ past) c.place (units_in (raw_calls s h q e told))
+closed-call {s = true} {h} {c} true told apart closed = tt
+closed-call {s = true} {h} {c} false told apart closed = tt
+closed-call {s = false} {h = true} {q = true} {c} e told apart closed = (closed refl refl, tt)
+closed-call {s = false} {h = true} {q = false} {c} e told apart closed = tt
+closed-call {s = false} {h = false} {c} e told apart closed = tt
 
 closed-step : (c d : Code) (past : List Code) → OpenOf (d ∷ past) → Spaced (d ∷ past) → Below c (d ∷ past) → AllClosed (c ∷ (d ∷ past)) c.place (units_in (calls_at (tally_of (d ∷ past)) c.place c.kind))
 unfolding calls_at
@@ -265,7 +277,7 @@ closed-step c d past open_ spaced below =
     let older : List Code = d ∷ past in
     let t = tally_of older in
     let unit = unit_at t c.place in
-    closed-call (eqb (slices_of older) 0) t.unit c.place t.slice c.place (slice-apart c.kind)
+    closed-call (eqb (slices_of older) 0) (told_at t c.place) (slice-apart c.kind)
     (λ head some. (closed-grows c older unit (omega arith) (close older c.place open_ spaced (ltb-true 0 (slices_of older) some) below), omega arith))
 
 closed-first : (c : Code) → c.kind ≡ 0xb3 → AllClosed (c ∷ []) c.place (units_in (calls_at (tally_of []) c.place c.kind))
@@ -307,12 +319,15 @@ record CodeText (r : List ℕ) (c : Code) : Type 0 where
   judged : header_fault rate c end ≡ None
   far : end ≤ stop
 
-code-text : {r : List ℕ} {c its : Code} {stop : ℕ} (past : List Code) (end : ℕ) → first_fault (c ∷ past) ≡ None → latest_fault (c ∷ past) end ≡ None → end ≤ stop → TextsAre r stop (c ∷ past) → Member its (c ∷ past) → CodeText r its
-code-text {r} {c} {stop} past end accepted judged far texts (inl same) =
-    subst (λ (v : Code). CodeText r v) same (record { stop = stop; end = end; rate = rate_of past; is = texts.0; judged = judged; far = far })
-code-text {r} {c} {stop} [] end accepted judged far texts (inr m) = absurd m
-code-text {r} {c} {its} {stop} (d ∷ past) end accepted judged far texts (inr m) =
-    code-text {r = r} {c = d} {its = its} {stop = c.place + 4} past c.place (accepted-older c (d ∷ past) accepted) (older-judged c (d ∷ past) accepted) (omega arith) texts.1 m
+code-text : {r : List ℕ} {c its : Code} {past : List Code} {end stop : ℕ} → AreJudged r c past end stop → Member its (c ∷ past) → CodeText r its
+code-text {r} {c} {past} {end} {stop} are (inl same) =
+    subst (λ (v : Code). CodeText r v) same (record { stop = stop; end = end; rate = rate_of past; is = are.texts.0; judged = are.judged; far = are.far })
+code-text {past = []} are (inr m) = absurd m
+code-text {past = d ∷ past} are (inr m) = code-text {c = d} {past = past} (older-are_judged are) m
+
+-- of each of these codes
+abbrev AreTexts : List ℕ → List Code → Type 0
+AreTexts r past = (c : Code) → Member c past → CodeText r c
 
 picture-judged : {a b z : Bool} {h : Option FilmFault} (f g : Option FilmFault) → a ≡ false → b ≡ false → z ≡ true → cond a f (cond b g (cond z h None)) ≡ None → h ≡ None
 picture-judged {a = true} {h} f g na nb is e = absurd (true≢false na)
@@ -390,12 +405,14 @@ type-fits {bytes} {place} {forward} {backward} (three_type e) both =
 type-fits {bytes} {place} {forward} {backward} (four_type e) both = subst (λ m. TypeFits m bytes place forward backward) (sym e) (record { number = refl; vectors = refl })
 
 -- the fields of a picture's code are those of its header's bytes
-fields-fit : (bytes r : List ℕ) (c : Code) (place : ℕ) (unit : PictureUnit) → r ≡ read [] bytes → c.kind ≡ 0 → c.place ≡ place → unit.temporal ≡ temporal_of c → unit.kind ≡ kind_of (type_of c) → unit.vectors ≡ vectors_of c → CodeText r c → HasFields bytes place unit
-fields-fit bytes r c place unit is zero_kind at temporal kind vectors text =
-    let long = picture-long text.rate c text.end zero_kind text.judged in
-    let count : length r ≡ length bytes = ap length is ∙ length-read bytes [] ∙ omega arith in
-    let same = λ (i : ℕ). ap (λ (l : List ℕ). at_byte l i) is ∙ at-bytes bytes i in
-    let here = λ (k p : ℕ) (small : k < 5) (far : c.place + 4 + k < text.stop) (where_ : c.place + 4 + k ≡ p). text-byte bytes k same small far text.is count ∙ ap (λ i. get_or bytes i 0) where_ in
+fields-fit : {past : List Code} {place : ℕ} {unit : PictureUnit} (bytes : List ℕ) (f : CodeFields past place unit) → CodeText (read [] bytes) f.code → HasFields bytes place unit
+fields-fit {place} bytes f text =
+    let r = read [] bytes in
+    let c = f.code in
+    let at = f.place_is in
+    let long = picture-long text.rate c text.end f.zero_is text.judged in
+    let same : Same bytes r = record { byte = at-bytes bytes; long = length-read bytes [] ∙ omega arith } in
+    let here = λ (k p : ℕ) (small : k < 5) (far : c.place + 4 + k < text.stop) (where_ : c.place + 4 + k ≡ p). text-byte k same small far text.is ∙ ap (λ i. get_or bytes i 0) where_ in
     let b0 : get_or c.text 0 0 ≡ get_or bytes (place + 4) 0 = here 0 (place + 4) (omega arith) (omega (arith, long.eight, text.far)) (omega (arith, at)) in
     let b1 : get_or c.text 1 0 ≡ get_or bytes (place + 5) 0 = here 1 (place + 5) (omega arith) (omega (arith, long.eight, text.far)) (omega (arith, at)) in
     let b3 : get_or c.text 3 0 ≡ get_or bytes (place + 7) 0 = here 3 (place + 7) (omega arith) (omega (arith, long.eight, text.far)) (omega (arith, at)) in
@@ -404,9 +421,9 @@ fields-fit bytes r c place unit is zero_kind at temporal kind vectors text =
     (λ two. let b4 : get_or c.text 4 0 ≡ get_or bytes (place + 8) 0 = here 4 (place + 8) (omega arith) (omega (arith, long.nine two, text.far)) (omega (arith, at)) in
     (ap (λ b. b % 8 * 2 + get_or c.text 4 0 / 128) b3 ∙ ap (λ b. get_or bytes (place + 7) 0 % 8 * 2 + b / 128) b4, ap (λ b. b / 8 % 16) b4)) in
     record {
-      temporal = temporal ∙ ap (λ b. b * 4 + get_or c.text 1 0 / 64) b0 ∙ ap (λ b. get_or bytes (place + 4) 0 * 4 + b / 64) b1;
-      kind = ap type_number kind ∙ fits.number ∙ type_is;
-      vectors = vectors ∙ fits.vectors ∙ ap (λ (v : Kind). vector_fields bytes place v) (sym kind);
+      temporal = f.temporal ∙ ap (λ b. b * 4 + get_or c.text 1 0 / 64) b0 ∙ ap (λ b. get_or bytes (place + 4) 0 * 4 + b / 64) b1;
+      kind = ap type_number f.kind ∙ fits.number ∙ type_is;
+      vectors = f.vectors ∙ fits.vectors ∙ ap (λ (v : Kind). vector_fields bytes place v) (sym f.kind);
     }
 
 -- a unit over these codes is one over the bytes
@@ -427,7 +444,7 @@ group-codes : (bytes : List ℕ) (past : List Code) (from to : ℕ) → ((place 
 group-codes bytes past from to both (inl firsts) = inl (λ place kind has. firsts place kind ((both place kind).0 has))
 group-codes bytes past from to both (inr it) = inr (stands-codes past both it)
 
-unit-bytes : (bytes : List ℕ) (past : List Code) (unit : PictureUnit) → ((place kind : ℕ) → HasCode place kind past ↔ StandsAt bytes place kind) → ((c : Code) → Member c past → CodeText (read [] bytes) c) → Closed past unit → IsUnitOf bytes unit
+unit-bytes : (bytes : List ℕ) (past : List Code) (unit : PictureUnit) → ((place kind : ℕ) → HasCode place kind past ↔ StandsAt bytes place kind) → AreTexts (read [] bytes) past → Closed past unit → IsUnitOf bytes unit
 unit-bytes bytes past unit both texts closed =
     let u = closed.unit_is in
     let p = u.picture in
@@ -447,17 +464,23 @@ unit-bytes bytes past unit both texts closed =
         before = p.before;
         only = λ other has after before. p.only other ((both other 0).1 has) after before;
         last = none-bytes past both p.last;
-        fields = fields-fit bytes (read [] bytes) f.code p.place unit refl f.zero_is f.place_is f.temporal f.kind f.vectors (texts f.code f.member);
+        fields = fields-fit bytes f (texts f.code f.member);
       };
       sequence = (λ e. stands-bytes past both (u.sequence.0 e), λ it. u.sequence.1 (stands-codes past both it));
       group = (λ e. group-bytes bytes past unit.from unit.head_end both (u.group.0 e), λ it. u.group.1 (group-codes bytes past unit.from unit.head_end both it));
     }
 
-whole-texts : (r : List ℕ) (past : List Code) (n : ℕ) → first_fault past ≡ None → end_fault past n ≡ None → TextsAre r n past → (c : Code) → Member c past → CodeText r c
+whole-texts : (r : List ℕ) (past : List Code) (n : ℕ) → first_fault past ≡ None → end_fault past n ≡ None → TextsAre r n past → AreTexts r past
 unfolding end_fault
 whole-texts r [] n accepted ended texts c m = absurd m
 whole-texts r (d ∷ past) n accepted ended texts c m =
-    code-text past n accepted (otherwise-first (latest_fault (d ∷ past) n) (last_fault (tally_of (d ∷ past))) ended) (omega arith) texts m
+    let are : AreJudged r d past n n = record {
+      accepted = accepted;
+      judged = otherwise-first (latest_fault (d ∷ past) n) (last_fault (tally_of (d ∷ past))) ended;
+      far = omega arith;
+      texts = texts;
+    } in
+    code-text are m
 
 pub film-standard : {bytes : List ℕ} {rate : ℕ} {units : List PictureUnit} {starts : List ℕ} → IsFilm bytes rate units starts → (k : ℕ) {unit : PictureUnit} → slice_get units k ≡ Some unit → IsUnitOf bytes unit
 film-standard {bytes} {units} {starts} film k {unit} is =

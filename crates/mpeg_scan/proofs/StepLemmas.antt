@@ -107,16 +107,16 @@ code_fault-older c past e =
     let last = otherwise-second (second_fault t c.kind) (first_refusal (first_slice_fault t c.place c.kind) (count_fault t c.place c.kind)) rest in
     otherwise-second (first_slice_fault t c.place c.kind) (count_fault t c.place c.kind) last
 
-counted : {q : Bool} (b g : Bool) (p place : ℕ) → leb 4194304 p ≡ q → cond b (cond g (Some (GroupTooLong place)) (cond q (Some TooLong) None)) None ≡ None → p ≤ 4194304 → cond b (p + 1) p ≤ 4194304
-counted false g p place test none bound = bound
-counted true true p place test none bound = absurd (cc)
-counted {q = true} true false p place test none bound = absurd (cc)
-counted {q = false} true false p place test none bound = omega (arith, leb-false 4194304 p test)
+counted : {q : Bool} {p : ℕ} (b g : Bool) (place : ℕ) → leb 4194304 p ≡ q → cond b (cond g (Some (GroupTooLong place)) (cond q (Some TooLong) None)) None ≡ None → p ≤ 4194304 → cond b (p + 1) p ≤ 4194304
+counted false g place test none bound = bound
+counted true true place test none bound = absurd (cc)
+counted {q = true} true false place test none bound = absurd (cc)
+counted {q = false} {p} true false place test none bound = omega (arith, leb-false 4194304 p test)
 
 pub pictures-bound : (past : List Code) → first_fault past ≡ None → pictures_of past ≤ 4194304
 pictures-bound [] e = omega arith
 pictures-bound (c ∷ past) e =
-    counted (eqb c.kind 0) (leb 1024 (pictures_of past - before_group_of past)) (pictures_of past) c.place refl (code_fault-older c past e)
+    counted {p = pictures_of past} (eqb c.kind 0) (leb 1024 (pictures_of past - before_group_of past)) c.place refl (code_fault-older c past e)
     (pictures-bound past (accepted-older c past e))
 
 -- ---- the tally with the latest code
@@ -230,25 +230,42 @@ pub taken-plain : {s n : Progress} {r : List ℕ} {x : ℕ} {w : Bool} → w ≡
 taken-plain {s} {r} {x} {w} test is noted kept =
     subst (λ (v : Progress). HasRead v (x ∷ r)) (sym noted) (fed-plain s r x kept (whole-read kept test is))
 
-pub taken-code : {s n m : Progress} {r : List ℕ} {x place : ℕ} {w : Bool} → s.fed < 2 ^ 41 → w ≡ true → w ≡ is_whole s.prefix → n ≡ scan_with_byte s x → place ≡ s.fed - 3 → (code_judgement n.latest n.tally place x ≡ None) × (m ≡ scan_with_code n place x) → HasRead s r → HasRead m (x ∷ r)
-taken-code {s} {m} {r} {x} {place} {w} short test is noted at h kept =
+-- the byte that ends a start code is noted
+pub record CodeNoted (s n : Progress) (r : List ℕ) (x place : ℕ) : Type 0 where
+  pub short : s.fed < 2 ^ 41
+  pub whole : is_whole s.prefix ≡ true
+  pub noted : n ≡ scan_with_byte s x
+  pub place_is : place ≡ s.fed - 3
+  pub kept : HasRead s r
+
+whole-before : {s n : Progress} {r : List ℕ} {x place : ℕ} → CodeNoted s n r x place → is_whole (latest_prefix r) ≡ true
+whole-before code = whole-read code.kept code.whole refl
+
+pub taken-code : {s n m : Progress} {r : List ℕ} {x place : ℕ} → CodeNoted s n r x place → (code_judgement n.latest n.tally place x ≡ None) × (m ≡ scan_with_code n place x) → HasRead m (x ∷ r)
+taken-code {s} {m} {r} {x} {place} code h =
     let none : code_judgement (scan_with_byte s x).latest s.tally (s.fed - 3) x ≡ None =
-    sym (ap (λ (v : Progress). code_judgement v.latest v.tally place x) noted ∙ ap (λ p. code_judgement (scan_with_byte s x).latest s.tally p x) at) ∙ h.0 in
+    sym (ap (λ (v : Progress). code_judgement v.latest v.tally place x) noted ∙ ap (λ p. code_judgement (scan_with_byte s x).latest s.tally p x) place_is) ∙ h.0 in
     let became : m ≡ scan_with_code (scan_with_byte s x) (s.fed - 3) x =
-    h.1 ∙ ap (λ (v : Progress). scan_with_code v place x) noted ∙ ap (λ p. scan_with_code (scan_with_byte s x) p x) at in
-    subst (λ (v : Progress). HasRead v (x ∷ r)) (sym became) (fed-code kept (short-read s r kept short) (whole-read kept test is) none)
+    h.1 ∙ ap (λ (v : Progress). scan_with_code v place x) noted ∙ ap (λ p. scan_with_code (scan_with_byte s x) p x) place_is in
+    subst (λ (v : Progress). HasRead v (x ∷ r)) (sym became) (fed-code kept (short-read s r kept short) (whole-before code) none)
+  where
+    open code use {short, noted, place_is, kept}
 
-pub taken-fault : {s n : Progress} {r : List ℕ} {place : ℕ} {w : Bool} {f : FilmFault} (x : ℕ) → s.fed < 2 ^ 41 → w ≡ true → w ≡ is_whole s.prefix → n ≡ scan_with_byte s x → place ≡ s.fed - 3 → code_judgement n.latest n.tally place x ≡ Some f → HasRead s r → first_fault (codes_of (x ∷ r)) ≡ Some f
-taken-fault {s} {r} {place} {w} x short test is noted at h kept =
-    first_fault-at s r x kept (short-read s r kept short) (whole-read kept test is)
-    ∙ sym (ap (λ (v : Progress). code_judgement v.latest v.tally place x) noted ∙ ap (λ p. code_judgement (scan_with_byte s x).latest s.tally p x) at) ∙ h
+pub taken-fault : {s n : Progress} {r : List ℕ} {x place : ℕ} {f : FilmFault} → CodeNoted s n r x place → code_judgement n.latest n.tally place x ≡ Some f → first_fault (codes_of (x ∷ r)) ≡ Some f
+taken-fault {s} {r} {x} {place} code h =
+    first_fault-at s r x kept (short-read s r kept short) (whole-before code)
+    ∙ sym (ap (λ (v : Progress). code_judgement v.latest v.tally place x) noted ∙ ap (λ p. code_judgement (scan_with_byte s x).latest s.tally p x) place_is) ∙ h
+  where
+    open code use {short, noted, place_is, kept}
 
-pub taken-calls : {s n : Progress} {r : List ℕ} {place : ℕ} {w : Bool} (x : ℕ) → s.fed < 2 ^ 41 → w ≡ true → w ≡ is_whole s.prefix → n ≡ scan_with_byte s x → place ≡ s.fed - 3 → HasRead s r → (calls : List Call) → (calls ++ calls_of (codes_of r)) ++ calls_at (tally_with n.latest n.tally) place x ≡ calls ++ calls_of (codes_of (x ∷ r))
-taken-calls {s} {n} {r} {place} {w} x short test is noted at kept calls =
+pub taken-calls : {s n : Progress} {r : List ℕ} {x place : ℕ} → CodeNoted s n r x place → (calls : List Call) → (calls ++ calls_of (codes_of r)) ++ calls_at (tally_with n.latest n.tally) place x ≡ calls ++ calls_of (codes_of (x ∷ r))
+taken-calls {s} {n} {r} {x} {place} code calls =
     append_assoc calls (calls_of (codes_of r)) (calls_at (tally_with n.latest n.tally) place x)
     ∙ ap (λ (v : Progress). calls ++ (calls_of (codes_of r) ++ calls_at (tally_with v.latest v.tally) place x)) noted
-    ∙ ap (λ p. calls ++ (calls_of (codes_of r) ++ calls_at (tally_with (scan_with_byte s x).latest s.tally) p x)) at
-    ∙ ap (λ (l : List Call). calls ++ l) (sym (told-at s r x kept (short-read s r kept short) (whole-read kept test is)))
+    ∙ ap (λ p. calls ++ (calls_of (codes_of r) ++ calls_at (tally_with (scan_with_byte s x).latest s.tally) p x)) place_is
+    ∙ ap (λ (l : List Call). calls ++ l) (sym (told-at s r x kept (short-read s r kept short) (whole-before code)))
+  where
+    open code use {short, noted, place_is, kept}
 
 pub taken-none : {s : Progress} {r : List ℕ} {w : Bool} (x : ℕ) → w ≡ false → w ≡ is_whole s.prefix → HasRead s r → (calls : List Call) → calls ++ calls_of (codes_of r) ≡ calls ++ calls_of (codes_of (x ∷ r))
 taken-none {s} {r} {w} x test is kept calls =

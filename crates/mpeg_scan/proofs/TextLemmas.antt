@@ -78,8 +78,13 @@ codes-texts (x ∷ r) = elim (cases_Bool (is_whole (latest_prefix r))) [
   | inr e ↦ subst (λ (l : List Code). TextsAre (x ∷ r) (suc (length r)) l) (sym (codes-plain x r e)) (texts-more x r (codes_of r) (codes-texts r))
 ]
 
+-- the bytes, given the latest first, and in order
+pub record Same (bytes r : List ℕ) : Type 0 where
+  pub byte : (i : ℕ) → at r i ≡ get_or bytes i 256
+  pub long : length r ≡ length bytes
+
 -- a byte of a text is the film's
-pub text-byte : {r : List ℕ} {stop : ℕ} {c : Code} (bytes : List ℕ) (k : ℕ) → ((i : ℕ) → at r i ≡ get_or bytes i 256) → k < 5 → c.place + 4 + k < stop → TextIs r stop c → length r ≡ length bytes → get_or c.text k 0 ≡ get_or bytes (c.place + 4 + k) 0
-text-byte {r} {stop} {c} bytes k same small below is long =
+pub text-byte : {bytes r : List ℕ} {stop : ℕ} {c : Code} (k : ℕ) → Same bytes r → k < 5 → c.place + 4 + k < stop → TextIs r stop c → get_or c.text k 0 ≡ get_or bytes (c.place + 4 + k) 0
+text-byte {bytes} {c} k same small below is =
     let there : k < length c.text = omega (arith, is.count) in
-    is.each k there ∙ same (c.place + 4 + k) ∙ get_or_default bytes (c.place + 4 + k) 256 0 (omega (arith, is.within, long))
+    is.each k there ∙ same.byte (c.place + 4 + k) ∙ get_or_default bytes (c.place + 4 + k) 256 0 (omega (arith, is.within, below, same.long))

@@ -56,15 +56,15 @@ span-slice d slice =
     let low : 1 ≤ d.kind = leb-true 1 d.kind (and_parts (leb 1 d.kind) (leb d.kind 0xaf) slice).0 in
     ap (λ b. cond b 3 4) (ne_eqb d.kind 0 (λ none. absurd (omega arith)))
 
-slice-case : {s : Bool} (h : Bool) (n p q at : ℕ) → (s ≡ true → p + 4 ≤ at) → (0 < n → q + 4 ≤ at) → 0 < cond h 0 (cond s (n + 1) n) → cond s p q + 4 ≤ at
-slice-case {s} true n p q at here before some = absurd (omega arith)
-slice-case {s = true} false n p q at here before some = here refl
-slice-case {s = false} false n p q at here before some = before some
+slice-case : {s : Bool} {n at : ℕ} (h : Bool) (p q : ℕ) → (s ≡ true → p + 4 ≤ at) → (0 < n → q + 4 ≤ at) → 0 < cond h 0 (cond s (n + 1) n) → cond s p q + 4 ≤ at
+slice-case {s} true p q here before some = absurd (omega arith)
+slice-case {s = true} false p q here before some = here refl
+slice-case {s = false} false p q here before some = before some
 
 pub slice-before : (past : List Code) (at : ℕ) → Spaced past → After at past → 0 < slices_of past → slice_of past + 4 ≤ at
 slice-before [] at spaced after some = absurd (omega arith)
 slice-before (d ∷ past) at spaced after some =
-    slice-case (is_head d.kind) (slices_of past) d.place (slice_of past) at (λ slice. omega (arith, span-slice d slice, after))
+    slice-case {s = is_slice d.kind} {n = slices_of past} {at = at} (is_head d.kind) d.place (slice_of past) (λ slice. omega (arith, span-slice d slice, after))
     (λ more. omega (arith, three (eqb d.kind 0), after, slice-before past d.place spaced.1 spaced.0 more)) some
 
 -- ---- one code
@@ -88,48 +88,83 @@ takes-head : (unit place : ℕ) → unit < place → place - unit ≤ 1380 → p
 takes-head unit place below short =
     ap (λ b. parts_after (cond b (Some (within unit place place 0)) None) []) (and_from (eqb unit unit) (ltb unit place && leb (place - unit) 1380) (eq-eqb unit unit refl) (and_from (ltb unit place) (leb (place - unit) 1380) (lt-ltb unit place below) (le-leb (place - unit) 1380 short)))
 
-takes-slice : (unit head_end slice m place : ℕ) (calls : List Call) → slice + 4 ≤ place → parts_after (Some (within unit head_end slice m)) (slice_call slice place ∷ calls) ≡ parts_after (Some (within unit head_end place (m + 1))) calls
-takes-slice unit head_end slice m place calls apart =
+takes-slice : {place : ℕ} (unit head_end slice m : ℕ) (calls : List Call) → slice + 4 ≤ place → parts_after (Some (within unit head_end slice m)) (slice_call slice place ∷ calls) ≡ parts_after (Some (within unit head_end place (m + 1))) calls
+takes-slice {place} unit head_end slice m calls apart =
     ap (λ b. parts_after (cond b (Some (within unit head_end place (m + 1))) None) calls) (and_from (eqb slice slice) (leb (slice + 4) place) (eq-eqb slice slice refl) (le-leb (slice + 4) place apart))
 
-takes-unit : {unit head_end place n : ℕ} (m : ℕ) (u : PictureUnit) → u.from ≡ unit → u.head_end ≡ head_end → u.to ≡ place → u.slices ≡ n → n ≡ m + 1 → parts_after (Some (within unit head_end place (m + 1))) (unit_call u ∷ []) ≡ Some (between place)
-takes-unit {unit} {head_end} {place} m u from head to slices some =
+-- a unit of these places, with so many slices
+record EndsAs (u : PictureUnit) (unit head_end place n : ℕ) : Type 0 where
+  from : u.from ≡ unit
+  head : u.head_end ≡ head_end
+  to : u.to ≡ place
+  slices : u.slices ≡ n
+
+takes-unit : {u : PictureUnit} {unit head_end place n : ℕ} (m : ℕ) → EndsAs u unit head_end place n → n ≡ m + 1 → parts_after (Some (within unit head_end place (m + 1))) (unit_call u ∷ []) ≡ Some (between place)
+takes-unit {u} {unit} {head_end} {place} m ends some =
     ap (λ b. parts_after (cond b (Some (between place)) None) []) (and_from ((eqb u.from unit && (eqb u.head_end head_end && eqb u.to place))) (eqb u.slices (m + 1) && ltb 0 (m + 1))
     (and_from (eqb u.from unit) (eqb u.head_end head_end && eqb u.to place) (eq-eqb u.from unit from) (and_from (eqb u.head_end head_end) (eqb u.to place) (eq-eqb u.head_end head_end head) (eq-eqb u.to place to)))
     (and_from (eqb u.slices (m + 1)) (ltb 0 (m + 1)) (eq-eqb u.slices (m + 1) (slices ∙ some)) (lt-ltb 0 (m + 1) (omega arith))))
+  where
+    open ends use {from, head, to, slices}
 
--- the part after the calls at a code, over plain values: s, h: it is a slice, a head code; n slices so far
-raw_calls : Bool → Bool → ℕ → ℕ → ℕ → ℕ → PictureUnit → List Call
-raw_calls s h n unit slice place u =
-    cond s (cond (eqb n 0) (head_call unit place ∷ []) (slice_call slice place ∷ []))
-    (cond (h && ltb 0 n) (slice_call slice place ∷ unit_call u ∷ []) [])
+-- what the calls at a code tell of: the latest unit and its latest slice, the code's place, and the unit that
+-- would end there
+pub record Told : Type 0 where
+  pub unit : ℕ
+  pub slice : ℕ
+  pub place : ℕ
+  pub ended : PictureUnit
 
-raw-step : (s h : Bool) (n unit head_end slice place : ℕ) (u : PictureUnit) → (s ≡ true → h ≡ false) → (s ≡ true → n ≡ 0 → (unit < place) × (place - unit ≤ 1380)) → (0 < n → slice + 4 ≤ place) → u.from ≡ unit → u.head_end ≡ head_end → u.to ≡ place → u.slices ≡ n
-    → (n ≡ 0) ⊎ ((m : ℕ) × (n ≡ m + 1))
-    → parts_after (Some (part_by n unit head_end slice)) (raw_calls s h n unit slice place u) ≡ Some (part_by (cond h 0 (cond s (n + 1) n)) (cond (h && ltb 0 n) place unit) (cond (s && eqb n 0) place head_end) (cond s place slice))
-unfolding raw_calls
-raw-step true true n unit head_end slice place u apart head spaced from head_at to slices count = absurd (true≢false (apart refl))
-raw-step true false n unit head_end slice place u apart head spaced from head_at to slices (inl none) =
+abbrev pub told_at : Tally → ℕ → Told
+told_at t place = record { unit = t.unit; slice = t.slice; place = place; ended = unit_at t place }
+
+-- the calls at a code, by tests: s, h: it is a slice, a head code; q, e: there were slices, there were none
+abbrev pub raw_calls : Bool → Bool → Bool → Bool → Told → List Call
+raw_calls s h q e told =
+    cond s (cond e (head_call told.unit told.place ∷ []) (slice_call told.slice told.place ∷ []))
+    (cond (h && q) (slice_call told.slice told.place ∷ unit_call told.ended ∷ []) [])
+
+-- a code that may stand after a unit of n slices
+record MayStand (s h : Bool) (n head_end : ℕ) (told : Told) : Type 0 where
+  apart : s ≡ true → h ≡ false
+  head : s ≡ true → n ≡ 0 → (told.unit < told.place) × (told.place - told.unit ≤ 1380)
+  spaced : 0 < n → told.slice + 4 ≤ told.place
+  ends : EndsAs told.ended told.unit head_end told.place n
+
+-- the part after those calls
+raw-step : {s h : Bool} {n head_end : ℕ} {told : Told} → MayStand s h n head_end told → (n ≡ 0) ⊎ ((m : ℕ) × (n ≡ m + 1))
+    → parts_after (Some (part_by n told.unit head_end told.slice)) (raw_calls s h (ltb 0 n) (eqb n 0) told)
+    ≡ Some (part_by (cond h 0 (cond s (n + 1) n)) (cond (h && ltb 0 n) told.place told.unit) (cond (s && eqb n 0) told.place head_end) (cond s told.place told.slice))
+raw-step {s = true} {h = true} may count = absurd (true≢false (may.apart refl))
+raw-step {s = true} {h = false} {n} {head_end} {told} may (inl none) =
     ap (λ (p : Part). parts_after (Some p) (cond (eqb n 0) (head_call unit place ∷ []) (slice_call slice place ∷ []))) (part_by-none n unit head_end slice none)
     ∙ ap (λ b. parts_after (Some (between unit)) (cond b (head_call unit place ∷ []) (slice_call slice place ∷ []))) (eq-eqb n 0 none)
-    ∙ takes-head unit place (head refl none).0 (head refl none).1
+    ∙ takes-head unit place (may.head refl none).0 (may.head refl none).1
     ∙ sym (ap (λ b. Some (part_by (n + 1) unit (cond b place head_end) place)) (eq-eqb n 0 none) ∙ ap (λ (p : Part). Some p) (part_by-some (n + 1) 0 unit place place (omega arith)))
-raw-step true false n unit head_end slice place u apart head spaced from head_at to slices (inr some) =
+  where
+    open told use {unit, slice, place}
+raw-step {s = true} {h = false} {n} {head_end} {told} may (inr some) =
     ap (λ (p : Part). parts_after (Some p) (cond (eqb n 0) (head_call unit place ∷ []) (slice_call slice place ∷ []))) (part_by-some n some.0 unit head_end slice some.1)
     ∙ ap (λ b. parts_after (Some (within unit head_end slice some.0)) (cond b (head_call unit place ∷ []) (slice_call slice place ∷ []))) (ne_eqb n 0 (λ none. absurd (omega (arith, some.1))))
-    ∙ takes-slice unit head_end slice some.0 place [] (spaced (omega (arith, some.1)))
+    ∙ takes-slice unit head_end slice some.0 [] (may.spaced (omega (arith, some.1)))
     ∙ sym (ap (λ b. Some (part_by (n + 1) unit (cond b place head_end) place)) (ne_eqb n 0 (λ none. absurd (omega (arith, some.1)))) ∙ ap (λ (p : Part). Some p) (part_by-some (n + 1) (some.0 + 1) unit head_end place (omega (arith, some.1))))
-raw-step false true n unit head_end slice place u apart head spaced from head_at to slices (inl none) =
+  where
+    open told use {unit, slice, place}
+raw-step {s = false} {h = true} {n} {head_end} {told} may (inl none) =
     ap (λ (p : Part). parts_after (Some p) (cond (ltb 0 n) (slice_call slice place ∷ unit_call u ∷ []) [])) (part_by-none n unit head_end slice none)
     ∙ ap (λ b. parts_after (Some (between unit)) (cond b (slice_call slice place ∷ unit_call u ∷ []) [])) (le-ltb 0 n (omega arith))
     ∙ sym (ap (λ b. Some (part_by 0 (cond b place unit) head_end slice)) (le-ltb 0 n (omega arith)) ∙ ap (λ (p : Part). Some p) (part_by-none 0 unit head_end slice refl))
-raw-step false true n unit head_end slice place u apart head spaced from head_at to slices (inr some) =
+  where
+    open told use {unit, slice, place, ended as u}
+raw-step {s = false} {h = true} {n} {head_end} {told} may (inr some) =
     ap (λ (p : Part). parts_after (Some p) (cond (ltb 0 n) (slice_call slice place ∷ unit_call u ∷ []) [])) (part_by-some n some.0 unit head_end slice some.1)
     ∙ ap (λ b. parts_after (Some (within unit head_end slice some.0)) (cond b (slice_call slice place ∷ unit_call u ∷ []) [])) (lt-ltb 0 n (omega (arith, some.1)))
-    ∙ takes-slice unit head_end slice some.0 place (unit_call u ∷ []) (spaced (omega (arith, some.1)))
-    ∙ takes-unit some.0 u from head_at to slices some.1
+    ∙ takes-slice unit head_end slice some.0 (unit_call u ∷ []) (may.spaced (omega (arith, some.1)))
+    ∙ takes-unit some.0 may.ends some.1
     ∙ sym (ap (λ b. Some (part_by 0 (cond b place unit) head_end slice)) (lt-ltb 0 n (omega (arith, some.1))) ∙ ap (λ (p : Part). Some p) (part_by-none 0 place head_end slice refl))
-raw-step false false n unit head_end slice place u apart head spaced from head_at to slices count = refl
+  where
+    open told use {unit, slice, place, ended as u}
+raw-step {s = false} {h = false} may count = refl
 
 -- ---- all codes
 
@@ -177,12 +212,16 @@ first_slice-accepted t place kind e =
     otherwise-first (first_slice_fault t place kind) (count_fault t place kind) last
 
 code-step : (c d : Code) (past : List Code) → code_fault (tally_of (d ∷ past)) c.place c.kind ≡ None → Spaced (c ∷ (d ∷ past)) → parts_after (Some (part_of (d ∷ past))) (calls_at (tally_of (d ∷ past)) c.place c.kind) ≡ Some (part_of (c ∷ (d ∷ past)))
-unfolding calls_at raw_calls
+unfolding calls_at
 code-step c d past e spaced =
     let older : List Code = d ∷ past in
-    raw-step (is_slice c.kind) (is_head c.kind) (slices_of older) (unit_of older) (head_end_of older) (slice_of older) c.place (unit_at (tally_of older) c.place) (slice-apart c.kind)
-    (λ slice none. (omega (arith, unit-before d past c.place spaced.1 spaced.0), first_slice-head (tally_of older) c.place c.kind (first_slice-accepted (tally_of older) c.place c.kind e) slice none))
-    (slice-before older c.place spaced.1 spaced.0) refl refl refl refl (count-cases (slices_of older))
+    let may : MayStand (is_slice c.kind) (is_head c.kind) (slices_of older) (head_end_of older) (told_at (tally_of older) c.place) = record {
+      apart = slice-apart c.kind;
+      head = λ slice none. (omega (arith, unit-before d past c.place spaced.1 spaced.0), first_slice-head (tally_of older) c.place c.kind (first_slice-accepted (tally_of older) c.place c.kind e) slice none);
+      spaced = slice-before older c.place spaced.1 spaced.0;
+      ends = record { from = refl; head = refl; to = refl; slices = refl };
+    } in
+    raw-step may (count-cases (slices_of older))
 
 first-kind : (a b q : Bool) (place : ℕ) → cond a (Some (SystemCode place)) (cond b (Some (Mpeg2 place)) (cond (not q) (Some NoSequence) None)) ≡ None → q ≡ true
 first-kind true b q place e = absurd (cc)
@@ -238,26 +277,26 @@ abbrev pub Room : List Code → Prefix → ℕ → Type 0
 Room [] p n = least p ≤ n
 Room (d ∷ past) p n = d.place + need (eqb d.kind 0) p ≤ n
 
-next-need : (b1 b0 b : Bool) (p : Prefix) (k n : ℕ) → is_whole p ≡ false → k + need b p ≤ n → k + need b (cond b1 (after_one p) (cond b0 (after_zero p) Nothing)) ≤ suc n
-next-need true b0 true Nothing k n w h = omega arith
-next-need false true true Nothing k n w h = omega arith
-next-need false false true Nothing k n w h = omega arith
-next-need true b0 false Nothing k n w h = omega arith
-next-need false true false Nothing k n w h = omega arith
-next-need false false false Nothing k n w h = omega arith
-next-need true b0 true Zero k n w h = omega arith
-next-need false true true Zero k n w h = omega arith
-next-need false false true Zero k n w h = omega arith
-next-need true b0 false Zero k n w h = omega arith
-next-need false true false Zero k n w h = omega arith
-next-need false false false Zero k n w h = omega arith
-next-need true b0 true Zeros k n w h = omega arith
-next-need false true true Zeros k n w h = omega arith
-next-need false false true Zeros k n w h = omega arith
-next-need true b0 false Zeros k n w h = omega arith
-next-need false true false Zeros k n w h = omega arith
-next-need false false false Zeros k n w h = omega arith
-next-need b1 b0 b Whole k n w h = absurd (true≢false w)
+next-need : (b1 b0 b : Bool) (p : Prefix) → is_whole p ≡ false → need b (cond b1 (after_one p) (cond b0 (after_zero p) Nothing)) ≤ suc (need b p)
+next-need true b0 true Nothing w = omega arith
+next-need false true true Nothing w = omega arith
+next-need false false true Nothing w = omega arith
+next-need true b0 false Nothing w = omega arith
+next-need false true false Nothing w = omega arith
+next-need false false false Nothing w = omega arith
+next-need true b0 true Zero w = omega arith
+next-need false true true Zero w = omega arith
+next-need false false true Zero w = omega arith
+next-need true b0 false Zero w = omega arith
+next-need false true false Zero w = omega arith
+next-need false false false Zero w = omega arith
+next-need true b0 true Zeros w = omega arith
+next-need false true true Zeros w = omega arith
+next-need false false true Zeros w = omega arith
+next-need true b0 false Zeros w = omega arith
+next-need false true false Zeros w = omega arith
+next-need false false false Zeros w = omega arith
+next-need b1 b0 b Whole w = absurd (true≢false w)
 
 next-least : (b1 b0 : Bool) (p : Prefix) (n : ℕ) → is_whole p ≡ false → least p ≤ n → least (cond b1 (after_one p) (cond b0 (after_zero p) Nothing)) ≤ suc n
 next-least true b0 Nothing n w h = omega arith
@@ -273,7 +312,10 @@ next-least b1 b0 Whole n w h = absurd (true≢false w)
 
 room-byte : (past : List Code) (p : Prefix) (n x : ℕ) → is_whole p ≡ false → Room past p n → Room (note_latest past x) (next_prefix p x) (suc n)
 room-byte [] p n x plain room = next-least (eqb x 1) (eqb x 0) p n plain room
-room-byte (d ∷ past) p n x plain room = next-need (eqb x 1) (eqb x 0) (eqb d.kind 0) p d.place n plain room
+room-byte (d ∷ past) p n x plain room =
+    let before : d.place + need (eqb d.kind 0) p ≤ n = room in
+    let after : d.place + need (eqb d.kind 0) (cond (eqb x 1) (after_one p) (cond (eqb x 0) (after_zero p) Nothing)) ≤ suc n = omega (arith, before, next-need (eqb x 1) (eqb x 0) (eqb d.kind 0) p plain) in
+    after
 
 spaced-note : (past : List Code) (x : ℕ) → Spaced past → Spaced (note_latest past x)
 spaced-note [] x spaced = spaced
@@ -357,9 +399,10 @@ ended-none t e = elim (cases_Bool (ltb 0 t.slices)) [
 end-step : (past : List Code) (n : ℕ) → 0 < slices_of past → slice_of past + 4 ≤ n → parts_after (Some (part_of past)) (unit_end (tally_of past) n) ≡ Some (between n)
 end-step past n some apart = elim (count-cases (slices_of past)) [
   | inl none ↦ absurd (omega arith)
-  | inr more ↦ ap (λ (p : Part). parts_after (Some p) (unit_end (tally_of past) n)) (part_by-some (slices_of past) more.0 (unit_of past) (head_end_of past) (slice_of past) more.1)
-      ∙ takes-slice (unit_of past) (head_end_of past) (slice_of past) more.0 n (unit_call (unit_at (tally_of past) n) ∷ []) apart
-      ∙ takes-unit more.0 (unit_at (tally_of past) n) refl refl refl refl more.1
+  | inr more ↦ (let ends : EndsAs (unit_at (tally_of past) n) (unit_of past) (head_end_of past) n (slices_of past) = record { from = refl; head = refl; to = refl; slices = refl } in
+      ap (λ (p : Part). parts_after (Some p) (unit_end (tally_of past) n)) (part_by-some (slices_of past) more.0 (unit_of past) (head_end_of past) (slice_of past) more.1)
+      ∙ takes-slice (unit_of past) (head_end_of past) (slice_of past) more.0 (unit_call (unit_at (tally_of past) n) ∷ []) apart
+      ∙ takes-unit more.0 ends more.1)
 ]
 
 whole-tiles : (past : List Code) (n : ℕ) → first_fault past ≡ None → end_fault past n ≡ None → Spaced past → After n past → parts_after (Some (between (first_of past))) (calls_of past ++ unit_end (tally_of past) n) ≡ Some (between n)

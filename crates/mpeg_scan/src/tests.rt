@@ -163,6 +163,49 @@ fn units_of_films(rt: HostRuntime) -> Result<(), Fail> {
     Ok(())
 }
 
+// Units of a film with a picture of each kind, after the first two.
+const UNIT_C: Unit = Unit {
+    from: 49,
+    head_end: 58,
+    to: 70,
+    first_slice: 2,
+    slices: 2,
+    temporal: 2,
+    presentation: 2,
+    kind: Kind::B,
+    vectors: 0xed,
+    has_sequence: false,
+    starts_group: false,
+};
+
+const UNIT_D: Unit = Unit {
+    from: 70,
+    head_end: 86,
+    to: 92,
+    first_slice: 4,
+    slices: 1,
+    temporal: 0,
+    presentation: 3,
+    kind: Kind::I,
+    vectors: 0,
+    has_sequence: false,
+    starts_group: true,
+};
+
+const UNIT_E: Unit = Unit {
+    from: 92,
+    head_end: 100,
+    to: 106,
+    first_slice: 5,
+    slices: 1,
+    temporal: 1,
+    presentation: 4,
+    kind: Kind::D,
+    vectors: 0,
+    has_sequence: false,
+    starts_group: false,
+};
+
 #[test]
 fn fields_of_headers(rt: HostRuntime) -> Result<(), Fail> {
     // temporal_reference 2, type 3, vbv_delay FFFF, full-pel 1 and f-code 5 forward, 1 and 6
@@ -177,50 +220,11 @@ fn fields_of_headers(rt: HostRuntime) -> Result<(), Fail> {
             &GROUP, &PICTURE_I, &SLICE, &picture_d, &SLICE,
         ],
     )?;
-    let unit_2 = Unit {
-        from: 49,
-        head_end: 58,
-        to: 70,
-        first_slice: 2,
-        slices: 2,
-        temporal: 2,
-        presentation: 2,
-        kind: Kind::B,
-        vectors: 0xed,
-        has_sequence: false,
-        starts_group: false,
-    };
-    let unit_3 = Unit {
-        from: 70,
-        head_end: 86,
-        to: 92,
-        first_slice: 4,
-        slices: 1,
-        temporal: 0,
-        presentation: 3,
-        kind: Kind::I,
-        vectors: 0,
-        has_sequence: false,
-        starts_group: true,
-    };
-    let unit_4 = Unit {
-        from: 92,
-        head_end: 100,
-        to: 106,
-        first_slice: 5,
-        slices: 1,
-        temporal: 1,
-        presentation: 4,
-        kind: Kind::D,
-        vectors: 0,
-        has_sequence: false,
-        starts_group: false,
-    };
     match scan(rt.alloc(), bytes) {
         Ok(film) => {
             assert_eq!(rt;
                 film.units.as_slice(),
-                [UNIT_A, UNIT_B, unit_2, unit_3, unit_4].as_slice()
+                [UNIT_A, UNIT_B, UNIT_C, UNIT_D, UNIT_E].as_slice()
             );
             assert_eq!(rt;
                 film.slice_starts.as_slice(),

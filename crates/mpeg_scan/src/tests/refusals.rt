@@ -20,11 +20,14 @@ fn refused(
     Ok(())
 }
 
+/// A start code of an MPEG-2 stream, and of a system stream.
+const MPEG2: [u8; 4] = [0, 0, 1, 0xb5];
+
+const SYSTEM: [u8; 4] = [0, 0, 1, 0xba];
+
 #[test]
-fn refusals(rt: HostRuntime) -> Result<(), Fail> {
+fn other_streams(rt: HostRuntime) -> Result<(), Fail> {
     let alloc = rt.alloc();
-    let mpeg2 = [0, 0, 1, 0xb5];
-    let system = [0, 0, 1, 0xba];
     refused(&rt, alloc, &[], FilmFault::Empty)?;
     refused(&rt, alloc, &[&[0]], FilmFault::NoSequence)?;
     refused(
@@ -34,8 +37,14 @@ fn refusals(rt: HostRuntime) -> Result<(), Fail> {
         FilmFault::NoSequence,
     )?;
     refused(&rt, alloc, &[&SLICE], FilmFault::NoSequence)?;
-    refused(&rt, alloc, &[&system], FilmFault::SystemCode(0))?;
-    refused(&rt, alloc, &[&SEQUENCE, &mpeg2], FilmFault::Mpeg2(12))?;
+    refused(&rt, alloc, &[&SYSTEM], FilmFault::SystemCode(0))?;
+    refused(&rt, alloc, &[&SEQUENCE, &MPEG2], FilmFault::Mpeg2(12))?;
+    Ok(())
+}
+
+#[test]
+fn headers_cut_short(rt: HostRuntime) -> Result<(), Fail> {
+    let alloc = rt.alloc();
     refused(
         &rt,
         alloc,
@@ -55,6 +64,12 @@ fn refusals(rt: HostRuntime) -> Result<(), Fail> {
         FilmFault::ShortHeader(12),
     )?;
     refused(&rt, alloc, &[&SEQUENCE[..11]], FilmFault::ShortHeader(0))?;
+    Ok(())
+}
+
+#[test]
+fn headers_with_other_values(rt: HostRuntime) -> Result<(), Fail> {
+    let alloc = rt.alloc();
     refused(
         &rt,
         alloc,
@@ -85,6 +100,12 @@ fn refusals(rt: HostRuntime) -> Result<(), Fail> {
         &[&SEQUENCE, &picture_of(5), &SLICE],
         FilmFault::BadType(12),
     )?;
+    Ok(())
+}
+
+#[test]
+fn heads_without_their_parts(rt: HostRuntime) -> Result<(), Fail> {
+    let alloc = rt.alloc();
     refused(
         &rt,
         alloc,
@@ -143,27 +164,27 @@ fn limits_of_heads_and_groups(rt: HostRuntime) -> Result<(), Fail> {
     Ok(())
 }
 
+/// A picture header of type 0, and a sequence header of rate 0.
+const BAD_TYPE: [u8; 8] = [0, 0, 1, 0, 0x00, 0x07, 0xff, 0xf8];
+
+const BAD_RATE: [u8; 12] = [
+    0, 0, 1, 0xb3, 0x16, 0x01, 0x20, 0x10, 0xff, 0xff, 0xe0, 0xa0,
+];
+
 #[test]
-fn earlier_points_go_first(rt: HostRuntime) -> Result<(), Fail> {
+fn headers_go_before_later_codes(rt: HostRuntime) -> Result<(), Fail> {
     let alloc = rt.alloc();
-    let mpeg2 = [0, 0, 1, 0xb5];
-    let system = [0, 0, 1, 0xba];
-    let bad_type = [0, 0, 1, 0, 0x00, 0x07, 0xff, 0xf8];
-    let bad_rate = [
-        0, 0, 1, 0xb3, 0x16, 0x01, 0x20, 0x10, 0xff, 0xff, 0xe0, 0xa0,
-    ];
-    let stuffing = [0; 1400];
     refused(
         &rt,
         alloc,
-        &[&SEQUENCE[..11], &system],
+        &[&SEQUENCE[..11], &SYSTEM],
         FilmFault::ShortHeader(0),
     )?;
-    refused(&rt, alloc, &[&bad_rate, &mpeg2], FilmFault::BadRate(0, 0))?;
+    refused(&rt, alloc, &[&BAD_RATE, &MPEG2], FilmFault::BadRate(0, 0))?;
     refused(
         &rt,
         alloc,
-        &[&SEQUENCE, &bad_type, &system],
+        &[&SEQUENCE, &BAD_TYPE, &SYSTEM],
         FilmFault::BadType(12),
     )?;
     refused(
@@ -175,24 +196,37 @@ fn earlier_points_go_first(rt: HostRuntime) -> Result<(), Fail> {
     refused(
         &rt,
         alloc,
-        &[&SEQUENCE, &bad_type, &PICTURE_I],
+        &[&SEQUENCE, &BAD_TYPE, &PICTURE_I],
         FilmFault::BadType(12),
     )?;
+    Ok(())
+}
+
+#[test]
+fn headers_go_before_later_slices(rt: HostRuntime) -> Result<(), Fail> {
+    let alloc = rt.alloc();
+    let stuffing = [0; 1400];
     refused(
         &rt,
         alloc,
         &[&SEQUENCE[..11], &SLICE],
         FilmFault::ShortHeader(0),
     )?;
-    refused(&rt, alloc, &[&bad_rate, &SLICE], FilmFault::BadRate(0, 0))?;
+    refused(&rt, alloc, &[&BAD_RATE, &SLICE], FilmFault::BadRate(0, 0))?;
     refused(
         &rt,
         alloc,
-        &[&SEQUENCE, &bad_type, &stuffing, &SLICE],
+        &[&SEQUENCE, &BAD_TYPE, &stuffing, &SLICE],
         FilmFault::BadType(12),
     )?;
-    refused(&rt, alloc, &[&system, &SEQUENCE], FilmFault::SystemCode(0))?;
-    refused(&rt, alloc, &[&mpeg2, &SEQUENCE], FilmFault::Mpeg2(0))?;
+    Ok(())
+}
+
+#[test]
+fn the_first_code_goes_first(rt: HostRuntime) -> Result<(), Fail> {
+    let alloc = rt.alloc();
+    refused(&rt, alloc, &[&SYSTEM, &SEQUENCE], FilmFault::SystemCode(0))?;
+    refused(&rt, alloc, &[&MPEG2, &SEQUENCE], FilmFault::Mpeg2(0))?;
     refused(&rt, alloc, &[&PICTURE_I, &SLICE], FilmFault::NoSequence)?;
     refused(
         &rt,

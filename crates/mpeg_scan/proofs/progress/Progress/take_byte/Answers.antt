@@ -2,7 +2,7 @@ use Rattle.std.proofs.Common.{List, subst, sym, ◌∙◌, arith}
 use Rattle.std.proofs.lemmas.Result.{on_ok_weaker}
 use Rattle.mpeg_scan.specs.Calls.{Call}
 use Rattle.mpeg_scan.proofs.RoomLemmas.{both-ok, coded-ahead, coded-awaits, noted-ahead, noted-awaits, room-before}
-use Rattle.mpeg_scan.proofs.StepLemmas.{taken-plain, taken-code, taken-fault, taken-calls, taken-none}
+use Rattle.mpeg_scan.proofs.StepLemmas.{CodeNoted, taken-plain, taken-code, taken-fault, taken-calls, taken-none}
 use Rattle.mpeg_scan.proofs.progress.Progress.take_byte.Goals as goal
 
 pub take_code-requires-clause-room : goal.take_code-requires-clause-room
@@ -15,15 +15,39 @@ take_code-requires-clause-ready g c =
 
 pub returns-then-whole-clause-kept : goal.returns-then-whole-clause-kept
 returns-then-whole-clause-kept g c =
-    on_ok_weaker c.take_code.result (λ h r kept. taken-code (omega arith) c.if-whole.true c.is_whole-whole.ensures c.note.ensures c.saturating_sub-place.ensures h kept) c.take_code.ensures.taken
+    on_ok_weaker c.take_code.result (λ h r kept.
+    let code : CodeNoted c.args.self.now c.note.new.self r c.args.byte c.saturating_sub-place.result = record {
+      short = omega arith;
+      whole = sym c.is_whole-whole.ensures ∙ c.if-whole.true;
+      noted = c.note.ensures;
+      place_is = c.saturating_sub-place.ensures;
+      kept = kept;
+    } in
+    taken-code code h) c.take_code.ensures.taken
 
 pub returns-then-whole-clause-told : goal.returns-then-whole-clause-told
 returns-then-whole-clause-told g c =
-    on_ok_weaker c.take_code.result (λ h r calls kept heard. subst (λ (l : List Call). g.F.Found.heard c.take_code.new.found l) (taken-calls c.args.byte (omega arith) c.if-whole.true c.is_whole-whole.ensures c.note.ensures c.saturating_sub-place.ensures kept calls) (h _ heard)) c.take_code.ensures.told
+    on_ok_weaker c.take_code.result (λ h r calls kept heard.
+    let code : CodeNoted c.args.self.now c.note.new.self r c.args.byte c.saturating_sub-place.result = record {
+      short = omega arith;
+      whole = sym c.is_whole-whole.ensures ∙ c.if-whole.true;
+      noted = c.note.ensures;
+      place_is = c.saturating_sub-place.ensures;
+      kept = kept;
+    } in
+    subst (λ (l : List Call). g.F.Found.heard c.take_code.new.found l) (taken-calls code calls) (h _ heard)) c.take_code.ensures.told
 
 pub returns-then-whole-clause-fault : goal.returns-then-whole-clause-fault
 returns-then-whole-clause-fault g c =
-    λ f is r kept. taken-fault c.args.byte (omega arith) c.if-whole.true c.is_whole-whole.ensures c.note.ensures c.saturating_sub-place.ensures (c.take_code.ensures.fault f is) kept
+    λ f is r kept.
+    let code : CodeNoted c.args.self.now c.note.new.self r c.args.byte c.saturating_sub-place.result = record {
+      short = omega arith;
+      whole = sym c.is_whole-whole.ensures ∙ c.if-whole.true;
+      noted = c.note.ensures;
+      place_is = c.saturating_sub-place.ensures;
+      kept = kept;
+    } in
+    taken-fault code (c.take_code.ensures.fault f is)
 
 pub returns-then-whole-clause-room : goal.returns-then-whole-clause-room
 returns-then-whole-clause-room g c =
@@ -31,7 +55,7 @@ returns-then-whole-clause-room g c =
 
 pub returns-then-whole-clause-ready : goal.returns-then-whole-clause-ready
 returns-then-whole-clause-ready g c =
-    both-ok c.take_code.result (λ h k. coded-awaits (g.F.Found.ready_at c.take_code.new.found) c.note.new.self c.take_code.new.self c.args.byte c.saturating_sub-place.result h.1 k) c.take_code.ensures.taken c.take_code.ensures.ready
+    both-ok c.take_code.result (λ h k. coded-awaits (g.F.Found.ready_at c.take_code.new.found) c.note.new.self c.args.byte c.saturating_sub-place.result h.1 k) c.take_code.ensures.taken c.take_code.ensures.ready
 
 pub returns-else-whole-clause-kept : goal.returns-else-whole-clause-kept
 returns-else-whole-clause-kept g c =
