@@ -70,13 +70,18 @@ slice-fills {start} {end} unit rest less goes_on = record {
   goes_on = goes_on;
 }
 
-slice-begins : {goes : Bool} (G : ℕ → List ℕ → Type 0) (unit : PictureUnit) (f : Filling) (end : ℕ)
-    (rest : List Packet) → f.from < end → f.at < end
+-- a filling that lies before a place
+record IsBefore (f : Filling) (end : ℕ) : Type 0 where
+  from : f.from < end
+  at : f.at < end
+
+slice-begins : {goes : Bool} {f : Filling} {end : ℕ} (G : ℕ → List ℕ → Type 0) (unit : PictureUnit)
+    (rest : List Packet) → IsBefore f end
     → G (last_start (start_of goes f) end) (ends rest)
     → Begins (λ start left. Fills G start end left) goes f.from f.at (ends ((before_slice goes unit f ++ full_packets unit true (start_of goes f) (full_before (start_of goes f) end)) ++ rest))
-slice-begins {goes = true} G unit f end rest from at goes_on = inl (refl, slice-fills unit rest from goes_on)
-slice-begins {goes = false} G unit f end rest from at goes_on =
-    inr (refl, (ends (full_packets unit true f.at (full_before f.at end) ++ rest), (refl, slice-fills unit rest at goes_on)))
+slice-begins {goes = true} G unit rest before goes_on = inl (refl, slice-fills unit rest before.from goes_on)
+slice-begins {goes = false} {f} {end} G unit rest before goes_on =
+    inr (refl, (ends (full_packets unit true f.at (full_before f.at end) ++ rest), (refl, slice-fills unit rest before.at goes_on)))
 
 pub start-less : (f : Filling) (n : ℕ) (goes : Bool) → f.from ≤ f.at → 0 < n → start_of goes f < f.at + n
 start-less f n true order some = omega arith
@@ -90,5 +95,6 @@ pub packets-cut : (unit : PictureUnit) (slices : List ℕ) (f : Filling) → f.f
 packets-cut unit [] f order some = refl
 packets-cut unit (n ∷ slices) f order some =
     let next = next-order f n order some.0 in
-    slice-begins (λ last rest. Cuts (filling_after f n last) slices rest) unit f (f.at + n) (packets_from unit (next_filling f n) slices) (omega (arith, some.0)) (omega (arith, some.0))
+    let before : IsBefore f (f.at + n) = record { from = omega (arith, order, some.0); at = omega (arith, some.0) } in
+    slice-begins (λ last rest. Cuts (filling_after f n last) slices rest) unit (packets_from unit (next_filling f n) slices) before
     (packets-cut unit slices (next_filling f n) (omega (arith, next)) some.1)

@@ -94,25 +94,37 @@ closed-right unit all f right =
     ap (λ b. packet unit f.from f.at b (ends_slice f.holds)) (sym right.begin)
     ∙ ap (λ b. packet unit f.from f.at (begins unit all f.from f.at) b) (sym right.end)
 
--- a piece that lies in a slice but for its first byte at most
-no-begin : {all : List ℕ} {at next : ℕ} (unit : PictureUnit) (x to : ℕ) → Slice unit.to all at next → unit.from < at → at < x → x < next → begins unit all x to ≡ false
-no-begin {all} {at} {next} unit x to slice before above below =
-    or_from (is_among x all) (eqb x unit.from && ltb unit.head_end to) (slice.no_start x above below) (and_left (eqb x unit.from) (ltb unit.head_end to) (ne_eqb x unit.from (λ e. absurd (omega (arith, e, before, above)))))
+-- a slice that begins after the unit's first byte
+record IsSliceOf (unit : PictureUnit) (all : List ℕ) (at next : ℕ) : Type 0 where
+  slice : Slice unit.to all at next
+  after : unit.from < at
 
-full-pieces : {all : List ℕ} {at next : ℕ} {begin : Bool} (unit : PictureUnit) (start count : ℕ) → Slice unit.to all at next → unit.from < at
-    → (0 < count → begins unit all start (start + 1380) ≡ begin) → (0 < count → at < start + 1380) → start + 1380 * count < next
+-- a piece that lies in a slice but for its first byte at most
+no-begin : {unit : PictureUnit} {all : List ℕ} {at next : ℕ} (x to : ℕ) → IsSliceOf unit all at next → at < x → x < next → begins unit all x to ≡ false
+no-begin {unit} {all} x to its above below =
+    or_from (is_among x all) (eqb x unit.from && ltb unit.head_end to) (its.slice.no_start x above below)
+    (and_left (eqb x unit.from) (ltb unit.head_end to) (ne_eqb x unit.from (λ e. absurd (omega (arith, e, its.after, above)))))
+
+-- full pieces that end in a slice
+record PiecesEndIn (at next start count : ℕ) : Type 0 where
+  above : 0 < count → at < start + 1380
+  below : start + 1380 * count < next
+
+full-pieces : {unit : PictureUnit} {all : List ℕ} {at next : ℕ} {begin : Bool} (start count : ℕ) → IsSliceOf unit all at next
+    → (0 < count → begins unit all start (start + 1380) ≡ begin) → PiecesEndIn at next start count
     → full_packets unit begin start count ≡ piece_packets unit all start (full_ends start count)
-full-pieces {all} {at} {next} unit start zero slice before first above below = refl
-full-pieces {all} {at} {next} {begin} unit start (suc count) slice before first above below =
+full-pieces start zero its first inside = refl
+full-pieces {unit} {all} {at} {next} {begin} start (suc count) its first inside =
     let some : 0 < suc count = omega arith in
-    let inside : start + 1380 < next = omega (arith, below) in
-    let after : at < start + 1380 = above some in
+    let next_inside : start + 1380 < next = omega (arith, inside.below) in
+    let after : at < start + 1380 = inside.above some in
     let one : packet unit start (start + 1380) begin false ≡ piece_packet unit all start (start + 1380) =
     ap (λ b. packet unit start (start + 1380) b false) (sym (first some))
-    ∙ ap (λ b. packet unit start (start + 1380) (begins unit all start (start + 1380)) b) (sym (slice.no_end (start + 1380) after inside)) in
+    ∙ ap (λ b. packet unit start (start + 1380) (begins unit all start (start + 1380)) b) (sym (its.slice.no_end (start + 1380) after next_inside)) in
+    let rest : PiecesEndIn at next (start + 1380) count = record { above = λ _. omega (arith, after); below = omega (arith, inside.below) } in
     ap (λ (p : Packet). p ∷ full_packets unit false (start + 1380) count) one
     ∙ ap (λ (l : List Packet). piece_packet unit all start (start + 1380) ∷ l)
-    (full-pieces unit (start + 1380) count slice before (λ _. no-begin unit (start + 1380) (start + 1380 + 1380) slice before after inside) (λ _. omega (arith, after)) (omega (arith, below)))
+    (full-pieces (start + 1380) count its (λ _. no-begin (start + 1380) (start + 1380 + 1380) its after next_inside) rest)
 
 abbrev pub last_cut : ℕ → List ℕ → ℕ
 last_cut from [] = from
@@ -148,14 +160,18 @@ slice-rest {unit} {all} {f} {rest} false count right full is =
 -- ---- where a slice begins
 
 -- a piece that goes on with a slice begins with it, or with a slice before it, or with the head
-begins-here : {from at : ℕ} {holds : Holds} (unit : PictureUnit) (all : List ℕ) (x : ℕ) → unit.head_end ≤ at → begins unit all from at ≡ begins_slice holds → (holds ≡ HeadAlone → (from ≡ unit.from) × (at ≡ unit.head_end))
-    → (holds ≢ LastFragment) → at < x → begins unit all from x ≡ true
-begins-here {from} {at} {holds = HeadAlone} unit all x after begin alone other above =
+record BeginsBy (unit : PictureUnit) (all : List ℕ) (from at : ℕ) (holds : Holds) : Type 0 where
+  after : unit.head_end ≤ at
+  begin : begins unit all from at ≡ begins_slice holds
+  alone : holds ≡ HeadAlone → (from ≡ unit.from) × (at ≡ unit.head_end)
+
+begins-here : {unit : PictureUnit} {all : List ℕ} {from at : ℕ} {holds : Holds} (x : ℕ) → BeginsBy unit all from at holds → holds ≢ LastFragment → at < x → begins unit all from x ≡ true
+begins-here {unit} {all} {from} {holds = HeadAlone} x its other above =
     or_right (is_among from all) (eqb from unit.from && ltb unit.head_end x)
-    (and_from (eqb from unit.from) (ltb unit.head_end x) (eq-eqb from unit.from (alone refl).0) (lt-ltb unit.head_end x (omega (arith, after, above))))
-begins-here {from} {at} {holds = Slices} unit all x after begin alone other above =
-    later (is_among from all) (eqb from unit.from) (ltb unit.head_end at) (ltb unit.head_end x) begin (λ _. lt-ltb unit.head_end x (omega (arith, after, above)))
-begins-here {from} {at} {holds = LastFragment} unit all x after begin alone other above = absurd (other refl)
+    (and_from (eqb from unit.from) (ltb unit.head_end x) (eq-eqb from unit.from (its.alone refl).0) (lt-ltb unit.head_end x (omega (arith, its.after, above))))
+begins-here {unit} {all} {from} {at} {holds = Slices} x its other above =
+    later (is_among from all) (eqb from unit.from) (ltb unit.head_end at) (ltb unit.head_end x) its.begin (λ _. lt-ltb unit.head_end x (omega (arith, its.after, above)))
+begins-here {holds = LastFragment} x its other above = absurd (other refl)
 
 not-last : (from at n : ℕ) (holds : Holds) (short : Bool) → cond short (goes_in_whole from at holds n) (goes_in_cut from at holds) ≡ true → holds ≢ LastFragment
 not-last from at n HeadAlone short e is = cc
@@ -165,51 +181,59 @@ not-last from at n LastFragment false e is = true≢false (sym e)
 
 begins-start : {unit : PictureUnit} {all : List ℕ} {f : Filling} {goes : Bool} (n x : ℕ) → Right unit all f → is_among f.at all ≡ true → goes_in f n ≡ goes → f.at < x → begins unit all (start_of goes f) x ≡ true
 begins-start {unit} {all} {f} {goes = true} n x right here e above =
-    begins-here unit all x right.after right.begin right.alone (not-last f.from f.at n f.holds (leb n 1380) e) above
+    let its : BeginsBy unit all f.from f.at f.holds = record { after = right.after; begin = right.begin; alone = right.alone } in
+    begins-here x its (not-last f.from f.at n f.holds (leb n 1380) e) above
 begins-start {unit} {all} {f} {goes = false} n x right here e above = or_left (is_among f.at all) (eqb f.at unit.from && ltb unit.head_end x) here
 
-room-whole : (from at n count : ℕ) (holds : Holds) → goes_in_whole from at holds n ≡ true → from + 1380 * count < at + n → 0 < count → at < from + 1380
-room-whole from at n count HeadAlone e before some = absurd (omega (arith, leb-true (at + n) (from + 1380) e, before, some))
-room-whole from at n count Slices e before some = absurd (omega (arith, leb-true (at + n) (from + 1380) e, before, some))
-room-whole from at n count LastFragment e before some = absurd (true≢false (sym e))
+room-whole : {at count : ℕ} (from n : ℕ) (holds : Holds) → goes_in_whole from at holds n ≡ true → from + 1380 * count < at + n → 0 < count → at < from + 1380
+room-whole {at} from n HeadAlone e before some = absurd (omega (arith, leb-true (at + n) (from + 1380) e, before, some))
+room-whole {at} from n Slices e before some = absurd (omega (arith, leb-true (at + n) (from + 1380) e, before, some))
+room-whole from n LastFragment e before some = absurd (true≢false (sym e))
 
 room-cut : (from at : ℕ) (holds : Holds) → goes_in_cut from at holds ≡ true → at < from + 1380
 room-cut from at HeadAlone e = ltb-true at (from + 1380) e
 room-cut from at Slices e = absurd (true≢false (sym e))
 room-cut from at LastFragment e = absurd (true≢false (sym e))
 
-room-here : (from at n count : ℕ) (holds : Holds) (short : Bool) → cond short (goes_in_whole from at holds n) (goes_in_cut from at holds) ≡ true → from + 1380 * count < at + n → 0 < count → at < from + 1380
-room-here from at n count holds true e before some = room-whole from at n count holds e before some
-room-here from at n count holds false e before some = room-cut from at holds e
+room-here : {count : ℕ} (f : Filling) (n : ℕ) (short : Bool) → cond short (goes_in_whole f.from f.at f.holds n) (goes_in_cut f.from f.at f.holds) ≡ true → f.from + 1380 * count < f.at + n → 0 < count →
+    f.at < f.from + 1380
+room-here {count} f n true e before some = room-whole {count = count} f.from n f.holds e before some
+room-here f n false e before some = room-cut f.from f.at f.holds e
 
-pub start-room : {goes : Bool} (f : Filling) (n count : ℕ) → goes_in f n ≡ goes → start_of goes f + 1380 * count < f.at + n → 0 < count → f.at < start_of goes f + 1380
-start-room {goes = true} f n count e before some = room-here f.from f.at n count f.holds (leb n 1380) e before some
-start-room {goes = false} f n count e before some = omega arith
+-- full pieces before the end of a slice, whether it goes in or not
+pub record FullBefore (goes : Bool) (f : Filling) (n count : ℕ) : Type 0 where
+  pub goes_is : goes_in f n ≡ goes
+  pub before : start_of goes f + 1380 * count < f.at + n
+
+pub start-room : {goes : Bool} {f : Filling} {n count : ℕ} → FullBefore goes f n count → 0 < count → f.at < start_of goes f + 1380
+start-room {goes = true} {f} {n} {count} full some = room-here {count = count} f n (leb n 1380) full.goes_is full.before some
+start-room {goes = false} full some = omega arith
 
 -- ---- one slice, and all
 
 -- a short slice fills no piece, a longer one some
-pub none-full : {count : ℕ} {goes : Bool} (f : Filling) (n : ℕ) → leb n 1380 ≡ true → goes_in f n ≡ goes → start_of goes f + 1380 * count < f.at + n → count ≡ 0
-none-full {goes = true} f n short e before =
-    let fits = whole-fits f.from f.at n f.holds (sym (ap (λ b. cond b (goes_in_whole f.from f.at f.holds n) (goes_in_cut f.from f.at f.holds)) short) ∙ e) in
-    omega (arith, fits, before)
-none-full {goes = false} f n short e before = omega (arith, leb-true n 1380 short, before)
+pub none-full : {goes : Bool} {f : Filling} {n count : ℕ} → leb n 1380 ≡ true → FullBefore goes f n count → count ≡ 0
+none-full {goes = true} {f} {n} short full =
+    let fits = whole-fits f.from f.at n f.holds (sym (ap (λ b. cond b (goes_in_whole f.from f.at f.holds n) (goes_in_cut f.from f.at f.holds)) short) ∙ full.goes_is) in
+    omega (arith, fits, full.before)
+none-full {goes = false} {n} short full = omega (arith, leb-true n 1380 short, full.before)
 
-some-full : (f : Filling) (n count : ℕ) (goes : Bool) → f.from ≤ f.at → leb n 1380 ≡ false → f.at + n ≤ start_of goes f + 1380 * count + 1380 → 0 < count
-some-full f n count true order long within = omega (arith, order, leb-false n 1380 long, within)
-some-full f n count false order long within = omega (arith, leb-false n 1380 long, within)
+some-full : {count : ℕ} (f : Filling) (n : ℕ) (goes : Bool) → f.from ≤ f.at → leb n 1380 ≡ false → f.at + n ≤ start_of goes f + 1380 * count + 1380 → 0 < count
+some-full f n true order long within = omega (arith, order, leb-false n 1380 long, within)
+some-full f n false order long within = omega (arith, leb-false n 1380 long, within)
 
-next-begin : {unit : PictureUnit} {all : List ℕ} {f : Filling} {goes short : Bool} (n count : ℕ) → Right unit all f → Slice unit.to all f.at (f.at + n) → 0 < n → leb n 1380 ≡ short → goes_in f n ≡ goes
-    → start_of goes f + 1380 * count < f.at + n → f.at + n ≤ start_of goes f + 1380 * count + 1380
+next-begin : {unit : PictureUnit} {all : List ℕ} {f : Filling} {goes short : Bool} {n count : ℕ} → Right unit all f → Slice unit.to all f.at (f.at + n) → 0 < n → leb n 1380 ≡ short → FullBefore goes f n count
+    → f.at + n ≤ start_of goes f + 1380 * count + 1380
     → begins unit all (start_of goes f + 1380 * count) (f.at + n) ≡ begins_slice (cond short Slices LastFragment)
-next-begin {unit} {all} {f} {goes} {short = true} n count right slice some is e before within =
-    let none : count ≡ 0 = none-full f n is e before in
+next-begin {unit} {all} {f} {goes} {short = true} {n} {count} right slice some is full within =
+    let none : count ≡ 0 = none-full is full in
     let start : start_of goes f + 1380 * count ≡ start_of goes f = omega (arith, none) in
-    ap (λ s. begins unit all s (f.at + n)) start ∙ begins-start n (f.at + n) right slice.starts e (omega (arith, some))
-next-begin {unit} {all} {f} {goes} {short = false} n count right slice some is e before within =
-    let full : 0 < count = some-full f n count goes right.order is within in
-    let room = start-room f n count e before full in
-    no-begin unit (start_of goes f + 1380 * count) (f.at + n) slice (omega (arith, right.first, right.after)) (omega (arith, room, full)) before
+    ap (λ s. begins unit all s (f.at + n)) start ∙ begins-start n (f.at + n) right slice.starts full.goes_is (omega (arith, some))
+next-begin {unit} {all} {f} {goes} {short = false} {n} {count} right slice some is full within =
+    let more : 0 < count = some-full f n goes right.order is within in
+    let room = start-room full more in
+    let its : IsSliceOf unit all f.at (f.at + n) = record { slice = slice; after = omega (arith, right.first, right.after) } in
+    no-begin (start_of goes f + 1380 * count) (f.at + n) its (omega (arith, room, more)) full.before
 
 held-ends : (short : Bool) → true ≡ ends_slice (cond short Slices LastFragment)
 held-ends true = refl
@@ -224,14 +248,14 @@ next-right {all} {f} n right slice some =
     let goes = goes_in f n in
     let start = start_of goes f in
     let less = start-less f n goes right.order some in
-    let before = full_before-less start (f.at + n) less in
+    let full : FullBefore goes f n (full_before start (f.at + n)) = record { goes_is = refl; before = full_before-less start (f.at + n) less } in
     record {
       first = right.first;
       after = omega (arith, right.after);
-      begin = next-begin n (full_before start (f.at + n)) right slice some refl refl before (full_before-within start (f.at + n) less);
+      begin = next-begin right slice some refl full (full_before-within start (f.at + n) less);
       end = slice.ends ∙ held-ends (leb n 1380);
       alone = λ e. absurd (held-not_alone (leb n 1380) e);
-      order = omega (arith, before);
+      order = omega (arith, full.before);
     }
 
 pub flags : {unit : PictureUnit} {all left : List ℕ} {f : Filling} → Right unit all f → Agrees unit.to all f.at left → AreInOrder f.at left unit.to
@@ -247,10 +271,10 @@ flags {unit} {all} {left = s ∷ left} {f} right agrees order =
     let ordered : AreInOrder (f.at + n) left unit.to = subst (λ e. AreInOrder e left unit.to) (sym end) order.1.1 in
     let goes = goes_in f n in
     let start = start_of goes f in
-    let before = full_before-less start (f.at + n) (start-less f n goes right.order some) in
-    let full = full-pieces unit start (full_before start (f.at + n)) known (omega (arith, right.first, right.after))
-    (λ more. begins-start n (start + 1380) right known.starts refl (start-room f n (full_before start (f.at + n)) refl before more))
-    (λ more. start-room f n (full_before start (f.at + n)) refl before more) before in
+    let before : FullBefore goes f n (full_before start (f.at + n)) = record { goes_is = refl; before = full_before-less start (f.at + n) (start-less f n goes right.order some) } in
+    let its : IsSliceOf unit all f.at (f.at + n) = record { slice = known; after = omega (arith, right.first, right.after) } in
+    let inside : PiecesEndIn f.at (f.at + n) start (full_before start (f.at + n)) = record { above = λ more. start-room before more; below = before.before } in
+    let full = full-pieces start (full_before start (f.at + n)) its (λ more. begins-start n (start + 1380) right known.starts refl (start-room before more)) inside in
     slice-rest goes (full_before start (f.at + n)) right full
     (flags {unit = unit} {all = all} {left = left} {f = next_filling f n} (next-right {unit = unit} {all = all} {f = f} n right known some) after ordered)
 

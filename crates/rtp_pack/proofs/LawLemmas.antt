@@ -13,7 +13,7 @@ use Rattle.rtp_pack.specs.Laws.{ArePieces, AreShortUncut, DoLongEndPieces, IsUnc
 use Rattle.rtp_pack.specs.Packets.{is_among}
 use Rattle.rtp_pack.proofs.CutLemmas.{not_both}
 use Rattle.std.proofs.lemmas.Bool.{or_left, or_right}
-use Rattle.rtp_pack.proofs.FlagLemmas.{none-full, start-room}
+use Rattle.rtp_pack.proofs.FlagLemmas.{FullBefore, none-full, start-room}
 
 -- ---- pieces
 
@@ -66,8 +66,9 @@ pub cuts-from : (slices : List ℕ) (f : Filling) (cuts : List ℕ) → f.from �
 cuts-from [] f cuts order e = let P : List ℕ → Type 0 = λ l. AreFrom f.at l in subst P (sym e) (omega arith, tt)
 cuts-from (n ∷ slices) f cuts order (inl x) =
     let rest = cuts-from slices (filling_after f n (f.from + 1380 * x.1.full)) x.1.rest (omega (arith, x.1.before)) x.1.goes_on in
+    let full : FullBefore true f n x.1.full = record { goes_is = x.0; before = x.1.before } in
     let P : List ℕ → Type 0 = λ l. AreFrom f.at l in
-    subst P (sym x.1.filled) (from-full f.at f.from x.1.full x.1.rest (λ some. omega (arith, start-room f n x.1.full x.0 x.1.before some)) (from-more f.at (f.at + n) x.1.rest (omega arith) rest))
+    subst P (sym x.1.filled) (from-full f.at f.from x.1.full x.1.rest (λ some. omega (arith, start-room full some)) (from-more f.at (f.at + n) x.1.rest (omega arith) rest))
 cuts-from (n ∷ slices) f cuts order (inr x) =
     let fills = x.1.1.1 in
     let rest = cuts-from slices (filling_after f n (f.at + 1380 * fills.full)) fills.rest (omega (arith, fills.before)) fills.goes_on in
@@ -87,9 +88,9 @@ short-full {at} slices start zero cuts less uncut = uncut
 short-full {at} slices start (suc count) cuts less uncut = short-more slices at (start + 1380) (full_ends (start + 1380) count ++ cuts) (omega (arith, less)) (short-full slices (start + 1380) count cuts (omega (arith, less)) uncut)
 
 -- a short slice ends in the piece in which it begins
-short-rest : {goes : Bool} (f : Filling) (n count : ℕ) (rest : List ℕ) → goes_in f n ≡ goes → start_of goes f + 1380 * count < f.at + n → AreFrom (f.at + n) rest → n ≤ 1380 → IsUncut f.at (f.at + n) (full_ends (start_of goes f) count ++ rest)
-short-rest {goes} f n count rest e before after short =
-    let none : count ≡ 0 = none-full f n (le-leb n 1380 short) e before in
+short-rest : {goes : Bool} {f : Filling} {n count : ℕ} (rest : List ℕ) → FullBefore goes f n count → AreFrom (f.at + n) rest → n ≤ 1380 → IsUncut f.at (f.at + n) (full_ends (start_of goes f) count ++ rest)
+short-rest {goes} {f} {n} {count} rest full after short =
+    let none : count ≡ 0 = none-full (le-leb n 1380 short) full in
     let P : ℕ → Type 0 = λ k. IsUncut f.at (f.at + n) (full_ends (start_of goes f) k ++ rest) in
     subst P (sym none) (uncut-from f.at (f.at + n) rest after)
 
@@ -99,17 +100,19 @@ short-uncut (n ∷ slices) f cuts order (inl x) =
     let g = filling_after f n (f.from + 1380 * x.1.full) in
     let rest = short-uncut slices g x.1.rest (omega (arith, x.1.before)) x.1.goes_on in
     let after = cuts-from slices g x.1.rest (omega (arith, x.1.before)) x.1.goes_on in
+    let full : FullBefore true f n x.1.full = record { goes_is = x.0; before = x.1.before } in
     let P : List ℕ → Type 0 = λ l. AreShortUncut f.at (n ∷ slices) l in
-    subst P (sym x.1.filled) (λ short. short-rest f n x.1.full x.1.rest x.0 x.1.before after short, short-full slices f.from x.1.full x.1.rest (omega (arith, x.1.before)) rest)
+    subst P (sym x.1.filled) (λ short. short-rest x.1.rest full after short, short-full slices f.from x.1.full x.1.rest (omega (arith, x.1.before)) rest)
 short-uncut (n ∷ slices) f cuts order (inr x) =
     let fills = x.1.1.1 in
     let g = filling_after f n (f.at + 1380 * fills.full) in
     let rest = short-uncut slices g fills.rest (omega (arith, fills.before)) fills.goes_on in
     let after = cuts-from slices g fills.rest (omega (arith, fills.before)) fills.goes_on in
+    let full : FullBefore false f n fills.full = record { goes_is = x.0; before = fills.before } in
     let P : List ℕ → Type 0 = λ l. AreShortUncut f.at (n ∷ slices) l in
     let Q : List ℕ → Type 0 = λ l. AreShortUncut f.at (n ∷ slices) (f.at ∷ l) in
     subst P (sym x.1.1.0) (subst Q (sym fills.filled) (
-      λ short. (inl (omega arith), short-rest f n fills.full fills.rest x.0 fills.before after short),
+      λ short. (inl (omega arith), short-rest fills.rest full after short),
       short-more slices (f.at + n) f.at (full_ends f.at fills.full ++ fills.rest) (omega arith) (short-full slices f.at fills.full fills.rest (omega (arith, fills.before)) rest),
     ))
 

@@ -12,9 +12,9 @@ use Rattle.rtp_pack.specs.Packets.{AreInOrder, filling_packet, full_packets, len
 use Rattle.rtp_pack.specs.Packets.{packet, packets_from, slice_packets}
 
 -- one more full piece of those that are left
-pub put-full_packet : (unit : PictureUnit) (begin : Bool) (start count i : ℕ) (out : List Packet) → i < count
+pub put-full_packet : {count i : ℕ} (unit : PictureUnit) (begin : Bool) (start : ℕ) (out : List Packet) → i < count
     → (out ++ packet unit start (start + 1380) begin false ∷ []) ++ full_packets unit false (start + 1380) (count - (i + 1)) ≡ out ++ full_packets unit begin start (count - i)
-put-full_packet unit begin start count i out less =
+put-full_packet {count} {i} unit begin start out less =
     let left : count - i ≡ suc (count - (i + 1)) = omega arith in
     append_assoc out (packet unit start (start + 1380) begin false ∷ []) (full_packets unit false (start + 1380) (count - (i + 1)))
     ∙ sym (ap (λ n. out ++ full_packets unit begin start n) left)
@@ -45,32 +45,36 @@ put-next : {n : ℕ} {rest lengths : List ℕ} (unit : PictureUnit) (f : Filling
 put-next {n} {rest} unit f out is =
     append_assoc out (slice_packets unit f n) (packets_from unit (next_filling f n) rest) ∙ sym (ap (λ (l : List ℕ). out ++ packets_from unit f l) is)
 
--- once they are out, the slices after it follow
-pub record Put (unit : PictureUnit) (starts : List ℕ) (i : ℕ) (next : Filling) (out whole : List Packet) : Type 0 where
-  pub in_order : AreInOrder next.at (drop (i + 1) starts) unit.to
-  pub packets : out ++ packets_from unit next (lengths_to unit.to (drop (i + 1) starts)) ≡ whole
+-- before the slice at a place of the list: the packets that are out, and those that are to come
+pub record Remaining (unit : PictureUnit) (starts : List ℕ) (i : ℕ) (f : Filling) (out whole : List Packet) : Type 0 where
+  pub in_order : AreInOrder f.at (drop i starts) unit.to
+  pub packets : out ++ packets_from unit f (lengths_to unit.to (drop i starts)) ≡ whole
 
-pub put-slice : {unit : PictureUnit} {starts : List ℕ} {i : ℕ} {next : Filling} {end : ℕ} {out whole : List Packet}
-    (f : Filling) (before : List Packet) → i < length starts → AreInOrder f.at (drop i starts) unit.to
-    → end ≡ next_place unit.to (drop (i + 1) starts) → next ≡ next_filling f (end - f.at) → out ≡ before ++ slice_packets unit f (end - f.at)
-    → before ++ packets_from unit f (lengths_to unit.to (drop i starts)) ≡ whole → Put unit starts i next out whole
-put-slice {unit} {starts} {i} {next} {end} {out} {whole} f before less order at_end at_next more is =
-    let here = at-slice unit.to starts i f.at less order in
-    let ends : next.at ≡ f.at + (end - f.at) = ap (λ (g : Filling). g.at) at_next in
-    let there : next_place unit.to (drop (i + 1) starts) ≡ next.at = omega (arith, here.least, at_end, ends) in
+-- that slice, its end, and the filling after it
+pub record SliceEnds (unit : PictureUnit) (starts : List ℕ) (i : ℕ) (f : Filling) (end : ℕ) (next : Filling) : Type 0 where
+  pub less : i < length starts
+  pub at_end : end ≡ next_place unit.to (drop (i + 1) starts)
+  pub at_next : next ≡ next_filling f (end - f.at)
+
+-- once its packets are out, those of the slices after it follow
+pub put-slice : {unit : PictureUnit} {starts : List ℕ} {i : ℕ} {f next : Filling} {end : ℕ} {before out whole : List Packet} → Remaining unit starts i f before whole
+    → SliceEnds unit starts i f end next → out ≡ before ++ slice_packets unit f (end - f.at) → Remaining unit starts (i + 1) next out whole
+put-slice {unit} {starts} {i} {f} {next} {end} {before} remaining ends more =
+    let here = at-slice unit.to starts i f.at ends.less remaining.in_order in
+    let at_end : next.at ≡ f.at + (end - f.at) = ap (λ (g : Filling). g.at) ends.at_next in
+    let there : next_place unit.to (drop (i + 1) starts) ≡ next.at = omega (arith, here.least, ends.at_end, at_end) in
     let rest = lengths_to unit.to (drop (i + 1) starts) in
-    let lengths : lengths_to unit.to (drop i starts) ≡ (end - f.at) ∷ rest = here.lengths ∙ ap (λ e. (e - f.at) ∷ rest) (sym at_end) in
+    let lengths : lengths_to unit.to (drop i starts) ≡ (end - f.at) ∷ rest = here.lengths ∙ ap (λ e. (e - f.at) ∷ rest) (sym ends.at_end) in
     record {
       in_order = subst (λ at. AreInOrder at (drop (i + 1) starts) unit.to) there here.after;
       packets = ap (λ (o : List Packet). o ++ packets_from unit next rest) more
-          ∙ ap (λ (g : Filling). (before ++ slice_packets unit f (end - f.at)) ++ packets_from unit g rest) at_next
+          ∙ ap (λ (g : Filling). (before ++ slice_packets unit f (end - f.at)) ++ packets_from unit g rest) ends.at_next
           ∙ put-next unit f before lengths
-          ∙ is;
+          ∙ remaining.packets;
     }
 
 -- after the last slice the piece in hand is the last packet
-pub put-last : {out whole : List Packet} (unit : PictureUnit) (starts : List ℕ) (i : ℕ) (f : Filling)
-    (before : List Packet) → length starts ≤ i → out ≡ before ++ filling_packet unit f ∷ []
-    → before ++ packets_from unit f (lengths_to unit.to (drop i starts)) ≡ whole → out ≡ whole
-put-last {out} {whole} unit starts i f before past is all =
-    is ∙ ap (λ (l : List ℕ). before ++ packets_from unit f (lengths_to unit.to l)) (sym (drop_of_length-le starts past)) ∙ all
+pub put-last : {unit : PictureUnit} {starts : List ℕ} {i : ℕ} {f : Filling} {before out whole : List Packet} → Remaining unit starts i f before whole → length starts ≤ i →
+    out ≡ before ++ filling_packet unit f ∷ [] → out ≡ whole
+put-last {unit} {starts} {f} {before} remaining past is =
+    is ∙ ap (λ (l : List ℕ). before ++ packets_from unit f (lengths_to unit.to l)) (sym (drop_of_length-le starts past)) ∙ remaining.packets

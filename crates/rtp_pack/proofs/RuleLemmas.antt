@@ -108,8 +108,8 @@ the-rest from head_end slices cuts meets = record {
   ends = meets.ends;
 }
 
-pub one-meets : (from head_end : ℕ) (slices one other : List ℕ) → MeetsRules from head_end slices one → MeetsRules from head_end slices other → one ≡ other
-one-meets from head_end slices one other a b =
+pub one-meets : {from head_end : ℕ} {slices one other : List ℕ} → MeetsRules from head_end slices one → MeetsRules from head_end slices other → one ≡ other
+one-meets {from} {head_end} {slices} {one} {other} a b =
     one-rest (the-reasons from head_end slices) (the-rest from head_end slices one a) (the-rest from head_end slices other b)
 
 -- ---- the packer's list meets them
@@ -123,13 +123,17 @@ slice-after [] at place length is = absurd is
 slice-after (n ∷ slices) at place length (inl here) = omega (arith, here.0)
 slice-after (n ∷ slices) at place length (inr later) = omega (arith, slice-after slices (at + n) place length later)
 
-short-at : (slices : List ℕ) (at : ℕ) (cuts : List ℕ) → AreShortUncut at slices cuts → (place : ℕ) {length : ℕ} → SliceAt at slices place length → length ≤ 1380 → IsUncut place (place + length) cuts
-short-at [] at cuts uncut place is short = absurd is
-short-at (n ∷ slices) at cuts uncut place {length} (inl here) short =
+-- the same, of each of them
+abbrev AreUncutWhereShort : ℕ → List ℕ → List ℕ → Type 0
+AreUncutWhereShort at slices cuts = (place length : ℕ) → SliceAt at slices place length → length ≤ 1380 → IsUncut place (place + length) cuts
+
+short-at : (slices : List ℕ) (at : ℕ) (cuts : List ℕ) → AreShortUncut at slices cuts → AreUncutWhereShort at slices cuts
+short-at [] at cuts uncut place length is short = absurd is
+short-at (n ∷ slices) at cuts uncut place length (inl here) short =
     let P : ℕ → Type 0 = λ p. IsUncut p (p + length) cuts in
     let Q : ℕ → Type 0 = λ m. IsUncut at (at + m) cuts in
     subst P here.0 (subst Q here.1 (uncut.0 (omega (arith, here.1, short))))
-short-at (n ∷ slices) at cuts uncut place {length} (inr later) short = short-at slices (at + n) cuts uncut.1 place {length = length} later short
+short-at (n ∷ slices) at cuts uncut place length (inr later) short = short-at slices (at + n) cuts uncut.1 place length later short
 
 leb-not : (n : ℕ) → 1380 < n → leb n 1380 ≡ false
 leb-not n long = lt-leb n 1380 long
@@ -150,29 +154,37 @@ first-there : (place at : ℕ) (cuts : List ℕ) → at ≡ place → is_among p
 first-there place at cuts here = ap (λ b. b || is_among place cuts) (eq-eqb place at (sym here))
 
 -- a long slice begins with a piece where it doesn't go in
-begin-cut : (slices : List ℕ) (f : Filling) (cuts : List ℕ) → Cuts f slices cuts → {place length : ℕ} → SliceAt f.at slices place length → 1380 < length → (place ≡ f.at → goes_in f length ≡ false) → is_among place cuts ≡ true
-begin-cut [] f cuts e {place} is long goes = absurd is
-begin-cut (n ∷ slices) f cuts (inl x) {place} (inl here) long goes =
+abbrev DoLongBegin : Filling → List ℕ → List ℕ → Type 0
+DoLongBegin f slices cuts = (place length : ℕ) → SliceAt f.at slices place length → 1380 < length → (place ≡ f.at → goes_in f length ≡ false) → is_among place cuts ≡ true
+
+begin-cut : (slices : List ℕ) (f : Filling) (cuts : List ℕ) → Cuts f slices cuts → DoLongBegin f slices cuts
+begin-cut [] f cuts e place length is long goes = absurd is
+begin-cut (n ∷ slices) f cuts (inl x) place length (inl here) long goes =
     absurd (not_both (goes_in f n) x.0 (ap (λ m. goes_in f m) here.1 ∙ goes (sym here.0)))
-begin-cut (n ∷ slices) f cuts (inl x) {place} {length} (inr later) long goes =
+begin-cut (n ∷ slices) f cuts (inl x) place length (inr later) long goes =
     let g = filling_after f n (f.from + 1380 * x.1.full) in
-    ap (λ (l : List ℕ). is_among place l) x.1.filled ∙ among-full place f.from x.1.full x.1.rest (begin-cut slices g x.1.rest x.1.goes_on {place = place} {length = length} later long (λ _. long-not g length long (held-is n)))
-begin-cut (n ∷ slices) f cuts (inr x) {place} (inl here) long goes =
+    ap (λ (l : List ℕ). is_among place l) x.1.filled
+    ∙ among-full place f.from x.1.full x.1.rest (begin-cut slices g x.1.rest x.1.goes_on place length later long (λ _. long-not g length long (held-is n)))
+begin-cut (n ∷ slices) f cuts (inr x) place length (inl here) long goes =
     ap (λ (l : List ℕ). is_among place l) x.1.1.0 ∙ first-there place f.at x.1.0 here.0
-begin-cut (n ∷ slices) f cuts (inr x) {place} {length} (inr later) long goes =
+begin-cut (n ∷ slices) f cuts (inr x) place length (inr later) long goes =
     let fills = x.1.1.1 in
     let g = filling_after f n (f.at + 1380 * fills.full) in
+    let there = begin-cut slices g fills.rest fills.goes_on place length later long (λ _. long-not g length long (held-is n)) in
     ap (λ (l : List ℕ). is_among place l) x.1.1.0
-    ∙ or_right (eqb place f.at) (is_among place x.1.0) (ap (λ (l : List ℕ). is_among place l) fills.filled ∙ among-full place f.at fills.full fills.rest (begin-cut slices g fills.rest fills.goes_on later long (λ _. long-not g length long (held-is n))))
-
-end-by : (slices : List ℕ) (at : ℕ) (cuts : List ℕ) → DoLongEndPieces at slices cuts → (start : ℕ) {length : ℕ} → SliceAt at slices start length → 1380 < length → is_among (start + length) cuts ≡ true
-end-by [] at cuts ends_ start is long = absurd is
-end-by (n ∷ slices) at cuts ends_ start (inl here) long = ap (λ p. is_among p cuts) (omega (arith, here.0, here.1)) ∙ ends_.0 (omega (arith, here.1, long))
-end-by (n ∷ slices) at cuts ends_ start {length} (inr later) long = end-by slices (at + n) cuts ends_.1 start {length = length} later long
+    ∙ or_right (eqb place f.at) (is_among place x.1.0) (ap (λ (l : List ℕ). is_among place l) fills.filled ∙ among-full place f.at fills.full fills.rest there)
 
 -- a long slice ends with a piece
-end-cut : (slices : List ℕ) (f : Filling) (cuts : List ℕ) → Cuts f slices cuts → (start : ℕ) {length : ℕ} → SliceAt f.at slices start length → 1380 < length → is_among (start + length) cuts ≡ true
-end-cut slices f cuts cutting start is long = end-by slices f.at cuts (long-ends slices f cuts cutting) start is long
+abbrev DoLongEnd : ℕ → List ℕ → List ℕ → Type 0
+DoLongEnd at slices cuts = (start length : ℕ) → SliceAt at slices start length → 1380 < length → is_among (start + length) cuts ≡ true
+
+end-by : (slices : List ℕ) (at : ℕ) (cuts : List ℕ) → DoLongEndPieces at slices cuts → DoLongEnd at slices cuts
+end-by [] at cuts ends_ start length is long = absurd is
+end-by (n ∷ slices) at cuts ends_ start length (inl here) long = ap (λ p. is_among p cuts) (omega (arith, here.0, here.1)) ∙ ends_.0 (omega (arith, here.1, long))
+end-by (n ∷ slices) at cuts ends_ start length (inr later) long = end-by slices (at + n) cuts ends_.1 start length later long
+
+end-cut : (slices : List ℕ) (f : Filling) (cuts : List ℕ) → Cuts f slices cuts → DoLongEnd f.at slices cuts
+end-cut slices f cuts cutting = end-by slices f.at cuts (long-ends slices f cuts cutting)
 
 -- each piece ends where it may
 record Reads (Must : ℕ → Type 0) (Begins : ℕ → ℕ → Type 0) (f : Filling) (slices : List ℕ) : Type 0 where
@@ -194,15 +206,21 @@ full-may Must Begins start (suc count) rest may =
     may-cons (MayBy Must Begins) start (start + 1380) (full_ends (start + 1380) count ++ rest) (inl refl) (full-may Must Begins (start + 1380) count rest (subst (λ s. MayAllEnd (MayBy Must Begins) s rest) (omega arith) may))
 
 -- why a slice doesn't go in
-why-short : {at n : ℕ} {holds : Holds} (Must : ℕ → Type 0) (Begins : ℕ → ℕ → Type 0) (from : ℕ) → n ≤ 1380 → Begins at n → (holds ≡ LastFragment → Must at) → goes_in_whole from at holds n ≡ false → MayBy Must Begins from at
-why-short {at} {n} {holds = HeadAlone} Must Begins from short begins last goes = inr (inr (n, (begins, (short, leb-false (at + n) (from + 1380) goes))))
-why-short {at} {n} {holds = Slices} Must Begins from short begins last goes = inr (inr (n, (begins, (short, leb-false (at + n) (from + 1380) goes))))
-why-short {at} {holds = LastFragment} Must Begins from short begins last goes = inr (inl (last refl))
+record BeginsShort (Begins : ℕ → ℕ → Type 0) (at n : ℕ) : Type 0 where
+  begins : Begins at n
+  short : n ≤ 1380
+
+why-short : {at n : ℕ} {holds : Holds} {Begins : ℕ → ℕ → Type 0} (Must : ℕ → Type 0) (from : ℕ) → BeginsShort Begins at n → (holds ≡ LastFragment → Must at) → goes_in_whole from at holds n ≡ false →
+    MayBy Must Begins from at
+why-short {at} {n} {holds = HeadAlone} Must from slice last goes = inr (inr (n, (slice.begins, (slice.short, leb-false (at + n) (from + 1380) goes))))
+why-short {at} {n} {holds = Slices} Must from slice last goes = inr (inr (n, (slice.begins, (slice.short, leb-false (at + n) (from + 1380) goes))))
+why-short {at} {holds = LastFragment} Must from slice last goes = inr (inl (last refl))
 
 why : {Must : ℕ → Type 0} {Begins : ℕ → ℕ → Type 0} {f : Filling} {n : ℕ} {slices : List ℕ} → Reads Must Begins f (n ∷ slices) → goes_in f n ≡ false → MayBy Must Begins f.from f.at
 why {Must} {Begins} {f} {n} reads goes = elim (cases_lt 1380 n) [
   | inl long ↦ inr (inl (reads.long f.at n (inl (refl, refl)) long (λ _. goes)))
-  | inr short ↦ why-short Must Begins f.from short (reads.begins f.at n (inl (refl, refl))) reads.last
+  | inr short ↦ let slice : BeginsShort Begins f.at n = record { begins = reads.begins f.at n (inl (refl, refl)); short = short } in
+      why-short Must f.from slice reads.last
       (sym (ap (λ b. cond b (goes_in_whole f.from f.at f.holds n) (goes_in_cut f.from f.at f.holds)) (le-leb n 1380 short)) ∙ goes)
 ]
 
@@ -263,37 +281,43 @@ first-reads from head_end slices = record {
 
 long-cut : {from head_end : ℕ} {slices : List ℕ} (cuts : List ℕ) → IsCutting from head_end slices cuts → (place : ℕ) → IsCutPlace from head_end slices place → is_among place cuts ≡ true
 long-cut {from} {head_end} {slices} cuts cutting place (inl b) =
-    begin-cut slices (first_piece from head_end) cuts cutting b.slice b.long (λ here. goes-head from head_end b.length b.long (b.apart here))
+    begin-cut slices (first_piece from head_end) cuts cutting place b.length b.slice b.long (λ here. goes-head from head_end b.length b.long (b.apart here))
 long-cut {from} {head_end} {slices} cuts cutting place (inr e) =
-    ap (λ p. is_among p cuts) e.place_is ∙ end-cut slices (first_piece from head_end) cuts cutting e.start e.slice e.long
+    ap (λ p. is_among p cuts) e.place_is ∙ end-cut slices (first_piece from head_end) cuts cutting e.start e.length e.slice e.long
 
-pub cutting-meets : (from head_end : ℕ) (slices cuts : List ℕ) → from < head_end → head_end ≤ from + 1380 → HaveBytes slices → IsCutting from head_end slices cuts → MeetsRules from head_end slices cuts
-cutting-meets from head_end slices cuts some short have cutting =
+-- a unit's head of 1 to 1,380 bytes, and its slices
+pub record HeadAndSlices (from head_end : ℕ) (slices : List ℕ) : Type 0 where
+  pub some : from < head_end
+  pub short : head_end ≤ from + 1380
+  pub have : HaveBytes slices
+
+pub cutting-meets : {from head_end : ℕ} {slices : List ℕ} (cuts : List ℕ) → HeadAndSlices from head_end slices → IsCutting from head_end slices cuts → MeetsRules from head_end slices cuts
+cutting-meets {from} {head_end} {slices} cuts unit cutting =
     let f = first_piece from head_end in
-    let order : from ≤ head_end = omega (arith, some) in record {
-      pieces = pieces-cover slices f cuts (some, short) cutting;
+    let order : from ≤ head_end = omega (arith, unit.some) in record {
+      pieces = pieces-cover slices f cuts (unit.some, unit.short) cutting;
       head = head-uncut from head_end cuts (cuts-from slices f cuts order cutting);
       short = short-at slices head_end cuts (short-uncut slices f cuts order cutting);
       long = long-cut cuts cutting;
       ends = may-map (MayBy (IsCutPlace from head_end slices) (SliceAt head_end slices)) (MayEnd from head_end slices) from cuts (may-cs from head_end slices)
-          (may-end cuts (some-bytes slices have) (first-reads from head_end slices) cutting);
+          (may-end cuts (some-bytes slices unit.have) (first-reads from head_end slices) cutting);
     }
 
 no_unit : PictureUnit
 no_unit = record { from = 0; head_end = 0; to = 0; first_slice = 0; slices = 0; temporal = 0; presentation = 0; kind = I; vectors = 0; has_sequence = false; starts_group = false }
 
 -- there is such a list
-pub some-meets : (from head_end : ℕ) (slices : List ℕ) → from < head_end → head_end ≤ from + 1380 → HaveBytes slices → (cuts : List ℕ) × MeetsRules from head_end slices cuts
-some-meets from head_end slices some short have =
+pub some-meets : {from head_end : ℕ} {slices : List ℕ} → HeadAndSlices from head_end slices → (cuts : List ℕ) × MeetsRules from head_end slices cuts
+some-meets {from} {head_end} {slices} unit =
     let f = first_piece from head_end in
     let cuts = ends (packets_from no_unit f slices) in
-    (cuts, cutting-meets from head_end slices cuts some short have (packets-cut no_unit slices f (omega (arith, some)) (some-bytes slices have)))
+    (cuts, cutting-meets cuts unit (packets-cut no_unit slices f (omega (arith, unit.some)) (some-bytes slices unit.have)))
 
 -- and it is the packer's
-pub meets-cutting : (from head_end : ℕ) (slices cuts : List ℕ) → from < head_end → head_end ≤ from + 1380 → HaveBytes slices → MeetsRules from head_end slices cuts → IsCutting from head_end slices cuts
-meets-cutting from head_end slices cuts some short have meets =
+pub meets-cutting : {from head_end : ℕ} {slices : List ℕ} (cuts : List ℕ) → HeadAndSlices from head_end slices → MeetsRules from head_end slices cuts → IsCutting from head_end slices cuts
+meets-cutting {from} {head_end} {slices} cuts unit meets =
     let f = first_piece from head_end in
     let made = ends (packets_from no_unit f slices) in
-    let cutting = packets-cut no_unit slices f (omega (arith, some)) (some-bytes slices have) in
-    let same = one-meets from head_end slices made cuts (cutting-meets from head_end slices made some short have cutting) meets in
+    let cutting = packets-cut no_unit slices f (omega (arith, unit.some)) (some-bytes slices unit.have) in
+    let same = one-meets (cutting-meets made unit cutting) meets in
     subst (λ (l : List ℕ). IsCutting from head_end slices l) same cutting

@@ -55,13 +55,19 @@ whole-room {from} {at} {holds = HeadAlone} n kept least e = omega (arith, leb-fa
 whole-room {from} {at} {holds = Slices} n kept least e = omega (arith, leb-false (at + n) (from + 1380) e, kept.ended)
 whole-room {from} {at} {holds = LastFragment} n kept least e = omega (arith, kept.last refl)
 
-kept-slice : {pieces from at : ℕ} {holds : Holds} {short goes : Bool} (n full : ℕ) → Kept pieces from at holds → 4 ≤ n → leb n 1380 ≡ short → cond short (goes_in_whole from at holds n) (goes_in_cut from at holds) ≡ goes
-    → cond goes from at + 1380 * full < at + n → at + n ≤ cond goes from at + 1380 * full + 1380
+-- a slice of n bytes after so many full pieces: whether it is short, and goes in
+record SliceFills (from at : ℕ) (holds : Holds) (n full : ℕ) (short goes : Bool) : Type 0 where
+  short_is : leb n 1380 ≡ short
+  goes_is : cond short (goes_in_whole from at holds n) (goes_in_cut from at holds) ≡ goes
+  before : cond goes from at + 1380 * full < at + n
+  within : at + n ≤ cond goes from at + 1380 * full + 1380
+
+kept-slice : {pieces from at n full : ℕ} {holds : Holds} {short goes : Bool} → Kept pieces from at holds → 4 ≤ n → SliceFills from at holds n full short goes
     → Kept (pieces + (cond goes 0 1 + full)) (cond goes from at + 1380 * full) (at + n) (cond short Slices LastFragment)
-kept-slice {from} {at} {holds} {short = true} {goes = true} n full kept least e g before within = short-here n full kept (whole-fits from at n holds g) before
-kept-slice {from} {at} {short = true} {goes = false} n full kept least e g before within = short-next n full kept (leb-true n 1380 e) (whole-room n kept least g) before
-kept-slice {from} {at} {short = false} {goes = true} n full kept least e g before within = long-here n full kept (leb-false n 1380 e) before within
-kept-slice {from} {at} {short = false} {goes = false} n full kept least e g before within = long-next n full kept (leb-false n 1380 e) before within
+kept-slice {from} {at} {n} {full} {holds} {short = true} {goes = true} kept least fills = short-here n full kept (whole-fits from at n holds fills.goes_is) fills.before
+kept-slice {n} {full} {short = true} {goes = false} kept least fills = short-next n full kept (leb-true n 1380 fills.short_is) (whole-room n kept least fills.goes_is) fills.before
+kept-slice {n} {full} {short = false} {goes = true} kept least fills = long-here n full kept (leb-false n 1380 fills.short_is) fills.before fills.within
+kept-slice {n} {full} {short = false} {goes = false} kept least fills = long-next n full kept (leb-false n 1380 fills.short_is) fills.before fills.within
 
 abbrev pub IsKept : Measure → Type 0
 IsKept m = Kept m.pieces m.filling.from m.filling.at m.filling.holds
@@ -70,8 +76,14 @@ pub keeps-slice : (m : Measure) (n : ℕ) → IsKept m → 4 ≤ n → IsKept (w
 keeps-slice m n kept least =
     let f = m.filling in
     let less = start-less f n (goes_in f n) (omega (arith, kept.some)) (omega arith) in
-    kept-slice n (full_before (start_of (goes_in f n) f) (f.at + n)) kept least refl refl
-    (full_before-less (start_of (goes_in f n) f) (f.at + n) less) (full_before-within (start_of (goes_in f n) f) (f.at + n) less)
+    let start = start_of (goes_in f n) f in
+    let fills : SliceFills f.from f.at f.holds n (full_before start (f.at + n)) (leb n 1380) (goes_in f n) = record {
+      short_is = refl;
+      goes_is = refl;
+      before = full_before-less start (f.at + n) less;
+      within = full_before-within start (f.at + n) less;
+    } in
+    kept-slice kept least fills
 
 pub keeps-measure : (m : Measure) (n : ℕ) → IsMeasure m → 4 ≤ n → m.filling.at + n ≤ 2 ^ 40 → IsMeasure (with_slice m n)
 keeps-measure m n is least most =
@@ -120,11 +132,6 @@ ltb-moved {x'} {y'} base x y ex ey = elim (cases_Bool (ltb x y)) [
   ]
 ]
 
-whole-moved : {from' at' : ℕ} (base from at n : ℕ) (holds : Holds) → from' ≡ base + from → at' ≡ base + at → goes_in_whole from' at' holds n ≡ goes_in_whole from at holds n
-whole-moved base from at n HeadAlone ef ea = leb-moved base (at + n) (from + 1380) (omega (arith, ea)) (omega (arith, ef))
-whole-moved base from at n Slices ef ea = leb-moved base (at + n) (from + 1380) (omega (arith, ea)) (omega (arith, ef))
-whole-moved base from at n LastFragment ef ea = refl
-
 cut-moved : {from' at' : ℕ} (base from at : ℕ) (holds : Holds) → from' ≡ base + from → at' ≡ base + at → goes_in_cut from' at' holds ≡ goes_in_cut from at holds
 cut-moved base from at HeadAlone ef ea = ltb-moved base at (from + 1380) ea (omega (arith, ef))
 cut-moved base from at Slices ef ea = refl
@@ -136,10 +143,15 @@ pub record IsMoved (base : ℕ) (f g : Filling) : Type 0 where
   pub at : g.at ≡ base + f.at
   pub holds : g.holds ≡ f.holds
 
+whole-moved : {base : ℕ} {f g : Filling} (n : ℕ) (holds : Holds) → IsMoved base f g → goes_in_whole g.from g.at holds n ≡ goes_in_whole f.from f.at holds n
+whole-moved {base} {f} n HeadAlone is = leb-moved base (f.at + n) (f.from + 1380) (omega (arith, is.at)) (omega (arith, is.from))
+whole-moved {base} {f} n Slices is = leb-moved base (f.at + n) (f.from + 1380) (omega (arith, is.at)) (omega (arith, is.from))
+whole-moved n LastFragment is = refl
+
 goes-moved : (base n : ℕ) (f g : Filling) → IsMoved base f g → goes_in g n ≡ goes_in f n
 goes-moved base n f g is =
     ap (λ (h : Holds). cond (leb n 1380) (goes_in_whole g.from g.at h n) (goes_in_cut g.from g.at h)) is.holds
-    ∙ ap (λ b. cond (leb n 1380) b (goes_in_cut g.from g.at f.holds)) (whole-moved base f.from f.at n f.holds is.from is.at)
+    ∙ ap (λ b. cond (leb n 1380) b (goes_in_cut g.from g.at f.holds)) (whole-moved n f.holds is)
     ∙ ap (λ b. cond (leb n 1380) (goes_in_whole f.from f.at f.holds n) b) (cut-moved base f.from f.at f.holds is.from is.at)
 
 size-full : (start full : ℕ) (rest : List ℕ) → cuts_size start (full_ends start full ++ rest) ≡ 1400 * full + cuts_size (start + 1380 * full) rest
@@ -154,22 +166,19 @@ size-full start (suc full) rest =
 abbrev pub Rest : Measure → Filling → List ℕ → List ℕ → Type 0
 Rest m g slices cuts = cuts_size g.from cuts + 20 * m.pieces + m.filling.from ≡ frames_of (with_slices m slices)
 
--- a slice that begins at `start`: the frames of the full pieces, then the rest
-size-slice : {cuts : List ℕ} {whole : ℕ} (start full pieces begins from : ℕ) (rest : List ℕ) → cuts ≡ full_ends start full ++ rest
-    → cuts_size (start + 1380 * full) rest + 20 * (pieces + (begins + full)) + (from + 1380 * full) ≡ whole
-    → cuts_size start cuts + 20 * (pieces + begins) + from ≡ whole
-size-slice {cuts} {whole} start full pieces begins from rest is e =
-    let first : cuts_size start cuts ≡ 1400 * full + cuts_size (start + 1380 * full) rest = ap (λ (l : List ℕ). cuts_size start l) is ∙ size-full start full rest in
-    omega (arith, first, e)
+-- a slice begins at `start`: what is moved, and whether it goes in
+record StartsAt (m : Measure) (g : Filling) (n base start place : ℕ) (goes : Bool) : Type 0 where
+  moved : IsMoved base m.filling g
+  at_start : start_of goes m.filling ≡ start
+  at_place : place ≡ base + start
+  at_goes : goes_in m.filling n ≡ goes
 
--- the measure and the cuts of a slice that begins at `start`
-next-size : {g : Filling} {base start place : ℕ} {goes : Bool} {cuts : List ℕ} (m : Measure) (n : ℕ)
-    (slices : List ℕ) → IsMoved base m.filling g → start_of goes m.filling ≡ start → place ≡ base + start
-    → goes_in m.filling n ≡ goes
+-- the measure and the cuts of such a slice: the frames of its full pieces, then the rest
+next-size : {m : Measure} {g : Filling} {n base start place : ℕ} {goes : Bool} {cuts : List ℕ} (slices : List ℕ) → StartsAt m g n base start place goes
     → ((m' : Measure) (g' : Filling) (rest : List ℕ) → IsMoved base m'.filling g' → m'.filling.from ≤ m'.filling.at → Cuts g' slices rest → Rest m' g' slices rest)
     → Fills (λ last rest. Cuts (filling_after g n last) slices rest) place (g.at + n) cuts
     → cuts_size place cuts + 20 * (m.pieces + cond goes 0 1) + start ≡ frames_of (with_slices (with_slice m n) slices)
-next-size {g} {base} {start} {place} {goes} m n slices is at_start at_place at_goes more fills =
+next-size {m} {g} {n} {start} {place} {goes} {cuts} slices starts more fills =
     let f = m.filling in
     let all : start_of (goes_in f n) f ≡ start = ap (λ b. start_of b f) at_goes ∙ at_start in
     let less : start < f.at + n = omega (arith, is.at, at_place, fills.before) in
@@ -181,18 +190,23 @@ next-size {g} {base} {start} {place} {goes} m n slices is at_start at_place at_g
     ap (λ b. cond b 0 1 + full_before (start_of (goes_in f n) f) (f.at + n)) at_goes ∙ ap (λ s. cond goes 0 1 + full_before s (f.at + n)) all ∙ ap (λ k. cond goes 0 1 + k) (sym full) in
     let rest = more (with_slice m n) (filling_after g n (place + 1380 * fills.full)) fills.rest
     (record { from = omega (arith, at_place, last); at = omega (arith, is.at); holds = refl }) (omega (arith, last, fills.before, is.at, at_place)) fills.goes_on in
-    size-slice place fills.full m.pieces (cond goes 0 1) start fills.rest fills.filled
-    (omega (arith, rest, last, pieces))
+    let first : cuts_size place cuts ≡ 1400 * fills.full + cuts_size (place + 1380 * fills.full) fills.rest =
+    ap (λ (l : List ℕ). cuts_size place l) fills.filled ∙ size-full place fills.full fills.rest in
+    omega (arith, first, rest, last, pieces)
+  where
+    open starts use {moved as is, at_start, at_place, at_goes}
 
 pub size-from : {base : ℕ} {g : Filling} (slices : List ℕ) (m : Measure) (cuts : List ℕ) → IsMoved base m.filling g → m.filling.from ≤ m.filling.at → Cuts g slices cuts → Rest m g slices cuts
 size-from {base} {g} [] m cuts is order e =
     let size : cuts_size g.from cuts ≡ 20 + (g.at - g.from) = ap (λ (l : List ℕ). cuts_size g.from l) e ∙ omega arith in
     omega (arith, size, is.from, is.at, order)
 size-from {base} {g} (n ∷ slices) m cuts is order (inl x) =
-    let rest = next-size m n slices is refl is.from (sym (goes-moved base n m.filling g is) ∙ x.0) (λ m' g' rest moved less cut. size-from slices m' rest moved less cut) x.1 in
+    let starts : StartsAt m g n base m.filling.from g.from true = record { moved = is; at_start = refl; at_place = is.from; at_goes = sym (goes-moved base n m.filling g is) ∙ x.0 } in
+    let rest = next-size slices starts (λ m' g' rest moved less cut. size-from slices m' rest moved less cut) x.1 in
     omega (arith, rest)
 size-from {base} {g} (n ∷ slices) m cuts is order (inr x) =
-    let rest = next-size m n slices is refl is.at (sym (goes-moved base n m.filling g is) ∙ x.0) (λ m' g' rest moved less cut. size-from slices m' rest moved less cut) x.1.1.1 in
+    let starts : StartsAt m g n base m.filling.at g.at false = record { moved = is; at_start = refl; at_place = is.at; at_goes = sym (goes-moved base n m.filling g is) ∙ x.0 } in
+    let rest = next-size slices starts (λ m' g' rest moved less cut. size-from slices m' rest moved less cut) x.1.1.1 in
     let first : cuts_size g.from cuts ≡ 20 + (g.at - g.from) + cuts_size g.at x.1.0 = ap (λ (l : List ℕ). cuts_size g.from l) x.1.1.0 in
     omega (arith, rest, first, is.from, is.at, order)
 

@@ -11,6 +11,7 @@ use crate::{
 };
 use mpeg_scan::{Film, Kind, ScanRefused, Unit, scan};
 use std::alloc::Global;
+use std::process::Abort;
 use std::test::Fail;
 
 /// The headers of film A.
@@ -83,9 +84,30 @@ fn piece(from: u64, to: u64, set: &str) -> Packet {
     }
 }
 
+/// Checks the packets of a film of one unit, by their places and letters; those of another film may
+/// stand in the list before.
+fn check_cuts(
+    rt: &impl Abort,
+    alloc: Global,
+    film: &Film,
+    want: &[(u64, u64, &str)],
+    list: &mut Vec<Packet>,
+) -> Result<(), Fail> {
+    assert_eq!(rt; film.units.len(), 1);
+    let packets = packets(alloc, film, 0)?;
+    law_last_marked(&film.units[0], &film.slice_starts, &packets);
+    assert_eq!(rt; packets.len(), want.len());
+    for (packet, (from, to, set)) in packets.iter().zip(want) {
+        assert_eq!(rt; *packet, piece(*from, *to, set));
+    }
+    refill_packets(list, film, 0)?;
+    assert_eq!(rt; list.as_slice(), packets.as_slice());
+    Ok(())
+}
+
 #[test]
 fn cuts_units(rt: HostRuntime) -> Result<(), Fail> {
-    let mut again = Vec::new(rt.alloc());
+    let mut list = Vec::new(rt.alloc());
     for (head, slices, want) in [
         (28, [6].as_slice(), [(0, 34, "MBES")].as_slice()),
         (28, &[1352], &[(0, 1380, "MBES")]),
@@ -100,10 +122,21 @@ fn cuts_units(rt: HostRuntime) -> Result<(), Fail> {
             &[700, 652, 700, 680, 4],
             &[(0, 1380, "BES"), (1380, 2760, "BE"), (2760, 2764, "MBE")],
         ),
+    ] {
+        let film = film_of(rt.alloc(), head, slices)?;
+        check_cuts(&rt, rt.alloc(), &film, want, &mut list)?;
+    }
+    Ok(())
+}
+
+#[test]
+fn cuts_long_slices(rt: HostRuntime) -> Result<(), Fail> {
+    let mut list = Vec::new(rt.alloc());
+    for (head, slices, want) in [
         (
             28,
-            &[1381, 4],
-            &[(0, 1380, "BS"), (1380, 1409, "E"), (1409, 1413, "MBE")],
+            [1381, 4].as_slice(),
+            [(0, 1380, "BS"), (1380, 1409, "E"), (1409, 1413, "MBE")].as_slice(),
         ),
         (
             28,
@@ -129,15 +162,7 @@ fn cuts_units(rt: HostRuntime) -> Result<(), Fail> {
         ),
     ] {
         let film = film_of(rt.alloc(), head, slices)?;
-        assert_eq!(rt; film.units.len(), 1);
-        let packets = packets(rt.alloc(), &film, 0)?;
-        law_last_marked(&film.units[0], &film.slice_starts, &packets);
-        assert_eq!(rt; packets.len(), want.len(), "at {slices:?}");
-        for (packet, (from, to, set)) in packets.iter().zip(want) {
-            assert_eq!(rt; *packet, piece(*from, *to, set), "at {slices:?}");
-        }
-        refill_packets(&mut again, &film, 0)?;
-        assert_eq!(rt; again.as_slice(), packets.as_slice(), "at {slices:?}");
+        check_cuts(&rt, rt.alloc(), &film, want, &mut list)?;
     }
     Ok(())
 }

@@ -2,4 +2,9 @@ use Rattle.rtp_pack.proofs.RuleLemmas.{cutting-meets, meets-cutting, one-meets, 
 use Rattle.rtp_pack.proofs.laws.law_rules.Goals as goal
 
 pub returns : goal.returns
-returns c = record { some = some-meets; one = one-meets; meets = cutting-meets; cutting = meets-cutting }
+returns c = record {
+  some = λ from head_end slices some short have. some-meets (record { some = some; short = short; have = have });
+  one = λ from head_end slices one other. one-meets;
+  meets = λ from head_end slices cuts some short have. cutting-meets cuts (record { some = some; short = short; have = have });
+  cutting = λ from head_end slices cuts some short have. meets-cutting cuts (record { some = some; short = short; have = have });
+}

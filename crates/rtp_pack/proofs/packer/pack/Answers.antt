@@ -1,7 +1,7 @@
 use Rattle.std.proofs.Common.{◌≡◌, ◌+◌, ◌-◌, drop, take, arith, List, ap, ◌∙◌, sym, subst}
 use Rattle.rtp_pack.specs.declared.payloads.Packet.{Packet}
 use Rattle.rtp_pack.specs.Packets.{ArePackets, DoCover, frames_size, unit_packets}
-use Rattle.rtp_pack.proofs.PackLemmas.{at-slice, put-last, put-slice}
+use Rattle.rtp_pack.proofs.PackLemmas.{Remaining, SliceEnds, at-slice, put-last, put-slice}
 use Rattle.rtp_pack.proofs.UnitLemmas.{packets-are, packets-bound, packets-cover, packets-size}
 use Rattle.rtp_pack.proofs.packer.pack.Goals as goal
 
@@ -16,15 +16,20 @@ pub loop-index-preserved : goal.loop-index-preserved
 loop-index-preserved c =
     let unit = c.args.unit.now in
     let starts = take (unit.first_slice + unit.slices - unit.first_slice) (drop unit.first_slice c.args.slice_starts.now) in
-    let put = put-slice {unit = unit} {starts = starts} {i = c.loop-index.index} {next = c.in_ok-filling.filling} {end = c.slice_end-end.result} {out = c.put_slice.new.packets.items} {whole = _} c.loop-index.filling c.loop-index.packets.items
-    c.loop-index-test.true c.loop-index.invariant.in_order c.slice_end-end.ensures c.in_ok-filling.ensures.filling c.in_ok-filling.ensures.packets c.loop-index.invariant.packets in
+    let remaining : Remaining unit starts c.loop-index.index c.loop-index.filling c.loop-index.packets.items (unit_packets c.args.slice_starts.now unit) =
+    record { in_order = c.loop-index.invariant.in_order; packets = c.loop-index.invariant.packets } in
+    let ends : SliceEnds unit starts c.loop-index.index c.loop-index.filling c.slice_end-end.result c.in_ok-filling.filling =
+    record { less = c.loop-index-test.true; at_end = c.slice_end-end.ensures; at_next = c.in_ok-filling.ensures.filling } in
+    let put = put-slice remaining ends c.in_ok-filling.ensures.packets in
     record { order = c.in_ok-filling.ensures.order; in_order = put.in_order; packets = put.packets }
 
 pub returns-clause-list : goal.returns-clause-list
 returns-clause-list c =
     let unit = c.args.unit.now in
     let starts = take (unit.first_slice + unit.slices - unit.first_slice) (drop unit.first_slice c.args.slice_starts.now) in
-    put-last unit starts c.loop-index.index c.loop-index.filling c.loop-index.packets.items c.loop-index-test.false c.in_ok-close.ensures c.loop-index.invariant.packets
+    let remaining : Remaining unit starts c.loop-index.index c.loop-index.filling c.loop-index.packets.items (unit_packets c.args.slice_starts.now unit) =
+    record { in_order = c.loop-index.invariant.in_order; packets = c.loop-index.invariant.packets } in
+    put-last remaining c.loop-index-test.false c.in_ok-close.ensures
 
 pub returns-clause-rules : goal.returns-clause-rules
 returns-clause-rules c =

@@ -10,6 +10,6 @@ loop-piece-preserved c = record {
   packets =
       ap (λ (items : List Packet). items ++ full_packets c.args.unit.now false (c.loop-piece.last + 1380) (c.full_before-piece-end.result - (c.loop-piece.piece + 1)))
       (c.in_ok-put.ensures ∙ ap (λ (p : Packet). c.loop-piece.packets.items ++ p ∷ []) c.packet.ensures)
-      ∙ put-full_packet c.args.unit.now c.loop-piece.begin c.loop-piece.last c.full_before-piece-end.result c.loop-piece.piece c.loop-piece.packets.items c.loop-piece-test.true
+      ∙ put-full_packet c.args.unit.now c.loop-piece.begin c.loop-piece.last c.loop-piece.packets.items c.loop-piece-test.true
       ∙ c.loop-piece.invariant.packets;
 }
