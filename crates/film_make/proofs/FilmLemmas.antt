@@ -75,23 +75,29 @@ pub none-added : (out bytes : List ℕ) → bytes ≡ [] → out ≡ out ++ byte
 none-added out bytes empty = sym (ap (λ (l : List ℕ). out ++ l) empty ∙ append-nil out)
 
 -- a slice's length as the code draws it
-pub body_length-drawn : (words : ℕ → ℕ) (kind : CodingType) (least n d : ℕ) → least ≡ least_body kind → n ≡ body_lengths kind → d ≡ words 0 % n → least + d ≡ body_length words kind
+pub body_length-drawn : {least n d : ℕ} (words : ℕ → ℕ) (kind : CodingType) → least ≡ least_body kind → n ≡ body_lengths kind → d ≡ words 0 % n → least + d ≡ body_length words kind
 unfolding body_length
-body_length-drawn words kind least n d base lengths drawn =
+body_length-drawn {d} words kind base lengths drawn =
     ap (λ m. m + d) base ∙ ap (λ m. least_body kind + m) (drawn ∙ ap (λ m. words 0 % m) lengths)
 
--- a slice: what stands before it, its start code, and its body
-pub slice-step : (start out : List ℕ) (words left : ℕ → ℕ) (kind : CodingType) (code n : ℕ) → n ≡ body_length words kind → left ≡ after 1 words → out ≡ (start ++ 0 ∷ 0 ∷ 1 ∷ code ∷ []) ++ body_of left n → out ≡ start ++ slice_of words kind code
-unfolding slice_of
-slice-step start out words left kind code n length rest bytes =
-    bytes ∙ append_assoc start (0 ∷ 0 ∷ 1 ∷ code ∷ []) (body_of left n)
-    ∙ ap (λ (w : ℕ → ℕ). start ++ 0 ∷ 0 ∷ 1 ∷ code ∷ body_of w n) rest
-    ∙ ap (λ m. start ++ 0 ∷ 0 ∷ 1 ∷ code ∷ body_of (after 1 words) m) length
+-- the length of a slice's body is drawn from these words, and these are left
+pub record LengthDrawn (words left : ℕ → ℕ) (kind : CodingType) (n : ℕ) : Type 0 where
+  pub length : n ≡ body_length words kind
+  pub rest : left ≡ after 1 words
 
-pub after_slice-step : (words left end : ℕ → ℕ) (kind : CodingType) (n : ℕ) → n ≡ body_length words kind → left ≡ after 1 words → end ≡ after n left → end ≡ after_slice kind words
+-- a slice: what stands before it, its start code, and its body
+pub slice-step : {out : List ℕ} {words left : ℕ → ℕ} {kind : CodingType} {n : ℕ} (start : List ℕ) (code : ℕ) → LengthDrawn words left kind n → out ≡ (start ++ 0 ∷ 0 ∷ 1 ∷ code ∷ []) ++ body_of left n →
+    out ≡ start ++ slice_of words kind code
+unfolding slice_of
+slice-step {words} {left} {n} start code drawn bytes =
+    bytes ∙ append_assoc start (0 ∷ 0 ∷ 1 ∷ code ∷ []) (body_of left n)
+    ∙ ap (λ (w : ℕ → ℕ). start ++ 0 ∷ 0 ∷ 1 ∷ code ∷ body_of w n) drawn.rest
+    ∙ ap (λ m. start ++ 0 ∷ 0 ∷ 1 ∷ code ∷ body_of (after 1 words) m) drawn.length
+
+pub after_slice-step : {words left end : ℕ → ℕ} {kind : CodingType} {n : ℕ} → LengthDrawn words left kind n → end ≡ after n left → end ≡ after_slice kind words
 unfolding after_slice
-after_slice-step words left end kind n length rest last =
-    last ∙ ap (after n) rest ∙ after-after n 1 words ∙ ap (λ m. after (1 + m) words) length
+after_slice-step {words} {n} drawn last =
+    last ∙ ap (after n) drawn.rest ∙ after-after n 1 words ∙ ap (λ m. after (1 + m) words) drawn.length
 
 concat-first : (piece : ℕ → List ℕ) (n : ℕ) → (rest : List ℕ) × (concat piece (suc n) ≡ piece 0 ++ rest)
 unfolding concat
