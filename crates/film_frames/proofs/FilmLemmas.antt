@@ -37,7 +37,7 @@ pub film-sound : (film : Film) → AreSound film.bytes.items (film_pieces film)
 film-sound film = units-sound film.bytes.items film.slice_starts.items film.units.items (laid-film film)
 
 pub unit-laid : (film : Film) (number : ℕ) (unit : PictureUnit) → slice_get film.units.items number ≡ Some unit → IsLaid film.slice_starts.items unit
-unit-laid film number unit is = (laid-at (length film.bytes.items) film.slice_starts.items film.units.items number unit is (laid-film film)).1
+unit-laid film number unit is = (laid-at (length film.bytes.items) film.slice_starts.items film.units.items number is (laid-film film)).1
 
 pub units-wire : (end : ℕ) (starts : List ℕ) (units : List PictureUnit) → AreLaid end starts units → wire_in (pieces_of starts units) ≡ sum (map (λ u. wire_size starts u) units)
 units-wire end starts [] laid = refl

@@ -89,7 +89,7 @@ packets-bound {unit} {packets} film number i at is =
 pub packet-sound : {unit : PictureUnit} {packets : List Packet} (film : Film) (number i : ℕ) (some : Packet) → slice_get film.units.items number ≡ Some unit
     → packets ≡ unit_packets film.slice_starts.items unit → i < length packets → IsSound film.bytes.items (Frame unit (get_or packets i some))
 packet-sound {unit} {packets} film number i some at is h =
-    let laid = laid-at (length film.bytes.items) film.slice_starts.items film.units.items number unit at (laid-film film) in
+    let laid = laid-at (length film.bytes.items) film.slice_starts.items film.units.items number at (laid-film film) in
     let sound = sound-right film.bytes.items (unit_reports unit) (map (λ p. Frame unit p) (unit_packets film.slice_starts.items unit)) (unit-sound film.bytes.items film.slice_starts.items unit laid.1 laid.0) in
     let P : List Packet → Type 0 = λ l. AreSound film.bytes.items (map (λ p. Frame unit p) l) in
     let found : slice_get (map (λ p. Frame unit p) packets) i ≡ Some (Frame unit (get_or packets i some)) =

@@ -70,7 +70,7 @@ time-by film identity x k (unit ∷ items) items_are is =
     let L : List PictureUnit → Type 0 = λ us. AreLaid (length film.bytes.items) starts us in
     let laid = subst L (sym items_are) (laid-film film) in
     let at : slice_get film.units.items 0 ≡ Some unit = ap (λ us. slice_get us 0) (sym items_are) in
-    let begins = film-begins film.bytes.items film.rate film.units.items starts film.grammar unit at in
+    let begins = film-begins film.grammar unit at in
     let blocks : blocks_from run 0 0 (pieces_of starts (unit ∷ items)) ≡ x.blocks = ap (λ us. blocks_from run 0 0 (pieces_of starts us)) items_are ∙ sym is.blocks in
     let P : List (List ℕ) → Type 0 = λ bs. 0 < (steps (begun_sum x) (moments_in (take k bs))).frames
     → begins_film (drop 20 (steps (begun_sum x) (moments_in (take k bs))).first) ≡ true
