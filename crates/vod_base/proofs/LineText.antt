@@ -25,11 +25,15 @@ past_text front text rest k =
     let at : length front + length text + k ≡ length (front ++ text) + k = omega (arith, length-append front text) in
     ap (λ (n : ℕ). get_or (front ++ text ++ rest) n 0) at ∙ get_or-append-add (front ++ text) rest k 0
 
-no_feed : (front text rest : List ℕ) → All (λ byte. byte ≢ 10) text → (k : ℕ) → length front ≤ k → k < length front + length text →
-    get_or (front ++ text ++ rest) k 0 ≢ 10
-no_feed front text rest free k low high ten =
-    let at : length front + (k - length front) ≡ k = omega arith in
-    let inside : k - length front < length text = omega arith in
+-- a place in a text that stands after a front
+record IsInText (front text : List ℕ) (k : ℕ) : Type 0 where
+  from : length front ≤ k
+  below : k < length front + length text
+
+no_feed : {k : ℕ} (front text rest : List ℕ) → All (λ byte. byte ≢ 10) text → IsInText front text k → get_or (front ++ text ++ rest) k 0 ≢ 10
+no_feed {k} front text rest free place ten =
+    let at : length front + (k - length front) ≡ k = omega (arith, place.from) in
+    let inside : k - length front < length text = omega (arith, place.from, place.below) in
     free (k - length front) 0 inside
     (sym (in_text front text rest (k - length front) inside) ∙ ap (λ n. get_or (front ++ text ++ rest) n 0) at ∙ ten)
 
@@ -59,7 +63,7 @@ carriage_line front text rest free =
       within = omega (arith, length-append (front ++ text) (13 ∷ 10 ∷ rest), length-append front text);
       feed = subst (λ (n : ℕ). get_or whole n 0 ≡ 10) last lf;
       first = λ k low high. elim (cases_lt k end) [
-        | inl inside ↦ no_feed front text (13 ∷ 10 ∷ rest) free k low inside
+        | inl inside ↦ no_feed front text (13 ∷ 10 ∷ rest) free (record { from = low; below = inside })
         | inr past ↦ (
             let at : end + 0 ≡ k = omega arith in
             subst (λ (n : ℕ). get_or whole n 0 ≢ 10) at (λ ten. thirteen_isnt_ten cr ten)
@@ -79,7 +83,7 @@ feed_line front text rest free last =
       after = omega arith;
       within = omega (arith, length-append (front ++ text) (10 ∷ rest), length-append front text);
       feed = subst (λ (n : ℕ). get_or whole n 0 ≡ 10) at lf;
-      first = λ k low high. no_feed front text (10 ∷ rest) free k low (omega arith);
+      first = λ k low high. no_feed front text (10 ∷ rest) free (record { from = low; below = omega arith });
       text = feed_end whole (length front) end (λ some cr.
           let inside : length text - 1 < length text = omega arith in
           let there : length front + (length text - 1) ≡ end - 1 = omega arith in
@@ -101,8 +105,8 @@ same_next {at} {one} {other} {next} {after} is are =
       ]
     ]
 
-pub one_line : (bytes : List ℕ) (at one other next after : ℕ) → IsLine bytes at one next → IsLine bytes at other after → (one ≡ other) × (next ≡ after)
-one_line bytes at one other next after is are =
+pub one_line : {bytes : List ℕ} {at one other next after : ℕ} → IsLine bytes at one next → IsLine bytes at other after → (one ≡ other) × (next ≡ after)
+one_line {bytes} {at} is are =
     let same = same_next is are in
     let end : ℕ → ℕ = λ n. if nat_lt (at + 1) n && (get_or bytes (n - 2) 0 == 13) then n - 2 else n - 1 in
     (is.text ∙ ap end same ∙ sym are.text, same)

@@ -1,6 +1,7 @@
 -- What a connection does, as contracts see it: events that are heard, and bytes that are sent, in
 -- one order.
-use Rattle.std.specs.Prelude.{◌≡◌, ℕ, ◌≤◌, ⊤, List, ◌++◌, length, take, map, Option, Some, None}
+use Rattle.std.specs.Prelude.{◌≡◌, ℕ, ◌≤◌, ⊤, List, length, take, map, Option}
+pub use Rattle.vod_base.specs.Outside.{told_more}
 use Rattle.vod_base.specs.declared.links.Heard.{Heard}
 use Rattle.vod_base.specs.declared.links.Heard.TheVariants.{Bytes, Slot, End}
 
@@ -26,11 +27,6 @@ IsWithin End room = ⊤
 -- the bytes as sent, one doing each
 abbrev pub sends : List ℕ → List Doing
 sends bytes = map Sent bytes
-
--- what was told, with these doings after it
-abbrev pub told_more : Option (List Doing) → List Doing → Option (List Doing)
-told_more None doings = None
-told_more (Some told) doings = Some (told ++ doings)
 
 -- what was told, with a front of these bytes sent after it
 abbrev pub IsFrontTold : Option (List Doing) → Option (List Doing) → List ℕ → Type 0

@@ -8,6 +8,10 @@ use Rattle.vod_base.specs.Outside.{File, one_more}
 abbrev pub fails : List ℕ → ℕ → Bool
 fails failing number = list_any (λ n. n == number) failing
 
+-- whether the call after so many is to fail
+abbrev pub call_fails : List ℕ → ℕ → Bool
+call_fails failing calls = fails failing (one_more calls)
+
 -- a library in memory: its files, the failing calls, and how many calls and faults there were
 pub record LibraryState : Type 0 where
   pub files : List File
@@ -15,15 +19,11 @@ pub record LibraryState : Type 0 where
   pub calls : ℕ
   pub faults : ℕ
 
--- whether the next call fails
-abbrev pub library_fails : LibraryState → Bool
-library_fails s = fails s.failing (one_more s.calls)
-
 -- the state after one call
 abbrev pub library_called : LibraryState → LibraryState
 library_called s = record s {
   calls = one_more s.calls;
-  faults = if library_fails s
+  faults = if call_fails s.failing s.calls
       then one_more s.faults else s.faults;
 }
 

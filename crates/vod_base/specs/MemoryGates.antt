@@ -1,6 +1,5 @@
 -- A gate in memory as contracts see it.
 use Rattle.std.specs.Prelude.{ℕ, Bool, List, [], map, drop, slice_index_or, Option, Some, None}
-use Rattle.vod_base.specs.Memory.{fails}
 use Rattle.vod_base.specs.Outside.{one_more}
 use Rattle.vod_base.specs.MemoryLinks.{LinkState}
 use Rattle.vod_base.specs.Gates.{LastTake, NoneYet, Gave, NoMore, Failed, Returned, Part, Content}
@@ -36,10 +35,6 @@ pub record GateState : Type 0 where
   pub failing : List ℕ
   pub calls : ℕ
   pub faults : ℕ
-
--- whether the next call fails by its number
-abbrev pub gate_fails : GateState → Bool
-gate_fails s = fails s.failing (one_more s.calls)
 
 -- the state after a call, and after one that failed
 abbrev pub gate_called : GateState → GateState

@@ -1,7 +1,6 @@
 -- A link in memory as contracts see it.
 use Rattle.std.specs.Prelude.{ℕ, Bool, ◌||◌, List, [], ◌∷◌, nat_le, slice_index_or, slice_range}
-use Rattle.vod_base.specs.Memory.{fails}
-use Rattle.vod_base.specs.Outside.{one_more}
+use Rattle.vod_base.specs.Memory.{call_fails}
 use Rattle.vod_base.specs.Links.{Doing, HeardBytes, HeardSlot, HeardEnd, Sent}
 use Rattle.vod_base.specs.declared.memory_links.Event.{Event}
 use Rattle.vod_base.specs.declared.memory_links.Event.TheVariants.{Bytes, Slot, End}
@@ -45,4 +44,4 @@ doing_noted events (Gone byte) = Sent byte
 -- whether the next call of `next` fails: its number is named, or all events were handed out that
 -- there is room for
 abbrev pub next_fails : LinkState → Bool
-next_fails s = fails s.failing_nexts (one_more s.nexts) || nat_le s.room s.events
+next_fails s = call_fails s.failing_nexts s.nexts || nat_le s.room s.events

@@ -35,11 +35,11 @@ pub record IsRead (bytes : List ℕ) (at n : ℕ) (into : List ℕ) : Type 0 whe
   pub front : take n into ≡ take n (drop at bytes)
   pub some : 0 < length into → at < length bytes → 0 < n
 
--- what was told, with these bytes after it
-abbrev pub more : Option (List ℕ) → List ℕ → Option (List ℕ)
-more None bytes = None
-more (Some told) bytes = Some (told ++ bytes)
+-- what was told, with these after it: bytes that were written, or what a connection did
+abbrev pub told_more : {A : Type 0} → Option (List A) → List A → Option (List A)
+told_more None these = None
+told_more (Some told) these = Some (told ++ these)
 
 -- what was told, with the front of these bytes after it
 abbrev pub IsFrontMore : Option (List ℕ) → Option (List ℕ) → List ℕ → Type 0
-IsFrontMore old new bytes = (n : ℕ) × ((n ≤ length bytes) × (new ≡ more old (take n bytes)))
+IsFrontMore old new bytes = (n : ℕ) × ((n ≤ length bytes) × (new ≡ told_more old (take n bytes)))

@@ -8,7 +8,8 @@ ghost use Rattle.vod_base.specs.Gates.{NoMore, Failed, MaySplit, IsOut, HasOut, 
 ghost use Rattle.vod_base.specs.Gates.{split_off};
 ghost use Rattle.vod_base.specs.Gates.{new_part, after_take, after_empty_take, after_return};
 ghost use Rattle.vod_base.specs.Gates.{after_rejoin, fresh_part};
-ghost use Rattle.vod_base.specs.MemoryGates.{returned_of, part_of, back_of, gate_fails};
+ghost use Rattle.vod_base.specs.Memory.{call_fails};
+ghost use Rattle.vod_base.specs.MemoryGates.{returned_of, part_of, back_of};
 ghost use Rattle.vod_base.specs.MemoryGates.{gate_called};
 ghost use Rattle.vod_base.specs.MemoryGates.{gate_failed};
 
@@ -126,7 +127,7 @@ impl MemoryGate {
 
     /// Counts a call, and tells whether it fails.
     fn call(&mut self) -> bool
-        ensures fails { result ≡ gate_fails self.old }
+        ensures fails { result ≡ call_fails self.old.failing self.old.calls }
         ensures called { self.new ≡
             (if result then gate_failed self.old else gate_called self.old) }
     {
@@ -150,7 +151,8 @@ impl Gate for MemoryGate {
     ghost told = { λ g. Some g.content };
 
     fn open(&mut self, how: &Opening) -> Result<(), GateFault>
-        ensures fails { is_err result ≡ (self.old.is_part || gate_fails self.old) }
+        ensures fails { is_err result ≡
+            (self.old.is_part || call_fails self.old.failing self.old.calls) }
         ensures open { OnOk result (self.new ≡
             record (gate_called self.old) { content = after_open (Some how.now) self.old.content }) }
         ensures lost { OnErr result (self.new ≡
@@ -173,7 +175,7 @@ impl Gate for MemoryGate {
 
     fn split(&mut self) -> Result<MemoryGate, GateFault>
         requires may { MaySplit self.old.content }
-        ensures fails { is_err result ≡ gate_fails self.old }
+        ensures fails { is_err result ≡ call_fails self.old.failing self.old.calls }
         ensures split { OnOk result (self.new ≡
             record (gate_called self.old) { content = split_off self.old.content }) }
         ensures part { IfOk result (λ part. (part.content ≡ new_part self.old.content)
@@ -212,7 +214,7 @@ impl Gate for MemoryGate {
 
     #[tactic(auto, using(crate::proofs::Giving::back_stays))]
     fn take(&mut self) -> Result<Option<MemoryLink>, GateFault>
-        ensures fails { is_err result ≡ gate_fails self.old }
+        ensures fails { is_err result ≡ call_fails self.old.failing self.old.calls }
         ensures gave { IfOk result (λ taken.
             IfSome taken (λ link. self.new ≡
             record (gate_called self.old) {

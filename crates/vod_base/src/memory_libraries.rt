@@ -3,7 +3,7 @@
 ghost use Rattle.std.specs.Prelude.{◌≡◌, ◌≤◌, ℕ, List, Option, Some, length, map, option_map};
 ghost use Rattle.std.specs.Prelude.{string_bytes, if◌then◌else◌, IfOk, OnOk, OnErr, is_err};
 ghost use Rattle.vod_base.specs.Outside.{File, HasRisen, file_named, bytes_named, IsRead};
-ghost use Rattle.vod_base.specs.Memory.{LibraryState, library_fails, library_called};
+ghost use Rattle.vod_base.specs.Memory.{LibraryState, library_called, call_fails};
 ghost use Rattle.vod_base.specs.Memory.{fails};
 
 use crate::files::Library;
@@ -57,7 +57,7 @@ impl MemoryLibrary {
 
     /// Counts a call, and tells whether it fails.
     fn call(&mut self) -> bool
-        ensures fails { result ≡ library_fails self.old }
+        ensures fails { result ≡ call_fails self.old.failing self.old.calls }
         ensures called { self.new ≡ library_called self.old }
     {
         self.calls = self.calls.saturating_add(1);
@@ -92,7 +92,7 @@ impl Library for MemoryLibrary {
     fn find(&mut self, name: &str) -> Result<Option<u64>, StoreFault>
         ensures kept { self.new.files ≡ self.old.files }
         ensures called { self.new ≡ library_called self.old }
-        ensures fails { is_err result ≡ library_fails self.old }
+        ensures fails { is_err result ≡ call_fails self.old.failing self.old.calls }
         ensures found { IfOk result (λ size. size ≡
             option_map length (file_named self.old.files name.now)) }
     {
@@ -104,7 +104,7 @@ impl Library for MemoryLibrary {
 
     fn read(&mut self, name: &str, at: u64, into: &mut [u8]) -> Result<usize, StoreFault>
         ensures called { self.new ≡ library_called self.old }
-        ensures fails { is_err result ≡ library_fails self.old }
+        ensures fails { is_err result ≡ call_fails self.old.failing self.old.calls }
         ensures bytes { IfOk result (λ n.
             IsRead (bytes_named self.old.files name.now) at n into.new) }
     {

@@ -3,7 +3,7 @@
 ghost use Rattle.std.specs.Prelude.{◌≡◌, ◌+◌, ◌<◌, ◌≤◌, ◌++◌, ◌∷◌, [], ◌||◌, length, map, nat_lt};
 ghost use Rattle.std.specs.Prelude.{vec_len, vec_capacity, IfOk, OnOk, OnErr, is_err};
 ghost use Rattle.vod_base.specs.Links.{Sent, doing_of, IsWithin, sends};
-ghost use Rattle.vod_base.specs.Memory.{fails};
+ghost use Rattle.vod_base.specs.Memory.{call_fails};
 ghost use Rattle.vod_base.specs.Outside.{one_more};
 ghost use Rattle.vod_base.specs.declared.memory_links.Noted.TheVariants.{Gone};
 ghost use Rattle.vod_base.specs.MemoryLinks.{sent_of, doing_noted, next_fails};
@@ -192,7 +192,7 @@ impl Link for MemoryLink {
 
     fn send(&mut self, bytes: &[u8]) -> Result<(), LinkFault>
         ensures fails { is_err result ≡
-            (fails self.old.failing_sends (one_more self.old.sends)
+            (call_fails self.old.failing_sends self.old.sends
             || nat_lt self.old.room (length (sent_of self.old.told) + length bytes.now)) }
         ensures whole { OnOk result (self.new ≡
             record self.old {

@@ -2,7 +2,7 @@
 
 ghost use Rattle.std.specs.Prelude.{◌≡◌, ◌+◌, ◌<◌, ◌++◌, ◌||◌, [], length, nat_lt, if◌then◌else◌};
 ghost use Rattle.std.specs.Prelude.{IfOk, is_err};
-ghost use Rattle.vod_base.specs.Memory.{SinkState, fails};
+ghost use Rattle.vod_base.specs.Memory.{SinkState, call_fails};
 ghost use Rattle.vod_base.specs.Outside.{one_more};
 
 use crate::memory_libraries::is_listed;
@@ -73,7 +73,7 @@ impl Sink for MemorySink {
 
     fn write_all(&mut self, bytes: &[u8]) -> Result<(), SinkFault>
         ensures fails { is_err result ≡
-            (fails self.old.failing (one_more self.old.calls)
+            (call_fails self.old.failing self.old.calls
             || nat_lt self.old.room (length self.old.bytes + length bytes.now)) }
         ensures state { self.new ≡
             (if is_err result

@@ -1,7 +1,7 @@
 //! What a sink must keep.
 
 ghost use Rattle.std.specs.Prelude.{◌≡◌, ◌≤◌, ℕ, List, Option, OnOk, OnErr};
-ghost use Rattle.vod_base.specs.Outside.{HasRisen, more, IsFrontMore};
+ghost use Rattle.vod_base.specs.Outside.{HasRisen, told_more, IsFrontMore};
 
 use crate::outside::SinkFault;
 
@@ -15,7 +15,7 @@ pub trait Sink {
     fn write_all(&mut self, bytes: &[u8]) -> Result<(), SinkFault>
         ensures count { faults self.old ≤ faults self.new }
         ensures fault { OnErr result (HasRisen (faults self.old) (faults self.new)) }
-        ensures whole { OnOk result (written self.new ≡ more (written self.old) bytes.now) }
+        ensures whole { OnOk result (written self.new ≡ told_more (written self.old) bytes.now) }
         ensures front { OnErr result
             (IsFrontMore (written self.old) (written self.new) bytes.now) };
 }

@@ -1,7 +1,7 @@
 -- The lines of a journal, from the front on.
 use Rattle.std.proofs.Common.{◌≡◌, ℕ, ◌+◌, ◌<◌, List, [], ◌∷◌, ◌++◌, length, take, get_or, sym, ap, ◌∙◌, arith, add-zero, zero-add, Option, Result, Ok, Err, Vec, Global, subst}
 use Rattle.std.specs.Prelude.{IfOk, OnErr, OnOk}
-use Rattle.vod_base.specs.Outside.{IsFrontMore, more}
+use Rattle.vod_base.specs.Outside.{IsFrontMore, told_more}
 use Rattle.std.proofs.lemmas.List.{append_assoc, append-nil, take_all, take_more, length-take-le}
 use Rattle.admission.specs.declared.entries.Entry.{Entry}
 use Rattle.report.specs.EntryLines.{entry_line}
@@ -25,10 +25,10 @@ journal_text-take entries i entry within at =
     ∙ ap (λ (e : Entry). journal_text 0 (take i entries) ++ entry_line i e) (sym at)
 
 -- a text that was to be written left a front of itself
-pub written_front : {E : Type 0} (result : Result (Unit {0}) E) (told told' : Option (List ℕ)) (text : List ℕ) → OnOk result (told' ≡ more told text) →
+pub written_front : {E : Type 0} (result : Result (Unit {0}) E) (told told' : Option (List ℕ)) (text : List ℕ) → OnOk result (told' ≡ told_more told text) →
     OnErr result (IsFrontMore told told' text) → IsFrontMore told told' text
 written_front (Ok done) told told' text whole front =
-    (length text, (omega arith, whole ∙ ap (more told) (sym (take_all (length text) text (omega arith)))))
+    (length text, (omega arith, whole ∙ ap (told_more told) (sym (take_all (length text) text (omega arith)))))
 written_front (Err fault) told told' text whole front = front
 
 pub ok_text : {E : Type 0} (result : Result (Vec ℕ Global) E) (made : Vec ℕ Global) (text : List ℕ) → result ≡ Ok made → IfOk result (λ v. v.items ≡ text) → made.items ≡ text

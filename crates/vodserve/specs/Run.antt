@@ -2,7 +2,7 @@
 -- from that.
 use Rattle.std.specs.Prelude.{◌≡◌, ℕ, ◌≤◌, Bool, List, [], length, Option, Some, None, Result, Ok}
 use Rattle.std.specs.Prelude.{Err, IfSome, ◌⊎◌}
-use Rattle.vod_base.specs.Outside.{File, HasRisen, more, IsFrontMore}
+use Rattle.vod_base.specs.Outside.{File, HasRisen, told_more, IsFrontMore}
 use Rattle.plan_cert.specs.declared.Segment.{Segment}
 use Rattle.slot_calendar.specs.declared.profiles.CapStep.{CapStep}
 use Rattle.admission.specs.Histories.{IsLegal}
@@ -79,7 +79,7 @@ pub record Fails (err err' : Seen (List ℕ)) (trouble : Trouble) (ended : Ended
 pub record Finishes (before after : World) (order : Order) (ended : Ended) : Type 0 where
   pub text : List ℕ
   pub done : IsDone before.store.told order ended.status text ended.plan
-  pub wrote : after.out.told ≡ more before.out.told text
+  pub wrote : after.out.told ≡ told_more before.out.told text
   pub quiet : after.err ≡ before.err
 
 -- all was done, but a fault left only a front of its text written
@@ -96,7 +96,7 @@ abbrev pub IsWritten : Seen (List ℕ) → Seen (List ℕ) → Seen (List ℕ) �
     Ended → Type 0
 IsWritten out out' err err' done ended =
     ((ended.status ≡ done.status) × (ended.plan ≡ done.plan)
-    × (out'.told ≡ more out.told done.text.items) × (err' ≡ err))
+    × (out'.told ≡ told_more out.told done.text.items) × (err' ≡ err))
     ⊎ (HasRisen out.faults out'.faults × IsFrontMore out.told out'.told done.text.items
     × Fails err err' SinkFault ended)
 
@@ -186,7 +186,7 @@ IsUsage before after ended =
 abbrev pub IsTextWritten : Seen (List ℕ) → Seen (List ℕ) → Seen (List ℕ) → Seen (List ℕ) → List ℕ →
     Ended → Type 0
 IsTextWritten out out' err err' text ended =
-    ((ended.status ≡ 0) × (ended.plan ≡ None) × (out'.told ≡ more out.told text) × (err' ≡ err))
+    ((ended.status ≡ 0) × (ended.plan ≡ None) × (out'.told ≡ told_more out.told text) × (err' ≡ err))
     ⊎ (HasRisen out.faults out'.faults × IsFrontMore out.told out'.told text
     × Fails err err' SinkFault ended)
 

@@ -2,7 +2,7 @@
 use Rattle.std.specs.Prelude.{◌≡◌, ◌≢◌, ◌⊎◌, ℕ, ◌+◌, ◌<◌, List, [], ◌∷◌, ◌++◌, length, codes, decimal}
 use Rattle.std.specs.Prelude.{All, Option, Some, None, IfSome}
 use Rattle.std.specs.List.{Contains}
-use Rattle.vod_base.specs.Outside.{File, HasRisen, IsFrontMore, more}
+use Rattle.vod_base.specs.Outside.{File, HasRisen, IsFrontMore, told_more}
 use Rattle.vod_base.specs.Gates.{Content}
 use Rattle.vod_base.specs.declared.gates.Opening.{Opening}
 use Rattle.admission.specs.declared.entries.Entry.{Entry}
@@ -96,10 +96,10 @@ IsWordNamed word name = setting_value (codes "film") word ≡ Some name
 -- which was counted, left a front of it; else a part of the gate failed
 abbrev pub IsPrinted : ℕ → ℕ → Option (List ℕ) → Option (List ℕ) → List ℕ → PartEnd →
     Option Trouble → Type 0
-IsPrinted faults faults' told told' text end None = (told' ≡ more told text) × (end ≡ AllTaken)
+IsPrinted faults faults' told told' text end None = (told' ≡ told_more told text) × (end ≡ AllTaken)
 IsPrinted faults faults' told told' text end (Some SinkFault) = HasRisen faults faults'
     × IsFrontMore told told' text × (end ≢ PartNoMemory)
 IsPrinted faults faults' told told' text end (Some NoMemory) = IsFrontMore told told' text
-IsPrinted faults faults' told told' text end (Some GateFault) = (told' ≡ more told text)
+IsPrinted faults faults' told told' text end (Some GateFault) = (told' ≡ told_more told text)
     × (end ≡ PartFault)
 IsPrinted faults faults' told told' text end (Some _) = ⊥
