@@ -1,7 +1,7 @@
 -- A whole piece stays in front as more bytes come.
 use Rattle.std.proofs.Common.{◌≡◌, ℕ, ◌<◌, ◌≤◌, ◌++◌, List, Result, Ok, Err, length, refl, arith}
 use Rattle.std.proofs.lemmas.List.{get_or_append_left, length-append}
-use Rattle.interleave.specs.Pieces.{StartsBlock, StartsRequest, AreLineEnds, block_length, IsFirst, IsWhole}
+use Rattle.interleave.specs.Pieces.{StartsBlock, StartsRequest, AreLineEnds, block_length, IsFirst, IsWholePiece}
 use Rattle.interleave.specs.declared.pieces.Step.{Step}
 use Rattle.interleave.specs.declared.pieces.Step.TheVariants.{Request, Block, Skip, More}
 use Rattle.interleave.specs.declared.pieces.DemuxFault.{DemuxFault}
@@ -26,7 +26,7 @@ pub block_length-append : (w v : List ℕ) → 4 ≤ length w → block_length (
 block_length-append w v h =
     rw (get_or_append_left w v 0 2 (omega arith), get_or_append_left w v 0 3 (omega arith)) refl
 
-pub whole_stays : (w v : List ℕ) (answer : Result Step DemuxFault) → IsFirst w answer → IsWhole w answer → IsFirst (w ++ v) answer
+pub whole_stays : (w v : List ℕ) (answer : Result Step DemuxFault) → IsFirst w answer → IsWholePiece w answer → IsFirst (w ++ v) answer
 whole_stays w v (Ok (Skip n)) h whole = (h.0, AreLineEnds-append w v n whole h.1)
 whole_stays w v (Ok (Block channel n)) h whole = (
   StartsBlock-append w v h.0,

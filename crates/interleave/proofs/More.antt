@@ -54,12 +54,17 @@ pub IsKnown-append : (w v : List ℕ) (known : Known) → IsKnown w known → Is
 IsKnown-append w v (Searched to) h = (omega (arith, length-append w v, h.0), h.1, HasNoHead-append w v to h.0 h.2)
 IsKnown-append w v (Length total) h = IsRequestLength-append w v total h
 
+-- bytes from a place on are moved to another place
+pub record AreMoved (old : List ℕ) (from : ℕ) (items : List ℕ) (start : ℕ) : Type 0 where
+  pub within : start ≤ length items
+  pub same : drop start items ≡ drop from old
+
 -- the same, where the bytes are kept after others and were moved before more came
-pub kept_known : (items old more : List ℕ) (start from : ℕ) (known : Known) →
-    start ≤ length items → drop start items ≡ drop from old → IsKnown (drop from old) known → IsKnown (drop start (items ++ more)) known
-kept_known items old more start from known within same h =
+pub kept_known : {old : List ℕ} {from : ℕ} {items : List ℕ} {start : ℕ} (more : List ℕ) (known : Known) → AreMoved old from items start →
+    IsKnown (drop from old) known → IsKnown (drop start (items ++ more)) known
+kept_known {items} {start} more known moved h =
     let P : List ℕ → Type 0 = λ l. IsKnown l known in
-    rw (drop-append-le start items more within) (IsKnown-append (drop start items) more known (subst P (sym same) h))
+    rw (drop-append-le start items more moved.within) (IsKnown-append (drop start items) more known (subst P (sym moved.same) h))
 
 -- what is settled is known
 pub settled_known : (w : List ℕ) (known : Known) → IsSettled w known → IsKnown w known

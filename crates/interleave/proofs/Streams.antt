@@ -57,57 +57,89 @@ cut_more w [] rest n same piece =
     let P : List ℕ → Type 0 = λ xs. AreCut xs (take n rest ∷ []) (drop n rest) in subst P (sym same) (n, (piece, refl, refl))
 cut_more w (first ∷ pieces) rest n (m, cut) piece = (m, (cut.0, cut.1, cut_more (drop m w) pieces rest n cut.2 piece))
 
+-- bytes were cut, and then their rest with later bytes
+pub record CutsInTurn (w v : List ℕ) (ps qs : List (List ℕ)) (rest end : List ℕ) : Type 0 where
+  pub first : AreCut w ps rest
+  pub next : AreCut (rest ++ v) qs end
+
 -- cuts join
-pub cuts_join : (w v : List ℕ) (ps qs : List (List ℕ)) (rest end : List ℕ) → AreCut w ps rest → AreCut (rest ++ v) qs end → AreCut (w ++ v) (ps ++ qs) end
-cuts_join w v [] qs rest end same cut =
-    let P : List ℕ → Type 0 = λ xs. AreCut (xs ++ v) qs end in subst P (sym same) cut
-cuts_join w v (p ∷ ps) qs rest end (n, first) cut =
+pub cuts_join : {w v : List ℕ} {ps qs : List (List ℕ)} {rest end : List ℕ} → CutsInTurn w v ps qs rest end → AreCut (w ++ v) (ps ++ qs) end
+cuts_join {v} {ps = []} {qs} {end} cuts =
+    let P : List ℕ → Type 0 = λ xs. AreCut (xs ++ v) qs end in subst P (sym cuts.first) cuts.next
+cuts_join {w} {v} {ps = p ∷ ps} {qs} {rest} {end} cuts =
+    let n = cuts.first.0 in
+    let first = cuts.first.1 in
     let inside : n ≤ length w = piece_within w n first.0 in
     let front : take n (w ++ v) ≡ take n w = take-append-le n w v inside in
     let after : drop n (w ++ v) ≡ drop n w ++ v = drop-append-le n w v inside in
+    let later : CutsInTurn (drop n w) v ps qs rest end = record { first = first.2; next = cuts.next } in
     let P : List ℕ → Type 0 = λ xs. AreCut xs (ps ++ qs) end in
-    (n, (piece_stays w v n first.0, first.1 ∙ sym front, subst P (sym after) (cuts_join (drop n w) v ps qs rest end first.2 cut)))
+    (n, (piece_stays w v n first.0, first.1 ∙ sym front, subst P (sym after) (cuts_join later)))
 
 -- two cuts agree as far as the shorter goes
 agree_after : (q : List ℕ) (ps qs : List (List ℕ)) (r t : List ℕ) → DoAgree ps r qs t → DoAgree (q ∷ ps) r (q ∷ qs) t
 agree_after q ps qs r t (inl (more, goes)) = inl (more, (ap (λ (l : List (List ℕ)). q ∷ l) goes.0, goes.1))
 agree_after q ps qs r t (inr (more, goes)) = inr (more, (ap (λ (l : List (List ℕ)). q ∷ l) goes.0, goes.1))
 
-pub cuts_agree : (w : List ℕ) (ps qs : List (List ℕ)) (r t : List ℕ) → AreCut w ps r → AreCut w qs t → DoAgree ps r qs t
-cuts_agree w [] qs r t same cut =
-    let P : List ℕ → Type 0 = λ xs. AreCut xs qs t in inl (qs, (refl, subst P same cut))
-cuts_agree w (p ∷ ps) [] r t cut same =
-    let P : List ℕ → Type 0 = λ xs. AreCut xs (p ∷ ps) r in inr (p ∷ ps, (refl, subst P same cut))
-cuts_agree w (p ∷ ps) (q ∷ qs) r t (n, cut) (m, cut') =
+pub record TwoCuts (w : List ℕ) (ps qs : List (List ℕ)) (r t : List ℕ) : Type 0 where
+  pub one : AreCut w ps r
+  pub other : AreCut w qs t
+
+pub cuts_agree : {w : List ℕ} {ps qs : List (List ℕ)} {r t : List ℕ} → TwoCuts w ps qs r t → DoAgree ps r qs t
+cuts_agree {ps = []} {qs} {t} cuts =
+    let P : List ℕ → Type 0 = λ xs. AreCut xs qs t in inl (qs, (refl, subst P cuts.one cuts.other))
+cuts_agree {ps = p ∷ ps} {qs = []} {r} cuts =
+    let P : List ℕ → Type 0 = λ xs. AreCut xs (p ∷ ps) r in inr (p ∷ ps, (refl, subst P cuts.other cuts.one))
+cuts_agree {w} {ps = p ∷ ps} {qs = q ∷ qs} {r} {t} cuts =
+    let n = cuts.one.0 in
+    let m = cuts.other.0 in
+    let cut = cuts.one.1 in
+    let cut' = cuts.other.1 in
     let same : n ≡ m = piece_once w n m cut.0 cut'.0 in
     let P : ℕ → Type 0 = λ k. AreCut (drop k w) ps r in
     let first : p ≡ q = cut.1 ∙ ap (λ k. take k w) same ∙ sym cut'.1 in
     let Q : List ℕ → Type 0 = λ x. DoAgree (x ∷ ps) r (q ∷ qs) t in
-    subst Q (sym first) (agree_after q ps qs r t (cuts_agree (drop m w) ps qs r t (subst P same cut.2) cut'.2))
+    let rest : TwoCuts (drop m w) ps qs r t = record { one = subst P same cut.2; other = cut'.2 } in
+    subst Q (sym first) (agree_after q ps qs r t (cuts_agree rest))
 
 -- the pieces and the rest of all bytes are the only ones
-pub stream_once : (w : List ℕ) (ps qs : List (List ℕ)) (r t : List ℕ) → IsStream w ps r → IsStream w qs t → (ps ≡ qs) × (r ≡ t)
-stream_once w [] [] r t x y = (refl, sym x.0 ∙ y.0)
-stream_once w [] (q ∷ qs) r t x (cut, none) =
-    let P : List ℕ → Type 0 = λ xs. IsPieceLength xs cut.0 in absurd (x.1 cut.0 (subst P x.0 cut.1.0))
-stream_once w (p ∷ ps) [] r t (cut, none) y =
-    let P : List ℕ → Type 0 = λ xs. IsPieceLength xs cut.0 in absurd (y.1 cut.0 (subst P y.0 cut.1.0))
-stream_once w (p ∷ ps) (q ∷ qs) r t ((n, cut), none) ((m, cut'), none') =
+pub record TwoStreams (w : List ℕ) (ps qs : List (List ℕ)) (r t : List ℕ) : Type 0 where
+  pub one : IsStream w ps r
+  pub other : IsStream w qs t
+
+pub stream_once : {w : List ℕ} {ps qs : List (List ℕ)} {r t : List ℕ} → TwoStreams w ps qs r t → (ps ≡ qs) × (r ≡ t)
+stream_once {ps = []} {qs = []} streams = (refl, sym streams.one.0 ∙ streams.other.0)
+stream_once {ps = []} {qs = q ∷ qs} streams =
+    let cut = streams.other.0 in
+    let P : List ℕ → Type 0 = λ xs. IsPieceLength xs cut.0 in absurd (streams.one.1 cut.0 (subst P streams.one.0 cut.1.0))
+stream_once {ps = p ∷ ps} {qs = []} streams =
+    let cut = streams.one.0 in
+    let P : List ℕ → Type 0 = λ xs. IsPieceLength xs cut.0 in absurd (streams.other.1 cut.0 (subst P streams.other.0 cut.1.0))
+stream_once {w} {ps = p ∷ ps} {qs = q ∷ qs} {r} {t} streams =
+    let n = streams.one.0.0 in
+    let m = streams.other.0.0 in
+    let cut = streams.one.0.1 in
+    let cut' = streams.other.0.1 in
     let same : n ≡ m = piece_once w n m cut.0 cut'.0 in
     let P : ℕ → Type 0 = λ k. AreCut (drop k w) ps r in
-    let rest = stream_once (drop m w) ps qs r t (subst P same cut.2, none) (cut'.2, none') in
+    let later : TwoStreams (drop m w) ps qs r t = record { one = (subst P same cut.2, streams.one.1); other = (cut'.2, streams.other.1) } in
+    let rest = stream_once later in
     let first : p ≡ q = cut.1 ∙ ap (λ k. take k w) same ∙ sym cut'.1 in
     (ap (λ (x : List ℕ). x ∷ ps) first ∙ ap (λ (xs : List (List ℕ)). q ∷ xs) rest.0, rest.1)
 
 -- each byte CR or LF in front is a piece
-skips : (w : List ℕ) (ps : List (List ℕ)) (rest : List ℕ) (n : ℕ) → AreCut w ps rest → n ≤ length rest →
-    ((k : ℕ) → k < n → is_line_end (get_or rest k 0) ≡ true) → AreCut w (ps ++ map (λ c. c ∷ []) (take n rest)) (drop n rest)
-skips w ps rest zero cut h all =
+record AreEnds (rest : List ℕ) (n : ℕ) : Type 0 where
+  within : n ≤ length rest
+  line_ends : (k : ℕ) → k < n → is_line_end (get_or rest k 0) ≡ true
+
+skips : (w : List ℕ) (ps : List (List ℕ)) (rest : List ℕ) (n : ℕ) → AreCut w ps rest → AreEnds rest n → AreCut w (ps ++ map (λ c. c ∷ []) (take n rest)) (drop n rest)
+skips w ps rest zero cut ends =
     let P : List (List ℕ) → Type 0 = λ xs. AreCut w xs rest in subst P (sym (append-nil ps)) cut
-skips w ps [] (suc n) cut h all = let bad : ⊥ = omega (arith, h) in absurd bad
-skips w ps (c ∷ cs) (suc n) cut h all =
-    let next : AreCut w (ps ++ (c ∷ []) ∷ []) cs = cut_more w ps (c ∷ cs) 1 cut (LineEnd refl (omega arith) (all 0 (omega arith))) in
-    let more = skips w (ps ++ (c ∷ []) ∷ []) cs n next (omega (arith, h)) (λ k below. all (suc k) (omega (arith, below))) in
+skips w ps [] (suc n) cut ends = let bad : ⊥ = omega (arith, ends.within) in absurd bad
+skips w ps (c ∷ cs) (suc n) cut ends =
+    let next : AreCut w (ps ++ (c ∷ []) ∷ []) cs = cut_more w ps (c ∷ cs) 1 cut (LineEnd refl (omega arith) (ends.line_ends 0 (omega arith))) in
+    let more = skips w (ps ++ (c ∷ []) ∷ []) cs n next
+    (record { within = omega (arith, ends.within); line_ends = λ k below. ends.line_ends (suc k) (omega (arith, below)) }) in
     let P : List (List ℕ) → Type 0 = λ xs. AreCut w xs (drop n cs) in
     subst P (append_assoc ps ((c ∷ []) ∷ []) (map (λ x. x ∷ []) (take n cs))) more
 
@@ -117,7 +149,7 @@ no_more w ps rest cut = let P : List (List ℕ) → Type 0 = λ xs. AreCut w xs 
 -- what an answer tells are the next pieces
 pub next_pieces : (rest : List ℕ) (answer : Result Step DemuxFault) → IsFirst rest answer → (w : List ℕ) (ps : List (List ℕ)) → AreCut w ps rest →
     AreCut w (ps ++ told_pieces rest answer) (drop (told_length answer) rest)
-next_pieces rest (Ok (Skip n)) h w ps cut = skips w ps rest n cut h.1.within h.1.line_ends
+next_pieces rest (Ok (Skip n)) h w ps cut = skips w ps rest n cut (record { within = h.1.within; line_ends = h.1.line_ends })
 next_pieces rest (Ok (Block channel n)) h w ps cut = cut_more w ps rest n cut (WholeBlock h.0 h.1 h.3 h.4)
 next_pieces rest (Ok (Request n)) h w ps cut = cut_more w ps rest n cut (WholeRequest h.0 h.1 h.2)
 next_pieces rest (Ok More) h w ps cut = no_more w ps rest cut

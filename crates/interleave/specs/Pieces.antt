@@ -70,12 +70,12 @@ IsFirst bytes (Err BodyTooLong) = StartsRequest bytes × IsBodyTooLong bytes
 
 -- the answer is a fault or a whole piece, and no byte that comes later belongs to it: after CR and
 -- LF another byte waits
-abbrev pub IsWhole : List ℕ → Result Step DemuxFault → Type 0
-IsWhole bytes (Ok (Skip n)) = n < length bytes
-IsWhole bytes (Ok (Block channel n)) = Unit {0}
-IsWhole bytes (Ok (Request n)) = Unit {0}
-IsWhole bytes (Ok More) = ⊥
-IsWhole bytes (Err fault) = Unit {0}
+abbrev pub IsWholePiece : List ℕ → Result Step DemuxFault → Type 0
+IsWholePiece bytes (Ok (Skip n)) = n < length bytes
+IsWholePiece bytes (Ok (Block channel n)) = Unit {0}
+IsWholePiece bytes (Ok (Request n)) = Unit {0}
+IsWholePiece bytes (Ok More) = ⊥
+IsWholePiece bytes (Err fault) = Unit {0}
 
 -- at least `n` bytes CR and LF are in front
 abbrev pub IsLongerSkip : ℕ → Result Step DemuxFault → Type 0

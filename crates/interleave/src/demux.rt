@@ -57,14 +57,12 @@ impl Demux {
     pub fn new(alloc: Global) -> Result<Demux, NoMemory>
         ensures { IfOk result (λ demux. demux ≡ []) }
     {
-        match Vec::with_capacity(alloc, ROOM) {
-            Ok(bytes) => Ok(Demux {
-                bytes,
-                start: 0,
-                known: Known::Searched(0),
-            }),
-            Err(_) => Err(NoMemory),
-        }
+        let bytes = Vec::with_capacity(alloc, ROOM)?;
+        Ok(Demux {
+            bytes,
+            start: 0,
+            known: Known::Searched(0),
+        })
     }
 
     /// The bytes that wait.

@@ -6,7 +6,7 @@ ghost use Rattle.interleave.specs.Streams.{AreCut, DoAgree, HasStream, IsStream,
 ghost use Rattle.interleave.specs.Streams.{told_length, told_pieces};
 ghost use Rattle.interleave.specs.declared.pieces.DemuxFault.{DemuxFault};
 ghost use Rattle.interleave.specs.declared.pieces.Step.{Step};
-ghost use Rattle.interleave.specs.Pieces.{IsFirst, IsLongerSkip, IsWhole};
+ghost use Rattle.interleave.specs.Pieces.{IsFirst, IsLongerSkip, IsWholePiece};
 
 use crate::pieces::{DemuxFault, Step};
 
@@ -14,7 +14,7 @@ use crate::pieces::{DemuxFault, Step};
 /// comes later: the pieces of a stream don't depend on how its bytes were cut.
 pub fn law_cutting(waiting: &[u8], later: &[u8], answer: Result<Step, DemuxFault>)
     requires first { IsFirst waiting.now answer }
-    requires whole { IsWhole waiting.now answer }
+    requires whole { IsWholePiece waiting.now answer }
     ensures { IsFirst (waiting.now ++ later.now) answer }
 {
     let _read = (waiting.len(), later.len(), answer);
@@ -52,7 +52,8 @@ pub fn law_stream_grows()
 /// are those of all.
 pub fn law_cuts_join()
     ensures { (heard later : List ℕ) (pieces more : List (List ℕ)) (rest end : List ℕ)
-        → AreCut heard pieces rest → AreCut (rest ++ later) more end → AreCut (heard ++ later) (pieces ++ more) end }
+        → AreCut heard pieces rest → AreCut (rest ++ later) more end
+        → AreCut (heard ++ later) (pieces ++ more) end }
 {}
 
 /// Two cuts of one stream agree: the pieces of one are a front of the other's, which cuts the rest

@@ -50,6 +50,15 @@ fn finds_first_pieces(rt: HostRuntime) -> Result<(), Fail> {
         ("a\r\n\n", Ok(Step::Request(4))),
         ("a\r\r\n", Ok(Step::More)),
         ("a\n\r\r\n", Ok(Step::More)),
+    ] {
+        assert_eq!(rt; first(rt.alloc(), text.as_bytes())?, want, "at {text:?}");
+    }
+    Ok(())
+}
+
+#[test]
+fn finds_bodies(rt: HostRuntime) -> Result<(), Fail> {
+    for (text, want) in [
         ("a\nContent-Length: 3\n\nxy", Ok(Step::More)),
         ("a\nContent-Length: 3\n\nxyz", Ok(Step::Request(24))),
         (

@@ -4,7 +4,7 @@ use Rattle.std.proofs.lemmas.Bool.{cond-false, ne_eqb}
 use Rattle.std.proofs.lemmas.List.{append-nil}
 use Rattle.vod_base.specs.Links.{Doing, HeardBytes, HeardEnd, HeardSlot, Sent}
 use Rattle.interleave.specs.Streams.{AreCut, IsPieceLength}
-use Rattle.interleave.proofs.Streams.{cuts_join}
+use Rattle.interleave.proofs.Streams.{CutsInTurn, cuts_join}
 use Rattle.rtsp_client.specs.declared.wishes.Wish.{Wish}
 use Rattle.rtsp_client.specs.declared.wishes.Watched.{Watched}
 use Rattle.rtsp_client.specs.declared.wishes.WatchEnd.TheVariants.{Done}
@@ -43,7 +43,7 @@ pub heard-more : {bytes : List ℕ} {old : Stage} {rest : List ℕ} (more : List
     → GoOn old.history (moments_in pieces) → Heard (bytes ++ more) (stage (after old.history (moments_in pieces)) rest)
 heard-more {bytes} {old} {rest} more pieces heard cut good = record {
   pieces = heard.pieces ++ pieces;
-  cut = cuts_join bytes more heard.pieces pieces old.rest rest heard.cut cut;
+  cut = let cuts : CutsInTurn bytes more heard.pieces pieces old.rest rest = record { first = heard.cut; next = cut } in cuts_join cuts;
   sum = sum-after old.history (moments_in pieces)
       ∙ (ap (λ s. steps s (moments_in pieces)) heard.sum
       ∙ (sym (steps-on no_sum (moments_in heard.pieces) (moments_in pieces)) ∙ ap (steps no_sum) (sym (moments-parts heard.pieces pieces))));

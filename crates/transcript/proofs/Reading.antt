@@ -7,7 +7,7 @@ use Rattle.std.proofs.Math.Seq.{take-append-add}
 use Rattle.interleave.specs.Heads.{is_line_end}
 use Rattle.interleave.specs.Pieces.{IsRequestLength, StartsRequest}
 use Rattle.interleave.specs.Streams.{IsPieceLength, IsStream, WholeRequest}
-use Rattle.interleave.proofs.Streams.{stream_once}
+use Rattle.interleave.proofs.Streams.{TwoStreams, stream_once}
 use Rattle.film_frames.specs.Runs.{count_ended}
 use Rattle.film_frames.specs.Tracks.{framed_bytes}
 use Rattle.rtsp_client.specs.Answers.{block_moments, cut_bytes, moments_in, moments_of}
@@ -177,7 +177,9 @@ pub reading-of : {x : Stream} {bytes : List ℕ} {c : ℕ} {at : Stage} → Hear
 reading-of {x} {bytes} {c} {at} heard none is playing few =
     let all = all_of x in
     let P : List ℕ → Type 0 = λ b. IsStream b (take (count_ended c all) all) (rest_at c all) in
-    let once = stream_once bytes heard.pieces (take (count_ended c all) all) at.rest (rest_at c all) (heard.cut, none) (subst P (sym is) (cut-at all c x.alone)) in
+    let streams : TwoStreams bytes heard.pieces (take (count_ended c all) all) at.rest (rest_at c all) =
+    record { one = (heard.cut, none); other = subst P (sym is) (cut-at all c x.alone) } in
+    let once = stream_once streams in
     let sum : sum_of at.history ≡ steps no_sum (moments_in (take (count_ended c all) all)) = heard.sum ∙ ap (λ l. steps no_sum (moments_in l)) once.0 in
     let after_first = x.second ∷ (x.blocks ++ x.later) in
     elim (cases_lt c (length x.first)) [

@@ -6,7 +6,7 @@ use Rattle.std.proofs.Math.Seq.{drop-append-add, take-append-add}
 use Rattle.film_frames.specs.Runs.{count_ended}
 use Rattle.film_frames.specs.Tracks.{framed_bytes}
 use Rattle.interleave.specs.Streams.{AreCut, IsPieceLength, IsStream, LineEnd, WholeBlock, WholeRequest}
-use Rattle.interleave.proofs.Streams.{cut_more, cuts_agree, piece_once, piece_stays, piece_within}
+use Rattle.interleave.proofs.Streams.{TwoCuts, cut_more, cuts_agree, piece_once, piece_stays, piece_within}
 
 -- a piece by itself, whatever comes after it
 pub record IsAlone (piece : List ℕ) : Type 0 where
@@ -90,7 +90,8 @@ cut-front {bytes} {rest} {n} ps c cut alone is are next =
     let P : List ℕ → Type 0 = λ xs. IsStream xs all (rest_at c ps) in
     let stream : IsStream bytes all (rest_at c ps) = subst P (sym is) (cut-at ps c alone) in
     let longer : AreCut bytes (cut ++ take n rest ∷ []) (drop n rest) = cut_more bytes cut rest n are next in
-    elim (cuts_agree bytes (cut ++ take n rest ∷ []) all (drop n rest) (rest_at c ps) longer stream.0) [
+    let cuts : TwoCuts bytes (cut ++ take n rest ∷ []) all (drop n rest) (rest_at c ps) = record { one = longer; other = stream.0 } in
+    elim (cuts_agree cuts) [
       | inl more ↦ (more.0, more.1.0)
       | inr more ↦ front-is (drop n rest) more.0 more.1.0 more.1.1 stream.1
     ]

@@ -1,5 +1,7 @@
-use Rattle.interleave.proofs.Streams.{cuts_join}
+use Rattle.interleave.proofs.Streams.{CutsInTurn, cuts_join}
 use Rattle.interleave.proofs.laws.law_cuts_join.Goals as goal
 
 pub returns : goal.returns
-returns c = cuts_join
+returns c = λ heard later pieces more rest end first next.
+    let cuts : CutsInTurn heard later pieces more rest end = record { first = first; next = next } in
+    cuts_join cuts

@@ -1,6 +1,11 @@
 use Rattle.interleave.proofs.Exists.{has_stream}
-use Rattle.interleave.proofs.Streams.{stream_once}
+use Rattle.interleave.proofs.Streams.{TwoStreams, stream_once}
 use Rattle.interleave.proofs.laws.law_one_stream.Goals as goal
 
 pub returns : goal.returns
-returns c = record { some = has_stream; one = stream_once }
+returns c = record {
+  some = has_stream;
+  one = λ heard one other rest end stream stream'.
+      let streams : TwoStreams heard one other rest end = record { one = stream; other = stream' } in
+      stream_once streams;
+}

@@ -7,5 +7,6 @@ invariant_of-self c = record {
   start = search rules;
   most = search rules;
   room = search rules;
-  known = rw c.in-Ok.ensures.items (kept_known _ c.self.inside.bytes.items _ _ c.self.inside.start _ c.make_room-self-inside.ensures.start c.make_room-self-inside.ensures.waiting c.self.invariant.known);
+  known = rw c.in-Ok.ensures.items (kept_known {old = c.self.inside.bytes.items} {from = c.self.inside.start} _ _
+      (record { within = c.make_room-self-inside.ensures.start; same = c.make_room-self-inside.ensures.waiting }) c.self.invariant.known);
 }
