@@ -26,11 +26,11 @@ front_of_second {before} {next} text whole cut = record {
 }
 
 -- both texts
-pub both : (before text next mid after : List ℕ) → mid ≡ before ++ text → after ≡ mid ++ next → after ≡ before ++ (text ++ next)
-both before text next mid after first second = second ∙ ap (λ (l : List ℕ). l ++ next) first ∙ append_assoc before text next
+pub both : {mid after : List ℕ} (before text next : List ℕ) → mid ≡ before ++ text → after ≡ mid ++ next → after ≡ before ++ (text ++ next)
+both before text next first second = second ∙ ap (λ (l : List ℕ). l ++ next) first ∙ append_assoc before text next
 
 after_first : {before next mid after : List ℕ} {r : Answer} (text : List ℕ) → mid ≡ before ++ text → IsAppended mid next after r → IsAppended before (text ++ next) after r
-after_first {before} {next} {mid} {after} {r = Ok done} text whole more = record { whole = both before text next mid after whole more.whole; cut = tt }
+after_first {before} {next} {mid} {after} {r = Ok done} text whole more = record { whole = both before text next whole more.whole; cut = tt }
 after_first {next} {r = Err e} text whole more = record { whole = tt; cut = front_of_second text whole more.cut }
 
 -- after the whole first text, the second one is appended

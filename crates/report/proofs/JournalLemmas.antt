@@ -60,7 +60,7 @@ pub one_more : {entries : List Entry} {from place : ℕ} {before mid after : Lis
     place < length entries → entry ≡ get_or entries place entry → after ≡ mid ++ entry_line place entry → HasAppended entries from (place + 1) before after
 one_more {entries = entries} {place = place} {before = before} entry so_far inside at is = record {
   done = so_far.done ++ entry_line place entry;
-  after_is = both before so_far.done (entry_line place entry) _ _ so_far.after_is is;
+  after_is = both before so_far.done (entry_line place entry) so_far.after_is is;
   whole = append_assoc so_far.done (entry_line place entry) (journal_text (place + 1) (drop (place + 1) entries))
       ∙ ap (λ (l : List ℕ). so_far.done ++ l) (sym (text_from entries place entry inside at)) ∙ so_far.whole;
 }

@@ -63,11 +63,16 @@ lines-more {n} {t} bytes a k is count =
     ap (λ m. lines bytes (range_with_len a m)) one ∙ lines-split bytes a k 0 t is
     ∙ ap (λ (l : List ℕ). lines bytes (range_with_len a k) ++ l) (append-nil (line_at bytes t))
 
+-- slot t stands k slots after slot a, among the n slots from slot a on
+pub record IsAmong (a n k t : ℕ) : Type 0 where
+  pub is : t ≡ a + k
+  pub inside : k < n
+
 -- all slots, of which t is one in which bytes are booked
-pub lines-around : {t : ℕ} (bytes : ℕ → ℕ) (a k n : ℕ) → t ≡ a + k → k < n → 0 < bytes t →
+pub lines-around : {a n k t : ℕ} (bytes : ℕ → ℕ) → IsAmong a n k t → 0 < bytes t →
     lines bytes (range_with_len a k) ++ (slot_line bytes t ++ lines bytes (range_with_len (t + 1) (n - (k + 1)))) ≡ lines bytes (range_with_len a n)
-lines-around {t} bytes a k n is inside some =
+lines-around {a} {n} {k} {t} bytes among some =
     let m = n - (k + 1) in
-    let count : n ≡ k + suc m = omega arith in
-    sym (ap (λ i. lines bytes (range_with_len a i)) count ∙ lines-split bytes a k m t is
+    let count : n ≡ k + suc m = omega (arith, among.inside) in
+    sym (ap (λ i. lines bytes (range_with_len a i)) count ∙ lines-split bytes a k m t among.is
     ∙ ap (λ (l : List ℕ). lines bytes (range_with_len a k) ++ (l ++ lines bytes (range_with_len (t + 1) m))) (line-booked bytes t some))

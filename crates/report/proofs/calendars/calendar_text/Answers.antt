@@ -25,7 +25,7 @@ returns-in_err-push_slots c =
     let first = first_words c.now.result in
     let slots = flat_map (slot_line (booked_at calendar)) (booked_slots calendar.first (booked_at calendar)) in
     let words = ap (λ n. first_words n ++ codes "\n" ++ slots ++ codes "end\n") c.now.ensures.value in
-    let head = both _ first (codes "\n") _ _ c.in_ok-push_field.ensures.whole c.in_ok-push.ensures.whole in
+    let head = both _ first (codes "\n") c.in_ok-push_field.ensures.whole c.in_ok-push.ensures.whole in
     handed_on c.from_residual-in_err-push_slots.result c.from_residual-in_err-push_slots.ensures.0
     (appended_as words (cut_before (codes "end\n") (then_appended (first ++ codes "\n") head c.in_err-push_slots.ensures)))
 
@@ -35,5 +35,5 @@ returns c =
     let first = first_words c.now.result in
     let slots = flat_map (slot_line (booked_at calendar)) (booked_slots calendar.first (booked_at calendar)) in
     let words = ap (λ n. first_words n ++ codes "\n" ++ slots ++ codes "end\n") c.now.ensures.value in
-    let head = both _ first (codes "\n") _ _ c.in_ok-push_field.ensures.whole c.in_ok-push.ensures.whole in
-    appended_as words (then_appended (first ++ codes "\n" ++ slots) (both _ (first ++ codes "\n") slots _ _ head c.in_ok-push_slots.ensures.whole) c.push-2.ensures)
+    let head = both _ first (codes "\n") c.in_ok-push_field.ensures.whole c.in_ok-push.ensures.whole in
+    appended_as words (then_appended (first ++ codes "\n" ++ slots) (both _ (first ++ codes "\n") slots head c.in_ok-push_slots.ensures.whole) c.push-2.ensures)

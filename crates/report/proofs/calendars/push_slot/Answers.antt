@@ -17,4 +17,4 @@ pub returns : goal.returns
 returns c =
     let slot = field (codes "at ") c.args.slot in
     let booked = field (codes " booked=") c.args.booked in
-    then_appended (slot ++ booked) (both _ slot booked _ _ c.in_ok-push_field.ensures.whole c.in_ok-push_field-2.ensures.whole) c.push.ensures
+    then_appended (slot ++ booked) (both _ slot booked c.in_ok-push_field.ensures.whole c.in_ok-push_field-2.ensures.whole) c.push.ensures

@@ -4,7 +4,7 @@ use Rattle.slot_calendar.specs.Calendars.{booked_at}
 use Rattle.slot_calendar.specs.Totals.{ring_slots}
 use Rattle.report.specs.CalendarTexts.{slot_words}
 use Rattle.report.proofs.AppendLemmas.{appended_as, both, cut_before, handed_on, then_appended}
-use Rattle.report.proofs.SlotLemmas.{line-booked, line-free, lines, lines-around, lines-more, ring-is}
+use Rattle.report.proofs.SlotLemmas.{IsAmong, line-booked, line-free, lines, lines-around, lines-more, ring-is}
 use Rattle.report.proofs.calendars.push_slots.Goals as goal
 use Rattle.report.proofs.calendars.push_slots.Goals.{then-is_booked+in_ok-push_slot, else-is_booked}
 
@@ -18,8 +18,9 @@ returns-in_err-push_slot c =
     let after = lines (booked_at calendar) (range_with_len (slot + 1) (ring_slots - (k + 1))) in
     let inside : k < ring_slots = omega (arith, ring-is, c.loop-slot-test.true, c.now-now.ensures.value, c.loop-slot.auto.slot) in
     let place : slot ≡ first + k = omega (arith, c.now-now.ensures.value, c.loop-slot.auto.slot) in
+    let among : IsAmong first ring_slots k slot = record { is = place; inside = inside } in
     let some : 0 < booked_at calendar slot = omega (arith, c.booked_bytes-booked.ensures.value, c.if-is_booked.true) in
-    let words = ap (λ n. before ++ ((slot_words slot n ++ codes "\n") ++ after)) c.booked_bytes-booked.ensures.value ∙ lines-around (booked_at calendar) first k ring_slots place inside some in
+    let words = ap (λ n. before ++ ((slot_words slot n ++ codes "\n") ++ after)) c.booked_bytes-booked.ensures.value ∙ lines-around (booked_at calendar) among some in
     handed_on c.from_residual.result c.from_residual.ensures.0 (appended_as words (then_appended before c.loop-slot.invariant (cut_before after c.in_err-push_slot.ensures)))
 
 pub loop-slot-preserved : goal.loop-slot-preserved
@@ -38,7 +39,7 @@ loop-slot-preserved c =
           let some : 0 < booked_at calendar slot = omega (arith, c.booked_bytes-booked.ensures.value, w.if-is_booked.true) in
           let line = slot_words slot c.booked_bytes-booked.result ++ codes "\n" in
           let same = ap (λ n. slot_words slot n ++ codes "\n") c.booked_bytes-booked.ensures.value ∙ sym (line-booked (booked_at calendar) slot some) in
-          ap (λ (v : Vec ℕ Global). v.items) w.out-is ∙ both out before line _ _ c.loop-slot.invariant w.in_ok-push_slot.ensures.whole
+          ap (λ (v : Vec ℕ Global). v.items) w.out-is ∙ both out before line c.loop-slot.invariant w.in_ok-push_slot.ensures.whole
           ∙ ap (λ (l : List ℕ). out ++ l) (ap (λ (l : List ℕ). before ++ l) same ∙ sym more)
           )
       | else-is_booked w ↦ (

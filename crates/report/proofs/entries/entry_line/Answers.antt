@@ -25,7 +25,7 @@ returns-in_err-push_command c =
     let place = decimal c.args.place in
     let seat = field (codes " seat=") c.from.result in
     let words = ap (λ n. place ++ field (codes " seat=") n ++ command_words entry.command ++ answer_words entry.answer ++ codes "\n") c.from.ensures in
-    let head = both _ place seat _ _ c.in_ok-push_number.ensures.whole c.in_ok-push_field.ensures.whole in
+    let head = both _ place seat c.in_ok-push_number.ensures.whole c.in_ok-push_field.ensures.whole in
     handed_on c.from_residual-in_err-push_command.result c.from_residual-in_err-push_command.ensures.0
     (appended_as words (cut_before (codes "\n") (cut_before (answer_words entry.answer) (then_appended (place ++ seat) head c.in_err-push_command.ensures))))
 
@@ -36,8 +36,8 @@ returns-in_err-push_answer c =
     let seat = field (codes " seat=") c.from.result in
     let command = command_words entry.command in
     let words = ap (λ n. place ++ field (codes " seat=") n ++ command ++ answer_words entry.answer ++ codes "\n") c.from.ensures in
-    let head = both _ place seat _ _ c.in_ok-push_number.ensures.whole c.in_ok-push_field.ensures.whole in
-    let asked = both _ (place ++ seat) command _ _ head c.in_ok-push_command.ensures.whole in
+    let head = both _ place seat c.in_ok-push_number.ensures.whole c.in_ok-push_field.ensures.whole in
+    let asked = both _ (place ++ seat) command head c.in_ok-push_command.ensures.whole in
     handed_on c.from_residual-in_err-push_answer.result c.from_residual-in_err-push_answer.ensures.0
     (appended_as words (cut_before (codes "\n") (then_appended (place ++ seat ++ command) asked c.in_err-push_answer.ensures)))
 
@@ -49,7 +49,7 @@ returns c =
     let command = command_words entry.command in
     let answer = answer_words entry.answer in
     let words = ap (λ n. place ++ field (codes " seat=") n ++ command ++ answer ++ codes "\n") c.from.ensures in
-    let head = both _ place seat _ _ c.in_ok-push_number.ensures.whole c.in_ok-push_field.ensures.whole in
-    let asked = both _ (place ++ seat) command _ _ head c.in_ok-push_command.ensures.whole in
-    let answered = both _ (place ++ seat ++ command) answer _ _ asked c.in_ok-push_answer.ensures.whole in
+    let head = both _ place seat c.in_ok-push_number.ensures.whole c.in_ok-push_field.ensures.whole in
+    let asked = both _ (place ++ seat) command head c.in_ok-push_command.ensures.whole in
+    let answered = both _ (place ++ seat ++ command) answer asked c.in_ok-push_answer.ensures.whole in
     appended_as words (then_appended (place ++ seat ++ command ++ answer) answered c.push.ensures)

@@ -19,4 +19,4 @@ pub returns : goal.returns
 returns c =
     let first = field c.args.one.0.now c.args.one.1 in
     let second = field c.args.two.0.now c.args.two.1 in
-    then_appended (first ++ second) (both _ first second _ _ c.in_ok-push_field.ensures.whole c.in_ok-push_field-2.ensures.whole) c.push_field-3.ensures
+    then_appended (first ++ second) (both _ first second c.in_ok-push_field.ensures.whole c.in_ok-push_field-2.ensures.whole) c.push_field-3.ensures
