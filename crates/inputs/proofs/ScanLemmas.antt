@@ -200,7 +200,29 @@ pub trouble_on : {told told' : Option (List File)} (name : List ℕ) (Refuses : 
     (a b c : ℕ) (t : Trouble) → told' ≡ told → a ≤ b →
     IsReadTrouble (IsNamed name) Refuses told' b c t → IsReadTrouble (IsNamed name) Refuses told a c t
 trouble_on {told} {told'} name Refuses a b c t kept count h =
-    trouble_map (IsNamed name) (IsNamed name) Refuses Refuses told' told b c a c t (λ n is. is) (λ held n fault is named refused. refused) (λ held is. kept ∙ is) count (omega arith) h
+    trouble_map (record {
+      Reads = IsNamed name;
+      Refuses = Refuses;
+      told = told';
+      before = b;
+      after = c;
+    })
+    (record {
+      Reads = IsNamed name;
+      Refuses = Refuses;
+      told = told;
+      before = a;
+      after = c;
+    })
+    t
+    (record {
+      reads = λ n is. is;
+      refuses = λ held n fault is named refused. refused;
+      keeps = λ held is. kept ∙ is;
+      low = count;
+      high = omega arith;
+    })
+    h
 
 -- the same of a call's answer
 pub troubles_on : {told told' : Option (List File)} (name : List ℕ) (a b c : ℕ) (r : Result Ending Trouble) → told' ≡ told → a ≤ b →

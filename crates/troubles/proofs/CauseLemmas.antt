@@ -6,19 +6,35 @@ use Rattle.troubles.specs.declared.faults.Fault.{Fault}
 use Rattle.troubles.specs.declared.faults.Trouble.{Trouble}
 use Rattle.troubles.specs.declared.faults.Trouble.TheVariants.{Usage, Refused, StoreFault, SinkFault, NoMemory, GateFault, LinkFault}
 
--- a trouble with one cause has each cause that follows, over a count that rose no less
-pub trouble_map : (Reads Reads' : List ℕ → Type 0) (Refuses Refuses' : List File → List ℕ → Fault → Type 0)
-    (told told' : Option (List File)) (a a' b b' : ℕ) (t : Trouble) →
-    ((name : List ℕ) → Reads name → Reads' name) →
-    ((held : List File) (name : List ℕ) (fault : Fault) → told' ≡ Some held → Reads name → Refuses held name fault → Refuses' held name fault) →
-    ((held : List File) → told' ≡ Some held → told ≡ Some held) → b ≤ a → a' ≤ b' →
-    IsReadTrouble Reads Refuses told a a' t → IsReadTrouble Reads' Refuses' told' b b' t
-trouble_map R R' F F' told told' a a' b b' Usage reads refuses keeps low high h = h
-trouble_map R R' F F' told told' a a' b b' (Refused name fault) reads refuses keeps low high h =
-    (reads name.now h.0, λ held is. refuses held name.now fault is h.0 (h.1 held (keeps held is)))
-trouble_map R R' F F' told told' a a' b b' (StoreFault name) reads refuses keeps low high h =
-    (reads name.now h.0, λ end. omega (arith, low, high, h.1 (omega (arith, high, end))))
-trouble_map R R' F F' told told' a a' b b' SinkFault reads refuses keeps low high h = h
-trouble_map R R' F F' told told' a a' b b' NoMemory reads refuses keeps low high h = tt
-trouble_map R R' F F' told told' a a' b b' GateFault reads refuses keeps low high h = h
-trouble_map R R' F F' told told' a a' b b' LinkFault reads refuses keeps low high h = h
+-- what the trouble of a call that reads a library may come from: the inputs that it reads, what a
+-- refusal goes with, what the library tells, and its count of faults before and after
+pub record Causes : Type 1 where
+  pub Reads : List ℕ → Type 0
+  pub Refuses : List File → List ℕ → Fault → Type 0
+  pub told : Option (List File)
+  pub before : ℕ
+  pub after : ℕ
+
+abbrev pub IsTroubleOf : Causes → Trouble → Type 0
+IsTroubleOf causes t = IsReadTrouble causes.Reads causes.Refuses causes.told causes.before causes.after t
+
+-- each cause follows from one of the others, over a count that rose no less
+pub record AreWider (one other : Causes) : Type 0 where
+  pub reads : (name : List ℕ) → one.Reads name → other.Reads name
+  pub refuses : (held : List File) (name : List ℕ) (fault : Fault) → other.told ≡ Some held → one.Reads name → one.Refuses held name fault →
+      other.Refuses held name fault
+  pub keeps : (held : List File) → other.told ≡ Some held → one.told ≡ Some held
+  pub low : other.before ≤ one.before
+  pub high : one.after ≤ other.after
+
+-- a trouble with one cause has each cause that follows
+pub trouble_map : (one other : Causes) (t : Trouble) → AreWider one other → IsTroubleOf one t → IsTroubleOf other t
+trouble_map one other Usage wider h = h
+trouble_map one other (Refused name fault) wider h =
+    (wider.reads name.now h.0, λ held is. wider.refuses held name.now fault is h.0 (h.1 held (wider.keeps held is)))
+trouble_map one other (StoreFault name) wider h =
+    (wider.reads name.now h.0, λ end. omega (arith, wider.low, wider.high, h.1 (omega (arith, wider.high, end))))
+trouble_map one other SinkFault wider h = h
+trouble_map one other NoMemory wider h = tt
+trouble_map one other GateFault wider h = h
+trouble_map one other LinkFault wider h = h

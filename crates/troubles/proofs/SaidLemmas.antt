@@ -3,13 +3,13 @@ use Rattle.std.proofs.Common.{◌≡◌, ℕ, ◌+◌, ◌≤◌, Bool, true, fa
 use Rattle.std.proofs.lemmas.Bool.{true≢false}
 use Rattle.std.proofs.Math.Seq.{take-append-add}
 use Rattle.std.proofs.lemmas.List.{take-append-le}
-use Rattle.vod_base.specs.Outside.{HasRisen, more, IsFrontMore}
-use Rattle.vod_base.proofs.Telling.{more-append, more-nil}
+use Rattle.vod_base.specs.Outside.{HasRisen, told_more, IsFrontMore}
+use Rattle.vod_base.proofs.Telling.{told_more-append, told_more-nil}
 use Rattle.troubles.specs.Said.{IsSaid}
 
 -- nothing was said yet
 pub said_nothing : (faults : ℕ) (told : Option (List ℕ)) → IsSaid faults faults told told [] true
-said_nothing faults told = record { count = omega arith; all = λ _. sym (more-nil told); risen = λ e. absurd (true≢false e); front = λ e. absurd (true≢false e) }
+said_nothing faults told = record { count = omega arith; all = λ _. sym (told_more-nil told); risen = λ e. absurd (true≢false e); front = λ e. absurd (true≢false e) }
 
 -- nothing more is said after a fault
 pub said_no_more : {faults faults' : ℕ} {told told' : Option (List ℕ)} {text : List ℕ} (piece : List ℕ) → IsSaid faults faults' told told' text false →
@@ -24,17 +24,17 @@ said_no_more {told} {told'} {text} piece said =
         front.0,
         (
           omega (arith, front.1.0, length-append text piece),
-          front.1.1 ∙ ap (more told) (sym (take-append-le front.0 text piece front.1.0)),
+          front.1.1 ∙ ap (told_more told) (sym (take-append-le front.0 text piece front.1.0)),
         ),
       );
     }
 
 -- a piece more was written
 pub said_more : {faults faults' faults'' : ℕ} {told told' told'' : Option (List ℕ)} {text : List ℕ} (piece : List ℕ) → IsSaid faults faults' told told' text true →
-    faults' ≤ faults'' → told'' ≡ more told' piece → IsSaid faults faults'' told told'' (text ++ piece) true
+    faults' ≤ faults'' → told'' ≡ told_more told' piece → IsSaid faults faults'' told told'' (text ++ piece) true
 said_more {told} {text} piece said count wrote = record {
   count = omega (arith, said.count, count);
-  all = λ _. wrote ∙ ap (λ (t : Option (List ℕ)). more t piece) (said.all refl) ∙ more-append told text piece;
+  all = λ _. wrote ∙ ap (λ (t : Option (List ℕ)). told_more t piece) (said.all refl) ∙ told_more-append told text piece;
   risen = λ e. absurd (true≢false e);
   front = λ e. absurd (true≢false e);
 }
@@ -50,8 +50,8 @@ said_part {told} {text} piece said count risen wrote = record {
     length text + wrote.0,
     (
       omega (arith, wrote.1.0, length-append text piece),
-      wrote.1.1 ∙ ap (λ (t : Option (List ℕ)). more t (take wrote.0 piece)) (said.all refl)
-          ∙ more-append told text (take wrote.0 piece) ∙ ap (more told) (sym (take-append-add text piece wrote.0)),
+      wrote.1.1 ∙ ap (λ (t : Option (List ℕ)). told_more t (take wrote.0 piece)) (said.all refl)
+          ∙ told_more-append told text (take wrote.0 piece) ∙ ap (told_more told) (sym (take-append-add text piece wrote.0)),
     ),
   );
 }
@@ -59,7 +59,7 @@ said_part {told} {text} piece said count risen wrote = record {
 -- a piece was written, or failed
 pub said_piece : {faults faults' faults'' : ℕ} {told told' told'' : Option (List ℕ)} {text : List ℕ} {ok : Bool}
     (piece : List ℕ) → IsSaid faults faults' told told' text true →
-    faults' ≤ faults'' → (ok ≡ true → told'' ≡ more told' piece) → (ok ≡ false → HasRisen faults' faults'') → (ok ≡ false → IsFrontMore told' told'' piece) →
+    faults' ≤ faults'' → (ok ≡ true → told'' ≡ told_more told' piece) → (ok ≡ false → HasRisen faults' faults'') → (ok ≡ false → IsFrontMore told' told'' piece) →
     IsSaid faults faults'' told told'' (text ++ piece) ok
 said_piece {text} {ok = true} piece said count whole risen front =
     said_more piece said count (whole refl)

@@ -1,6 +1,6 @@
 -- What was said on a stream, piece by piece up to the first fault.
 use Rattle.std.specs.Prelude.{◌≡◌, ℕ, ◌≤◌, Bool, true, false, List, ◌++◌, Option, codes, decimal}
-use Rattle.vod_base.specs.Outside.{HasRisen, more, IsFrontMore}
+use Rattle.vod_base.specs.Outside.{HasRisen, told_more, IsFrontMore}
 
 -- a blank and a number
 abbrev pub number_text : ℕ → List ℕ
@@ -14,7 +14,7 @@ with_label label number = codes " " ++ label ++ codes "=" ++ decimal number
 pub record IsSaid (faults faults' : ℕ) (told told' : Option (List ℕ)) (text : List ℕ) (whole : Bool)
     : Type 0 where
   pub count : faults ≤ faults'
-  pub all : whole ≡ true → told' ≡ more told text
+  pub all : whole ≡ true → told' ≡ told_more told text
   pub risen : whole ≡ false → HasRisen faults faults'
   pub front : whole ≡ false → IsFrontMore told told' text
 

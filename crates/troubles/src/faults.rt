@@ -1,6 +1,7 @@
 //! What keeps the program from its work.
 
 use mpeg_scan::FilmFault;
+use std::alloc::{AllocError, AllocFailed};
 use sys_demux::SystemFault;
 use thiserror::Error;
 use vod_base::NoMemory;
@@ -89,6 +90,28 @@ impl From<NoMemory> for Trouble<'_> {
     ghost from_gives = { λ _ trouble. trouble ≡ TroubleNoMemory };
 
     fn from(_fault: NoMemory) -> Self {
+        Trouble::NoMemory
+    }
+}
+
+impl From<AllocError> for Trouble<'_> {
+    ghost use Rattle.std.specs.Prelude.{◌≡◌};
+    ghost use Rattle.troubles.specs.declared.faults.Trouble.TheVariants.{NoMemory as TroubleNoMemory};
+
+    ghost from_gives = { λ _ trouble. trouble ≡ TroubleNoMemory };
+
+    fn from(_error: AllocError) -> Self {
+        Trouble::NoMemory
+    }
+}
+
+impl<T: Drop> From<AllocFailed<T>> for Trouble<'_> {
+    ghost use Rattle.std.specs.Prelude.{◌≡◌};
+    ghost use Rattle.troubles.specs.declared.faults.Trouble.TheVariants.{NoMemory as TroubleNoMemory};
+
+    ghost from_gives = { λ _ trouble. trouble ≡ TroubleNoMemory };
+
+    fn from(_error: AllocFailed<T>) -> Self {
         Trouble::NoMemory
     }
 }

@@ -9,10 +9,29 @@ use Rattle.inputs.proofs.films.load_within.Goals as goal
 
 pub returns-in-Err-clause-trouble : goal.returns-in-Err-clause-trouble
 returns-in-Err-clause-trouble g c =
-    trouble_map (IsNamed c.args.name.now) (IsNamed c.args.name.now) IsMissing (IsRefusedAbove c.args.most c.args.over)
-    (g.L.Library.files c.args.library.now) (g.L.Library.files c.args.library.now)
-    (g.L.Library.faults c.args.library.now) (g.L.Library.faults c.find_file.new.library) (g.L.Library.faults c.args.library.now) (g.L.Library.faults c.find_file.new.library)
-    c.in-Err.trouble (λ name is. is) (λ held name fault told is missing. inl missing) (λ held told. told) (omega arith) (omega arith) ((c.in-Err.ensures {u = tt}).trouble)
+    trouble_map (record {
+      Reads = IsNamed c.args.name.now;
+      Refuses = IsMissing;
+      told = g.L.Library.files c.args.library.now;
+      before = g.L.Library.faults c.args.library.now;
+      after = g.L.Library.faults c.find_file.new.library;
+    })
+    (record {
+      Reads = IsNamed c.args.name.now;
+      Refuses = IsRefusedAbove c.args.most c.args.over;
+      told = g.L.Library.files c.args.library.now;
+      before = g.L.Library.faults c.args.library.now;
+      after = g.L.Library.faults c.find_file.new.library;
+    })
+    c.in-Err.trouble
+    (record {
+      reads = λ name is. is;
+      refuses = λ held name fault told is missing. inl missing;
+      keeps = λ held told. told;
+      low = omega arith;
+      high = omega arith;
+    })
+    ((c.in-Err.ensures {u = tt}).trouble)
 
 pub returns-then-most-size-clause-trouble : goal.returns-then-most-size-clause-trouble
 returns-then-most-size-clause-trouble g c = (

@@ -46,8 +46,26 @@ returns-clause-scanned g c =
 
 pub returns-in-Err-clause-trouble : goal.returns-in-Err-clause-trouble
 returns-in-Err-clause-trouble g c =
-    trouble_map (IsNamed c.args.name.now) (IsNamed c.args.name.now) IsFilmRefused IsFilmRefused
-    (g.L.Library.files c.loop-more.library) (g.L.Library.files c.args.library.now)
-    (g.L.Library.faults c.loop-more.library) (g.L.Library.faults c.feed_piece.new.library) (g.L.Library.faults c.args.library.now) (g.L.Library.faults c.feed_piece.new.library)
-    c.in-Err.trouble (λ name is. is) (λ held name fault told is refused. refused) (λ held told. c.loop-more.invariant.0.kept ∙ told)
-    (omega (arith, c.loop-more.invariant.0.count)) (omega arith) ((c.in-Err.ensures {u = tt}).trouble)
+    trouble_map (record {
+      Reads = IsNamed c.args.name.now;
+      Refuses = IsFilmRefused;
+      told = g.L.Library.files c.loop-more.library;
+      before = g.L.Library.faults c.loop-more.library;
+      after = g.L.Library.faults c.feed_piece.new.library;
+    })
+    (record {
+      Reads = IsNamed c.args.name.now;
+      Refuses = IsFilmRefused;
+      told = g.L.Library.files c.args.library.now;
+      before = g.L.Library.faults c.args.library.now;
+      after = g.L.Library.faults c.feed_piece.new.library;
+    })
+    c.in-Err.trouble
+    (record {
+      reads = λ name is. is;
+      refuses = λ held name fault told is refused. refused;
+      keeps = λ held told. c.loop-more.invariant.0.kept ∙ told;
+      low = omega (arith, c.loop-more.invariant.0.count);
+      high = omega arith;
+    })
+    ((c.in-Err.ensures {u = tt}).trouble)

@@ -14,27 +14,59 @@ use Rattle.vodserve.proofs.checks.check_viewer.Goals as goal
 pub returns-in_err-curves-clause-trouble : goal.returns-in_err-curves-clause-trouble
 returns-in_err-curves-clause-trouble g c =
     handed_on _ c.from_residual.result c.from_residual.ensures.1
-    (trouble_map (IsNamed (source_name (source_read c.args.viewer.source))) (IsRead (check_of (viewer_of c.args.viewer) c.args.cert.now))
-    (IsViewerTrouble (viewer_of c.args.viewer)) (IsInputRefused (check_of (viewer_of c.args.viewer) c.args.cert.now))
-    (g.L.Library.files c.args.library.now) (g.L.Library.files c.args.library.now)
-    (g.L.Library.faults c.args.library.now) (g.L.Library.faults c.viewer_curves.new.library) (g.L.Library.faults c.args.library.now) (g.L.Library.faults c.viewer_curves.new.library)
-    c.in_err-curves.field-0.0 (λ name is. inl is) (λ held name fault told is refused. inl (is, refused)) (λ held told. told)
-    (omega arith) (omega arith) ((c.in_err-curves.ensures {u = tt}).trouble))
+    (trouble_map (record {
+      Reads = IsNamed (source_name (source_read c.args.viewer.source));
+      Refuses = IsViewerTrouble (viewer_of c.args.viewer);
+      told = g.L.Library.files c.args.library.now;
+      before = g.L.Library.faults c.args.library.now;
+      after = g.L.Library.faults c.viewer_curves.new.library;
+    })
+    (record {
+      Reads = IsRead (check_of (viewer_of c.args.viewer) c.args.cert.now);
+      Refuses = IsInputRefused (check_of (viewer_of c.args.viewer) c.args.cert.now);
+      told = g.L.Library.files c.args.library.now;
+      before = g.L.Library.faults c.args.library.now;
+      after = g.L.Library.faults c.viewer_curves.new.library;
+    })
+    c.in_err-curves.field-0.0
+    (record {
+      reads = λ name is. inl is;
+      refuses = λ held name fault told is refused. inl (is, refused);
+      keeps = λ held told. told;
+      low = omega arith;
+      high = omega arith;
+    })
+    ((c.in_err-curves.ensures {u = tt}).trouble))
 
 pub returns-in_err-written-clause-trouble : goal.returns-in_err-written-clause-trouble
 returns-in_err-written-clause-trouble g c =
     handed_on _ c.from_residual-in_err-written.result c.from_residual-in_err-written.ensures.1
-    (trouble_map (IsNamed c.args.cert.now) (IsRead (check_of (viewer_of c.args.viewer) c.args.cert.now))
-    IsMissing (IsInputRefused (check_of (viewer_of c.args.viewer) c.args.cert.now))
-    (g.L.Library.files c.viewer_curves.new.library) (g.L.Library.files c.args.library.now)
-    (g.L.Library.faults c.viewer_curves.new.library) (g.L.Library.faults c.read_input.new.library) (g.L.Library.faults c.args.library.now) (g.L.Library.faults c.read_input.new.library)
-    c.in_err-written.field-0.0 (λ name is. inr is)
-    (λ held name fault told is missing. inr (
-      is,
-      ((c.in_ok-curves.curves, (c.in_ok-curves.ensures {u = tt}).curves held told), inl (subst (λ (n : List ℕ). IsMissing held n fault) is missing)),
-    ))
-    (λ held told. c.viewer_curves.ensures.library.kept ∙ told)
-    (omega (arith, c.viewer_curves.ensures.library.count)) (omega arith) ((c.in_err-written.ensures {u = tt}).trouble))
+    (trouble_map (record {
+      Reads = IsNamed c.args.cert.now;
+      Refuses = IsMissing;
+      told = g.L.Library.files c.viewer_curves.new.library;
+      before = g.L.Library.faults c.viewer_curves.new.library;
+      after = g.L.Library.faults c.read_input.new.library;
+    })
+    (record {
+      Reads = IsRead (check_of (viewer_of c.args.viewer) c.args.cert.now);
+      Refuses = IsInputRefused (check_of (viewer_of c.args.viewer) c.args.cert.now);
+      told = g.L.Library.files c.args.library.now;
+      before = g.L.Library.faults c.args.library.now;
+      after = g.L.Library.faults c.read_input.new.library;
+    })
+    c.in_err-written.field-0.0
+    (record {
+      reads = λ name is. inr is;
+      refuses = λ held name fault told is missing. inr (
+        is,
+        ((c.in_ok-curves.curves, (c.in_ok-curves.ensures {u = tt}).curves held told), inl (subst (λ (n : List ℕ). IsMissing held n fault) is missing)),
+      );
+      keeps = λ held told. c.viewer_curves.ensures.library.kept ∙ told;
+      low = omega (arith, c.viewer_curves.ensures.library.count);
+      high = omega arith;
+    })
+    ((c.in_err-written.ensures {u = tt}).trouble))
 
 pub returns-in-Err-BadCert-clause-trouble : goal.returns-in-Err-BadCert-clause-trouble
 returns-in-Err-BadCert-clause-trouble g c = (

@@ -13,12 +13,29 @@ use Rattle.vodserve.proofs.curves.viewer_curves.Goals as goal
 pub returns-in_err-pictures-clause-trouble : goal.returns-in_err-pictures-clause-trouble
 returns-in_err-pictures-clause-trouble g c =
     handed_on _ c.from_residual.result c.from_residual.ensures.1
-    (trouble_map (IsNamed (source_name (source_read c.args.viewer.source))) (IsNamed (source_name (source_read c.args.viewer.source)))
-    (IsSourceTrouble (source_read c.args.viewer.source)) (IsViewerTrouble (viewer_of c.args.viewer))
-    (g.L.Library.files c.args.library.now) (g.L.Library.files c.args.library.now)
-    (g.L.Library.faults c.args.library.now) (g.L.Library.faults c.source_pictures.new.library) (g.L.Library.faults c.args.library.now) (g.L.Library.faults c.source_pictures.new.library)
-    c.in_err-pictures.field-0.0 (λ name is. is) (λ held name fault told is refused. inl refused) (λ held told. told)
-    (omega arith) (omega arith) ((c.in_err-pictures.ensures {u = tt}).trouble))
+    (trouble_map (record {
+      Reads = IsNamed (source_name (source_read c.args.viewer.source));
+      Refuses = IsSourceTrouble (source_read c.args.viewer.source);
+      told = g.L.Library.files c.args.library.now;
+      before = g.L.Library.faults c.args.library.now;
+      after = g.L.Library.faults c.source_pictures.new.library;
+    })
+    (record {
+      Reads = IsNamed (source_name (source_read c.args.viewer.source));
+      Refuses = IsViewerTrouble (viewer_of c.args.viewer);
+      told = g.L.Library.files c.args.library.now;
+      before = g.L.Library.faults c.args.library.now;
+      after = g.L.Library.faults c.source_pictures.new.library;
+    })
+    c.in_err-pictures.field-0.0
+    (record {
+      reads = λ name is. is;
+      refuses = λ held name fault told is refused. inl refused;
+      keeps = λ held told. told;
+      low = omega arith;
+      high = omega arith;
+    })
+    ((c.in_err-pictures.ensures {u = tt}).trouble))
 
 pub film_curves-requires : goal.film_curves-requires
 film_curves-requires g c =

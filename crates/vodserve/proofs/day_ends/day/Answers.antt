@@ -13,12 +13,28 @@ returns-in-Err-clause-runs g c =
     inl (
       c.in-Err.trouble,
       (
-        trouble_map (IsNamed c.args.run.now.script.now) (IsDayInput (g.L.Library.files c.args.library.now) c.args.run.now.script.now)
-            IsScriptRefused (IsDayRefused c.args.run.now.script.now)
-            (g.L.Library.files c.args.library.now) (g.L.Library.files c.args.library.now)
-            (g.L.Library.faults c.args.library.now) (g.L.Library.faults c.load_script.new.library) (g.L.Library.faults c.args.library.now) (g.L.Library.faults c.load_script.new.library)
+        trouble_map (record {
+          Reads = IsNamed c.args.run.now.script.now;
+          Refuses = IsScriptRefused;
+          told = g.L.Library.files c.args.library.now;
+          before = g.L.Library.faults c.args.library.now;
+          after = g.L.Library.faults c.load_script.new.library;
+        })
+            (record {
+              Reads = IsDayInput (g.L.Library.files c.args.library.now) c.args.run.now.script.now;
+              Refuses = IsDayRefused c.args.run.now.script.now;
+              told = g.L.Library.files c.args.library.now;
+              before = g.L.Library.faults c.args.library.now;
+              after = g.L.Library.faults c.load_script.new.library;
+            })
             c.in-Err.trouble
-            (λ name is. inl is) (λ held name fault told is refused. inl (is, refused)) (λ held told. told) (omega arith) (omega arith)
+            (record {
+              reads = λ name is. inl is;
+              refuses = λ held name fault told is refused. inl (is, refused);
+              keeps = λ held told. told;
+              low = omega arith;
+              high = omega arith;
+            })
             ((c.in-Err.ensures {u = tt}).trouble),
         refl,
         c.end_with.ensures.nothing,
@@ -31,14 +47,28 @@ returns-in-Err-load_sources-clause-runs g c =
     inl (
       c.in-Err-load_sources.trouble,
       (
-        trouble_map (Contains (names_in c.deref.result.now)) (IsDayInput (g.L.Library.files c.args.library.now) c.args.run.now.script.now)
-            (IsFirstNamedRefused c.deref.result.now) (IsDayRefused c.args.run.now.script.now)
-            (g.L.Library.files c.load_script.new.library) (g.L.Library.files c.args.library.now)
-            (g.L.Library.faults c.load_script.new.library) (g.L.Library.faults c.load_sources.new.library) (g.L.Library.faults c.args.library.now) (g.L.Library.faults c.load_sources.new.library)
+        trouble_map (record {
+          Reads = Contains (names_in c.deref.result.now);
+          Refuses = IsFirstNamedRefused c.deref.result.now;
+          told = g.L.Library.files c.load_script.new.library;
+          before = g.L.Library.faults c.load_script.new.library;
+          after = g.L.Library.faults c.load_sources.new.library;
+        })
+            (record {
+              Reads = IsDayInput (g.L.Library.files c.args.library.now) c.args.run.now.script.now;
+              Refuses = IsDayRefused c.args.run.now.script.now;
+              told = g.L.Library.files c.args.library.now;
+              before = g.L.Library.faults c.args.library.now;
+              after = g.L.Library.faults c.load_sources.new.library;
+            })
             c.in-Err-load_sources.trouble
-            (λ name inside. inr (λ held told. (c.in-Ok.script, ((c.in-Ok.ensures {u = tt}).held held told, rw c.deref.ensures.value at inside))))
-            (λ held name fault told is refused. inr (c.in-Ok.script, ((c.in-Ok.ensures {u = tt}).held held told, rw c.deref.ensures.value at refused))) (λ held told. c.load_script.ensures.library.kept ∙ told)
-            (omega (arith, c.load_script.ensures.library.count)) (omega arith)
+            (record {
+              reads = λ name inside. inr (λ held told. (c.in-Ok.script, ((c.in-Ok.ensures {u = tt}).held held told, rw c.deref.ensures.value at inside)));
+              refuses = λ held name fault told is refused. inr (c.in-Ok.script, ((c.in-Ok.ensures {u = tt}).held held told, rw c.deref.ensures.value at refused));
+              keeps = λ held told. c.load_script.ensures.library.kept ∙ told;
+              low = omega (arith, c.load_script.ensures.library.count);
+              high = omega arith;
+            })
             ((c.in-Err-load_sources.ensures {u = tt}).trouble),
         refl,
         c.end_with-in-Err-load_sources.ensures.nothing,

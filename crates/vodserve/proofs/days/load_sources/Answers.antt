@@ -9,15 +9,30 @@ use Rattle.vodserve.proofs.days.load_sources.Goals as goal
 pub returns-in_err-source-clause-trouble : goal.returns-in_err-source-clause-trouble
 returns-in_err-source-clause-trouble g c =
     handed_on _ c.from_residual.result c.from_residual.ensures.1
-    (trouble_map (IsNameOf c.one-item.result) (Contains (names_in c.args.named.now)) (IsNamedRefused c.one-item.result) (IsFirstNamedRefused c.args.named.now)
-    (g.L.Library.files c.loop-one.library) (g.L.Library.files c.args.library.now)
-    (g.L.Library.faults c.loop-one.library) (g.L.Library.faults c.load_source.new.library) (g.L.Library.faults c.args.library.now) (g.L.Library.faults c.load_source.new.library)
+    (trouble_map (record {
+      Reads = IsNameOf c.one-item.result;
+      Refuses = IsNamedRefused c.one-item.result;
+      told = g.L.Library.files c.loop-one.library;
+      before = g.L.Library.faults c.loop-one.library;
+      after = g.L.Library.faults c.load_source.new.library;
+    })
+    (record {
+      Reads = Contains (names_in c.args.named.now);
+      Refuses = IsFirstNamedRefused c.args.named.now;
+      told = g.L.Library.files c.args.library.now;
+      before = g.L.Library.faults c.args.library.now;
+      after = g.L.Library.faults c.load_source.new.library;
+    })
     c.in_err-source.field-0.0
-    (λ name is. named_contains c.args.named.now c.loop-one.one-index c.loop-one-test.true c.one-item.is is)
-    (λ held name fault told is refused. first_named_refused
-    c.loop-one-test.true c.one-item.is c.loop-one.invariant.count (c.loop-one.invariant.held held told) is refused)
-    (λ held told. c.loop-one.invariant.library.kept ∙ told)
-    (omega (arith, c.loop-one.invariant.library.count)) (omega arith) ((c.in_err-source.ensures {u = tt}).trouble))
+    (record {
+      reads = λ name is. named_contains c.args.named.now c.loop-one.one-index c.loop-one-test.true c.one-item.is is;
+      refuses = λ held name fault told is refused. first_named_refused
+          c.loop-one-test.true c.one-item.is c.loop-one.invariant.count (c.loop-one.invariant.held held told) is refused;
+      keeps = λ held told. c.loop-one.invariant.library.kept ∙ told;
+      low = omega (arith, c.loop-one.invariant.library.count);
+      high = omega arith;
+    })
+    ((c.in_err-source.ensures {u = tt}).trouble))
 
 pub loop-one-preserved : goal.loop-one-preserved
 loop-one-preserved g c = record {

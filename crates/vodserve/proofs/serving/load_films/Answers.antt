@@ -15,18 +15,32 @@ use Rattle.vodserve.proofs.serving.load_films.Goals as goal
 
 pub returns-in-Err-clause-trouble : goal.returns-in-Err-clause-trouble
 returns-in-Err-clause-trouble g c =
-    trouble_map (IsWordNamed c.as_str.result.now) (Contains (values_of (codes "film") (texts c.args.words.now)))
-    IsHeldRefused (IsFirstRefused (values_of (codes "film") (texts c.args.words.now)))
-    (g.L.Library.files c.loop-word.library) (g.L.Library.files c.args.library.now)
-    (g.L.Library.faults c.loop-word.library) (g.L.Library.faults c.add_film.new.library) (g.L.Library.faults c.args.library.now) (g.L.Library.faults c.add_film.new.library)
+    trouble_map (record {
+      Reads = IsWordNamed c.as_str.result.now;
+      Refuses = IsHeldRefused;
+      told = g.L.Library.files c.loop-word.library;
+      before = g.L.Library.faults c.loop-word.library;
+      after = g.L.Library.faults c.add_film.new.library;
+    })
+    (record {
+      Reads = Contains (values_of (codes "film") (texts c.args.words.now));
+      Refuses = IsFirstRefused (values_of (codes "film") (texts c.args.words.now));
+      told = g.L.Library.files c.args.library.now;
+      before = g.L.Library.faults c.args.library.now;
+      after = g.L.Library.faults c.add_film.new.library;
+    })
     c.in-Err.trouble
-    (λ name named. word_film c.args.words.now c.loop-word.word-index (names_of c.loop-word.films.items) name c.loop-word-test.true c.word-item.is
-    c.loop-word.invariant.names (rw c.as_str.ensures.value at named))
-    (λ held name fault told named refused. first_refused c.args.words.now c.loop-word.word-index
-    c.loop-word.films.items c.loop-word-test.true c.word-item.is c.loop-word.invariant.names (rw c.as_str.ensures.value at named) told
-    c.loop-word.invariant.held refused)
-    (λ held told. c.loop-word.invariant.library.kept ∙ told)
-    (omega (arith, c.loop-word.invariant.library.count)) (omega arith) ((c.in-Err.ensures {u = tt}).trouble)
+    (record {
+      reads = λ name named. word_film c.args.words.now c.loop-word.word-index (names_of c.loop-word.films.items) name c.loop-word-test.true c.word-item.is
+          c.loop-word.invariant.names (rw c.as_str.ensures.value at named);
+      refuses = λ held name fault told named refused. first_refused c.args.words.now c.loop-word.word-index
+          c.loop-word.films.items c.loop-word-test.true c.word-item.is c.loop-word.invariant.names (rw c.as_str.ensures.value at named) told
+          c.loop-word.invariant.held refused;
+      keeps = λ held told. c.loop-word.invariant.library.kept ∙ told;
+      low = omega (arith, c.loop-word.invariant.library.count);
+      high = omega arith;
+    })
+    ((c.in-Err.ensures {u = tt}).trouble)
 
 pub returns-clause-films : goal.returns-clause-films
 returns-clause-films g c =
