@@ -78,11 +78,10 @@ added_same {key} {value} read default same added = elim added [
 ]
 
 -- a source: of a trace no slot is asked
-source_same : {traces films traces' films' slots slots' : List (List ℕ)} (default : Setting)
-    (words words' : List (List ℕ)) → traces ≡ traces' → films ≡ films' →
+source_same : {traces films traces' films' slots slots' : List (List ℕ)} (default : Setting) → traces ≡ traces' → films ≡ films' →
     IsAdded (codes "slot") (codes "14400") default slots slots' → (default.key ≡ codes "slot" → traces ≡ []) →
     source_of traces films slots ≡ source_of traces' films' slots'
-source_same {traces} {films} {traces'} {slots} {slots'} default words words' trace film slot of_film =
+source_same {traces} {films} {traces'} {slots} {slots'} default trace film slot of_film =
     elim slot [
       | inl equal ↦ ap (source_of traces films) equal
       | inr new ↦ (
@@ -109,7 +108,7 @@ give_same command words default left =
     λ key value one. own_key words one stands left.absent in
     record {
       films = other (codes "film") refl;
-      source = source_same default words words'
+      source = source_same default
           (other (codes "trace") refl) (other (codes "film") refl) (own (codes "slot") (codes "14400") refl) left.of_film;
       cert = other (codes "cert") refl;
       script = other (codes "script") refl;

@@ -68,9 +68,18 @@ one_of_kind kind (value ∷ []) e = refl
 one_of_kind kind (value ∷ other ∷ others) e = absurd (none-some _ e)
 
 -- ---- what was given where a group of keys was read
-pub record HasPace (words : List (List ℕ)) : Type 0 where
+pub record HasClient (words : List (List ℕ)) : Type 0 where
   pub buffer : times (codes "buffer") words ≤ 1
   pub startup : times (codes "startup") words ≤ 1
+
+client_form : (words : List (List ℕ)) (bytes slots : ℕ) → buffer_given words ≡ Some bytes → startup_given words ≡ Some slots → HasClient words
+client_form words bytes slots buffer startup = record {
+  buffer = few_of_number 1048576 1 (2 ^ 42) bytes (values_of (codes "buffer") words) buffer;
+  startup = few_of_number 25 0 10000 slots (values_of (codes "startup") words) startup;
+}
+
+pub record HasPace (words : List (List ℕ)) : Type 0 where
+  pub client : HasClient words
   pub slot : times (codes "slot") words ≤ 1
 
 pace_form : (words : List (List ℕ)) (pace : Pace) → pace_given words ≡ Some pace → HasPace words
@@ -79,8 +88,7 @@ pace_form words pace e =
     let startup = step_found _ (startup_given words) pace buffer.2 in
     let slot = last_step_found _ (slot_given words) pace startup.2 in
     record {
-      buffer = few_of_number 1048576 1 (2 ^ 42) buffer.0 (values_of (codes "buffer") words) buffer.1;
-      startup = few_of_number 25 0 10000 startup.0 (values_of (codes "startup") words) startup.1;
+      client = client_form words buffer.0 startup.0 buffer.1 startup.1;
       slot = few_of_number 14400 360 360000 slot.0 (values_of (codes "slot") words) slot.1;
     }
 
@@ -130,8 +138,7 @@ source_form (trace ∷ traces) (film ∷ films) slots source e = absurd (none-so
 
 pub record HasViewer (words : List (List ℕ)) : Type 0 where
   pub source : HasOneSource (values_of (codes "trace") words) (values_of (codes "film") words) (values_of (codes "slot") words)
-  pub buffer : times (codes "buffer") words ≤ 1
-  pub startup : times (codes "startup") words ≤ 1
+  pub client : HasClient words
 
 viewer_form : (words : List (List ℕ)) (viewer : Viewer) → viewer_given words ≡ Some viewer → HasViewer words
 viewer_form words viewer e =
@@ -140,8 +147,7 @@ viewer_form words viewer e =
     let startup = last_step_found _ (startup_given words) viewer buffer.2 in
     record {
       source = source_form (values_of (codes "trace") words) (values_of (codes "film") words) (values_of (codes "slot") words) source.0 source.1;
-      buffer = few_of_number 1048576 1 (2 ^ 42) buffer.0 (values_of (codes "buffer") words) buffer.1;
-      startup = few_of_number 25 0 10000 startup.0 (values_of (codes "startup") words) startup.1;
+      client = client_form words buffer.0 startup.0 buffer.1 startup.1;
     }
 
 -- ---- lists of keys
@@ -185,8 +191,8 @@ plan_form words order e =
     record {
       few = All-cons P (codes "trace") (codes "film" ∷ codes "buffer" ∷ codes "startup" ∷ codes "slot" ∷ []) (omega (arith, viewer.source.one))
           (All-cons P (codes "film") (codes "buffer" ∷ codes "startup" ∷ codes "slot" ∷ []) (omega (arith, viewer.source.one))
-          (All-cons P (codes "buffer") (codes "startup" ∷ codes "slot" ∷ []) viewer.buffer
-          (All-cons P (codes "startup") (codes "slot" ∷ []) viewer.startup
+          (All-cons P (codes "buffer") (codes "startup" ∷ codes "slot" ∷ []) viewer.client.buffer
+          (All-cons P (codes "startup") (codes "slot" ∷ []) viewer.client.startup
           (All-cons P (codes "slot") [] viewer.source.few (All-nil P)))));
       needed = All-nil (IsGivenBy words);
       source = one_source words viewer;
@@ -203,8 +209,8 @@ check_form words order e =
       few = All-cons P (codes "trace") (codes "film" ∷ codes "cert" ∷ codes "buffer" ∷ codes "startup" ∷ codes "slot" ∷ []) (omega (arith, viewer.source.one))
           (All-cons P (codes "film") (codes "cert" ∷ codes "buffer" ∷ codes "startup" ∷ codes "slot" ∷ []) (omega (arith, viewer.source.one))
           (All-cons P (codes "cert") (codes "buffer" ∷ codes "startup" ∷ codes "slot" ∷ []) (omega (arith, one))
-          (All-cons P (codes "buffer") (codes "startup" ∷ codes "slot" ∷ []) viewer.buffer
-          (All-cons P (codes "startup") (codes "slot" ∷ []) viewer.startup
+          (All-cons P (codes "buffer") (codes "startup" ∷ codes "slot" ∷ []) viewer.client.buffer
+          (All-cons P (codes "startup") (codes "slot" ∷ []) viewer.client.startup
           (All-cons P (codes "slot") [] viewer.source.few (All-nil P))))));
       needed = All-cons (IsGivenBy words) (codes "cert") [] (omega (arith, one)) (All-nil (IsGivenBy words));
       source = one_source words viewer;
@@ -279,54 +285,12 @@ watch_form words order e =
     record {
       few = All-cons P (codes "film") (codes "port" ∷ codes "buffer" ∷ codes "startup" ∷ codes "slot" ∷ []) (omega (arith, one))
           (All-cons P (codes "port") (codes "buffer" ∷ codes "startup" ∷ codes "slot" ∷ []) (few_of_number 8554 1 65535 port.0 (values_of (codes "port") words) port.1)
-          (All-cons P (codes "buffer") (codes "startup" ∷ codes "slot" ∷ []) pace.buffer
-          (All-cons P (codes "startup") (codes "slot" ∷ []) pace.startup
+          (All-cons P (codes "buffer") (codes "startup" ∷ codes "slot" ∷ []) pace.client.buffer
+          (All-cons P (codes "startup") (codes "slot" ∷ []) pace.client.startup
           (All-cons P (codes "slot") [] pace.slot (All-nil P)))));
       needed = All-cons (IsGivenBy words) (codes "film") [] (omega (arith, one)) (All-nil (IsGivenBy words));
       source = tt;
     }
-
-serve_form : (words : List (List ℕ)) (order : Order) → order_given Serve words ≡ Some order → HaveKeys Serve words
-serve_form words order e =
-    let serving = last_step_found serve_of (serving_given words) order e in
-    let films = values_of (codes "film") words in
-    let films_pass = test_passes (are_films films) _ serving.0 serving.1 in
-    let some = and_parts (nat_le 1 (length films)) (nat_le (length films) 64 && are_names films) films_pass.0 in
-    let few = and_parts (nat_le (length films) 64) (are_names films) some.1 in
-    let capacity = step_found _ (capacity_given words) serving.0 films_pass.1 in
-    let journal = step_found _ (journal_given words) serving.0 capacity.2 in
-    let found_listening = step_found _ (listening_given words) serving.0 journal.2 in
-    let found_pace = last_step_found _ (pace_given words) serving.0 found_listening.2 in
-    let listening = listening_form words found_listening.0 found_listening.1 in
-    let pace = pace_form words found_pace.0 found_pace.1 in
-    let P = IsFew Serve words in
-    record {
-      few = All-cons P (codes "film")
-          (codes "port" ∷ codes "bind" ∷ codes "capacity" ∷ codes "buffer" ∷ codes "startup" ∷ codes "slot" ∷ codes "journal" ∷ codes "workers" ∷ codes "connections" ∷ [])
-          (leb-true (length films) 64 few.0)
-          (All-cons P (codes "port") (codes "bind" ∷ codes "capacity" ∷ codes "buffer" ∷ codes "startup" ∷ codes "slot" ∷ codes "journal" ∷ codes "workers" ∷ codes "connections" ∷ []) listening.port
-          (All-cons P (codes "bind") (codes "capacity" ∷ codes "buffer" ∷ codes "startup" ∷ codes "slot" ∷ codes "journal" ∷ codes "workers" ∷ codes "connections" ∷ []) listening.bind
-          (All-cons P (codes "capacity") (codes "buffer" ∷ codes "startup" ∷ codes "slot" ∷ codes "journal" ∷ codes "workers" ∷ codes "connections" ∷ [])
-          (few_of_capacity capacity.0 (values_of (codes "capacity") words) capacity.1)
-          (All-cons P (codes "buffer") (codes "startup" ∷ codes "slot" ∷ codes "journal" ∷ codes "workers" ∷ codes "connections" ∷ []) pace.buffer
-          (All-cons P (codes "startup") (codes "slot" ∷ codes "journal" ∷ codes "workers" ∷ codes "connections" ∷ []) pace.startup
-          (All-cons P (codes "slot") (codes "journal" ∷ codes "workers" ∷ codes "connections" ∷ []) pace.slot
-          (All-cons P (codes "journal") (codes "workers" ∷ codes "connections" ∷ []) (few_of_number 65536 2 1048576 journal.0 (values_of (codes "journal") words) journal.1)
-          (All-cons P (codes "workers") (codes "connections" ∷ []) listening.workers
-          (All-cons P (codes "connections") [] listening.connections (All-nil P))))))))));
-      needed = All-cons (IsGivenBy words) (codes "film") [] (leb-true 1 (length films) some.0) (All-nil (IsGivenBy words));
-      source = tt;
-    }
-
-keys_form : (command : Command) (words : List (List ℕ)) (order : Order) → order_given command words ≡ Some order → HaveKeys command words
-keys_form Plan words order e = plan_form words order e
-keys_form Check words order e = check_form words order e
-keys_form Scan words order e = scan_form words order e
-keys_form Make words order e = make_form words order e
-keys_form Day words order e = day_form words order e
-keys_form Fair words order e = fair_form words order e
-keys_form Serve words order e = serve_form words order e
-keys_form Watch words order e = watch_form words order e
 
 -- ---- no two films are alike
 or_true : (b : Bool) → (b || true) ≡ true
@@ -349,14 +313,62 @@ apart (name ∷ names) e (suc i) zero order inside = absurd (omega (arith, order
 apart (name ∷ names) e (suc i) (suc j) order inside =
     apart names (and_parts (not (list_any (bytes_eq name) names)) (are_distinct names) e).1 i j (omega (arith, order)) (omega (arith, inside))
 
+-- the names that a server is given: one at least, 64 at most, and no two alike
+films_named : (films : List (List ℕ)) → are_films films ≡ true → (1 ≤ length films) × (length films ≤ 64) × AreApart films
+films_named films pass =
+    let some = and_parts (nat_le 1 (length films)) (nat_le (length films) 64 && are_names films) pass in
+    let few = and_parts (nat_le (length films) 64) (are_names films) some.1 in (
+      leb-true 1 (length films) some.0,
+      leb-true (length films) 64 few.0,
+      apart films (and_parts (list_all is_good_name films) (are_distinct films) few.1).1,
+    )
+
+serve_form : (words : List (List ℕ)) (order : Order) → order_given Serve words ≡ Some order → HaveKeys Serve words
+serve_form words order e =
+    let serving = last_step_found serve_of (serving_given words) order e in
+    let films = values_of (codes "film") words in
+    let films_pass = test_passes (are_films films) _ serving.0 serving.1 in
+    let named = films_named films films_pass.0 in
+    let capacity = step_found _ (capacity_given words) serving.0 films_pass.1 in
+    let journal = step_found _ (journal_given words) serving.0 capacity.2 in
+    let found_listening = step_found _ (listening_given words) serving.0 journal.2 in
+    let found_pace = last_step_found _ (pace_given words) serving.0 found_listening.2 in
+    let listening = listening_form words found_listening.0 found_listening.1 in
+    let pace = pace_form words found_pace.0 found_pace.1 in
+    let P = IsFew Serve words in
+    record {
+      few = All-cons P (codes "film")
+          (codes "port" ∷ codes "bind" ∷ codes "capacity" ∷ codes "buffer" ∷ codes "startup" ∷ codes "slot" ∷ codes "journal" ∷ codes "workers" ∷ codes "connections" ∷ [])
+          named.1
+          (All-cons P (codes "port") (codes "bind" ∷ codes "capacity" ∷ codes "buffer" ∷ codes "startup" ∷ codes "slot" ∷ codes "journal" ∷ codes "workers" ∷ codes "connections" ∷ []) listening.port
+          (All-cons P (codes "bind") (codes "capacity" ∷ codes "buffer" ∷ codes "startup" ∷ codes "slot" ∷ codes "journal" ∷ codes "workers" ∷ codes "connections" ∷ []) listening.bind
+          (All-cons P (codes "capacity") (codes "buffer" ∷ codes "startup" ∷ codes "slot" ∷ codes "journal" ∷ codes "workers" ∷ codes "connections" ∷ [])
+          (few_of_capacity capacity.0 (values_of (codes "capacity") words) capacity.1)
+          (All-cons P (codes "buffer") (codes "startup" ∷ codes "slot" ∷ codes "journal" ∷ codes "workers" ∷ codes "connections" ∷ []) pace.client.buffer
+          (All-cons P (codes "startup") (codes "slot" ∷ codes "journal" ∷ codes "workers" ∷ codes "connections" ∷ []) pace.client.startup
+          (All-cons P (codes "slot") (codes "journal" ∷ codes "workers" ∷ codes "connections" ∷ []) pace.slot
+          (All-cons P (codes "journal") (codes "workers" ∷ codes "connections" ∷ []) (few_of_number 65536 2 1048576 journal.0 (values_of (codes "journal") words) journal.1)
+          (All-cons P (codes "workers") (codes "connections" ∷ []) listening.workers
+          (All-cons P (codes "connections") [] listening.connections (All-nil P))))))))));
+      needed = All-cons (IsGivenBy words) (codes "film") [] named.0 (All-nil (IsGivenBy words));
+      source = tt;
+    }
+
+keys_form : (command : Command) (words : List (List ℕ)) (order : Order) → order_given command words ≡ Some order → HaveKeys command words
+keys_form Plan words order e = plan_form words order e
+keys_form Check words order e = check_form words order e
+keys_form Scan words order e = scan_form words order e
+keys_form Make words order e = make_form words order e
+keys_form Day words order e = day_form words order e
+keys_form Fair words order e = fair_form words order e
+keys_form Serve words order e = serve_form words order e
+keys_form Watch words order e = watch_form words order e
+
 films_apart : (words : List (List ℕ)) (order : Order) → order_given Serve words ≡ Some order → AreApart (values_of (codes "film") words)
 films_apart words order e =
     let serving = last_step_found serve_of (serving_given words) order e in
     let films = values_of (codes "film") words in
-    let films_pass = test_passes (are_films films) _ serving.0 serving.1 in
-    let some = and_parts (nat_le 1 (length films)) (nat_le (length films) 64 && are_names films) films_pass.0 in
-    let few = and_parts (nat_le (length films) 64) (are_names films) some.1 in
-    apart films (and_parts (list_all is_good_name films) (are_distinct films) few.1).1
+    (films_named films (test_passes (are_films films) _ serving.0 serving.1).0).2
 
 films_form : (command : Command) (words : List (List ℕ)) (order : Order) → order_given command words ≡ Some order → HasFilms command words
 films_form Plan words order e = tt

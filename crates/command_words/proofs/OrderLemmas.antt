@@ -47,12 +47,25 @@ swapped key word other rest one = elim one [
   | inr none ↦ rw none refl
 ]
 
-values_free : (front : List (List ℕ)) (word other : List ℕ) (rest : List (List ℕ)) → HaveOtherKeys word other →
-    HaveSameValues (front ++ word ∷ other ∷ rest) (front ++ other ∷ word ∷ rest)
-values_free front word other rest apart key =
-    values_of-append key front (word ∷ other ∷ rest)
-    ∙ ap (λ (vs : List (List ℕ)). values_of key front ++ vs) (swapped key word other rest (apart key))
-    ∙ sym (values_of-append key front (other ∷ word ∷ rest))
+-- two words that stand one after the other among words
+pub record Neighbours : Type 0 where
+  pub front : List (List ℕ)
+  pub word : List ℕ
+  pub other : List ℕ
+  pub rest : List (List ℕ)
+
+-- all those words, as they stand and with the two exchanged
+abbrev pub in_order : Neighbours → List (List ℕ)
+in_order two = two.front ++ two.word ∷ two.other ∷ two.rest
+
+abbrev pub exchanged : Neighbours → List (List ℕ)
+exchanged two = two.front ++ two.other ∷ two.word ∷ two.rest
+
+values_free : (two : Neighbours) → HaveOtherKeys two.word two.other → HaveSameValues (in_order two) (exchanged two)
+values_free two apart key =
+    values_of-append key two.front (two.word ∷ two.other ∷ two.rest)
+    ∙ ap (λ (vs : List (List ℕ)). values_of key two.front ++ vs) (swapped key two.word two.other two.rest (apart key))
+    ∙ sym (values_of-append key two.front (two.other ∷ two.word ∷ two.rest))
 
 and_swapped : (a b c : Bool) → (a && (b && c)) ≡ (b && (a && c))
 and_swapped true true c = refl
@@ -60,17 +73,13 @@ and_swapped true false c = refl
 and_swapped false true c = refl
 and_swapped false false c = refl
 
-all_free : (p : List ℕ → Bool) (front : List (List ℕ)) (word other : List ℕ) (rest : List (List ℕ)) →
-    list_all p (front ++ word ∷ other ∷ rest) ≡ list_all p (front ++ other ∷ word ∷ rest)
-all_free p front word other rest =
-    list_all-append p front (word ∷ other ∷ rest)
-    ∙ ap (λ (b : Bool). list_all p front && b) (and_swapped (p word) (p other) (list_all p rest))
-    ∙ sym (list_all-append p front (other ∷ word ∷ rest))
+all_free : (p : List ℕ → Bool) (two : Neighbours) → list_all p (in_order two) ≡ list_all p (exchanged two)
+all_free p two =
+    list_all-append p two.front (two.word ∷ two.other ∷ two.rest)
+    ∙ ap (λ (b : Bool). list_all p two.front && b) (and_swapped (p two.word) (p two.other) (list_all p two.rest))
+    ∙ sym (list_all-append p two.front (two.other ∷ two.word ∷ two.rest))
 
-pub order_free : (name : List ℕ) (command : Command) (front : List (List ℕ)) (word other : List ℕ) (rest : List (List ℕ)) →
-    command_named name ≡ Some command → HaveOtherKeys word other →
-    meaning (name ∷ front ++ word ∷ other ∷ rest) ≡ meaning (name ∷ front ++ other ∷ word ∷ rest)
-order_free name command front word other rest named apart =
-    meaning_same name named
-    (all_free (is_word_of command) front word other rest)
-    (give_same (front ++ word ∷ other ∷ rest) (front ++ other ∷ word ∷ rest) (values_free front word other rest apart))
+pub order_free : {command : Command} (name : List ℕ) (two : Neighbours) → command_named name ≡ Some command → HaveOtherKeys two.word two.other →
+    meaning (name ∷ in_order two) ≡ meaning (name ∷ exchanged two)
+order_free {command} name two named apart =
+    meaning_same name named (all_free (is_word_of command) two) (give_same (in_order two) (exchanged two) (values_free two apart))

@@ -66,14 +66,19 @@ trace_read {name} settings plain t f s good =
     ∙ ap (λ (vs : List (List ℕ)). source_of (name ∷ []) [] vs) (values_read (codes "slot") settings plain ∙ s)
     ∙ ap (option_map trace_source) (name_back name (name ∷ []) refl good)
 
-film_read : {name : List ℕ} {slot : ℕ} (settings : List Setting) → are_plain settings ≡ true → picked (codes "trace") settings ≡ [] →
-    picked (codes "film") settings ≡ name ∷ [] → picked (codes "slot") settings ≡ decimal slot ∷ [] → is_good_name name ≡ true → IsWithin 360 360000 slot →
+-- settings of a film, and of no trace
+record PicksFilm (settings : List Setting) (name : List ℕ) (slot : ℕ) : Type 0 where
+  trace : picked (codes "trace") settings ≡ []
+  film : picked (codes "film") settings ≡ name ∷ []
+  slot_is : picked (codes "slot") settings ≡ decimal slot ∷ []
+
+film_read : {name : List ℕ} {slot : ℕ} (settings : List Setting) → are_plain settings ≡ true → PicksFilm settings name slot → is_good_name name ≡ true → IsWithin 360 360000 slot →
     source_given (given settings) ≡ Some (film_source name slot)
-film_read {name} {slot} settings plain t f s good within =
-    ap (λ (vs : List (List ℕ)). source_of vs (values_of (codes "film") (given settings)) (values_of (codes "slot") (given settings))) (values_read (codes "trace") settings plain ∙ t)
+film_read {name} {slot} settings plain picks good within =
+    ap (λ (vs : List (List ℕ)). source_of vs (values_of (codes "film") (given settings)) (values_of (codes "slot") (given settings))) (values_read (codes "trace") settings plain ∙ picks.trace)
     ∙ then_is (λ (n : List ℕ). option_map (λ (k : ℕ). film_source n k) (number_or 14400 360 360000 (values_of (codes "slot") (given settings)))) (one_name (values_of (codes "film") (given settings))) name (Some (film_source name slot))
-    (name_back name (values_of (codes "film") (given settings)) (values_read (codes "film") settings plain ∙ f) good)
-    (ap (option_map (λ (k : ℕ). film_source name k)) (slot_read settings slot plain s within))
+    (name_back name (values_of (codes "film") (given settings)) (values_read (codes "film") settings plain ∙ picks.film) good)
+    (ap (option_map (λ (k : ℕ). film_source name k)) (slot_read settings slot plain picks.slot_is within))
 
 viewer_is : (words : List (List ℕ)) (source : Source) (buffer startup : ℕ) → source_given words ≡ Some source → GivesPace words buffer startup →
     viewer_given words ≡ Some (record { source = source; buffer = buffer; startup = startup })
@@ -89,7 +94,7 @@ viewer_read viewer may = by viewer.source viewer.buffer viewer.startup may.sourc
         viewer_is (given settings) (trace_source name) buffer startup (trace_read settings refl refl refl refl good) (pace_read settings refl refl refl some few)
     by (film_source name slot) buffer startup good some few =
         let settings = viewer_settings (record { source = film_source name slot; buffer = buffer; startup = startup }) in
-        viewer_is (given settings) (film_source name slot) buffer startup (film_read settings refl refl refl refl good.0 good.1) (pace_read settings refl refl refl some few)
+        viewer_is (given settings) (film_source name slot) buffer startup (film_read settings refl (record { trace = refl; film = refl; slot_is = refl }) good.0 good.1) (pace_read settings refl refl refl some few)
 
 check_read : (viewer : Viewer) (cert : List ℕ) → MayBeViewer viewer → is_good_name cert ≡ true →
     check_given (given (settings_of (check_of viewer cert))) ≡ Some (check_of viewer cert)
@@ -106,7 +111,7 @@ check_read viewer cert may good = by viewer.source viewer.buffer viewer.startup 
     by (film_source name slot) buffer startup named some few =
         let viewer : Viewer = record { source = film_source name slot; buffer = buffer; startup = startup } in
         let settings = settings_of (check_of viewer cert) in
-        let found = viewer_is (given settings) (film_source name slot) buffer startup (film_read settings refl refl refl refl named.0 named.1) (pace_read settings refl refl refl some few) in
+        let found = viewer_is (given settings) (film_source name slot) buffer startup (film_read settings refl (record { trace = refl; film = refl; slot_is = refl }) named.0 named.1) (pace_read settings refl refl refl some few) in
         then_is (λ (v : Viewer). option_map (λ (c : List ℕ). check_of v c) (cert_given (given settings))) (viewer_given (given settings)) viewer (Some (check_of viewer cert)) found
         (ap (option_map (λ (c : List ℕ). check_of viewer c)) (name_back cert (values_of (codes "cert") (given settings)) (values_read (codes "cert") settings refl) good))
 
@@ -162,17 +167,23 @@ watching_read watching may =
     let pace = whole_pace settings refl refl refl refl may.pace in
     rw film (rw port (rw pace refl))
 
-listening_read : {listening : Listening} (settings : List Setting) → are_plain settings ≡ true → picked (codes "port") settings ≡ decimal listening.port ∷ [] →
-    picked (codes "bind") settings ≡ bind_text listening.all ∷ [] → picked (codes "workers") settings ≡ decimal listening.workers ∷ [] →
-    picked (codes "connections") settings ≡ decimal listening.connections ∷ [] → MayListen listening → listening_given (given settings) ≡ Some listening
-listening_read {listening} settings plain p b w c may =
-    let port = port_read settings listening.port plain p may.port in
+-- settings that say where and how a server listens
+record PicksListening (settings : List Setting) (listening : Listening) : Type 0 where
+  port : picked (codes "port") settings ≡ decimal listening.port ∷ []
+  bind : picked (codes "bind") settings ≡ bind_text listening.all ∷ []
+  workers : picked (codes "workers") settings ≡ decimal listening.workers ∷ []
+  connections : picked (codes "connections") settings ≡ decimal listening.connections ∷ []
+
+listening_read : {listening : Listening} (settings : List Setting) → are_plain settings ≡ true → PicksListening settings listening → MayListen listening →
+    listening_given (given settings) ≡ Some listening
+listening_read {listening} settings plain picks may =
+    let port = port_read settings listening.port plain picks.port may.port in
     let bind : one_bind (values_of (codes "bind") (given settings)) ≡ Some listening.all =
-    ap one_bind (values_read (codes "bind") settings plain ∙ b) ∙ bind_back listening.all in
+    ap one_bind (values_read (codes "bind") settings plain ∙ picks.bind) ∙ bind_back listening.all in
     let workers : workers_given (given settings) ≡ Some listening.workers =
-    key_or 32 (values_read (codes "workers") settings plain ∙ w) may.workers (omega (arith, may.workers.1)) in
+    key_or 32 (values_read (codes "workers") settings plain ∙ picks.workers) may.workers (omega (arith, may.workers.1)) in
     let connections : connections_given (given settings) ≡ Some listening.connections =
-    key_or 0 (values_read (codes "connections") settings plain ∙ c)
+    key_or 0 (values_read (codes "connections") settings plain ∙ picks.connections)
     (omega arith, omega (arith, may.connections)) may.connections in
     rw port (rw bind (rw workers (rw connections refl)))
   where
@@ -190,7 +201,12 @@ serving_read serving may =
     values_read (codes "film") settings plain ∙ picked_films serving.films others ∙ append-nil serving.films in
     let capacity = capacity_read settings serving.capacity plain (past (codes "capacity") refl) may.capacity in
     let journal = journal_read settings serving.journal plain (past (codes "journal") refl) may.journal in
-    let listening = listening_read settings plain (past (codes "port") refl) (past (codes "bind") refl) (past (codes "workers") refl) (past (codes "connections") refl) may.listening in
+    let listening = listening_read settings plain (record {
+      port = past (codes "port") refl;
+      bind = past (codes "bind") refl;
+      workers = past (codes "workers") refl;
+      connections = past (codes "connections") refl;
+    }) may.listening in
     let pace = whole_pace settings plain (past (codes "buffer") refl) (past (codes "startup") refl) (past (codes "slot") refl) may.pace in
     rw films (rw may.films (rw capacity (rw journal (rw listening (rw pace refl)))))
 

@@ -1,26 +1,26 @@
-use Rattle.std.proofs.Common.{◌≡◌, ◌∙◌, ap, sym, string_bytes}
-use Rattle.std.specs.Option.{option_copied}
+use Rattle.std.proofs.Common.{◌∙◌, ap, sym}
 use Rattle.command_words.specs.Settings.{setting_value}
-use Rattle.command_words.proofs.WordLemmas.{values_of_first, values_of_none, values_of_again}
+use Rattle.command_words.proofs.WordLemmas.{IsSearch, values_of_first, values_of_none, values_of_again}
 use Rattle.command_words.proofs.settings.find_given.Goals as goal
 use Rattle.command_words.proofs.settings.find_given.Goals.{in-Some+else-is_some, in_default}
 
 pub returns-then-is_some : goal.returns-then-is_some
 returns-then-is_some c =
-    let says : option_copied c.setting.result ≡ setting_value c.args.key.now (string_bytes c.word-item.result) =
-    c.setting.ensures ∙ ap (setting_value c.args.key.now) c.as_str.ensures.value in
-    values_of_again c.args.key.now c.args.words.now c.loop-word.word-index c.loop-word.found
-    c.loop-word-test.true c.word-item.is c.loop-word.invariant says (sym (c.if-is_some.ensures {u = tt})) c.in-Some.is
+    let given : IsSearch c.args.key.now c.args.words.now c.loop-word.word-index c.word-item.result c.loop-word.found c.setting.result = record {
+      at = record { inside = c.loop-word-test.true; is = c.word-item.is };
+      before = c.loop-word.invariant;
+      says = c.setting.ensures ∙ ap (setting_value c.args.key.now) c.as_str.ensures.value;
+    } in
+    values_of_again given (sym (c.if-is_some.ensures {u = tt})) c.in-Some.is
 
 pub loop-word-preserved : goal.loop-word-preserved
 loop-word-preserved c =
-    let says : option_copied c.setting.result ≡ setting_value c.args.key.now (string_bytes c.word-item.result) =
-    c.setting.ensures ∙ ap (setting_value c.args.key.now) c.as_str.ensures.value in
+    let given : IsSearch c.args.key.now c.args.words.now c.loop-word.word-index c.word-item.result c.loop-word.found c.setting.result = record {
+      at = record { inside = c.loop-word-test.true; is = c.word-item.is };
+      before = c.loop-word.invariant;
+      says = c.setting.ensures ∙ ap (setting_value c.args.key.now) c.as_str.ensures.value;
+    } in
     elim c.match-setting.branch [
-      | in-Some+else-is_some w ↦
-          values_of_first c.args.key.now c.args.words.now c.loop-word.word-index c.loop-word.found
-          c.loop-word-test.true c.word-item.is c.loop-word.invariant says (sym (w.if-is_some.ensures {u = tt})) (w.found-is ∙ sym w.in-Some.is)
-      | in_default w ↦
-          values_of_none c.args.key.now c.args.words.now c.loop-word.word-index
-          c.loop-word-test.true c.word-item.is c.loop-word.invariant says w.in_default.is w.found-is
+      | in-Some+else-is_some w ↦ values_of_first given (sym (w.if-is_some.ensures {u = tt})) (w.found-is ∙ sym w.in-Some.is)
+      | in_default w ↦ values_of_none given w.in_default.is w.found-is
     ]
