@@ -60,11 +60,16 @@ begin_slice a name value rest =
     let t = name ++ 58 ∷ 32 ∷ (value ++ 13 ∷ 10 ∷ rest) in
     ap (λ n. take n (drop (length a) (a ++ t))) (let n : length a + 15 - length a ≡ 15 = omega arith in n) ∙ ap (take 15) (drop_at a t (length a) refl)
 
-named_line : (a name value rest : List ℕ) → 0 < length a → get_or a (length a - 1) 0 ≡ 10 → map to_ascii_lowercase name ≡ map to_ascii_lowercase (codes "Content-Length") →
+-- the text ends with LF
+record EndsWithFeed (a : List ℕ) : Type 0 where
+  some : 0 < length a
+  feed : get_or a (length a - 1) 0 ≡ 10
+
+named_line : (a name value rest : List ℕ) → EndsWithFeed a → map to_ascii_lowercase name ≡ map to_ascii_lowercase (codes "Content-Length") →
     IsLengthLine (line_bytes a name value rest) (length a)
-named_line a name value rest some feed same = record {
-  after = some;
-  begins = get_or_append_left a (name ++ 58 ∷ 32 ∷ (value ++ 13 ∷ 10 ∷ rest)) 0 (length a - 1) (omega (arith, some)) ∙ feed;
+named_line a name value rest ended same = record {
+  after = ended.some;
+  begins = get_or_append_left a (name ++ 58 ∷ 32 ∷ (value ++ 13 ∷ 10 ∷ rest)) 0 (length a - 1) (omega (arith, ended.some)) ∙ ended.feed;
   name = ap (map to_ascii_lowercase) (begin_slice a name value rest) ∙ name_same name (32 ∷ (value ++ 13 ∷ 10 ∷ rest)) same;
 }
 
@@ -96,8 +101,13 @@ value_at {value} a name rest size one bare =
     }
 
 -- no line begins within another
-pub inner_line : (a text rest : List ℕ) (k : ℕ) → is_one_line text ≡ true → length a < k → k < length a + length text + 2 → ¬ IsLengthLine (a ++ (text ++ 13 ∷ 10 ∷ rest)) k
-inner_line a text rest k one after below = λ line. (line_here a text rest one).first (k - 1) (omega (arith, after)) (omega (arith, after, below)) line.begins
+pub record IsWithinLine (a text : List ℕ) (k : ℕ) : Type 0 where
+  pub after : length a < k
+  pub below : k < length a + length text + 2
+
+pub inner_line : {k : ℕ} (a text rest : List ℕ) → is_one_line text ≡ true → IsWithinLine a text k → ¬ IsLengthLine (a ++ (text ++ 13 ∷ 10 ∷ rest)) k
+inner_line {k} a text rest one place =
+    λ line. (line_here a text rest one).first (k - 1) (omega (arith, place.after)) (omega (arith, place.after, place.below)) line.begins
 
 -- the length that a value gives, if there is one
 abbrev pub length_given : Option (List ℕ) → ℕ
@@ -105,13 +115,13 @@ length_given None = 0
 length_given (Some value) = written_length value
 
 -- the lines from here on give this length, where no line before gives one
-scan : (a : List ℕ) (fields : List Field) → All IsPlain fields → 0 < length a → get_or a (length a - 1) 0 ≡ 10 →
+scan : (a : List ℕ) (fields : List Field) → All IsPlain fields → EndsWithFeed a →
     ((k : ℕ) → k < length a → ¬ IsLengthLine (a ++ (flat (map text_of fields) ++ codes "\r\n")) k) →
     IsBodyLength (a ++ (flat (map text_of fields) ++ codes "\r\n")) (length_given (value_named (codes "Content-Length") fields))
 unfolding value_named
-scan a [] all some feed none =
+scan a [] all ended none =
     inr ((λ k line. none k (omega (arith, name_within (a ++ codes "\r\n") k line, length-append a (codes "\r\n"))) line), refl)
-scan a (f ∷ fs) all some feed none =
+scan a (f ∷ fs) all ended none =
     let plain = All-head IsPlain f fs all in
     let rest = flat (map text_of fs) ++ codes "\r\n" in
     let w = a ++ (flat (map text_of (f ∷ fs)) ++ codes "\r\n") in
@@ -127,7 +137,7 @@ scan a (f ∷ fs) all some feed none =
           let size : length f.name ≡ 14 = sym (length-map f.name to_ascii_lowercase) ∙ ap length lower in
           let here : IsLengthGiven w (written_length f.value) = record {
             at = length a;
-            is_line = subst (λ (v : List ℕ). IsLengthLine v (length a)) spelled (named_line a f.name f.value rest some feed lower);
+            is_line = subst (λ (v : List ℕ). IsLengthLine v (length a)) spelled (named_line a f.name f.value rest ended lower);
             first = none;
             value = inl (subst (λ (v : List ℕ). IsValueAt v (length a + 15) (written_length f.value)) spelled (value_at a f.name rest size plain.one_line plain.bare));
           } in
@@ -146,11 +156,11 @@ scan a (f ∷ fs) all some feed none =
               | inl here ↦ other_text (map to_ascii_lowercase f.name) (map to_ascii_lowercase (codes "Content-Length")) (sym other)
                   (other_line a f.name f.value rest (token_without 58 refl f.name plain.name_is)
                   (subst (λ n. IsLengthLine (line_bytes a f.name f.value rest) n) here (subst (λ (v : List ℕ). IsLengthLine v k) (sym spelled) line_w)))
-              | inr past ↦ inner_line a (text_of f) rest k (text_line f plain).one_line (omega (arith, from, past)) (omega (arith, below, size))
+              | inr past ↦ inner_line a (text_of f) rest (text_line f plain).one_line (record { after = omega (arith, from, past); below = omega (arith, below, size) })
                   (subst (λ (v : List ℕ). IsLengthLine v k) (sym shape) line_w)
             ]
           ] in
-          let there = scan next fs (All-tail IsPlain f fs all) (omega (arith, size)) last none_next in
+          let there = scan next fs (All-tail IsPlain f fs all) (record { some = omega (arith, size); feed = last }) none_next in
           subst given (sym (cond-false (str_eq_ignore_ascii_case f.name (codes "Content-Length")) (Some f.value) (value_named (codes "Content-Length") fs) other))
           (subst (λ (v : List ℕ). IsBodyLength v (length_given (value_named (codes "Content-Length") fs))) moved there)
           )
@@ -176,5 +186,5 @@ body_length_of s fields one all =
     get_or-append_right s (codes "\r\n") (length s) (length a - 1) 0 refl (omega (arith, size))
     ∙ ap (λ k. get_or (codes "\r\n") k 0) (let k : length a - 1 - length s ≡ 1 = omega (arith, size) in k) in
     let none : (k : ℕ) → k < length a → ¬ IsLengthLine (a ++ rest) k = λ k below line.
-    inner_line [] s rest k one.one_line line.after (omega (arith, below, size)) (subst (λ (v : List ℕ). IsLengthLine v k) (append_assoc s (codes "\r\n") rest) line) in
-    subst (λ (v : List ℕ). IsBodyLength v (length_given (value_named (codes "Content-Length") fields))) moved (scan a fields all (omega (arith, size)) last none)
+    inner_line [] s rest one.one_line (record { after = line.after; below = omega (arith, below, size) }) (subst (λ (v : List ℕ). IsLengthLine v k) (append_assoc s (codes "\r\n") rest) line) in
+    subst (λ (v : List ℕ). IsBodyLength v (length_given (value_named (codes "Content-Length") fields))) moved (scan a fields all (record { some = omega (arith, size); feed = last }) none)

@@ -33,20 +33,29 @@ url_short {message} {head} {method} {url} {version} split line =
     let i = first_line_inside head (first_line message) (header_lines message ++ [] ∷ []) split.lines_are in
     omega (arith, i.short, ap length line.parts, length-append method (32 ∷ (url ++ 32 ∷ version)), length-append url (32 ∷ version))
 
+-- how a value tells the parts of a request
+pub record RequestParts (X : Type 0) : Type 0 where
+  pub head : X → List ℕ
+  pub body : X → List ℕ
+  pub method : X → List ℕ
+  pub url : X → List ℕ
+  pub sequence : X → ℕ
+
+abbrev pub IsRequestOf : {X : Type 0} → RequestParts X → List ℕ → X → Type 0
+IsRequestOf parts message x = IsRequest message (parts.method x) (parts.url x) (parts.sequence x) (parts.head x) (parts.body x)
+
 -- the same of what was read
-pub read_head : {X E : Type 0} {message : List ℕ} (head body method url : X → List ℕ) (sequence : X → ℕ)
-    (r : Result X E) → IsRequestLength message (length message) →
-    IfOk r (λ x. IsRequest message (method x) (url x) (sequence x) (head x) (body x)) → IfOk r (λ x. length (head x) ≤ 16384)
-read_head {message} head body method url sequence (Ok x) whole read = (lengths_of message (head x) (body x) whole read.split).head_short
-read_head head body method url sequence (Err e) whole read = tt
+pub read_head : {X E : Type 0} (message : List ℕ) (parts : RequestParts X) (r : Result X E) → IsRequestLength message (length message) →
+    IfOk r (IsRequestOf parts message) → IfOk r (λ x. length (parts.head x) ≤ 16384)
+read_head message parts (Ok x) whole read = (lengths_of message (parts.head x) (parts.body x) whole read.split).head_short
+read_head message parts (Err e) whole read = tt
 
-pub read_body : {X E : Type 0} {message : List ℕ} (head body method url : X → List ℕ) (sequence : X → ℕ)
-    (r : Result X E) → IsRequestLength message (length message) →
-    IfOk r (λ x. IsRequest message (method x) (url x) (sequence x) (head x) (body x)) → IfOk r (λ x. length (body x) ≤ 65536)
-read_body {message} head body method url sequence (Ok x) whole read = (lengths_of message (head x) (body x) whole read.split).body_short
-read_body head body method url sequence (Err e) whole read = tt
+pub read_body : {X E : Type 0} (message : List ℕ) (parts : RequestParts X) (r : Result X E) → IsRequestLength message (length message) →
+    IfOk r (IsRequestOf parts message) → IfOk r (λ x. length (parts.body x) ≤ 65536)
+read_body message parts (Ok x) whole read = (lengths_of message (parts.head x) (parts.body x) whole read.split).body_short
+read_body message parts (Err e) whole read = tt
 
-pub read_url : {X E : Type 0} (head body : X → List ℕ) (method url : X → List ℕ) (sequence : X → ℕ) (r : Result X E) (message : List ℕ) →
-    IfOk r (λ x. IsRequest message (method x) (url x) (sequence x) (head x) (body x)) → IfOk r (λ x. length (url x) < length (head x))
-read_url head body method url sequence (Ok x) message read = url_short read.split read.line
-read_url head body method url sequence (Err e) message read = tt
+pub read_url : {X E : Type 0} (message : List ℕ) (parts : RequestParts X) (r : Result X E) → IfOk r (IsRequestOf parts message) →
+    IfOk r (λ x. length (parts.url x) < length (parts.head x))
+read_url message parts (Ok x) read = url_short read.split read.line
+read_url message parts (Err e) read = tt

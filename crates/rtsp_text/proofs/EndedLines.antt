@@ -106,10 +106,16 @@ walk a (l ∷ ls) rest all at =
     omega (arith, length-append a (line_bytes l), length-append (line_bytes l) (flat_map line_bytes ls)) in
     subst (λ k. IsAfterLine w k) total (subst (λ (v : List ℕ). IsAfterLine v (length (a ++ line_bytes l) + length (flat_map line_bytes ls))) (sym moved) end)
 
+-- the lines of a head
+pub record AreHeadLines (first : EndedLine) (headers : List EndedLine) (last : EndedLine) : Type 0 where
+  pub first_is : IsEnded first
+  pub headers_are : All IsHeader headers
+  pub last_is : IsEmpty last
+
 -- the head is found
-pub head_found : (first : EndedLine) (headers : List EndedLine) (last : EndedLine) (later : List ℕ) → IsEnded first → All IsHeader headers → IsEmpty last →
+pub head_found : {first : EndedLine} {headers : List EndedLine} {last : EndedLine} (later : List ℕ) → AreHeadLines first headers last →
     IsHead (head_bytes first headers last ++ later) (length (head_bytes first headers last))
-head_found first headers last later ended all empty =
+head_found {first} {headers} {last} later lines =
     let a = line_bytes first in
     let fields = flat_map line_bytes headers in
     let rest = line_bytes last ++ later in
@@ -120,18 +126,18 @@ head_found first headers last later ended all empty =
     let next : 0 + length a ≡ length a = omega arith in
     let zero : IsLine (a ++ (fields ++ rest)) 0 (length first.text) (length a) =
     subst (λ k. IsLine (a ++ (fields ++ rest)) 0 (length first.text) k) next
-    (subst (λ k. IsLine (a ++ (fields ++ rest)) 0 k (0 + length a)) text_end (here [] first (fields ++ rest) ended)) in
+    (subst (λ k. IsLine (a ++ (fields ++ rest)) 0 k (0 + length a)) text_end (here [] first (fields ++ rest) lines.first_is)) in
     let start : IsAfterLine (a ++ (fields ++ rest)) (length a) = record {
       some = zero.after;
       feed = zero.feed;
       none = no_head_first (a ++ (fields ++ rest)) (length first.text) (length a) zero;
     } in
-    let at = walk a headers rest all start in
+    let at = walk a headers rest lines.headers_are start in
     let n = length a + length fields in
     let size : n ≡ length (a ++ fields) = sym (length-append a fields) in
-    let no_text : length (a ++ fields) + length last.text ≡ length (a ++ fields) = ap (λ (t : List ℕ). length (a ++ fields) + length t) empty.none ∙ omega arith in
+    let no_text : length (a ++ fields) + length last.text ≡ length (a ++ fields) = ap (λ (t : List ℕ). length (a ++ fields) + length t) lines.last_is.none ∙ omega arith in
     let there : IsLine ((a ++ fields) ++ rest) (length (a ++ fields)) (length (a ++ fields) + length last.text) (length (a ++ fields) + length (line_bytes last)) =
-    here (a ++ fields) last later empty.is_ended in
+    here (a ++ fields) last later lines.last_is.is_ended in
     let line : IsLine w (length (a ++ fields)) (length (a ++ fields)) (length (a ++ fields) + length (line_bytes last)) =
     subst (λ (v : List ℕ). IsLine v (length (a ++ fields)) (length (a ++ fields)) (length (a ++ fields) + length (line_bytes last))) (sym (append_assoc (a ++ fields) (line_bytes last) later))
     (subst (λ k. IsLine ((a ++ fields) ++ rest) (length (a ++ fields)) k (length (a ++ fields) + length (line_bytes last))) no_text there) in

@@ -60,12 +60,12 @@ fault_once message BadLength NoSequenceNumber a b = absurd (none-some a.2.0 (sym
 fault_once message BadLength BadLength a b = refl
 
 -- a request has no fault
-pub no_fault : (message method url : List ℕ) (sequence : ℕ) (head body : List ℕ) (f : RequestFault) → IsRequest message method url sequence head body → IsFault message f → ⊥
-no_fault message method url sequence head body BadLine r f = f (codes "RTSP/1.0") (method, (url, r.line))
-no_fault message method url sequence head body BadVersion r f = f.1.1 (version_once message f.0 (codes "RTSP/1.0") f.1.0 (method, (url, r.line)))
-no_fault message method url sequence head body (BadHeader n) r f = no_bad (header_lines message) n r.headers f.1
-no_fault message method url sequence head body NoSequenceNumber r f = none-some sequence (sym f.2 ∙ r.sequence_is)
-no_fault message method url sequence head body BadLength r f = f.3 r.length_is
+pub no_fault : {message method url : List ℕ} {sequence : ℕ} {head body : List ℕ} (f : RequestFault) → IsRequest message method url sequence head body → IsFault message f → ⊥
+no_fault {method} {url} BadLine r f = f (codes "RTSP/1.0") (method, (url, r.line))
+no_fault {message} {method} {url} BadVersion r f = f.1.1 (version_once message f.0 (codes "RTSP/1.0") f.1.0 (method, (url, r.line)))
+no_fault {message} (BadHeader n) r f = no_bad (header_lines message) n r.headers f.1
+no_fault {sequence} NoSequenceNumber r f = none-some sequence (sym f.2 ∙ r.sequence_is)
+no_fault BadLength r f = f.3 r.length_is
 
 -- a request has one list of parts
 pub record AreSameParts (m u : List ℕ) (s : ℕ) (h b m' u' : List ℕ) (s' : ℕ) (h' b' : List ℕ) : Type 0 where
@@ -75,8 +75,9 @@ pub record AreSameParts (m u : List ℕ) (s : ℕ) (h b m' u' : List ℕ) (s' : 
   pub head_is : h ≡ h'
   pub body_is : b ≡ b'
 
-pub request_once : (message m u : List ℕ) (s : ℕ) (h b m' u' : List ℕ) (s' : ℕ) (h' b' : List ℕ) → IsRequest message m u s h b → IsRequest message m' u' s' h' b' → AreSameParts m u s h b m' u' s' h' b'
-request_once message m u s h b m' u' s' h' b' x y =
+pub request_once : {message m u : List ℕ} {s : ℕ} {h b m' u' : List ℕ} {s' : ℕ} {h' b' : List ℕ} → IsRequest message m u s h b → IsRequest message m' u' s' h' b' →
+    AreSameParts m u s h b m' u' s' h' b'
+request_once {message} {s} {h} {b} {s'} {h'} {b'} x y =
     let line = line_once x.line y.line in
     let len : length h ≡ length h' = head_once message (length h) (length h') x.split.is_head y.split.is_head in
     let front : h ≡ h' =

@@ -148,7 +148,7 @@ values_named name (f ∷ fs) all =
     let cut = field_cut f plain in
     elim (cases_Bool (str_eq_ignore_ascii_case f.name name)) [
       | inl same ↦
-          first_value_some name (text_of f) f.value (map text_of (f ∷ fs)) (map text_of fs) refl (value_some name (text_of f) f.name (32 ∷ f.value) cut same ∙ ap Some plain.bare)
+          first_value_some name (text_of f) (map text_of (f ∷ fs)) (map text_of fs) refl (value_some name (text_of f) f.name (32 ∷ f.value) cut same ∙ ap Some plain.bare)
           ∙ sym (cond-true (str_eq_ignore_ascii_case f.name name) (Some f.value) (value_named name fs) same)
       | inr other ↦
           first_value_more name (text_of f) (map text_of (f ∷ fs)) (map text_of fs) refl (value_other name (text_of f) f.name (32 ∷ f.value) cut other)
@@ -391,11 +391,18 @@ front_lines code sequence fields =
     all_lines_of None = sym (flat-fields fields)
     all_lines_of (Some n) = sym (flat-fields (record { name = codes "CSeq"; value = decimal n } ∷ fields))
 
+-- what a reply is written from
+pub record ReplyParts : Type 0 where
+  pub code : ℕ
+  pub sequence : Option ℕ
+  pub fields : List Field
+  pub body : List ℕ
+
 -- a reply that was written is read back
-pub read_back : (message : List ℕ) (code : ℕ) (sequence : Option ℕ) (fields : List Field) (body : List ℕ) → IsRequestLength message (length message) → is_code code ≡ true →
-    All IsPlain (all_fields sequence fields) → message ≡ reply_text code sequence fields body → IsReadBack message code sequence fields body
+pub read_back : {message : List ℕ} (parts : ReplyParts) → IsRequestLength message (length message) → is_code parts.code ≡ true → All IsPlain (all_fields parts.sequence parts.fields) →
+    message ≡ reply_text parts.code parts.sequence parts.fields parts.body → IsReadBack message parts.code parts.sequence parts.fields parts.body
 unfolding reply_text
-read_back message code sequence fields body whole is plain text =
+read_back {message} parts whole is plain text =
     let status = status_of code is in
     let ts = map text_of (all_fields sequence fields) in
     let front = reply_front code sequence fields in
@@ -415,3 +422,5 @@ read_back message code sequence fields body whole is plain text =
       };
       values = λ name. ap (first_value name) headers ∙ values_named name (all_fields sequence fields) plain;
     }
+  where
+    open parts use {code, sequence, fields, body}

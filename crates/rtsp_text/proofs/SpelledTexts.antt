@@ -20,26 +20,29 @@ use Rattle.rtsp_text.specs.Requests.{IsRequest}
 use Rattle.rtsp_text.specs.Replies.{Field, field_line, IsPlain, value_named, is_code, reply_front, reply_text, all_fields}
 use Rattle.rtsp_text.specs.Spelled.{Parts, request_line, request_front, request_head, request_text, IsHeaderField, HasGivenLength, GivesLongBody, HasForm, AreFront, AreRequest, AreShort}
 use Rattle.rtsp_text.proofs.OneLines.{one_line_from, one_line-append, one_line-url}
-use Rattle.rtsp_text.proofs.ReadBack.{IsLineText, core, flat, flat-fields, text_of, texts_lines, values_named, status_text, status_of, status_text-line, front_lines}
+use Rattle.rtsp_text.proofs.ReadBack.{IsLineText, ReplyParts, core, flat, flat-fields, text_of, texts_lines, values_named, status_text, status_of, status_text-line, front_lines}
 use Rattle.rtsp_text.proofs.Words.{token_without}
 use Rattle.rtsp_text.proofs.WordTexts.{word_is, word_of, value_is, named_texts, visible_of}
 use Rattle.rtsp_text.proofs.BodyLengths.{length_given, body_length_of}
 
 -- a message of these lines and this body, which has the length that the fields give, is whole
+record IsShort (head body : List ℕ) : Type 0 where
+  head_is : length head ≤ 16384
+  body_is : length body ≤ 65536
+
 whole_message : {s : List ℕ} (fields : List Field) (body : List ℕ) → IsLineText s → All IsPlain fields →
-    length_given (value_named (codes "Content-Length") fields) ≡ length body →
-    length (flat (s ∷ map text_of fields) ++ codes "\r\n") ≤ 16384 → length body ≤ 65536 →
+    length_given (value_named (codes "Content-Length") fields) ≡ length body → IsShort (flat (s ∷ map text_of fields) ++ codes "\r\n") body →
     IsRequestLength ((flat (s ∷ map text_of fields) ++ codes "\r\n") ++ body) (length ((flat (s ∷ map text_of fields) ++ codes "\r\n") ++ body))
-whole_message {s} fields body one all given short small =
+whole_message {s} fields body one all given short =
     let head = flat (s ∷ map text_of fields) ++ codes "\r\n" in
     let is_body : IsBodyLength head (length body) = subst (λ n. IsBodyLength head n) given (body_length_of s fields one all) in
     record {
       head = length head;
       body = length body;
       is_head = (core s (map text_of fields) body one (texts_lines fields all)).split.is_head;
-      fits = short;
+      fits = short.head_is;
       is_body = subst (λ (h : List ℕ). IsBodyLength h (length body)) (sym (take_at head body (length head) refl)) is_body;
-      small = small;
+      small = short.body_is;
       total_is = length-append head body;
     }
 
@@ -168,7 +171,7 @@ request_whole parts sequence request short =
     let long : List ℕ → Type 0 = λ f. length (f ++ codes "\r\n") ≤ 16384 in
     subst (λ (f : List ℕ). IsRequestLength ((f ++ codes "\r\n") ++ parts.body) (length ((f ++ codes "\r\n") ++ parts.body))) (sym (front_of parts))
     (whole_message parts.fields parts.body (line_text parts front) (plain_fields parts.fields front.fields_are)
-    (given_is (value_named (codes "Content-Length") parts.fields) parts.body request.length_is) (subst long (front_of parts) short.head_is) short.body_is)
+    (given_is (value_named (codes "Content-Length") parts.fields) parts.body request.length_is) (record { head_is = subst long (front_of parts) short.head_is; body_is = short.body_is }))
 
 -- a method begins a request
 byte_begins : (c : ℕ) → is_token_byte c ≡ true → (is_line_end c ≡ false) × ((c == 36) ≡ false)
@@ -239,20 +242,22 @@ body_refused parts later front long short =
     )
 
 -- a reply whose Content-Length gives its body's length is whole by itself
-pub reply_whole : (code : ℕ) (sequence : Option ℕ) (fields : List Field) (body : List ℕ) → is_code code ≡ true → All IsPlain (all_fields sequence fields) →
-    HasGivenLength (all_fields sequence fields) body → length (reply_front code sequence fields ++ codes "\r\n") ≤ 16384 → length body ≤ 65536 →
-    IsRequestLength (reply_text code sequence fields body) (length (reply_text code sequence fields body))
+pub reply_whole : (parts : ReplyParts) → is_code parts.code ≡ true → All IsPlain (all_fields parts.sequence parts.fields) →
+    HasGivenLength (all_fields parts.sequence parts.fields) parts.body → length (reply_front parts.code parts.sequence parts.fields ++ codes "\r\n") ≤ 16384 →
+    length parts.body ≤ 65536 → IsRequestLength (reply_text parts.code parts.sequence parts.fields parts.body) (length (reply_text parts.code parts.sequence parts.fields parts.body))
 unfolding reply_text
-reply_whole code sequence fields body is plain given short small =
+reply_whole parts is plain given short small =
     let lines_are = front_lines code sequence fields in
     let long : List ℕ → Type 0 = λ f. length (f ++ codes "\r\n") ≤ 16384 in
     subst (λ (f : List ℕ). IsRequestLength ((f ++ codes "\r\n") ++ body) (length ((f ++ codes "\r\n") ++ body))) (sym lines_are)
     (whole_message (all_fields sequence fields) body (status_text-line code (status_of code is)) plain
-    (given_is (value_named (codes "Content-Length") (all_fields sequence fields)) body given) (subst long lines_are short) small)
+    (given_is (value_named (codes "Content-Length") (all_fields sequence fields)) body given) (record { head_is = subst long lines_are short; body_is = small }))
+  where
+    open parts use {code, sequence, fields, body}
 
 -- what is read as a request has a request's form
-pub form_of : (message method url : List ℕ) (sequence : ℕ) (head body : List ℕ) → IsRequest message method url sequence head body → HasForm message method url head body
-form_of message method url sequence head body request =
+pub form_of : {message method url : List ℕ} {sequence : ℕ} {head body : List ℕ} → IsRequest message method url sequence head body → HasForm message method url head body
+form_of {message} {method} {url} request =
     let line : first_line message ≡ method ++ codes " " ++ url ++ codes " RTSP/1.0" =
     request.line.parts ∙ sym (append_assoc (method ++ codes " ") url (codes " RTSP/1.0") ∙ append_assoc method (codes " ") (url ++ codes " RTSP/1.0")) in
     record {

@@ -4,17 +4,7 @@ use Rattle.std.proofs.lemmas.List.{append-nil, append_assoc}
 use Rattle.std.proofs.lemmas.List.Concat.{flat_map-append}
 use Rattle.rtsp_text.specs.Replies.{Field, field_line, sequence_line, status_line, reply_front, reply_text}
 
--- pieces one after another
-pub four_put : {t1 t2 t3 t4 : List ℕ} (old a b c d : List ℕ) → t1 ≡ old ++ a → t2 ≡ t1 ++ b → t3 ≡ t2 ++ c → t4 ≡ t3 ++ d → t4 ≡ old ++ (a ++ b ++ c ++ d)
-four_put {t4} old a b c d h1 h2 h3 h4 =
-    let all : t4 ≡ (((old ++ a) ++ b) ++ c) ++ d = h4 ∙ ap (λ t. t ++ d) (h3 ∙ ap (λ t. t ++ c) (h2 ∙ ap (λ t. t ++ b) h1)) in
-    let same : (((old ++ a) ++ b) ++ c) ++ d ≡ old ++ (a ++ b ++ c ++ d) = simp append_assoc in
-    all ∙ same
-
-pub five_put : {t1 t2 t3 t4 t5 : List ℕ} (old a b c d e : List ℕ) → t1 ≡ old ++ a → t2 ≡ t1 ++ b → t3 ≡ t2 ++ c → t4 ≡ t3 ++ d → t5 ≡ t4 ++ e → t5 ≡ old ++ (a ++ b ++ c ++ d ++ e)
-five_put old a b c d e h1 h2 h3 h4 h5 =
-    h5 ∙ ap (λ t. t ++ e) (four_put old a b c d h1 h2 h3 h4) ∙ append_assoc old (a ++ b ++ c ++ d) e
-
+-- a piece after another
 pub two_put : {t1 t2 : List ℕ} (old a b : List ℕ) → t1 ≡ old ++ a → t2 ≡ t1 ++ b → t2 ≡ old ++ (a ++ b)
 two_put old a b h1 h2 = h2 ∙ ap (λ t. t ++ b) h1 ∙ append_assoc old a b
 
@@ -23,15 +13,17 @@ pub front_start : (code : ℕ) (sequence : Option ℕ) (old new : List ℕ) → 
 unfolding reply_front
 front_start code sequence old new h none = h ∙ ap (λ t. t ++ (status_line code ++ sequence_line sequence)) none ∙ sym (append-nil (status_line code ++ sequence_line sequence))
 
-pub front_field : (code : ℕ) (sequence : Option ℕ) (fields : List Field) (field : Field) (old new : List ℕ) → new ≡ old ++ field_line field → old ≡ reply_front code sequence fields → new ≡ reply_front code sequence (fields ++ field ∷ [])
+pub front_field : {old new : List ℕ} (code : ℕ) (sequence : Option ℕ) (fields : List Field) (field : Field) → new ≡ old ++ field_line field → old ≡ reply_front code sequence fields →
+    new ≡ reply_front code sequence (fields ++ field ∷ [])
 unfolding reply_front
-front_field code sequence fields field old new h is =
+front_field code sequence fields field h is =
     let more : flat_map field_line (fields ++ field ∷ []) ≡ flat_map field_line fields ++ field_line field =
     flat_map-append field_line fields (field ∷ []) ∙ ap (λ t. flat_map field_line fields ++ t) (append-nil (field_line field)) in
     h ∙ ap (λ t. t ++ field_line field) is ∙ append_assoc (status_line code ++ sequence_line sequence) (flat_map field_line fields) (field_line field)
     ∙ ap (λ t. (status_line code ++ sequence_line sequence) ++ t) (sym more)
 
-pub whole_reply : (code : ℕ) (sequence : Option ℕ) (fields : List Field) (body old new : List ℕ) → new ≡ old ++ (codes "\r\n" ++ body) → old ≡ reply_front code sequence fields → new ≡ reply_text code sequence fields body
+pub whole_reply : {old new : List ℕ} (code : ℕ) (sequence : Option ℕ) (fields : List Field) (body : List ℕ) → new ≡ old ++ (codes "\r\n" ++ body) →
+    old ≡ reply_front code sequence fields → new ≡ reply_text code sequence fields body
 unfolding reply_text
-whole_reply code sequence fields body old new h is =
+whole_reply code sequence fields body h is =
     h ∙ ap (λ t. t ++ (codes "\r\n" ++ body)) is ∙ sym (append_assoc (reply_front code sequence fields) (codes "\r\n") body)

@@ -89,24 +89,24 @@ some_authority [] path rest split some other =
     absurd (other (ap (λ l. get_or l 0 0) split.parts ∙ split.path_begins (subst (λ l. 0 < length l) split.parts some)))
 some_authority (x ∷ authority) path rest split some other = omega arith
 
-pub rtsp_url : (url scheme rest : List ℕ) → url ≡ scheme ++ rest → map to_ascii_lowercase scheme ≡ map to_ascii_lowercase (codes "rtsp://") → 0 < length rest → get_or rest 0 0 ≢ 47 → IsRtspUrl url
-rtsp_url url scheme rest parts scheme_is some other =
+pub record AreUrlParts (scheme rest : List ℕ) : Type 0 where
+  pub scheme_is : map to_ascii_lowercase scheme ≡ map to_ascii_lowercase (codes "rtsp://")
+  pub some : 0 < length rest
+  pub no_slash : get_or rest 0 0 ≢ 47
+
+pub rtsp_url : (url scheme rest : List ℕ) → url ≡ scheme ++ rest → AreUrlParts scheme rest → IsRtspUrl url
+rtsp_url url scheme rest parts are =
     let split = slash_split rest in
     record {
       scheme = scheme;
       authority = split.0;
       path = split.1.0;
       parts = parts ∙ ap (λ l. scheme ++ l) split.1.1.parts;
-      scheme_is = scheme_is;
-      some = some_authority split.0 split.1.0 rest split.1.1 some other;
+      scheme_is = are.scheme_is;
+      some = some_authority split.0 split.1.0 rest split.1.1 are.some are.no_slash;
       no_slash = split.1.1.no_slash;
       path_begins = split.1.1.path_begins;
     }
-
-pub record AreUrlParts (scheme rest : List ℕ) : Type 0 where
-  pub scheme_is : map to_ascii_lowercase scheme ≡ map to_ascii_lowercase (codes "rtsp://")
-  pub some : 0 < length rest
-  pub no_slash : get_or rest 0 0 ≢ 47
 
 first_other : (authority path : List ℕ) → 0 < length authority → list_all (λ byte. not (byte == 47)) authority ≡ true → get_or (authority ++ path) 0 0 ≢ 47
 first_other [] path some none = absurd (omega (arith, some))

@@ -141,7 +141,7 @@ hears_on : {method : List ℕ} (P : Standing → Ask → Standing → Type 0) �
 hears_on P takes true {ask} {new} is hears = inl (refused _ Memory [] hears)
 hears_on P takes false {message} {ask} {new} is (inl fault) =
     let r = is.request in
-    absurd (no_fault message r.method.now r.url.now r.sequence r.head.now r.body.now fault.fault is.is_request fault.is_fault)
+    absurd (no_fault fault.fault is.is_request fault.is_fault)
 hears_on P takes false {old} {message} {ask} {new} is (inr whole) =
     let alike = same_request message is.request whole.request is.is_request whole.is_request in
     takes (record { old = old; new = new; request = whole.request; ask = ask }) whole.hears.judgement (alike.method ∙ is.method_is)

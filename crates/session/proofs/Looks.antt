@@ -139,7 +139,7 @@ hears_booked : {lost : Bool} {old : Standing} {message : List ℕ} (new : Standi
 hears_booked {lost = true} new ask linked some is hears = absurd (let no : ⊥ = cc in no)
 hears_booked {lost = false} {message} new ask linked some is (inl fault) =
     let r = is.request in
-    absurd (no_fault message r.method.now r.url.now r.sequence r.head.now r.body.now fault.fault is.is_request fault.is_fault)
+    absurd (no_fault fault.fault is.is_request fault.is_fault)
 hears_booked {lost = false} {old} {message} new ask linked some is (inr whole) =
     let alike = same_request message is.request whole.request is.is_request whole.is_request in
     takes_booked (record { old = old; new = new; request = whole.request; ask = ask }) whole.hears.judgement (record {

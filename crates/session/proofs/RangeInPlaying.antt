@@ -74,8 +74,7 @@ refused {old} {ask} {new} sequence refusal option is =
 pub same_request : (message : List ℕ) (request other : Request)
     → IsReadAs message request → IsReadAs message other → AreAlike request other
 same_request message request other is its =
-    let parts = request_once message other.method.now other.url.now other.sequence other.head.now other.body.now
-    request.method.now request.url.now request.sequence request.head.now request.body.now its is in
+    let parts = request_once its is in
     record {
       method = parts.method_is;
       url = parts.url_is;
@@ -103,7 +102,7 @@ hears_on_refused : {old : Standing} {message : List ℕ} {ask : Ask} {new : Stan
     → IsReadAs message request → IsRanged (place_of old.state) request → HearsOn lost old message ask new → IsDeclined old ask new
 hears_on_refused {ask} {new} true is ranged hears = refused _ Memory [] hears
 hears_on_refused {message} {ask} {new} {request} false is ranged (inl fault) =
-    absurd (no_fault message request.method.now request.url.now request.sequence request.head.now request.body.now fault.fault is fault.is_fault)
+    absurd (no_fault fault.fault is fault.is_fault)
 hears_on_refused {old} {message} {ask} {new} {request} false is ranged (inr whole) =
     let alike = same_request message request whole.request is whole.is_request in
     takes_refused whole.hears.judgement (ranged_as (place_of old.state) request whole.request alike ranged)
@@ -150,7 +149,7 @@ hears_455 : {lost : Bool} {old : Standing} {message : List ℕ} {request : Reque
     → HasRangeInPlaying old message request → IsElseGood old request → HearsOn lost old message ask new → HasCode 455 new.text
 hears_455 {lost = true} ask new linked is good hears = absurd (let no : ⊥ = cc in no)
 hears_455 {lost = false} {message} {request} ask new linked is good (inl fault) =
-    absurd (no_fault message request.method.now request.url.now request.sequence request.head.now request.body.now fault.fault is.is_request fault.is_fault)
+    absurd (no_fault fault.fault is.is_request fault.is_fault)
 hears_455 {lost = false} {old} {message} {request} ask new linked is good (inr whole) =
     takes_455 whole.hears.judgement ask new (record {
       alike = same_request message request whole.request is.is_request whole.is_request;

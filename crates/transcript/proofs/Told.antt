@@ -158,7 +158,7 @@ named-read message id info sequence end_ms slots size plain is small short some 
     let range = codes "npt=0.000-" ++ seconds_text end_ms in
     let fields = play_named id range info slots in
     let head = reply_front 200 (Some sequence) fields ++ codes "\r\n" in
-    let back = read_back message 200 (Some sequence) fields [] size refl plain is in
+    let back = read_back (record { code = 200; sequence = Some sequence; fields = fields; body = [] }) size refl plain is in
     let whole : message ≡ head = is ∙ append-nil head in
     let value : (name : List ℕ) → header_value message name ≡ value_named name (all_fields (Some sequence) fields) = λ name.
     ap (λ m. header_value m name) whole ∙ back.values name in

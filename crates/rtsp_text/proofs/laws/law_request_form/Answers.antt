@@ -3,10 +3,10 @@ use Rattle.rtsp_text.proofs.SpelledTexts.{form_of}
 use Rattle.rtsp_text.proofs.laws.law_request_form.Goals as goal
 
 pub returns-clause-form : goal.returns-clause-form
-returns-clause-form c = form_of
+returns-clause-form c = λ message method url sequence head body request. form_of request
 
 pub returns-clause-sequence : goal.returns-clause-sequence
-returns-clause-sequence c = sequence_written
+returns-clause-sequence c = λ message first texts method url sequence head body has request. sequence_written has request
 
 pub returns-clause-length : goal.returns-clause-length
-returns-clause-length c = length_digits
+returns-clause-length c = λ message first texts method url sequence head body value has request field. length_digits has request field

@@ -1,32 +1,37 @@
+use Rattle.rtsp_text.specs.declared.requests.Request.{Request}
 use Rattle.rtsp_text.proofs.Once.{fault_once, no_fault, request_once, ok_and, err_is}
-use Rattle.rtsp_text.proofs.Bounds.{read_head, read_body, read_url}
+use Rattle.rtsp_text.proofs.Bounds.{RequestParts, read_head, read_body, read_url}
 use Rattle.rtsp_text.proofs.requests.read_request.Goals as goal
 
 pub returns-clause-requests : goal.returns-clause-requests
 returns-clause-requests c = λ method url sequence head body request.
     ok_and c.read_parts.result c.read_parts.ensures.read c.read_parts.ensures.refused
     (λ r read.
-    let same = request_once c.args.message.now r.method.now r.url.now r.sequence r.head.now r.body.now method url sequence head body read request in
+    let same = request_once read request in
     (same.method_is, same.url_is, same.sequence_is, same.head_is, same.body_is))
-    (λ fault refused. no_fault c.args.message.now method url sequence head body fault request refused)
+    (λ fault refused. no_fault fault request refused)
 
 pub returns-clause-faults : goal.returns-clause-faults
 returns-clause-faults c = λ fault refused.
     err_is c.read_parts.ensures.read c.read_parts.ensures.refused
-    (λ r read. no_fault c.args.message.now r.method.now r.url.now r.sequence r.head.now r.body.now fault read refused)
+    (λ r read. no_fault fault read refused)
     (λ other found. fault_once c.args.message.now other fault found refused)
 
+-- a request that was read tells its parts
+abbrev parts : RequestParts Request
+parts = record {
+  head = λ r. r.head.now;
+  body = λ r. r.body.now;
+  method = λ r. r.method.now;
+  url = λ r. r.url.now;
+  sequence = λ r. r.sequence;
+}
+
 pub returns-clause-head : goal.returns-clause-head
-returns-clause-head c =
-    read_head (λ r. r.head.now) (λ r. r.body.now) (λ r. r.method.now) (λ r. r.url.now) (λ r. r.sequence)
-    c.read_parts.result c.requires c.read_parts.ensures.read
+returns-clause-head c = read_head c.args.message.now parts c.read_parts.result c.requires c.read_parts.ensures.read
 
 pub returns-clause-url : goal.returns-clause-url
-returns-clause-url c =
-    read_url (λ r. r.head.now) (λ r. r.body.now) (λ r. r.method.now) (λ r. r.url.now) (λ r. r.sequence)
-    c.read_parts.result c.args.message.now c.read_parts.ensures.read
+returns-clause-url c = read_url c.args.message.now parts c.read_parts.result c.read_parts.ensures.read
 
 pub returns-clause-body : goal.returns-clause-body
-returns-clause-body c =
-    read_body (λ r. r.head.now) (λ r. r.body.now) (λ r. r.method.now) (λ r. r.url.now) (λ r. r.sequence)
-    c.read_parts.result c.requires c.read_parts.ensures.read
+returns-clause-body c = read_body c.args.message.now parts c.read_parts.result c.requires c.read_parts.ensures.read

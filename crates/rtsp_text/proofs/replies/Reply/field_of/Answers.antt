@@ -1,9 +1,14 @@
-use Rattle.std.proofs.Common.{codes}
-use Rattle.rtsp_text.proofs.Texts.{four_put, front_field}
+use Rattle.std.proofs.Common.{◌++◌, codes}
+use Rattle.rtsp_text.proofs.Texts.{front_field, two_put}
 use Rattle.rtsp_text.proofs.replies.Reply.field_of.Goals as goal
 
 pub returns-clause-text : goal.returns-clause-text
-returns-clause-text c = four_put c.args.self.now c.args.name.now (codes ": ") _ (codes "\r\n") c.put.ensures.text c.put-2.ensures.text c.put_parts.ensures.text c.put-3.ensures.text
+returns-clause-text c =
+    let old = c.args.self.now in
+    let name = c.args.name.now in
+    two_put old _ (codes "\r\n")
+    (two_put old (name ++ codes ": ") _ (two_put old name (codes ": ") c.put.ensures.text c.put-2.ensures.text) c.put_parts.ensures.text)
+    c.put-3.ensures.text
 
 pub returns-clause-front : goal.returns-clause-front
-returns-clause-front c = λ code sequence fields is. front_field code sequence fields _ c.args.self.now _ (returns-clause-text c) is
+returns-clause-front c = λ code sequence fields is. front_field code sequence fields _ (returns-clause-text c) is

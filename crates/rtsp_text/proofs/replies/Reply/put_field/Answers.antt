@@ -1,6 +1,12 @@
-use Rattle.std.proofs.Common.{codes}
-use Rattle.rtsp_text.proofs.Texts.{four_put}
+use Rattle.std.proofs.Common.{◌++◌, codes}
+use Rattle.rtsp_text.proofs.Texts.{two_put}
 use Rattle.rtsp_text.proofs.replies.Reply.put_field.Goals as goal
 
 pub returns-clause-text : goal.returns-clause-text
-returns-clause-text c = four_put c.args.self.now c.args.name.now (codes ": ") c.args.value.now (codes "\r\n") c.put.ensures.text c.put-2.ensures.text c.put-3.ensures.text c.put-4.ensures.text
+returns-clause-text c =
+    let old = c.args.self.now in
+    let name = c.args.name.now in
+    let value = c.args.value.now in
+    two_put old (name ++ codes ": " ++ value) (codes "\r\n")
+    (two_put old (name ++ codes ": ") value (two_put old name (codes ": ") c.put.ensures.text c.put-2.ensures.text) c.put-3.ensures.text)
+    c.put-4.ensures.text

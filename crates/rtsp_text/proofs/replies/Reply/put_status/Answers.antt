@@ -1,11 +1,16 @@
 use Rattle.std.proofs.Common.{◌++◌, ◌≡◌, codes, decimal, ap, ◌∙◌}
 use Rattle.rtsp_text.specs.Replies.{reason, status_line}
-use Rattle.rtsp_text.proofs.Texts.{five_put}
+use Rattle.rtsp_text.proofs.Texts.{two_put}
 use Rattle.rtsp_text.proofs.replies.Reply.put_status.Goals as goal
 
 pub returns-clause-text : goal.returns-clause-text
 unfolding status_line
 returns-clause-text c =
     let digits : c.as_bytes.result.now ≡ decimal c.args.code = c.as_bytes.ensures.value ∙ c.format.ensures.text in
-    five_put c.args.self.now (codes "RTSP/1.0 ") (decimal c.args.code) (codes " ") (reason c.args.code) (codes "\r\n") c.put.ensures.text
-    (c.put-2.ensures.text ∙ ap (λ t. c.put.new.self ++ t) digits) c.put-3.ensures.text (c.put-4.ensures.text ∙ ap (λ t. c.put-3.new.self ++ t) c.reason.ensures.text) c.put-5.ensures.text
+    let old = c.args.self.now in
+    let version = codes "RTSP/1.0 " in
+    let code = decimal c.args.code in
+    let with_code = two_put old version code c.put.ensures.text (c.put-2.ensures.text ∙ ap (λ t. c.put.new.self ++ t) digits) in
+    let with_reason = two_put old (version ++ code ++ codes " ") (reason c.args.code)
+    (two_put old (version ++ code) (codes " ") with_code c.put-3.ensures.text) (c.put-4.ensures.text ∙ ap (λ t. c.put-3.new.self ++ t) c.reason.ensures.text) in
+    two_put old (version ++ code ++ codes " " ++ reason c.args.code) (codes "\r\n") with_reason c.put-5.ensures.text
