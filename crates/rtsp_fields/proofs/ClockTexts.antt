@@ -46,9 +46,17 @@ digits_of most text n is = (and_parts (nat_lt 0 (length text)) (list_all is_asci
 clock_text : List ℕ → List ℕ → List ℕ → List ℕ
 clock_text h m s = h ++ (58 ∷ (m ++ (58 ∷ s)))
 
-clock_of : (h m s : List ℕ) (a b c : ℕ) → IsDigits 5 h a → IsDigits 2 m b → IsDigits 2 s c → b ≤ 59 → c ≤ 59 → IsClock (clock_text h m s) (a * 3600 + b * 60 + c)
+-- the digits of the hours, the minutes and the seconds
+record AreClockDigits (h m s : List ℕ) (a b c : ℕ) : Type 0 where
+  hours : IsDigits 5 h a
+  minutes : IsDigits 2 m b
+  seconds : IsDigits 2 s c
+  small_minutes : b ≤ 59
+  small_seconds : c ≤ 59
+
+clock_of : {h m s : List ℕ} {a b c : ℕ} → AreClockDigits h m s a b c → IsClock (clock_text h m s) (a * 3600 + b * 60 + c)
 unfolding clock_text
-clock_of h m s a b c hours minutes seconds mb sb =
+clock_of {h} {m} {s} {a} {b} {c} digits =
     let front = h ++ 58 ∷ [] in
     let text = clock_text h m s in
     let front_long : length front ≡ length h + 1 = length-append h (58 ∷ []) in
@@ -71,17 +79,17 @@ clock_of h m s a b c hours minutes seconds mb sb =
     record {
       first = length h;
       second = length h + 1 + length m;
-      hours_end = subst (λ (n : ℕ). IsEnd 58 text 0 n) (let e : 0 + length h ≡ length h = omega arith in e) (digits_end [] h (m ++ 58 ∷ s) (digits_of 5 h a hours));
-      minutes_end = subst (λ (n : ℕ). E text n) front_long (subst (λ (t : List ℕ). E t (length front)) split (digits_end front m s (digits_of 2 m b minutes)));
+      hours_end = subst (λ (n : ℕ). IsEnd 58 text 0 n) (let e : 0 + length h ≡ length h = omega arith in e) (digits_end [] h (m ++ 58 ∷ s) (digits_of 5 h a digits.hours));
+      minutes_end = subst (λ (n : ℕ). E text n) front_long (subst (λ (t : List ℕ). E t (length front)) split (digits_end front m s (digits_of 2 m b digits.minutes)));
       inside = omega (arith, long);
       hours = a;
       minutes = b;
       rest = c;
-      are_hours = subst (λ (t : List ℕ). IsDigits 5 t a) (sym (take_at h (58 ∷ (m ++ 58 ∷ s)) (length h) refl)) hours;
-      are_minutes = subst (λ (t : List ℕ). IsDigits 2 t b) (sym minutes_are) minutes;
-      are_seconds = subst (λ (t : List ℕ). IsDigits 2 t c) (sym seconds_are) seconds;
-      small_minutes = mb;
-      small_seconds = sb;
+      are_hours = subst (λ (t : List ℕ). IsDigits 5 t a) (sym (take_at h (58 ∷ (m ++ 58 ∷ s)) (length h) refl)) digits.hours;
+      are_minutes = subst (λ (t : List ℕ). IsDigits 2 t b) (sym minutes_are) digits.minutes;
+      are_seconds = subst (λ (t : List ℕ). IsDigits 2 t c) (sym seconds_are) digits.seconds;
+      small_minutes = digits.small_minutes;
+      small_seconds = digits.small_seconds;
       seconds_are = refl;
     }
 
@@ -143,4 +151,4 @@ clock_read hours minutes seconds h m s =
     let sd : IsDigits 2 (decimal seconds) seconds = short_digits 2 seconds (omega arith) (omega arith) (omega (arith, s)) (omega (arith, s)) in
     clock_is_time (clock_text (decimal hours) (decimal minutes) (decimal seconds)) (hours * 3600 + minutes * 60 + seconds)
     (all_text (decimal hours) (decimal minutes) (decimal seconds) (digits_of 5 (decimal hours) hours hd) (digits_of 2 (decimal minutes) minutes md) (digits_of 2 (decimal seconds) seconds sd))
-    (clock_of (decimal hours) (decimal minutes) (decimal seconds) hours minutes seconds hd md sd m s)
+    (clock_of (record { hours = hd; minutes = md; seconds = sd; small_minutes = m; small_seconds = s }))

@@ -18,13 +18,13 @@ pub record IsClockAt (text : List ℕ) (first second seconds : ℕ) : Type 0 whe
   pub small_seconds : rest ≤ 59
 
 pub first_colon : (text : List ℕ) (first seconds : ℕ) (clock : IsClock text seconds) → IsEnd 58 text 0 first → clock.first ≡ first
-first_colon text first seconds clock e = end_once 58 text 0 clock.first first clock.hours_end e
+first_colon text first seconds clock e = end_once clock.hours_end e
 
 pub clock_at : {text : List ℕ} {first second seconds : ℕ} → IsEnd 58 text 0 first → IsEnd 58 text (first + 1) second → IsClock text seconds → IsClockAt text first second seconds
 clock_at {text} {first} {second} {seconds} e f clock =
     let same : clock.first ≡ first = first_colon text first seconds clock e in
     let E : ℕ → Type 0 = λ n. IsEnd 58 text (n + 1) clock.second in
-    let same_second : clock.second ≡ second = end_once 58 text (first + 1) clock.second second (subst E same clock.minutes_end) f in
+    let same_second : clock.second ≡ second = end_once (subst E same clock.minutes_end) f in
     let C : ℕ → Type 0 = λ n. IsClockAt text n clock.second seconds in
     subst (λ (n : ℕ). IsClockAt text first n seconds) same_second
     (subst C same (record {
@@ -56,29 +56,38 @@ inside_text text from to e other =
 pub value_once : (most : ℕ) (text : List ℕ) (a b : ℕ) → IsDigits most text a → IsDigits most text b → a ≡ b
 value_once most text a b x y = x.value ∙ sym y.value
 
+-- the parts of a clock time as they were read
+pub record AreClockParts (text : List ℕ) (first second hours minutes seconds : ℕ) : Type 0 where
+  pub hours_end : IsEnd 58 text 0 first
+  pub minutes_end : IsEnd 58 text (first + 1) second
+  pub inside : second < length text
+  pub are_hours : IsDigits 5 (take first text) hours × (hours < 10 ^ 9)
+  pub are_minutes : IsDigits 2 (slice_range text (first + 1) second) minutes × (minutes < 10 ^ 9)
+  pub are_seconds : IsDigits 2 (slice_range text (second + 1) (length text)) seconds × (seconds < 10 ^ 9)
+  pub small_minutes : minutes ≤ 59
+  pub small_seconds : seconds ≤ 59
+
 -- the clock time that was read
-pub whole_clock : {text : List ℕ} {first second hours minutes seconds : ℕ} → IsEnd 58 text 0 first → IsEnd 58 text (first + 1) second → second < length text →
-    IsDigits 5 (take first text) hours × (hours < 10 ^ 9) → IsDigits 2 (slice_range text (first + 1) second) minutes × (minutes < 10 ^ 9) →
-    IsDigits 2 (slice_range text (second + 1) (length text)) seconds × (seconds < 10 ^ 9) → minutes ≤ 59 → seconds ≤ 59 →
+pub whole_clock : {text : List ℕ} {first second hours minutes seconds : ℕ} → AreClockParts text first second hours minutes seconds →
     IsClock text (hours * 3600 + minutes * 60 + seconds) × (hours * 3600 + minutes * 60 + seconds < 10 ^ 13)
-whole_clock {text} {first} {second} {hours} {minutes} {seconds} e f inside h m s small_minutes small_seconds = (
+whole_clock {first} {second} {hours} {minutes} {seconds} parts = (
   record {
     first = first;
     second = second;
-    hours_end = e;
-    minutes_end = f;
-    inside = inside;
+    hours_end = parts.hours_end;
+    minutes_end = parts.minutes_end;
+    inside = parts.inside;
     hours = hours;
     minutes = minutes;
     rest = seconds;
-    are_hours = h.0;
-    are_minutes = m.0;
-    are_seconds = s.0;
-    small_minutes = small_minutes;
-    small_seconds = small_seconds;
+    are_hours = parts.are_hours.0;
+    are_minutes = parts.are_minutes.0;
+    are_seconds = parts.are_seconds.0;
+    small_minutes = parts.small_minutes;
+    small_seconds = parts.small_seconds;
     seconds_are = refl;
   },
-  omega (arith, h.1, small_minutes, small_seconds),
+  omega (arith, parts.are_hours.1, parts.small_minutes, parts.small_seconds),
 )
 
 -- not short enough for a clock
@@ -109,7 +118,7 @@ pub record IsTimeAt (text : List ℕ) (point : ℕ) : Type 0 where
 
 pub time_at : (text : List ℕ) (point n : ℕ) → IsEnd 46 text 0 point → IsTime text n → IsTimeAt text point
 time_at text point n e t =
-    subst (IsTimeAt text) (end_once 46 text 0 t.point point t.point_is e)
+    subst (IsTimeAt text) (end_once t.point_is e)
     (record { seconds = t.seconds; fraction = t.fraction; whole = t.whole; part = t.part })
 
 pub no_fraction : {text : List ℕ} {point n : ℕ} → IsEnd 46 text 0 point → point < length text →

@@ -14,7 +14,6 @@ use Rattle.std.proofs.lemmas.Option.{none-some, same_Some}
 use Rattle.vod_base.specs.Numbers.{is_decimal, number_of}
 use Rattle.rtsp_fields.specs.Times.{IsDigits, IsFraction}
 use Rattle.rtsp_text.proofs.OneLines.{decimal_numerals}
-pub use Rattle.rtsp_text.proofs.OneLines.{decimal_numerals as own}
 
 -- a text that is read as a number is decimal, and that is its value
 pub number_read : (text : List ℕ) (n : ℕ) → number_of text ≡ Some n → (is_decimal text ≡ true) × (n ≡ digits_value 10 text)

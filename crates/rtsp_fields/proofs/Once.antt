@@ -37,9 +37,9 @@ digits_no_clock text a b d clock =
 
 pub clock_once : (text : List ℕ) (a b : ℕ) → IsClock text a → IsClock text b → a ≡ b
 clock_once text a b x y =
-    let first : x.first ≡ y.first = end_once 58 text 0 x.first y.first x.hours_end y.hours_end in
+    let first : x.first ≡ y.first = end_once x.hours_end y.hours_end in
     let F : ℕ → Type 0 = λ n. IsEnd 58 text (n + 1) x.second in
-    let second : x.second ≡ y.second = end_once 58 text (y.first + 1) x.second y.second (subst F first x.minutes_end) y.minutes_end in
+    let second : x.second ≡ y.second = end_once (subst F first x.minutes_end) y.minutes_end in
     let H : ℕ → Type 0 = λ n. IsDigits 5 (take n text) x.hours in
     let hours : x.hours ≡ y.hours = value_once 5 (take y.first text) x.hours y.hours (subst H first x.are_hours) y.are_hours in
     let M : ℕ → Type 0 = λ n. IsDigits 2 (slice_range text (n + 1) x.second) x.minutes in
@@ -64,7 +64,7 @@ part_once text point a b (inr x) (inr y) = x.1.value ∙ sym y.1.value
 
 pub time_once : (text : List ℕ) (a b : ℕ) → IsTime text a → IsTime text b → a ≡ b
 time_once text a b x y =
-    let point : x.point ≡ y.point = end_once 46 text 0 x.point y.point x.point_is y.point_is in
+    let point : x.point ≡ y.point = end_once x.point_is y.point_is in
     let W : ℕ → Type 0 = λ n. AreSeconds (take n text) x.seconds in
     let seconds : x.seconds ≡ y.seconds = seconds_once (take y.point text) x.seconds y.seconds (subst W point x.whole) y.whole in
     let P : ℕ → Type 0 = λ n. ((n ≡ length text) × (x.fraction ≡ 0)) ⊎ ((n < length text) × IsFraction (slice_range text (n + 1) (length text)) x.fraction) in
@@ -102,7 +102,7 @@ limit_once text (Some n) (Some m) x y = ap (λ k. Some k) (time_once text n m x 
 
 pub span_once : (value : List ℕ) (a b : Span) → IsSpan value a → IsSpan value b → a ≡ b
 span_once value a b x y =
-    let dash : x.dash ≡ y.dash = end_once 45 value 4 x.dash y.dash x.is_dash y.is_dash in
+    let dash : x.dash ≡ y.dash = end_once x.is_dash y.is_dash in
     let F : ℕ → Type 0 = λ n. IsOrigin (slice_range value 4 n) a.from in
     let from : a.from ≡ b.from = origin_once (slice_range value 4 y.dash) a.from b.from (subst F dash x.from) y.from in
     let T : ℕ → Type 0 = λ n. IsLimit (slice_range value (n + 1) (length value)) a.to in
@@ -125,17 +125,17 @@ not_both_forms text a b pair single =
 channels_once : (text : List ℕ) (a b : Channels) → AreChannels text a → AreChannels text b → a ≡ b
 channels_once text a b (inl x) (inl y) =
     let p : IsPairAt text y.dash a = pair_at text y.dash a y.is_dash x in
-    same_channels a b (within_once 0 255 (take y.dash text) a.media b.media p.media y.media)
-    (within_once 0 255 (slice_range text (y.dash + 1) (length text)) a.control b.control p.control y.control)
+    same_channels a b (within_once p.media y.media)
+    (within_once p.control y.control)
 channels_once text a b (inl x) (inr y) = absurd (not_both_forms text a b x y)
 channels_once text a b (inr x) (inl y) = absurd (not_both_forms text b a y x)
 channels_once text a b (inr x) (inr y) =
-    let media : a.media ≡ b.media = within_once 0 254 text a.media b.media x.media y.media in
+    let media : a.media ≡ b.media = within_once x.media y.media in
     same_channels a b media (x.control ∙ ap (λ n. n + 1) media ∙ sym y.control)
 
 has_once : (text : List ℕ) (a b : Channels) → HasChannels text a → HasChannels text b → a ≡ b
 has_once text a b (inl x) (inl y) =
-    let same = first_once NamesChannels x.piece x.names x.first y.piece y.names y.first in
+    let same = first_once NamesChannels (record { piece = x.piece; holds = x.names; first = x.first }) (record { piece = y.piece; holds = y.names; first = y.first }) in
     let P : ℕ → Type 0 = λ n. AreChannels (after_name (without_blanks (slice_range text n x.to))) a in
     let Q : ℕ → Type 0 = λ n. AreChannels (after_name (without_blanks (slice_range text y.from n))) a in
     channels_once (after_name (without_blanks (slice_range text y.from y.to))) a b (subst Q same.1 (subst P same.0 x.are)) y.are
@@ -145,12 +145,12 @@ has_once text a b (inr x) (inr y) = same_channels a b (x.media ∙ sym y.media) 
 
 pub transport_once : (value : List ℕ) (a b : Channels) → IsTransport value a → IsTransport value b → a ≡ b
 transport_once value a b x y =
-    let same = first_once CanBeTaken x.piece (a, x.taken) x.first y.piece (b, y.taken) y.first in
+    let same = first_once CanBeTaken (record { piece = x.piece; holds = (a, x.taken); first = x.first }) (record { piece = y.piece; holds = (b, y.taken); first = y.first }) in
     let P : ℕ → Type 0 = λ n. IsTaken (slice_range value n x.to) a in
     let Q : ℕ → Type 0 = λ n. IsTaken (slice_range value y.from n) a in
     has_once (slice_range value y.from y.to) a b (subst Q same.1 (subst P same.0 x.taken)).has y.taken.has
 
 pub name_once : (path a b : List ℕ) → NamesFilm path a → NamesFilm path b → a ≡ b
 name_once path a b x y =
-    let end : x.end ≡ y.end = end_once 47 path 1 x.end y.end x.is_end y.is_end in
+    let end : x.end ≡ y.end = end_once x.is_end y.is_end in
     x.name_is ∙ ap (slice_range path 1) end ∙ sym y.name_is

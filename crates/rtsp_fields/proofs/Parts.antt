@@ -18,18 +18,18 @@ pub record IsPairAt (text : List ℕ) (dash : ℕ) (channels : Channels) : Type 
 
 pub pair_at : (text : List ℕ) (dash : ℕ) (channels : Channels) → IsEnd 45 text 0 dash → IsPair text channels → IsPairAt text dash channels
 pair_at text dash channels e p =
-    let same : p.dash ≡ dash = end_once 45 text 0 p.dash dash p.is_dash e in
+    let same : p.dash ≡ dash = end_once p.is_dash e in
     subst (λ (d : ℕ). IsPairAt text d channels) same (record { media = p.media; control = p.control; inside = p.inside; differ = p.differ })
 
 -- one text writes one number
-pub within_once : (low high : ℕ) (text : List ℕ) (a b : ℕ) → IsWithin low high text a → IsWithin low high text b → a ≡ b
-within_once low high text a b x y = same_Some a b (sym x.is_number ∙ y.is_number)
+pub within_once : {low high : ℕ} {text : List ℕ} {a b : ℕ} → IsWithin low high text a → IsWithin low high text b → a ≡ b
+within_once {a} {b} x y = same_Some a b (sym x.is_number ∙ y.is_number)
 
 pub not_pair_equal : {text : List ℕ} {dash a b : ℕ} {channels : Channels} → IsEnd 45 text 0 dash → IsWithin 0 255 (take dash text) a →
     IsWithin 0 255 (slice_range text (dash + 1) (length text)) b → a ≡ b → IsPair text channels → ⊥
 not_pair_equal {text} {dash} {a} {b} {channels} e x y same p =
     let at : IsPairAt text dash channels = pair_at text dash channels e p in
-    at.differ (within_once 0 255 (take dash text) channels.media a at.media x ∙ same ∙ within_once 0 255 (slice_range text (dash + 1) (length text)) b channels.control y at.control)
+    at.differ (within_once at.media x ∙ same ∙ within_once y at.control)
 
 -- no pair, and one number or not
 pub pair_or_single : (o : Option Channels) (text : List ℕ) → ((channels : Channels) → ¬ IsPair text channels) →
@@ -48,7 +48,7 @@ pub named_channels : {text : List ℕ} {from to : ℕ} (o : Option Channels) →
     MatchOption o ((channels : Channels) → ¬ HasChannels text channels) (HasChannels text)
 named_channels {text} {from} {to} None piece names first h = λ channels has. elim has [
   | inl named ↦
-      let same = first_once NamesChannels named.piece named.names named.first piece names first in
+      let same = first_once NamesChannels (record { piece = named.piece; holds = named.names; first = named.first }) (record { piece = piece; holds = names; first = first }) in
       let P : ℕ → Type 0 = λ n. AreChannels (after_name (without_blanks (slice_range text n named.to))) channels in
       let Q : ℕ → Type 0 = λ n. AreChannels (after_name (without_blanks (slice_range text from n))) channels in
       h channels (subst Q same.1 (subst P same.0 named.are))
@@ -60,7 +60,7 @@ named_channels {text} {from} {to} (Some channels) piece names first h =
 -- no alternative with another first part can be taken
 pub other_protocol : (text : List ℕ) (end : ℕ) (channels : Channels) → IsEnd 59 text 0 end → (word (take end text) ≢ codes "rtp/avp/tcp") → IsTaken text channels → ⊥
 other_protocol text end channels e other t =
-    let same : t.end ≡ end = end_once 59 text 0 t.end end t.first.end e in
+    let same : t.end ≡ end = end_once t.first.end e in
     let P : ℕ → Type 0 = λ n. word (take n text) ≡ codes "rtp/avp/tcp" in
     other (subst P same t.protocol)
 

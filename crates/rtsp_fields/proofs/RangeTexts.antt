@@ -9,7 +9,7 @@ use Rattle.rtsp_text.proofs.OneLines.{decimal_numerals}
 use Rattle.rtsp_fields.specs.Descriptions.{seconds_text}
 use Rattle.rtsp_fields.specs.Pieces.{HasNone}
 use Rattle.rtsp_fields.specs.Ranges.{IsLimit, IsOrigin, IsSpan}
-use Rattle.rtsp_fields.specs.declared.ranges.Origin.{Origin}
+use Rattle.rtsp_fields.specs.declared.ranges.Span.{Span}
 use Rattle.rtsp_fields.specs.declared.ranges.Origin.TheVariants.{Now, At}
 use Rattle.rtsp_fields.proofs.SecondsTexts.{seconds_read}
 use Rattle.rtsp_fields.proofs.TransportTexts.{digits_other, none_from, other_than}
@@ -28,10 +28,10 @@ at_place from to k low =
     let same : suc (suc (suc (suc (k - 4)))) ≡ k = omega (arith, low) in
     ap (λ n. get_or (codes "npt=" ++ (from ++ 45 ∷ to)) n 0) same
 
-pub span_read : (from to : List ℕ) (origin : Origin) (limit : Option ℕ) → list_all (other_than 45) from ≡ true → IsOrigin from origin → IsLimit to limit →
-    IsSpan (codes "npt=" ++ (from ++ 45 ∷ to)) (record { from = origin; to = limit })
+pub span_read : (from to : List ℕ) (span : Span) → list_all (other_than 45) from ≡ true → IsOrigin from span.from → IsLimit to span.to →
+    IsSpan (codes "npt=" ++ (from ++ 45 ∷ to)) span
 unfolding range_text
-span_read from to origin limit free begins ends =
+span_read from to span free begins ends =
     let text = range_text from to in
     let dash = 4 + length from in
     let long = range_long from to in
@@ -56,8 +56,8 @@ span_read from to origin limit free begins ends =
             ∙ get_or-append-add from (45 ∷ to) 0 0;
       };
       inside = omega (arith, long);
-      from = subst (λ (t : List ℕ). IsOrigin t origin) (sym front) begins;
-      to = subst (λ (t : List ℕ). IsLimit t limit) (sym back) ends;
+      from = subst (λ (t : List ℕ). IsOrigin t span.from) (sym front) begins;
+      to = subst (λ (t : List ℕ). IsLimit t span.to) (sym back) ends;
     }
 
 -- a text of seconds has no `-`
@@ -79,12 +79,13 @@ seconds_free ms small =
     (number_free (ms % 10) (omega arith))
 
 pub from_read : (ms : ℕ) → ms < 10 ^ 12 → IsSpan (codes "npt=" ++ (seconds_text ms ++ codes "-")) (record { from = At (ms * 1000000); to = None })
-from_read ms small = span_read (seconds_text ms) [] (At (ms * 1000000)) None (seconds_free ms (omega (arith, small))) (seconds_read ms small) refl
+from_read ms small = span_read (seconds_text ms) [] (record { from = At (ms * 1000000); to = None }) (seconds_free ms (omega (arith, small))) (seconds_read ms small) refl
 
 pub between_read : (ms end_ms : ℕ) → ms < 10 ^ 12 → end_ms < 10 ^ 12 →
     IsSpan (codes "npt=" ++ (seconds_text ms ++ (codes "-" ++ seconds_text end_ms))) (record { from = At (ms * 1000000); to = Some (end_ms * 1000000) })
-between_read ms end_ms small fits = span_read (seconds_text ms) (seconds_text end_ms) (At (ms * 1000000)) (Some (end_ms * 1000000)) (seconds_free ms (omega (arith, small))) (seconds_read ms small) (seconds_read end_ms fits)
+between_read ms end_ms small fits =
+    span_read (seconds_text ms) (seconds_text end_ms) (record { from = At (ms * 1000000); to = Some (end_ms * 1000000) }) (seconds_free ms (omega (arith, small))) (seconds_read ms small) (seconds_read end_ms fits)
 
 pub now_read : IsSpan (codes "npt=now-") (record { from = Now; to = None })
 unfolding other_than
-now_read = span_read (codes "now") [] Now None refl refl refl
+now_read = span_read (codes "now") [] (record { from = Now; to = None }) refl refl refl

@@ -32,15 +32,20 @@ no_semicolon : (part : List ℕ) → IsOtherParameter part → HasNone 59 part 0
 unfolding other_than
 no_semicolon part other = none_from 59 part other.no_semicolon
 
+-- one part, which is no such text
+record IsOnePart (P : List ℕ → Type 0) (part : List ℕ) : Type 0 where
+  no_semicolon : HasNone 59 part 0 (length part)
+  isnt : ¬ P part
+
 -- none of the parts is such a text
-none_of : (P : List ℕ → Type 0) → ((part : List ℕ) → IsOtherParameter part → ¬ P part) → (part : List ℕ) (parts : List (List ℕ)) → HasNone 59 part 0 (length part) → ¬ P part →
+none_of : {part : List ℕ} (P : List ℕ → Type 0) → ((part : List ℕ) → IsOtherParameter part → ¬ P part) → (parts : List (List ℕ)) → IsOnePart P part →
     All IsOtherParameter parts → NoPiece 59 (joined part parts) P
 unfolding joined
-none_of P is_other part [] none here all = none_whole 59 part P none here
-none_of P is_other part (next ∷ more) none here all =
+none_of {part} P is_other [] one all = none_whole 59 part P one.no_semicolon one.isnt
+none_of P is_other (next ∷ more) one all =
     let other = All-head IsOtherParameter next more all in
-    none_more P none here
-    (none_of P is_other next more (no_semicolon next other) (is_other next other) (All-tail IsOtherParameter next more all))
+    none_more P one.no_semicolon one.isnt
+    (none_of P is_other more (record { no_semicolon = no_semicolon next other; isnt = is_other next other }) (All-tail IsOtherParameter next more all))
 
 first_of : (part : List ℕ) (parts : List (List ℕ)) → HasNone 59 part 0 (length part) → IsPiece 59 (joined part parts) 0 (length part)
 unfolding joined
@@ -71,9 +76,9 @@ taken parts all = record {
   end = 11;
   first = first_of protocol parts protocol_none;
   protocol = ap word (front_of protocol parts);
-  plain = none_of IsOther plain protocol parts protocol_none (first_letter protocol 114 refl (omega arith)) all;
+  plain = none_of IsOther plain parts (record { no_semicolon = protocol_none; isnt = first_letter protocol 114 refl (omega arith) }) all;
   has = inr (record {
-    none = none_of NamesChannels nameless protocol parts protocol_none (names_none protocol 114 refl (omega arith)) all;
+    none = none_of NamesChannels nameless parts (record { no_semicolon = protocol_none; isnt = names_none protocol 114 refl (omega arith) }) all;
     media = refl;
     control = refl;
   });

@@ -402,11 +402,16 @@ dash_other : (c : ℕ) → c ≢ 45 → other_than c 45 ≡ true
 unfolding other_than
 dash_other c dash = grind arith
 
-pair_free : (c m n : ℕ) → is_ascii_digit c ≡ false → c ≢ 45 → m ≤ 255 → n ≤ 255 → list_all (other_than c) (decimal m ++ 45 ∷ decimal n) ≡ true
-pair_free c m n no_digit dash small fits =
+-- a byte that stands in no pair of numbers
+record IsSeparator (c : ℕ) : Type 0 where
+  no_digit : is_ascii_digit c ≡ false
+  no_dash : c ≢ 45
+
+pair_free : {c : ℕ} (m n : ℕ) → IsSeparator c → m ≤ 255 → n ≤ 255 → list_all (other_than c) (decimal m ++ 45 ∷ decimal n) ≡ true
+pair_free {c} m n separator small fits =
     list_all-append (other_than c) (decimal m) (45 ∷ decimal n)
-    ∙ and_from (list_all (other_than c) (decimal m)) (list_all (other_than c) (45 ∷ decimal n)) (number_free c m no_digit small)
-    (and_from (other_than c 45) (list_all (other_than c) (decimal n)) (dash_other c dash) (number_free c n no_digit fits))
+    ∙ and_from (list_all (other_than c) (decimal m)) (list_all (other_than c) (45 ∷ decimal n)) (number_free c m separator.no_digit small)
+    (and_from (other_than c 45) (list_all (other_than c) (decimal n)) (dash_other c separator.no_dash) (number_free c n separator.no_digit fits))
 
 number_some : (n : ℕ) → n ≤ 255 → 0 < length (decimal n)
 number_some n small = decimal_nonempty n (omega (arith, small))
@@ -451,8 +456,8 @@ pub transport_read : (media control : ℕ) → media ≤ 255 → control ≤ 255
 transport_read m n small fits differ =
     let whole : (decimal m ++ 45 ∷ []) ++ decimal n ≡ decimal m ++ 45 ∷ decimal n = append_assoc (decimal m) (45 ∷ []) (decimal n) in
     written_read_back (decimal m ++ 45 ∷ decimal n) (record { media = m; control = n }) (record {
-      no_semicolon = pair_free 59 m n refl (omega arith) small fits;
-      no_comma = pair_free 44 m n refl (omega arith) small fits;
+      no_semicolon = pair_free m n (record { no_digit = refl; no_dash = omega arith }) small fits;
+      no_comma = pair_free m n (record { no_digit = refl; no_dash = omega arith }) small fits;
       some = omega (arith, length-append (decimal m) (45 ∷ decimal n));
       no_blank = subst (λ (l : List ℕ). is_blank (get_or l (length l - 1) 0) ≡ false) whole (last_digit (decimal m ++ 45 ∷ []) n fits);
       are = inl (pair m n small fits differ);

@@ -32,13 +32,13 @@ film_once {films} {name} {i} {j} are one other =
 -- what two readings of a URL have in common
 rest_once : {url a b n m : List ℕ} → (one : IsRead url a (Some n)) → (other : IsRead url b (Some m)) → n ≡ m
 rest_once {url} {a} {n} {m} one other =
-    let same : one.path ≡ other.path = end_once 47 url 7 one.path other.path one.is_url.end other.is_url.end in
+    let same : one.path ≡ other.path = end_once one.is_url.end other.is_url.end in
     let Named : ℕ → Type 0 = λ path. NamesFilm (slice_range url path (length url)) n in
     name_once (slice_range url other.path (length url)) n m (subst Named same one.name_is) other.name_is
 
 pub read_none : (url a b m : List ℕ) → IsRead url a None → IsRead url b (Some m) → ⊥
 read_none url a b m one other =
-    let same : other.path ≡ one.path = end_once 47 url 7 other.path one.path other.is_url.end one.is_url.end in
+    let same : other.path ≡ one.path = end_once other.is_url.end one.is_url.end in
     let Named : ℕ → Type 0 = λ path. NamesFilm (slice_range url path (length url)) m in
     one.name_is m (subst Named same other.name_is)
 

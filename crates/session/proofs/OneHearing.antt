@@ -56,7 +56,7 @@ use Rattle.session.proofs.OneVerdict.{AreAlike, method_once, not_both, refusal_o
 -- what a SETUP asks for
 chosen_once : {a b : ℕ} (value : Option (List ℕ)) (own least most : ℕ) → IsChosen value own least most a → IsChosen value own least most b → b ≡ a
 chosen_once {a} None own least most is its = its ∙ sym is
-chosen_once {a} {b} (Some value) own least most is its = within_once least most value b a its is
+chosen_once {a} {b} (Some value) own least most is its = within_once its is
 
 channels_once : (value : Option (List ℕ)) (a b : Channels) → AreChannelsOf value a → AreChannelsOf value b → b ≡ a
 channels_once None a b is its = absurd is
@@ -159,7 +159,7 @@ record AreSameNames (one other : List ℕ) (film number : ℕ) : Type 0 where
 names_once : {films : List Stored} {url one other : List ℕ} {film number : ℕ} → AreFilms films → Names films url one film
     → Names films url other number → AreSameNames one other film number
 names_once {url} {one} {other} {number} are is its =
-    let path = end_once 47 url 7 its.read.path is.read.path its.read.is_url.end is.read.is_url.end in
+    let path = end_once its.read.is_url.end is.read.is_url.end in
     record {
       authority = its.read.authority_is ∙ ap (λ n. slice_range url 7 n) path ∙ sym is.read.authority_is;
       film_is = film_once are (named_once is.read its) is.film;
@@ -341,7 +341,7 @@ by_method taken place ToGetParameter film takes = takes
 
 wait_once : (value : Option (List ℕ)) (one other : ℕ) → IsWaitOf value one → IsWaitOf value other → other ≡ one
 wait_once None one other is its = absurd is
-wait_once (Some value) one other is its = within_once 0 255 value other one its is
+wait_once (Some value) one other is its = within_once its is
 
 module _ (old : Standing) (message : List ℕ) (ask again : Ask) (one other : Standing) (request request' : Request)
     (alike : AreAlike request request') (number : first_sequence message ≡ Some request.sequence) where
@@ -446,8 +446,7 @@ whole_once : {old one other : Standing} {message : List ℕ} {ask again : Ask} �
 whole_once {old} {one} {other} {message} {ask} {again} films is its =
     let a = is.request in
     let b = its.request in
-    let parts = request_once message b.method.now b.url.now b.sequence b.head.now b.body.now
-    a.method.now a.url.now a.sequence a.head.now a.body.now its.is_request is.is_request in
+    let parts = request_once its.is_request is.is_request in
     takes_once old message ask again one other a b (record {
       method = parts.method_is;
       url = parts.url_is;
@@ -465,10 +464,10 @@ hears_on_once {one} {other} {ask} {again} false old message films (inl is) (inl 
     (fault_once message its.fault is.fault its.is_fault is.is_fault)) is.refused its.refused
 hears_on_once {one} {other} {ask} false old message films (inl is) (inr its) =
     let r = its.request in
-    absurd (no_fault message r.method.now r.url.now r.sequence r.head.now r.body.now is.fault its.is_request is.is_fault)
+    absurd (no_fault is.fault its.is_request is.is_fault)
 hears_on_once {one} {other} {ask} false old message films (inr is) (inl its) =
     let r = is.request in
-    absurd (no_fault message r.method.now r.url.now r.sequence r.head.now r.body.now its.fault is.is_request its.is_fault)
+    absurd (no_fault its.fault is.is_request its.is_fault)
 hears_on_once {one} {other} {ask} false old message films (inr is) (inr its) = whole_once films is its
 
 -- a message has one answer, state, reply and command, or memory is wanting for it

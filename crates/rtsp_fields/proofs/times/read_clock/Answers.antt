@@ -18,8 +18,13 @@ returns-in_err-seconds c =
 
 pub returns : goal.returns
 returns c =
-    whole_clock
-    c.piece_end-first.ensures c.piece_end-second.ensures
-    (inside_text c.args.text.now (c.piece_end-first.result + 1) c.piece_end-second.result c.piece_end-second.ensures c.if-second-text.false)
-    c.in_ok-hours.ensures c.in_ok-minutes.ensures c.in_ok-seconds.ensures
-    c.if-minutes-gt59.false c.if-seconds-gt59.false
+    whole_clock (record {
+      hours_end = c.piece_end-first.ensures;
+      minutes_end = c.piece_end-second.ensures;
+      inside = inside_text c.args.text.now (c.piece_end-first.result + 1) c.piece_end-second.result c.piece_end-second.ensures c.if-second-text.false;
+      are_hours = c.in_ok-hours.ensures;
+      are_minutes = c.in_ok-minutes.ensures;
+      are_seconds = c.in_ok-seconds.ensures;
+      small_minutes = c.if-minutes-gt59.false;
+      small_seconds = c.if-seconds-gt59.false;
+    })
