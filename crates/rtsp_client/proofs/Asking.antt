@@ -22,7 +22,8 @@ use Rattle.rtsp_client.specs.Wishes.{IsWish}
 use Rattle.rtsp_client.specs.Requests.{film_url, setup_text, play_text, teardown_text}
 use Rattle.rtsp_client.specs.Asked.{setup_parts, play_parts, teardown_parts, IsSessionId, IsAsked}
 use Rattle.rtsp_client.specs.declared.wishes.Wish.{Wish}
-use Rattle.rtsp_client.proofs.AskedTexts.{setup_is, play_is, teardown_is}
+use Rattle.rtsp_client.proofs.AskedTexts.{setup_is, setup_rest, play_is, play_rest, teardown_is, teardown_rest}
+use Rattle.rtsp_client.proofs.Texts.{put_long}
 
 -- bytes of one kind are bytes of another
 all_of : (p q : ℕ → Bool) → ((c : ℕ) → p c ≡ true → q c ≡ true) → (text : List ℕ) → list_all p text ≡ true → list_all q text ≡ true
@@ -152,13 +153,6 @@ asked text parts sequence is request short = subst (λ (t : List ℕ). IsAsked t
   values = values_of parts request.front;
 })
 
-five_long : (a b d e f : List ℕ) → length ((((a ++ b) ++ d) ++ e) ++ f) ≡ length a + length b + length d + length e + length f
-five_long a b d e f = simp length-append
-
-nine_long : (a b d e f g i j k : List ℕ) → length ((((((((a ++ b) ++ d) ++ e) ++ f) ++ g) ++ i) ++ j) ++ k)
-    ≡ length a + length b + length d + length e + length f + length g + length i + length j + length k
-nine_long a b d e f g i j k = simp length-append
-
 -- a head is as long as the text of a request without a body
 head_long : (text : List ℕ) (parts : Parts) → text ≡ request_text parts → parts.body ≡ [] → length (request_head parts) ≡ length text
 head_long text parts is none =
@@ -185,8 +179,7 @@ setup_short wish film = record {
   head_is = omega (
     arith,
     head_long (setup_text wish) (setup_parts wish) (setup_is wish) refl,
-    nine_long (codes "SETUP ") (film_url wish) (codes "/video RTSP/1.0\r\nCSeq: 1\r\n") (codes "Transport: RTP/AVP/TCP;unicast;interleaved=0-1\r\n") (codes "x-Buffer: ") (decimal wish.buffer)
-        (codes "\r\nx-Startup: ") (decimal wish.startup) (codes "\r\n\r\n"),
+    put_long (codes "SETUP ") (setup_rest wish),
     film_short wish film,
     decimal_short wish.buffer (omega (arith, film.is_wish.most_buffer)),
     decimal_short wish.startup (omega (arith, film.is_wish.startup)),
@@ -219,7 +212,7 @@ play_short wish session film id = record {
   head_is = omega (
     arith,
     head_long (play_text wish session) (play_parts wish session) (play_is wish session) refl,
-    five_long (codes "PLAY ") (film_url wish) (codes " RTSP/1.0\r\nCSeq: 2\r\nSession: ") session (codes "\r\nRange: npt=0-\r\n\r\n"),
+    put_long (codes "PLAY ") (play_rest wish session),
     film_short wish film,
     id.short,
   );
@@ -250,7 +243,7 @@ teardown_short wish session film id = record {
   head_is = omega (
     arith,
     head_long (teardown_text wish session) (teardown_parts wish session) (teardown_is wish session) refl,
-    five_long (codes "TEARDOWN ") (film_url wish) (codes " RTSP/1.0\r\nCSeq: 3\r\nSession: ") session (codes "\r\n\r\n"),
+    put_long (codes "TEARDOWN ") (teardown_rest wish session),
     film_short wish film,
     id.short,
   );

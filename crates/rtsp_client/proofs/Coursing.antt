@@ -2,8 +2,7 @@
 use Rattle.std.proofs.Common.{◌≡◌, ℕ, ◌+◌, ◌<◌, List, [], ◌∷◌, ◌++◌, take, Option, Some, Ok, IfSome, refl, sym, ap, subst, ◌∙◌, append_assoc, inl, inr}
 use Rattle.std.proofs.lemmas.List.{append-nil, length-append}
 use Rattle.vod_base.specs.Links.{Doing, HeardBytes, HeardEnd, HeardSlot, sends, told_more}
-use Rattle.vod_base.specs.Outside.{more}
-use Rattle.vod_base.proofs.Telling.{more-append, more-nil, told_more-append, told_more-nil}
+use Rattle.vod_base.proofs.Telling.{told_more-append, told_more-nil}
 use Rattle.interleave.specs.Pieces.{IsFirst}
 use Rattle.interleave.specs.declared.pieces.Step.TheVariants.{More}
 use Rattle.rtsp_client.specs.declared.clients.Client.{Client}
@@ -42,20 +41,33 @@ timed-from o timed s is =
     let P : Option Source → Type 0 = λ x. IfSome x (λ (s : Source). 0 < s.picture_units) in
     let Q : IfSome (Some s) (λ (s : Source). 0 < s.picture_units) = subst P is timed in Q
 
-pub round-slot : {wish : Wish} {h : History} {c new : Client} {slot cut : ℕ} {s : Sight} → Keeps wish h c → 0 < wish.slot_units
-    → IfSome c.watching.source (λ (source : Source). 0 < source.picture_units) → cut ≡ cut_bytes c.input
-    → IsFirst c.input (Ok More) → new.replies ≡ c.replies → new.session.items ≡ c.session.items → new.input ≡ c.input
-    → new.watching ≡ after_slot wish c.watching slot cut → HasRound wish h c.input (HeardSlot slot) new s s
-round-slot {wish} {h} {c} {new} {slot} {cut} {s} k some timed cut_is idle replies_same session_same input_same state = record {
+-- a client that waits, with so many bytes cut
+pub record IsWaiting (wish : Wish) (h : History) (c : Client) (cut : ℕ) : Type 0 where
+  pub keeps : Keeps wish h c
+  pub slot_lasts : 0 < wish.slot_units
+  pub picture_lasts : IfSome c.watching.source (λ (source : Source). 0 < source.picture_units)
+  pub cut_is : cut ≡ cut_bytes c.input
+  pub idle : IsFirst c.input (Ok More)
+
+-- the client after a slot
+pub record HasHeardSlot (wish : Wish) (c : Client) (slot cut : ℕ) (new : Client) : Type 0 where
+  pub replies : new.replies ≡ c.replies
+  pub session : new.session.items ≡ c.session.items
+  pub input : new.input ≡ c.input
+  pub watching : new.watching ≡ after_slot wish c.watching slot cut
+
+pub round-slot : {wish : Wish} {h : History} {c new : Client} {slot cut : ℕ} {s : Sight} → IsWaiting wish h c cut → HasHeardSlot wish c slot cut new
+    → HasRound wish h c.input (HeardSlot slot) new s s
+round-slot {wish} {h} {c} {slot} {s} waits later = record {
   moments = Slot slot (cut_bytes c.input) ∷ [];
-  runs = record { brings = (refl, input_same); good = (tt, tt); history_is = refl };
+  runs = record { brings = (refl, later.input); good = (tt, tt); history_is = refl };
   keeps = record {
-    replies_are = replies_same ∙ k.replies_are;
-    session_is = session_same ∙ k.session_is;
-    state = subst (λ w. KeepsState wish (Slot slot (cut_bytes c.input) ∷ h) w) (sym (state ∙ ap (after_slot wish c.watching slot) cut_is))
-        (keeps-slot k.state some (timed-from c.watching.source timed));
+    replies_are = later.replies ∙ waits.keeps.replies_are;
+    session_is = later.session ∙ waits.keeps.session_is;
+    state = subst (λ w. KeepsState wish (Slot slot (cut_bytes c.input) ∷ h) w) (sym (later.watching ∙ ap (after_slot wish c.watching slot) waits.cut_is))
+        (keeps-slot waits.keeps.state (record { slot_lasts = waits.slot_lasts; picture_lasts = timed-from c.watching.source waits.picture_lasts }));
   };
-  idle = subst (λ i. IsFirst i (Ok More)) (sym input_same) idle;
+  idle = subst (λ i. IsFirst i (Ok More)) (sym later.input) waits.idle;
   sight_is = sight-none s;
 }
 
@@ -122,7 +134,7 @@ run-none {wish} {s} none empty new_ input = record {
     session_is = empty;
     state = subst (λ w. KeepsState wish [] w) (sym new_) (keeps-new wish);
   };
-  sight_is = ap (λ t. sight t s.out) (sym (told_more-nil s.told)) ∙ ap (λ o. sight (told_more s.told []) o) (sym (more-nil s.out));
+  sight_is = ap (λ t. sight t s.out) (sym (told_more-nil s.told)) ∙ ap (λ o. sight (told_more s.told []) o) (sym (told_more-nil s.out));
 }
 
 -- one more event
@@ -140,10 +152,10 @@ run-on {wish} {event} {c} {new} {s} run heard next =
     ∙ (told_more-append s.told (rounds_doings wish [] run.rounds) (event ∷ sends (requests_after wish run.history round.moments))
     ∙ ap (told_more s.told) (ap (λ g. rounds_doings wish [] run.rounds ++ (event ∷ sends (requests_after wish g round.moments))) h
     ∙ sym (doings-on wish [] run.rounds r))) in
-    let out : more (more s.out (payloads_of (moments_of_rounds run.rounds))) (payloads_of round.moments)
-    ≡ more s.out (payloads_of (moments_of_rounds (run.rounds ++ r ∷ []))) =
-    more-append s.out (payloads_of (moments_of_rounds run.rounds)) (payloads_of round.moments)
-    ∙ ap (more s.out) (sym (payloads-on (moments_of_rounds run.rounds) round.moments) ∙ ap payloads_of (sym (moments-of-on run.rounds r))) in
+    let out : told_more (told_more s.out (payloads_of (moments_of_rounds run.rounds))) (payloads_of round.moments)
+    ≡ told_more s.out (payloads_of (moments_of_rounds (run.rounds ++ r ∷ []))) =
+    told_more-append s.out (payloads_of (moments_of_rounds run.rounds)) (payloads_of round.moments)
+    ∙ ap (told_more s.out) (sym (payloads-on (moments_of_rounds run.rounds) round.moments) ∙ ap payloads_of (sym (moments-of-on run.rounds r))) in
     record {
       rounds = run.rounds ++ r ∷ [];
       count_is = length-append run.rounds (r ∷ []) ∙ ap (λ n. n + 1) run.count_is;
@@ -153,7 +165,7 @@ run-on {wish} {event} {c} {new} {s} run heard next =
       sight_is = round.sight_is
           ∙ (ap (λ x. sight_more x (requests_after wish run.history round.moments) (payloads_of round.moments))
           (heard ∙ ap (λ (y : Sight). sight (told_more y.told (event ∷ [])) y.out) run.sight_is)
-          ∙ (ap (λ x. sight x (more (more s.out (payloads_of (moments_of_rounds run.rounds))) (payloads_of round.moments))) told
+          ∙ (ap (λ x. sight x (told_more (told_more s.out (payloads_of (moments_of_rounds run.rounds))) (payloads_of round.moments))) told
           ∙ ap (λ o. sight (told_more s.told (rounds_doings wish [] (run.rounds ++ r ∷ []))) o) out));
     }
 
@@ -162,7 +174,7 @@ course-of : {wish : Wish} {count : ℕ} {c : Client} {end : WatchEnd} {told0 : O
     {out0 : Option (List ℕ)} {s t : Sight} {doings : List Doing} {out : List ℕ} {new_told : Option (List Doing)}
     {new_out : Option (List ℕ)} (run : HasRun wish count c s t)
     → s ≡ sight (told_more told0 (sends (setup_text wish))) out0 → Ends wish (stage run.history c.input) count end doings out
-    → new_told ≡ told_more t.told doings → new_out ≡ more t.out out → HasWatched wish end told0 new_told out0 new_out
+    → new_told ≡ told_more t.told doings → new_out ≡ told_more t.out out → HasWatched wish end told0 new_told out0 new_out
 course-of {wish} {c} {end} {told0} {out0} {s} {doings} {out} run begun ends told_is out_is =
     let d = rounds_doings wish [] run.rounds in
     inl (record {
@@ -177,9 +189,9 @@ course-of {wish} {c} {end} {told0} {out0} {s} {doings} {out} run begun ends told
           ∙ (ap (λ (x : Sight). told_more (told_more x.told d) doings) begun
           ∙ (told_more-append (told_more told0 (sends (setup_text wish))) d doings ∙ told_more-append told0 (sends (setup_text wish)) (d ++ doings))));
       out = out_is
-          ∙ (ap (λ (x : Sight). more x.out out) run.sight_is
-          ∙ (ap (λ (x : Sight). more (more x.out (payloads_of (moments_of_rounds run.rounds))) out) begun
-          ∙ more-append out0 (payloads_of (moments_of_rounds run.rounds)) out));
+          ∙ (ap (λ (x : Sight). told_more x.out out) run.sight_is
+          ∙ (ap (λ (x : Sight). told_more (told_more x.out (payloads_of (moments_of_rounds run.rounds))) out) begun
+          ∙ told_more-append out0 (payloads_of (moments_of_rounds run.rounds)) out));
     })
 
 -- an event gave the answer
@@ -192,20 +204,20 @@ watched-end {count} {event} {c} {end} {s} {t} run begun few heard next =
     course-of run begun (ended.ends count few)
     (ap (λ (x : Sight). x.told) ended.sight_is
     ∙ (ap (λ (x : Sight). told_more x.told (sends ended.sent)) heard ∙ told_more-append t.told (event ∷ []) (sends ended.sent)))
-    (ap (λ (x : Sight). x.out) ended.sight_is ∙ ap (λ (x : Sight). more x.out ended.out) heard)
+    (ap (λ (x : Sight). x.out) ended.sight_is ∙ ap (λ (x : Sight). told_more x.out ended.out) heard)
 
 -- no further event was heard
 pub watched-lost : {wish : Wish} {count : ℕ} {c : Client} {end : WatchEnd} {told0 : Option (List Doing)}
     {out0 : Option (List ℕ)} {s t : Sight} {new_told : Option (List Doing)} (run : HasRun wish count c s t) → s ≡ sight (told_more told0 (sends (setup_text wish))) out0
     → count < 1099511627776 → end ≡ LinkFault → new_told ≡ t.told → HasWatched wish end told0 new_told out0 t.out
 watched-lost {c} {end} {s} {t} run begun few is same =
-    course-of run begun (inl (inl (is, few), refl, refl)) (same ∙ sym (told_more-nil t.told)) (sym (more-nil t.out))
+    course-of run begun (inl (inl (is, few), refl, refl)) (same ∙ sym (told_more-nil t.told)) (sym (told_more-nil t.out))
 
 pub watched-spent : {wish : Wish} {count : ℕ} {c : Client} {told0 : Option (List Doing)} {out0 : Option (List ℕ)}
     {s t : Sight} (run : HasRun wish count c s t) → s ≡ sight (told_more told0 (sends (setup_text wish))) out0 → count ≡ 1099511627776
     → HasWatched wish (Fault TurnsSpent) told0 t.told out0 t.out
 watched-spent {c} {s} {t} run begun all =
-    course-of run begun (inl (inr (refl, all), refl, refl)) (sym (told_more-nil t.told)) (sym (more-nil t.out))
+    course-of run begun (inl (inr (refl, all), refl, refl)) (sym (told_more-nil t.told)) (sym (told_more-nil t.out))
 
 -- it didn't begin
 pub watched-not : (wish : Wish) (end : WatchEnd) (told : Option (List Doing)) (out : Option (List ℕ)) → end ≡ NoMemory

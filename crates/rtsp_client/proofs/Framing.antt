@@ -2,7 +2,7 @@
 use Rattle.std.proofs.Common.{◌≡◌, ℕ, ◌≤◌, ◌==◌, true, false, List, [], ◌∷◌, length, take, drop, Option, Some, None, is_some, refl, sym, ap, subst, ◌∙◌, inr}
 use Rattle.std.proofs.lemmas.Bool.{cond-true, cond-false, ne_eqb}
 use Rattle.vod_base.specs.Links.{Doing, IsFrontTold, sends, told_more}
-use Rattle.vod_base.specs.Outside.{IsFrontMore, more}
+use Rattle.vod_base.specs.Outside.{IsFrontMore}
 use Rattle.rtsp_client.specs.declared.clients.Client.{Client}
 use Rattle.rtsp_client.specs.declared.frames.Source.{Source}
 use Rattle.rtsp_client.specs.declared.wishes.Wish.{Wish}
@@ -46,7 +46,7 @@ frame-starved {wish} {h} {c} {b} {next} {end} {s} k some is = record {
 
 pub teardown-starved : {wish : Wish} {h : History} {c : Client} {b : List ℕ} {next : Source} {end : WatchEnd}
     {out new_out : Option (List ℕ)} (told : Option (List Doing)) → Keeps wish h c → source_with c.watching b ≡ Some next → end ≡ NoMemory
-    → new_out ≡ more out (drop 20 b) → HasEndedAt wish h (Frame b) end (sight told out) (sight told new_out)
+    → new_out ≡ told_more out (drop 20 b) → HasEndedAt wish h (Frame b) end (sight told out) (sight told new_out)
 teardown-starved {wish} {h} {c} {b} {next} {end} {out} {new_out} told k some is handed = record {
   sent = [];
   out = drop 20 b;
@@ -71,64 +71,69 @@ frame-cut {wish} {h} {c} {b} {next} {end} {out} {new_out} told k some is front =
   sight_is = sight-handed told out new_out (take front.0 (drop 20 b)) front.1.1;
 }
 
+-- a frame is the film's next one, and the client took it up
+pub record TakenFrame (wish : Wish) (h : History) (c mid : Client) (b : List ℕ) (next : Source) : Type 0 where
+  pub keeps : Keeps wish h c
+  pub next_is : source_with c.watching b ≡ Some next
+  pub long : 20 ≤ length b
+  pub replies : mid.replies ≡ c.replies
+  pub session : mid.session.items ≡ c.session.items
+  pub watching : mid.watching ≡ after_frame c.watching next (length b)
+
+frame-taken : {wish : Wish} {h : History} {c mid : Client} {b : List ℕ} {next : Source} → TakenFrame wish h c mid b next → GoesOn h (Frame b)
+frame-taken {b} taken = frame-good b taken.keeps taken.next_is
+
 -- the client after the frame
-kept : {wish : Wish} {h : History} {c mid : Client} {b : List ℕ} {next : Source} → Keeps wish h c → source_with c.watching b ≡ Some next
-    → 20 ≤ length b → mid.replies ≡ c.replies → mid.session.items ≡ c.session.items → mid.watching ≡ after_frame c.watching next (length b)
-    → Keeps wish (Frame b ∷ h) mid
-kept {wish} {h} {c} {b} {next} k some long replies_same session_same state = record {
-  replies_are = replies_same ∙ k.replies_are;
-  session_is = session_same ∙ k.session_is;
-  state = subst (λ w. KeepsState wish (Frame b ∷ h) w) (sym state) (keeps-frame k.state some long);
+keeps-taken : {wish : Wish} {h : History} {c mid : Client} {b : List ℕ} {next : Source} → TakenFrame wish h c mid b next → Keeps wish (Frame b ∷ h) mid
+keeps-taken {wish} {h} {b} taken = record {
+  replies_are = taken.replies ∙ taken.keeps.replies_are;
+  session_is = taken.session ∙ taken.keeps.session_is;
+  state = subst (λ w. KeepsState wish (Frame b ∷ h) w) (sym taken.watching) (keeps-frame taken.keeps.state taken.next_is taken.long);
 }
 
 -- it goes on, and no request is sent
 pub frame-done : {wish : Wish} {h : History} {c mid : Client} {b : List ℕ} {next : Source}
-    {out new_out : Option (List ℕ)} (told : Option (List Doing)) → Keeps wish h c → source_with c.watching b ≡ Some next → 20 ≤ length b
-    → mid.replies ≡ c.replies → mid.session.items ≡ c.session.items → mid.watching ≡ after_frame c.watching next (length b)
-    → has_all mid.watching ≡ false → new_out ≡ more out (drop 20 b) → HasPassed wish h (Frame b ∷ []) mid (sight told out) (sight told new_out)
-frame-done {wish} {h} {c} {mid} {b} {next} {out} {new_out} told k some long replies_same session_same state open_ handed =
-    let keeps = kept k some long replies_same session_same state in
+    {out new_out : Option (List ℕ)} (told : Option (List Doing)) → TakenFrame wish h c mid b next → has_all mid.watching ≡ false
+    → new_out ≡ told_more out (drop 20 b) → HasPassed wish h (Frame b ∷ []) mid (sight told out) (sight told new_out)
+frame-done {wish} {h} {mid} {b} {out} {new_out} told taken open_ handed =
+    let keeps = keeps-taken taken in
     let unmet : is_complete (Frame b ∷ h) ≡ false = sym (complete-is wish (Frame b ∷ h) mid.watching keeps.state) ∙ open_ in
-    passed-one (frame-good b k some) keeps
+    passed-one (frame-taken taken) keeps
     (sight-handed told out new_out (drop 20 b) handed
     ∙ ap (λ a. sight_more (sight told out) a (drop 20 b)) (sym (cond-false (is_complete (Frame b ∷ h)) (teardown_text wish (session h)) [] unmet)))
 
-request-last : {wish : Wish} {h : History} {c mid : Client} {b : List ℕ} (next : Source) → Keeps wish h c → Keeps wish (Frame b ∷ h) mid
-    → has_all mid.watching ≡ true → request_after wish h (Frame b) ≡ teardown_text wish c.session.items
-request-last {wish} {h} {c} {mid} {b} next k keeps all =
-    cond-true (is_complete (Frame b ∷ h)) (teardown_text wish (session h)) [] (sym (complete-is wish (Frame b ∷ h) mid.watching keeps.state) ∙ all)
-    ∙ ap (teardown_text wish) (sym k.session_is)
+request-last : {wish : Wish} {h : History} {c mid : Client} {b : List ℕ} {next : Source} → TakenFrame wish h c mid b next → has_all mid.watching ≡ true
+    → request_after wish h (Frame b) ≡ teardown_text wish c.session.items
+request-last {wish} {h} {mid} {b} taken all =
+    cond-true (is_complete (Frame b ∷ h)) (teardown_text wish (session h)) [] (sym (complete-is wish (Frame b ∷ h) mid.watching (keeps-taken taken).state) ∙ all)
+    ∙ ap (teardown_text wish) (sym taken.keeps.session_is)
 
 -- all units are whole, and TEARDOWN was sent
-pub last-done : {wish : Wish} {h : History} {c mid : Client} {b : List ℕ} {next : Source}
-    {new_told : Option (List Doing)} {out new_out : Option (List ℕ)} (told : Option (List Doing)) → Keeps wish h c → source_with c.watching b ≡ Some next → 20 ≤ length b
-    → mid.replies ≡ c.replies → mid.session.items ≡ c.session.items → mid.watching ≡ after_frame c.watching next (length b)
-    → has_all mid.watching ≡ true → new_out ≡ more out (drop 20 b) → new_told ≡ told_more told (sends (teardown_text wish c.session.items))
+pub last-done : {wish : Wish} {h : History} {c mid : Client} {b : List ℕ} {next : Source} {new_told : Option (List Doing)}
+    {out new_out : Option (List ℕ)} (told : Option (List Doing)) → TakenFrame wish h c mid b next → has_all mid.watching ≡ true
+    → new_out ≡ told_more out (drop 20 b) → new_told ≡ told_more told (sends (teardown_text wish c.session.items))
     → HasPassed wish h (Frame b ∷ []) mid (sight told out) (sight new_told new_out)
-last-done {wish} {h} {c} {b} {next} {new_told} {out} told k some long replies_same session_same state all handed sent =
-    let keeps = kept k some long replies_same session_same state in
+last-done {wish} {h} {b} {new_told} {out} told taken all handed sent =
     let P : List ℕ → Type 0 = λ text. new_told ≡ told_more told (sends text) in
-    passed-one (frame-good b k some) keeps
+    passed-one (frame-taken taken) (keeps-taken taken)
     (sight-both told out (request_after wish h (Frame b)) (drop 20 b)
-    (subst P (sym (request-last next k keeps all)) sent) handed)
+    (subst P (sym (request-last taken all)) sent) handed)
 
 -- or TEARDOWN was cut
-pub last-cut : (wish : Wish) (h : History) (c mid : Client) (b : List ℕ) (next : Source) (end : WatchEnd) (told new_told : Option (List Doing))
-    (out new_out : Option (List ℕ)) → Keeps wish h c → source_with c.watching b ≡ Some next → 20 ≤ length b
-    → mid.replies ≡ c.replies → mid.session.items ≡ c.session.items → mid.watching ≡ after_frame c.watching next (length b)
-    → has_all mid.watching ≡ true → end ≡ LinkFault → new_out ≡ more out (drop 20 b)
-    → IsFrontTold told new_told (teardown_text wish c.session.items) → HasEndedAt wish h (Frame b) end (sight told out) (sight new_told new_out)
-last-cut wish h c mid b next end told new_told out new_out k some long replies_same session_same state all is handed front =
-    let keeps = kept {wish = wish} {h = h} {c = c} {mid = mid} {b = b} {next = next} k some long replies_same session_same state in
+pub last-cut : {wish : Wish} {h : History} {c mid : Client} {b : List ℕ} {next : Source} {end : WatchEnd} {told new_told : Option (List Doing)}
+    {out new_out : Option (List ℕ)} → TakenFrame wish h c mid b next → has_all mid.watching ≡ true → end ≡ LinkFault
+    → new_out ≡ told_more out (drop 20 b) → IsFrontTold told new_told (teardown_text wish c.session.items)
+    → HasEndedAt wish h (Frame b) end (sight told out) (sight new_told new_out)
+last-cut {wish} {h} {c} {b} {told} {new_told} {out} {new_out} taken all is handed front =
     let text = teardown_text wish c.session.items in
     let F : List ℕ → Type 0 = λ t. IsFront (take front.0 text) t in
     record {
       sent = take front.0 text;
       out = drop 20 b;
       comes = inr (
-        frame-good {wish = wish} {h = h} {c = c} {next = next} b k some,
+        frame-taken taken,
         subst (λ e. Fails wish h (Frame b) e (take front.0 text) (drop 20 b)) (sym is)
-            (subst F (sym (request-last {wish = wish} {h = h} {c = c} {mid = mid} {b = b} next k keeps all)) (front.0, (front.1.0, refl)), refl),
+            (subst F (sym (request-last taken all)) (front.0, (front.1.0, refl)), refl),
       );
       sight_is = sight-both {new = new_told} {new_out = new_out} told out (take front.0 text) (drop 20 b) front.1.1 handed;
     }

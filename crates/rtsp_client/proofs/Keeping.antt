@@ -85,16 +85,17 @@ keeps-play {h} {s} {m} k one starts ends = record {
 
 -- ---- which frames are good
 
-head-picked : {x head : Head} (c d e : Bool) (f g i : HeadFault)
-    → cond c (Err f) (cond d (Err g) (cond e (Err i) (Ok x))) ≡ Ok head → head ≡ x
-head-picked {head} true d e f g i is = cc
-head-picked {head} false true e f g i is = cc
-head-picked {head} false false true f g i is = cc
-head-picked {head} false false false f g i is = cc
+-- a test that refuses no head
+test-passed : {head : Head} (c : Bool) (fault : HeadFault) (rest : Result Head HeadFault) → cond c (Err fault) rest ≡ Ok head → rest ≡ Ok head
+test-passed {head} true fault rest is = cc
+test-passed false fault rest is = is
 
 head-read : (bytes : List ℕ) (head : Head) → head_of bytes ≡ Ok head → head ≡ head_at bytes
 head-read bytes head is =
-    head-picked (nat_lt (length bytes) 16) (not (get_or bytes 0 0 == 0x80)) (not (get_or bytes 1 0 % 128 == 32)) _ _ _ is
+    let long = test-passed (nat_lt (length bytes) 16) _ _ is in
+    let version = test-passed (not (get_or bytes 0 0 == 0x80)) _ _ long in
+    let read : Ok (head_at bytes) ≡ Ok head = test-passed (not (get_or bytes 1 0 % 128 == 32)) _ _ version in
+    cc
 
 some-cond : {A : Type 0} (c : Bool) (x : A) → is_some (cond c (Some x) None) ≡ c
 some-cond true x = refl
@@ -138,17 +139,18 @@ some-unless : (all : Bool) (o : Option Source) → is_some (cond all None o) ≡
 some-unless true o = refl
 some-unless false o = refl
 
-good-in : (play : Option Play) (s : State) (h : History) (b : List ℕ) → IsPlayOf play h → IsSourceOf s.source h → has_all s ≡ is_complete h
+good-in : {wish : Wish} {h : History} {s : State} (play : Option Play) (b : List ℕ) → IsPlayOf play h → KeepsState wish h s
     → is_good_frame h b ≡ is_some (source_played play s b)
-good-in None s h b is source all = ap (λ c. c && (not (is_complete h) && (is_ok (head_of (drop 4 b)) && cond (frames h == 0) (is_first_good h b) (is_next_good h b)))) is
-good-in (Some play) s h b is source all =
+good-in {h} None b is k = ap (λ c. c && (not (is_complete h) && (is_ok (head_of (drop 4 b)) && cond (frames h == 0) (is_first_good h b) (is_next_good h b)))) is
+good-in {wish} {h} {s} (Some play) b is k =
+    let all : has_all s ≡ is_complete h = complete-is wish h s k in
     ap (λ c. c && (not (is_complete h) && (is_ok (head_of (drop 4 b)) && cond (frames h == 0) (is_first_good h b) (is_next_good h b)))) is.playing
     ∙ (ap (λ c. not c && (is_ok (head_of (drop 4 b)) && cond (frames h == 0) (is_first_good h b) (is_next_good h b))) (sym all)
-    ∙ (ap (λ c. not (has_all s) && c) (reads-on s.source h b source refl is.end_is)
+    ∙ (ap (λ c. not (has_all s) && c) (reads-on s.source h b k.source_is refl is.end_is)
     ∙ sym (some-unless (has_all s) (source_read s.source (head_of (drop 4 b)) (drop 20 b) play.end_ms))))
 
 pub good-is : (wish : Wish) (h : History) (s : State) (b : List ℕ) → KeepsState wish h s → is_good_frame h b ≡ is_some (source_with s b)
-good-is wish h s b k = good-in s.play s h b k.play_is k.source_is (complete-is wish h s k)
+good-is wish h s b k = good-in s.play b k.play_is k
 
 -- ---- a frame
 

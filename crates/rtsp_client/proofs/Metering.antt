@@ -18,43 +18,48 @@ use Rattle.rtsp_client.specs.States.{State, after_reading, after_slot, is_lackin
 use Rattle.rtsp_client.specs.Keeps.{AreSumsOf, IsPlayOf, IsSourceOf, KeepsState}
 use Rattle.rtsp_client.proofs.Keeping.{complete-is}
 
+-- a slot and a picture last
+pub record Durations (slot_units picture_units : ℕ) : Type 0 where
+  pub slot_lasts : 0 < slot_units
+  pub picture_lasts : 0 < picture_units
+
 -- a unit is used before a slot exactly where its number is below that count
-pub used-early : (d s p j k : ℕ) → 0 < s → 0 < p → k < div_ceil ((j - d) * s) p → k * p / s + d < j
-used-early d s p j k some time few =
+pub used-early : {s p : ℕ} (d j k : ℕ) → Durations s p → k < div_ceil ((j - d) * s) p → k * p / s + d < j
+used-early {s} {p} d j k lasts few =
     let c = div_ceil ((j - d) * s) p in
-    let top = (div_ceil_times ((j - d) * s) p time).1 in
+    let top = (div_ceil_times ((j - d) * s) p lasts.picture_lasts).1 in
     let rows : (k + 1) * p ≤ c * p = mul-le-mul_right p (omega (arith, few)) in
     let small : k * p < (j - d) * s = omega (arith, top, rows) in
-    let below : k * p / s < j - d = div_below (k * p) s (j - d) some small in
+    let below : k * p / s < j - d = div_below (k * p) s (j - d) lasts.slot_lasts small in
     omega (arith, below)
 
-pub used-late : (d s p j k : ℕ) → 0 < s → 0 < p → div_ceil ((j - d) * s) p ≤ k → j ≤ k * p / s + d
-used-late d s p j k some time many =
+pub used-late : {s p : ℕ} (d j k : ℕ) → Durations s p → div_ceil ((j - d) * s) p ≤ k → j ≤ k * p / s + d
+used-late {s} {p} d j k lasts many =
     let c = div_ceil ((j - d) * s) p in
-    let least = (div_ceil_times ((j - d) * s) p time).0 in
+    let least = (div_ceil_times ((j - d) * s) p lasts.picture_lasts).0 in
     let rows : c * p ≤ k * p = mul-le-mul_right p many in
     let above : (j - d) * s ≤ k * p = omega (arith, least, rows) in
-    let slots : j - d ≤ k * p / s = le-div (j - d) (k * p) s some above in
+    let slots : j - d ≤ k * p / s = le-div (j - d) (k * p) s lasts.slot_lasts above in
     omega (arith, slots)
 
 sum-cons : (x : ℕ) (xs : List ℕ) → sum (x ∷ xs) ≡ x + sum xs
 sum-cons x xs = sum_by-cons (λ (y : ℕ). y) x xs
 
-pub used-sum : (wish : Wish) (p j unit : ℕ) (sizes : List ℕ) → 0 < wish.slot_units → 0 < p
+pub used-sum : {p : ℕ} (wish : Wish) (j unit : ℕ) (sizes : List ℕ) → Durations wish.slot_units p
     → used_before wish p j unit sizes ≡ sum (take (div_ceil ((j - wish.startup) * wish.slot_units) p - unit) sizes)
-used-sum wish p j unit [] some time = sym (ap sum (take_all (div_ceil ((j - wish.startup) * wish.slot_units) p - unit) [] (omega arith)))
-used-sum wish p j unit (size ∷ sizes) some time =
+used-sum {p} wish j unit [] lasts = sym (ap sum (take_all (div_ceil ((j - wish.startup) * wish.slot_units) p - unit) [] (omega arith)))
+used-sum {p} wish j unit (size ∷ sizes) lasts =
     let c = div_ceil ((j - wish.startup) * wish.slot_units) p in
-    let rest = used-sum wish p j (unit + 1) sizes some time in
+    let rest = used-sum wish j (unit + 1) sizes lasts in
     elim (cases_lt unit c) [
       | inl few ↦
           let one : c - unit ≡ suc (c - (unit + 1)) = omega (arith, few) in
-          let used = cond-true (nat_lt (use_slot wish p unit) j) size 0 (lt-ltb (use_slot wish p unit) j (used-early wish.startup wish.slot_units p j unit some time few)) in
+          let used = cond-true (nat_lt (use_slot wish p unit) j) size 0 (lt-ltb (use_slot wish p unit) j (used-early wish.startup j unit lasts few)) in
           omega (arith, used, rest, ap (λ n. sum (take n (size ∷ sizes))) one, sum-cons size (take (c - (unit + 1)) sizes))
       | inr many ↦
           let none : c - unit ≡ 0 = omega (arith, many) in
           let after : c - (unit + 1) ≡ 0 = omega (arith, many) in
-          let unused = cond-false (nat_lt (use_slot wish p unit) j) size 0 (le-ltb (use_slot wish p unit) j (used-late wish.startup wish.slot_units p j unit some time many)) in
+          let unused = cond-false (nat_lt (use_slot wish p unit) j) size 0 (le-ltb (use_slot wish p unit) j (used-late wish.startup j unit lasts many)) in
           omega (arith, unused, rest, ap (λ n. sum (take n (size ∷ sizes))) none, ap (λ n. sum (take n sizes)) after)
     ]
 
@@ -97,16 +102,20 @@ no-units (Slot t cut ∷ h) none = no-units h none
 less-none : (n : ℕ) → n ≡ n - 0
 less-none n = omega arith
 
-played-in : {source : Option Source} {ends : List ℕ} (wish : Wish) (h : History) (j : ℕ) → 0 < wish.slot_units
-    → ((src : Source) → source ≡ Some src → 0 < src.picture_units) → IsSourceOf source h → AreSumsOf ends (sizes h)
+-- a slot lasts, and so do the pictures of a source, where there is one
+pub record HasDurations (wish : Wish) (source : Option Source) : Type 0 where
+  pub slot_lasts : 0 < wish.slot_units
+  pub picture_lasts : (src : Source) → source ≡ Some src → 0 < src.picture_units
+
+played-in : {source : Option Source} {ends : List ℕ} (wish : Wish) (h : History) (j : ℕ) → HasDurations wish source → IsSourceOf source h → AreSumsOf ends (sizes h)
     → played_of wish source ends j ≡ played_before wish h j
-played-in {source = None} {ends} wish h j some timed is are = sym (ap (used_before wish (time h) j 0) (no-units h is))
-played-in {source = Some source} {ends} wish h j some timed is are =
+played-in {source = None} wish h j lasts is are = sym (ap (used_before wish (time h) j 0) (no-units h is))
+played-in {source = Some source} {ends} wish h j lasts is are =
     let p = source.picture_units in
     let t : time h ≡ p = cond-false (frames h == 0) 0 (time_in (first_frame h)) (ne_eqb (frames h) 0 (λ none. absurd (omega (arith, is.some, none)))) ∙ sym is.time_is in
     ends-sum ends (sizes h) (div_ceil ((j - wish.startup) * wish.slot_units) p) are
     ∙ (ap (λ n. sum (take n (sizes h))) (less-none (div_ceil ((j - wish.startup) * wish.slot_units) p))
-    ∙ (sym (used-sum wish p j 0 (sizes h) some (timed source refl)) ∙ sym (ap (λ n. used_before wish n j 0 (sizes h)) t)))
+    ∙ (sym (used-sum wish j 0 (sizes h) (record { slot_lasts = lasts.slot_lasts; picture_lasts = lasts.picture_lasts source refl })) ∙ sym (ap (λ n. used_before wish n j 0 (sizes h)) t)))
 
 time-in : (h : History) (source : Option Source) → IsSourceOf source h → time_of source ≡ time h
 time-in h None is = sym (cond-true (frames h == 0) 0 (time_in (first_frame h)) (eq-eqb (frames h) 0 is))
@@ -167,14 +176,13 @@ slot-with {h} {s} {t} {cut} {last} {w} k greatest is = record {
   watched_is = is;
 }
 
-read-at : {wish : Wish} {h : History} {s : State} (t cut : ℕ) → KeepsState wish h s → 0 < wish.slot_units
-    → ((src : Source) → s.source ≡ Some src → 0 < src.picture_units) → is_read h t ≡ true
+read-at : {wish : Wish} {h : History} {s : State} (t cut : ℕ) → KeepsState wish h s → HasDurations wish s.source → is_read h t ≡ true
     → (after_reading wish s (place_in h t) cut).watched ≡ watched_in wish (Slot t cut ∷ h)
-read-at {wish} {h} {s} t cut k some timed reads =
+read-at {wish} {h} {s} t cut k lasts reads =
     let j = place_in h t in
     let amount : (s.received + cut) - played_of wish s.source s.ends j ≡ bytes_waiting wish h t cut =
     ap (λ n. (n + cut) - played_of wish s.source s.ends j) k.received_is
-    ∙ ap (λ n. (bytes_received h + cut) - n) (played-in wish h j some timed k.source_is k.ends_are) in
+    ∙ ap (λ n. (bytes_received h + cut) - n) (played-in wish h j lasts k.source_is k.ends_are) in
     let step : Watched → ℕ → Bool → Watched = λ (w : Watched) (n : ℕ) (l : Bool). record w {
       most = max w.most n;
       over = cond (nat_lt wish.buffer n) (w.over + 1) w.over;
@@ -199,13 +207,13 @@ and-end true true = refl
 and-end true false = refl
 and-end false b = refl
 
-keeps-later : {wish : Wish} {h : History} {s : State} {t cut : ℕ} (play : Option Play) → KeepsState wish h s → 0 < wish.slot_units
-    → ((src : Source) → s.source ≡ Some src → 0 < src.picture_units) → last_slot h < t → IsPlayOf play h
+keeps-later : {wish : Wish} {h : History} {s : State} {t cut : ℕ} (play : Option Play) → KeepsState wish h s → HasDurations wish s.source
+    → last_slot h < t → IsPlayOf play h
     → KeepsState wish (Slot t cut ∷ h) (reading_at wish (record s { last_slot = t }) (place_of play t) cut)
-keeps-later {wish} {h} {s} {t} {cut} None k some timed later is =
+keeps-later {wish} {h} {s} {t} {cut} None k lasts later is =
     slot-with k (omega (arith, later))
     (k.watched_is ∙ unread wish h t cut (ap (λ b. b && (nat_le (start h + slot_before h) t && nat_lt (last_slot h) t)) is))
-keeps-later {wish} {h} {s} {t} {cut} (Some play) k some timed later is =
+keeps-later {wish} {h} {s} {t} {cut} (Some play) k lasts later is =
     let late = slot-late h in
     let P : Option ℕ → Type 0 = λ place. KeepsState wish (Slot t cut ∷ h) (reading_at wish (record s { last_slot = t }) place cut) in
     let j = (t - play.slot_before) - play.start in
@@ -225,18 +233,17 @@ keeps-later {wish} {h} {s} {t} {cut} (Some play) k some timed later is =
           let place : j ≡ place_in h t = omega (arith, due, is.start_is, is.slot_is) in
           subst P (sym (cond-true (nat_le play.start (t - play.slot_before)) (Some j) None (le-leb play.start (t - play.slot_before) due)))
           (subst P (ap (λ n. Some n) (sym place))
-          (slot-with k (omega (arith, later)) (read-at t cut k some timed reads)))
+          (slot-with k (omega (arith, later)) (read-at t cut k lasts reads)))
     ]
 
-pub keeps-slot : {wish : Wish} {h : History} {s : State} {t cut : ℕ} → KeepsState wish h s → 0 < wish.slot_units
-    → ((src : Source) → s.source ≡ Some src → 0 < src.picture_units) → KeepsState wish (Slot t cut ∷ h) (after_slot wish s t cut)
-keeps-slot {wish} {h} {s} {t} {cut} k some timed =
+pub keeps-slot : {wish : Wish} {h : History} {s : State} {t cut : ℕ} → KeepsState wish h s → HasDurations wish s.source → KeepsState wish (Slot t cut ∷ h) (after_slot wish s t cut)
+keeps-slot {wish} {h} {s} {t} {cut} k lasts =
     let P : State → Type 0 = λ x. KeepsState wish (Slot t cut ∷ h) x in
     elim (cases_lt (last_slot h) t) [
       | inl later ↦
           subst P (sym (cond-false (nat_le t s.last_slot) s (reading_at wish (record s { last_slot = t }) (place_of s.play t) cut)
           (lt-leb t s.last_slot (omega (arith, later, k.last_slot_is)))))
-          (keeps-later s.play k some timed later k.play_is)
+          (keeps-later s.play k lasts later k.play_is)
       | inr old ↦
           subst P (sym (cond-true (nat_le t s.last_slot) s (reading_at wish (record s { last_slot = t }) (place_of s.play t) cut)
           (le-leb t s.last_slot (omega (arith, old, k.last_slot_is)))))

@@ -8,41 +8,41 @@ use Rattle.std.specs.Int.{div_ceil}
 use Rattle.rtsp_client.specs.declared.wishes.Wish.{Wish}
 use Rattle.rtsp_client.specs.Moments.{History, Frame, Reply, Report, Slot, frames, bytes_received, sizes}
 use Rattle.rtsp_client.specs.Films.{is_complete, units}
-use Rattle.rtsp_client.specs.Meters.{is_read, lacks_picture, most, count_over, place_in, played_before, time, count_under, use_slot, used_before, bytes_waiting}
+use Rattle.rtsp_client.specs.Meters.{is_read, lacks_picture, most_waiting, count_over, place_in, played_before, time, count_under, use_slot, used_before, bytes_waiting}
 use Rattle.rtsp_client.specs.Promises.{IsBetween, IsBetweenAlways, IsHeardOf}
-use Rattle.rtsp_client.proofs.Metering.{no-units, used-early, used-late, used-sum}
+use Rattle.rtsp_client.proofs.Metering.{Durations, no-units, used-early, used-late, used-sum}
 
 sum-front : (xs : List ℕ) (a b : ℕ) → a ≤ b → sum (take a xs) ≤ sum (take b xs)
 sum-front xs a b few = omega (arith, sum_by-take-le (λ (x : ℕ). x) (take b xs) a, ap sum (take-take a b xs few))
 
 -- the next unit isn't used yet
-not-yet : {wish : Wish} {all : List ℕ} {p j came : ℕ} (n : ℕ) → 0 < wish.slot_units → 0 < p → IsBetween wish all p j came
+not-yet : {wish : Wish} {all : List ℕ} {p j came : ℕ} (n : ℕ) → Durations wish.slot_units p → IsBetween wish all p j came
     → came < sum (take (n + 1) all) → j < use_slot wish p n
-not-yet {wish} {all} {p} {j} n some timed between next =
+not-yet {wish} {all} {p} {j} n lasts between next =
     elim (cases_lt j (use_slot wish p n)) [
       | inl early ↦ early
       | inr due ↦
           let c = div_ceil ((j + 1 - wish.startup) * wish.slot_units) p in
-          let used : used_before wish p (j + 1) 0 all ≡ sum (take (c - 0) all) = used-sum wish p (j + 1) 0 all some timed in
+          let used : used_before wish p (j + 1) 0 all ≡ sum (take (c - 0) all) = used-sum wish (j + 1) 0 all lasts in
           let many : n < c = elim (cases_lt n c) [
             | inl more ↦ more
-            | inr few ↦ absurd (omega (arith, due, used-late wish.startup wish.slot_units p (j + 1) n some timed few))
+            | inr few ↦ absurd (omega (arith, due, used-late wish.startup (j + 1) n lasts few))
           ] in
           absurd (omega (arith, used, between.low, next, sum-front all (n + 1) (c - 0) (omega (arith, many))))
     ]
 
 -- what is used of the whole units is what is used of the film
-pub same-used : (wish : Wish) (all : List ℕ) (p j n : ℕ) → 0 < wish.slot_units → 0 < p → (n < length all → j ≤ use_slot wish p n)
+pub same-used : {p : ℕ} (wish : Wish) (all : List ℕ) (j n : ℕ) → Durations wish.slot_units p → (n < length all → j ≤ use_slot wish p n)
     → used_before wish p j 0 (take n all) ≡ used_before wish p j 0 all
-same-used wish all p j n some timed early =
+same-used {p} wish all j n lasts early =
     let c = div_ceil ((j - wish.startup) * wish.slot_units) p in
     elim (cases_lt n (length all)) [
       | inl fewer ↦
           let few : c - 0 ≤ n = elim (cases_lt n c) [
-            | inl more ↦ absurd (omega (arith, early fewer, used-early wish.startup wish.slot_units p j n some timed more))
+            | inl more ↦ absurd (omega (arith, early fewer, used-early wish.startup j n lasts more))
             | inr less ↦ omega (arith, less)
           ] in
-          used-sum wish p j 0 (take n all) some timed ∙ (ap sum (take-take (c - 0) n all few) ∙ sym (used-sum wish p j 0 all some timed))
+          used-sum wish j 0 (take n all) lasts ∙ (ap sum (take-take (c - 0) n all few) ∙ sym (used-sum wish j 0 all lasts))
       | inr whole ↦ ap (used_before wish p j 0) (take_all n all whole)
     ]
 
@@ -56,19 +56,19 @@ used-time wish h p j is =
           ap (used_before wish (time h) j 0) empty ∙ sym (ap (used_before wish p j 0) empty)
     ]
 
-played-is : {wish : Wish} {all : List ℕ} {p : ℕ} {h : History} {j cut : ℕ} → 0 < wish.slot_units → 0 < p → IsHeardOf all p h cut
+played-is : {wish : Wish} {all : List ℕ} {p : ℕ} {h : History} {j cut : ℕ} → Durations wish.slot_units p → IsHeardOf all p h cut
     → IsBetween wish all p j (bytes_received h + cut) → played_before wish h j ≡ used_before wish p j 0 all
-played-is {wish} {all} {p} {h} {j} {cut} some timed heard between =
+played-is {wish} {all} {p} {h} {j} {cut} lasts heard between =
     let n = length (sizes h) in
     used-time wish h p j heard.time_is
     ∙ (ap (used_before wish p j 0) heard.sizes_are
-    ∙ same-used wish all p j n some timed (λ fewer. omega (arith, not-yet n some timed between (heard.next fewer))))
+    ∙ same-used wish all j n lasts (λ fewer. omega (arith, not-yet n lasts between (heard.next fewer))))
 
 -- the buffer holds what waits
-fits : {wish : Wish} {all : List ℕ} {p : ℕ} {h : History} {cut : ℕ} (slot : ℕ) → 0 < wish.slot_units → 0 < p → IsHeardOf all p h cut
+fits : {wish : Wish} {all : List ℕ} {p : ℕ} {h : History} {cut : ℕ} (slot : ℕ) → Durations wish.slot_units p → IsHeardOf all p h cut
     → IsBetween wish all p (place_in h slot) (bytes_received h + cut) → bytes_waiting wish h slot cut ≤ wish.buffer
-fits {all} {p} {h} {cut} slot some timed heard between =
-    omega (arith, played-is some timed heard between, between.up)
+fits {all} {p} {h} {cut} slot lasts heard between =
+    omega (arith, played-is lasts heard between, between.up)
 
 -- no unit lacks_picture
 zero-times : (t : ℕ) → 0 * t ≡ 0
@@ -85,13 +85,13 @@ and-none false = refl
 pub use-first : (wish : Wish) (t : ℕ) → use_slot wish t 0 ≡ wish.startup
 use-first wish t = omega (arith, ap (λ n. n / wish.slot_units) (zero-times t), zero-over wish.slot_units)
 
-enough : {wish : Wish} {all : List ℕ} {p : ℕ} {h : History} {j cut : ℕ} → 0 < wish.slot_units → 0 < p → 0 < length all → IsHeardOf all p h cut
+enough : {wish : Wish} {all : List ℕ} {p : ℕ} {h : History} {j cut : ℕ} → Durations wish.slot_units p → 0 < length all → IsHeardOf all p h cut
     → IsBetween wish all p j (bytes_received h + cut) → lacks_picture wish h j ≡ false
-enough {wish} {all} {p} {h} {j} {cut} some timed units_some heard between =
+enough {wish} {all} {p} {h} {j} {cut} lasts units_some heard between =
     let n = length (sizes h) in
     elim (cases_lt n (length all)) [
       | inl fewer ↦
-          let early : j < use_slot wish p n = not-yet n some timed between (heard.next fewer) in
+          let early : j < use_slot wish p n = not-yet n lasts between (heard.next fewer) in
           let late : j < use_slot wish (time h) n = elim (cases_lt 0 (frames h)) [
             | inl begun ↦ subst (λ t. j < use_slot wish t n) (sym (heard.time_is begun)) early
             | inr none ↦
@@ -115,42 +115,42 @@ enough {wish} {all} {p} {h} {j} {cut} some timed units_some heard between =
 pub record IsQuiet (wish : Wish) (h : History) : Type 0 where
   pub over_none : count_over wish h ≡ 0
   pub under_none : count_under wish h ≡ 0
-  pub most_fits : most wish h ≤ wish.buffer
+  pub most_fits : most_waiting wish h ≤ wish.buffer
 
-read-quiet : {r : Bool} {wish : Wish} {all : List ℕ} {p : ℕ} {h : History} {slot cut : ℕ} → 0 < wish.slot_units → 0 < p → 0 < length all
+read-quiet : {r : Bool} {wish : Wish} {all : List ℕ} {p : ℕ} {h : History} {slot cut : ℕ} → Durations wish.slot_units p → 0 < length all
     → IsQuiet wish h → is_read h slot ≡ r
     → (is_read h slot ≡ true → IsHeardOf all p h cut × IsBetween wish all p (place_in h slot) (bytes_received h + cut))
     → IsQuiet wish (Slot slot cut ∷ h)
-read-quiet {r = false} {wish} {all} {p} {h} {slot} {cut} some timed units_some quiet is met = record {
+read-quiet {r = false} {wish} {all} {p} {h} {slot} {cut} lasts units_some quiet is met = record {
   over_none = ap (λ r. cond (r && nat_lt wish.buffer (bytes_waiting wish h slot cut)) (count_over wish h + 1) (count_over wish h)) is ∙ quiet.over_none;
   under_none = ap (λ r. cond (r && lacks_picture wish h (place_in h slot)) (count_under wish h + 1) (count_under wish h)) is ∙ quiet.under_none;
-  most_fits = omega (arith, ap (λ r. cond r (max (most wish h) (bytes_waiting wish h slot cut)) (most wish h)) is, quiet.most_fits);
+  most_fits = omega (arith, ap (λ r. cond r (max (most_waiting wish h) (bytes_waiting wish h slot cut)) (most_waiting wish h)) is, quiet.most_fits);
 }
-read-quiet {r = true} {wish} {all} {p} {h} {slot} {cut} some timed units_some quiet is met =
+read-quiet {r = true} {wish} {all} {p} {h} {slot} {cut} lasts units_some quiet is met =
     let now = met is in
-    let holds : bytes_waiting wish h slot cut ≤ wish.buffer = fits slot some timed now.0 now.1 in
+    let holds : bytes_waiting wish h slot cut ≤ wish.buffer = fits slot lasts now.0 now.1 in
     let not_over : nat_lt wish.buffer (bytes_waiting wish h slot cut) ≡ false = le-ltb wish.buffer (bytes_waiting wish h slot cut) holds in
     let not_under : lacks_picture wish h (place_in h slot) ≡ false =
-    enough some timed units_some now.0 now.1 in
+    enough lasts units_some now.0 now.1 in
     record {
       over_none = ap (λ r. cond (r && nat_lt wish.buffer (bytes_waiting wish h slot cut)) (count_over wish h + 1) (count_over wish h)) is
           ∙ (ap (λ b. cond (true && b) (count_over wish h + 1) (count_over wish h)) not_over ∙ quiet.over_none);
       under_none = ap (λ r. cond (r && lacks_picture wish h (place_in h slot)) (count_under wish h + 1) (count_under wish h)) is
           ∙ (ap (λ b. cond (true && b) (count_under wish h + 1) (count_under wish h)) not_under ∙ quiet.under_none);
-      most_fits = omega (arith, ap (λ r. cond r (max (most wish h) (bytes_waiting wish h slot cut)) (most wish h)) is, quiet.most_fits, holds);
+      most_fits = omega (arith, ap (λ r. cond r (max (most_waiting wish h) (bytes_waiting wish h slot cut)) (most_waiting wish h)) is, quiet.most_fits, holds);
     }
 
-pub quiet-always : (wish : Wish) (all : List ℕ) (p : ℕ) (h : History) → 0 < wish.slot_units → 0 < p → 0 < length all
+pub quiet-always : {p : ℕ} (wish : Wish) (all : List ℕ) (h : History) → Durations wish.slot_units p → 0 < length all
     → IsBetweenAlways wish all p h → IsQuiet wish h
-quiet-always wish all p [] some timed units_some met = record { over_none = refl; under_none = refl; most_fits = omega arith }
-quiet-always wish all p (Reply m ∷ h) some timed units_some met =
-    let q = quiet-always wish all p h some timed units_some met in
+quiet-always wish all [] lasts units_some met = record { over_none = refl; under_none = refl; most_fits = omega arith }
+quiet-always wish all (Reply m ∷ h) lasts units_some met =
+    let q = quiet-always wish all h lasts units_some met in
     record { over_none = q.over_none; under_none = q.under_none; most_fits = q.most_fits }
-quiet-always wish all p (Frame b ∷ h) some timed units_some met =
-    let q = quiet-always wish all p h some timed units_some met in
+quiet-always wish all (Frame b ∷ h) lasts units_some met =
+    let q = quiet-always wish all h lasts units_some met in
     record { over_none = q.over_none; under_none = q.under_none; most_fits = q.most_fits }
-quiet-always wish all p (Report b ∷ h) some timed units_some met =
-    let q = quiet-always wish all p h some timed units_some met in
+quiet-always wish all (Report b ∷ h) lasts units_some met =
+    let q = quiet-always wish all h lasts units_some met in
     record { over_none = q.over_none; under_none = q.under_none; most_fits = q.most_fits }
-quiet-always wish all p (Slot slot cut ∷ h) some timed units_some met =
-    read-quiet some timed units_some (quiet-always wish all p h some timed units_some met.0) refl met.1
+quiet-always wish all (Slot slot cut ∷ h) lasts units_some met =
+    read-quiet lasts units_some (quiet-always wish all h lasts units_some met.0) refl met.1

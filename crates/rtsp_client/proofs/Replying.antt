@@ -77,39 +77,45 @@ setup-lacks {wish} {h} {c} {m} {end} {s} k first is none end_is =
     gives wish h (Reply m) end s
     (inl (inr (orderly k is, fields-first h m zero_ ∙ ap is_some none), end_is ∙ ap (λ n. Fault (BadReply (n + 1))) (sym zero_)))
 
-setup-good : {wish : Wish} {h : History} {c : Client} {m id : List ℕ} → Keeps wish h c → c.replies ≡ 0 → IsAwaited c m 200
-    → session_in m ≡ Some id → GoesOn h (Reply m)
-setup-good {h} {c} {m} {id} k first is some =
-    let zero_ : replies h ≡ 0 = sym k.replies_are ∙ first in
-    ((orderly k is, fields-first h m zero_ ∙ ap is_some some), omega (arith, zero_))
+-- the reply that is awaited first, with the id of a session
+pub record SetupReply (wish : Wish) (h : History) (c : Client) (m id : List ℕ) : Type 0 where
+  pub keeps : Keeps wish h c
+  pub first : c.replies ≡ 0
+  pub awaited : IsAwaited c m 200
+  pub session_is : session_in m ≡ Some id
+
+setup-good : {wish : Wish} {h : History} {c : Client} {m id : List ℕ} → SetupReply wish h c m id → GoesOn h (Reply m)
+setup-good {h} {m} reply =
+    let zero_ : replies h ≡ 0 = sym reply.keeps.replies_are ∙ reply.first in
+    ((orderly reply.keeps reply.awaited, fields-first h m zero_ ∙ ap is_some reply.session_is), omega (arith, zero_))
 
 setup-request : (wish : Wish) (h : History) (m id : List ℕ) → replies h ≡ 0 → session_in m ≡ Some id
     → request_after wish h (Reply m) ≡ play_text wish id
 setup-request wish h m id none some =
     cond-true (replies h == 0) _ _ (eq-eqb (replies h) 0 none) ∙ ap (λ o. play_text wish (unwrap_or o [])) some
 
-pub setup-starved : {wish : Wish} {h : History} {c : Client} {m id : List ℕ} {end : WatchEnd} {s : Sight} → Keeps wish h c → c.replies ≡ 0
-    → IsAwaited c m 200 → session_in m ≡ Some id → end ≡ NoMemory → HasEndedAt wish h (Reply m) end s s
-setup-starved {wish} {h} {c} {m} {id} {end} {s} k first is some end_is = record {
+pub setup-starved : {wish : Wish} {h : History} {c : Client} {m id : List ℕ} {end : WatchEnd} {s : Sight} → SetupReply wish h c m id → end ≡ NoMemory
+    → HasEndedAt wish h (Reply m) end s s
+setup-starved {wish} {h} {m} {s} reply end_is = record {
   sent = [];
   out = [];
-  comes = inr (setup-good k first is some, subst (λ e. Fails wish h (Reply m) e [] []) (sym end_is) (refl, no-front []));
+  comes = inr (setup-good reply, subst (λ e. Fails wish h (Reply m) e [] []) (sym end_is) (refl, no-front []));
   sight_is = sight-none s;
 }
 
 pub setup-cut : {wish : Wish} {h : History} {c : Client} {m id : List ℕ} {end : WatchEnd}
     {told new : Option (List Doing)} (out : Option (List ℕ))
-    → Keeps wish h c → c.replies ≡ 0 → IsAwaited c m 200 → session_in m ≡ Some id → end ≡ LinkFault
-    → IsFrontTold told new (play_text wish id) → HasEndedAt wish h (Reply m) end (sight told out) (sight new out)
-setup-cut {wish} {h} {c} {m} {id} {end} {told} {new} out k first is some end_is front =
-    let zero_ : replies h ≡ 0 = sym k.replies_are ∙ first in
-    let asked = setup-request wish h m id zero_ some in
+    → SetupReply wish h c m id → end ≡ LinkFault → IsFrontTold told new (play_text wish id)
+    → HasEndedAt wish h (Reply m) end (sight told out) (sight new out)
+setup-cut {wish} {h} {m} {id} {told} {new} out reply end_is front =
+    let zero_ : replies h ≡ 0 = sym reply.keeps.replies_are ∙ reply.first in
+    let asked = setup-request wish h m id zero_ reply.session_is in
     let F : List ℕ → Type 0 = λ text. IsFront (take front.0 (play_text wish id)) text in
     record {
       sent = take front.0 (play_text wish id);
       out = [];
       comes = inr (
-        setup-good k first is some,
+        setup-good reply,
         subst (λ e. Fails wish h (Reply m) e (take front.0 (play_text wish id)) []) (sym end_is)
             (subst F (sym asked) (front.0, (front.1.0, refl)), refl),
       );
@@ -127,21 +133,26 @@ passed-one {wish} {h} {m} {new} {old_sight} good keeps is = record {
       ∙ ap (λ x. sight_more old_sight (request_after wish h m ++ []) x) (sym (append-nil (payload_of m))));
 }
 
+-- the client after it
+pub record IsInSession (c new : Client) (id : List ℕ) : Type 0 where
+  pub replies : new.replies ≡ 1
+  pub session : new.session.items ≡ id
+  pub watching : new.watching ≡ c.watching
+
 pub setup-done : {wish : Wish} {h : History} {c new : Client} {m id : List ℕ} {new_told : Option (List Doing)}
     (told : Option (List Doing)) (out : Option (List ℕ))
-    → Keeps wish h c → c.replies ≡ 0 → IsAwaited c m 200 → session_in m ≡ Some id → new.replies ≡ 1 → new.session.items ≡ id
-    → new.watching ≡ c.watching → new_told ≡ told_more told (sends (play_text wish id))
+    → SetupReply wish h c m id → IsInSession c new id → new_told ≡ told_more told (sends (play_text wish id))
     → HasPassed wish h (Reply m ∷ []) new (sight told out) (sight new_told out)
-setup-done {wish} {h} {c} {new} {m} {id} {new_told} told out k first is some one its same sent =
-    let zero_ : replies h ≡ 0 = sym k.replies_are ∙ first in
+setup-done {wish} {h} {new} {m} {id} {new_told} told out reply later sent =
+    let zero_ : replies h ≡ 0 = sym reply.keeps.replies_are ∙ reply.first in
     let P : List ℕ → Type 0 = λ text. new_told ≡ told_more told (sends text) in
-    passed-one (setup-good k first is some)
+    passed-one (setup-good reply)
     (record {
-      replies_are = one ∙ ap (λ n. n + 1) (sym zero_);
-      session_is = its ∙ sym (cond-true (replies h == 0) _ _ (eq-eqb (replies h) 0 zero_) ∙ ap (λ o. unwrap_or o []) some);
-      state = keeps-first wish h new.watching m (subst (λ w. KeepsState wish h w) (sym same) k.state) zero_;
+      replies_are = later.replies ∙ ap (λ n. n + 1) (sym zero_);
+      session_is = later.session ∙ sym (cond-true (replies h == 0) _ _ (eq-eqb (replies h) 0 zero_) ∙ ap (λ o. unwrap_or o []) reply.session_is);
+      state = keeps-first wish h new.watching m (subst (λ w. KeepsState wish h w) (sym later.watching) reply.keeps.state) zero_;
     })
-    (sight-sent told new_told out (request_after wish h (Reply m)) (subst P (sym (setup-request wish h m id zero_ some)) sent))
+    (sight-sent told new_told out (request_after wish h (Reply m)) (subst P (sym (setup-request wish h m id zero_ reply.session_is)) sent))
 
 -- ---- the reply to PLAY
 
@@ -152,18 +163,26 @@ play-lacks {wish} {h} {c} {m} {end} {s} k second is none end_is =
     gives wish h (Reply m) end s
     (inl (inr (orderly k is, fields-second h m one ∙ none), end_is ∙ ap (λ n. Fault (BadReply (n + 1))) (sym one)))
 
-pub play-done : {wish : Wish} {h : History} {c new : Client} {m : List ℕ} {begin ms : ℕ} {s : Sight} → Keeps wish h c → c.replies ≡ 1
-    → IsAwaited c m 200 → play_start m ≡ Some begin → play_range m ≡ Some ms → new.replies ≡ 2 → new.session.items ≡ c.session.items
-    → new.watching ≡ after_play c.watching begin ms → HasPassed wish h (Reply m ∷ []) new s s
-play-done {wish} {h} {c} {new} {m} {s} k second is starts ends two same state =
-    let one : replies h ≡ 1 = sym k.replies_are ∙ second in
+-- the reply that is awaited second, with the play's beginning and end
+pub record PlayReply (wish : Wish) (h : History) (c : Client) (m : List ℕ) (begin ms : ℕ) : Type 0 where
+  pub keeps : Keeps wish h c
+  pub second : c.replies ≡ 1
+  pub awaited : IsAwaited c m 200
+  pub start_is : play_start m ≡ Some begin
+  pub range_is : play_range m ≡ Some ms
+
+pub play-done : {wish : Wish} {h : History} {c new : Client} {m : List ℕ} {begin ms : ℕ} {s : Sight} → PlayReply wish h c m begin ms
+    → new.replies ≡ 2 → new.session.items ≡ c.session.items → new.watching ≡ after_play c.watching begin ms → HasPassed wish h (Reply m ∷ []) new s s
+play-done {wish} {h} {m} {s} reply two same state =
+    let k = reply.keeps in
+    let one : replies h ≡ 1 = sym k.replies_are ∙ reply.second in
     let later : (replies h == 0) ≡ false = ne_eqb (replies h) 0 (λ none. absurd (omega (arith, none, one))) in
     passed-one
-    ((orderly k is, fields-second h m one ∙ (ap (λ o. is_some o && is_some (play_start m)) ends ∙ ap is_some starts)), omega (arith, one))
+    ((orderly k reply.awaited, fields-second h m one ∙ (ap (λ o. is_some o && is_some (play_start m)) reply.range_is ∙ ap is_some reply.start_is)), omega (arith, one))
     (record {
       replies_are = two ∙ ap (λ n. n + 1) (sym one);
       session_is = same ∙ (k.session_is ∙ sym (cond-false (replies h == 0) (unwrap_or (session_in m) []) (session h) later));
-      state = subst (λ w. KeepsState wish (Reply m ∷ h) w) (sym state) (keeps-play k.state one starts ends);
+      state = subst (λ w. KeepsState wish (Reply m ∷ h) w) (sym state) (keeps-play k.state one reply.start_is reply.range_is);
     })
     (sight-none s ∙ ap (λ a. sight_more s a []) (sym (cond-false (replies h == 0) (play_text wish (unwrap_or (session_in m) [])) [] later)))
 

@@ -45,9 +45,17 @@ moments-on : (p q : List (List ℕ)) → moments_in (p ++ q) ≡ moments_in p ++
 moments-on [] q = refl
 moments-on (piece ∷ p) q = ap (λ t. moments_of piece ++ t) (moments-on p q) ∙ sym (append_assoc (moments_of piece) (moments_in p) (moments_in q))
 
-cut-on : (bytes mid end : List ℕ) (p q : List (List ℕ)) → AreCut bytes p mid → AreCut mid q end → AreCut bytes (p ++ q) end
-cut-on bytes mid end [] q first second = subst (λ b. AreCut b q end) (sym first) second
-cut-on bytes mid end (piece ∷ p) q first second = (first.0, (first.1.0, first.1.1, cut-on (drop first.0 bytes) mid end p q first.1.2 second))
+-- bytes were cut, and then their rest
+record CutsInTurn (bytes mid end : List ℕ) (p q : List (List ℕ)) : Type 0 where
+  first : AreCut bytes p mid
+  next : AreCut mid q end
+
+cut-on : {bytes mid end : List ℕ} {p q : List (List ℕ)} → CutsInTurn bytes mid end p q → AreCut bytes (p ++ q) end
+cut-on {end} {p = []} {q} cuts = subst (λ b. AreCut b q end) (sym cuts.first) cuts.next
+cut-on {bytes} {mid} {end} {p = piece ∷ p} {q} cuts =
+    let cut = cuts.first.1 in
+    let later : CutsInTurn (drop cuts.first.0 bytes) mid end p q = record { first = cut.2; next = cuts.next } in
+    (cuts.first.0, (cut.0, cut.1, cut-on later))
 
 -- ---- the pieces in front
 
@@ -79,15 +87,23 @@ ends-none (b ∷ bytes) all =
 
 -- ---- pieces were taken up
 
-pub passed-none : {wish : Wish} {h : History} {c new : Client} {s : Sight} → Keeps wish h c → new.replies ≡ c.replies
-    → new.session.items ≡ c.session.items → new.watching ≡ c.watching → HasPassed wish h [] new s s
-passed-none {wish} {h} {c} {new} {s} k replies_same session_same state_same = record {
+-- the same client, but for its input
+pub record IsSameClient (c new : Client) : Type 0 where
+  pub replies : new.replies ≡ c.replies
+  pub session : new.session.items ≡ c.session.items
+  pub watching : new.watching ≡ c.watching
+
+pub keeps-moved : {wish : Wish} {h : History} {c new : Client} → Keeps wish h c → IsSameClient c new → Keeps wish h new
+keeps-moved {wish} {h} k same = record {
+  replies_are = same.replies ∙ k.replies_are;
+  session_is = same.session ∙ k.session_is;
+  state = subst (λ w. KeepsState wish h w) (sym same.watching) k.state;
+}
+
+pub passed-none : {wish : Wish} {h : History} {c new : Client} {s : Sight} → Keeps wish h c → IsSameClient c new → HasPassed wish h [] new s s
+passed-none {s} k same = record {
   good = tt;
-  keeps = record {
-    replies_are = replies_same ∙ k.replies_are;
-    session_is = session_same ∙ k.session_is;
-    state = subst (λ w. KeepsState wish h w) (sym state_same) k.state;
-  };
+  keeps = keeps-moved k same;
   sight_is = sight-none s;
 }
 
@@ -105,55 +121,47 @@ passed-on {wish} {h} {a} {b} {new} {s} first second = record {
 
 -- the client with another input
 moved : {wish : Wish} {h : History} {moments : List Moment} {c new : Client} {s t : Sight} → HasPassed wish h moments c s t
-    → new.replies ≡ c.replies → new.session.items ≡ c.session.items → new.watching ≡ c.watching → HasPassed wish h moments new s t
-moved {wish} {h} {moments} {c} {new} {s} p replies_same session_same state_same = record {
-  good = p.good;
-  keeps = record {
-    replies_are = replies_same ∙ p.keeps.replies_are;
-    session_is = session_same ∙ p.keeps.session_is;
-    state = subst (λ w. KeepsState wish (after h moments) w) (sym state_same) p.keeps.state;
-  };
-  sight_is = p.sight_is;
-}
+    → IsSameClient c new → HasPassed wish h moments new s t
+moved p same = record { good = p.good; keeps = keeps-moved p.keeps same; sight_is = p.sight_is }
 
 -- the piece in front, of so many bytes, was taken up and dropped
 taken-piece : {wish : Wish} {h : History} {rest : List ℕ} {n : ℕ} {moments : List Moment} {c new : Client}
     {s t : Sight}
     → IsPieceLength rest n → moments_of (take n rest) ≡ moments → HasPassed wish h moments c s t
-    → new.replies ≡ c.replies → new.session.items ≡ c.session.items → new.watching ≡ c.watching → new.input ≡ drop n rest
+    → IsSameClient c new → new.input ≡ drop n rest
     → HasTaken wish h rest new s t
-taken-piece {wish} {h} {rest} {n} {c} {new} {s} {t} piece are passed replies_same session_same state_same dropped = record {
+taken-piece {wish} {h} {rest} {n} {new} {s} {t} piece are passed same dropped = record {
   pieces = take n rest ∷ [];
   cut = (n, (piece, refl, sym dropped));
   passed = subst (λ ms. HasPassed wish h ms new s t) (sym (append-nil (moments_of (take n rest)) ∙ are))
-      (moved passed replies_same session_same state_same);
+      (moved passed same);
 }
 
 pub taken-block : {wish : Wish} {h : History} {rest : List ℕ} {channel n : ℕ} {c new : Client} {s t : Sight}
     → IsFirst rest (Ok (Block channel n)) → HasPassed wish h (block_moments channel (take n rest)) c s t
-    → new.replies ≡ c.replies → new.session.items ≡ c.session.items → new.watching ≡ c.watching → new.input ≡ drop n rest
+    → IsSameClient c new → new.input ≡ drop n rest
     → HasTaken wish h rest new s t
-taken-block {h} {rest} {n} {c} {new} {s} first passed replies_same session_same state_same dropped =
+taken-block {h} {rest} {n} {c} {new} {s} first passed same dropped =
     taken-piece (WholeBlock first.0 first.1 first.3 first.4)
     (block-of rest n (omega (arith, first.3)) first.0.1 ∙ ap (λ k. block_moments k (take n rest)) (sym first.2))
-    passed replies_same session_same state_same dropped
+    passed same dropped
 
 request-some : (rest : List ℕ) (n : ℕ) → IsFirst rest (Ok (Request n)) → 0 < n
 request-some rest n first = omega (arith, first.1.is_head.some, first.1.total_is)
 
 pub taken-reply : {wish : Wish} {h : History} {rest : List ℕ} {n : ℕ} {c new : Client} {s t : Sight}
     → IsFirst rest (Ok (Request n)) → HasPassed wish h (Reply (take n rest) ∷ []) c s t
-    → new.replies ≡ c.replies → new.session.items ≡ c.session.items → new.watching ≡ c.watching → new.input ≡ drop n rest
+    → IsSameClient c new → new.input ≡ drop n rest
     → HasTaken wish h rest new s t
-taken-reply {h} {rest} {n} {c} {new} {s} first passed replies_same session_same state_same dropped =
+taken-reply {h} {rest} {n} {c} {new} {s} first passed same dropped =
     taken-piece (WholeRequest first.0 first.1 first.2)
-    (reply-of rest n (request-some rest n first) first.0.1 first.0.2) passed replies_same session_same state_same dropped
+    (reply-of rest n (request-some rest n first) first.0.1 first.0.2) passed same dropped
 
 pub taken-ends : {wish : Wish} {h : History} {rest : List ℕ} {n : ℕ} {c new : Client} {s : Sight}
     → IsFirst rest (Ok (Skip n)) → Keeps wish h c
-    → new.replies ≡ c.replies → new.session.items ≡ c.session.items → new.watching ≡ c.watching → new.input ≡ drop n rest
+    → IsSameClient c new → new.input ≡ drop n rest
     → HasTaken wish h rest new s s
-taken-ends {wish} {h} {rest} {n} {c} {new} {s} first k replies_same session_same state_same dropped =
+taken-ends {wish} {h} {rest} {n} {c} {new} {s} first k same dropped =
     let ends : AreLineEnds rest n = first.1 in
     let long : length (take n rest) ≡ n = length-take-le n rest ends.within in
     let none : moments_in (map (λ c. c ∷ []) (take n rest)) ≡ [] =
@@ -163,24 +171,25 @@ taken-ends {wish} {h} {rest} {n} {c} {new} {s} first k replies_same session_same
     record {
       pieces = map (λ c. c ∷ []) (take n rest);
       cut = subst (λ r. AreCut rest (map (λ c. c ∷ []) (take n rest)) r) (sym dropped) (next_pieces rest (Ok (Skip n)) first rest [] refl);
-      passed = subst (λ ms. HasPassed wish h ms new s s) (sym none) (passed-none k replies_same session_same state_same);
+      passed = subst (λ ms. HasPassed wish h ms new s s) (sym none) (passed-none k same);
     }
 
-pub taken-none : {wish : Wish} {h : History} {c new : Client} {s : Sight} → Keeps wish h c → new.replies ≡ c.replies
-    → new.session.items ≡ c.session.items → new.watching ≡ c.watching → new.input ≡ c.input → HasTaken wish h c.input new s s
-taken-none {h} {c} {new} {s} k replies_same session_same state_same input_same = record {
+pub taken-none : {wish : Wish} {h : History} {c new : Client} {s : Sight} → Keeps wish h c → IsSameClient c new → new.input ≡ c.input
+    → HasTaken wish h c.input new s s
+taken-none k same input_same = record {
   pieces = [];
   cut = sym input_same;
-  passed = passed-none k replies_same session_same state_same;
+  passed = passed-none k same;
 }
 
 pub taken-on : {wish : Wish} {h : History} {rest : List ℕ} {mid new : Client} {s t u : Sight} → HasTaken wish h rest mid s t
     → ((g : History) → Keeps wish g mid → HasTaken wish g mid.input new t u) → HasTaken wish h rest new s u
 taken-on {wish} {h} {rest} {mid} {new} {s} {u} first next =
     let second = next (after h (moments_in first.pieces)) first.passed.keeps in
+    let cuts : CutsInTurn rest mid.input new.input first.pieces second.pieces = record { first = first.cut; next = second.cut } in
     record {
       pieces = first.pieces ++ second.pieces;
-      cut = cut-on rest mid.input new.input first.pieces second.pieces first.cut second.cut;
+      cut = cut-on cuts;
       passed = subst (λ ms. HasPassed wish h ms new s u) (sym (moments-on first.pieces second.pieces))
           (passed-on first.passed second.passed);
     }
@@ -246,13 +255,14 @@ stopped-on {wish} {h} {rest} {mid} {end} {s} first next =
     ∙ ap (λ x. x ++ st.more_out) (sym (payloads-on a b) ∙ ap payloads_of (sym (moments-on first.pieces st.pieces)))) in
     let there : after g b ≡ after h (moments_in (first.pieces ++ st.pieces)) =
     sym (after-on h a b) ∙ ap (after h) (sym (moments-on first.pieces st.pieces)) in
+    let cuts : CutsInTurn rest mid.input st.mid first.pieces st.pieces = record { first = first.cut; next = st.cut } in
     record {
       sent = requests_after wish h a ++ second.sent;
       out = payloads_of a ++ second.out;
       stops = record {
         pieces = first.pieces ++ st.pieces;
         mid = st.mid;
-        cut = cut-on rest mid.input st.mid first.pieces st.pieces first.cut st.cut;
+        cut = cut-on cuts;
         good = subst (GoOn h) (sym (moments-on first.pieces st.pieces)) (good-on h a b first.passed.good st.good);
         more_sent = st.more_sent;
         more_out = st.more_out;
@@ -264,12 +274,3 @@ stopped-on {wish} {h} {rest} {mid} {end} {s} first next =
           ∙ (ap (λ x. sight_more x second.sent second.out) first.passed.sight_is
           ∙ sight-on s (requests_after wish h a) second.sent (payloads_of a) second.out);
     }
-
--- the same client, with another input
-pub keeps-moved : {wish : Wish} {h : History} {c new : Client} → Keeps wish h c → new.replies ≡ c.replies
-    → new.session.items ≡ c.session.items → new.watching ≡ c.watching → Keeps wish h new
-keeps-moved {wish} {h} {c} {new} k replies_same session_same state_same = record {
-  replies_are = replies_same ∙ k.replies_are;
-  session_is = session_same ∙ k.session_is;
-  state = subst (λ w. KeepsState wish h w) (sym state_same) k.state;
-}

@@ -7,10 +7,10 @@ use Rattle.std.specs.Int.{div_ceil}
 use Rattle.rtsp_client.specs.declared.wishes.Wish.{Wish}
 use Rattle.rtsp_client.specs.Moments.{History, Frame, Reply, Report, Slot, bytes_pending, bytes_received, frames, is_inside, is_last, is_playing, sizes}
 use Rattle.rtsp_client.specs.Films.{is_complete, units}
-use Rattle.rtsp_client.specs.Meters.{bytes_waiting, count_over, count_under, is_read, lacks_picture, most, place_in, played_before, time, use_slot, used_before}
+use Rattle.rtsp_client.specs.Meters.{bytes_waiting, count_over, count_under, is_read, lacks_picture, most_waiting, place_in, played_before, time, use_slot, used_before}
 use Rattle.rtsp_client.specs.Promises.{IsBetween, IsBetweenAlways, IsHeardAlways, IsHeardOf}
 use Rattle.rtsp_client.proofs.Keeping.{sum-one}
-use Rattle.rtsp_client.proofs.Metering.{no-units, used-sum}
+use Rattle.rtsp_client.proofs.Metering.{Durations, no-units, used-sum}
 use Rattle.rtsp_client.proofs.Promising.{same-used, use-first, used-time}
 
 -- the bytes of whole units are among those that came
@@ -19,24 +19,31 @@ frame-received : (last : Bool) (whole : List ℕ) (pending n came : ℕ) → sum
 frame-received true whole pending n came is = omega (arith, is, sum-one whole (pending + n))
 frame-received false whole pending n came is = omega (arith, is)
 
-report-received : (playing outside : Bool) (whole pending n came : ℕ) → whole + pending ≤ came
-    → whole + cond (playing && outside) (pending + n) pending ≤ cond playing (came + n) came
-report-received true true whole pending n came is = omega (arith, is)
-report-received true false whole pending n came is = omega (arith, is)
-report-received false outside whole pending n came is = is
+-- bytes of whole units, of the unit that isn't whole, and all that came
+record Amounts : Type 0 where
+  whole : ℕ
+  pending : ℕ
+  came : ℕ
+
+report-received : (playing outside : Bool) (bytes : Amounts) (n : ℕ) → bytes.whole + bytes.pending ≤ bytes.came
+    → bytes.whole + cond (playing && outside) (bytes.pending + n) bytes.pending ≤ cond playing (bytes.came + n) bytes.came
+report-received true true bytes n is = omega (arith, is)
+report-received true false bytes n is = omega (arith, is)
+report-received false outside bytes n is = is
 
 whole-received : (h : History) → sum (sizes h) + bytes_pending h ≤ bytes_received h
 whole-received [] = omega arith
 whole-received (Reply m ∷ h) = whole-received h
 whole-received (Frame b ∷ h) = frame-received (is_last b) (sizes h) (bytes_pending h) (length b) (bytes_received h) (whole-received h)
-whole-received (Report b ∷ h) = report-received (is_playing h) (not (is_inside h)) (sum (sizes h)) (bytes_pending h) (length b) (bytes_received h) (whole-received h)
+whole-received (Report b ∷ h) =
+    report-received (is_playing h) (not (is_inside h)) (record { whole = sum (sizes h); pending = bytes_pending h; came = bytes_received h }) (length b) (whole-received h)
 whole-received (Slot slot cut ∷ h) = whole-received h
 
 -- what is used is among all
-used-most : (wish : Wish) (p j : ℕ) (xs : List ℕ) → 0 < wish.slot_units → 0 < p → used_before wish p j 0 xs ≤ sum xs
-used-most wish p j xs some timed =
+used-most : {p : ℕ} (wish : Wish) (j : ℕ) (xs : List ℕ) → Durations wish.slot_units p → used_before wish p j 0 xs ≤ sum xs
+used-most {p} wish j xs lasts =
     let c = div_ceil ((j - wish.startup) * wish.slot_units) p in
-    omega (arith, used-sum wish p j 0 xs some timed, sum_by-take-le (λ (x : ℕ). x) xs (c - 0))
+    omega (arith, used-sum wish j 0 xs lasts, sum_by-take-le (λ (x : ℕ). x) xs (c - 0))
 
 -- where none lacks_picture, the next unit isn't used yet
 next-early : {all : List ℕ} {p : ℕ} {h : History} {cut : ℕ} (wish : Wish) (j : ℕ) → IsHeardOf all p h cut → lacks_picture wish h j ≡ false
@@ -62,22 +69,22 @@ next-early {all} {p} {h} {cut} wish j heard enough fewer =
           ]
     ]
 
-between : {wish : Wish} {all : List ℕ} {p : ℕ} {h : History} {cut : ℕ} (slot : ℕ) → 0 < wish.slot_units → 0 < p → IsHeardOf all p h cut
+between : {wish : Wish} {all : List ℕ} {p : ℕ} {h : History} {cut : ℕ} (slot : ℕ) → Durations wish.slot_units p → IsHeardOf all p h cut
     → nat_lt wish.buffer (bytes_waiting wish h slot cut) ≡ false → lacks_picture wish h (place_in h slot) ≡ false
     → IsBetween wish all p (place_in h slot) (bytes_received h + cut)
-between {wish} {all} {p} {h} {cut} slot some timed heard not_over not_under =
+between {wish} {all} {p} {h} {cut} slot lasts heard not_over not_under =
     let n = length (sizes h) in
     let j = place_in h slot in
     let early : n < length all → j < use_slot wish p n = next-early wish j heard not_under in
     let by_end : used_before wish p (j + 1) 0 (take n all) ≡ used_before wish p (j + 1) 0 all =
-    same-used wish all p (j + 1) n some timed (λ fewer. omega (arith, early fewer)) in
+    same-used wish all (j + 1) n lasts (λ fewer. omega (arith, early fewer)) in
     let before : used_before wish p j 0 (take n all) ≡ used_before wish p j 0 all =
-    same-used wish all p j n some timed (λ fewer. omega (arith, early fewer)) in
+    same-used wish all j n lasts (λ fewer. omega (arith, early fewer)) in
     let played : played_before wish h j ≡ used_before wish p j 0 all =
     used-time wish h p j heard.time_is ∙ (ap (used_before wish p j 0) heard.sizes_are ∙ before) in
     let holds : bytes_waiting wish h slot cut ≤ wish.buffer = grind (arith, nat_tests) in
     record {
-      low = omega (arith, by_end, used-most wish p (j + 1) (take n all) some timed, ap sum heard.sizes_are, whole-received h);
+      low = omega (arith, by_end, used-most wish (j + 1) (take n all) lasts, ap sum heard.sizes_are, whole-received h);
       up = omega (arith, played, holds);
     }
 
@@ -89,29 +96,34 @@ no-count false n none = (refl, none)
 tested : (a b : Bool) → a ≡ true → (a && b) ≡ false → b ≡ false
 tested a b is none = sym (ap (λ c. c && b) is) ∙ none
 
-pub between-always : {p : ℕ} (wish : Wish) (all : List ℕ) (h : History) → 0 < wish.slot_units → 0 < p → IsHeardAlways wish all p h
-    → count_over wish h ≡ 0 → count_under wish h ≡ 0 → IsBetweenAlways wish all p h
-between-always {p} wish all [] some timed heard over under = tt
-between-always {p} wish all (Reply m ∷ h) some timed heard over under = between-always {p = p} wish all h some timed heard over under
-between-always {p} wish all (Frame b ∷ h) some timed heard over under = between-always wish all h some timed heard over under
-between-always {p} wish all (Report b ∷ h) some timed heard over under = between-always wish all h some timed heard over under
-between-always {p} wish all (Slot slot cut ∷ h) some timed heard over under =
-    let o = no-count (is_read h slot && nat_lt wish.buffer (bytes_waiting wish h slot cut)) (count_over wish h) over in
-    let u = no-count (is_read h slot && lacks_picture wish h (place_in h slot)) (count_under wish h) under in (
-      between-always wish all h some timed heard.0 o.1 u.1,
+-- no reading was over or under
+pub record HasNoCounts (wish : Wish) (h : History) : Type 0 where
+  pub over : count_over wish h ≡ 0
+  pub under : count_under wish h ≡ 0
+
+pub between-always : {p : ℕ} (wish : Wish) (all : List ℕ) (h : History) → Durations wish.slot_units p → IsHeardAlways wish all p h → HasNoCounts wish h
+    → IsBetweenAlways wish all p h
+between-always wish all [] lasts heard none = tt
+between-always wish all (Reply m ∷ h) lasts heard none = between-always wish all h lasts heard (record { over = none.over; under = none.under })
+between-always wish all (Frame b ∷ h) lasts heard none = between-always wish all h lasts heard (record { over = none.over; under = none.under })
+between-always wish all (Report b ∷ h) lasts heard none = between-always wish all h lasts heard (record { over = none.over; under = none.under })
+between-always wish all (Slot slot cut ∷ h) lasts heard none =
+    let o = no-count (is_read h slot && nat_lt wish.buffer (bytes_waiting wish h slot cut)) (count_over wish h) none.over in
+    let u = no-count (is_read h slot && lacks_picture wish h (place_in h slot)) (count_under wish h) none.under in (
+      between-always wish all h lasts heard.0 (record { over = o.1; under = u.1 }),
       λ read. (
         heard.1 read,
-        between slot some timed (heard.1 read)
+        between slot lasts (heard.1 read)
             (tested (is_read h slot) (nat_lt wish.buffer (bytes_waiting wish h slot cut)) read o.0)
             (tested (is_read h slot) (lacks_picture wish h (place_in h slot)) read u.0),
       ),
     )
 
 -- the most that waited is above the buffer where a reading was over
-most-step : (read : Bool) (before waiting over buffer : ℕ) → ((before ≤ buffer) ↔ (over ≡ 0))
+most_waiting-step : (read : Bool) (before waiting over buffer : ℕ) → ((before ≤ buffer) ↔ (over ≡ 0))
     → (cond read (max before waiting) before ≤ buffer) ↔ (cond (read && nat_lt buffer waiting) (over + 1) over ≡ 0)
-most-step false before waiting over buffer same = same
-most-step true before waiting over buffer same = (
+most_waiting-step false before waiting over buffer same = same
+most_waiting-step true before waiting over buffer same = (
   (λ fits. ap (λ b. cond b (over + 1) over) (le-ltb buffer waiting (omega (arith, fits))) ∙ same.0 (omega (arith, fits))),
   (λ none.
       let parts = no-count (nat_lt buffer waiting) over none in
@@ -120,9 +132,9 @@ most-step true before waiting over buffer same = (
       omega (arith, same.1 parts.1, holds)),
 )
 
-pub most-tells : (wish : Wish) (h : History) → (most wish h ≤ wish.buffer) ↔ (count_over wish h ≡ 0)
-most-tells wish [] = ((λ fits. refl), (λ none. omega arith))
-most-tells wish (Reply m ∷ h) = most-tells wish h
-most-tells wish (Frame b ∷ h) = most-tells wish h
-most-tells wish (Report b ∷ h) = most-tells wish h
-most-tells wish (Slot slot cut ∷ h) = most-step (is_read h slot) (most wish h) (bytes_waiting wish h slot cut) (count_over wish h) wish.buffer (most-tells wish h)
+pub most_waiting-tells : (wish : Wish) (h : History) → (most_waiting wish h ≤ wish.buffer) ↔ (count_over wish h ≡ 0)
+most_waiting-tells wish [] = ((λ fits. refl), (λ none. omega arith))
+most_waiting-tells wish (Reply m ∷ h) = most_waiting-tells wish h
+most_waiting-tells wish (Frame b ∷ h) = most_waiting-tells wish h
+most_waiting-tells wish (Report b ∷ h) = most_waiting-tells wish h
+most_waiting-tells wish (Slot slot cut ∷ h) = most_waiting-step (is_read h slot) (most_waiting wish h) (bytes_waiting wish h slot cut) (count_over wish h) wish.buffer (most_waiting-tells wish h)

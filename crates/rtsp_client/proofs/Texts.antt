@@ -1,22 +1,32 @@
--- Texts that are appended part by part.
-use Rattle.std.proofs.Common.{◌≡◌, ℕ, List, ◌++◌, ap, ◌∙◌, append_assoc}
+-- Texts that are put together part by part.
+use Rattle.std.proofs.Common.{◌≡◌, ℕ, ◌+◌, List, [], ◌∷◌, ◌++◌, length, refl, ap, ◌∙◌, append_assoc, length-append}
 
-pub put_four : {t1 t2 t3 t4 : List ℕ} (old a b d e : List ℕ) → t1 ≡ old ++ a → t2 ≡ t1 ++ b → t3 ≡ t2 ++ d → t4 ≡ t3 ++ e
-    → t4 ≡ old ++ (a ++ (b ++ (d ++ e)))
-put_four old a b d e e1 e2 e3 e4 =
-    e4
-    ∙ (ap (λ x. x ++ e) (e3 ∙ ap (λ x. x ++ d) (e2 ∙ ap (λ x. x ++ b) e1))
-    ∙ (append_assoc ((old ++ a) ++ b) d e ∙ (append_assoc (old ++ a) b (d ++ e) ∙ append_assoc old a (b ++ (d ++ e)))))
+-- a part after those before
+pub then_put : {old mid new : List ℕ} (next : List ℕ) → mid ≡ old → new ≡ mid ++ next → new ≡ old ++ next
+then_put next is put = put ∙ ap (λ (l : List ℕ). l ++ next) is
 
-pub put_five : {t1 t2 t3 t4 t5 a : List ℕ} (b d e f : List ℕ) → t1 ≡ a → t2 ≡ t1 ++ b → t3 ≡ t2 ++ d → t4 ≡ t3 ++ e → t5 ≡ t4 ++ f
-    → t5 ≡ (((a ++ b) ++ d) ++ e) ++ f
-put_five {a} b d e f e1 e2 e3 e4 e5 =
-    e5 ∙ ap (λ x. x ++ f) (e4 ∙ ap (λ x. x ++ e) (e3 ∙ ap (λ x. x ++ d) (e2 ∙ ap (λ x. x ++ b) e1)))
+-- parts put after a text, each after all before it; and as one row from the end on
+abbrev pub put_on : List ℕ → List (List ℕ) → List ℕ
+put_on text [] = text
+put_on text (next ∷ more) = put_on (text ++ next) more
 
-pub put_nine : {t1 t2 t3 t4 t5 t6 t7 t8 t9 a : List ℕ} (b d e f g i j k : List ℕ) → t1 ≡ a → t2 ≡ t1 ++ b → t3 ≡ t2 ++ d → t4 ≡ t3 ++ e
-    → t5 ≡ t4 ++ f → t6 ≡ t5 ++ g → t7 ≡ t6 ++ i → t8 ≡ t7 ++ j → t9 ≡ t8 ++ k
-    → t9 ≡ (((((((a ++ b) ++ d) ++ e) ++ f) ++ g) ++ i) ++ j) ++ k
-put_nine {a} b d e f g i j k e1 e2 e3 e4 e5 e6 e7 e8 e9 =
-    e9
-    ∙ ap (λ x. x ++ k) (e8 ∙ ap (λ x. x ++ j) (e7 ∙ ap (λ x. x ++ i) (e6 ∙ ap (λ x. x ++ g)
-    (put_five b d e f e1 e2 e3 e4 e5))))
+abbrev pub in_row : List ℕ → List (List ℕ) → List ℕ
+in_row text [] = text
+in_row text (next ∷ more) = text ++ in_row next more
+
+put_on-append : (text next : List ℕ) (more : List (List ℕ)) → put_on (text ++ next) more ≡ text ++ put_on next more
+put_on-append text next [] = refl
+put_on-append text next (last ∷ more) = ap (λ (l : List ℕ). put_on l more) (append_assoc text next last) ∙ put_on-append text (next ++ last) more
+
+pub put_in_row : (text : List ℕ) (more : List (List ℕ)) → put_on text more ≡ in_row text more
+put_in_row text [] = refl
+put_in_row text (next ∷ more) = put_on-append text next more ∙ ap (λ (l : List ℕ). text ++ l) (put_in_row next more)
+
+-- their length
+abbrev pub lengths : ℕ → List (List ℕ) → ℕ
+lengths n [] = n
+lengths n (next ∷ more) = lengths (n + length next) more
+
+pub put_long : (text : List ℕ) (more : List (List ℕ)) → length (put_on text more) ≡ lengths (length text) more
+put_long text [] = refl
+put_long text (next ∷ more) = put_long (text ++ next) more ∙ ap (λ n. lengths n more) (length-append text next)

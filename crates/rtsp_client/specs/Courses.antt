@@ -2,7 +2,6 @@
 use Rattle.std.specs.Prelude.{◌≡◌, ℕ, ◌^◌, ◌<◌, ◌≤◌, ◌⊎◌, List, [], ◌∷◌, ◌++◌, length}
 use Rattle.std.specs.Prelude.{take, Option, Ok, Err}
 use Rattle.vod_base.specs.Links.{Doing, HeardBytes, HeardEnd, HeardSlot, Sent, sends, told_more}
-use Rattle.vod_base.specs.Outside.{more}
 use Rattle.interleave.specs.Pieces.{IsFirst}
 use Rattle.interleave.specs.Streams.{AreCut, IsPieceLength}
 use Rattle.interleave.specs.declared.pieces.Step.TheVariants.{More}
@@ -129,7 +128,7 @@ pub record HasCourse (wish : Wish) (end : WatchEnd) (old_told new_told : Option 
   pub ends : Ends wish mid (length rounds) end last_doings last_out
   pub told : new_told ≡
       told_more old_told (sends (setup_text wish) ++ (rounds_doings wish [] rounds ++ last_doings))
-  pub out : new_out ≡ more old_out (payloads_of (moments_of_rounds rounds) ++ last_out)
+  pub out : new_out ≡ told_more old_out (payloads_of (moments_of_rounds rounds) ++ last_out)
 
 -- or it didn't begin: there was no memory, or a front of SETUP was sent
 pub record HasNotBegun (wish : Wish) (end : WatchEnd) (old_told new_told : Option (List Doing))

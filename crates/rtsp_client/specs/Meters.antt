@@ -50,13 +50,13 @@ abbrev pub lacks_picture : Wish → History → ℕ → Bool
 lacks_picture wish h slot = not (is_complete h) && nat_le (use_slot wish (time h) (length (sizes h))) slot
 
 -- the most bytes that waited at a reading
-abbrev pub most : Wish → History → ℕ
-most wish [] = 0
-most wish (Reply message ∷ h) = most wish h
-most wish (Frame block ∷ h) = most wish h
-most wish (Report block ∷ h) = most wish h
-most wish (Slot slot cut ∷ h) = if is_read h slot
-    then max (most wish h) (bytes_waiting wish h slot cut) else most wish h
+abbrev pub most_waiting : Wish → History → ℕ
+most_waiting wish [] = 0
+most_waiting wish (Reply message ∷ h) = most_waiting wish h
+most_waiting wish (Frame block ∷ h) = most_waiting wish h
+most_waiting wish (Report block ∷ h) = most_waiting wish h
+most_waiting wish (Slot slot cut ∷ h) = if is_read h slot
+    then max (most_waiting wish h) (bytes_waiting wish h slot cut) else most_waiting wish h
 
 -- at how many readings more waited than the buffer holds
 abbrev pub count_over : Wish → History → ℕ
@@ -84,7 +84,7 @@ watched_in wish h = record {
   bytes = length (payloads h);
   frames = frames h;
   reports = reports h;
-  most = most wish h;
+  most = most_waiting wish h;
   over = count_over wish h;
   under = count_under wish h;
 }

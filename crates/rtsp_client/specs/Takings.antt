@@ -3,7 +3,6 @@
 use Rattle.std.specs.Prelude.{◌≡◌, ℕ, ◌<◌, ◌⊎◌, ◌∷◌, [], List, length, Option}
 use Rattle.std.specs.Prelude.{Ok, Result, OnOk, IfErr, take}
 use Rattle.vod_base.specs.Links.{Doing, IsFrontTold, sends, told_more}
-use Rattle.vod_base.specs.Outside.{more}
 use Rattle.interleave.specs.Pieces.{IsFirst}
 use Rattle.interleave.specs.Streams.{AreCut}
 use Rattle.interleave.specs.declared.pieces.Step.TheVariants.{More}
@@ -29,7 +28,7 @@ sight told out = record { told = told; out = out }
 
 -- these bytes were sent, and these handed on
 abbrev pub sight_more : Sight → List ℕ → List ℕ → Sight
-sight_more old sent out = record { told = told_more old.told (sends sent); out = more old.out out }
+sight_more old sent out = record { told = told_more old.told (sends sent); out = told_more old.out out }
 
 -- moments were taken up, and the watching goes on
 pub record HasPassed (wish : Wish) (h : History) (moments : List Moment) (new : Client)
@@ -134,7 +133,7 @@ pub record HasRun (wish : Wish) (count : ℕ) (client : Client) (old_sight new_s
   pub sight_is : new_sight ≡
       record {
         told = told_more old_sight.told (rounds_doings wish [] rounds);
-        out = more old_sight.out (payloads_of (moments_of_rounds rounds));
+        out = told_more old_sight.out (payloads_of (moments_of_rounds rounds));
       }
 
 -- SETUP wasn't sent whole: there was no memory for it, or a front of it was sent

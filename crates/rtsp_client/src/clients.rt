@@ -111,7 +111,7 @@ impl Client {
     {
         match heard {
             Heard::End => {
-                let units = self.watching.watched().units;
+                let units = self.watching.tally().units;
                 Err(WatchEnd::Fault(WatchFault::EndedEarly(units)))
             }
             Heard::Slot(slot) => {
@@ -275,7 +275,7 @@ impl Client {
     {
         let block = &self.input.waiting()[..length];
         let Some(source) = self.watching.source_with(block) else {
-            let number = self.watching.watched().frames;
+            let number = self.watching.tally().frames;
             return Err(WatchEnd::Fault(WatchFault::BadFrame(number)));
         };
         self.watching.add_frame(source, length as u64)?;
@@ -370,7 +370,7 @@ impl Client {
         if self.replies == 1 {
             return self.take_play(wish, length);
         }
-        Err(WatchEnd::Done(self.watching.watched()))
+        Err(WatchEnd::Done(self.watching.tally()))
     }
 
     /// Takes up the reply to SETUP in front, and asks for PLAY.

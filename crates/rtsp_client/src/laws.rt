@@ -7,7 +7,7 @@ ghost use Rattle.film_frames.specs.Runs.{run_of};
 ghost use Rattle.rtsp_client.specs.Answers.{payloads_of};
 ghost use Rattle.rtsp_client.specs.Asked.{IsAsked, IsSessionId};
 ghost use Rattle.rtsp_client.specs.Asked.{play_parts, setup_parts, teardown_parts};
-ghost use Rattle.rtsp_client.specs.Meters.{most, count_over, count_under};
+ghost use Rattle.rtsp_client.specs.Meters.{most_waiting, count_over, count_under};
 ghost use Rattle.rtsp_client.specs.Moments.{History, Moment};
 ghost use Rattle.rtsp_client.specs.Promises.{IsBetweenAlways, IsHeardAlways, frames_of};
 ghost use Rattle.rtsp_client.specs.Requests.{play_text, setup_text, teardown_text};
@@ -27,7 +27,7 @@ pub fn law_meter_within(wish: &Wish)
         0 < length sizes →
         IsBetweenAlways wish.now sizes picture_time h →
         (count_over wish.now h ≡ 0) × (count_under wish.now h ≡ 0)
-        × (most wish.now h ≤ wish.now.buffer) }
+        × (most_waiting wish.now h ≤ wish.now.buffer) }
 {
     let _read = wish.port;
 }
@@ -42,7 +42,7 @@ pub fn law_meter_tells(wish: &Wish)
         count_over wish.now h ≡ 0 → count_under wish.now h ≡ 0 →
         IsBetweenAlways wish.now sizes picture_time h }
     ensures most { (h : History) →
-        (most wish.now h ≤ wish.now.buffer) ↔ (count_over wish.now h ≡ 0) }
+        (most_waiting wish.now h ≤ wish.now.buffer) ↔ (count_over wish.now h ≡ 0) }
 {
     let _read = wish.port;
 }

@@ -80,7 +80,7 @@ impl Watching {
     }
 
     /// What was heard and read.
-    pub(crate) fn watched(&self) -> Watched
+    pub(crate) fn tally(&self) -> Watched
         ensures { result ≡ self.now.watched }
     {
         self.watched

@@ -105,7 +105,7 @@ kept-promise {wish} {film} {x} {rounds} {mid} {bytes} {out} c wished timed is ru
     let A : History → Type 0 = λ g. IsBetweenAlways wish (film_sizes film) (picture_time film.rate) g in
     let last = subst A (sym all.history) (always-pieces wish (film_sizes film) (picture_time film.rate) mid.history all.pieces always) in
     let some = film-some film.bytes.items film.rate film.units.items film.slice_starts.items film.grammar in
-    let quiet = quiet-always wish (film_sizes film) (picture_time film.rate) h (omega (arith, wished.some_units)) timed
+    let quiet = quiet-always wish (film_sizes film) h (record { slot_lasts = omega (arith, wished.some_units); picture_lasts = timed })
     (omega (arith, some, length-map film.units.items (λ u. wire_size film.slice_starts.items u))) last in
     record {
       over_none = ap (λ (w : Watched). w.over) done.watched_is ∙ quiet.over_none;

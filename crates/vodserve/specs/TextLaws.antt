@@ -6,7 +6,7 @@ use Rattle.std.specs.Str.{bytes_eq}
 use Rattle.mpeg_scan.specs.declared.units.Unit.{Unit as PictureUnit}
 use Rattle.cert_check.specs.declared.CertFault.{CertFault}
 use Rattle.command_words.specs.Settings.{values_of}
-use Rattle.rtsp_client.specs.Meters.{count_over, count_under, most}
+use Rattle.rtsp_client.specs.Meters.{count_over, count_under, most_waiting}
 use Rattle.rtsp_client.specs.Moments.{History, frames, payloads, reports, sizes}
 use Rattle.rtsp_client.specs.declared.wishes.Watched.{Watched}
 use Rattle.rtsp_client.specs.declared.wishes.Wish.{Wish}
@@ -91,7 +91,7 @@ pub record TellsPlay (wish : Wish) (history : History) (line : List ℕ) : Type 
   pub bytes_told : GivesOnce line (codes "bytes") (length (payloads history))
   pub frames_told : GivesOnce line (codes "frames") (frames history)
   pub reports_told : GivesOnce line (codes "reports") (reports history)
-  pub most_told : GivesOnce line (codes "most") (most wish history)
+  pub most_told : GivesOnce line (codes "most") (most_waiting wish history)
   pub over_told : GivesOnce line (codes "over") (count_over wish history)
   pub under_told : GivesOnce line (codes "under") (count_under wish history)
 

@@ -15,12 +15,12 @@ use Rattle.rtsp_client.proofs.clients.Client.hear.Goals as goal
 
 pub returns-in-End-clause-ended : goal.returns-in-End-clause-ended
 returns-in-End-clause-ended g c = λ h k.
-    subst (λ (x : Heard). HasEnded c.args.wish.now h c.args.self.now.input (doing_of x c.args.bytes.now) (Fault (EndedEarly c.watched-units.result.units))
+    subst (λ (x : Heard). HasEnded c.args.wish.now h c.args.self.now.input (doing_of x c.args.bytes.now) (Fault (EndedEarly c.tally-units.result.units))
     (sight (g.K.Link.told c.args.link.now) (g.O.Sink.written c.args.out.now)) (sight (g.K.Link.told c.args.link.now) (g.O.Sink.written c.args.out.now)))
     (sym c.in-End.is)
     (ended-peer
     k
-    (ap (λ (w : Watched). Fault (EndedEarly w.units)) c.watched-units.ensures))
+    (ap (λ (w : Watched). Fault (EndedEarly w.units)) c.tally-units.ensures))
 
 pub returns-in-Slot-clause-on : goal.returns-in-Slot-clause-on
 returns-in-Slot-clause-on g c = λ h k.
@@ -29,9 +29,14 @@ returns-in-Slot-clause-on g c = λ h k.
     (sight (g.K.Link.told c.args.link.now) (g.O.Sink.written c.args.out.now)) (sight (g.K.Link.told c.args.link.now) (g.O.Sink.written c.args.out.now)))
     (sym c.in-Slot.is)
     (round-slot
-    k
-    (omega (arith, c.requires.wish.some_units)) c.hear_slot.ensures.timed (c.cut_bytes-cut.ensures.cut ∙ ap cut_bytes c.waiting.ensures)
-    c.requires.idle refl refl refl c.hear_slot.ensures.state)
+    (record {
+      keeps = k;
+      slot_lasts = omega (arith, c.requires.wish.some_units);
+      picture_lasts = c.hear_slot.ensures.timed;
+      cut_is = c.cut_bytes-cut.ensures.cut ∙ ap cut_bytes c.waiting.ensures;
+      idle = c.requires.idle;
+    })
+    (record { replies = refl; session = refl; input = refl; watching = c.hear_slot.ensures.state }))
 
 pub returns-in-Ok-clause-on : goal.returns-in-Ok-clause-on
 returns-in-Ok-clause-on g c = λ h k.
@@ -43,7 +48,7 @@ returns-in-Ok-clause-on g c = λ h k.
     (subst (λ (i : List ℕ). OnOk c.take_up.result (HasTaken c.args.wish.now h i c.take_up.new.self
     (sight (g.K.Link.told c.args.link.now) (g.O.Sink.written c.args.out.now))
     (sight (g.K.Link.told c.take_up.new.link) (g.O.Sink.written c.take_up.new.out)))) grown
-    (c.take_up.ensures.taken h (keeps-moved k refl refl refl)))
+    (c.take_up.ensures.taken h (keeps-moved k (record { replies = refl; session = refl; watching = refl }))))
     c.take_up.ensures.idle
     (λ taken idle. round-bytes
     taken idle))
@@ -64,6 +69,6 @@ returns-in-Ok-clause-ended g c = λ h k.
     (subst (λ (i : List ℕ). IfErr c.take_up.result (λ end. HasStopped c.args.wish.now h i end
     (sight (g.K.Link.told c.args.link.now) (g.O.Sink.written c.args.out.now))
     (sight (g.K.Link.told c.take_up.new.link) (g.O.Sink.written c.take_up.new.out)))) grown
-    (c.take_up.ensures.stopped h (keeps-moved k refl refl refl)))
+    (c.take_up.ensures.stopped h (keeps-moved k (record { replies = refl; session = refl; watching = refl }))))
     (λ end stopped. ended-bytes
     stopped))

@@ -39,5 +39,4 @@ returns-in_default-clause-passed g c = λ h k.
     subst (λ (ms : List Moment). HasPassed c.args.wish.now h ms c.args.self.now
     (sight (g.K.Link.told c.args.link.now) (g.O.Sink.written c.args.out.now)) (sight (g.K.Link.told c.args.link.now) (g.O.Sink.written c.args.out.now)))
     (sym (other-moments c.args.channel (take c.args.length c.args.self.now.input) (search rules) (search rules)))
-    (passed-none
-    k refl refl refl)
+    (passed-none k (record { replies = refl; session = refl; watching = refl }))

@@ -20,4 +20,4 @@ returns-then-self-eq1-clause-ended g c = λ h out k. c.take_play.ensures.ended h
 pub returns-clause-ended : goal.returns-clause-ended
 returns-clause-ended g c = λ h out k.
     watch-done
-    k (omega arith) c.requires.good (ap (λ (w : Watched). Done w) c.watched.ensures)
+    k (omega arith) c.requires.good (ap (λ (w : Watched). Done w) c.tally.ensures)

@@ -28,7 +28,7 @@ returns-in-Ok-More-clause-idle g c =
 
 pub returns-in-Ok-More-clause-taken : goal.returns-in-Ok-More-clause-taken
 returns-in-Ok-More-clause-taken g c = λ h k.
-    taken-none k refl refl refl
+    taken-none k (record { replies = refl; session = refl; watching = refl })
     c.look.ensures.waiting
 
 pub returns-in-Ok-Skip-clause-taken : goal.returns-in-Ok-Skip-clause-taken
@@ -36,7 +36,7 @@ returns-in-Ok-Skip-clause-taken g c = λ h k.
     let first : IsFirst c.args.self.now.input (Ok c.in-Ok-Skip.field-0) = c.in-Ok-Skip.ensures.first in
     let is : c.in-Ok-Skip.field-0 ≡ Skip c.in-Ok-Skip.length = search rules in
     taken-ends
-    (first_is first refl is) k refl refl refl
+    (first_is first refl is) k (record { replies = refl; session = refl; watching = refl })
     (c.drop_front.ensures ∙ ap (drop c.in-Ok-Skip.length) c.look.ensures.waiting)
 
 pub returns-in_err-take_block-in-Ok-Block-clause-stopped : goal.returns-in_err-take_block-in-Ok-Block-clause-stopped
@@ -49,7 +49,7 @@ returns-in_err-take_block-in-Ok-Block-clause-stopped g c =
     rw (← c.look.ensures.waiting)
     (stopped-block
     (first_is first c.look.ensures.waiting is)
-    (c.in_err-take_block-in-Ok-Block.ensures.ended h (keeps-moved k refl refl refl))))
+    (c.in_err-take_block-in-Ok-Block.ensures.ended h (keeps-moved k (record { replies = refl; session = refl; watching = refl })))))
 
 pub returns-in_ok-take_block-in-Ok-Block-clause-taken : goal.returns-in_ok-take_block-in-Ok-Block-clause-taken
 returns-in_ok-take_block-in-Ok-Block-clause-taken g c = λ h k.
@@ -61,7 +61,7 @@ returns-in_ok-take_block-in-Ok-Block-clause-taken g c = λ h k.
     (sight (g.K.Link.told c.take_block.new.link) (g.O.Sink.written c.take_block.new.out))) c.look.ensures.waiting
     (taken-block
     (first_is first c.look.ensures.waiting is)
-    (c.in_ok-take_block-in-Ok-Block.ensures.passed h (keeps-moved k refl refl refl)) refl refl refl
+    (c.in_ok-take_block-in-Ok-Block.ensures.passed h (keeps-moved k (record { replies = refl; session = refl; watching = refl }))) (record { replies = refl; session = refl; watching = refl })
     (c.drop_front-in-Ok-Block.ensures ∙ ap (drop c.in-Ok-Block.length) c.take_block.ensures.input))
 
 pub returns-in_err-take_reply-in-Ok-Request-clause-stopped : goal.returns-in_err-take_reply-in-Ok-Request-clause-stopped
@@ -74,7 +74,7 @@ returns-in_err-take_reply-in-Ok-Request-clause-stopped g c =
     rw (← c.look.ensures.waiting)
     (stopped-reply
     (first_is first c.look.ensures.waiting is)
-    (c.in_err-take_reply-in-Ok-Request.ensures.ended h (g.O.Sink.written c.args.out.now) (keeps-moved k refl refl refl))))
+    (c.in_err-take_reply-in-Ok-Request.ensures.ended h (g.O.Sink.written c.args.out.now) (keeps-moved k (record { replies = refl; session = refl; watching = refl })))))
 
 pub returns-in_ok-take_reply-in-Ok-Request-clause-taken : goal.returns-in_ok-take_reply-in-Ok-Request-clause-taken
 returns-in_ok-take_reply-in-Ok-Request-clause-taken g c = λ h k.
@@ -86,5 +86,5 @@ returns-in_ok-take_reply-in-Ok-Request-clause-taken g c = λ h k.
     (sight (g.K.Link.told c.take_reply.new.link) (g.O.Sink.written c.args.out.now))) c.look.ensures.waiting
     (taken-reply
     (first_is first c.look.ensures.waiting is)
-    (c.in_ok-take_reply-in-Ok-Request.ensures.passed h (g.O.Sink.written c.args.out.now) (keeps-moved k refl refl refl)) refl refl refl
+    (c.in_ok-take_reply-in-Ok-Request.ensures.passed h (g.O.Sink.written c.args.out.now) (keeps-moved k (record { replies = refl; session = refl; watching = refl }))) (record { replies = refl; session = refl; watching = refl })
     (c.drop_front-in-Ok-Request.ensures ∙ ap (drop c.in-Ok-Request.length) c.take_reply.ensures.input))

@@ -28,5 +28,4 @@ returns-clause-passed c = λ h s k.
     ap (λ i. play_range (take c.args.length i)) (sym c.waiting.ensures) ∙ (sym c.play_range.ensures.range ∙ c.in-Some.is) in
     let start : play_start (take c.args.length c.args.self.now.input) ≡ Some c.in-Some-play_start.start =
     ap (λ i. play_start (take c.args.length i)) (sym c.waiting.ensures) ∙ (sym c.play_start.ensures ∙ c.in-Some-play_start.is) in
-    play-done k
-    c.requires.second c.requires.good start range refl refl c.begin.ensures
+    play-done (record { keeps = k; second = c.requires.second; awaited = c.requires.good; start_is = start; range_is = range }) refl refl c.begin.ensures

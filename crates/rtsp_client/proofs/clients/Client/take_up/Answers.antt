@@ -9,8 +9,7 @@ pieces-init g c = (
   record { replies = c.requires.going.replies; few = omega arith },
   omega arith,
   omega arith,
-  λ h k. taken-none
-      k refl refl refl refl,
+  λ h k. taken-none k (record { replies = refl; session = refl; watching = refl }) refl,
 )
 
 pub returns-in_err-more-clause-stopped : goal.returns-in_err-more-clause-stopped
