@@ -362,11 +362,11 @@ start_told {sequence} {fields} old place start later front =
     let slots : ℕ = start - old.heard in
     let own = field (codes "x-Start") (decimal (start - old.heard)) in
     let more : old.text ++ field_line own ≡ reply_front 200 (Some sequence) (fields ++ own ∷ []) =
-    front_field 200 (Some sequence) fields own refl front in
+    front_field {old = old.text} 200 (Some sequence) fields own refl front in
     record {
       slots = start - old.heard;
       slots_are = omega (arith, later);
-      text_is = whole_reply 200 (Some sequence) (fields ++ own ∷ []) [] refl more;
+      text_is = whole_reply {old = old.text ++ field_line own} 200 (Some sequence) (fields ++ own ∷ []) [] refl more;
     }
 
 -- the reply of a SETUP
