@@ -13,7 +13,7 @@ use Rattle.admission.specs.declared.entries.Answer.{Answer}
 use Rattle.admission.specs.declared.entries.Answer.TheVariants.{Admitted, Overflow, Halted, Looked}
 use Rattle.admission.specs.Machine.{State, Held, CanHalt, IsAnswer, held_as, next_state, admitted_play}
 use Rattle.admission.specs.Histories.{IsLegal, play_admitted, state_after}
-use Rattle.admission.proofs.Runs.{legal-at, next_of, no_entry, state-next}
+use Rattle.admission.proofs.Runs.{Machine, machine_after, legal-at, next_of, no_entry, state-next}
 use Rattle.admission.proofs.Halts.{all-halted, halting, holds-of, split}
 use Rattle.admission.proofs.Within.{IsWhole, sound-after}
 
@@ -26,28 +26,27 @@ pub record IsKnown (entries : List Entry) (count : ℕ) (h : Held) : Type 0 wher
 known_more : (entries : List Entry) (n : ℕ) (held : List Held) → All (IsKnown entries n) held → All (IsKnown entries (n + 1)) held
 known_more entries n held all = All-weaker (IsKnown entries n) (IsKnown entries (n + 1)) (λ h known. record { inside = omega (arith, known.inside); admitted = known.admitted }) held all
 
-known-next : {entries : List Entry} {n : ℕ} (steps : List CapStep) (state : State) (command : Command)
-    (answer : Answer) → IsAnswer steps state command answer →
+known-next : {entries : List Entry} {n : ℕ} (m : Machine) (command : Command) (answer : Answer) → IsAnswer m.steps m.state command answer →
     ((none : Entry) → play_admitted (get_or entries n none).command (get_or entries n none).answer ≡ play_admitted command answer) →
-    All (IsKnown entries n) state.held → All (IsKnown entries (n + 1)) (next_state state n command answer).held
-known-next {entries} {n} steps state (Play slot segments) (Admitted start) is here all =
-    All-push (IsKnown entries (n + 1)) state.held (admitted_play n start segments) (known_more entries n state.held all) (record { inside = omega arith; admitted = here })
-known-next {entries} {n} steps state (Play slot segments) (Overflow over booked asked) is here all = known_more entries n state.held all
-known-next steps state (Play slot segments) Halted is here all = absurd is
-known-next steps state (Play slot segments) (Looked now at booked) is here all = absurd is
-known-next {entries} {n} steps state (Halt number keep) Halted is here all = (
-    let h = halting state number keep is in
-    let known = known_more entries n state.held all in
-    let that = holds-of (IsKnown entries (n + 1)) number state.held h.held known h.is in
-    all-halted (IsKnown entries (n + 1)) number keep state.held h.is (record { inside = that.inside; admitted = that.admitted }) known
+    All (IsKnown entries n) m.state.held → All (IsKnown entries (n + 1)) (next_state m.state n command answer).held
+known-next {entries} {n} m (Play slot segments) (Admitted start) is here all =
+    All-push (IsKnown entries (n + 1)) m.state.held (admitted_play n start segments) (known_more entries n m.state.held all) (record { inside = omega arith; admitted = here })
+known-next {entries} {n} m (Play slot segments) (Overflow over booked asked) is here all = known_more entries n m.state.held all
+known-next m (Play slot segments) Halted is here all = absurd is
+known-next m (Play slot segments) (Looked now at booked) is here all = absurd is
+known-next {entries} {n} m (Halt number keep) Halted is here all = (
+    let h = halting m.state number keep is in
+    let known = known_more entries n m.state.held all in
+    let that = holds-of (IsKnown entries (n + 1)) number m.state.held h.held known h.is in
+    all-halted (IsKnown entries (n + 1)) h (record { inside = that.inside; admitted = that.admitted }) known
     )
-known-next steps state (Halt number keep) (Admitted start) is here all = absurd is
-known-next steps state (Halt number keep) (Overflow over booked asked) is here all = absurd is
-known-next steps state (Halt number keep) (Looked now at booked) is here all = absurd is
-known-next {entries} {n} steps state (Look slot) (Looked now at booked) is here all = known_more entries n state.held all
-known-next steps state (Look slot) (Admitted start) is here all = absurd is
-known-next steps state (Look slot) (Overflow over booked asked) is here all = absurd is
-known-next steps state (Look slot) Halted is here all = absurd is
+known-next m (Halt number keep) (Admitted start) is here all = absurd is
+known-next m (Halt number keep) (Overflow over booked asked) is here all = absurd is
+known-next m (Halt number keep) (Looked now at booked) is here all = absurd is
+known-next {entries} {n} m (Look slot) (Looked now at booked) is here all = known_more entries n m.state.held all
+known-next m (Look slot) (Admitted start) is here all = absurd is
+known-next m (Look slot) (Overflow over booked asked) is here all = absurd is
+known-next m (Look slot) Halted is here all = absurd is
 
 pub known-at : (steps : List CapStep) (xs : List Entry) (n : ℕ) → IsLegal steps xs → n ≤ length xs → All (IsKnown xs n) (state_after (take n xs)).held
 known-at steps xs zero legal few = All-nil (IsKnown xs 0)
@@ -60,7 +59,7 @@ known-at steps xs (suc n) legal few =
     let at : n + 1 ≡ suc n = omega arith in
     let S : State → Type 0 = λ s. All (IsKnown xs (suc n)) s.held in
     let K : ℕ → Type 0 = λ k. All (IsKnown xs k) (next_of (state_after (take n xs)) n e).held in
-    subst S (sym (state-next xs n inside)) (subst K at (known-next steps (state_after (take n xs)) e.command e.answer (legal-at steps xs n legal inside) here before))
+    subst S (sym (state-next xs n inside)) (subst K at (known-next (machine_after steps (take n xs)) e.command e.answer (legal-at steps xs n legal inside) here before))
 
 pub known-after : (steps : List CapStep) (xs : List Entry) → IsLegal steps xs → All (IsKnown xs (length xs)) (state_after xs).held
 known-after steps xs legal =

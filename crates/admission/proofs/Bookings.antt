@@ -20,7 +20,7 @@ use Rattle.admission.proofs.Calendars.{plays-around}
 use Rattle.admission.proofs.Counts.{counted}
 use Rattle.admission.proofs.Halts.{play_of, plays-split, split}
 use Rattle.admission.proofs.Opens.{can-still, whole-after}
-use Rattle.admission.proofs.Runs.{legal-at, legal-take, no_entry, state-push}
+use Rattle.admission.proofs.Runs.{PlayAdmitted, legal-at, legal-take, no_entry, state-push}
 
 abbrev entry_of : ℕ → Command → Answer → Entry
 entry_of maker command answer = record { maker = maker; command = command; answer = answer }
@@ -28,50 +28,57 @@ entry_of maker command answer = record { maker = maker; command = command; answe
 after_entry : (xs : List Entry) (e : Entry) (t : ℕ) → booked_after (xs ++ e ∷ []) t ≡ booked_in (next_state (state_after xs) (length xs) e.command e.answer) t
 after_entry xs e t = ap (λ (s : State). booked_in s t) (state-push xs e)
 
-pub booked_admitted : (xs : List Entry) (maker slot start t : ℕ) (segments : List Segment) → IsPlan segments →
+pub booked_admitted : {segments : List Segment} (xs : List Entry) (maker slot start t : ℕ) → IsPlan segments →
     booked_after (xs ++ entry_of maker (Play slot segments) (Admitted start) ∷ []) t ≡ booked_after xs t + asked_at segments start t
-booked_admitted xs maker slot start t segments plan =
+booked_admitted {segments} xs maker slot start t plan =
     let state = state_after xs in
     after_entry xs (entry_of maker (Play slot segments) (Admitted start)) t
     ∙ ap (λ (l : List Booked). booked_by l t) (map-append play_of state.held (admitted_play (length xs) start segments ∷ []))
     ∙ booked-push (plays_of state) segments start t plan
 
-halted_state : {segments : List Segment} (state : State) (number keep start t : ℕ) → IsPlan segments → held_as number state.held ≡ Some (admitted_play number start segments) →
+halted_state : {number start : ℕ} {segments : List Segment} (state : State) (keep t : ℕ) → IsPlan segments → held_as number state.held ≡ Some (admitted_play number start segments) →
     booked_by (map play_of (with_halted number keep state.held)) t + cut_at segments start keep t ≡ booked_in state t
-halted_state {segments} state number keep start t plan is =
+halted_state {number} {start} {segments} state keep t plan is =
     let h = admitted_play number start segments in
     let parts = split number state.held h is in
     let front = map play_of parts.before in
     let back = map play_of parts.after in
     let becomes : map play_of (with_halted number keep state.held) ≡ front ++ cut_play start segments keep ∷ back =
     ap (map play_of) (parts.becomes keep) ∙ plays-split parts.before parts.after (halted_play keep h) in
-    ap (λ (l : List Booked). booked_by l t + cut_at segments start keep t) becomes ∙ booked-cut front back segments start keep t plan
+    ap (λ (l : List Booked). booked_by l t + cut_at segments start keep t) becomes ∙ booked-cut front back (cut_play start segments keep) t plan
     ∙ ap (λ (l : List Booked). booked_by l t) (sym (plays-around state number start segments is refl))
 
-pub booked_halted : (steps : List CapStep) (xs : List Entry) (maker number keep start t : ℕ) (segments : List Segment) → IsLegal steps xs → IsPlan segments → IsAdmission xs number start segments →
-    CanHalt (state_after xs) number keep → booked_after (xs ++ entry_of maker (Halt number keep) Halted ∷ []) t + cut_at segments start keep t ≡ booked_after xs t
-booked_halted steps xs maker number keep start t segments legal plan admission can =
-    let still = can-still steps xs number keep legal can in
-    let is = whole-after steps xs number start segments legal admission still.unhalted in
+pub booked_halted : {steps : List CapStep} {xs : List Entry} {number start : ℕ} {segments : List Segment} (maker keep t : ℕ) → IsPlan segments →
+    PlayAdmitted steps xs number start segments → CanHalt (state_after xs) number keep → booked_after (xs ++ entry_of maker (Halt number keep) Halted ∷ []) t + cut_at segments start keep t ≡ booked_after xs t
+booked_halted {steps} {xs} {number} {start} {segments} maker keep t plan admitted can =
+    let still = can-still steps xs number keep admitted.legal can in
+    let is = whole-after admitted still.unhalted in
     ap (λ n. n + cut_at segments start keep t) (after_entry xs (entry_of maker (Halt number keep) Halted) t)
-    ∙ halted_state (state_after xs) number keep start t plan is
+    ∙ halted_state (state_after xs) keep t plan is
 
-other_state : (state : State) (place : ℕ) (command : Command) (answer : Answer) (t : ℕ) → is_admission answer ≡ false → is_halt command ≡ false →
+-- an entry that neither admits a play nor halts one
+record BooksNothing (command : Command) (answer : Answer) : Type 0 where
+  pub unopened : is_admission answer ≡ false
+  pub unhalted : is_halt command ≡ false
+
+other_state : (state : State) (place : ℕ) (command : Command) (answer : Answer) (t : ℕ) → BooksNothing command answer →
     booked_in (next_state state place command answer) t ≡ booked_in state t
-other_state state place (Play slot segments) (Admitted start) t unopened unhalted = absurd (false≢true (sym unopened))
-other_state state place (Play slot segments) (Overflow over booked asked) t unopened unhalted = refl
-other_state state place (Play slot segments) Halted t unopened unhalted = refl
-other_state state place (Play slot segments) (Looked now at booked) t unopened unhalted = refl
-other_state state place (Halt number keep) answer t unopened unhalted = absurd (false≢true (sym unhalted))
-other_state state place (Look slot) answer t unopened unhalted = refl
+other_state state place (Play slot segments) (Admitted start) t none = absurd (false≢true (sym none.unopened))
+other_state state place (Play slot segments) (Overflow over booked asked) t none = refl
+other_state state place (Play slot segments) Halted t none = refl
+other_state state place (Play slot segments) (Looked now at booked) t none = refl
+other_state state place (Halt number keep) answer t none = absurd (false≢true (sym none.unhalted))
+other_state state place (Look slot) answer t none = refl
 
 pub booked_other : (xs : List Entry) (e : Entry) (t : ℕ) → is_admission e.answer ≡ false → is_halt e.command ≡ false → booked_after (xs ++ e ∷ []) t ≡ booked_after xs t
-booked_other xs e t unopened unhalted = after_entry xs e t ∙ other_state (state_after xs) (length xs) e.command e.answer t unopened unhalted
+booked_other xs e t unopened unhalted = after_entry xs e t ∙ other_state (state_after xs) (length xs) e.command e.answer t (record { unopened = unopened; unhalted = unhalted })
 
 -- ---- where a play begins
-pub start_is : (steps : List CapStep) (xs : List Entry) (number start : ℕ) (segments : List Segment) → IsLegal steps xs → IsAdmission xs number start segments →
+pub start_is : {steps : List CapStep} {xs : List Entry} {number start : ℕ} {segments : List Segment} → PlayAdmitted steps xs number start segments →
     start ≡ latest_asked (take (number + 1) xs) + 1
-start_is steps xs number start segments legal admission =
+start_is {steps} {xs} {number} {start} {segments} admitted =
+    let legal = admitted.legal in
+    let admission = admitted.admission in
     let e = get_or xs number no_entry in
     let state = state_after (take number xs) in
     let found = admission_of e.command e.answer start segments (admission.admitted no_entry) in

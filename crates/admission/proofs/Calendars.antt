@@ -20,15 +20,11 @@ fits-early : {steps : List CapStep} {state : State} {start u : ℕ} (segments : 
 fits-early {steps} {start} {u} segments within early = omega (arith, within.each u, asked-before segments start u early)
 
 -- what the calendar has booked from now on is what the state has booked
-fits-same : (steps : List CapStep) (calendar : Calendar) (state : State) (start u : ℕ) (segments : List Segment) → booked_at calendar u ≡ booked_in state u →
-    Fits (booked_at calendar) (capacity_at steps) start segments u → Fits (booked_in state) (capacity_at steps) start segments u
-fits-same steps calendar state start u segments same fits = omega (arith, same, fits)
-
 fits-each : {steps : List CapStep} {calendar : Calendar} {state : State} {start u : ℕ} (segments : List Segment) → IsWithin steps state → StandsFor calendar (plays_of state) →
     calendar.first < start → (calendar.first ≤ u → Fits (booked_at calendar) (capacity_at steps) start segments u) → Fits (booked_in state) (capacity_at steps) start segments u
 fits-each {steps} {calendar} {state} {start} {u} segments within stands after fits = elim (cases_lt u calendar.first) [
   | inl early ↦ fits-early segments within (omega (arith, early, after))
-  | inr since ↦ fits-same steps calendar state start u segments (stands.each u since) (fits since)
+  | inr since ↦ omega (arith, stands.each u since, fits since)
 ]
 
 -- room from now on is room everywhere
@@ -65,25 +61,32 @@ plays-around {h} state number start segments is play_is =
     let parts = split number state.held h is in
     ap (map play_of) parts.was ∙ plays-split parts.before parts.after h ∙ ap (λ p. map play_of parts.before ++ p ∷ map play_of parts.after) play_is
 
+-- the state holds a play whole
+pub record HoldsWhole (state : State) (number start : ℕ) (segments : List Segment) : Type 0 where
+  pub held : Held
+  pub is : held_as number state.held ≡ Some held
+  pub play_is : held.play ≡ whole_play start segments
+
 -- it may be cut
-pub cut-allowed : {calendar : Calendar} {h : Held} (state : State) (number keep start : ℕ) (segments : List Segment) → held_as number state.held ≡ Some h → h.play ≡ whole_play start segments →
+pub cut-allowed : {calendar : Calendar} {state : State} {number start : ℕ} {segments : List Segment} (keep : ℕ) → HoldsWhole state number start segments →
     StandsFor calendar (plays_of state) → ((before after : List Booked) → StandsFor calendar (before ++ whole_play start segments ∷ after) →
     (t : ℕ) → calendar.first ≤ t → cut_at segments start keep t ≤ booked_at calendar t) → (t : ℕ) → calendar.first ≤ t → cut_at segments start keep t ≤ booked_at calendar t
-cut-allowed {calendar} {h} state number keep start segments is play_is stands law =
-    let parts = split number state.held h is in
-    law (map play_of parts.before) (map play_of parts.after) (subst (StandsFor calendar) (plays-around state number start segments is play_is) stands)
+cut-allowed {calendar} {state} {number} {start} {segments} keep whole stands law =
+    let parts = split number state.held whole.held whole.is in
+    law (map play_of parts.before) (map play_of parts.after) (subst (StandsFor calendar) (plays-around state number start segments whole.is whole.play_is) stands)
 
 -- once it is cut, the calendar stands for the plays with that one halted
-pub stands-halted : {old new : Calendar} {h : Held} (state : State) (number keep start : ℕ) (segments : List Segment) → held_as number state.held ≡ Some h → h.play ≡ whole_play start segments →
+pub stands-halted : {old new : Calendar} {state : State} {number start : ℕ} {segments : List Segment} (keep : ℕ) → HoldsWhole state number start segments →
     StandsFor old (plays_of state) → ((before after : List Booked) → StandsFor old (before ++ whole_play start segments ∷ after) → StandsFor new (before ++ cut_play start segments keep ∷ after)) →
     StandsFor new (map play_of (with_halted number keep state.held))
-stands-halted {old} {new} {h} state number keep start segments is play_is stands cut =
-    let parts = split number state.held h is in
+stands-halted {old} {new} {state} {number} {start} {segments} keep whole stands cut =
+    let h = whole.held in
+    let parts = split number state.held h whole.is in
     let front = map play_of parts.before in
     let back = map play_of parts.after in
     let becomes : map play_of (with_halted number keep state.held) ≡ front ++ cut_play start segments keep ∷ back =
-    ap (map play_of) (parts.becomes keep) ∙ plays-split parts.before parts.after (halted_play keep h) ∙ ap (λ (p : Booked). front ++ cut_play p.start p.segments keep ∷ back) play_is in
-    subst (StandsFor new) (sym becomes) (cut front back (subst (StandsFor old) (plays-around state number start segments is play_is) stands))
+    ap (map play_of) (parts.becomes keep) ∙ plays-split parts.before parts.after (halted_play keep h) ∙ ap (λ (p : Booked). front ++ cut_play p.start p.segments keep ∷ back) whole.play_is in
+    subst (StandsFor new) (sym becomes) (cut front back (subst (StandsFor old) (plays-around state number start segments whole.is whole.play_is) stands))
 
 -- what a look tells
 pub look-answer : {calendar : Calendar} {state : State} {now at booked : ℕ} (steps : List CapStep) (slot : ℕ) → Follows calendar state → now ≡ calendar.first → at ≡ max now slot →

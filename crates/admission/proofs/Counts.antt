@@ -21,7 +21,7 @@ admissions_of entries = count_by (λ (e : Entry). is_admission e.answer) entries
 
 open-next : (steps : List CapStep) (state : State) (place : ℕ) (command : Command) (answer : Answer) → IsAnswer steps state command answer →
     open_plays (next_state state place command answer) + cond (is_halt command) 1 0 ≡ open_plays state + cond (is_admission answer) 1 0
-open-next steps state place (Play slot segments) answer is = omega (arith, open-asked steps state place slot segments answer is)
+open-next steps state place (Play slot segments) answer is = omega (arith, open-asked (record { steps = steps; state = state }) place slot segments answer is)
 open-next steps state place (Halt number keep) Halted is = omega (arith, open-halted state place number keep is)
 open-next steps state place (Halt number keep) (Admitted start) is = absurd is
 open-next steps state place (Halt number keep) (Overflow over booked asked) is = absurd is

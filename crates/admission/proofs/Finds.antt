@@ -61,15 +61,20 @@ found-closed number keep (x ∷ rest) h is = elim (cases_Bool (eqb x.number numb
       ∙ found-closed number keep rest h (sym (cond-false (eqb x.number number) (Some x) (held_as number rest) later) ∙ is)
 ]
 
--- a step that doesn't halt it leaves it
-pub found-next : (state : State) (place number : ℕ) (h : Held) (command : Command) (answer : Answer) → (Halts number command → ⊥) → held_as number state.held ≡ Some h →
+-- a play that the state holds, and that the command doesn't halt
+pub record IsUntouched (state : State) (number : ℕ) (h : Held) (command : Command) : Type 0 where
+  pub is : held_as number state.held ≡ Some h
+  pub unhalted : ¬ Halts number command
+
+-- the step leaves it
+pub found-next : {state : State} {number : ℕ} {h : Held} (place : ℕ) (command : Command) (answer : Answer) → IsUntouched state number h command →
     held_as number (next_state state place command answer).held ≡ Some h
-found-next state place number h (Play slot segments) (Admitted start) apart is = found-push number state.held h (admitted_play place start segments) is
-found-next state place number h (Play slot segments) (Overflow over booked asked) apart is = is
-found-next state place number h (Play slot segments) Halted apart is = is
-found-next state place number h (Play slot segments) (Looked now at booked) apart is = is
-found-next state place number h (Halt other keep) Halted apart is = found-other number other keep state.held apart ∙ is
-found-next state place number h (Halt other keep) (Admitted start) apart is = is
-found-next state place number h (Halt other keep) (Overflow over booked asked) apart is = is
-found-next state place number h (Halt other keep) (Looked now at booked) apart is = is
-found-next state place number h (Look slot) answer apart is = is
+found-next {state} {number} {h} place (Play slot segments) (Admitted start) held = found-push number state.held h (admitted_play place start segments) held.is
+found-next place (Play slot segments) (Overflow over booked asked) held = held.is
+found-next place (Play slot segments) Halted held = held.is
+found-next place (Play slot segments) (Looked now at booked) held = held.is
+found-next {state} {number} place (Halt other keep) Halted held = found-other number other keep state.held held.unhalted ∙ held.is
+found-next place (Halt other keep) (Admitted start) held = held.is
+found-next place (Halt other keep) (Overflow over booked asked) held = held.is
+found-next place (Halt other keep) (Looked now at booked) held = held.is
+found-next place (Look slot) answer held = held.is

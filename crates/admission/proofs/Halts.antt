@@ -69,9 +69,11 @@ holds-of P number held h all is =
     (all' (length parts.before) h (omega (arith, length-append parts.before (h ∷ parts.after))))
 
 -- and of all plays after the halt, if it holds of that one
-pub all-halted : {h : Held} (P : Held → Type 0) (number keep : ℕ) (held : List Held) → held_as number held ≡ Some h → P (halted_play keep h) → All P held → All P (with_halted number keep held)
-all-halted {h} P number keep held is here all =
-    let parts = split number held h is in
+pub all-halted : {state : State} {number keep : ℕ} (P : Held → Type 0) (halt : Halting state number keep) → P (halted_play keep halt.held) → All P state.held
+    → All P (with_halted number keep state.held)
+all-halted {state} {number} {keep} P halt here all =
+    let h = halt.held in
+    let parts = split number state.held h halt.is in
     let S : List Held → Type 0 = λ l. All P l in
     let all' : All P (parts.before ++ h ∷ parts.after) = subst S parts.was all in
     let front : All P parts.before =

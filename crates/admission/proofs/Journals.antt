@@ -15,7 +15,7 @@ use Rattle.admission.specs.Machine.{State, Held, CanHalt, IsAnswer, halted_play,
 use Rattle.admission.specs.Histories.{IsAnswered, IsLegal, is_admission, open_count, state_after}
 use Rattle.admission.specs.Books.{IsNoted, Journal}
 use Rattle.admission.specs.Kept.{Follows, IsKept}
-use Rattle.admission.proofs.Runs.{legal-push, next_of, state-push}
+use Rattle.admission.proofs.Runs.{Machine, legal-push, next_of, state-push}
 use Rattle.admission.proofs.Halts.{halting, split}
 
 -- ---- the number of open plays
@@ -26,12 +26,12 @@ opens-most Halted = omega arith
 opens-most (Looked now at booked) = omega arith
 
 -- a play that was asked for
-pub open-asked : (steps : List CapStep) (state : State) (place slot : ℕ) (segments : List Segment) (answer : Answer) → IsAnswer steps state (Play slot segments) answer →
-    open_plays (next_state state place (Play slot segments) answer) ≡ open_plays state + cond (is_admission answer) 1 0
-open-asked steps state place slot segments (Admitted start) is = sum_by_push (λ (h : Held). cond h.is_open 1 0) state.held (admitted_play place start segments)
-open-asked steps state place slot segments (Overflow over booked asked) is = omega arith
-open-asked steps state place slot segments Halted is = absurd is
-open-asked steps state place slot segments (Looked now at booked) is = absurd is
+pub open-asked : (m : Machine) (place slot : ℕ) (segments : List Segment) (answer : Answer) → IsAnswer m.steps m.state (Play slot segments) answer →
+    open_plays (next_state m.state place (Play slot segments) answer) ≡ open_plays m.state + cond (is_admission answer) 1 0
+open-asked m place slot segments (Admitted start) is = sum_by_push (λ (h : Held). cond h.is_open 1 0) m.state.held (admitted_play place start segments)
+open-asked m place slot segments (Overflow over booked asked) is = omega arith
+open-asked m place slot segments Halted is = absurd is
+open-asked m place slot segments (Looked now at booked) is = absurd is
 
 -- a play that is halted
 pub open-halted : (state : State) (place number keep : ℕ) → CanHalt state number keep → open_plays (next_state state place (Halt number keep) Halted) + 1 ≡ open_plays state
@@ -46,34 +46,52 @@ open-halted state place number keep can =
     omega (arith, old, new, one)
 
 -- ---- one entry more
-pub kept-push : {calendar new : Calendar} {xs ys : List Entry} {limit count more room wide : ℕ} (e : Entry) → IsKept calendar xs limit count room →
-    IsAnswered calendar.steps (state_after xs) e → ys ≡ xs ++ e ∷ [] → new.steps ≡ calendar.steps → Follows new (next_of (state_after xs) (length xs) e) →
-    more ≡ open_plays (next_of (state_after xs) (length xs) e) → length xs + 1 + more ≤ limit → wide ≡ room → IsKept new ys limit more wide
-kept-push {calendar} {new} {xs} {ys} {more} {wide} e kept answered is steps follows more_is fits wide_is =
+-- the calendar and the entries of a book, with one entry more, and how many of its plays are open and how many entries have room
+pub record HasGrown (calendar new : Calendar) (xs ys : List Entry) (e : Entry) (limit room more wide : ℕ) : Type 0 where
+  pub entries_are : ys ≡ xs ++ e ∷ []
+  pub answered : IsAnswered calendar.steps (state_after xs) e
+  pub steps_are : new.steps ≡ calendar.steps
+  pub follows : Follows new (next_of (state_after xs) (length xs) e)
+  pub more_is : more ≡ open_plays (next_of (state_after xs) (length xs) e)
+  pub fits : length xs + 1 + more ≤ limit
+  pub wide_is : wide ≡ room
+
+pub kept-push : {calendar new : Calendar} {xs ys : List Entry} {e : Entry} {limit count more room wide : ℕ} → IsKept calendar xs limit count room →
+    HasGrown calendar new xs ys e limit room more wide → IsKept new ys limit more wide
+kept-push {calendar} {new} {xs} {ys} {e} {more} kept grown =
+    let is = grown.entries_are in
+    let steps = grown.steps_are in
     let state : state_after ys ≡ next_of (state_after xs) (length xs) e = ap state_after is ∙ state-push xs e in
     let L : List Entry → Type 0 = λ l. IsLegal calendar.steps l in
     let S : List CapStep → Type 0 = λ s. IsLegal s ys in
-    let open_is : open_count ys ≡ more = ap open_plays state ∙ sym more_is in
+    let open_is : open_count ys ≡ more = ap open_plays state ∙ sym grown.more_is in
     record {
-      legal = subst S (sym steps) (subst L (sym is) (legal-push calendar.steps xs e kept.legal answered));
-      follows = subst (Follows new) (sym state) follows;
+      legal = subst S (sym steps) (subst L (sym is) (legal-push calendar.steps xs e kept.legal grown.answered));
+      follows = subst (Follows new) (sym state) grown.follows;
       count_is = sym open_is;
-      within = omega (arith, open_is, ap length is, length_push xs e, fits);
+      within = omega (arith, open_is, ap length is, length_push xs e, grown.fits);
       few = kept.few;
-      reserved = omega (arith, wide_is, kept.reserved);
+      reserved = omega (arith, grown.wide_is, kept.reserved);
     }
 
+-- an answer that is noted after some entries, and what the caller is told of it
+pub record IsNotedAfter (xs ys : List Entry) (e : Entry) (noted : Noted) : Type 0 where
+  pub place_is : noted.place ≡ length xs
+  pub answer_is : noted.answer ≡ e.answer
+  pub entries_are : ys ≡ xs ++ e ∷ []
+
 pub noted-push : {steps same : List CapStep} {maker : ℕ} {xs ys : List Entry} {command : Command} {answer : Answer}
-    {noted : Noted} (limit : ℕ) → IsLegal steps xs →
-    IsAnswer steps (state_after xs) command answer → noted.place ≡ length xs → noted.answer ≡ answer → ys ≡ xs ++ record { maker = maker; command = command; answer = answer } ∷ [] →
-    same ≡ steps → IsNoted (record { steps = steps; limit = limit; entries = xs }) maker command noted (record { steps = same; limit = limit; entries = ys })
-noted-push {steps} {same} {maker} {xs} {ys} {command} {answer} limit legal is place told entries steps_are =
+    {noted : Noted} (limit : ℕ) → IsLegal steps xs → IsAnswer steps (state_after xs) command answer →
+    IsNotedAfter xs ys (record { maker = maker; command = command; answer = answer }) noted → same ≡ steps → IsNoted (record { steps = steps; limit = limit; entries = xs }) maker command noted (record { steps = same; limit = limit; entries = ys })
+noted-push {steps} {same} {maker} {xs} {ys} {command} {answer} limit legal is after steps_are =
+    let told = after.answer_is in
+    let entries = after.entries_are in
     let e : Answer → Entry = λ a. record { maker = maker; command = command; answer = a } in
     let L : List Entry → Type 0 = λ l. IsLegal steps l in
     let S : List CapStep → Type 0 = λ s. IsLegal s ys in
     let J : List CapStep → List Entry → Journal = λ s l. record { steps = s; limit = limit; entries = l } in
     record {
-      place_is = place;
+      place_is = after.place_is;
       answer_is = subst (IsAnswer steps (state_after xs) command) (sym told) is;
       journal_is = ap (λ s. J s ys) steps_are ∙ ap (J steps) entries ∙ ap (λ a. J steps (xs ++ e a ∷ [])) (sym told);
       legal = subst S (sym steps_are) (subst L (sym entries) (legal-push steps xs (e answer) legal is));

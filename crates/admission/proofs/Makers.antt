@@ -69,16 +69,21 @@ made_places maker xs =
     )) (made_by maker xs) (all-made 0 maker xs)
 
 -- ---- each entry of a maker is among them
-one-made : {maker : ℕ} (P : Placed → Type 0) (place : ℕ) (xs : List Entry) (i : ℕ) → All P (made_from place maker xs) → i < length xs →
-    (get_or xs i no_entry).maker ≡ maker → P (record { place = place + i; entry = get_or xs i no_entry })
-one-made P place [] i all inside own = absurd (omega (arith, inside))
-one-made {maker} P place (e ∷ rest) zero all inside own =
+-- entry i is of this maker
+record IsMadeBy (maker : ℕ) (xs : List Entry) (i : ℕ) : Type 0 where
+  pub inside : i < length xs
+  pub own : (get_or xs i no_entry).maker ≡ maker
+
+one-made : {maker : ℕ} (P : Placed → Type 0) (place : ℕ) (xs : List Entry) (i : ℕ) → All P (made_from place maker xs) → IsMadeBy maker xs i →
+    P (record { place = place + i; entry = get_or xs i no_entry })
+one-made P place [] i all made = absurd (omega (arith, made.inside))
+one-made {maker} P place (e ∷ rest) zero all made =
     let here : Placed = record { place = place; entry = e } in
     let at : place ≡ place + 0 = omega arith in
     let Q : ℕ → Type 0 = λ n. P (record { place = n; entry = e }) in
-    let all' = subst (All P) (cond-true (eqb e.maker maker) (here ∷ made_from (place + 1) maker rest) (made_from (place + 1) maker rest) (eq-eqb e.maker maker own)) all in
+    let all' = subst (All P) (cond-true (eqb e.maker maker) (here ∷ made_from (place + 1) maker rest) (made_from (place + 1) maker rest) (eq-eqb e.maker maker made.own)) all in
     subst Q at (All-head P here (made_from (place + 1) maker rest) all')
-one-made {maker} P place (e ∷ rest) (suc i) all inside own =
+one-made {maker} P place (e ∷ rest) (suc i) all made =
     let here : Placed = record { place = place; entry = e } in
     let later : All P (made_from (place + 1) maker rest) = elim (cases_Bool (eqb e.maker maker)) [
       | inl his ↦ All-tail P here (made_from (place + 1) maker rest) (subst (All P) (cond-true (eqb e.maker maker) (here ∷ made_from (place + 1) maker rest) (made_from (place + 1) maker rest) his) all)
@@ -86,7 +91,7 @@ one-made {maker} P place (e ∷ rest) (suc i) all inside own =
     ] in
     let at : place + 1 + i ≡ place + suc i = omega arith in
     let Q : ℕ → Type 0 = λ n. P (record { place = n; entry = get_or rest i no_entry }) in
-    subst Q at (one-made P (place + 1) rest i later (omega (arith, inside)) own)
+    subst Q at (one-made P (place + 1) rest i later (record { inside = omega (arith, made.inside); own = made.own }))
 
 -- ---- a command that halts a play
 halt_is : (number : ℕ) (command : Command) → Halts number command → (keep : ℕ) × (command ≡ Halt number keep)
@@ -119,12 +124,13 @@ open-own {xs} {number} steps maker own open_ =
             let is = halt_is number (get_or xs i no_entry).command halts' in
             let C : Entry → Type 0 = λ e. e.command ≡ Halt number is.0 in
             let halt : IsHalt xs i number is.0 = record { inside = within; command_is = λ f. subst C (get_or_default xs i no_entry f within) is.1 } in
-            one-made (λ p. ¬ Halts number p.entry.command) 0 xs i open_.unhalted within (own.each i number is.0 no_entry halt ∙ maker_is) halts'
+            one-made (λ p. ¬ Halts number p.entry.command) 0 xs i open_.unhalted
+            (record { inside = within; own = own.each i number is.0 no_entry halt ∙ maker_is }) halts'
             );
       };
       small = open_.small;
     }
 
-pub can-own : (steps : List CapStep) (xs : List Entry) (maker number keep : ℕ) → IsLegal steps xs → AreHaltsOwn xs → IsOpenAmong (made_by maker xs) number keep →
+pub can-own : {steps : List CapStep} {xs : List Entry} (maker number keep : ℕ) → IsLegal steps xs → AreHaltsOwn xs → IsOpenAmong (made_by maker xs) number keep →
     CanHalt (state_after xs) number keep
-can-own steps xs maker number keep legal own open_ = still-open steps xs number keep legal (open-own steps maker own open_)
+can-own {steps} {xs} maker number keep legal own open_ = still-open steps xs number keep legal (open-own steps maker own open_)

@@ -14,48 +14,48 @@ use Rattle.admission.specs.declared.entries.Answer.{Answer}
 use Rattle.admission.specs.declared.entries.Answer.TheVariants.{Admitted, Overflow, Halted, Looked}
 use Rattle.admission.specs.Machine.{State, IsAnswer, booked_in, start_after}
 use Rattle.admission.specs.Histories.{IsLegal, state_after}
-use Rattle.admission.proofs.Runs.{legal-at, no_entry}
+use Rattle.admission.proofs.Runs.{Machine, machine_after, legal-at, no_entry}
 
 same-overflow : {booked capacity : ℕ → ℕ} {start : ℕ} {segments : List Segment} {a b : Over} → IsFirstOverflow 0 booked capacity start segments a →
     IsFirstOverflow 0 booked capacity start segments b → Overflow a.slot a.booked a.asked ≡ Overflow b.slot b.booked b.asked
 same-overflow {booked} {capacity} {start} {segments} {a} {b} x y =
-    ap (λ (over : Over). Overflow over.slot over.booked over.asked) (one-overflow 0 start booked capacity segments a b x y)
+    ap (λ (over : Over). Overflow over.slot over.booked over.asked) (one-overflow x y)
 
-pub answer-once : (steps : List CapStep) (state : State) (command : Command) (a b : Answer) → IsAnswer steps state command a → IsAnswer steps state command b → a ≡ b
-answer-once steps state (Play slot segments) (Admitted start) (Admitted other) x y = ap (λ n. Admitted n) (x.0 ∙ sym y.0)
-answer-once steps state (Play slot segments) (Admitted start) (Overflow over booked asked) x y =
-    let R : ℕ → Type 0 = λ n. HasRoom 0 (booked_in state) (capacity_at steps) n segments in
-    absurd (no-room 0 (start_after state slot) (booked_in state) (capacity_at steps) segments (record { slot = over; booked = booked; asked = asked }) y (subst R x.0 x.1))
-answer-once steps state (Play slot segments) (Overflow over booked asked) (Admitted start) x y =
-    let R : ℕ → Type 0 = λ n. HasRoom 0 (booked_in state) (capacity_at steps) n segments in
-    absurd (no-room 0 (start_after state slot) (booked_in state) (capacity_at steps) segments (record { slot = over; booked = booked; asked = asked }) x (subst R y.0 y.1))
-answer-once steps state (Play slot segments) (Overflow over booked asked) (Overflow other have want) x y =
+pub answer-once : (m : Machine) (command : Command) (a b : Answer) → IsAnswer m.steps m.state command a → IsAnswer m.steps m.state command b → a ≡ b
+answer-once m (Play slot segments) (Admitted start) (Admitted other) x y = ap (λ n. Admitted n) (x.0 ∙ sym y.0)
+answer-once m (Play slot segments) (Admitted start) (Overflow over booked asked) x y =
+    let R : ℕ → Type 0 = λ n. HasRoom 0 (booked_in m.state) (capacity_at m.steps) n segments in
+    absurd (no-room y (subst R x.0 x.1))
+answer-once m (Play slot segments) (Overflow over booked asked) (Admitted start) x y =
+    let R : ℕ → Type 0 = λ n. HasRoom 0 (booked_in m.state) (capacity_at m.steps) n segments in
+    absurd (no-room x (subst R y.0 y.1))
+answer-once m (Play slot segments) (Overflow over booked asked) (Overflow other have want) x y =
     same-overflow
     x y
-answer-once steps state (Play slot segments) (Admitted start) Halted x y = absurd y
-answer-once steps state (Play slot segments) (Admitted start) (Looked now at booked) x y = absurd y
-answer-once steps state (Play slot segments) (Overflow over booked asked) Halted x y = absurd y
-answer-once steps state (Play slot segments) (Overflow over booked asked) (Looked now at have) x y = absurd y
-answer-once steps state (Play slot segments) Halted b x y = absurd x
-answer-once steps state (Play slot segments) (Looked now at booked) b x y = absurd x
-answer-once steps state (Halt number keep) Halted Halted x y = refl
-answer-once steps state (Halt number keep) Halted (Admitted start) x y = absurd y
-answer-once steps state (Halt number keep) Halted (Overflow over booked asked) x y = absurd y
-answer-once steps state (Halt number keep) Halted (Looked now at booked) x y = absurd y
-answer-once steps state (Halt number keep) (Admitted start) b x y = absurd x
-answer-once steps state (Halt number keep) (Overflow over booked asked) b x y = absurd x
-answer-once steps state (Halt number keep) (Looked now at booked) b x y = absurd x
-answer-once steps state (Look slot) (Looked now at booked) (Looked then there have) x y =
+answer-once m (Play slot segments) (Admitted start) Halted x y = absurd y
+answer-once m (Play slot segments) (Admitted start) (Looked now at booked) x y = absurd y
+answer-once m (Play slot segments) (Overflow over booked asked) Halted x y = absurd y
+answer-once m (Play slot segments) (Overflow over booked asked) (Looked now at have) x y = absurd y
+answer-once m (Play slot segments) Halted b x y = absurd x
+answer-once m (Play slot segments) (Looked now at booked) b x y = absurd x
+answer-once m (Halt number keep) Halted Halted x y = refl
+answer-once m (Halt number keep) Halted (Admitted start) x y = absurd y
+answer-once m (Halt number keep) Halted (Overflow over booked asked) x y = absurd y
+answer-once m (Halt number keep) Halted (Looked now at booked) x y = absurd y
+answer-once m (Halt number keep) (Admitted start) b x y = absurd x
+answer-once m (Halt number keep) (Overflow over booked asked) b x y = absurd x
+answer-once m (Halt number keep) (Looked now at booked) b x y = absurd x
+answer-once m (Look slot) (Looked now at booked) (Looked then there have) x y =
     let now_is : now ≡ then = x.0 ∙ sym y.0 in
     let at_is : at ≡ there = x.1 ∙ sym y.1 in
-    let booked_is : booked ≡ have = x.2 ∙ ap (booked_in state) at_is ∙ sym y.2 in
+    let booked_is : booked ≡ have = x.2 ∙ ap (booked_in m.state) at_is ∙ sym y.2 in
     ap (λ n. Looked n at booked) now_is ∙ ap (λ n. Looked then n booked) at_is ∙ ap (λ n. Looked then there n) booked_is
-answer-once steps state (Look slot) (Looked now at booked) (Admitted start) x y = absurd y
-answer-once steps state (Look slot) (Looked now at booked) (Overflow over have asked) x y = absurd y
-answer-once steps state (Look slot) (Looked now at booked) Halted x y = absurd y
-answer-once steps state (Look slot) (Admitted start) b x y = absurd x
-answer-once steps state (Look slot) (Overflow over booked asked) b x y = absurd x
-answer-once steps state (Look slot) Halted b x y = absurd x
+answer-once m (Look slot) (Looked now at booked) (Admitted start) x y = absurd y
+answer-once m (Look slot) (Looked now at booked) (Overflow over have asked) x y = absurd y
+answer-once m (Look slot) (Looked now at booked) Halted x y = absurd y
+answer-once m (Look slot) (Admitted start) b x y = absurd x
+answer-once m (Look slot) (Overflow over booked asked) b x y = absurd x
+answer-once m (Look slot) Halted b x y = absurd x
 
 -- ---- histories
 -- entries of one maker, command and answer are one
@@ -66,31 +66,40 @@ entry-same a b maker command answer =
     let A : Answer → Entry = λ x. record { maker = b.maker; command = b.command; answer = x } in
     ap M maker ∙ ap C command ∙ ap A answer
 
-at_map : {Y : Type 0} (f : Entry → Y) (xs ys : List Entry) (n : ℕ) → map f xs ≡ map f ys → n < length xs → n < length ys → f (get_or xs n no_entry) ≡ f (get_or ys n no_entry)
-at_map f xs ys n same inside within =
+long_map : {Y : Type 0} (f : Entry → Y) (xs ys : List Entry) → map f xs ≡ map f ys → length xs ≡ length ys
+long_map f xs ys same = sym (length-map xs f) ∙ ap length same ∙ length-map ys f
+
+at_map : {Y : Type 0} (f : Entry → Y) (xs ys : List Entry) (n : ℕ) → map f xs ≡ map f ys → n < length xs → f (get_or xs n no_entry) ≡ f (get_or ys n no_entry)
+at_map f xs ys n same inside =
+    let within : n < length ys = omega (arith, inside, long_map f xs ys same) in
     sym (get_or-map f xs n no_entry (f no_entry) inside) ∙ ap (λ l. get_or l n (f no_entry)) same ∙ get_or-map f ys n no_entry (f no_entry) within
 
-same-front : {steps : List CapStep} {xs ys : List Entry} (n : ℕ) → IsLegal steps xs → IsLegal steps ys → map (λ (e : Entry). e.maker) xs ≡ map (λ (e : Entry). e.maker) ys →
-    map (λ (e : Entry). e.command) xs ≡ map (λ (e : Entry). e.command) ys → length xs ≡ length ys → n ≤ length xs → take n xs ≡ take n ys
-same-front {steps} zero legal other makers commands long few = refl
-same-front {steps} {xs} {ys} (suc n) legal other makers commands long few =
+-- two histories of the same commands by the same makers
+pub record HaveSameCommands (xs ys : List Entry) : Type 0 where
+  pub makers : map (λ (e : Entry). e.maker) xs ≡ map (λ (e : Entry). e.maker) ys
+  pub commands : map (λ (e : Entry). e.command) xs ≡ map (λ (e : Entry). e.command) ys
+
+same-front : {steps : List CapStep} {xs ys : List Entry} (n : ℕ) → IsLegal steps xs → IsLegal steps ys → HaveSameCommands xs ys → n ≤ length xs →
+    take n xs ≡ take n ys
+same-front {steps} zero legal other same few = refl
+same-front {steps} {xs} {ys} (suc n) legal other same few =
+    let long = long_map (λ (e : Entry). e.maker) xs ys same.makers in
     let inside : n < length xs = omega (arith, few) in
     let within : n < length ys = omega (arith, few, long) in
-    let before = same-front n legal other makers commands long (omega (arith, few)) in
+    let before = same-front n legal other same (omega (arith, few)) in
     let a = get_or xs n no_entry in
     let b = get_or ys n no_entry in
-    let maker : a.maker ≡ b.maker = at_map (λ (e : Entry). e.maker) xs ys n makers inside within in
-    let command : a.command ≡ b.command = at_map (λ (e : Entry). e.command) xs ys n commands inside within in
+    let maker : a.maker ≡ b.maker = at_map (λ (e : Entry). e.maker) xs ys n same.makers inside in
+    let command : a.command ≡ b.command = at_map (λ (e : Entry). e.command) xs ys n same.commands inside in
     let S : List Entry → Type 0 = λ l. IsAnswer steps (state_after l) a.command a.answer in
     let C : Command → Type 0 = λ k. IsAnswer steps (state_after (take n ys)) k a.answer in
     let here = subst C command (subst S before (legal-at steps xs n legal inside)) in
-    let answer = answer-once steps (state_after (take n ys)) b.command a.answer b.answer here (legal-at steps ys n other within) in
+    let answer = answer-once (machine_after steps (take n ys)) b.command a.answer b.answer here (legal-at steps ys n other within) in
     let at : n + 1 ≡ suc n = omega arith in
     let T : ℕ → Type 0 = λ k. take k xs ≡ take k ys in
     subst T at (take_more_same xs ys n no_entry inside within before (entry-same a b maker command answer))
 
-pub history-once : (steps : List CapStep) (xs ys : List Entry) → IsLegal steps xs → IsLegal steps ys → map (λ (e : Entry). e.maker) xs ≡ map (λ (e : Entry). e.maker) ys →
-    map (λ (e : Entry). e.command) xs ≡ map (λ (e : Entry). e.command) ys → xs ≡ ys
-history-once steps xs ys legal other makers commands =
-    let long : length xs ≡ length ys = sym (length-map xs (λ (e : Entry). e.maker)) ∙ ap length makers ∙ length-map ys (λ (e : Entry). e.maker) in
-    sym (take_all (length xs) xs (omega arith)) ∙ same-front (length xs) legal other makers commands long (omega arith) ∙ take_all (length xs) ys (omega (arith, long))
+pub history-once : {steps : List CapStep} {xs ys : List Entry} → IsLegal steps xs → IsLegal steps ys → HaveSameCommands xs ys → xs ≡ ys
+history-once {xs} {ys} legal other same =
+    let long = long_map (λ (e : Entry). e.maker) xs ys same.makers in
+    sym (take_all (length xs) xs (omega arith)) ∙ same-front (length xs) legal other same (omega arith) ∙ take_all (length xs) ys (omega (arith, long))

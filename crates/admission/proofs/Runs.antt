@@ -2,16 +2,30 @@
 use Rattle.std.proofs.Common.{◌≡◌, ◌<◌, ◌+◌, ℕ, suc, List, [], ◌∷◌, ◌++◌, length, get_or, take, arith, sym, ap, subst, ◌∙◌, inl, inr}
 use Rattle.std.proofs.lemmas.Bool.{cases_order}
 use Rattle.std.proofs.lemmas.List.{get_or_append_left, get_or_push, get_or-take, length-append, length-take, length-take-le, take-append-le, take-take, take_at, take_more}
+use Rattle.plan_cert.specs.declared.Segment.{Segment}
 use Rattle.slot_calendar.specs.declared.profiles.CapStep.{CapStep}
 use Rattle.admission.specs.declared.entries.Entry.{Entry}
 use Rattle.admission.specs.declared.entries.Command.TheVariants.{Look}
 use Rattle.admission.specs.declared.entries.Answer.TheVariants.{Halted}
 use Rattle.admission.specs.Machine.{State, beginning, next_state}
-use Rattle.admission.specs.Histories.{IsAnswered, IsLegal, state_after, state_from}
+use Rattle.admission.specs.Histories.{IsAdmission, IsAnswered, IsLegal, state_after, state_from}
 
 -- a list that has no entry i
 pub no_entry : Entry
 no_entry = record { maker = 0; command = Look 0; answer = Halted }
+
+-- the machine: the steps of the link's capacity, and its state
+pub record Machine : Type 0 where
+  pub steps : List CapStep
+  pub state : State
+
+abbrev pub machine_after : List CapStep → List Entry → Machine
+machine_after steps entries = record { steps = steps; state = state_after entries }
+
+-- a legal history has admitted this play
+pub record PlayAdmitted (steps : List CapStep) (entries : List Entry) (number start : ℕ) (segments : List Segment) : Type 0 where
+  pub legal : IsLegal steps entries
+  pub admission : IsAdmission entries number start segments
 
 abbrev pub next_of : State → ℕ → Entry → State
 next_of state place e = next_state state place e.command e.answer

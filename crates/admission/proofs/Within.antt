@@ -16,30 +16,30 @@ use Rattle.admission.specs.declared.entries.Answer.{Answer}
 use Rattle.admission.specs.declared.entries.Answer.TheVariants.{Admitted, Overflow, Halted, Looked}
 use Rattle.admission.specs.Machine.{State, Held, plays_of, booked_in, IsWithin, admitted_play, halted_play, held_as, with_halted, IsAnswer, next_state}
 use Rattle.admission.specs.Histories.{IsLegal, state_after}
-use Rattle.admission.proofs.Runs.{no_entry, state-next, legal-at}
+use Rattle.admission.proofs.Runs.{Machine, machine_after, no_entry, state-next, legal-at}
 use Rattle.admission.proofs.Halts.{halting, split, holds-of, all-halted, play_of, plays-split}
 
 -- ---- open plays are whole
 pub record IsWhole (h : Held) : Type 0 where
   pub whole : h.is_open ≡ true → h.play.keep ≡ total_bytes h.play.segments
 
-pub whole-next : (steps : List CapStep) (state : State) (place : ℕ) (command : Command) (answer : Answer) → IsAnswer steps state command answer → All IsWhole state.held →
-    All IsWhole (next_state state place command answer).held
-whole-next steps state place (Play slot segments) (Admitted start) is all = All-push IsWhole state.held (admitted_play place start segments) all (record { whole = λ _. refl })
-whole-next steps state place (Play slot segments) (Overflow over booked asked) is all = all
-whole-next steps state place (Play slot segments) Halted is all = absurd is
-whole-next steps state place (Play slot segments) (Looked now at booked) is all = absurd is
-whole-next steps state place (Halt number keep) Halted is all = (
-    let h = halting state number keep is in
-    all-halted IsWhole number keep state.held h.is (record { whole = λ open_is. (let bad : ⊥ = cc in absurd bad) }) all
+pub whole-next : (m : Machine) (place : ℕ) (command : Command) (answer : Answer) → IsAnswer m.steps m.state command answer → All IsWhole m.state.held →
+    All IsWhole (next_state m.state place command answer).held
+whole-next m place (Play slot segments) (Admitted start) is all = All-push IsWhole m.state.held (admitted_play place start segments) all (record { whole = λ _. refl })
+whole-next m place (Play slot segments) (Overflow over booked asked) is all = all
+whole-next m place (Play slot segments) Halted is all = absurd is
+whole-next m place (Play slot segments) (Looked now at booked) is all = absurd is
+whole-next m place (Halt number keep) Halted is all = (
+    let h = halting m.state number keep is in
+    all-halted IsWhole h (record { whole = λ open_is. (let bad : ⊥ = cc in absurd bad) }) all
     )
-whole-next steps state place (Halt number keep) (Admitted start) is all = absurd is
-whole-next steps state place (Halt number keep) (Overflow over booked asked) is all = absurd is
-whole-next steps state place (Halt number keep) (Looked now at booked) is all = absurd is
-whole-next steps state place (Look slot) (Looked now at booked) is all = all
-whole-next steps state place (Look slot) (Admitted start) is all = absurd is
-whole-next steps state place (Look slot) (Overflow over booked asked) is all = absurd is
-whole-next steps state place (Look slot) Halted is all = absurd is
+whole-next m place (Halt number keep) (Admitted start) is all = absurd is
+whole-next m place (Halt number keep) (Overflow over booked asked) is all = absurd is
+whole-next m place (Halt number keep) (Looked now at booked) is all = absurd is
+whole-next m place (Look slot) (Looked now at booked) is all = all
+whole-next m place (Look slot) (Admitted start) is all = absurd is
+whole-next m place (Look slot) (Overflow over booked asked) is all = absurd is
+whole-next m place (Look slot) Halted is all = absurd is
 
 -- ---- what a step books
 min_parts : (a b k m : ℕ) → a ≤ b → k ≤ m → min b k - min a k ≤ min b m - min a m
@@ -108,7 +108,7 @@ sound-at steps xs (suc n) legal few =
     let answered = legal-at steps xs n legal inside in
     let S : State → Type 0 = λ s. IsSound steps s in
     subst S (sym (state-next xs n inside)) (record {
-      whole = whole-next steps (state_after (take n xs)) n e.command e.answer answered before.whole;
+      whole = whole-next (machine_after steps (take n xs)) n e.command e.answer answered before.whole;
       within = within-next n e.command e.answer answered before.whole before.within;
     })
 

@@ -37,7 +37,7 @@ entry_decided {terms} {journal} {old} {plan} {new} placed (Admitted start) room 
     let booked : ℕ → ℕ = booked_after (take placed.place journal) in
     let fits : HasRoom 0 booked (capacity_at terms.steps) from plan = subst (λ s. HasRoom 0 booked (capacity_at terms.steps) s plan) is.0 is.1 in record {
       full = λ no. absurd (omega (arith, no, room));
-      over = λ has over first. absurd (no-room 0 from booked (capacity_at terms.steps) plan over first fits);
+      over = λ has over first. absurd (no-room first fits);
       admitted = λ has all. (placed, subst (λ s. HasBegunPlay old placed s new) is.0 replied);
     }
 entry_decided {terms} {journal} {old} {plan} {new} placed (Overflow slot bytes asked) room is replied =
@@ -46,9 +46,9 @@ entry_decided {terms} {journal} {old} {plan} {new} placed (Overflow slot bytes a
     let found : Over = record { slot = slot; booked = bytes; asked = asked } in record {
       full = λ no. absurd (omega (arith, no, room));
       over = λ has over first.
-          let same : found ≡ over = overflow-once 0 from booked (capacity_at terms.steps) plan found over is first in
+          let same : found ≡ over = overflow-once is first in
           (replied.0, subst (λ (o : Over). new.text ≡ overflow_text replied.0 o.slot o.booked o.asked) same replied.1);
-      admitted = λ has all. absurd (no-room 0 from booked (capacity_at terms.steps) plan found is all);
+      admitted = λ has all. absurd (no-room is all);
     }
 entry_decided {new} placed Halted room is replied = absurd is
 entry_decided {new} placed (Looked now at booked) room is replied = absurd is

@@ -21,7 +21,7 @@ pub open-push : {xs : List Entry} {c number bytes : ℕ} (e : Entry) → IsOpenO
 open-push {xs} {c} {number} {bytes} e its apart =
     let h = halting (state_after xs) number bytes its.can in
     let still : held_as number (next_of (state_after xs) (length xs) e).held ≡ Some h.held =
-    found-next (state_after xs) (length xs) number h.held e.command e.answer apart h.is in
+    found-next (length xs) e.command e.answer (record { is = h.is; unhalted = apart }) in
     let P : Option Held → Type 0 = λ o. IsSomeAnd o (λ (h : Held). (h.is_open ≡ true) × (bytes ≤ total_bytes h.play.segments)) in
     let C : State → Type 0 = λ s. CanHalt s number bytes in
     let can : CanHalt (next_of (state_after xs) (length xs) e) number bytes = subst P (sym still) (h.is_open, h.small) in

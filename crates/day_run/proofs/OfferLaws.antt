@@ -17,12 +17,12 @@ start-least : {booked capacity : ℕ → ℕ} {plan : List Segment} {first : ℕ
     (start : Option ℕ) → AreRefusals 0 booked capacity plan first tried
     → IsStart 0 booked capacity plan first wait (length tried) start → IsLeast (λ s. HasRoom 0 booked capacity s plan) first (first + wait) start
 start-least {booked} {capacity} {plan} {first} {tried} wait None refusals is = λ start begun within room.
-    no_room_tried 0 booked capacity plan first tried start refusals begun (omega (arith, is, within)) room
+    no_room_tried refusals begun (omega (arith, is, within)) room
 start-least {booked} {capacity} {plan} {first} {tried} wait (Some start) refusals is = (
   omega (arith, is.1),
   omega (arith, is.0, is.1),
   is.2,
-  λ earlier begun before room. no_room_tried 0 booked capacity plan first tried earlier refusals begun (omega (arith, is.1, before)) room,
+  λ earlier begun before room. no_room_tried refusals begun (omega (arith, is.1, before)) room,
 )
 
 start-count : (booked capacity : ℕ → ℕ) (plan : List Segment) (first wait count : ℕ) (start : Option ℕ) → IsStart 0 booked capacity plan first wait count start

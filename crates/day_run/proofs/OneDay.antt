@@ -69,7 +69,7 @@ one-planned {c} {new} {text} (inl a) (inr b) = absurd (omega (arith, a.full, b.r
 one-planned {c} {new} {text} (inr a) (inl b) = absurd (omega (arith, a.room, b.full))
 one-planned {link} {c} {rest} {plan} {old} {new} {text} (inr a) (inr b) =
     let same : a.answer ≡ b.answer =
-    answer-once link.steps (state_after old.entries) (commands.Play old.heard plan) a.answer b.answer a.noted.answered b.noted.answered in
+    answer-once (record { steps = link.steps; state = state_after old.entries }) (commands.Play old.heard plan) a.answer b.answer a.noted.answered b.noted.answered in
     one-noted (ap (entry_by c (commands.Play old.heard plan)) same)
     (ap (λ x. with_play c rest plan (length old.entries) x old.states) same) a.noted b.noted
 
@@ -114,7 +114,7 @@ one-halted {c} {play} {old} {new} {text} a b =
     let keep : a.keep ≡ b.keep = omega (arith, x.least _ y.boundary y.after, y.least _ x.boundary x.after) in
     let L : ℕ → Type 0 = λ k. IsLeft play.rest.sizes play.rest.playback play.rest.run play.plan (slot_sent play.start old.heard) k a.pause.left in
     let left : a.pause.left ≡ b.pause.left =
-    left-one play.rest.sizes play.rest.playback play.rest.run b.pause.left a.pause.left play.plan (slot_sent play.start old.heard) b.keep b.pause.left_is (subst L keep a.pause.left_is) in
+    left-one b.pause.left_is (subst L keep a.pause.left_is) in
     let state : a.state ≡ b.state =
     a.pause.state_is ∙ ap (λ k. pausing_state old.heard (cut_play play.start play.plan k) (record play.rest { run = a.pause.left })) keep
     ∙ ap (λ r. pausing_state old.heard (cut_play play.start play.plan b.keep) (record play.rest { run = r })) left ∙ sym b.pause.state_is in
@@ -133,7 +133,7 @@ one-look {slot} {new} {text} (inl a) (inl b) = one-told a.told b.told
 one-look {slot} {new} {text} (inl a) (inr b) = absurd (omega (arith, a.full, b.room))
 one-look {slot} {new} {text} (inr a) (inl b) = absurd (omega (arith, a.room, b.full))
 one-look {link} {slot} {old} {new} {text} (inr a) (inr b) =
-    let same = answer-once link.steps (state_after old.entries) (commands.Look slot) a.answer b.answer a.noted.answered b.noted.answered in
+    let same = answer-once (record { steps = link.steps; state = state_after old.entries }) (commands.Look slot) a.answer b.answer a.noted.answered b.noted.answered in
     one-noted (ap (entry_by 0 (commands.Look slot)) same) refl a.noted b.noted
 
 one-found : (one other : Found) → one.wait ≡ other.wait → one.start ≡ other.start → one.tried ≡ other.tried → one ≡ other
@@ -157,8 +157,8 @@ one-offer {link} {rest} {old} {new} {text} own (inr a) (inr b) =
     let mine : IsOffer 0 booked (capacity_at link.steps) b.plan first a.found = subst O same a.found_is in
     let waits = a.wait_is ∙ sym b.wait_is in
     let found : a.found ≡ b.found =
-    one-found a.found b.found waits (same_start 0 booked (capacity_at link.steps) b.plan first a.found b.found waits mine b.found_is)
-    (same_tried 0 booked (capacity_at link.steps) b.plan first a.found b.found waits mine b.found_is) in
+    one-found a.found b.found waits (same_start waits mine b.found_is)
+    (same_tried waits mine b.found_is) in
     let T : Found → Type 0 = λ f. IsTold (offer_text f) old new text in
     one-told (subst T found a.told) b.told
 

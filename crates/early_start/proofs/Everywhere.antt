@@ -9,55 +9,51 @@ use Rattle.slot_calendar.specs.declared.calendar.Overflow.{Overflow}
 use Rattle.slot_calendar.proofs.Sending.{asked-before}
 use Rattle.early_start.specs.Offered.{Found, IsOffer, IsOfferIn, IsStart, IsStartIn}
 
+-- a calendar stands for plays that book no slot above its capacity
+pub record StandsWithin (calendar : Entries) (plays : List Play) : Type 0 where
+  pub stands : StandsFor calendar plays
+  pub within : (t : ℕ) → booked_by plays t ≤ capacity_at calendar.steps t
+
 -- a plan that fits from the calendar's first slot on fits everywhere: before its start it asks for nothing
-fits_each : {calendar : Entries} {plays : List Play} {start u : ℕ} (segments : List Segment) → StandsFor calendar plays →
-    ((t : ℕ) → booked_by plays t ≤ capacity_at calendar.steps t) → calendar.first < start →
+fits_each : {calendar : Entries} {plays : List Play} {start u : ℕ} (segments : List Segment) → StandsWithin calendar plays → calendar.first < start →
     (calendar.first ≤ u → Fits (booked_at calendar) (capacity_at calendar.steps) start segments u) →
     Fits (booked_by plays) (capacity_at calendar.steps) start segments u
-fits_each {calendar} {start} {u} segments stands within after fits = elim (cases_lt u calendar.first) [
-  | inl early ↦ omega (arith, within u, asked-before segments start u (omega (arith, early, after)))
-  | inr since ↦ omega (arith, stands.each u since, fits since)
+fits_each {calendar} {start} {u} segments its after fits = elim (cases_lt u calendar.first) [
+  | inl early ↦ omega (arith, its.within u, asked-before segments start u (omega (arith, early, after)))
+  | inr since ↦ omega (arith, its.stands.each u since, fits since)
 ]
 
-room_everywhere : {calendar : Entries} {plays : List Play} {start : ℕ} {segments : List Segment} → StandsFor calendar plays →
-    ((t : ℕ) → booked_by plays t ≤ capacity_at calendar.steps t) → calendar.first < start →
+room_everywhere : {calendar : Entries} {plays : List Play} {start : ℕ} {segments : List Segment} → StandsWithin calendar plays → calendar.first < start →
     HasRoom calendar.first (booked_at calendar) (capacity_at calendar.steps) start segments →
     HasRoom 0 (booked_by plays) (capacity_at calendar.steps) start segments
-room_everywhere {start} {segments} stands within after room = record {
-  each = λ u _. fits_each segments stands within after (λ since. room.each u since);
+room_everywhere {start} {segments} its after room = record {
+  each = λ u _. fits_each segments its after (λ since. room.each u since);
 }
 
 overflow_everywhere : {calendar : Entries} {plays : List Play} {start : ℕ} {segments : List Segment}
-    {over : Overflow} → StandsFor calendar plays →
-    ((t : ℕ) → booked_by plays t ≤ capacity_at calendar.steps t) → calendar.first < start →
+    {over : Overflow} → StandsWithin calendar plays → calendar.first < start →
     IsFirstOverflow calendar.first (booked_at calendar) (capacity_at calendar.steps) start segments over →
     IsFirstOverflow 0 (booked_by plays) (capacity_at calendar.steps) start segments over
-overflow_everywhere {start} {segments} {over} stands within after first = record {
+overflow_everywhere {start} {segments} {over} its after first = record {
   begun = omega arith;
-  overflows = omega (arith, stands.each over.slot first.begun, first.overflows);
-  least = λ u _ less. fits_each segments stands within after (λ since. first.least u since less);
-  booked_is = first.booked_is ∙ stands.each over.slot first.begun;
+  overflows = omega (arith, its.stands.each over.slot first.begun, first.overflows);
+  least = λ u _ less. fits_each segments its after (λ since. first.least u since less);
+  booked_is = first.booked_is ∙ its.stands.each over.slot first.begun;
   asked_is = first.asked_is;
 }
 
-start_everywhere : {calendar : Entries} {plays : List Play} {first : ℕ} (segments : List Segment) (wait tried : ℕ)
-    (start : Option ℕ) → StandsFor calendar plays →
-    ((t : ℕ) → booked_by plays t ≤ capacity_at calendar.steps t) → calendar.first < first →
-    IsStartIn calendar segments first wait tried start → IsStart 0 (booked_by plays) (capacity_at calendar.steps) segments first wait tried start
-start_everywhere {first} segments wait tried None stands within after is = is
-start_everywhere {first} segments wait tried (Some start) stands within after is =
-    (is.0, is.1, room_everywhere stands within (omega (arith, is.1, after)) is.2)
-
-pub offer_everywhere : (calendar : Entries) (plays : List Play) (segments : List Segment) (first : ℕ) (found : Found) → StandsFor calendar plays →
-    ((t : ℕ) → booked_by plays t ≤ capacity_at calendar.steps t) → calendar.first < first → IsOfferIn calendar segments first found →
-    IsOffer 0 (booked_by plays) (capacity_at calendar.steps) segments first found
-offer_everywhere calendar plays segments first found stands within after offer = record {
+pub offer_everywhere : {calendar : Entries} {plays : List Play} {segments : List Segment} {first : ℕ} {found : Found} → StandsWithin calendar plays →
+    calendar.first < first → IsOfferIn calendar segments first found → IsOffer 0 (booked_by plays) (capacity_at calendar.steps) segments first found
+offer_everywhere {calendar} {plays} {segments} {first} {found} its after offer = record {
   refusals = record {
     starts = offer.refusals.starts;
-    refused = λ i none inside. (
-        let t = get_or found.tried i none in
-        overflow_everywhere stands within (omega (arith, offer.refusals.starts i none inside, after)) (offer.refusals.refused i none inside)
-        );
+    refused = λ i none inside.
+        overflow_everywhere its (omega (arith, offer.refusals.starts i none inside, after)) (offer.refusals.refused i none inside);
   };
-  start = start_everywhere segments found.wait (length found.tried) found.start stands within after offer.start;
+  start = start_everywhere found.start offer.start;
 }
+  where
+    start_everywhere : (start : Option ℕ) → IsStartIn calendar segments first found.wait (length found.tried) start →
+        IsStart 0 (booked_by plays) (capacity_at calendar.steps) segments first found.wait (length found.tried) start
+    start_everywhere None is = is
+    start_everywhere (Some start) is = (is.0, is.1, room_everywhere its (omega (arith, is.1, after)) is.2)

@@ -32,7 +32,7 @@ refusals_more {from} {booked} {capacity} {segments} {first} {xs} {t} all start r
 refusal_once : {from : ℕ} {booked capacity : ℕ → ℕ} {segments : List Segment} {a b : Tried} → IsRefusal from booked capacity segments a → IsRefusal from booked capacity segments b → a.start ≡ b.start → a ≡ b
 refusal_once {from} {booked} {capacity} {segments} {a} {b} x y start =
     let P : ℕ → Type 0 = λ n. IsFirstOverflow from booked capacity n segments a.over in
-    let over : a.over ≡ b.over = overflow-once from b.start booked capacity segments a.over b.over (subst P start x) y in
+    let over : a.over ≡ b.over = overflow-once (subst P start x) y in
     let S : ℕ → Tried = λ n. record { start = n; over = a.over } in
     let O : Overflow → Tried = λ o. record { start = b.start; over = o } in
     ap S start ∙ ap O over
@@ -44,14 +44,14 @@ no_start : Tried
 no_start = record { start = 0; over = no_overflow }
 
 -- the plan fits at no start that was tried
-pub no_room_tried : (from : ℕ) (booked capacity : ℕ → ℕ) (segments : List Segment) (first : ℕ) (tried : List Tried) (start : ℕ) → AreRefusals from booked capacity segments first tried →
-    first ≤ start → start < first + length tried → CanStart from booked capacity segments start → ⊥
-no_room_tried from booked capacity segments first tried start all begun before room =
+pub no_room_tried : {from : ℕ} {booked capacity : ℕ → ℕ} {segments : List Segment} {first : ℕ} {tried : List Tried} {start : ℕ} →
+    AreRefusals from booked capacity segments first tried → first ≤ start → start < first + length tried → CanStart from booked capacity segments start → ⊥
+no_room_tried {from} {booked} {capacity} {segments} {first} {tried} {start} all begun before room =
     let i = start - first in
     let inside : i < length tried = omega (arith, begun, before) in
     let same : start ≡ first + i = omega (arith, begun) in
     let t = get_or tried i no_start in
-    no-room from t.start booked capacity segments t.over (all.refused i no_start inside) (subst (CanStart from booked capacity segments) (same ∙ sym (all.starts i no_start inside)) room)
+    no-room (all.refused i no_start inside) (subst (CanStart from booked capacity segments) (same ∙ sym (all.starts i no_start inside)) room)
 
 -- the start after those that were tried is no refusal
 nothing_next : {from : ℕ} {booked capacity : ℕ → ℕ} {segments : List Segment} {wait n : ℕ} {t : Tried} (first : ℕ)
@@ -59,19 +59,22 @@ nothing_next : {from : ℕ} {booked capacity : ℕ → ℕ} {segments : List Seg
     t.start ≡ first + n → IsRefusal from booked capacity segments t → ⊥
 nothing_next {from} {capacity} first None is few start refusal = omega (arith, is, few)
 nothing_next {from} {booked} {capacity} {segments} {t} first (Some s) is few start refusal =
-    no-room from t.start booked capacity segments t.over refusal (subst (CanStart from booked capacity segments) (is.1 ∙ sym start) is.2)
+    no-room refusal (subst (CanStart from booked capacity segments) (is.1 ∙ sym start) is.2)
 
-pub few_tried : {n : ℕ} (from : ℕ) (booked capacity : ℕ → ℕ) (segments : List Segment) (first wait : ℕ)
-    (o : Option ℕ) → IsStart from booked capacity segments first wait n o → n ≤ wait + 1
-few_tried from booked capacity segments first wait None is = omega (arith, is)
-few_tried from booked capacity segments first wait (Some s) is = omega (arith, is.0)
+few_tried : {from : ℕ} {booked capacity : ℕ → ℕ} {segments : List Segment} {first : ℕ} {found : Found} →
+    IsOffer from booked capacity segments first found → length found.tried ≤ found.wait + 1
+few_tried {from} {booked} {capacity} {segments} {first} {found} offer = few found.start offer.start
+  where
+    few : (start : Option ℕ) → IsStart from booked capacity segments first found.wait (length found.tried) start → length found.tried ≤ found.wait + 1
+    few None is = omega (arith, is)
+    few (Some s) is = omega (arith, is.0)
 
 -- none tries fewer
 not_fewer : {from : ℕ} {booked capacity : ℕ → ℕ} {segments : List Segment} {first : ℕ} {a b : Found} → a.wait ≡ b.wait → IsOffer from booked capacity segments first a → IsOffer from booked capacity segments first b →
     length a.tried < length b.tried → ⊥
 not_fewer {from} {booked} {capacity} {segments} {first} {a} {b} wait x y less =
     nothing_next first a.start x.start
-    (omega (arith, wait, less, few_tried from booked capacity segments first b.wait b.start y.start))
+    (omega (arith, wait, less, few_tried y))
     (y.refusals.starts (length a.tried) no_start less) (y.refusals.refused (length a.tried) no_start less)
 
 pub as_many : {from : ℕ} {booked capacity : ℕ → ℕ} {segments : List Segment} {first : ℕ} {a b : Found} → a.wait ≡ b.wait → IsOffer from booked capacity segments first a → IsOffer from booked capacity segments first b →
@@ -83,22 +86,23 @@ as_many {from} {capacity} {first} {a} {b} wait x y =
       | inr (inr more) ↦ absurd (not_fewer (sym wait) y x more)
     ]
 
-start_once : {o p : Option ℕ} (from : ℕ) (booked capacity : ℕ → ℕ) (segments : List Segment) (first wait n : ℕ) → IsStart from booked capacity segments first wait n o → IsStart from booked capacity segments first wait n p → o ≡ p
-start_once {o = None} {p = None} from booked capacity segments first wait n x y = refl
-start_once {o = None} {p = Some s} from booked capacity segments first wait n x y = let bad : ⊥ = omega (arith, x, y.0) in absurd bad
-start_once {o = Some s} {p = None} from booked capacity segments first wait n x y = let bad : ⊥ = omega (arith, y, x.0) in absurd bad
-start_once {o = Some s} {p = Some t} from booked capacity segments first wait n x y = ap (λ k. Some k) (x.1 ∙ sym y.1)
-
-pub same_start : (from : ℕ) (booked capacity : ℕ → ℕ) (segments : List Segment) (first : ℕ) (a b : Found) → a.wait ≡ b.wait → IsOffer from booked capacity segments first a → IsOffer from booked capacity segments first b →
+pub same_start : {from : ℕ} {booked capacity : ℕ → ℕ} {segments : List Segment} {first : ℕ} {a b : Found} → a.wait ≡ b.wait → IsOffer from booked capacity segments first a → IsOffer from booked capacity segments first b →
     a.start ≡ b.start
-same_start from booked capacity segments first a b wait x y =
+same_start {from} {booked} {capacity} {segments} {first} {a} {b} wait x y =
     let W : ℕ → Type 0 = λ w. IsStart from booked capacity segments first w (length a.tried) a.start in
     let N : ℕ → Type 0 = λ n. IsStart from booked capacity segments first b.wait n a.start in
-    start_once from booked capacity segments first b.wait (length b.tried) (subst N (as_many wait x y) (subst W wait x.start)) y.start
+    once a.start b.start (subst N (as_many wait x y) (subst W wait x.start)) y.start
+  where
+    once : (one other : Option ℕ) → IsStart from booked capacity segments first b.wait (length b.tried) one →
+        IsStart from booked capacity segments first b.wait (length b.tried) other → one ≡ other
+    once None None p q = refl
+    once None (Some t) p q = let bad : ⊥ = omega (arith, p, q.0) in absurd bad
+    once (Some t) None p q = let bad : ⊥ = omega (arith, q, p.0) in absurd bad
+    once (Some t) (Some u) p q = ap (λ k. Some k) (p.1 ∙ sym q.1)
 
-pub same_tried : (from : ℕ) (booked capacity : ℕ → ℕ) (segments : List Segment) (first : ℕ) (a b : Found) → a.wait ≡ b.wait → IsOffer from booked capacity segments first a → IsOffer from booked capacity segments first b →
+pub same_tried : {from : ℕ} {booked capacity : ℕ → ℕ} {segments : List Segment} {first : ℕ} {a b : Found} → a.wait ≡ b.wait → IsOffer from booked capacity segments first a → IsOffer from booked capacity segments first b →
     a.tried ≡ b.tried
-same_tried from booked capacity segments first a b wait x y =
+same_tried {a} {b} wait x y =
     let many : length a.tried ≡ length b.tried = as_many wait x y in
     same_lists a.tried b.tried many (λ k none below.
     let below' : k < length b.tried = omega (arith, many, below) in

@@ -7,9 +7,18 @@ use Rattle.film_frames.specs.Runs.{run_of, pieces_in, run_pieces}
 use Rattle.film_frames.proofs.RunLemmas.{blocks_from-count}
 use Rattle.film_frames.proofs.SentLemmas.{run-begin}
 
-pub same-boundaries : {place : ℕ} (film : Film) (first end : ℕ) (one other : Identity) → first ≤ end → end ≤ length film.units.items
-    → IsBoundary (run_pieces (run_of film first end one)) place → IsBoundary (run_pieces (run_of film first end other)) place
-same-boundaries {place} film first end one other order within b =
+-- units of a film, from one on up to another
+pub record FilmPart : Type 0 where
+  pub film : Film
+  pub first : ℕ
+  pub end : ℕ
+  pub order : first ≤ end
+  pub within : end ≤ length film.units.items
+
+pub same-boundaries : {place : ℕ} (part : FilmPart) (one other : Identity)
+    → IsBoundary (run_pieces (run_of part.film part.first part.end one)) place
+    → IsBoundary (run_pieces (run_of part.film part.first part.end other)) place
+same-boundaries {place} part one other b =
     let a_run = run_of film first end one in
     let b_run = run_of film first end other in
     let a = run-begin film first end one a_run b.number (record { view = refl; order = order; within = within }) in
@@ -19,3 +28,5 @@ same-boundaries {place} film first end one other order within b =
       among = omega (arith, b.among, blocks_from-count a_run 0 0 (pieces_in a_run), blocks_from-count b_run 0 0 (pieces_in b_run));
       place_is = b.place_is ∙ a ∙ sym c;
     }
+  where
+    open part use {film, first, end, order, within}

@@ -11,23 +11,32 @@ use Rattle.film_run.specs.declared.runs.Run.{Run}
 use Rattle.film_run.specs.declared.plans.Playback.{Playback}
 use Rattle.film_run.specs.Runs.{Fits, IsRun, bytes_between}
 use Rattle.film_run.specs.Plans.{IsPlanOf, IsPlayback, rest_sizes, timing_of}
-use Rattle.film_run.specs.Pauses.{IsHalt, IsStop}
+use Rattle.film_run.specs.Pauses.{IsHalt, IsLeft, IsStop}
 use Rattle.film_run.proofs.CurveLaws.{KeepsTo, keeps-to, limits, total-of-rest}
 use Rattle.film_run.proofs.SumLaws.{bytes-first, bytes-join, bytes-most, length-between}
-use Rattle.film_run.proofs.UsedLaws.{used-front}
+use Rattle.film_run.proofs.UsedLaws.{IsUnusedFrom, used-front}
 
 pub halt-within : (plan : List Segment) (last : Option ℕ) (keep : ℕ) → IsHalt plan last keep → keep ≤ total_bytes plan
 halt-within plan None keep halt = omega arith
 halt-within plan (Some last) keep halt = halt.2
 
+-- a play of the plan is halted, and the slot of the stop is one of the plan
+pub record StopsWithin (plan : List Segment) (last : Option ℕ) (keep stop : ℕ) : Type 0 where
+  pub halt : IsHalt plan last keep
+  pub stop_is : IsStop plan last keep stop
+  pub inside : stop < total_slots plan
+
 -- what was played was sent
 pub stop-ahead : {sizes : List ℕ} {timing : Timing} {plan : List Segment} {stop : ℕ} (last : Option ℕ) (keep : ℕ) → IsWithinLimits sizes timing
-    → KeepsTo sizes timing plan → IsHalt plan last keep → IsStop plan last keep stop → stop < total_slots plan
+    → KeepsTo sizes timing plan → StopsWithin plan last keep stop
     → used_before sizes timing stop ≤ timing.sent + keep
-stop-ahead {sizes} {timing} {stop} None keep limits keeps halt is inside =
-    let first : used_before sizes timing stop ≡ used_before sizes timing 0 = ap (used_before sizes timing) is in
+stop-ahead {sizes} {timing} {stop} None keep limits keeps stops =
+    let first : used_before sizes timing stop ≡ used_before sizes timing 0 = ap (used_before sizes timing) stops.stop_is in
     omega (arith, first, used_before-none sizes timing, limits.played_was_sent)
-stop-ahead {sizes} {timing} {plan} {stop} (Some last) keep limits keeps halt is inside =
+stop-ahead {sizes} {timing} {plan} {stop} (Some last) keep limits keeps stops =
+    let halt = stops.halt in
+    let is = stops.stop_is in
+    let inside : stop < total_slots plan = stops.inside in
     elim (cases_lt 0 stop) [
       | inl some ↦
           let t = stop - 1 in
@@ -45,12 +54,14 @@ stop-ahead {sizes} {timing} {plan} {stop} (Some last) keep limits keeps halt is 
 
 -- what was sent and isn't played fits in the buffer
 pub stop-fits : {sizes : List ℕ} {timing : Timing} {plan : List Segment} {stop : ℕ} (last : Option ℕ) (keep : ℕ) → IsWithinLimits sizes timing
-    → KeepsTo sizes timing plan → IsHalt plan last keep → IsStop plan last keep stop → stop < total_slots plan
+    → KeepsTo sizes timing plan → StopsWithin plan last keep stop
     → timing.sent + keep ≤ used_before sizes timing stop + timing.buffer
-stop-fits {sizes} {timing} {stop} None keep limits keeps halt is inside =
-    let first : used_before sizes timing stop ≡ used_before sizes timing 0 = ap (used_before sizes timing) is in
+stop-fits {sizes} {timing} {stop} None keep limits keeps stops =
+    let first : used_before sizes timing stop ≡ used_before sizes timing 0 = ap (used_before sizes timing) stops.stop_is in
     omega (arith, first, used_before-none sizes timing, limits.sent_fits_buffer)
-stop-fits {plan} {stop} (Some last) keep limits keeps halt is inside =
+stop-fits {plan} {stop} (Some last) keep limits keeps stops =
+    let is = stops.stop_is in
+    let inside : stop < total_slots plan = stops.inside in
     let below = keeps.below stop (omega (arith, keeps.slots)) in
     let rises = sum_through_rises plan is.0 stop (omega (arith, is.1.1)) in
     omega (arith, is.1.0.reached)
@@ -64,12 +75,6 @@ pub record IsHalting (sizes : List ℕ) (playback : Playback) (run : Run) (plan 
   pub small : sum sizes ≤ 2 ^ 42
   pub planned : IsPlanOf sizes playback run plan
   pub halt : IsHalt plan last keep
-
-pub halting : {sizes : List ℕ} {playback : Playback} {run : Run} {plan : List Segment} {last : Option ℕ} {keep : ℕ}
-    → IsPlayback playback → IsRun sizes run → Fits playback.buffer run → length sizes ≤ 4194304 → sum sizes ≤ 2 ^ 42 → IsPlanOf sizes playback run plan → IsHalt plan last keep
-    → IsHalting sizes playback run plan last keep
-halting {last} plays is fits few small planned halt =
-    record { plays = plays; is = is; fits = fits; few = few; small = small; planned = planned; halt = halt }
 
 pub halting-limits : {sizes : List ℕ} {playback : Playback} {run : Run} {plan : List Segment} {last : Option ℕ}
     {keep : ℕ}
@@ -105,10 +110,10 @@ kept-small {sizes} {run} {last} h = omega (
 
 -- the last picture isn't used before the slot of the stop
 pub goes-on : {sizes : List ℕ} {playback : Playback} {run : Run} {plan : List Segment} {last : Option ℕ} {keep : ℕ}
-    (from stop : ℕ)
+    {stop : ℕ} (from : ℕ)
     → IsHalting sizes playback run plan last keep → run.from_unit ≤ from → from < run.end_unit → stop < total_slots plan
     → due_slot (timing_of playback run) (from - run.from_unit) < stop → from + 1 < run.end_unit
-goes-on {sizes} {playback} {run} {last} from stop h order within inside used =
+goes-on {sizes} {playback} {run} {last} from h order within inside used =
     let count = length-between sizes run.from_unit run.end_unit h.is.within in
     let keeps = halting-keeps h in
     elim (cases_lt (from + 1) run.end_unit) [
@@ -119,18 +124,28 @@ goes-on {sizes} {playback} {run} {last} from stop h order within inside used =
           absurd (omega (arith, same, keeps.slots))
     ]
 
+-- the pictures before unit `from` are used before slot `stop`, and it isn't
+pub record IsPlayedTo (playback : Playback) (run : Run) (from stop : ℕ) : Type 0 where
+  pub not_back : run.from_unit ≤ from
+  pub within : from < run.end_unit
+  pub used : (unit : ℕ) → run.from_unit ≤ unit → unit < from → due_slot (timing_of playback run) (unit - run.from_unit) < stop
+  pub unused : stop ≤ due_slot (timing_of playback run) (from - run.from_unit)
+
 -- the bytes that were played
-pub played-by : {sizes : List ℕ} {playback : Playback} {run : Run} (from stop : ℕ) → IsPlayback playback → IsRun sizes run → run.from_unit ≤ from
-    → from < run.end_unit → ((unit : ℕ) → run.from_unit ≤ unit → unit < from → due_slot (timing_of playback run) (unit - run.from_unit) < stop)
-    → stop ≤ due_slot (timing_of playback run) (from - run.from_unit)
+pub played-by : {sizes : List ℕ} {playback : Playback} {run : Run} {from stop : ℕ} → IsPlayback playback → IsRun sizes run
+    → IsPlayedTo playback run from stop
     → bytes_between sizes run.first_unit from ≡ used_before (rest_sizes sizes run) (timing_of playback run) stop
-played-by {sizes} {playback} {run} from stop plays is order within used unused =
+played-by {sizes} {playback} {run} {from} {stop} plays is played =
+    let order : run.from_unit ≤ from = played.not_back in
+    let within : from < run.end_unit = played.within in
     let n = from - run.from_unit in
     let count = length-between sizes run.from_unit run.end_unit is.within in
     let its = λ (k : ℕ) (lt : k < n).
     let back : (run.from_unit + k) - run.from_unit ≡ k = omega arith in
-    subst (λ u. due_slot (timing_of playback run) u < stop) back (used (run.from_unit + k) (omega arith) (omega arith)) in
-    let front = used-front (rest_sizes sizes run) (timing_of playback run) stop n plays.some_slot_units (omega (arith, count)) its unused in
+    subst (λ u. due_slot (timing_of playback run) u < stop) back (played.used (run.from_unit + k) (omega arith) (omega arith)) in
+    let unused : IsUnusedFrom (rest_sizes sizes run) (timing_of playback run) stop n =
+    record { some = plays.some_slot_units; fits = omega (arith, count); unused = played.unused } in
+    let front = used-front unused its in
     let first = bytes-first sizes run.from_unit run.end_unit n (omega arith) in
     let end : run.from_unit + n ≡ from = omega arith in
     let same = ap (bytes_between sizes run.from_unit) end in
@@ -138,29 +153,32 @@ played-by {sizes} {playback} {run} from stop plays is order within used unused =
 
 -- what is left is a run
 pub left-run : {sizes : List ℕ} {playback : Playback} {run left : Run} {plan : List Segment} {last : Option ℕ}
-    {keep stop : ℕ}
-    → IsHalting sizes playback run plan last keep → IsStop plan last keep stop → stop < total_slots plan
-    → left.first_unit ≡ run.first_unit → left.end_unit ≡ run.end_unit → left.sent ≡ run.sent + keep
-    → run.from_unit ≤ left.from_unit → left.from_unit < run.end_unit
-    → left.played ≡ bytes_between sizes run.first_unit left.from_unit
-    → bytes_between sizes run.first_unit left.from_unit ≡ used_before (rest_sizes sizes run) (timing_of playback run) stop
-    → IsRun sizes left × Fits playback.buffer left
-left-run {sizes} {run} {left} {last} {keep} {stop} h stops inside first_is end_is sent_is not_back rest played_is used_is =
+    {keep : ℕ}
+    → IsHalting sizes playback run plan last keep → (its : IsLeft sizes playback run plan last keep left) → its.stop < total_slots plan
+    → left.from_unit < run.end_unit → IsRun sizes left × Fits playback.buffer left
+left-run {sizes} {playback} {run} {left} {plan} {last} {keep} h its inside rest =
+    let stops : StopsWithin plan last keep its.stop = record { halt = h.halt; stop_is = its.stop_is; inside = inside } in
+    let to : IsPlayedTo playback run left.from_unit its.stop =
+    record { not_back = its.not_back; within = rest; used = its.used; unused = its.unused } in
+    let used_is = played-by h.plays h.is to in
+    let first_is = its.first_is in
+    let end_is = its.end_is in
+    let not_back = its.not_back in
     let within = halting-limits h in
     let keeps = halting-keeps h in
-    let ahead = stop-ahead last keep within keeps h.halt stops inside in
-    let held = stop-fits last keep within keeps h.halt stops inside in
+    let ahead = stop-ahead last keep within keeps stops in
+    let held = stop-fits last keep within keeps stops in
     let whole = kept-whole h in
     let all : bytes_between sizes left.first_unit left.end_unit ≡ bytes_between sizes run.first_unit run.end_unit =
     ap (λ f. bytes_between sizes f left.end_unit) first_is ∙ ap (λ e. bytes_between sizes run.first_unit e) end_is in
     let front = ap (λ f. bytes_between sizes f left.from_unit) first_is in (
       record {
-        order = omega (arith, h.is.order);
-        rest = omega arith;
-        within = omega (arith, h.is.within);
-        played_is = played_is ∙ sym front;
-        ahead = omega (arith, ahead);
-        whole = omega (arith, whole, all);
+        order = omega (arith, h.is.order, first_is, not_back);
+        rest = omega (arith, rest, end_is);
+        within = omega (arith, h.is.within, end_is);
+        played_is = its.played_is ∙ sym used_is ∙ sym front;
+        ahead = omega (arith, ahead, its.played_is, its.sent_is);
+        whole = omega (arith, whole, all, its.sent_is);
       },
-      omega (arith, held),
+      omega (arith, held, its.played_is, its.sent_is),
     )

@@ -13,7 +13,7 @@ use Rattle.film_run.specs.Pauses.{IsHalt, IsLeft, IsStop, ReachesAt}
 use Rattle.film_run.specs.Laws.{GoesOn, IsSending, LeavesRun}
 use Rattle.film_run.proofs.SumLaws.{length-between}
 use Rattle.film_run.proofs.CurveLaws.{total-of-rest}
-use Rattle.film_run.proofs.HaltLaws.{IsHalting, left-run, played-by}
+use Rattle.film_run.proofs.HaltLaws.{IsHalting, left-run}
 use Rattle.film_run.proofs.PlayLaws.{sending-keeps}
 
 reaches-once : (plan : List Segment) (bytes one other : ℕ) → ReachesAt plan bytes one → ReachesAt plan bytes other → one ≤ other
@@ -54,22 +54,27 @@ run-same {one} {other} first end from sent played =
     let e : run-with other.first_unit other.end_unit other.from_unit other.sent one.played ≡ other = ap (λ n. run-with other.first_unit other.end_unit other.from_unit other.sent n) played in
     a ∙ b ∙ c ∙ d ∙ e
 
-pub left-one : (sizes : List ℕ) (playback : Playback) (run left other : Run) (plan : List Segment) (last : Option ℕ) (keep : ℕ)
+pub left-one : {sizes : List ℕ} {playback : Playback} {run left other : Run} {plan : List Segment} {last : Option ℕ} {keep : ℕ}
     → IsLeft sizes playback run plan last keep left → IsLeft sizes playback run plan last keep other → other ≡ left
-left-one sizes playback run left other plan last keep is its =
+left-one {sizes} {playback} {run} {plan} {last} {keep} is its =
     let stops = stop-one plan last keep its.stop_is is.stop_is in
     let below = from-once is its in
     let above = from-once its is in
     run-same (its.first_is ∙ sym is.first_is) (its.end_is ∙ sym is.end_is) (omega arith) (its.sent_is ∙ sym is.sent_is)
     (its.played_is ∙ ap (used_before (rest_sizes sizes run) (timing_of playback run)) stops ∙ sym is.played_is)
 
+-- a plan of some slots has sent all its bytes by the end of the last one
+record HasSentAll (plan : List Segment) : Type 0 where
+  pub some : 0 < total_slots plan
+  pub end : total_bytes plan ≤ sum_through plan (total_slots plan - 1)
+
 -- the slot of the stop is one of the plan
-stop-inside : {stop : ℕ} (plan : List Segment) (last : Option ℕ) (keep : ℕ) → 0 < total_slots plan
-    → total_bytes plan ≤ sum_through plan (total_slots plan - 1) → IsHalt plan last keep → IsStop plan last keep stop → stop < total_slots plan
-stop-inside {stop} plan None keep some end halt is = omega arith
-stop-inside {stop} plan (Some last) keep some end halt is =
+stop-inside : {stop : ℕ} (plan : List Segment) (last : Option ℕ) (keep : ℕ) → HasSentAll plan → IsHalt plan last keep
+    → IsStop plan last keep stop → stop < total_slots plan
+stop-inside {stop} plan None keep all halt is = omega (arith, all.some)
+stop-inside {stop} plan (Some last) keep all halt is =
     elim (cases_lt (total_slots plan - 1) is.0) [
-      | inl past ↦ let h = is.1.0.not_before (total_slots plan - 1) past in absurd (omega (arith, h, end, halt.2))
+      | inl past ↦ let h = is.1.0.not_before (total_slots plan - 1) past in absurd (omega (arith, h, all.end, halt.2))
       | inr within ↦ omega (arith, halt.0, is.1.1)
     ]
 
@@ -90,7 +95,7 @@ halted-plays sizes playback run plan is = λ last keep left halt its.
     let use_at = ap (used_before rest timing) last_place in
     let sum_at = ap (sum_through plan) last_slot in
     let end : total_bytes plan ≤ sum_through plan (total_slots plan - 1) = omega (arith, above, whole_use, use_at, sum_at, keeps.bytes) in
-    let inside = stop-inside plan last keep some end halt its.stop_is in
+    let inside = stop-inside plan last keep (record { some = some; end = end }) halt its.stop_is in
     let within : left.from_unit < run.end_unit =
     elim (cases_lt left.from_unit run.end_unit) [
       | inl less ↦ less
@@ -100,7 +105,6 @@ halted-plays sizes playback run plan is = λ last keep left halt its.
           let same = ap (due_slot timing) last_picture in
           absurd (omega (arith, used, same, keeps.slots, inside))
     ] in
-    let played = played-by left.from_unit its.stop can.playback_is can.run_is its.not_back within its.used its.unused in
     let h : IsHalting sizes playback run plan last keep = record {
       plays = can.playback_is;
       is = can.run_is;
@@ -110,7 +114,7 @@ halted-plays sizes playback run plan is = λ last keep left halt its.
       planned = is.plan_is;
       halt = halt;
     } in
-    let whole = left-run h its.stop_is inside its.first_is its.end_is its.sent_is its.not_back within (its.played_is ∙ sym played) played in
+    let whole = left-run h its inside within in
     record { sizes_are = can.sizes_are; playback_is = can.playback_is; run_is = whole.0; fits = whole.1 }
 
 pub goes-on-after : (sizes : List ℕ) (playback : Playback) (run : Run) (plan : List Segment) → IsSending sizes playback run plan

@@ -13,9 +13,22 @@ use Rattle.film_run.specs.Runs.{EndsAtBoundary, IsNewRun, IsRun, bytes_between}
 use Rattle.film_run.specs.Seeks.{BeginsBy, IsAsked, IsEnd, IsGroupBy, IsReversed}
 use Rattle.film_run.proofs.SumLaws.{bytes-none}
 
-pub new-run : {sizes : List ℕ} {first end : ℕ} {run : Run} → first < end → end ≤ length sizes → run.first_unit ≡ first → run.end_unit ≡ end
-    → run.from_unit ≡ first → run.sent ≡ 0 → run.played ≡ 0 → IsNewRun sizes first end run
-new-run {sizes} {first} {end} {run} some within first_is end_is from_is sent_is played_is =
+-- a run of which nothing was sent
+pub record BeginsAt (first end : ℕ) (run : Run) : Type 0 where
+  pub first_is : run.first_unit ≡ first
+  pub end_is : run.end_unit ≡ end
+  pub from_is : run.from_unit ≡ first
+  pub sent_is : run.sent ≡ 0
+  pub played_is : run.played ≡ 0
+
+pub new-run : {sizes : List ℕ} {first end : ℕ} {run : Run} → first < end → end ≤ length sizes → BeginsAt first end run
+    → IsNewRun sizes first end run
+new-run {sizes} {first} {end} {run} some within begins =
+    let first_is = begins.first_is in
+    let end_is = begins.end_is in
+    let from_is = begins.from_is in
+    let sent_is = begins.sent_is in
+    let played_is = begins.played_is in
     let none : bytes_between sizes run.first_unit run.from_unit ≡ 0 =
     subst (λ u. bytes_between sizes run.first_unit u ≡ 0) (first_is ∙ sym from_is) (bytes-none sizes run.first_unit) in
     let run_is : IsRun sizes run = record {
@@ -53,20 +66,31 @@ times-of {from} {to} {run} {units} {unit_time} {first} {end} rest begins ends wi
       within = omega arith;
     }
 
+-- the units that times ask for, of a list of units and with the time of one
+pub record AsksFor (from : ℕ) (to : Option ℕ) (units : List PictureUnit) (unit_time first end : ℕ) : Type 0 where
+  pub order : ¬ IsReversed from to
+  pub rest : ¬ BeginsBy unit_time from (length units)
+  pub begins : IsGroupBy units unit_time from first
+  pub ends : IsEnd units unit_time to first end
+  pub some : first < end
+  pub within : end ≤ length units
+
 pub asked : {film : Film} {from : ℕ} {to : Option ℕ} {run : Run} {units : List PictureUnit} {unit_time first end : ℕ}
-    → units ≡ film.units.items → unit_time ≡ picture_time film.rate → ¬ IsReversed from to → ¬ BeginsBy unit_time from (length units)
-    → IsGroupBy units unit_time from first → IsEnd units unit_time to first end → first < end → end ≤ length units
-    → run.first_unit ≡ first → run.end_unit ≡ end → run.from_unit ≡ first → run.sent ≡ 0 → run.played ≡ 0 → IsAsked film from to run
-asked {film} {from} {to} {run} {unit_time} {first} {end} units_are time_is order rest begins ends some within first_is end_is from_is sent_is played_is =
-    let its = times-of rest begins ends within first_is end_is in
+    → units ≡ film.units.items → unit_time ≡ picture_time film.rate → AsksFor from to units unit_time first end → BeginsAt first end run
+    → IsAsked film from to run
+asked {film} {from} {to} {run} {unit_time} {first} {end} units_are time_is asks at =
+    let first_is = at.first_is in
+    let end_is = at.end_is in
+    let some : first < end = asks.some in
+    let its = times-of asks.rest asks.begins asks.ends asks.within first_is end_is in
     let of_film : Times from to run film.units.items (picture_time film.rate) =
     subst (λ t. Times from to run film.units.items t) time_is (subst (λ l. Times from to run l unit_time) units_are its) in
     let count : length (film_sizes film.slice_starts.items film.units.items) ≡ length film.units.items = length-map film.units.items (λ u. wire_size film.slice_starts.items u) in
     record {
-      some = λ nothing. elim nothing [ inl ended ↦ of_film.rest ended | inr reversed ↦ order reversed ];
+      some = λ nothing. elim nothing [ inl ended ↦ of_film.rest ended | inr reversed ↦ asks.order reversed ];
       begins = of_film.begins;
       ends = of_film.ends;
       new =
           new-run (omega arith) (omega (arith, of_film.within, count))
-          refl refl (from_is ∙ sym first_is) sent_is played_is;
+          (record { first_is = refl; end_is = refl; from_is = at.from_is ∙ sym first_is; sent_is = at.sent_is; played_is = at.played_is });
     }

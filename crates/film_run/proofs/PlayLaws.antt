@@ -12,7 +12,7 @@ use Rattle.film_run.specs.Runs.{bytes_between}
 use Rattle.film_run.specs.Plans.{IsBestPlanOf, rest_sizes, timing_of}
 use Rattle.film_run.specs.Laws.{AreInTime, DoesFit, IsOnlyPlan, IsSending}
 use Rattle.film_run.proofs.SumLaws.{bytes-first, bytes-join, length-between}
-use Rattle.film_run.proofs.UsedLaws.{used_of, used-part, used-rest}
+use Rattle.film_run.proofs.UsedLaws.{IsUnusedFrom, used_of, used-part, used-rest}
 use Rattle.film_run.proofs.CurveLaws.{KeepsTo, best-of, keeps-to, limits}
 
 pub sending-limits : (sizes : List ℕ) (playback : Playback) (run : Run) (plan : List Segment) → IsSending sizes playback run plan
@@ -60,9 +60,12 @@ used-least sizes timing t n fits used =
     omega (arith, part, more, all)
 
 -- only the first pictures are
-used-most : (sizes : List ℕ) (timing : Timing) (t n : ℕ) → 1 ≤ timing.slot_units → n ≤ length sizes → t ≤ due_slot timing n
+used-most : {sizes : List ℕ} {timing : Timing} {t n : ℕ} → IsUnusedFrom sizes timing t n
     → used_before sizes timing t ≤ timing.played + sum (take n sizes)
-used-most sizes timing t n some fits unused =
+used-most {sizes} {timing} {t} {n} is =
+    let some = is.some in
+    let fits : n ≤ length sizes = is.fits in
+    let unused : t ≤ due_slot timing n = is.unused in
     let later = λ (k : ℕ) (le : n ≤ k). let rises = due_rises timing n k some le in let h : t ≤ due_slot timing k = omega arith in h in
     let rest = used-rest sizes timing t n (length sizes - n) later in
     let same : n + (length sizes - n) ≡ length sizes = omega arith in
@@ -108,6 +111,7 @@ sending-fits sizes playback run plan is = λ slot unit inside at before.
     let count = length-between sizes run.from_unit run.end_unit is.can_play.run_is.within in
     let keeps = sending-keeps sizes playback run plan is in
     let below = keeps.below slot (omega (arith, keeps.slots)) in
-    let most = used-most rest timing slot k some (omega (arith, count, at.from, at.before_end)) before in
+    let unused : IsUnusedFrom rest timing slot k = record { some = some; fits = omega (arith, count, at.from, at.before_end); unused = before } in
+    let most = used-most unused in
     let front = front-bytes unit is at.from (omega (arith, at.before_end)) in
     omega (arith, below, most, front)

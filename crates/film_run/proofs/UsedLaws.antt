@@ -41,10 +41,19 @@ used-rest sizes timing t n (suc d) unused =
     let next = ap (λ m. sum_by (used_of sizes timing t) (range_with_len 0 m)) same in
     omega (arith, before, more, here, next)
 
+-- at most the first n pictures are used before slot t
+pub record IsUnusedFrom (sizes : List ℕ) (timing : Timing) (t n : ℕ) : Type 0 where
+  pub some : 1 ≤ timing.slot_units
+  pub fits : n ≤ length sizes
+  pub unused : t ≤ due_slot timing n
+
 -- the first pictures are used before a slot, and the next one isn't
-pub used-front : (sizes : List ℕ) (timing : Timing) (t n : ℕ) → 1 ≤ timing.slot_units → n ≤ length sizes
-    → ((k : ℕ) → k < n → due_slot timing k < t) → t ≤ due_slot timing n → used_before sizes timing t ≡ timing.played + sum (take n sizes)
-used-front sizes timing t n some fits used unused =
+pub used-front : {sizes : List ℕ} {timing : Timing} {t n : ℕ} → IsUnusedFrom sizes timing t n
+    → ((k : ℕ) → k < n → due_slot timing k < t) → used_before sizes timing t ≡ timing.played + sum (take n sizes)
+used-front {sizes} {timing} {t} {n} is used =
+    let some = is.some in
+    let fits : n ≤ length sizes = is.fits in
+    let unused : t ≤ due_slot timing n = is.unused in
     let front = used-part sizes timing t n fits used in
     let later = λ (k : ℕ) (le : n ≤ k). let rises = due_rises timing n k some le in let h : t ≤ due_slot timing k = omega arith in h in
     let rest = used-rest sizes timing t n (length sizes - n) later in

@@ -11,22 +11,32 @@ use Rattle.film_run.specs.Plans.{timing_of}
 use Rattle.film_run.specs.Pauses.{IsStop}
 use Rattle.film_run.specs.Laws.{AreUsedOnTime, CountsUsed, IsSending, IsUsedBy, use_slot}
 
--- a picture that is used before the slot of the stop, and one that is used in it or later
-used-before-stop : {stop : ℕ} (playback : Playback) (run : Run) (plan : List Segment) (last : Option ℕ)
-    (keep unit : ℕ)
-    → IsStop plan last keep stop → use_slot playback run unit < stop → IsUsedBy playback run plan last keep unit
-used-before-stop {stop} playback run plan None keep unit is less = absurd (omega arith)
-used-before-stop {stop} playback run plan (Some last) keep unit is less =
+-- a picture of a run whose play by a plan is halted, and the bytes that are kept
+record HaltedPicture : Type 0 where
+  pub playback : Playback
+  pub run : Run
+  pub plan : List Segment
+  pub keep : ℕ
+  pub unit : ℕ
+
+-- one that is used before the slot of the stop, and one that is used in it or later
+used-before-stop : {stop : ℕ} (picture : HaltedPicture) (last : Option ℕ) → IsStop picture.plan last picture.keep stop
+    → use_slot picture.playback picture.run picture.unit < stop
+    → IsUsedBy picture.playback picture.run picture.plan last picture.keep picture.unit
+used-before-stop {stop} picture None is less = absurd (omega arith)
+used-before-stop {stop} picture (Some last) is less =
     elim (cases_lt (use_slot playback run unit) last) [
       | inl before ↦ inl before
       | inr from ↦ inr (is.1.0.not_before (use_slot playback run unit) (omega (arith, is.1.1)))
     ]
+  where
+    open picture use {playback, run, unit}
 
-unused-from-stop : {stop : ℕ} (playback : Playback) (run : Run) (plan : List Segment) (last : Option ℕ)
-    (keep unit : ℕ)
-    → IsStop plan last keep stop → stop ≤ use_slot playback run unit → IsUsedBy playback run plan last keep unit → ⊥
-unused-from-stop {stop} playback run plan None keep unit is from its = its
-unused-from-stop {stop} playback run plan (Some last) keep unit is from its =
+unused-from-stop : {stop : ℕ} (picture : HaltedPicture) (last : Option ℕ) → IsStop picture.plan last picture.keep stop
+    → stop ≤ use_slot picture.playback picture.run picture.unit
+    → IsUsedBy picture.playback picture.run picture.plan last picture.keep picture.unit → ⊥
+unused-from-stop {stop} picture None is from its = its
+unused-from-stop {stop} picture (Some last) is from its =
     elim its [
       | inl before ↦ omega (arith, is.1.1)
       | inr early ↦
@@ -34,20 +44,23 @@ unused-from-stop {stop} playback run plan (Some last) keep unit is from its =
           let reached = is.1.0.reached in
           omega arith
     ]
+  where
+    open picture use {playback, run, plan, unit}
 
 pub counts-used : (sizes : List ℕ) (playback : Playback) (run : Run) (plan : List Segment) → IsSending sizes playback run plan
     → CountsUsed sizes playback run plan
-counts-used sizes playback run plan is = λ last keep left unit its at. (
-  λ before. used-before-stop playback run plan last keep unit its.stop_is (its.used unit at.from before),
-  λ used.
-      elim (cases_lt unit left.from_unit) [
-        | inl before ↦ before
-        | inr from ↦
-            let some = is.can_play.playback_is.some_slot_units in
-            let rises = due_rises (timing_of playback run) (left.from_unit - run.from_unit) (unit - run.from_unit) some (omega arith) in
-            absurd (unused-from-stop playback run plan last keep unit its.stop_is (omega (arith, its.unused)) used)
-      ],
-)
+counts-used sizes playback run plan is = λ last keep left unit its at.
+    let picture : HaltedPicture = record { playback = playback; run = run; plan = plan; keep = keep; unit = unit } in (
+      λ before. used-before-stop picture last its.stop_is (its.used unit at.from before),
+      λ used.
+          elim (cases_lt unit left.from_unit) [
+            | inl before ↦ before
+            | inr from ↦
+                let some = is.can_play.playback_is.some_slot_units in
+                let rises = due_rises (timing_of playback run) (left.from_unit - run.from_unit) (unit - run.from_unit) some (omega arith) in
+                absurd (unused-from-stop picture last its.stop_is (omega (arith, its.unused)) used)
+          ],
+    )
 
 -- a picture is used in the slot in which its time begins
 pub used-on-time : (sizes : List ℕ) (playback : Playback) (run : Run) (plan : List Segment) → IsSending sizes playback run plan

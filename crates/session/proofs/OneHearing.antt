@@ -241,8 +241,7 @@ module _ (old : Standing) (message : List ℕ) (ask again : Ask) (one other : St
       (next_boundary play.pacer) its.left) film its.left_is in
       let left = subst (λ (l : Option ℕ). IsLeft (stored_sizes is.stored) (playback_of is.stored.film old.settings setup) play.run play.plan l
       (next_boundary play.pacer) its.left) last of_film in
-      let runs = left-one (stored_sizes is.stored) (playback_of is.stored.film old.settings setup) play.run is.left its.left play.plan is.last
-      (next_boundary play.pacer) is.left_is left in
+      let runs = left-one is.left_is left in
       halts_once sequence setup play (Paused is.left) (Paused its.left) (ap (λ r. Paused r) runs) is.asks its.asks
 
   pauses_once : (state : State) (sequence : ℕ) → Pauses state old sequence ask one → Pauses state old sequence again other → Agree

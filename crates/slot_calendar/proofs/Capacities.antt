@@ -13,17 +13,28 @@ capacity-rest (s ∷ rest) t bytes later =
     let here : capacity_after t bytes s ≡ bytes = cond-false (nat_le s.from t) s.bytes bytes (lt-leb s.from t after) in
     ap (λ b. fold (capacity_after t) b rest) here ∙ capacity-rest rest t bytes (λ i less. later (suc i) (omega (arith, less)))
 
-capacity-from : (steps : List CapStep) (index t bytes : ℕ) → index < length steps → (step_at steps index).from ≤ t →
-    ((i : ℕ) → index < i → i < length steps → t < (step_at steps i).from) → fold (capacity_after t) bytes steps ≡ (step_at steps index).bytes
-capacity-from [] index t bytes inside begun last = absurd (omega (arith, inside))
-capacity-from (s ∷ rest) zero t bytes inside begun last =
-    let here : capacity_after t bytes s ≡ s.bytes = cond-true (nat_le s.from t) s.bytes bytes (le-leb s.from t begun) in
-    ap (λ b. fold (capacity_after t) b rest) here ∙ capacity-rest rest t s.bytes (λ i less. last (suc i) (omega arith) (omega (arith, less)))
-capacity-from (s ∷ rest) (suc k) t bytes inside begun last =
-    capacity-from rest k t (capacity_after t bytes s) (omega (arith, inside)) begun (λ i more less. last (suc i) (omega (arith, more)) (omega (arith, less)))
+-- the latest step that begins at or before a slot
+record IsLatest (steps : List CapStep) (index t : ℕ) : Type 0 where
+  pub inside : index < length steps
+  pub begun : (step_at steps index).from ≤ t
+  pub last : (i : ℕ) → index < i → i < length steps → t < (step_at steps i).from
+
+capacity-from : (steps : List CapStep) (index t bytes : ℕ) → IsLatest steps index t
+    → fold (capacity_after t) bytes steps ≡ (step_at steps index).bytes
+capacity-from [] index t bytes latest = absurd (omega (arith, latest.inside))
+capacity-from (s ∷ rest) zero t bytes latest =
+    let here : capacity_after t bytes s ≡ s.bytes = cond-true (nat_le s.from t) s.bytes bytes (le-leb s.from t latest.begun) in
+    ap (λ b. fold (capacity_after t) b rest) here
+    ∙ capacity-rest rest t s.bytes (λ i less. latest.last (suc i) (omega arith) (omega (arith, less)))
+capacity-from (s ∷ rest) (suc k) t bytes latest = capacity-from rest k t (capacity_after t bytes s) (record {
+  inside = omega (arith, latest.inside);
+  begun = latest.begun;
+  last = λ i more less. latest.last (suc i) (omega (arith, more)) (omega (arith, less));
+})
 
 pub capacity-is : (steps : List CapStep) (t bytes : ℕ) → IsCapacity steps t bytes → capacity_at steps t ≡ bytes
-capacity-is steps t bytes is = capacity-from steps is.index t 0 is.inside is.begun is.last ∙ sym is.bytes_are
+capacity-is steps t bytes is =
+    capacity-from steps is.index t 0 (record { inside = is.inside; begun = is.begun; last = is.last }) ∙ sym is.bytes_are
 
 pub ascends : (steps : List CapStep) (i d : ℕ) → IsProfile steps → i + d < length steps → (step_at steps i).from ≤ (step_at steps (i + d)).from
 ascends steps i zero profile inside =
@@ -44,17 +55,22 @@ ascends-to steps i j profile later inside =
     let same : (step_at steps (i + (j - i))).from ≡ (step_at steps j).from = ap (λ k. (step_at steps k).from) at in
     omega (arith, ascends steps i (j - i) profile (omega (arith, inside)), same)
 
--- the first i steps begin at or before the slot, step i after it
-pub capacity-before : {steps : List CapStep} {i u bytes : ℕ} (slot : ℕ) → IsProfile steps → i < length steps → ((k : ℕ) → k < i → (step_at steps k).from ≤ slot) →
-    ((k : ℕ) → k + 1 ≡ i → bytes ≡ (step_at steps k).bytes) → slot < (step_at steps i).from → slot ≤ u → u < (step_at steps i).from → IsCapacity steps u bytes
-capacity-before {steps} {i} slot profile inside begun bytes_are after from less =
+-- the first i steps begin at or before the slot, and the last of them gives these bytes
+pub record HaveBegun (steps : List CapStep) (i slot bytes : ℕ) : Type 0 where
+  pub begun : (k : ℕ) → k < i → (step_at steps k).from ≤ slot
+  pub bytes_are : (k : ℕ) → k + 1 ≡ i → bytes ≡ (step_at steps k).bytes
+
+-- step i begins after it
+pub capacity-before : {steps : List CapStep} {i slot u bytes : ℕ} → IsProfile steps → i < length steps → HaveBegun steps i slot bytes
+    → slot < (step_at steps i).from → slot ≤ u → u < (step_at steps i).from → IsCapacity steps u bytes
+capacity-before {steps} {i} profile inside first after from less =
     elim (cases_lt 0 i) [
       | inl some ↦ record {
         index = i - 1;
         inside = omega (arith, inside);
-        begun = omega (arith, begun (i - 1) (omega (arith, some)), from);
+        begun = omega (arith, first.begun (i - 1) (omega (arith, some)), from);
         last = λ k more within. omega (arith, ascends-to steps i k profile (omega (arith, more)) within, less);
-        bytes_are = bytes_are (i - 1) (omega (arith, some));
+        bytes_are = first.bytes_are (i - 1) (omega (arith, some));
       }
       | inr none ↦ (
           let zero_is : i ≡ 0 = omega (arith, none) in
@@ -64,14 +80,14 @@ capacity-before {steps} {i} slot profile inside begun bytes_are after from less 
     ]
 
 -- all steps begin at or before the slot
-pub capacity-last : {steps : List CapStep} {i u bytes : ℕ} (slot : ℕ) → IsProfile steps → length steps ≡ i → ((k : ℕ) → k < i → (step_at steps k).from ≤ slot) →
-    ((k : ℕ) → k + 1 ≡ i → bytes ≡ (step_at steps k).bytes) → slot ≤ u → IsCapacity steps u bytes
-capacity-last {steps} {i} slot profile count begun bytes_are from = record {
+pub capacity-last : {steps : List CapStep} {i slot u bytes : ℕ} → IsProfile steps → length steps ≡ i → HaveBegun steps i slot bytes
+    → slot ≤ u → IsCapacity steps u bytes
+capacity-last {steps} {i} profile count all from = record {
   index = i - 1;
   inside = omega (arith, count, profile.some);
-  begun = omega (arith, begun (i - 1) (omega (arith, count, profile.some)), from);
+  begun = omega (arith, all.begun (i - 1) (omega (arith, count, profile.some)), from);
   last = λ k more within. absurd (omega (arith, more, within, count));
-  bytes_are = bytes_are (i - 1) (omega (arith, count, profile.some));
+  bytes_are = all.bytes_are (i - 1) (omega (arith, count, profile.some));
 }
 
 pub span-is : (steps : List CapStep) (t bytes until : ℕ) → t < until → ((u : ℕ) → t ≤ u → u < until → IsCapacity steps u bytes) → IsSpan steps t bytes until

@@ -7,14 +7,14 @@ use Rattle.slot_calendar.specs.Calendars.{HasRoom, IsFirstOverflow}
 use Rattle.slot_calendar.specs.declared.calendar.Overflow.{Overflow}
 
 -- a slot without room leaves no room
-pub no-room : (from start : ℕ) (booked capacity : ℕ → ℕ) (segments : List Segment) (over : Overflow) →
+pub no-room : {from start : ℕ} {booked capacity : ℕ → ℕ} {segments : List Segment} {over : Overflow} →
     IsFirstOverflow from booked capacity start segments over → HasRoom from booked capacity start segments → ⊥
-no-room from start booked capacity segments over first room = omega (arith, first.overflows, room.each over.slot first.begun)
+no-room {over} first room = omega (arith, first.overflows, room.each over.slot first.begun)
 
 -- there is one first slot without room
-pub overflow-once : (from start : ℕ) (booked capacity : ℕ → ℕ) (segments : List Segment) (a b : Overflow) →
+pub overflow-once : {from start : ℕ} {booked capacity : ℕ → ℕ} {segments : List Segment} {a b : Overflow} →
     IsFirstOverflow from booked capacity start segments a → IsFirstOverflow from booked capacity start segments b → a ≡ b
-overflow-once from start booked capacity segments a b x y =
+overflow-once {start} {booked} {segments} {a} {b} x y =
     let slot : a.slot ≡ b.slot = elim (cases_order a.slot b.slot) [
       | inl same ↦ same
       | inr (inl less) ↦ omega (arith, x.overflows, y.least a.slot x.begun less)

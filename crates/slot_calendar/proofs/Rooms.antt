@@ -5,10 +5,10 @@ use Rattle.plan_cert.specs.declared.Segment.{Segment}
 use Rattle.plan_cert.specs.Slots.{total_slots}
 use Rattle.slot_calendar.specs.declared.calendar.Overflow.{Overflow}
 use Rattle.slot_calendar.specs.Profiles.{capacity_at}
-use Rattle.slot_calendar.specs.Plays.{asked_at, cut_at}
+use Rattle.slot_calendar.specs.Plays.{Play, asked_at, cut_at}
 use Rattle.slot_calendar.specs.Calendars.{Entries, booked_at, IsCalendar, HasRoom, FitsIn, IsOverflowIn, IsFirstOverflow}
 use Rattle.slot_calendar.proofs.Capacities.{capacity-most}
-use Rattle.slot_calendar.proofs.Sending.{asked-in, asked-after, cut-before}
+use Rattle.slot_calendar.proofs.Sending.{IsSegmentFrom, asked-in, asked-after, cut-before}
 
 -- a plan that fits leaves totals that can be counted
 pub room-small : {calendar : Entries} {segments : List Segment} {start : ℕ} (t : ℕ) → IsCalendar calendar →
@@ -18,33 +18,31 @@ room-small {calendar} {start} t is room from =
     omega (arith, room.each t from, capacity-most calendar.steps t is.profile)
 
 -- it fits into the slots of one segment more
-pub fits-next : {first : ℕ} {capacity : ℕ → ℕ} {s : Segment} {from : ℕ} (booked : ℕ → ℕ) (segments : List Segment)
-    (i start : ℕ) → i < length segments → s ≡ get_or segments i s →
-    from ≡ start + total_slots (take i segments) → FitsIn first from booked capacity start segments → FitsIn from (from + s.slots) booked capacity from (s ∷ []) →
-    FitsIn first (from + s.slots) booked capacity start segments
-fits-next {first} {capacity} {s} {from} booked segments i start inside is at before here = λ u since less.
+pub fits-next : {segments : List Segment} {i : ℕ} {s : Segment} {start from : ℕ} (first : ℕ) (booked capacity : ℕ → ℕ)
+    → IsSegmentFrom segments i s start from → FitsIn first from booked capacity start segments
+    → FitsIn from (from + s.slots) booked capacity from (s ∷ []) → FitsIn first (from + s.slots) booked capacity start segments
+fits-next {from} first booked capacity at before here = λ u since less.
     elim (cases_lt u from) [
       | inl earlier ↦ before u since earlier
       | inr begun ↦ (
-          let asked = asked-in segments i start u inside is at begun less in
+          let asked = asked-in u at begun less in
           omega (arith, asked, here u begun less)
           )
     ]
 
 -- its first overflow is that of the first segment that has one
-pub first-overflow : {first : ℕ} {booked capacity : ℕ → ℕ} {segments : List Segment} {s : Segment} {start from : ℕ}
-    {over : Overflow} (i : ℕ) → i < length segments → s ≡ get_or segments i s →
-    from ≡ start + total_slots (take i segments) → first ≤ from → FitsIn first from booked capacity start segments → IsOverflowIn from (from + s.slots) booked capacity from (s ∷ []) over →
-    IsFirstOverflow first booked capacity start segments over
-first-overflow {first} {capacity} {segments} {s} {start} {from} {over} i inside is at later before here =
-    let asked = asked-in segments i start over.slot inside is at here.first.begun here.inside in
+pub first-overflow : {first : ℕ} {booked capacity : ℕ → ℕ} {segments : List Segment} {i : ℕ} {s : Segment} {start from : ℕ}
+    {over : Overflow} → IsSegmentFrom segments i s start from → first ≤ from → FitsIn first from booked capacity start segments
+    → IsOverflowIn from (from + s.slots) booked capacity from (s ∷ []) over → IsFirstOverflow first booked capacity start segments over
+first-overflow {capacity} {from} {over} at later before here =
+    let asked = asked-in over.slot at here.first.begun here.inside in
     record {
       begun = omega (arith, later, here.first.begun);
       overflows = omega (arith, asked, here.first.overflows);
       least = λ u since less. elim (cases_lt u from) [
         | inl earlier ↦ before u since earlier
         | inr begun ↦ (
-            let same = asked-in segments i start u inside is at begun (omega (arith, less, here.inside)) in
+            let same = asked-in u at begun (omega (arith, less, here.inside)) in
             omega (arith, same, here.first.least u begun less)
             )
       ];
@@ -66,12 +64,17 @@ room-all {segments} {start} {until} is past fits = record {
   ];
 }
 
--- nothing is left to give back where the plan begins after the calendar's end
-pub cut-none : (calendar : Entries) (segments : List Segment) (start keep t : ℕ) → calendar.first + 1048576 ≤ start →
-    ((u : ℕ) → calendar.first + 1048576 ≤ u → booked_at calendar u ≡ 0) → ((u : ℕ) → calendar.first ≤ u → cut_at segments start keep u ≤ booked_at calendar u) →
-    calendar.first ≤ t → cut_at segments start keep t ≡ 0
-cut-none calendar segments start keep t after past booked from =
-    elim (cases_lt t start) [
-      | inl before ↦ cut-before segments start keep t before
-      | inr begun ↦ omega (arith, booked t from, past t (omega (arith, after, begun)))
+-- a play that begins after the calendar's end, where nothing is booked
+pub record IsPastEnd (calendar : Entries) (play : Play) : Type 0 where
+  pub after : calendar.first + 1048576 ≤ play.start
+  pub past : (u : ℕ) → calendar.first + 1048576 ≤ u → booked_at calendar u ≡ 0
+  pub booked : (u : ℕ) → calendar.first ≤ u → cut_at play.segments play.start play.keep u ≤ booked_at calendar u
+
+-- nothing is left to give back of it
+pub cut-none : {calendar : Entries} {play : Play} (t : ℕ) → IsPastEnd calendar play → calendar.first ≤ t
+    → cut_at play.segments play.start play.keep t ≡ 0
+cut-none {play} t is from =
+    elim (cases_lt t play.start) [
+      | inl before ↦ cut-before play.segments play.start play.keep t before
+      | inr begun ↦ omega (arith, is.booked t from, is.past t (omega (arith, is.after, begun)))
     ]

@@ -122,13 +122,18 @@ pub bytes-next : (segments : List Segment) (i : ℕ) (s : Segment) → i < lengt
 bytes-next segments i s inside is =
     ap total_bytes (front-next segments i s inside is) ∙ sum_by-append (λ x. x.bytes) (take i segments) (s ∷ []) ∙ ap (λ n. total_bytes (take i segments) + n) (one-bytes s)
 
+-- segment i of a plan that begins in slot `start`, and the slot in which it begins
+pub record IsSegmentFrom (segments : List Segment) (i : ℕ) (s : Segment) (start from : ℕ) : Type 0 where
+  pub inside : i < length segments
+  pub segment_is : s ≡ get_or segments i s
+  pub from_is : from ≡ start + total_slots (take i segments)
+
 -- the first i + 1 segments ask for what the first i do and what segment i does
-pub asked-next : {s : Segment} {from : ℕ} (segments : List Segment) (i start t : ℕ) → i < length segments → s ≡ get_or segments i s →
-    from ≡ start + total_slots (take i segments) →
+pub asked-next : {segments : List Segment} {i : ℕ} {s : Segment} {start from : ℕ} (t : ℕ) → IsSegmentFrom segments i s start from →
     asked_at (take (i + 1) segments) start t ≡ asked_at (take i segments) start t + asked_at (s ∷ []) from t
-asked-next {s} {from} segments i start t inside is at =
-    ap (λ l. asked_at l start t) (front-next segments i s inside is) ∙ asked-append (take i segments) (s ∷ []) start t
-    ∙ ap (λ n. asked_at (take i segments) start t + asked_at (s ∷ []) n t) (sym at)
+asked-next {segments} {i} {s} {start} t at =
+    ap (λ l. asked_at l start t) (front-next segments i s at.inside at.segment_is) ∙ asked-append (take i segments) (s ∷ []) start t
+    ∙ ap (λ n. asked_at (take i segments) start t + asked_at (s ∷ []) n t) (sym at.from_is)
 
 -- the first segments of a plan ask for no more than all of it
 pub asked-front : (segments : List Segment) (i start t : ℕ) →
@@ -137,44 +142,50 @@ asked-front segments i start t =
     ap (λ l. asked_at l start t) (sym (take-append-drop i segments)) ∙ asked-append (take i segments) (drop i segments) start t
 
 -- a slot of segment i
-pub asked-in : {s : Segment} {from : ℕ} (segments : List Segment) (i start t : ℕ) → i < length segments → s ≡ get_or segments i s →
-    from ≡ start + total_slots (take i segments) → from ≤ t → t < from + s.slots → asked_at segments start t ≡ asked_at (s ∷ []) from t
-asked-in {s} {from} segments i start t inside is at begun ends =
+pub asked-in : {segments : List Segment} {i : ℕ} {s : Segment} {start from : ℕ} (t : ℕ) → IsSegmentFrom segments i s start from
+    → from ≤ t → t < from + s.slots → asked_at segments start t ≡ asked_at (s ∷ []) from t
+asked-in {segments} {i} {s} {start} t at begun ends =
     let split = asked-front segments (i + 1) start t in
-    let front = asked-next segments i start t inside is at in
-    let slots = slots-next segments i s inside is in
+    let front = asked-next t at in
+    let slots = slots-next segments i s at.inside at.segment_is in
     let after : asked_at (drop (i + 1) segments) (start + total_slots (take (i + 1) segments)) t ≡ 0 =
-    asked-before (drop (i + 1) segments) (start + total_slots (take (i + 1) segments)) t (omega (arith, slots, at, ends)) in
-    let before : asked_at (take i segments) start t ≡ 0 = asked-after (take i segments) start t (omega (arith, at, begun)) in
+    asked-before (drop (i + 1) segments) (start + total_slots (take (i + 1) segments)) t (omega (arith, slots, at.from_is, ends)) in
+    let before : asked_at (take i segments) start t ≡ 0 = asked-after (take i segments) start t (omega (arith, at.from_is, begun)) in
     omega (arith, split, front, after, before)
 
 -- ---- the bytes after the first `keep`
 pub all-front : (segments : List Segment) (i : ℕ) → All (λ s. 1 ≤ s.slots) segments → All (λ s. 1 ≤ s.slots) (take i segments)
 all-front segments i some = All-take (λ s. 1 ≤ s.slots) i segments some
 
-pub over-append : {from left : ℕ} (xs ys : List Segment) (start keep t : ℕ) → All (λ s. 1 ≤ s.slots) xs → from ≡ start + total_slots xs → left ≡ keep - total_bytes xs →
+-- the first segments of a play that begins in slot `start` and keeps `keep` bytes: where they end, and what they leave of these
+pub record IsFrontOf (xs : List Segment) (start keep from left : ℕ) : Type 0 where
+  pub some : All (λ s. 1 ≤ s.slots) xs
+  pub from_is : from ≡ start + total_slots xs
+  pub left_is : left ≡ keep - total_bytes xs
+
+pub over-append : {xs : List Segment} {start keep from left : ℕ} (ys : List Segment) (t : ℕ) → IsFrontOf xs start keep from left →
     sent_before (xs ++ ys) start t - keep ≡ (sent_before xs start t - keep) + (sent_before ys from t - left)
-over-append {from} {left} xs ys start keep t some at rest =
+over-append {xs} {start} {keep} {from} ys t front =
     let whole : sent_before (xs ++ ys) start t ≡ sent_before xs start t + sent_before ys from t =
-    sent-append xs ys start t ∙ ap (λ n. sent_before xs start t + sent_before ys n t) (sym at) in
+    sent-append xs ys start t ∙ ap (λ n. sent_before xs start t + sent_before ys n t) (sym front.from_is) in
     elim (cases_lt t from) [
       | inl before ↦ (
           let none : sent_before ys from t ≡ 0 = sent-none ys from t (omega arith) in
           omega (arith, whole, none)
           )
       | inr past ↦ (
-          let all : sent_before xs start t ≡ total_bytes xs = sent-all xs start t some (omega (arith, at, past)) in
-          omega (arith, whole, all, rest)
+          let all : sent_before xs start t ≡ total_bytes xs = sent-all xs start t front.some (omega (arith, front.from_is, past)) in
+          omega (arith, whole, all, front.left_is)
           )
     ]
 
-pub cut-append : {from left : ℕ} (xs ys : List Segment) (start keep t : ℕ) → All (λ s. 1 ≤ s.slots) xs → from ≡ start + total_slots xs → left ≡ keep - total_bytes xs →
+pub cut-append : {xs : List Segment} {start keep from left : ℕ} (ys : List Segment) (t : ℕ) → IsFrontOf xs start keep from left →
     cut_at (xs ++ ys) start keep t ≡ cut_at xs start keep t + cut_at ys from left t
-cut-append {from} {left} xs ys start keep t some at rest =
+cut-append {xs} {start} {keep} {from} {left} ys t front =
     let x = sent-rises xs start t (t + 1) (omega arith) in
     let y = sent-rises ys from t (t + 1) (omega arith) in
-    let here = over-append xs ys start keep t some at rest in
-    let next = over-append xs ys start keep (t + 1) some at rest in
+    let here = over-append ys t front in
+    let next = over-append ys (t + 1) front in
     sum-parts (sent_before (xs ++ ys) start t - keep) (sent_before (xs ++ ys) start (t + 1) - keep)
     (sent_before xs start t - keep) (sent_before xs start (t + 1) - keep) (sent_before ys from t - left) (sent_before ys from (t + 1) - left)
     here next (omega (arith, x)) (omega (arith, y))
@@ -182,18 +193,18 @@ cut-append {from} {left} xs ys start keep t some at rest =
     sum-parts : (a b c d e f : ℕ) → a ≡ c + e → b ≡ d + f → c ≤ d → e ≤ f → b - a ≡ (d - c) + (f - e)
     sum-parts a b c d e f p q r s = omega arith
 
-pub cut-next : {s : Segment} {from left : ℕ} (segments : List Segment) (i start keep t : ℕ) → All (λ x. 1 ≤ x.slots) segments → i < length segments → s ≡ get_or segments i s →
-    from ≡ start + total_slots (take i segments) → left ≡ keep - total_bytes (take i segments) →
-    cut_at (take (i + 1) segments) start keep t ≡ cut_at (take i segments) start keep t + cut_at (s ∷ []) from left t
-cut-next {s} {from} {left} segments i start keep t some inside is at rest =
-    ap (λ l. cut_at l start keep t) (front-next segments i s inside is)
-    ∙ cut-append (take i segments) (s ∷ []) start keep t (all-front segments i some) at rest
+pub cut-next : {segments : List Segment} {i : ℕ} {s : Segment} {start from left : ℕ} (keep t : ℕ) → All (λ x. 1 ≤ x.slots) segments
+    → IsSegmentFrom segments i s start from → left ≡ keep - total_bytes (take i segments)
+    → cut_at (take (i + 1) segments) start keep t ≡ cut_at (take i segments) start keep t + cut_at (s ∷ []) from left t
+cut-next {segments} {i} {s} {start} keep t some at rest =
+    ap (λ l. cut_at l start keep t) (front-next segments i s at.inside at.segment_is)
+    ∙ cut-append (s ∷ []) t (record { some = all-front segments i some; from_is = at.from_is; left_is = rest })
 
 pub cut-front : (segments : List Segment) (i start keep t : ℕ) → All (λ x. 1 ≤ x.slots) segments → cut_at (take i segments) start keep t ≤ cut_at segments start keep t
 cut-front segments i start keep t some =
     let whole : cut_at segments start keep t ≡ cut_at (take i segments) start keep t + cut_at (drop i segments) (start + total_slots (take i segments)) (keep - total_bytes (take i segments)) t =
     ap (λ l. cut_at l start keep t) (sym (take-append-drop i segments))
-    ∙ cut-append (take i segments) (drop i segments) start keep t (all-front segments i some) refl refl in
+    ∙ cut-append (drop i segments) t (record { some = all-front segments i some; from_is = refl; left_is = refl }) in
     omega (arith, whole)
 
 pub cut-before : (segments : List Segment) (start keep t : ℕ) → t < start → cut_at segments start keep t ≡ 0
@@ -237,54 +248,67 @@ asked-here {sent} segments from j was is =
     let next : sent_before segments from (from + j + 1) ≡ sent = ap (sent_before segments from) (let e : from + j + 1 ≡ from + (j + 1) = omega arith in e) ∙ is in
     omega (arith, was, next)
 
-pub cut-here : {before over sent : ℕ} (segments : List Segment) (from keep j : ℕ) → before ≡ sent_before segments from (from + j) - keep →
-    sent_before segments from (from + (j + 1)) ≡ sent → over ≡ sent - keep → cut_at segments from keep (from + j) ≡ over - before
-cut-here {over} {sent} segments from keep j was is over_is =
-    let next : sent_before segments from (from + j + 1) ≡ sent = ap (sent_before segments from) (let e : from + j + 1 ≡ from + (j + 1) = omega arith in e) ∙ is in
-    omega (arith, was, next, over_is)
+pub cut-here : {before over : ℕ} (segments : List Segment) (from keep j : ℕ) → before ≡ sent_before segments from (from + j) - keep →
+    over ≡ sent_before segments from (from + (j + 1)) - keep → cut_at segments from keep (from + j) ≡ over - before
+cut-here segments from keep j was is =
+    let next : sent_before segments from (from + j + 1) ≡ sent_before segments from (from + (j + 1)) = ap (sent_before segments from) (omega arith) in
+    omega (arith, was, next, is)
+
+-- the totals from slot `first` on at first, before slot `place` was changed and after it: that slot alone was, and none after it before
+pub record OneSlotMore : Type 0 where
+  pub first : ℕ
+  pub place : ℕ
+  pub old : ℕ → ℕ
+  pub mid : ℕ → ℕ
+  pub new : ℕ → ℕ
+  pub others : (t : ℕ) → first ≤ t → t ≢ place → new t ≡ mid t
+  pub rest : (t : ℕ) → first ≤ t → place ≤ t → mid t ≡ old t
 
 -- a sum of totals and bytes asked, one slot further
-pub raised-next : {place by : ℕ} (first : ℕ) (old mid new asked : ℕ → ℕ) → asked place ≡ by → new place ≡ mid place + by →
-    ((t : ℕ) → first ≤ t → t ≢ place → new t ≡ mid t) → ((t : ℕ) → first ≤ t → t < place → mid t ≡ old t + asked t) → ((t : ℕ) → first ≤ t → place ≤ t → mid t ≡ old t) →
-    {t : ℕ} → first ≤ t → t < place + 1 → new t ≡ old t + asked t
-raised-next {place} first old mid new asked by_is here others done rest {t} since less =
+pub raised-next : (step : OneSlotMore) (asked : ℕ → ℕ) → step.new step.place ≡ step.mid step.place + asked step.place
+    → ((t : ℕ) → step.first ≤ t → t < step.place → step.mid t ≡ step.old t + asked t)
+    → {t : ℕ} → step.first ≤ t → t < step.place + 1 → step.new t ≡ step.old t + asked t
+raised-next step asked here done {t} since less =
     elim (cases_eq t place) [
       | inl is ↦ (
           let at : new t ≡ new place = ap new is in
           let at_old : old t ≡ old place = ap old is in
           let at_asked : asked t ≡ asked place = ap asked is in
-          let was : mid place ≡ old place = rest place (omega (arith, is)) (omega arith) in
-          omega (arith, at, at_old, at_asked, was, here, by_is)
+          let was : mid place ≡ old place = step.rest place (omega (arith, is)) (omega arith) in
+          omega (arith, at, at_old, at_asked, was, here)
           )
-      | inr other ↦ others t since other ∙ done t since (before t place less other)
+      | inr other ↦ step.others t since other ∙ done t since (before t place less other)
     ]
   where
+    open step use {first, place, old, mid, new}
+
     before : (x y : ℕ) → x < y + 1 → x ≢ y → x < y
     before x y most apart = omega arith
 
-pub lowered-next : {place by : ℕ} (first : ℕ) (old mid new cut : ℕ → ℕ) → cut place ≡ by → (first ≤ place → new place + by ≡ mid place) →
-    ((t : ℕ) → first ≤ t → t ≢ place → new t ≡ mid t) → ((t : ℕ) → first ≤ t → t < place → mid t + cut t ≡ old t) → ((t : ℕ) → first ≤ t → place ≤ t → mid t ≡ old t) →
-    {t : ℕ} → first ≤ t → t < place + 1 → new t + cut t ≡ old t
-lowered-next {place} first old mid new cut by_is here others done rest {t} since less =
+pub lowered-next : (step : OneSlotMore) (cut : ℕ → ℕ) → (step.first ≤ step.place → step.new step.place + cut step.place ≡ step.mid step.place)
+    → ((t : ℕ) → step.first ≤ t → t < step.place → step.mid t + cut t ≡ step.old t)
+    → {t : ℕ} → step.first ≤ t → t < step.place + 1 → step.new t + cut t ≡ step.old t
+lowered-next step cut here done {t} since less =
     elim (cases_eq t place) [
       | inl is ↦ (
           let from : first ≤ place = omega (arith, is, since) in
           let at : new t ≡ new place = ap new is in
           let at_old : old t ≡ old place = ap old is in
           let at_cut : cut t ≡ cut place = ap cut is in
-          let was : mid place ≡ old place = rest place from (omega arith) in
-          omega (arith, at, at_old, at_cut, was, here from, by_is)
+          let was : mid place ≡ old place = step.rest place from (omega arith) in
+          omega (arith, at, at_old, at_cut, was, here from)
           )
-      | inr other ↦ ap (λ n. n + cut t) (others t since other) ∙ done t since (before t place less other)
+      | inr other ↦ ap (λ n. n + cut t) (step.others t since other) ∙ done t since (before t place less other)
     ]
   where
+    open step use {first, place, old, mid, new}
+
     before : (x y : ℕ) → x < y + 1 → x ≢ y → x < y
     before x y most apart = omega arith
 
-pub unchanged-next : (first place : ℕ) (old mid new : ℕ → ℕ) → ((t : ℕ) → first ≤ t → t ≢ place → new t ≡ mid t) → ((t : ℕ) → first ≤ t → place ≤ t → mid t ≡ old t) →
-    {t : ℕ} → first ≤ t → place + 1 ≤ t → new t ≡ old t
-unchanged-next first place old mid new others rest {t} since more =
-    others t since (λ e. omega (arith, e, more)) ∙ rest t since (omega arith)
+pub unchanged-next : (step : OneSlotMore) {t : ℕ} → step.first ≤ t → step.place + 1 ≤ t → step.new t ≡ step.old t
+unchanged-next step {t} since more =
+    step.others t since (λ e. omega (arith, e, more)) ∙ step.rest t since (omega (arith, more))
 
 pub sent-step : {before sent : ℕ} (segments : List Segment) (from j : ℕ) → before ≡ sent_before segments from (from + j) → sent_before segments from (from + (j + 1)) ≡ sent → before ≤ sent
 sent-step segments from j was is = omega (arith, was, is, sent-rises segments from (from + j) (from + (j + 1)) (omega arith))

@@ -59,10 +59,12 @@ booked-around before after play t =
     sum_by-append (share_at t) before (play ∷ after) ∙ ap (λ n. booked_by before t + n) (sum_by-cons (share_at t) play after)
 
 -- a play that is cut
-pub booked-cut : (before after : List Play) (segments : List Segment) (start keep t : ℕ) → IsPlan segments →
-    booked_by (before ++ cut_play start segments keep ∷ after) t + cut_at segments start keep t ≡ booked_by (before ++ whole_play start segments ∷ after) t
-booked-cut before after segments start keep t plan =
-    omega (arith, booked-around before after (cut_play start segments keep) t, booked-around before after (whole_play start segments) t, share-whole segments start t plan, share-cut segments start keep t)
+pub booked-cut : (before after : List Play) (play : Play) (t : ℕ) → IsPlan play.segments →
+    booked_by (before ++ play ∷ after) t + cut_at play.segments play.start play.keep t ≡ booked_by (before ++ whole_play play.start play.segments ∷ after) t
+booked-cut before after play t plan =
+    omega (arith, booked-around before after play t, booked-around before after (whole_play start segments) t, share-whole segments start t plan, share-cut segments start keep t)
+  where
+    open play use {start, segments, keep}
 
 -- ---- calendars and the lists that they stand for
 pub stands-push : {old new : Entries} {plays : List Play} {segments : List Segment} (start : ℕ) → IsPlan segments → new.first ≡ old.first →
@@ -75,13 +77,17 @@ stands-push {old} {new} {plays} {segments} start plan first totals stands = reco
       );
 }
 
-pub stands-cut : {old new : Entries} {segments : List Segment} (before after : List Play) (start keep : ℕ) → IsPlan segments → new.first ≡ old.first →
-    ((t : ℕ) → old.first ≤ t → booked_at new t + cut_at segments start keep t ≡ booked_at old t) → StandsFor old (before ++ whole_play start segments ∷ after) →
-    StandsFor new (before ++ cut_play start segments keep ∷ after)
-stands-cut {old} {new} {segments} before after start keep plan first totals stands = record {
+-- a calendar after a play was cut
+pub record HasCut (old new : Entries) (play : Play) : Type 0 where
+  pub first_is : new.first ≡ old.first
+  pub totals : (t : ℕ) → old.first ≤ t → booked_at new t + cut_at play.segments play.start play.keep t ≡ booked_at old t
+
+pub stands-cut : {old new : Entries} (before after : List Play) (play : Play) → IsPlan play.segments → HasCut old new play →
+    StandsFor old (before ++ whole_play play.start play.segments ∷ after) → StandsFor new (before ++ play ∷ after)
+stands-cut {old} {new} before after play plan cut stands = record {
   each = λ t from. (
-      let since : old.first ≤ t = omega (arith, first, from) in
-      omega (arith, totals t since, stands.each t since, booked-cut before after segments start keep t plan)
+      let since : old.first ≤ t = omega (arith, cut.first_is, from) in
+      omega (arith, cut.totals t since, stands.each t since, booked-cut before after play t plan)
       );
 }
 
@@ -90,7 +96,7 @@ pub stands-later : (old new : Entries) (plays : List Play) → old.first ≤ new
 stands-later old new plays later totals stands = record { each = λ t from. totals t from ∙ stands.each t (omega (arith, later, from)) }
 
 -- what a play that stands whole may give back
-pub cut-booked : {calendar : Entries} {segments : List Segment} (before after : List Play) (start keep t : ℕ) → IsPlan segments →
-    StandsFor calendar (before ++ whole_play start segments ∷ after) → calendar.first ≤ t → cut_at segments start keep t ≤ booked_at calendar t
-cut-booked {segments} before after start keep t plan stands from =
-    omega (arith, stands.each t from, booked-cut before after segments start keep t plan)
+pub cut-booked : {calendar : Entries} {t : ℕ} (before after : List Play) (play : Play) → IsPlan play.segments →
+    StandsFor calendar (before ++ whole_play play.start play.segments ∷ after) → calendar.first ≤ t
+    → cut_at play.segments play.start play.keep t ≤ booked_at calendar t
+cut-booked {t} before after play plan stands from = omega (arith, stands.each t from, booked-cut before after play t plan)

@@ -3,7 +3,7 @@ use Rattle.plan_cert.specs.Slots.{total_bytes}
 use Rattle.slot_calendar.specs.Plays.{whole_play}
 use Rattle.admission.specs.Histories.{state_after}
 use Rattle.admission.proofs.Admissions.{open-entry, open-inside}
-use Rattle.admission.proofs.Calendars.{cut-allowed, stands-halted}
+use Rattle.admission.proofs.Calendars.{HoldsWhole, cut-allowed, stands-halted}
 use Rattle.admission.proofs.keeping.give_back.Goals as goal
 
 pub offset_bounds-entries-number : goal.offset_bounds-entries-number
@@ -41,8 +41,9 @@ release-requires-clause-booked c =
     let start : c.in-Admitted.start ≡ play.start = cc (c.in-Admitted.is, found.answer_is) in
     let same : play ≡ whole_play c.in-Admitted.start c.in-Play.plan =
     found.play_is ∙ ap (λ s. whole_play s play.segments) (sym start) ∙ ap (λ p. whole_play c.in-Admitted.start p) (sym plan) in
-    cut-allowed (state_after c.args.entries.now) c.args.number _ c.in-Admitted.start c.in-Play.plan found.is same
-    c.requires.follows.stands (λ before after. c.law_release.ensures c.args.calendar.now before after c.in-Play.plan c.in-Admitted.start c.args.keep c.segments-plan.ensures.plan)
+    let whole : HoldsWhole (state_after c.args.entries.now) c.args.number c.in-Admitted.start c.in-Play.plan =
+    record { held = found.held; is = found.is; play_is = same } in
+    cut-allowed c.args.keep whole c.requires.follows.stands (λ before after. c.law_release.ensures c.args.calendar.now before after c.in-Play.plan c.in-Admitted.start c.args.keep c.segments-plan.ensures.plan)
 
 pub returns-clause-next : goal.returns-clause-next
 returns-clause-next c = λ place. (
@@ -53,9 +54,10 @@ returns-clause-next c = λ place. (
     let start : c.in-Admitted.start ≡ play.start = cc (c.in-Admitted.is, found.answer_is) in
     let same : play ≡ whole_play c.in-Admitted.start c.in-Play.plan =
     found.play_is ∙ ap (λ s. whole_play s play.segments) (sym start) ∙ ap (λ p. whole_play c.in-Admitted.start p) (sym plan) in
+    let whole : HoldsWhole (state_after c.args.entries.now) c.args.number c.in-Admitted.start c.in-Play.plan =
+    record { held = found.held; is = found.is; play_is = same } in
     record {
       now = c.release.ensures.now ∙ c.requires.follows.now;
-      stands = stands-halted (state_after c.args.entries.now) c.args.number c.args.keep c.in-Admitted.start c.in-Play.plan
-          found.is same c.requires.follows.stands c.release.ensures.stands;
+      stands = stands-halted c.args.keep whole c.requires.follows.stands c.release.ensures.stands;
     }
     )

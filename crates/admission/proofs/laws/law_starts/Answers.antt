@@ -2,4 +2,4 @@ use Rattle.admission.proofs.Bookings.{start_is}
 use Rattle.admission.proofs.laws.law_starts.Goals as goal
 
 pub returns : goal.returns
-returns c = start_is
+returns c = λ steps xs number start segments legal admission. start_is (record { legal = legal; admission = admission })

@@ -27,9 +27,9 @@ returns-clause-within c = λ from first start booked capacity segments found is 
 pub returns-clause-least : goal.returns-clause-least
 returns-clause-least c = λ from first start earlier booked capacity segments found is same begun before room.
     let at = start_as is same in
-    no_room_tried from booked capacity segments first found.tried earlier is.refusals begun (omega (arith, at.1, before)) room
+    no_room_tried is.refusals begun (omega (arith, at.1, before)) room
 
 pub returns-clause-none : goal.returns-clause-none
 returns-clause-none c = λ from first start booked capacity segments found is same begun within room.
     let all = start_as is same in
-    no_room_tried from booked capacity segments first found.tried start is.refusals begun (omega (arith, all, within)) room
+    no_room_tried is.refusals begun (omega (arith, all, within)) room

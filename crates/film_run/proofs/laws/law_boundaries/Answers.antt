@@ -1,6 +1,14 @@
 use Rattle.std.proofs.Common.{arith}
-use Rattle.film_run.proofs.BoundaryLaws.{same-boundaries}
+use Rattle.film_run.proofs.BoundaryLaws.{FilmPart, same-boundaries}
 use Rattle.film_run.proofs.laws.law_boundaries.Goals as goal
 
 pub returns : goal.returns
-returns c = λ one other place. same-boundaries c.args.film.now c.args.first_unit c.args.end_unit one other (omega arith) c.requires.within
+returns c = λ one other place.
+    let part : FilmPart = record {
+      film = c.args.film.now;
+      first = c.args.first_unit;
+      end = c.args.end_unit;
+      order = omega arith;
+      within = c.requires.within;
+    } in
+    same-boundaries part one other

@@ -3,7 +3,7 @@ use Rattle.film_run.proofs.UsedPictures.{counts-used}
 use Rattle.film_run.proofs.laws.law_left.Goals as goal
 
 pub returns-clause-one : goal.returns-clause-one
-returns-clause-one c = λ sizes playback run plan is last keep left other. left-one sizes playback run left other plan last keep
+returns-clause-one c = λ sizes playback run plan is last keep left other. left-one
 
 pub returns-clause-plays : goal.returns-clause-plays
 returns-clause-plays c = halted-plays

@@ -2,4 +2,4 @@ use Rattle.film_run.proofs.SeekTimes.{sought}
 use Rattle.film_run.proofs.laws.law_seek.Goals as goal
 
 pub returns : goal.returns
-returns c = sought
+returns c = λ film from to run. sought

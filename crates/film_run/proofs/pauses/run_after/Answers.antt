@@ -2,15 +2,23 @@ use Rattle.std.proofs.Common.{◌≡◌, ◌+◌, ◌-◌, ◌<◌, ◌≤◌, �
 use Rattle.std.proofs.lemmas.Bool.{cases_lt}
 use Rattle.wire_curve.specs.FilmCurves.{due_slot}
 use Rattle.film_run.specs.Plans.{timing_of}
+use Rattle.film_run.specs.Pauses.{IsLeft}
 use Rattle.film_run.proofs.SumLaws.{bytes-more, bytes-most}
-use Rattle.film_run.proofs.HaltLaws.{goes-on, halting, kept-small, left-run, played-by}
+use Rattle.film_run.proofs.HaltLaws.{IsHalting, IsPlayedTo, goes-on, kept-small, left-run, played-by}
 use Rattle.film_run.proofs.pauses.run_after.Goals as goal
 
 pub overflow_add-left : goal.overflow_add-left
 overflow_add-left g c =
     let sizes = g.U.Units.sizes c.args.units.now in
-    let h = halting
-    c.requires.playback c.requires.run c.requires.fits c.count-count.ensures.few c.count-count.ensures.small c.requires.plan c.requires.halt in
+    let h : IsHalting sizes c.args.playback.now c.args.run.now c.args.plan.now c.args.last c.args.keep = record {
+      plays = c.requires.playback;
+      is = c.requires.run;
+      fits = c.requires.fits;
+      few = c.count-count.ensures.few;
+      small = c.count-count.ensures.small;
+      planned = c.requires.plan;
+      halt = c.requires.halt;
+    } in
     omega (arith, kept-small h)
 
 pub overflow_add-left-in-loop-left : goal.overflow_add-left-in-loop-left
@@ -23,8 +31,15 @@ overflow_add-left-in-loop-left g c =
 pub loop-left-preserved : goal.loop-left-preserved
 loop-left-preserved g c =
     let sizes = g.U.Units.sizes c.args.units.now in
-    let h = halting
-    c.requires.playback c.requires.run c.requires.fits c.count-count.ensures.few c.count-count.ensures.small c.requires.plan c.requires.halt in
+    let h : IsHalting sizes c.args.playback.now c.args.run.now c.args.plan.now c.args.last c.args.keep = record {
+      plays = c.requires.playback;
+      is = c.requires.run;
+      fits = c.requires.fits;
+      few = c.count-count.ensures.few;
+      small = c.count-count.ensures.small;
+      planned = c.requires.plan;
+      halt = c.requires.halt;
+    } in
     let used : due_slot (timing_of c.args.playback.now c.args.run.now) (c.loop-left.left.from_unit - c.args.run.now.from_unit) < c.stop_slot-stop.result = omega (arith, c.due_slot.ensures, c.loop-left-test.true) in
     let more = bytes-more sizes c.args.run.now.first_unit c.loop-left.left.from_unit (omega arith) (omega arith) in
     record {
@@ -33,7 +48,7 @@ loop-left-preserved g c =
       sent_is = c.loop-left.invariant.sent_is;
       from = omega arith;
       rest =
-          goes-on c.loop-left.left.from_unit c.stop_slot-stop.result h
+          goes-on c.loop-left.left.from_unit h
           c.loop-left.invariant.from c.loop-left.invariant.rest c.stop_slot-stop.ensures.inside used;
       played = omega (arith, more, c.loop-left.invariant.played, c.wire_size.ensures);
       used = λ unit from less.
@@ -48,25 +63,32 @@ loop-left-preserved g c =
 pub returns : goal.returns
 returns g c =
     let sizes = g.U.Units.sizes c.args.units.now in
-    let h = halting
-    c.requires.playback c.requires.run c.requires.fits c.count-count.ensures.few c.count-count.ensures.small c.requires.plan c.requires.halt in
+    let h : IsHalting sizes c.args.playback.now c.args.run.now c.args.plan.now c.args.last c.args.keep = record {
+      plays = c.requires.playback;
+      is = c.requires.run;
+      fits = c.requires.fits;
+      few = c.count-count.ensures.few;
+      small = c.count-count.ensures.small;
+      planned = c.requires.plan;
+      halt = c.requires.halt;
+    } in
     let unused : c.stop_slot-stop.result ≤ due_slot (timing_of c.args.playback.now c.args.run.now) (c.loop-left.left.from_unit - c.args.run.now.from_unit) = omega (arith, c.due_slot.ensures, c.loop-left-test.false) in
-    let played = played-by c.loop-left.left.from_unit c.stop_slot-stop.result c.requires.playback c.requires.run
-    c.loop-left.invariant.from c.loop-left.invariant.rest c.loop-left.invariant.used unused in
-    let left = left-run h c.stop_slot-stop.ensures.stop c.stop_slot-stop.ensures.inside
-    c.loop-left.invariant.first_is c.loop-left.invariant.end_is c.loop-left.invariant.sent_is c.loop-left.invariant.from c.loop-left.invariant.rest c.loop-left.invariant.played played in
-    record {
-      left = record {
-        first_is = c.loop-left.invariant.first_is;
-        end_is = c.loop-left.invariant.end_is;
-        sent_is = c.loop-left.invariant.sent_is;
-        stop = c.stop_slot-stop.result;
-        stop_is = c.stop_slot-stop.ensures.stop;
-        played_is = c.loop-left.invariant.played ∙ played;
-        not_back = c.loop-left.invariant.from;
-        used = c.loop-left.invariant.used;
-        unused = unused;
-      };
-      run = left.0;
-      fits = left.1;
-    }
+    let to : IsPlayedTo c.args.playback.now c.args.run.now c.loop-left.left.from_unit c.stop_slot-stop.result = record {
+      not_back = c.loop-left.invariant.from;
+      within = c.loop-left.invariant.rest;
+      used = c.loop-left.invariant.used;
+      unused = unused;
+    } in
+    let left : IsLeft sizes c.args.playback.now c.args.run.now c.args.plan.now c.args.last c.args.keep c.loop-left.left = record {
+      first_is = c.loop-left.invariant.first_is;
+      end_is = c.loop-left.invariant.end_is;
+      sent_is = c.loop-left.invariant.sent_is;
+      stop = c.stop_slot-stop.result;
+      stop_is = c.stop_slot-stop.ensures.stop;
+      played_is = c.loop-left.invariant.played ∙ played-by c.requires.playback c.requires.run to;
+      not_back = c.loop-left.invariant.from;
+      used = c.loop-left.invariant.used;
+      unused = unused;
+    } in
+    let whole = left-run h left c.stop_slot-stop.ensures.inside c.loop-left.invariant.rest in
+    record { left = left; run = whole.0; fits = whole.1 }

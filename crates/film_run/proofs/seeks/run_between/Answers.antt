@@ -3,10 +3,22 @@ use Rattle.film_run.proofs.seeks.run_between.Goals as goal
 
 pub returns-clause-asked : goal.returns-clause-asked
 returns-clause-asked c =
-    asked
-    c.as_slice-units.ensures.value c.picture_time-time.ensures.time c.if-is_reversed.ensures c.in_ok-first_unit.ensures.rest c.in_ok-first_unit.ensures.found
-    c.end_of-end_unit.ensures.end c.end_of-end_unit.ensures.after c.end_of-end_unit.ensures.within
-    c.new_run.ensures.first c.new_run.ensures.end c.new_run.ensures.from c.new_run.ensures.sent c.new_run.ensures.played
+    asked c.as_slice-units.ensures.value c.picture_time-time.ensures.time
+    (record {
+      order = c.if-is_reversed.ensures;
+      rest = c.in_ok-first_unit.ensures.rest;
+      begins = c.in_ok-first_unit.ensures.found;
+      ends = c.end_of-end_unit.ensures.end;
+      some = c.end_of-end_unit.ensures.after;
+      within = c.end_of-end_unit.ensures.within;
+    })
+    (record {
+      first_is = c.new_run.ensures.first;
+      end_is = c.new_run.ensures.end;
+      from_is = c.new_run.ensures.from;
+      sent_is = c.new_run.ensures.sent;
+      played_is = c.new_run.ensures.played;
+    })
 
 pub returns-clause-run : goal.returns-clause-run
 returns-clause-run c =

@@ -1,8 +1,8 @@
-use Rattle.std.proofs.Common.{◌≡◌, ◌≤◌, ◌+◌, ◌-◌, ℕ, [], ◌∷◌, arith, sym, ◌∙◌, inl, inr}
+use Rattle.std.proofs.Common.{◌≡◌, ◌≤◌, ◌+◌, ◌-◌, ℕ, [], ◌∷◌, arith, sym, ap, ◌∙◌, inl, inr}
 use Rattle.std.proofs.lemmas.Bool.{cases_lt}
 use Rattle.slot_calendar.specs.Plays.{asked_at}
 use Rattle.slot_calendar.specs.Totals.{total_at}
-use Rattle.slot_calendar.proofs.Sending.{asked-here, asked-after, one-slots, raised-next, unchanged-next, sent-step}
+use Rattle.slot_calendar.proofs.Sending.{OneSlotMore, asked-here, asked-after, one-slots, raised-next, unchanged-next, sent-step}
 use Rattle.slot_calendar.proofs.booking.book_segment.Goals as goal
 
 pub overflow_sub-sent : goal.overflow_sub-sent
@@ -22,14 +22,23 @@ loop-passed-preserved c =
     let new = total_at c.raise.new.self.first c.raise.new.self.totals in
     let asked : asked_at segments c.args.from place ≡ by =
     asked-here segments c.args.from i.passed i.invariant.before_is (c.sent_through-sent.ensures.sent c.args.from) in
-    let others : (t : ℕ) → first ≤ t → (t ≡ place → ⊥) → new t ≡ mid t = λ t since other. c.raise.ensures.others t (omega (arith, since, i.invariant.first_is)) other in
+    let step : OneSlotMore = record {
+      first = first;
+      place = place;
+      old = old;
+      mid = mid;
+      new = new;
+      others = λ t since other. c.raise.ensures.others t (omega (arith, since, i.invariant.first_is)) other;
+      rest = i.invariant.rest;
+    } in
+    let here : new place ≡ mid place + asked_at segments c.args.from place = c.raise.ensures.at ∙ ap (λ n. mid place + n) (sym asked) in
     let at : c.args.from + (i.passed + 1) ≡ place + 1 = omega arith in
     record {
       before_is = sym (c.sent_through-sent.ensures.sent c.args.from);
       first_is = c.raise.ensures.now ∙ i.invariant.first_is;
       stale_is = c.raise.ensures.stale ∙ i.invariant.stale_is;
-      done = λ t since less. raised-next first old mid new (asked_at segments c.args.from) asked c.raise.ensures.at others i.invariant.done i.invariant.rest since (omega (arith, less, at));
-      rest = λ t since more. unchanged-next first place old mid new others i.invariant.rest since (omega (arith, more, at));
+      done = λ t since less. raised-next step (asked_at segments c.args.from) here i.invariant.done since (omega (arith, less, at));
+      rest = λ t since more. unchanged-next step since (omega (arith, more, at));
     }
 
 pub returns-clause-totals : goal.returns-clause-totals

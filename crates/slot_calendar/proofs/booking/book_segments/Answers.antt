@@ -1,6 +1,6 @@
 use Rattle.std.proofs.Common.{◌≡◌, ◌<◌, ◌≤◌, ◌+◌, get_or, length, arith, ◌∙◌, rules}
 use Rattle.plan_cert.specs.declared.Segment.{Segment}
-use Rattle.slot_calendar.proofs.Sending.{asked-next, asked-front, slots-next}
+use Rattle.slot_calendar.proofs.Sending.{IsSegmentFrom, asked-next, asked-front, slots-next}
 use Rattle.slot_calendar.proofs.booking.book_segments.Goals as goal
 
 pub book_segment-requires-clause-fits : goal.book_segment-requires-clause-fits
@@ -9,7 +9,9 @@ book_segment-requires-clause-fits c = λ t from. (
     let segments = c.args.segments.now in
     let s : Segment = get_or segments i.segment-index (record { slots = 0; bytes = 0 }) in
     let since : c.args.ring.now.first ≤ t = omega (arith, from, i.invariant.first_is) in
-    let next = asked-next {s = s} {from = i.from} segments i.segment-index c.args.start t (omega arith) (search rules) i.invariant.from_is in
+    let at : IsSegmentFrom segments i.segment-index s c.args.start i.from =
+    record { inside = omega arith; segment_is = search rules; from_is = i.invariant.from_is } in
+    let next = asked-next t at in
     omega (arith, next, asked-front segments (i.segment-index + 1) c.args.start t, i.invariant.totals t since, c.requires.fits t since)
     )
 
@@ -20,12 +22,13 @@ loop-segment-preserved c =
     let s : Segment = get_or segments i.segment-index (record { slots = 0; bytes = 0 }) in
     let inside : i.segment-index < length segments = omega arith in
     let is : s ≡ get_or segments i.segment-index s = search rules in
+    let at : IsSegmentFrom segments i.segment-index s c.args.start i.from = record { inside = inside; segment_is = is; from_is = i.invariant.from_is } in
     record {
       from_is = omega (arith, i.invariant.from_is, slots-next segments i.segment-index s inside is);
       first_is = c.book_segment.ensures.now ∙ i.invariant.first_is;
       stale_is = c.book_segment.ensures.stale ∙ i.invariant.stale_is;
       totals = λ t since. (
-          let next = asked-next segments i.segment-index c.args.start t inside is i.invariant.from_is in
+          let next = asked-next t at in
           let added = c.book_segment.ensures.totals t (omega (arith, since, i.invariant.first_is)) in
           omega (arith, next, added, i.invariant.totals t since)
           );

@@ -2,7 +2,7 @@ use Rattle.std.proofs.Common.{◌≡◌, ◌≤◌, ◌+◌, ◌-◌, ℕ, [], �
 use Rattle.std.proofs.lemmas.Bool.{cases_lt}
 use Rattle.slot_calendar.specs.Plays.{cut_at}
 use Rattle.slot_calendar.specs.Totals.{total_at}
-use Rattle.slot_calendar.proofs.Sending.{cut-here, cut-after, one-slots, lowered-next, unchanged-next, sent-step}
+use Rattle.slot_calendar.proofs.Sending.{OneSlotMore, cut-here, cut-after, one-slots, lowered-next, unchanged-next, sent-step}
 use Rattle.slot_calendar.proofs.booking.release_segment.Goals as goal
 
 pub overflow_sub-over : goal.overflow_sub-over
@@ -18,7 +18,8 @@ give_back-requires c = λ from. (
     let segments = c.args.segment ∷ [] in
     let place = c.args.from + i.passed in
     let cut : cut_at segments c.args.from c.args.keep place ≡ c.saturating_sub-over.result - i.before =
-    cut-here segments c.args.from c.args.keep i.passed i.invariant.before_is (c.sent_through.ensures.sent c.args.from) c.saturating_sub-over.ensures in
+    cut-here segments c.args.from c.args.keep i.passed i.invariant.before_is
+    (c.saturating_sub-over.ensures ∙ ap (λ n. n - c.args.keep) (sym (c.sent_through.ensures.sent c.args.from))) in
     let since : c.args.ring.now.first ≤ place = omega (arith, from, i.invariant.first_is) in
     omega (arith, cut, c.requires.booked place since, i.invariant.rest place since (omega arith))
     )
@@ -34,15 +35,25 @@ loop-passed-preserved c =
     let mid = total_at i.ring.first i.ring.totals in
     let new = total_at c.give_back.new.ring.first c.give_back.new.ring.totals in
     let cut : cut_at segments c.args.from c.args.keep place ≡ by =
-    cut-here segments c.args.from c.args.keep i.passed i.invariant.before_is (c.sent_through.ensures.sent c.args.from) c.saturating_sub-over.ensures in
-    let others : (t : ℕ) → first ≤ t → (t ≡ place → ⊥) → new t ≡ mid t = λ t since other. c.give_back.ensures.others t (omega (arith, since, i.invariant.first_is)) other in
+    cut-here segments c.args.from c.args.keep i.passed i.invariant.before_is
+    (c.saturating_sub-over.ensures ∙ ap (λ n. n - c.args.keep) (sym (c.sent_through.ensures.sent c.args.from))) in
+    let step : OneSlotMore = record {
+      first = first;
+      place = place;
+      old = old;
+      mid = mid;
+      new = new;
+      others = λ t since other. c.give_back.ensures.others t (omega (arith, since, i.invariant.first_is)) other;
+      rest = i.invariant.rest;
+    } in
     let here : first ≤ place → new place + by ≡ mid place = λ from. c.give_back.ensures.at (omega (arith, from, i.invariant.first_is)) in
+    let here' : first ≤ place → new place + cut_at segments c.args.from c.args.keep place ≡ mid place = λ from. omega (arith, cut, here from) in
     let at : c.args.from + (i.passed + 1) ≡ place + 1 = omega arith in
     record {
       before_is = c.saturating_sub-over.ensures ∙ ap (λ n. n - c.args.keep) (sym (c.sent_through.ensures.sent c.args.from));
       first_is = c.give_back.ensures.now ∙ i.invariant.first_is;
-      done = λ t since less. lowered-next first old mid new (cut_at segments c.args.from c.args.keep) cut here others i.invariant.done i.invariant.rest since (omega (arith, less, at));
-      rest = λ t since more. unchanged-next first place old mid new others i.invariant.rest since (omega (arith, more, at));
+      done = λ t since less. lowered-next step (cut_at segments c.args.from c.args.keep) here' i.invariant.done since (omega (arith, less, at));
+      rest = λ t since more. unchanged-next step since (omega (arith, more, at));
     }
 
 pub returns-clause-totals : goal.returns-clause-totals

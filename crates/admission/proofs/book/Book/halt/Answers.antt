@@ -32,9 +32,15 @@ invariant_of-self c =
     let can : CanHalt state c.args.number c.args.keep = subst C (sym c.self.view_is) c.requires in
     let fewer = open-halted state (length book.entries.items) c.args.number c.args.keep can in
     let F : List Entry → Type 0 = λ l. Follows c.give_back.new.calendar (next_state (state_after l) (length book.entries.items) (Halt c.args.number c.args.keep) Halted) in
-    kept-push _ c.self.invariant
-    can c.note.ensures.items c.give_back.ensures.steps (subst F c.as_slice.ensures.value (c.give_back.ensures.next (length book.entries.items)))
-    (omega (arith, fewer, c.self.invariant.count_is)) (omega (arith, fewer, c.self.invariant.count_is, c.self.invariant.within)) c.note.ensures.room
+    kept-push c.self.invariant (record {
+      entries_are = c.note.ensures.items;
+      answered = can;
+      steps_are = c.give_back.ensures.steps;
+      follows = subst F c.as_slice.ensures.value (c.give_back.ensures.next (length book.entries.items));
+      more_is = omega (arith, fewer, c.self.invariant.count_is);
+      fits = omega (arith, fewer, c.self.invariant.count_is, c.self.invariant.within);
+      wide_is = c.note.ensures.room;
+    })
 
 pub returns-clause-noted : goal.returns-clause-noted
 returns-clause-noted c =
@@ -44,4 +50,6 @@ returns-clause-noted c =
     let new : Journal = record { steps = c.give_back.new.calendar.steps; limit = book.limit; entries = c.note.new.entries.items } in
     let P : Journal → Type 0 = λ j. IsNoted j c.args.maker (Halt c.args.number c.args.keep) c.note.result new in
     subst P c.self.view_is (noted-push book.limit
-    c.self.invariant.legal can c.note.ensures.place c.note.ensures.answer c.note.ensures.items c.give_back.ensures.steps)
+    c.self.invariant.legal can
+    (record { place_is = c.note.ensures.place; answer_is = c.note.ensures.answer; entries_are = c.note.ensures.items })
+    c.give_back.ensures.steps)

@@ -11,11 +11,16 @@ invariant_of-self c =
     let book = c.self.inside in
     let entries : length book.entries.items ≡ length c.args.self.now.entries = ap (λ (j : Journal). length j.entries) c.self.view_is in
     let count : open_count book.entries.items ≡ open_count c.args.self.now.entries = ap (λ (j : Journal). open_count j.entries) c.self.view_is in
-    kept-push _ c.self.invariant
-    (look-answer book.calendar.steps c.min-slot.result
-    c.self.invariant.follows c.now-now.ensures.value c.max-at.ensures c.booked_bytes-booked.ensures.value)
-    c.note.ensures.items refl c.self.invariant.follows c.self.invariant.count_is
-    (omega (arith, c.if-full-self.false, c.counts-full.ensures.full.entries_are, c.counts-full.ensures.full.live_is, c.self.invariant.count_is, entries, count)) c.note.ensures.room
+    kept-push c.self.invariant (record {
+      entries_are = c.note.ensures.items;
+      answered = look-answer book.calendar.steps c.min-slot.result
+          c.self.invariant.follows c.now-now.ensures.value c.max-at.ensures c.booked_bytes-booked.ensures.value;
+      steps_are = refl;
+      follows = c.self.invariant.follows;
+      more_is = c.self.invariant.count_is;
+      fits = omega (arith, c.if-full-self.false, c.counts-full.ensures.full.entries_are, c.counts-full.ensures.full.live_is, c.self.invariant.count_is, entries, count);
+      wide_is = c.note.ensures.room;
+    })
 
 pub returns-clause-noted : goal.returns-clause-noted
 returns-clause-noted c =
@@ -29,4 +34,4 @@ returns-clause-noted c =
     c.self.invariant.legal
     (look-answer book.calendar.steps c.min-slot.result
     c.self.invariant.follows c.now-now.ensures.value c.max-at.ensures c.booked_bytes-booked.ensures.value)
-    c.note.ensures.place c.note.ensures.answer c.note.ensures.items refl))
+    (record { place_is = c.note.ensures.place; answer_is = c.note.ensures.answer; entries_are = c.note.ensures.items }) refl))

@@ -6,6 +6,7 @@ use Rattle.admission.specs.declared.entries.Entry.{Entry}
 use Rattle.admission.specs.Machine.{CanHalt}
 use Rattle.admission.specs.Books.{IsNoted, Journal}
 use Rattle.admission.specs.Histories.{open_count, state_after}
+use Rattle.admission.proofs.Runs.{Machine}
 use Rattle.admission.proofs.Journals.{kept-push, noted-push, open-asked, opens-most}
 use Rattle.admission.proofs.Opens.{opened-last}
 use Rattle.admission.proofs.Within.{sound-after}
@@ -19,20 +20,27 @@ invariant_of-self c =
     let count : open_count book.entries.items ≡ open_count c.args.self.now.entries = ap (λ (j : Journal). open_count j.entries) c.self.view_is in
     let within = (sound-after book.calendar.steps book.entries.items c.self.invariant.legal).within in
     let answer = c.admit-answer.ensures.answer state c.self.invariant.follows within in
-    kept-push _ c.self.invariant
-    answer c.note.ensures.items c.admit-answer.ensures.steps (c.admit-answer.ensures.next state (length book.entries.items) c.self.invariant.follows)
-    (omega (arith, open-asked book.calendar.steps state (length book.entries.items) c.min-slot.result c.args.plan c.admit-answer.result answer, c.opened_by.ensures, c.self.invariant.count_is))
-    (omega (
-      arith,
-      c.if-full-self.false,
-      c.counts-full.ensures.full.entries_are,
-      c.counts-full.ensures.full.live_is,
-      c.self.invariant.count_is,
-      entries,
-      count,
-      c.opened_by.ensures,
-      opens-most c.admit-answer.result,
-    )) c.note.ensures.room
+    let machine : Machine = record { steps = book.calendar.steps; state = state } in
+    let asked = open-asked machine (length book.entries.items) c.min-slot.result c.args.plan c.admit-answer.result answer in
+    kept-push c.self.invariant (record {
+      entries_are = c.note.ensures.items;
+      answered = answer;
+      steps_are = c.admit-answer.ensures.steps;
+      follows = c.admit-answer.ensures.next state (length book.entries.items) c.self.invariant.follows;
+      more_is = omega (arith, asked, c.opened_by.ensures, c.self.invariant.count_is);
+      fits = omega (
+        arith,
+        c.if-full-self.false,
+        c.counts-full.ensures.full.entries_are,
+        c.counts-full.ensures.full.live_is,
+        c.self.invariant.count_is,
+        entries,
+        count,
+        c.opened_by.ensures,
+        opens-most c.admit-answer.result,
+      );
+      wide_is = c.note.ensures.room;
+    })
 
 pub returns-clause-noted : goal.returns-clause-noted
 returns-clause-noted c =
@@ -45,7 +53,8 @@ returns-clause-noted c =
     let S : ℕ → Type 0 = λ n. IsNoted c.args.self.now c.args.maker (Play n c.args.plan) c.note.result new in
     subst S c.min-slot.ensures
     (subst P c.self.view_is (noted-push book.limit
-    c.self.invariant.legal answer c.note.ensures.place c.note.ensures.answer c.note.ensures.items
+    c.self.invariant.legal answer
+    (record { place_is = c.note.ensures.place; answer_is = c.note.ensures.answer; entries_are = c.note.ensures.items })
     c.admit-answer.ensures.steps))
 
 pub returns-clause-open : goal.returns-clause-open

@@ -4,7 +4,7 @@ use Rattle.plan_cert.specs.declared.Segment.{Segment}
 use Rattle.plan_cert.specs.Slots.{total_slots}
 use Rattle.slot_calendar.specs.Profiles.{capacity_at}
 use Rattle.slot_calendar.specs.Calendars.{Entries, booked_at, IsCalendar, FitsIn, HasRoom, IsOverflowIn, IsFirstOverflow}
-use Rattle.slot_calendar.proofs.Sending.{slots-next}
+use Rattle.slot_calendar.proofs.Sending.{IsSegmentFrom, slots-next}
 use Rattle.slot_calendar.proofs.Rooms.{fits-next, first-overflow, room-all}
 use Rattle.slot_calendar.proofs.calendar.Calendar.first_overflow.Goals as goal
 
@@ -15,11 +15,12 @@ returns-in-Some c =
     let segments = c.segments-segments.result.now in
     let s : Segment = get_or segments i.segment-index (record { slots = 0; bytes = 0 }) in
     let over = c.in-Some.over in
+    let at : IsSegmentFrom segments i.segment-index s c.args.start i.from =
+    record { inside = omega arith; segment_is = search rules; from_is = i.invariant.from_is } in
     let Q : Entries → Type 0 = λ e. IsOverflowIn i.from (i.from + s.slots) (booked_at e) (capacity_at e.steps) i.from (s ∷ []) over in
     let P : List Segment → Type 0 = λ l. IsFirstOverflow old.first (booked_at old) (capacity_at old.steps) c.args.start l over in
     subst P c.segments-segments.ensures.value
-    (first-overflow i.segment-index (omega arith) (search rules)
-    i.invariant.from_is (omega (arith, i.invariant.from_is, c.requires.after)) i.invariant.fits (subst Q c.self.view_is c.in-Some.ensures))
+    (first-overflow at (omega (arith, i.invariant.from_is, c.requires.after)) i.invariant.fits (subst Q c.self.view_is c.in-Some.ensures))
 
 pub loop-segment-preserved : goal.loop-segment-preserved
 loop-segment-preserved c =
@@ -29,11 +30,11 @@ loop-segment-preserved c =
     let s : Segment = get_or segments i.segment-index (record { slots = 0; bytes = 0 }) in
     let inside : i.segment-index < length segments = omega arith in
     let is : s ≡ get_or segments i.segment-index s = search rules in
+    let at : IsSegmentFrom segments i.segment-index s c.args.start i.from = record { inside = inside; segment_is = is; from_is = i.invariant.from_is } in
     let Q : Entries → Type 0 = λ e. FitsIn i.from (i.from + s.slots) (booked_at e) (capacity_at e.steps) i.from (s ∷ []) in
     record {
       from_is = omega (arith, i.invariant.from_is, slots-next segments i.segment-index s inside is);
-      fits = fits-next (booked_at old) segments i.segment-index c.args.start inside is
-          i.invariant.from_is i.invariant.fits (subst Q c.self.view_is c.in_default.ensures);
+      fits = fits-next old.first (booked_at old) (capacity_at old.steps) at i.invariant.fits (subst Q c.self.view_is c.in_default.ensures);
     }
 
 pub returns : goal.returns

@@ -11,4 +11,5 @@ invariant_of-self c =
     (record { count_is = c.empty-2.ensures.count_is ∙ c.self.invariant.tops_are; each = c.empty-2.ensures.each })
 
 pub returns-clause-empty : goal.returns-clause-empty
-returns-clause-empty c = λ t. total-zeros c.empty.new.numbers.items c.args.now t (omega arith) (c.empty.ensures.count_is ∙ c.self.invariant.places_are) c.empty.ensures.each
+returns-clause-empty c = λ t. total-zeros c.args.now t
+    (record { some = omega arith; length_is = c.empty.ensures.count_is ∙ c.self.invariant.places_are }) c.empty.ensures.each

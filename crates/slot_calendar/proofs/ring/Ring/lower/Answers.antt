@@ -4,17 +4,20 @@ use Rattle.std.proofs.lemmas.List.{get_or_read}
 use Rattle.std.proofs.lemmas.Nat.{mod_below}
 use Rattle.slot_calendar.specs.Rings.{IsTopped, rotation}
 use Rattle.slot_calendar.specs.Totals.{total_at}
-use Rattle.slot_calendar.proofs.Turns.{total-in, total-past, set-here, set-there}
+use Rattle.slot_calendar.proofs.Turns.{HasPlaces, IsInTurn, total-in, total-past, set-here, set-there}
 use Rattle.slot_calendar.proofs.Blocks.{topped-lower}
 use Rattle.slot_calendar.proofs.ring.Ring.lower.Goals as goal
 
 -- the slot is one of the ring, since something is booked in it
-in_ring : (places : List ℕ) (first slot by : ℕ) → length places ≡ 1048576 → 0 < by → by ≤ total_at first (rotation (first % 1048576) places) slot → slot < first + 1048576
-in_ring places first slot by len some booked =
-    elim (cases_lt slot (first + 1048576)) [
-      | inl inside ↦ inside
-      | inr past ↦ (let none = total-past places first slot (omega arith) len past in absurd (omega (arith, none, some, booked)))
-    ]
+in_ring : {xs : List ℕ} (first slot : ℕ) → HasPlaces 1048576 xs → first ≤ slot → 0 < total_at first (rotation (first % 1048576) xs) slot
+    → IsInTurn 1048576 first slot
+in_ring first slot places from booked = record {
+  from = from;
+  inside = elim (cases_lt slot (first + 1048576)) [
+    | inl inside ↦ inside
+    | inr past ↦ (let none = total-past first slot places past in absurd (omega (arith, none, booked)))
+  ];
+}
 
 pub invariant_of-self : goal.invariant_of-self
 invariant_of-self c =
@@ -31,12 +34,13 @@ returns-clause-at c =
     let p = c.args.slot % 1048576 in
     let first : d.first ≡ c.args.self.now.first = ap (λ s. s.first) c.self.view_is in
     let old = ap (λ s. total_at s.first s.totals c.args.slot) c.self.view_is in
-    let in_turn = in_ring d.places.items d.first c.args.slot c.args.by c.self.invariant.places_are c.requires.some (omega (arith, old, c.requires.booked)) in
+    let places : HasPlaces 1048576 d.places.items = record { some = omega arith; length_is = c.self.invariant.places_are } in
+    let from : d.first ≤ c.args.slot = omega (arith, first, c.requires.from_now) in
+    let turn = in_ring d.first c.args.slot places from (omega (arith, old, c.requires.some, c.requires.booked)) in
     let inside : p < 1048576 = mod_below c.args.slot 1048576 (omega arith) in
     let value : c.index_mut.result.now ≡ get_or d.places.items p 0 = get_or_read d.places.items p c.index_mut.result.now (omega (arith, inside, c.self.invariant.places_are)) c.index_mut.ensures.value 0 in
-    let from : d.first ≤ c.args.slot = omega (arith, first, c.requires.from_now) in
-    let now = set-here {n = 1048576} {v = c.index_mut.result.now - c.args.by} d.places.items d.first c.args.slot (omega arith) c.self.invariant.places_are from in_turn in
-    let was = total-in {n = 1048576} d.places.items d.first c.args.slot (omega arith) c.self.invariant.places_are from in_turn in
+    let now = set-here (c.index_mut.result.now - c.args.by) places turn in
+    let was = total-in places turn in
     omega (arith, now, was, value, old, c.requires.booked)
 
 pub returns-clause-others : goal.returns-clause-others
@@ -44,7 +48,8 @@ returns-clause-others c = λ t since other. (
     let d = c.self.inside in
     let first : d.first ≡ c.args.self.now.first = ap (λ s. s.first) c.self.view_is in
     let old = ap (λ s. total_at s.first s.totals c.args.slot) c.self.view_is in
-    let in_turn = in_ring d.places.items d.first c.args.slot c.args.by c.self.invariant.places_are c.requires.some (omega (arith, old, c.requires.booked)) in
-    set-there d.places.items d.first c.args.slot t (c.index_mut.result.now - c.args.by) (omega arith) c.self.invariant.places_are (omega (arith, first, c.requires.from_now)) in_turn (omega (arith, first, since)) other
+    let places : HasPlaces 1048576 d.places.items = record { some = omega arith; length_is = c.self.invariant.places_are } in
+    let turn = in_ring d.first c.args.slot places (omega (arith, first, c.requires.from_now)) (omega (arith, old, c.requires.some, c.requires.booked)) in
+    set-there (c.index_mut.result.now - c.args.by) places turn (omega (arith, first, since)) other
     ∙ ap (λ s. total_at s.first s.totals t) c.self.view_is
     )

@@ -1,9 +1,9 @@
-use Rattle.std.proofs.Common.{◌≡◌, ◌<◌, ◌+◌, ◌/◌, ◌%◌, ℕ, max, get_or, set, arith, sym, ap, subst, ◌∙◌}
+use Rattle.std.proofs.Common.{◌≡◌, ◌<◌, ◌≤◌, ◌+◌, ◌/◌, ◌%◌, ℕ, max, get_or, set, arith, sym, ap, subst, ◌∙◌}
 use Rattle.std.proofs.lemmas.List.{get_or_read}
 use Rattle.std.proofs.lemmas.Nat.{mod_below}
 use Rattle.slot_calendar.specs.Rings.{IsTopped}
 use Rattle.slot_calendar.specs.Totals.{total_at}
-use Rattle.slot_calendar.proofs.Turns.{total-in, set-here, set-there}
+use Rattle.slot_calendar.proofs.Turns.{HasPlaces, IsInTurn, total-in, set-here, set-there}
 use Rattle.slot_calendar.proofs.Blocks.{topped-raise, block_in}
 use Rattle.slot_calendar.proofs.ring.Ring.raise.Goals as goal
 
@@ -26,14 +26,20 @@ returns-clause-at c =
     let first : d.first ≡ c.args.self.now.first = ap (λ s. s.first) c.self.view_is in
     let inside : p < 1048576 = mod_below c.args.slot 1048576 (omega arith) in
     let value : c.index.result.now ≡ get_or d.places.items p 0 = get_or_read d.places.items p c.index.result.now (omega (arith, inside, c.self.invariant.places_are)) c.index.ensures 0 in
-    let now = set-here d.places.items d.first c.args.slot (omega arith) c.self.invariant.places_are (omega (arith, first, c.requires.from_now)) (omega (arith, first, c.requires.within)) in
-    let was = total-in d.places.items d.first c.args.slot (omega arith) c.self.invariant.places_are (omega (arith, first, c.requires.from_now)) (omega (arith, first, c.requires.within)) in
+    let places : HasPlaces 1048576 d.places.items = record { some = omega arith; length_is = c.self.invariant.places_are } in
+    let turn : IsInTurn 1048576 d.first c.args.slot =
+    record { from = omega (arith, first, c.requires.from_now); inside = omega (arith, first, c.requires.within) } in
+    let now = set-here (c.index.result.now + c.args.by) places turn in
+    let was = total-in places turn in
     now ∙ ap (λ x. x + c.args.by) (value ∙ sym was) ∙ ap (λ s. total_at s.first s.totals c.args.slot + c.args.by) c.self.view_is
 
 pub returns-clause-others : goal.returns-clause-others
 returns-clause-others c = λ t from other. (
     let d = c.self.inside in
     let first : d.first ≡ c.args.self.now.first = ap (λ s. s.first) c.self.view_is in
-    set-there d.places.items d.first c.args.slot t (c.index.result.now + c.args.by) (omega arith) c.self.invariant.places_are (omega (arith, first, c.requires.from_now)) (omega (arith, first, c.requires.within)) (omega (arith, first, from)) other
+    let places : HasPlaces 1048576 d.places.items = record { some = omega arith; length_is = c.self.invariant.places_are } in
+    let turn : IsInTurn 1048576 d.first c.args.slot =
+    record { from = omega (arith, first, c.requires.from_now); inside = omega (arith, first, c.requires.within) } in
+    set-there (c.index.result.now + c.args.by) places turn (omega (arith, first, from)) other
     ∙ ap (λ s. total_at s.first s.totals t) c.self.view_is
     )
