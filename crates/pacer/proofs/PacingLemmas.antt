@@ -22,14 +22,17 @@ framed-cons : (piece : List ℕ) (pieces : List (List ℕ)) → length (framed_b
 framed-cons piece pieces = ap length (flat_map-cons (λ (p : List ℕ). p) piece pieces) ∙ length-append piece (framed_bytes pieces)
 
 -- the least boundary past a first piece
-least-cons : {pieces : List (List ℕ)} {other : ℕ} (piece : List ℕ) (at place number : ℕ) → 0 < at
+least-cons : {pieces : List (List ℕ)} {at other : ℕ} (piece : List ℕ) (place : ℕ) → 0 < at
     → ((x : ℕ) → IsBoundary pieces x → at - length piece ≤ x → place ≤ x)
-    → number ≤ length (piece ∷ pieces) → other ≡ begin_of (piece ∷ pieces) number → at ≤ other → length piece + place ≤ other
-least-cons {other} piece at place zero some least among is after = absurd (omega (arith, some, is, after))
-least-cons {pieces} {other} piece at place (suc k) some least among is after =
-    let begins = begin-cons piece pieces k in
-    let h = least (begin_of pieces k) (record { number = k; among = omega (arith, among); place_is = refl }) (omega (arith, begins, is, after)) in
-    omega (arith, h, begins, is)
+    → IsBoundary (piece ∷ pieces) other → at ≤ other → length piece + place ≤ other
+least-cons {pieces} {at} {other} piece place some least boundary after = numbered boundary.number boundary.among boundary.place_is
+  where
+    numbered : (number : ℕ) → number ≤ length (piece ∷ pieces) → other ≡ begin_of (piece ∷ pieces) number → length piece + place ≤ other
+    numbered zero among is = absurd (omega (arith, some, is, after))
+    numbered (suc k) among is =
+        let begins = begin-cons piece pieces k in
+        let h = least (begin_of pieces k) (record { number = k; among = omega (arith, among); place_is = refl }) (omega (arith, begins, is, after)) in
+        omega (arith, h, begins, is)
 
 -- the choice between the place and what the rest of the pieces give
 boundary-cons : {piece : List ℕ} {pieces : List (List ℕ)} {at : ℕ} {b : Bool} → (b ≡ true → at ≡ 0) → (b ≡ false → 0 < at)
@@ -48,7 +51,7 @@ boundary-cons {piece} {pieces} {at} {b = false} none some rest =
         place_is = ap (λ n. length piece + n) its.place_is ∙ sym (begin-cons piece pieces its.number);
       };
       after = omega (arith, rest.after);
-      least = λ other b h. least-cons piece at place b.number (some refl) rest.least b.among b.place_is h;
+      least = λ other b h. least-cons piece place (some refl) rest.least b h;
     }
 
 pub boundary-from : (pieces : List (List ℕ)) (at : ℕ) → at ≤ length (framed_bytes pieces) → IsBoundaryAfter pieces at (boundary_from pieces at)
@@ -92,12 +95,14 @@ due-of-both plan a b keep due is =
 
 -- ---- a step that failed
 
-pub step-failed : {stop : Bool} {slot : ℕ} {old : Pacing} {to whole : ℕ} {told_old told_new : Option (List Doing)}
-    (pieces : List (List ℕ)) (before : ℕ) (plan : List Segment) (start keep passed due sent : ℕ)
-    → pacing_of pieces before plan start keep passed due sent ≡ at_slot slot old → to ≡ step_end stop (pacing_of pieces before plan start keep passed due sent) → sent ≤ to
-    → HasStopped (bytes_between pieces (before + sent) (before + to)) told_old told_new whole
-    → HasFailed stop slot old (pacing_of pieces before plan start keep passed due (sent + whole)) told_old told_new
-step-failed {stop} {slot} {old} {to} {whole} {told_old} pieces before plan start keep passed due sent are end order stopped =
+pub step-failed : {stop : Bool} {slot : ℕ} {old : Pacing} {to whole : ℕ} {told_old told_new : Option (List Doing)} (pacing : Pacing)
+    → pacing ≡ at_slot slot old → to ≡ step_end stop pacing → pacing.sent ≤ to
+    → HasStopped (bytes_between pacing.pieces (pacing.before + pacing.sent) (pacing.before + to)) told_old told_new whole
+    → HasFailed stop slot old (record pacing { sent = pacing.sent + whole }) told_old told_new
+step-failed {stop} {slot} {old} {to} {whole} {told_old} pacing are end order stopped =
+    let pieces = pacing.pieces in
+    let before = pacing.before in
+    let sent = pacing.sent in
     let rest = drop (before + sent) (framed_bytes pieces) in
     let ends : to ≡ step_end stop (at_slot slot old) = end ∙ ap (λ (p : Pacing). step_end stop p) are in
     let begins : sent ≡ old.sent = ap (λ (p : Pacing). p.sent) are in

@@ -99,21 +99,21 @@ next-are pieces at most next is =
     ]
 
 -- one part more was sent
-pub more-sent : {pieces : List (List ℕ)} {at : ℕ} {next : List ℕ} {middle new : Option (List Doing)} (from most : ℕ)
+pub more-sent : {pieces : List (List ℕ)} {at : ℕ} {next : List ℕ} {middle new : Option (List Doing)} {from : ℕ} (most : ℕ)
     (old : Option (List Doing)) → IsNext pieces at next → from ≤ at
     → middle ≡ told_more old (sends (bytes_between pieces from at)) → new ≡ told_more middle (sends (take most next))
     → new ≡ told_more old (sends (bytes_between pieces from (at + min (length next) most)))
-more-sent {pieces} {at} {next} {new} from most old is order first then =
+more-sent {pieces} {at} {next} {new} {from} most old is order first then =
     sends-more old (bytes_between pieces from at) (take most next) first then
     ∙ ap (λ (l : List ℕ). told_more old (sends l)) (ap (λ (l : List ℕ). bytes_between pieces from at ++ l) (next-are pieces at most next is)
     ∙ between-join pieces from at (at + min (length next) most) order (omega arith))
 
 -- a part failed
 pub part-stopped : {pieces : List (List ℕ)} {at : ℕ} {next : List ℕ} {old middle new : Option (List Doing)}
-    {whole : ℕ} (from to : ℕ) → IsNext pieces at next → from ≤ at → at ≤ to
+    {whole from to : ℕ} → IsNext pieces at next → from ≤ at → at ≤ to
     → to ≤ length (framed_bytes pieces) → middle ≡ told_more old (sends (bytes_between pieces from at)) → HasStopped (take (to - at) next) middle new whole
     → HasStopped (bytes_between pieces from to) old new (at - from + whole)
-part-stopped {pieces} {at} {next} {old} {new} {whole} from to is order then within first stopped =
+part-stopped {pieces} {at} {next} {old} {new} {whole} {from} {to} is order then within first stopped =
     let most = to - at in
     let end = at + min (length next) most in
     let are = next-are pieces at most next is in

@@ -12,11 +12,11 @@ loop-at-preserved g c = record {
   count = omega (arith, c.loop-at.invariant.count, c.send_part.ensures.count);
   told =
       let P : ℕ → Type 0 = λ n. g.K.Link.told c.send_part.new.link ≡ told_more (g.K.Link.told c.args.link.now) (sends (bytes_between (g.T.Track.pieces c.args.track.now) c.args.from (c.loop-at.at + n))) in
-      subst P {x = min (length (slice_range c.part-part.new.head c.part-part.result.head_from c.part-part.result.head_to ++ c.part-part.result.payload.now)) (c.args.to - c.loop-at.at)} (sym c.in-Ok.ensures.number) (more-sent c.args.from (c.args.to - c.loop-at.at) _ c.part-part.ensures.bytes
+      subst P {x = min (length (slice_range c.part-part.new.head c.part-part.result.head_from c.part-part.result.head_to ++ c.part-part.result.payload.now)) (c.args.to - c.loop-at.at)} (sym c.in-Ok.ensures.number) (more-sent (c.args.to - c.loop-at.at) _ c.part-part.ensures.bytes
       c.loop-at.invariant.least c.loop-at.invariant.told c.in-Ok.ensures.whole);
 }
 
 pub returns-in-Err-clause-stopped : goal.returns-in-Err-clause-stopped
 returns-in-Err-clause-stopped g c =
-    part-stopped c.args.from c.args.to c.part-part.ensures.bytes
+    part-stopped c.part-part.ensures.bytes
     c.loop-at.invariant.least c.loop-at.invariant.most c.requires.within c.loop-at.invariant.told c.in-Err.ensures.stopped
