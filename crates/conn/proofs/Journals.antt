@@ -135,7 +135,7 @@ entry_after {seat} {next} {more} {command} {place} {answer} [] kept also number 
 entry_after {seat} {next} {more} {command} {place} {answer} (x ∷ xs) kept also number longer made =
     let all : length seat.seen + length (x ∷ xs) ≡ length next.seen =
     sym (length-append seat.seen (x ∷ xs)) ∙ ap (λ (es : List Entry). length es) longer in
-    omega (arith, all, last-place seat next more command place answer made)
+    omega (arith, all, last-place made)
 
 take_whole : (entries : List Entry) (n : ℕ) → n ≡ length entries → take n entries ≡ entries
 take_whole entries n is = take_all n entries (omega (arith, is))
@@ -150,11 +150,11 @@ entry_agrees {seat} {next} {more} {command} {place} {answer} kept also same made
     prefix-take made.before next.seen (e ∷ [], sym made.seen) place (omega (arith, made.place_is))
     ∙ take_whole made.before place made.place_is in
     let live_is : open_count (take place next.seen) ≡ open_count made.before = ap (λ (xs : List Entry). open_count xs) front in
-    let last = last-place seat next more command place answer made in (
+    let last = last-place made in (
       record {
         after = entry_after same.longer.0 kept also same.number same.longer.1 made;
         within = omega (arith, last);
-        entry = λ none. last-entry seat next more command place answer made none;
+        entry = λ none. last-entry made none;
         maker_is = refl;
         room = omega (arith, made.room, made.place_is, live_is, needed);
       },

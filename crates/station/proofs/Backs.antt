@@ -11,7 +11,7 @@ use Rattle.admission.specs.declared.entries.Full.{Full}
 use Rattle.admission.specs.Books.{Journal}
 use Rattle.admission.specs.Makers.{IsOpenAmong, made_by}
 use Rattle.turnstile.specs.declared.view.Terms.{Terms}
-use Rattle.turnstile.specs.Passes.{Standing}
+use Rattle.turnstile.specs.Passes.{PassState}
 use Rattle.turnstile.proofs.Prefixes.{prefix_self, prefix_trans}
 use Rattle.station.specs.declared.answers.Booking.{Booking}
 use Rattle.station.specs.declared.answers.Looked.{Looked as Seen}
@@ -20,10 +20,10 @@ use Rattle.station.specs.declared.answers.PlayRefused.TheVariants.{JournalFull, 
 use Rattle.station.specs.Ledgers.{IsEntered, IsFullFor, IsPlayRefused, look_at, play_of}
 use Rattle.station.specs.Answers.{IsFull, IsRefused, Made}
 use Rattle.station.specs.Seats.{IsSameSeat, Sitting}
-use Rattle.station.proofs.Entered.{IsAt, full_for, made, refused_for, seat_after}
-use Rattle.station.proofs.Plays.{opened}
+use Rattle.station.proofs.Entered.{IsAt, entry_made, full_for, refused_for, seat_after}
+use Rattle.station.proofs.Plays.{play_open}
 
-abbrev pub seat_of : Standing → Sitting
+abbrev pub seat_of : PassState → Sitting
 seat_of p = record {
   id = p.id;
   steps = p.terms.steps;
@@ -35,13 +35,13 @@ seat_of p = record {
   joined = p.joined;
 }
 
-pub back_seat : {taken back : Standing} {seat : Sitting} (p : Standing) (old new : Journal) → seat_of p ≡ seat → taken ≡ record p { seen = old.entries }
+pub back_seat : {taken back : PassState} {seat : Sitting} (p : PassState) (old new : Journal) → seat_of p ≡ seat → taken ≡ record p { seen = old.entries }
     → back ≡ record taken { seen = new.entries; mine = made_by taken.number new.entries } → seat_of back ≡ seat_after seat new
 back_seat {taken} {back} p old new v t n =
-    ap seat_of n ∙ (ap (λ (x : Standing). seat_of (record x { seen = new.entries; mine = made_by x.number new.entries })) t
+    ap seat_of n ∙ (ap (λ (x : PassState). seat_of (record x { seen = new.entries; mine = made_by x.number new.entries })) t
     ∙ ap (λ (s : Sitting). seat_after s new) v)
 
-pub back_at : {seat : Sitting} {old : Journal} (p : Standing) → seat_of p ≡ seat → IsPrefix p.seen old.entries → p.mine ≡ made_by p.number old.entries
+pub back_at : {seat : Sitting} {old : Journal} (p : PassState) → seat_of p ≡ seat → IsPrefix p.seen old.entries → p.mine ≡ made_by p.number old.entries
     → (let t : Terms = record { steps = old.steps; limit = old.limit } in t) ≡ p.terms → IsAt seat old
 back_at {old} p v longer own terms = record {
   steps = ap (λ (t : Terms). t.steps) terms ∙ ap (λ (s : Sitting). s.steps) v;
@@ -69,61 +69,81 @@ entered_longer {new} {maker} {more} {command} {place} {answer} e =
 pub full_longer : (old new : Journal) (more entries live_plays : ℕ) → IsFullFor old new more entries live_plays → IsPrefix old.entries new.entries
 full_longer old new more entries live_plays f = subst (λ (j : Journal). IsPrefix old.entries j.entries) (sym f.left) (prefix_self old.entries)
 
-pub play_longer : (r : Result Booking PlayRefused) (old new : Journal) (maker heard : ℕ) (plan : List Segment)
-    → IfOk r (λ b. IsEntered old new maker 2 (play_of heard plan) b.number (Admitted b.start)) → IfErr r (IsPlayRefused old new maker heard plan)
-    → IsPrefix old.entries new.entries
-play_longer (Ok b) old new maker heard plan is not = entered_longer is
-play_longer (Err (JournalFull back entries live_plays)) old new maker heard plan is not = full_longer old new 2 entries live_plays not.1
-play_longer (Err (PlayOverflow place slot booked asked)) old new maker heard plan is not =
+-- a maker's call at the book
+pub record BookCall : Type 0 where
+  pub old : Journal
+  pub new : Journal
+  pub maker : ℕ
+
+pub play_longer : (r : Result Booking PlayRefused) (call : BookCall) (heard : ℕ) (plan : List Segment)
+    → IfOk r (λ b. IsEntered call.old call.new call.maker 2 (play_of heard plan) b.number (Admitted b.start))
+    → IfErr r (IsPlayRefused call.old call.new call.maker heard plan)
+    → IsPrefix call.old.entries call.new.entries
+play_longer (Ok b) call heard plan is not = entered_longer is
+play_longer (Err (JournalFull back entries live_plays)) call heard plan is not = full_longer call.old call.new 2 entries live_plays not.1
+play_longer (Err (PlayOverflow place slot booked asked)) call heard plan is not =
     entered_longer not
 
-pub look_longer : (r : Result Seen Full) (old new : Journal) (maker slot : ℕ)
-    → IfOk r (λ l. IsEntered old new maker 1 (look_at slot) l.place (Looked l.now l.at l.booked)) → IfErr r (λ f. IsFullFor old new 1 f.entries f.live)
-    → IsPrefix old.entries new.entries
-look_longer (Ok l) old new maker slot is not = entered_longer is
-look_longer (Err f) old new maker slot is not = full_longer old new 1 f.entries f.live not
+pub look_longer : (r : Result Seen Full) (call : BookCall) (slot : ℕ)
+    → IfOk r (λ l. IsEntered call.old call.new call.maker 1 (look_at slot) l.place (Looked l.now l.at l.booked))
+    → IfErr r (λ f. IsFullFor call.old call.new 1 f.entries f.live)
+    → IsPrefix call.old.entries call.new.entries
+look_longer (Ok l) call slot is not = entered_longer is
+look_longer (Err f) call slot is not = full_longer call.old call.new 1 f.entries f.live not
 
 -- ---- a whole call: the seat took the turn, was lent the book, and gave it back
-pub record IsVisit (seat : Sitting) (back : Standing) (lent new : Journal) (maker : ℕ) : Type 0 where
+pub record IsVisit (seat : Sitting) (back : PassState) (lent new : Journal) (maker : ℕ) : Type 0 where
   pub at : IsAt seat lent
   pub back_is : seat_of back ≡ seat_after seat new
   pub maker_is : maker ≡ seat.number
 
-pub visit : {taken back : Standing} {seat : Sitting} {lent old last new : Journal} {maker risen : ℕ} (p : Standing) → seat_of p ≡ seat → taken ≡ record p { seen = old.entries }
-    → back ≡ record taken { seen = last.entries; mine = made_by taken.number last.entries } → last ≡ new → lent ≡ old
-    → IsPrefix p.seen old.entries → p.mine ≡ made_by p.number old.entries → (let t : Terms = record { steps = old.steps; limit = old.limit } in t) ≡ p.terms
-    → maker ≡ risen → risen ≡ p.number → IsVisit seat back lent new maker
-visit {taken} {back} {seat} {lent} {old} {last} {new} p v t left last_is lent_is longer own terms maker_is risen_is = record {
-  at = subst (IsAt seat) (sym lent_is) (back_at p v longer own terms);
-  back_is = back_seat p old new v t (left ∙ ap (λ (j : Journal). let q : Standing = record taken { seen = j.entries; mine = made_by taken.number j.entries } in q) last_is);
-  maker_is = maker_is ∙ (risen_is ∙ ap (λ (s : Sitting). s.number) v);
+-- a pass took the turn, and `old` is the book as it was then
+pub record HasTaken (p taken : PassState) (old : Journal) : Type 0 where
+  pub pass : taken ≡ record p { seen = old.entries }
+  pub longer : IsPrefix p.seen old.entries
+  pub own : p.mine ≡ made_by p.number old.entries
+  pub terms : (let t : Terms = record { steps = old.steps; limit = old.limit } in t) ≡ p.terms
+
+-- it was lent the book and gave the turn back, with the book as it is now
+pub record HasGivenBack (taken back : PassState) (old lent last new : Journal) : Type 0 where
+  pub left : back ≡ record taken { seen = last.entries; mine = made_by taken.number last.entries }
+  pub last_is : last ≡ new
+  pub lent_is : lent ≡ old
+
+pub visit : {taken back : PassState} {seat : Sitting} {lent old last new : Journal} {maker : ℕ} (p : PassState) → seat_of p ≡ seat
+    → HasTaken p taken old → HasGivenBack taken back old lent last new → maker ≡ p.number → IsVisit seat back lent new maker
+visit {taken} {seat} {old} {new} p v turn given maker_is = record {
+  at = subst (IsAt seat) (sym given.lent_is) (back_at p v turn.longer turn.own turn.terms);
+  back_is = back_seat p old new v turn.pass
+      (given.left ∙ ap (λ (j : Journal). let q : PassState = record taken { seen = j.entries; mine = made_by taken.number j.entries } in q) given.last_is);
+  maker_is = maker_is ∙ ap (λ (s : Sitting). s.number) v;
 }
 
-pub visit_same : {seat : Sitting} {back : Standing} {lent new : Journal} {maker : ℕ} → IsVisit seat back lent new maker → IsPrefix lent.entries new.entries → IsSameSeat seat (seat_of back)
+pub visit_same : {seat : Sitting} {back : PassState} {lent new : Journal} {maker : ℕ} → IsVisit seat back lent new maker → IsPrefix lent.entries new.entries → IsSameSeat seat (seat_of back)
 visit_same {seat} {back} {lent} {new} is longer = subst (IsSameSeat seat) (sym is.back_is) (same_after seat lent new is.at longer)
 
-pub visit_made : {seat : Sitting} {back : Standing} {lent new : Journal} {maker more : ℕ} {command : Command}
+pub visit_made : {seat : Sitting} {back : PassState} {lent new : Journal} {maker more : ℕ} {command : Command}
     {place : ℕ} {answer : Answer} → IsVisit seat back lent new maker
     → IsEntered lent new maker more command place answer → Made seat (seat_of back) more command place answer
 visit_made {seat} {back} {lent} {new} {more} {command} {place} {answer} is e =
     subst (λ s. Made seat s more command place answer) (sym is.back_is)
-    (made is.at (subst (λ k. IsEntered lent new k more command place answer) is.maker_is e))
+    (entry_made is.at (subst (λ k. IsEntered lent new k more command place answer) is.maker_is e))
 
-pub visit_open : {seat : Sitting} {back : Standing} {lent new : Journal} {maker number start keep : ℕ} (heard : ℕ)
+pub visit_open : {seat : Sitting} {back : PassState} {lent new : Journal} {maker number start keep : ℕ} (heard : ℕ)
     (plan : List Segment) → IsVisit seat back lent new maker
     → IsEntered lent new maker 2 (play_of heard plan) number (Admitted start) → keep ≤ total_bytes plan → IsOpenAmong back.mine number keep
 visit_open {back} {lent} {new} {number} {start} {keep} heard plan is e small =
     subst (λ (s : Sitting). IsOpenAmong s.mine number keep) (sym is.back_is)
-    (opened heard plan (subst (λ k. IsEntered lent new k 2 (play_of heard plan) number (Admitted start)) is.maker_is e) small)
+    (play_open heard plan (subst (λ k. IsEntered lent new k 2 (play_of heard plan) number (Admitted start)) is.maker_is e) small)
 
-pub visit_refused : {seat : Sitting} {back : Standing} {lent new : Journal} {maker : ℕ} (heard : ℕ)
+pub visit_refused : {seat : Sitting} {back : PassState} {lent new : Journal} {maker : ℕ} (heard : ℕ)
     (plan : List Segment) (why : PlayRefused) → IsVisit seat back lent new maker
     → IsPlayRefused lent new maker heard plan why → IsRefused seat (seat_of back) heard plan why
 visit_refused {seat} {back} {lent} {new} heard plan why is e =
     subst (λ s. IsRefused seat s heard plan why) (sym is.back_is)
     (refused_for new heard plan why is.at (subst (λ k. IsPlayRefused lent new k heard plan why) is.maker_is e))
 
-pub visit_full : {seat : Sitting} {back : Standing} {lent new : Journal} {maker more entries live_plays : ℕ} → IsVisit seat back lent new maker
+pub visit_full : {seat : Sitting} {back : PassState} {lent new : Journal} {maker more entries live_plays : ℕ} → IsVisit seat back lent new maker
     → IsFullFor lent new more entries live_plays → IsFull seat (seat_of back) more entries live_plays
 visit_full {seat} {back} {lent} {new} {more} {entries} {live_plays} is f =
     subst (λ s. IsFull seat s more entries live_plays) (sym is.back_is) (full_for is.at f)

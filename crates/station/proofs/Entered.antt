@@ -30,12 +30,20 @@ halts-noted {old} {new} {maker} {command} {noted} e own mine =
     let entries : new.entries ≡ old.entries ++ last ∷ [] = ap (λ (j : Journal). j.entries) e.journal_is in
     subst AreHaltsOwn (sym entries) (halts-push new.steps old.entries last (subst (IsLegal new.steps) entries e.legal) own mine)
 
--- so does a call that halts nothing, with or without an entry
-pub halts-told : {E : Type 0} (r : Result Noted E) (old new : Journal) (maker : ℕ) (command : Command) → is_halt command ≡ false
-    → IfOk r (λ noted. IsNoted old maker command noted new) → OnErr r (new ≡ old) → AreHaltsOwn old.entries → AreHaltsOwn new.entries
-halts-told (Ok noted) old new maker command other is left own = halts-noted is own
-    (λ number keep none e. absurd (true≢false (sym (ap is_halt e) ∙ other)))
-halts-told (Err why) old new maker command other is left own = subst (λ (j : Journal). AreHaltsOwn j.entries) (sym left) own
+-- a maker's call at the book that halts nothing
+pub record HaltlessCall : Type 0 where
+  pub old : Journal
+  pub new : Journal
+  pub maker : ℕ
+  pub command : Command
+  pub no_halt : is_halt command ≡ false
+
+-- so does such a call, with or without an entry
+pub halts-told : {E : Type 0} (r : Result Noted E) (call : HaltlessCall) → IfOk r (λ noted. IsNoted call.old call.maker call.command noted call.new)
+    → OnErr r (call.new ≡ call.old) → AreHaltsOwn call.old.entries → AreHaltsOwn call.new.entries
+halts-told (Ok noted) call is left own = halts-noted is own
+    (λ number keep none e. absurd (true≢false (sym (ap is_halt e) ∙ call.no_halt)))
+halts-told (Err why) call is left own = subst (λ (j : Journal). AreHaltsOwn j.entries) (sym left) own
 
 -- a seat at a book that begins with what it has seen
 pub record IsAt (seat : Sitting) (book : Journal) : Type 0 where
@@ -48,9 +56,9 @@ pub record IsAt (seat : Sitting) (book : Journal) : Type 0 where
 abbrev pub seat_after : Sitting → Journal → Sitting
 seat_after seat book = record seat { seen = book.entries; mine = made_by seat.number book.entries }
 
-pub made : {seat : Sitting} {old new : Journal} {more : ℕ} {command : Command} {place : ℕ} {answer : Answer} → IsAt seat old
+pub entry_made : {seat : Sitting} {old new : Journal} {more : ℕ} {command : Command} {place : ℕ} {answer : Answer} → IsAt seat old
     → IsEntered old new seat.number more command place answer → Made seat (seat_after seat new) more command place answer
-made {seat} {old} {new} {more} {command} {place} {answer} at e =
+entry_made {seat} {old} {new} {more} {command} {place} {answer} at e =
     let last : Entry = record { maker = seat.number; command = command; answer = answer } in
     let entries : new.entries ≡ old.entries ++ last ∷ [] = ap (λ (j : Journal). j.entries) e.noted.journal_is in record {
       before = old.entries;
@@ -77,4 +85,4 @@ pub refused_for : {seat : Sitting} {old : Journal} (new : Journal) (heard : ℕ)
     (why : PlayRefused) → IsAt seat old
     → IsPlayRefused old new seat.number heard plan why → IsRefused seat (seat_after seat new) heard plan why
 refused_for new heard plan (JournalFull back entries live_plays) at f = (f.0, full_for at f.1)
-refused_for new heard plan (PlayOverflow place slot booked asked) at e = made at e
+refused_for new heard plan (PlayOverflow place slot booked asked) at e = entry_made at e

@@ -17,7 +17,7 @@ pub halts-push : (steps : List CapStep) (xs : List Entry) (e : Entry) → IsLega
     → AreHaltsOwn (xs ++ e ∷ [])
 halts-push steps xs e legal own last = record {
   each = λ i number keep none halt.
-      let earlier : number < i = halt-later steps (xs ++ e ∷ []) number keep i legal halt in
+      let earlier : number < i = halt-later legal halt in
       let inside = halt.inside in
       let long : length (xs ++ e ∷ []) ≡ length xs + 1 = length-append xs (e ∷ []) in
       let front : number < length xs = omega arith in

@@ -6,18 +6,20 @@ use Rattle.early_start.specs.declared.Tried.{Tried}
 use Rattle.early_start.specs.Offered.{Found, IsOffer, IsStart}
 
 -- where another start than the first is found, or none, a start was tried
-some-tried : {first n : ℕ} {start : Option ℕ} (from : ℕ) (booked capacity : ℕ → ℕ) (segments : List Segment)
-    (wait : ℕ)
-    → IsStart from booked capacity segments first wait n start → (start ≡ Some first → ⊥) → 0 < n
-some-tried {first} {start = None} from booked capacity segments wait is other = omega (arith, is)
-some-tried {first} {n = zero} {start = Some s} from booked capacity segments wait is other = let same : s ≡ first = omega (arith, is.1) in absurd (other (ap (λ k. Some k) same))
-some-tried {first} {n = suc n} {start = Some s} from booked capacity segments wait is other = omega arith
+some-tried : {from : ℕ} {booked capacity : ℕ → ℕ} {segments : List Segment} {first : ℕ} {found : Found}
+    → IsOffer from booked capacity segments first found → (found.start ≡ Some first → ⊥) → 0 < length found.tried
+some-tried {from} {booked} {capacity} {segments} {first} {found} offer other = tried found.start (length found.tried) offer.start other
+  where
+    tried : (start : Option ℕ) (n : ℕ) → IsStart from booked capacity segments first found.wait n start → (start ≡ Some first → ⊥) → 0 < n
+    tried None n is other = omega (arith, is)
+    tried (Some s) zero is other = let same : s ≡ first = omega (arith, is.1) in absurd (other (ap (λ k. Some k) same))
+    tried (Some s) (suc n) is other = omega arith
 
 -- then the first of them is the offer's first start, and its slot the first without room
 pub first-refusal : {from : ℕ} {booked capacity : ℕ → ℕ} {segments : List Segment} {first : ℕ} {found : Found}
     (none : Tried)
     → IsOffer from booked capacity segments first found → (found.start ≡ Some first → ⊥) → IsFirstOverflow from booked capacity first segments (get_or found.tried 0 none).over
 first-refusal {from} {booked} {capacity} {segments} {first} {found} none is other =
-    let some = some-tried from booked capacity segments found.wait is.start other in
+    let some = some-tried is other in
     let at : (get_or found.tried 0 none).start ≡ first = is.refusals.starts 0 none some ∙ omega arith in
     subst (λ (b : ℕ). IsFirstOverflow from booked capacity b segments (get_or found.tried 0 none).over) at (is.refusals.refused 0 none some)

@@ -31,12 +31,12 @@ none-later {steps} {xs} {number} {d} legal long {p} h before halts =
       inside = h.inside;
       command_is = λ n. ap (λ (e : Entry). e.command) (get_or_default xs h.at n d h.inside ∙ sym h.entry_is) ∙ is.1;
     } in
-    let later : number < h.at = halt-later steps xs number is.0 h.at legal halt in
+    let later : number < h.at = halt-later legal halt in
     omega (arith, h.place_is)
 
-pub opened : {new : Journal} {maker number start keep : ℕ} {old : Journal} (heard : ℕ) (plan : List Segment)
+pub play_open : {new : Journal} {maker number start keep : ℕ} {old : Journal} (heard : ℕ) (plan : List Segment)
     → IsEntered old new maker 2 (play_of heard plan) number (Admitted start) → keep ≤ total_bytes plan → IsOpenAmong (made_by maker new.entries) number keep
-opened {new} {maker} {number} {start} {keep} {old} heard plan e small =
+play_open {new} {maker} {number} {start} {keep} {old} heard plan e small =
     let last : Entry = record { maker = maker; command = play_of heard plan; answer = Admitted start } in
     let p : Placed = record { place = length old.entries; entry = last } in
     let mine : List Placed = made_by maker old.entries in

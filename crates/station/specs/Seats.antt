@@ -7,7 +7,7 @@ use Rattle.admission.specs.declared.entries.Entry.{Entry}
 use Rattle.admission.specs.Histories.{IsLegal}
 use Rattle.admission.specs.Makers.{AreHaltsOwn, Placed, made_by}
 use Rattle.turnstile.specs.declared.view.Joined.{Joined}
-use Rattle.turnstile.specs.Passes.{IsJoined, longer_list}
+use Rattle.turnstile.specs.Passes.{longer_list}
 
 -- a station: which one it is, the steps of the link's capacity, and the most entries
 pub record Hall : Type 0 where
@@ -82,13 +82,9 @@ after_join seat other = record seat {
   joined = seat.joined ++ record { number = other.number; mine = other.mine } ∷ other.joined;
 }
 
--- every seat that was split from the first one was joined
-pub record AllJoined (seat : Sitting) : Type 0 where
-  pub each : (number : ℕ) → 0 < number → number ≤ seat.splits → IsJoined seat.joined number
-
 -- The entries once all seats are back in the first one: they begin with what that one has seen, are
 -- legal, and each is of the first seat or of one that was joined, as they know it.
-pub record IsWhole (seat : Sitting) (entries : List Entry) : Type 0 where
+pub record IsJournalOf (seat : Sitting) (entries : List Entry) : Type 0 where
   pub seen : IsPrefix seat.seen entries
   pub legal : IsLegal seat.steps entries
   pub halts : AreHaltsOwn entries

@@ -8,7 +8,7 @@ ghost use Rattle.admission.specs.declared.entries.Command.{Command};
 ghost use Rattle.admission.specs.Makers.{IsOpenAmong};
 ghost use Rattle.station.specs.Answers.{IsFull, IsRefused, Made};
 ghost use Rattle.station.specs.Ledgers.{IsOffered, look_at, play_of};
-ghost use Rattle.station.specs.Seats.{AllJoined, IsSameSeat, IsSeat, IsWhole, after_join};
+ghost use Rattle.station.specs.Seats.{IsJournalOf, IsSameSeat, IsSeat, after_join};
 ghost use Rattle.station.specs.Seats.{after_split, first_seat, new_seat};
 
 use crate::answers::{Booking, Looked, Offered, PlayRefused};
@@ -195,8 +195,8 @@ impl Station {
     pub fn close(self, seat: Seat) -> Book
         requires seat { seat.id ≡ self.id }
         requires first { seat.number ≡ 0 }
-        requires all { AllJoined seat }
-        ensures whole { IsWhole seat result.entries }
+        requires all { AllJoined seat.splits seat.joined }
+        ensures whole { IsJournalOf seat result.entries }
         ensures steps { result.steps ≡ seat.steps }
         ensures limit { result.limit ≡ seat.limit }
     {

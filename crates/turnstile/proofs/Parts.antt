@@ -17,7 +17,7 @@ use Rattle.turnstile.specs.declared.view.View.{View}
 use Rattle.admission.specs.Makers.{made_by}
 use Rattle.turnstile.specs.Turns.{pass_count, ticket_count, has_ticket, IsLive, IsPast, Fits, Apart, IsRuled}
 use Rattle.turnstile.specs.Passes.{longer_list}
-use Rattle.turnstile.specs.Steps.{shorter_list, beginner, splitter, split_view, past_of, joiner, spent_view}
+use Rattle.turnstile.specs.Steps.{shorter_list, first_view, view_after_split, split_view, past_of, view_after_join, spent_view}
 use Rattle.turnstile.proofs.Prefixes.{prefix_shorter, made_nothing, made_between}
 use Rattle.turnstile.proofs.Sums.{total_set, total_push}
 use Rattle.turnstile.proofs.Turning.{lives, waits_in, idle_free, Free, one_at, at_inside, live_set, place_other}
@@ -37,11 +37,18 @@ at_either (x ∷ xs) ys (suc k) a e = at_either xs ys k a e
 none_there : {A : Type 0} (k : ℕ) (a : A) → get_elem? [] k ≡ some a → ⊥
 none_there k a e = some-ne-none a (sym e)
 
-longest : {b : Bool} {log : List Entry} (number : ℕ) (xs ys : List Entry) → IsPrefix xs log → IsPrefix ys log → made_by number xs ≡ made_by number log
+-- two lists that were seen of a log, the first of them with all that this number made
+record AreSeen (number : ℕ) (xs ys log : List Entry) : Type 0 where
+  pub first : IsPrefix xs log
+  pub second : IsPrefix ys log
+  pub own : made_by number xs ≡ made_by number log
+
+longer_seen : {b : Bool} {log : List Entry} (number : ℕ) (xs ys : List Entry) → AreSeen number xs ys log
     → (b ≡ true → length xs ≤ length ys) → (b ≡ false → length ys ≤ length xs)
     → IsPrefix (cond b ys xs) log × IsPrefix (cond b xs ys) (cond b ys xs) × (made_by number (cond b ys xs) ≡ made_by number log)
-longest {b = true} {log} number xs ys p q own less more = let h = prefix_shorter xs ys log p q (less refl) in (q, h, made_between number xs h q own)
-longest {b = false} {log} number xs ys p q own less more = (p, prefix_shorter ys xs log q p (more refl), own)
+longer_seen {b = true} {log} number xs ys seen less more =
+    let h = prefix_shorter xs ys log seen.first seen.second (less refl) in (seen.second, h, made_between number xs h seen.second seen.own)
+longer_seen {b = false} {log} number xs ys seen less more = (seen.first, prefix_shorter ys xs log seen.second seen.first (more refl), seen.own)
 
 module _ {B : Type 0} (entries : B → List Entry) (terms_of : B → Terms) (terms : Terms) where
   abbrev St : Type 0
@@ -100,9 +107,9 @@ module _ {B : Type 0} (entries : B → List Entry) (terms_of : B → Terms) (ter
   }
 
   pub splits : (id : ℕ) (v : View) → v.spent ≡ false → v.stage ≡ Idle → v.number ≡ 0 → v.splits + 1 < 2 ^ 32
-      → Splits Rule id v (splitter v) (split_view v)
+      → Splits Rule id v (view_after_split v) (split_view v)
   splits id v left idle head few s r at =
-      let w : View = splitter v in let x : View = split_view v in let f = r.each id v (at, left) in
+      let w : View = view_after_split v in let x : View = split_view v in let f = r.each id v (at, left) in
       let count : v.splits ≡ r.count = f.first head in
       let new : r.count < v.splits + 1 = omega arith in
       let sums = total_set pass_count s.views id v w at in let more = total_push pass_count (set s.views id w) x in
@@ -193,7 +200,7 @@ module _ {B : Type 0} (entries : B → List Entry) (terms_of : B → Terms) (ter
   longest_of : (s : St) (r : Rule s) (i j : ℕ) (v w : View) → IsLive s.views i v → IsLive s.views j w
       → IsPrefix (longer_list v.seen w.seen) r.log × IsPrefix (shorter_list v.seen w.seen) (longer_list v.seen w.seen) × (made_by v.number (longer_list v.seen w.seen) ≡ made_by v.number r.log)
   longest_of s r i j v w l k = let f = r.each i v l in let g = r.each j w k in
-      longest v.number v.seen w.seen f.seen g.seen (sym f.own ∙ f.mine)
+      longer_seen v.number v.seen w.seen (record { first = f.seen; second = g.seen; own = sym f.own ∙ f.mine })
       (λ e. dite (dec_le (length v.seen) (length w.seen)) (λ le. le) (λ no_le. absurd (true≢false (sym e ∙ le-ltb _ _ (omega arith)))))
       (λ e. dite (dec_le (length w.seen) (length v.seen)) (λ le. le) (λ no_le. absurd (true≢false (sym (lt-ltb _ _ (omega arith)) ∙ e))))
 
@@ -222,7 +229,7 @@ module _ {B : Type 0} (entries : B → List Entry) (terms_of : B → Terms) (ter
       }
 
   fits_join : (s : St) (r : Rule s) (id other : ℕ) (v w : View) → other ≢ id → IsLive s.views id v → IsLive s.views other w
-      → Fits terms r.log r.count r.served r.drawn (joiner v w)
+      → Fits terms r.log r.count r.served r.drawn (view_after_join v w)
   fits_join s r id other v w apart live wlive =
       let f = r.each id v live in let g = r.each other w wlive in let h = longest_of s r id other v w live wlive in
       let theirs = r.apart other id w v apart wlive live in record {
@@ -246,7 +253,7 @@ module _ {B : Type 0} (entries : B → List Entry) (terms_of : B → Terms) (ter
       at_past (suc i) j e = let g = r.each other w wlive in let p = g.past i j e in
           record { mine = p.mine; few = p.few; other = (r.apart other id w v apart wlive live).past i j e }
 
-  apart_join : (v w u : View) → Apart v u → Apart w u → Apart (joiner v w) u
+  apart_join : (v w u : View) → Apart v u → Apart w u → Apart (view_after_join v w) u
   apart_join v w u a b = record {
     numbers = a.numbers;
     tickets = a.tickets;
@@ -260,9 +267,9 @@ module _ {B : Type 0} (entries : B → List Entry) (terms_of : B → Terms) (ter
       at_past (suc i) j e same = b.past i j e same
 
   pub joins : (id : ℕ) (v : View) (other : ℕ) (w : View) → v.spent ≡ false → w.spent ≡ false → v.stage ≡ Idle → w.stage ≡ Idle
-      → Joins Rule id v other w (joiner v w) spent_view
+      → Joins Rule id v other w (view_after_join v w) spent_view
   joins id v other w left wleft idle widle s r at apart wat =
-      let b : View = joiner v w in let x : View = spent_view in
+      let b : View = view_after_join v w in let x : View = spent_view in
       let w_at : get_elem? s.views other ≡ some w = sym (set_else s.views id other b apart) ∙ wat in
       let live : IsLive s.views id v = (at, left) in let wlive : IsLive s.views other w = (w_at, wleft) in
       let sums = total_set pass_count s.views id v b at in let sums' = total_set pass_count (set s.views id b) other w x wat in
@@ -294,7 +301,7 @@ module _ {B : Type 0} (entries : B → List Entry) (terms_of : B → Terms) (ter
         where_is = place_join s r.log id other v w b x apart live wlive idle widle idle refl r.where_is;
       }
 
-  pub starts : (value : B) → entries value ≡ [] → terms_of value ≡ terms → Rule (opening (0 ∷ 0 ∷ 0 ∷ []) (Some value ∷ []) (beginner terms))
+  pub starts : (value : B) → entries value ≡ [] → terms_of value ≡ terms → Rule (opening (0 ∷ 0 ∷ 0 ∷ []) (Some value ∷ []) (first_view terms))
   starts value empty same = record {
     log = [];
     count = 0;
@@ -327,6 +334,6 @@ module _ {B : Type 0} (entries : B → List Entry) (terms_of : B → Terms) (ter
     };
   }
     where
-      only : (P : ℕ → View → Type 0) → P 0 (beginner terms) → (i : ℕ) (v : View) → IsLive (beginner terms ∷ []) i v → P i v
-      only P here zero v live = subst (P 0) (some-injective (beginner terms) v live.0) here
+      only : (P : ℕ → View → Type 0) → P 0 (first_view terms) → (i : ℕ) (v : View) → IsLive (first_view terms ∷ []) i v → P i v
+      only P here zero v live = subst (P 0) (some-injective (first_view terms) v live.0) here
       only P here (suc i) v live = absurd (none_there i v live.0)

@@ -26,10 +26,10 @@ ticket_small Idle = omega arith
 ticket_small (Waits t) = omega arith
 ticket_small (Holds t) = omega arith
 
-bounded : (b : Bool) (n : ℕ) → n ≤ 1 → Rattle.std.proofs.Common.cond b 0 n ≤ Rattle.std.proofs.Common.cond b 0 1
-bounded true n le = omega arith
-bounded false n le = le
+cond_below : (b : Bool) (n : ℕ) → n ≤ 1 → Rattle.std.proofs.Common.cond b 0 n ≤ Rattle.std.proofs.Common.cond b 0 1
+cond_below true n le = omega arith
+cond_below false n le = le
 
 pub tickets_total : (views : List View) → total ticket_count views ≤ total pass_count views
 tickets_total [] = omega arith
-tickets_total (v ∷ rest) = let e = tickets_total rest in let b : ticket_count v ≤ pass_count v = bounded v.spent (has_ticket v.stage) (ticket_small v.stage) in omega arith
+tickets_total (v ∷ rest) = let e = tickets_total rest in let b : ticket_count v ≤ pass_count v = cond_below v.spent (has_ticket v.stage) (ticket_small v.stage) in omega arith

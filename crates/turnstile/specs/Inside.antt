@@ -4,7 +4,7 @@ use Rattle.turnstile.specs.declared.pass.Pass.TheInside.{Inside}
 use Rattle.turnstile.specs.declared.view.Stage.TheVariants.{Idle}
 use Rattle.turnstile.specs.declared.view.View.{View}
 use Rattle.admission.specs.Makers.{made_by}
-use Rattle.turnstile.specs.Passes.{Standing}
+use Rattle.turnstile.specs.Passes.{PassState}
 use Rattle.turnstile.specs.Steps.{spent_view}
 
 abbrev pub view_at_rest : List View → View
@@ -15,8 +15,8 @@ abbrev pub is_away : List View → Bool
 is_away [] = true
 is_away (v ∷ rest) = false
 
-abbrev pub standing_of : Inside → Standing
-standing_of p = record {
+abbrev pub pass_state : Inside → PassState
+pass_state p = record {
   id = p.badge.table_id;
   has_turn = is_away p.badge.views;
   number = p.number;

@@ -10,14 +10,14 @@ use Rattle.turnstile.specs.declared.view.Terms.{Terms}
 use Rattle.admission.specs.Makers.{made_by}
 
 -- which turnstile it is, and what stays of the kept value
-pub record Gate : Type 0 where
+pub record TurnstileState : Type 0 where
   pub id : TableId
   pub terms : Terms
 
 -- a pass: the turnstile that made it, whether it has the turn, its number, what stays of the kept
 -- value, the list as it has seen it, its own entries in it, how many passes were split from it, and
 -- what those that were joined to it had made
-pub record Standing : Type 0 where
+pub record PassState : Type 0 where
   pub id : TableId
   pub has_turn : Bool
   pub number : ℕ
@@ -33,7 +33,7 @@ IsJoined [] number = ⊥
 IsJoined (j ∷ rest) number = (j.number ≡ number) ⊎ IsJoined rest number
 
 -- the first pass of a turnstile
-abbrev pub first_pass : Gate → Standing
+abbrev pub first_pass : TurnstileState → PassState
 first_pass gate = record {
   id = gate.id;
   has_turn = false;
@@ -46,11 +46,11 @@ first_pass gate = record {
 }
 
 -- a pass after one more was split from it
-abbrev pub after_split : Standing → Standing
+abbrev pub after_split : PassState → PassState
 after_split pass = record pass { splits = pass.splits + 1 }
 
 -- the pass that was split from it
-abbrev pub new_pass : Standing → Standing
+abbrev pub new_pass : PassState → PassState
 new_pass pass = record {
   id = pass.id;
   has_turn = false;
@@ -67,15 +67,15 @@ abbrev pub longer_list : List Entry → List Entry → List Entry
 longer_list xs ys = if (ltb (length xs) (length ys)) then ys else xs
 
 -- a pass after another was joined to it
-abbrev pub after_join : Standing → Standing → Standing
+abbrev pub after_join : PassState → PassState → PassState
 after_join pass other = record pass {
   seen = longer_list pass.seen other.seen;
   joined = pass.joined ++ record { number = other.number; mine = other.mine } ∷ other.joined;
 }
 
 -- every pass that was split from the first one was joined
-pub record AllJoined (standing : Standing) : Type 0 where
-  pub each : (number : ℕ) → 0 < number → number ≤ standing.splits → IsJoined standing.joined number
+pub record AllJoined (splits : ℕ) (joined : List Joined) : Type 0 where
+  pub each : (number : ℕ) → 0 < number → number ≤ splits → IsJoined joined number
 
 -- the list is as it was seen, or has one more entry, of this maker
 abbrev pub MayLeave : List Entry → ℕ → List Entry → Type 0
@@ -84,12 +84,12 @@ MayLeave seen maker list = (list ≡ seen)
 
 -- a turn: the pass as it was when it took it, and the value
 pub record Turning (B : Type 0) : Type 0 where
-  pub pass : Standing
+  pub pass : PassState
   pub value : B
 
 -- The list once all passes are back in the first one: it begins with what that one has seen, and
 -- each entry in it is of the first pass or of one that was joined, as they know it.
-pub record IsWholeList (pass : Standing) (list : List Entry) : Type 0 where
+pub record IsWholeList (pass : PassState) (list : List Entry) : Type 0 where
   pub seen : IsPrefix pass.seen list
   pub mine : pass.mine ≡ made_by pass.number list
   pub joined : (i : ℕ) (none : Joined) → i < length pass.joined →

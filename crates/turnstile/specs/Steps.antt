@@ -22,8 +22,8 @@ ticket_of (Waits t) = t
 ticket_of (Holds t) = t
 
 -- the first pass, before any step
-abbrev pub beginner : Terms → View
-beginner terms = record {
+abbrev pub first_view : Terms → View
+first_view terms = record {
   spent = false;
   number = 0;
   stage = Idle;
@@ -37,8 +37,8 @@ beginner terms = record {
 }
 
 -- a pass after one more split
-abbrev pub splitter : View → View
-splitter v = record v { splits = v.splits + 1 }
+abbrev pub view_after_split : View → View
+view_after_split v = record v { splits = v.splits + 1 }
 
 -- the pass that is split from it
 abbrev pub split_view : View → View
@@ -59,8 +59,8 @@ abbrev pub past_of : View → Joined
 past_of w = record { number = w.number; mine = w.mine }
 
 -- a pass after another was joined to it
-abbrev pub joiner : View → View → View
-joiner v w = record v {
+abbrev pub view_after_join : View → View → View
+view_after_join v w = record v {
   seen = longer_list v.seen w.seen;
   told = shorter_list v.seen w.seen;
   told_terms = w.terms;

@@ -4,11 +4,11 @@ use Rattle.atomic_table.specs.Seated.{TableId}
 use Rattle.atomic_table.specs.declared.shared.Seat.{Seat}
 use Rattle.turnstile.specs.declared.view.View.{View}
 use Rattle.admission.specs.Makers.{made_by}
-use Rattle.turnstile.specs.Passes.{Standing}
+use Rattle.turnstile.specs.Passes.{PassState}
 use Rattle.turnstile.specs.Steps.{IsTurn}
 
 -- a pass that rests with this view
-abbrev pub stands_as : TableId → View → Standing
+abbrev pub stands_as : TableId → View → PassState
 stands_as id v = record {
   id = id;
   has_turn = false;

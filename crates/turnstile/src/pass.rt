@@ -23,13 +23,13 @@ pub struct Pass {
 }
 
 impl Model for Pass {
-    ghost use Rattle.turnstile.specs.Passes.{Standing};
+    ghost use Rattle.turnstile.specs.Passes.{PassState};
 
-    ghost Value = { Standing };
+    ghost Value = { PassState };
 
-    ghost use Rattle.turnstile.specs.Inside.{standing_of, IsPass};
+    ghost use Rattle.turnstile.specs.Inside.{pass_state, IsPass};
 
-    ghost view = { standing_of };
+    ghost view = { pass_state };
 
     ghost invariant = { IsPass };
 }
@@ -50,7 +50,7 @@ impl Pass {
     }
 
     /// A pass that rests.
-    pub(crate) fn resting<B>(place: Place<B>, number: u32, splits: u32) -> Pass
+    pub(crate) fn at_rest<B>(place: Place<B>, number: u32, splits: u32) -> Pass
         requires free { IsFree place.me }
         requires view { IsViewOf number splits place.me.0 }
         ensures { result ≡ stands_as place.table_id place.me.0 }

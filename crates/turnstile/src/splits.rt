@@ -1,5 +1,5 @@
 //! How a pass is split, and how two are joined.
-ghost use Rattle.turnstile.specs.Steps.{joiner, split_view, spent_view, splitter};
+ghost use Rattle.turnstile.specs.Steps.{view_after_join, split_view, spent_view, view_after_split};
 
 use crate::view::View;
 use atomic_table::{Join, Split};
@@ -7,7 +7,7 @@ use atomic_table::{Join, Split};
 pub(crate) struct Splits;
 
 impl Split<View> for Splits {
-    ghost left = { splitter };
+    ghost left = { view_after_split };
 
     ghost right = { split_view };
 }
@@ -15,7 +15,7 @@ impl Split<View> for Splits {
 pub(crate) struct Joins;
 
 impl Join<View> for Joins {
-    ghost both = { joiner };
+    ghost both = { view_after_join };
 
     ghost spent = { spent_view };
 }

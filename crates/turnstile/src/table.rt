@@ -24,11 +24,11 @@ pub(crate) struct Turns<B> {
 
 impl<B: Kept> TableRule<Option<B>, View, Snapshot<B>> for Turns<B> {
     ghost use Rattle.turnstile.specs.Turns.{IsRuled};
-    ghost use Rattle.turnstile.specs.Steps.{beginner};
+    ghost use Rattle.turnstile.specs.Steps.{first_view};
 
     ghost holds = { λ key. IsRuled B.entries B.terms (B.terms key.value) };
 
-    ghost first = { λ key. beginner (B.terms key.value) };
+    ghost first = { λ key. first_view (B.terms key.value) };
 }
 
 pub(crate) type Board<B> = Table<Option<B>, View, Snapshot<B>, Turns<B>, Global>;

@@ -32,9 +32,9 @@ pub struct Turnstile<B: Kept> {
 }
 
 impl<B: Kept> Model for Turnstile<B> {
-    ghost use Rattle.turnstile.specs.Passes.{Gate};
+    ghost use Rattle.turnstile.specs.Passes.{TurnstileState};
 
-    ghost Value = { Gate };
+    ghost Value = { TurnstileState };
 
     ghost use Rattle.turnstile.specs.Sized.{IsSized};
 
@@ -68,7 +68,7 @@ impl<B: Kept> Turnstile<B> {
                     table,
                     bells: Bells::new(),
                 },
-                Pass::resting(seat, 0, 0),
+                Pass::at_rest(seat, 0, 0),
             )),
             Err(_) => Err(NoMemory),
         }
@@ -105,7 +105,7 @@ impl<B: Kept> Turnstile<B> {
         } }
     {
         let place = turn.end(&self.table.shared, &self.bells);
-        *pass = Pass::resting(place, pass.number(), pass.splits());
+        *pass = Pass::at_rest(place, pass.number(), pass.splits());
     }
 
     /// A new pass, which has seen as much. The k-th that is split has the number k.
@@ -122,8 +122,8 @@ impl<B: Kept> Turnstile<B> {
         let mut other = self.table.shared.split_seat::<Splits>(&mut place);
         tell(&self.table.shared, &mut other);
         let splits = pass.splits() + 1;
-        *pass = Pass::resting(place, 0, splits);
-        Pass::resting(other, splits, 0)
+        *pass = Pass::at_rest(place, 0, splits);
+        Pass::at_rest(other, splits, 0)
     }
 
     /// Takes in what another pass has seen and made. Passes of one turnstile have the same terms.
@@ -143,7 +143,7 @@ impl<B: Kept> Turnstile<B> {
         let theirs = other.rise();
         self.table.shared.join_seat::<Joins>(&mut place, theirs);
         tell(&self.table.shared, &mut place);
-        *pass = Pass::resting(place, pass.number(), pass.splits());
+        *pass = Pass::at_rest(place, pass.number(), pass.splits());
     }
 
     /// The value, once every pass was joined to the first one.
@@ -151,7 +151,7 @@ impl<B: Kept> Turnstile<B> {
         requires own { pass.id ≡ self.id }
         requires free { pass.has_turn ≡ false }
         requires first { pass.number ≡ 0 }
-        requires all { AllJoined pass }
+        requires all { AllJoined pass.splits pass.joined }
         ensures whole { IsWholeList pass (B.entries result) }
         ensures terms { B.terms result ≡ pass.terms }
     {

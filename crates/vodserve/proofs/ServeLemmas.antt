@@ -28,7 +28,7 @@ use Rattle.slot_calendar.specs.declared.profiles.CapStep.{CapStep}
 use Rattle.admission.specs.declared.entries.Entry.{Entry}
 use Rattle.admission.specs.Histories.{IsLegal}
 use Rattle.admission.specs.Makers.{made_by}
-use Rattle.station.specs.Seats.{Hall, Sitting, IsWhole}
+use Rattle.station.specs.Seats.{Hall, Sitting, IsJournalOf}
 use Rattle.command_words.specs.Words.{Serving}
 use Rattle.troubles.specs.Causes.{IsReadTrouble}
 use Rattle.troubles.specs.declared.faults.Fault.{Fault}
@@ -177,7 +177,7 @@ newly_open_as how (Some c) is = is.0
 
 -- the journal of a station that was closed
 pub closed_journal : {G : Type 0} {told : G → Option Content} {serving : Serving} {hall : Hall}
-    {workers : List (Worker G)} {seat : Sitting} {gate : Option Content} {entries : List Entry} → AreJoined told hall (length workers) workers seat gate → IsWhole seat entries → hall.steps ≡ serving.capacity →
+    {workers : List (Worker G)} {seat : Sitting} {gate : Option Content} {entries : List Entry} → AreJoined told hall (length workers) workers seat gate → IsJournalOf seat entries → hall.steps ≡ serving.capacity →
     length workers ≡ serving.listening.workers → IsJournal serving entries
 closed_journal {entries} back whole steps count = record {
   legal = subst (λ (s : List CapStep). IsLegal s entries) (back.steps ∙ steps) whole.legal;
@@ -192,7 +192,7 @@ pub have_worked : {G : Type 0} {told : G → Option Content} {faults : G → ℕ
     {gate gate' : Outlet} {end : PartEnd} {reports : List ConnReport} →
     AreWorkers told faults hall 0 workers → All (HasFinished told faults films (settings_of serving) seed) workers →
     AreJoined told hall (length workers) workers seat gate'.told → All (λ worker. 0 < faults worker.part → HasRisen gate.faults gate'.faults) workers →
-    IsWhole seat entries → IsStationOf serving hall → length workers ≡ serving.listening.workers → IsOpenAs (opening_of serving) gate'.told → AreLeft (map report_of workers) end reports →
+    IsJournalOf seat entries → IsStationOf serving hall → length workers ≡ serving.listening.workers → IsOpenAs (opening_of serving) gate'.told → AreLeft (map report_of workers) end reports →
     HaveWorked films seed serving entries gate gate' end reports
 have_worked {seed} {serving} {workers} {seat} {entries} {gate} {gate'} {end} all finished back counted whole of_words count open_as left = record {
   parts = map report_of workers;

@@ -15,11 +15,11 @@ use Rattle.film_frames.specs.declared.stores.Stored.{Stored}
 use Rattle.admission.specs.declared.entries.Entry.{Entry}
 use Rattle.admission.specs.Makers.{made_by}
 use Rattle.slot_calendar.specs.declared.profiles.CapStep.{CapStep}
-use Rattle.turnstile.specs.Passes.{IsJoined}
+use Rattle.turnstile.specs.Passes.{AllJoined, IsJoined}
 use Rattle.turnstile.specs.declared.view.Joined.{Joined}
 use Rattle.turnstile.proofs.Prefixes.{prefix_trans}
 use Rattle.conn.specs.Journals.{Terms, terms_of}
-use Rattle.station.specs.Seats.{AllJoined, Hall, IsSameSeat, Sitting, after_join}
+use Rattle.station.specs.Seats.{Hall, IsSameSeat, Sitting, after_join}
 use Rattle.conn.specs.Parts.{IsServed, IsUntouched, Outlet, duty, outlet}
 use Rattle.conn.specs.declared.reports.ConnReport.{ConnReport}
 use Rattle.conn.specs.declared.reports.PartReport.{PartReport}
@@ -218,7 +218,7 @@ joined_at told faults hall from (worker ∷ workers) all {k} low high = elim (ca
 
 pub all_joined : {G : Type 0} {told : G → Option Content} {hall : Hall} {workers : List (Worker G)} {seat : Sitting}
     {gate : Option Content} (faults : G → ℕ) →
-    AreWorkers told faults hall 0 workers → AreJoined told hall (length workers) workers seat gate → AllJoined seat
+    AreWorkers told faults hall 0 workers → AreJoined told hall (length workers) workers seat gate → AllJoined seat.splits seat.joined
 all_joined {told} {hall} {workers} faults all back = record {
   each = λ k low high. subst (λ (js : List Joined). IsJoined js k) (sym back.joined)
       (joined_at told faults hall 0 workers all low (omega (arith, high, back.splits)));

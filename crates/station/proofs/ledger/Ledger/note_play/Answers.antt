@@ -1,8 +1,15 @@
 use Rattle.std.proofs.Common.{refl, min, ◌^◌}
 use Rattle.admission.specs.declared.entries.Command.TheVariants.{Play}
-use Rattle.station.proofs.Entered.{halts-told}
+use Rattle.station.proofs.Entered.{HaltlessCall, halts-told}
 use Rattle.station.proofs.ledger.Ledger.note_play.Goals as goal
 
 pub invariant_of-self : goal.invariant_of-self
-invariant_of-self c = halts-told c.play.result c.self.inside.book c.play.new.self c.args.maker (Play (min c.args.heard (2 ^ 62)) c.args.plan) refl
-    c.play.ensures.noted c.play.ensures.left c.self.invariant
+invariant_of-self c =
+    let call : HaltlessCall = record {
+      old = c.self.inside.book;
+      new = c.play.new.self;
+      maker = c.args.maker;
+      command = Play (min c.args.heard (2 ^ 62)) c.args.plan;
+      no_halt = refl;
+    } in
+    halts-told c.play.result call c.play.ensures.noted c.play.ensures.left c.self.invariant

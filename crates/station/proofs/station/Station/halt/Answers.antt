@@ -1,3 +1,4 @@
+use Rattle.std.proofs.Common.{◌∙◌}
 use Rattle.admission.specs.declared.entries.Answer.TheVariants.{Halted}
 use Rattle.admission.specs.declared.entries.Command.TheVariants.{Halt}
 use Rattle.station.proofs.Backs.{entered_longer, visit, visit_made, visit_same}
@@ -5,13 +6,19 @@ use Rattle.station.proofs.station.Station.halt.Goals as goal
 
 pub returns-clause-same : goal.returns-clause-same
 returns-clause-same g c =
-    let is = visit c.seat.inside.pass c.seat.view_is c.enter-turn.ensures.pass
-    c.leave.ensures c.value-2.ensures.value c.value.ensures.value c.enter-turn.ensures.longer c.enter-turn.ensures.own c.enter-turn.ensures.terms c.number-maker.ensures c.enter-turn.ensures.number in
+    let turn = c.enter-turn.ensures in
+    let is = visit c.seat.inside.pass c.seat.view_is
+    (record { pass = turn.pass; longer = turn.longer; own = turn.own; terms = turn.terms })
+    (record { left = c.leave.ensures; last_is = c.value-2.ensures.value; lent_is = c.value.ensures.value })
+    (c.number-maker.ensures ∙ turn.number) in
     visit_same is
     (entered_longer c.halt-place.ensures)
 
 pub returns-clause-made : goal.returns-clause-made
 returns-clause-made g c =
-    let is = visit c.seat.inside.pass c.seat.view_is c.enter-turn.ensures.pass
-    c.leave.ensures c.value-2.ensures.value c.value.ensures.value c.enter-turn.ensures.longer c.enter-turn.ensures.own c.enter-turn.ensures.terms c.number-maker.ensures c.enter-turn.ensures.number in
+    let turn = c.enter-turn.ensures in
+    let is = visit c.seat.inside.pass c.seat.view_is
+    (record { pass = turn.pass; longer = turn.longer; own = turn.own; terms = turn.terms })
+    (record { left = c.leave.ensures; last_is = c.value-2.ensures.value; lent_is = c.value.ensures.value })
+    (c.number-maker.ensures ∙ turn.number) in
     visit_made is c.halt-place.ensures

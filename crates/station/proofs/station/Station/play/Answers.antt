@@ -1,24 +1,31 @@
-use Rattle.std.proofs.Common.{◌≤◌, ℕ}
+use Rattle.std.proofs.Common.{◌≤◌, ℕ, ◌∙◌}
 use Rattle.std.proofs.lemmas.Result.{IfErr-weaker, IfOk-weaker}
 use Rattle.plan_cert.specs.Slots.{total_bytes}
 use Rattle.admission.specs.Makers.{IsOpenAmong}
 use Rattle.admission.specs.declared.entries.Answer.TheVariants.{Admitted}
 use Rattle.station.specs.Answers.{IsRefused, Made}
 use Rattle.station.specs.Ledgers.{IsEntered, IsPlayRefused, play_of}
-use Rattle.station.proofs.Backs.{play_longer, seat_of, visit, visit_made, visit_open, visit_refused, visit_same}
+use Rattle.station.proofs.Backs.{BookCall, play_longer, seat_of, visit, visit_made, visit_open, visit_refused, visit_same}
 use Rattle.station.proofs.station.Station.play.Goals as goal
 
 pub returns-clause-same : goal.returns-clause-same
 returns-clause-same g c =
-    let is = visit c.seat.inside.pass c.seat.view_is c.enter-turn.ensures.pass
-    c.leave.ensures c.value-2.ensures.value c.value.ensures.value c.enter-turn.ensures.longer c.enter-turn.ensures.own c.enter-turn.ensures.terms c.number-maker.ensures c.enter-turn.ensures.number in
+    let turn = c.enter-turn.ensures in
+    let is = visit c.seat.inside.pass c.seat.view_is
+    (record { pass = turn.pass; longer = turn.longer; own = turn.own; terms = turn.terms })
+    (record { left = c.leave.ensures; last_is = c.value-2.ensures.value; lent_is = c.value.ensures.value })
+    (c.number-maker.ensures ∙ turn.number) in
+    let call : BookCall = record { old = c.value.result.now; new = c.play-told.new.self; maker = c.number-maker.result } in
     visit_same is
-    (play_longer c.play-told.result c.value.result.now c.play-told.new.self c.number-maker.result c.args.heard c.args.plan c.play-told.ensures.made c.play-told.ensures.refused)
+    (play_longer c.play-told.result call c.args.heard c.args.plan c.play-told.ensures.made c.play-told.ensures.refused)
 
 pub returns-clause-made : goal.returns-clause-made
 returns-clause-made g c =
-    let is = visit c.seat.inside.pass c.seat.view_is c.enter-turn.ensures.pass
-    c.leave.ensures c.value-2.ensures.value c.value.ensures.value c.enter-turn.ensures.longer c.enter-turn.ensures.own c.enter-turn.ensures.terms c.number-maker.ensures c.enter-turn.ensures.number in
+    let turn = c.enter-turn.ensures in
+    let is = visit c.seat.inside.pass c.seat.view_is
+    (record { pass = turn.pass; longer = turn.longer; own = turn.own; terms = turn.terms })
+    (record { left = c.leave.ensures; last_is = c.value-2.ensures.value; lent_is = c.value.ensures.value })
+    (c.number-maker.ensures ∙ turn.number) in
     IfOk-weaker c.play-told.result (λ b. IsEntered c.value.result.now c.play-told.new.self c.number-maker.result 2 (play_of c.args.heard c.args.plan) b.number (Admitted b.start))
     (λ b. Made c.args.seat.now (seat_of c.leave.new.pass) 2 (play_of c.args.heard c.args.plan) b.number (Admitted b.start))
     (λ b e. visit_made is e)
@@ -26,8 +33,11 @@ returns-clause-made g c =
 
 pub returns-clause-open : goal.returns-clause-open
 returns-clause-open g c =
-    let is = visit c.seat.inside.pass c.seat.view_is c.enter-turn.ensures.pass
-    c.leave.ensures c.value-2.ensures.value c.value.ensures.value c.enter-turn.ensures.longer c.enter-turn.ensures.own c.enter-turn.ensures.terms c.number-maker.ensures c.enter-turn.ensures.number in
+    let turn = c.enter-turn.ensures in
+    let is = visit c.seat.inside.pass c.seat.view_is
+    (record { pass = turn.pass; longer = turn.longer; own = turn.own; terms = turn.terms })
+    (record { left = c.leave.ensures; last_is = c.value-2.ensures.value; lent_is = c.value.ensures.value })
+    (c.number-maker.ensures ∙ turn.number) in
     IfOk-weaker c.play-told.result (λ b. IsEntered c.value.result.now c.play-told.new.self c.number-maker.result 2 (play_of c.args.heard c.args.plan) b.number (Admitted b.start))
     (λ b. (keep : ℕ) → keep ≤ total_bytes c.args.plan → IsOpenAmong c.leave.new.pass.mine b.number keep)
     (λ b e keep small. visit_open c.args.heard c.args.plan is e small)
@@ -35,8 +45,11 @@ returns-clause-open g c =
 
 pub returns-clause-refused : goal.returns-clause-refused
 returns-clause-refused g c =
-    let is = visit c.seat.inside.pass c.seat.view_is c.enter-turn.ensures.pass
-    c.leave.ensures c.value-2.ensures.value c.value.ensures.value c.enter-turn.ensures.longer c.enter-turn.ensures.own c.enter-turn.ensures.terms c.number-maker.ensures c.enter-turn.ensures.number in
+    let turn = c.enter-turn.ensures in
+    let is = visit c.seat.inside.pass c.seat.view_is
+    (record { pass = turn.pass; longer = turn.longer; own = turn.own; terms = turn.terms })
+    (record { left = c.leave.ensures; last_is = c.value-2.ensures.value; lent_is = c.value.ensures.value })
+    (c.number-maker.ensures ∙ turn.number) in
     IfErr-weaker c.play-told.result (IsPlayRefused c.value.result.now c.play-told.new.self c.number-maker.result c.args.heard c.args.plan)
     (IsRefused c.args.seat.now (seat_of c.leave.new.pass) c.args.heard c.args.plan)
     (λ why e. visit_refused c.args.heard c.args.plan why is e)

@@ -1,6 +1,6 @@
 use Rattle.std.proofs.Common.{◌≡◌, ap, sym, ◌∙◌, Option, Some, None, subst}
 use mathlib.Core.Option.{some-injective}
-use Rattle.turnstile.specs.Passes.{AllJoined, IsWholeList}
+use Rattle.turnstile.specs.Passes.{AllJoined, IsWholeList, PassState}
 use Rattle.turnstile.specs.Taken.{stands_as}
 use Rattle.turnstile.proofs.Closing.{closes}
 use Rattle.turnstile.proofs.turnstile.Turnstile.close.Goals as goal
@@ -12,7 +12,7 @@ value_or d (Some x) = x
 pub unreachable-requires : goal.unreachable-requires
 unreachable-requires g c =
     let v = c.rise.result.me.0 in let free = c.rise.ensures.free in let old = c.rise.ensures.old in
-    let all : AllJoined (stands_as c.rise.result.table_id v) = subst AllJoined old c.requires.all in
+    let all : AllJoined v.splits v.joined = subst (λ (p : PassState). AllJoined p.splits p.joined) old c.requires.all in
     let last = closes g.B.Kept.entries g.B.Kept.terms (g.B.Kept.terms c.self.inside.table.shared.key.value) c.rise.result.table_id c.rise.result.id v
     free.left free.idle (c.rise.ensures.view.number_is ∙ c.requires.first) all.each _ _ c.close_with-closed.ensures.values.2 in
     c.in_default.not-Some last.value (some-injective _ _ (sym c.take-slot.ensures.value ∙ last.slot))
@@ -20,7 +20,7 @@ unreachable-requires g c =
 pub returns-clause-whole : goal.returns-clause-whole
 returns-clause-whole g c =
     let v = c.rise.result.me.0 in let free = c.rise.ensures.free in let old = c.rise.ensures.old in
-    let all : AllJoined (stands_as c.rise.result.table_id v) = subst AllJoined old c.requires.all in
+    let all : AllJoined v.splits v.joined = subst (λ (p : PassState). AllJoined p.splits p.joined) old c.requires.all in
     let last = closes g.B.Kept.entries g.B.Kept.terms (g.B.Kept.terms c.self.inside.table.shared.key.value) c.rise.result.table_id c.rise.result.id v
     free.left free.idle (c.rise.ensures.view.number_is ∙ c.requires.first) all.each _ _ c.close_with-closed.ensures.values.2 in
     let same : c.in-Some.value ≡ last.value = ap (value_or c.in-Some.value) (sym c.in-Some.is ∙ some-injective _ _ (sym c.take-slot.ensures.value ∙ last.slot)) in
@@ -29,7 +29,7 @@ returns-clause-whole g c =
 pub returns-clause-terms : goal.returns-clause-terms
 returns-clause-terms g c =
     let v = c.rise.result.me.0 in let free = c.rise.ensures.free in let old = c.rise.ensures.old in
-    let all : AllJoined (stands_as c.rise.result.table_id v) = subst AllJoined old c.requires.all in
+    let all : AllJoined v.splits v.joined = subst (λ (p : PassState). AllJoined p.splits p.joined) old c.requires.all in
     let last = closes g.B.Kept.entries g.B.Kept.terms (g.B.Kept.terms c.self.inside.table.shared.key.value) c.rise.result.table_id c.rise.result.id v
     free.left free.idle (c.rise.ensures.view.number_is ∙ c.requires.first) all.each _ _ c.close_with-closed.ensures.values.2 in
     let same : c.in-Some.value ≡ last.value = ap (value_or c.in-Some.value) (sym c.in-Some.is ∙ some-injective _ _ (sym c.take-slot.ensures.value ∙ last.slot)) in
