@@ -6,6 +6,7 @@ use mpeg_scan::scan;
 use plan_cert::{Plan, Segment};
 use rtp_pack::Identity;
 use std::alloc::Global;
+use std::process::Abort;
 use std::test::Fail;
 use vod_base::{LinkFault, MemoryLink};
 
@@ -38,7 +39,7 @@ enum Call {
 type After = (u64, u64, bool, bool);
 
 /// The bytes that a step sent or where a halt was, and what holds after. None where a send failed.
-fn called(
+fn answer_to(
     pacer: &mut Pacer<Frames<'_>>,
     link: &mut MemoryLink,
     call: Call,
@@ -92,93 +93,108 @@ fn pacer_of(alloc: Global, film: &Stored) -> Result<Pacer<Frames<'_>>, Fail> {
     Ok(Pacer::new(frames, 0, plan, 1))
 }
 
-#[test]
-fn steps_film_b(rt: HostRuntime) -> Result<(), Fail> {
-    let alloc = rt.alloc();
-    let film = film_b(alloc)?;
-    let mut whole = Vec::new(alloc);
-    let calls: &[(u64, &[(Call, Option<u64>, After)])] = &[
-        (
-            0,
-            &[
-                (Call::Step(0), Some(0), (0, 0, true, false)),
-                (Call::Step(1), Some(35), (35, 35, false, false)),
-                (Call::Step(2), Some(35), (70, 70, false, false)),
-                (Call::Step(1), Some(0), (70, 70, false, false)),
-                (Call::Step(3), Some(36), (106, 106, true, false)),
-                (Call::Step(4), Some(35), (141, 141, true, true)),
-            ],
-        ),
-        (
-            0,
-            &[
-                (Call::Step(1), Some(35), (35, 35, false, false)),
-                (Call::Step(2), Some(35), (70, 70, false, false)),
-                (Call::Step(5), Some(71), (141, 141, true, true)),
-            ],
-        ),
-        (
-            0,
-            &[
-                (Call::Stop(2), Some(0), (0, 70, true, false)),
-                (Call::Step(1), Some(70), (70, 70, false, false)),
-                (Call::Stop(4), Some(36), (106, 141, true, false)),
-            ],
-        ),
-        (
-            0,
-            &[
-                (Call::Step(1), Some(35), (35, 35, false, false)),
-                (Call::Halt, Some(52), (35, 35, false, false)),
-                (Call::Stop(2), Some(17), (52, 52, true, true)),
-                (Call::Step(4), Some(0), (52, 52, true, true)),
-            ],
-        ),
-        (
-            0,
-            &[
-                (Call::Halt, Some(0), (0, 0, true, false)),
-                (Call::Step(1), Some(0), (0, 0, true, true)),
-            ],
-        ),
-        (1, &[(Call::Step(1), None, (0, 35, true, false))]),
-        (
-            2,
-            &[
-                (Call::Step(3), None, (52, 106, true, false)),
-                (Call::Step(3), Some(54), (106, 106, true, false)),
-            ],
-        ),
-        (
-            3,
-            &[
-                (Call::Step(3), None, (72, 106, false, false)),
-                (Call::Step(3), Some(34), (106, 106, true, false)),
-            ],
-        ),
+/// Calls, each with its answer and what holds after it.
+type Calls<'a> = &'a [(Call, Option<u64>, After)];
+
+/// The bytes that a new pacer of the film sent by these calls, over a link whose send of number
+/// `failing` fails; 0: none.
+fn sent_by(
+    rt: &impl Abort,
+    alloc: Global,
+    film: &Stored,
+    failing: u64,
+    calls: Calls<'_>,
+) -> Result<Vec<u8>, Fail> {
+    let mut pacer = pacer_of(alloc, film)?;
+    let failing = vec![in alloc; failing]?;
+    let Ok(mut link) = MemoryLink::new(alloc, Vec::new(alloc), 200, failing, Vec::new(alloc)) else {
+        return Err(Fail::from("no memory for a link"));
+    };
+    for (call, answer, after) in calls {
+        let got = answer_to(&mut pacer, &mut link, *call)?;
+        assert_eq!(rt; got, (*answer, *after), "at {call:?}");
+    }
+    assert_eq!(rt; link.sent().len() as u64, pacer.sent());
+    Ok(Vec::from_slice(alloc, link.sent())?)
+}
+
+/// All bytes of the film's play, slot after slot: the head of the report, the head of the first
+/// frame, and the units.
+fn whole_play(rt: &impl Abort, alloc: Global, film: &Stored) -> Result<Vec<u8>, Fail> {
+    let calls: Calls = &[
+        (Call::Step(0), Some(0), (0, 0, true, false)),
+        (Call::Step(1), Some(35), (35, 35, false, false)),
+        (Call::Step(2), Some(35), (70, 70, false, false)),
+        (Call::Step(1), Some(0), (70, 70, false, false)),
+        (Call::Step(3), Some(36), (106, 106, true, false)),
+        (Call::Step(4), Some(35), (141, 141, true, true)),
     ];
-    for (failing, calls) in calls {
-        let mut pacer = pacer_of(alloc, &film)?;
-        let failing = vec![in alloc; *failing]?;
-        let Ok(mut link) = MemoryLink::new(alloc, Vec::new(alloc), 200, failing, Vec::new(alloc))
-        else {
-            return Err(Fail::from("no memory for a link"));
-        };
-        for (call, answer, after) in *calls {
-            let got = called(&mut pacer, &mut link, *call)?;
-            assert_eq!(rt; got, (*answer, *after), "at {call:?}");
-        }
-        if whole.is_empty() {
-            whole.extend_from_slice(link.sent())?;
-            assert_eq!(rt; whole.get(..4), Some(&[0x24, 1, 0, 0x30][..]));
-            assert_eq!(rt;
-                whole.get(52..60),
-                Some(&[0x24, 0, 0, 0x32, 0x80, 0xa0, 0, 1][..])
-            );
-            assert_eq!(rt; whole.get(72..106), FILM_B.get(..34));
-            assert_eq!(rt; whole.get(126..), FILM_B.get(34..));
-        }
-        assert_eq!(rt; Some(link.sent()), whole.get(..pacer.sent() as usize));
+    let whole = sent_by(rt, alloc, film, 0, calls)?;
+    assert_eq!(rt; whole.get(..4), Some(&[0x24, 1, 0, 0x30][..]));
+    assert_eq!(rt;
+        whole.get(52..60),
+        Some(&[0x24, 0, 0, 0x32, 0x80, 0xa0, 0, 1][..])
+    );
+    assert_eq!(rt; whole.get(72..106), FILM_B.get(..34));
+    assert_eq!(rt; whole.get(126..), FILM_B.get(34..));
+    Ok(whole)
+}
+
+/// Calls that send the first bytes of the whole play.
+fn sends_the_front(rt: &impl Abort, alloc: Global, rows: &[(u64, Calls<'_>)]) -> Result<(), Fail> {
+    let film = film_b(alloc)?;
+    let whole = whole_play(rt, alloc, &film)?;
+    for (failing, calls) in rows {
+        let sent = sent_by(rt, alloc, &film, *failing, calls)?;
+        assert_eq!(rt; Some(sent.as_slice()), whole.get(..sent.len()));
     }
     Ok(())
+}
+
+#[test]
+fn steps_film_b(rt: HostRuntime) -> Result<(), Fail> {
+    let calls: Calls = &[
+        (Call::Step(1), Some(35), (35, 35, false, false)),
+        (Call::Step(2), Some(35), (70, 70, false, false)),
+        (Call::Step(5), Some(71), (141, 141, true, true)),
+    ];
+    sends_the_front(&rt, rt.alloc(), &[(0, calls)])
+}
+
+#[test]
+fn stops_and_halts_at_boundaries(rt: HostRuntime) -> Result<(), Fail> {
+    let stopped: Calls = &[
+        (Call::Stop(2), Some(0), (0, 70, true, false)),
+        (Call::Step(1), Some(70), (70, 70, false, false)),
+        (Call::Stop(4), Some(36), (106, 141, true, false)),
+    ];
+    let halted: Calls = &[
+        (Call::Step(1), Some(35), (35, 35, false, false)),
+        (Call::Halt, Some(52), (35, 35, false, false)),
+        (Call::Stop(2), Some(17), (52, 52, true, true)),
+        (Call::Step(4), Some(0), (52, 52, true, true)),
+    ];
+    let halted_at_once: Calls = &[
+        (Call::Halt, Some(0), (0, 0, true, false)),
+        (Call::Step(1), Some(0), (0, 0, true, true)),
+    ];
+    sends_the_front(
+        &rt,
+        rt.alloc(),
+        &[(0, stopped), (0, halted), (0, halted_at_once)],
+    )
+}
+
+#[test]
+fn goes_on_after_a_send_that_failed(rt: HostRuntime) -> Result<(), Fail> {
+    let first: Calls = &[(Call::Step(1), None, (0, 35, true, false))];
+    let second: Calls = &[
+        (Call::Step(3), None, (52, 106, true, false)),
+        (Call::Step(3), Some(54), (106, 106, true, false)),
+    ];
+    let third: Calls = &[
+        (Call::Step(3), None, (72, 106, false, false)),
+        (Call::Step(3), Some(34), (106, 106, true, false)),
+    ];
+    sends_the_front(&rt, rt.alloc(), &[(1, first), (2, second), (3, third)])
 }

@@ -64,9 +64,30 @@ fn follows(rt: &impl Abort, copy: Plan, plan: &Plan, text: &str) {
     );
 }
 
+/// A plan of these segments: what it sends in each slot, its text, and a cursor over it.
+fn sends_and_writes(
+    rt: &impl Abort,
+    alloc: Global,
+    pairs: &[(u64, u64)],
+    want: &[u64],
+    text: &str,
+) -> Result<(), Fail> {
+    let plan = plan_of(rt, alloc, pairs)?;
+    sends(rt, &plan, want, text);
+    let Ok(copy) = plan.copy() else {
+        panic!(rt; "no memory for a copy");
+    };
+    let Ok(written) = write_cert(alloc, &copy) else {
+        panic!(rt; "no memory for a text");
+    };
+    assert_eq!(rt; written.as_slice(), text.as_bytes());
+    follows(rt, copy, &plan, text);
+    Ok(())
+}
+
 /// Plans worked out by hand: the segments, the slots, and the text.
 #[test]
-fn sends_and_writes(rt: HostRuntime) -> Result<(), Fail> {
+fn plans_send_and_write(rt: HostRuntime) -> Result<(), Fail> {
     let rows: [(&[(u64, u64)], &[u64], &str); 7] = [
         (
             &[(5, 50)],
@@ -101,16 +122,7 @@ fn sends_and_writes(rt: HostRuntime) -> Result<(), Fail> {
         (&[], &[], "smooth 1\nslots 0\nbytes 0\nend\n"),
     ];
     for (pairs, want, text) in rows {
-        let plan = plan_of(&rt, rt.alloc(), pairs)?;
-        sends(&rt, &plan, want, text);
-        let Ok(copy) = plan.copy() else {
-            panic!(rt; "no memory for a copy");
-        };
-        let Ok(written) = write_cert(rt.alloc(), &copy) else {
-            panic!(rt; "no memory for a text");
-        };
-        assert_eq!(rt; written.as_slice(), text.as_bytes());
-        follows(&rt, copy, &plan, text);
+        sends_and_writes(&rt, rt.alloc(), pairs, want, text)?;
     }
     Ok(())
 }
@@ -134,77 +146,95 @@ fn knows_plans(rt: HostRuntime) {
     assert!(rt; !Plan::is_allowed(&[one, none]));
 }
 
-type Reading<'a> = (&'a str, Result<(u64, u64, &'a [(u64, u64)]), u64>);
+/// A certificate's text, with its two sums and its segments.
+type Reading<'a> = (&'a str, (u64, u64), &'a [(u64, u64)]);
 
-/// Texts, with what they say or the line that is bad.
 #[test]
-fn reads(rt: HostRuntime) -> Result<(), Fail> {
-    let rows: [Reading; 28] = [
+fn reads_certificates(rt: HostRuntime) -> Result<(), Fail> {
+    let rows: [Reading; 4] = [
         (
             "smooth 1\nslots 4\nbytes 12\nsegment 2 10\nsegment 2 2\nend\n",
-            Ok((4, 12, &[(2, 10), (2, 2)])),
+            (4, 12),
+            &[(2, 10), (2, 2)],
         ),
         (
             "smooth 1\nslots 3\nbytes 7\nsegment 3 7\nend\n",
-            Ok((3, 7, &[(3, 7)])),
+            (3, 7),
+            &[(3, 7)],
         ),
-        ("smooth 1\nslots 0\nbytes 0\nend\n", Ok((0, 0, &[]))),
+        ("smooth 1\nslots 0\nbytes 0\nend\n", (0, 0), &[]),
         (
             "smooth 1\nslots 0\nbytes 4398046511104\nsegment 0 4398046511104\nend\n",
-            Ok((0, 4_398_046_511_104, &[(0, 4_398_046_511_104)])),
+            (0, 4_398_046_511_104),
+            &[(0, 4_398_046_511_104)],
         ),
-        ("smooth 1\nslots 3\nbytes 7\nsegment 3 7\n", Err(5)),
-        ("", Err(1)),
-        ("smooth 1", Err(1)),
-        ("smooth 1\n", Err(2)),
-        ("smooth 1\r\nslots 0\nbytes 0\nend\n", Err(1)),
-        ("smooth 01\nslots 0\nbytes 0\nend\n", Err(1)),
-        ("smooth 1\nslots 03\nbytes 7\nsegment 3 7\nend\n", Err(2)),
-        ("smooth 1\nslots 3\nbytes\nsegment 3 7\nend\n", Err(3)),
-        (
-            "smooth 1\nslots 3\nslots 3\nbytes 7\nsegment 3 7\nend\n",
-            Err(3),
-        ),
-        ("smooth 1\nslots 3\nbytes 7\nsegment 03 7\nend\n", Err(4)),
-        ("smooth 1\nslots 3\nbytes 7\nsegment 3 07\nend\n", Err(4)),
-        ("smooth 1\nslots 3\nbytes 7\nsegment 3  7\nend\n", Err(4)),
-        ("smooth 1\nslots 3\nbytes 7\nsegment 3 7 \nend\n", Err(4)),
-        ("smooth 1\nslots 3\nbytes 7\nsegment 3\nend\n", Err(4)),
-        ("smooth 1\nslots 3\nbytes 7\n\nsegment 3 7\nend\n", Err(4)),
-        (
-            "smooth 1\nslots 3\nbytes 4398046511105\nsegment 3 4398046511105\nend\n",
-            Err(3),
-        ),
-        ("smooth 1\nslots 3\nbytes 7\nsegment 3 7\nend", Err(5)),
-        ("smooth 1\nslots 3\nbytes 7\nsegment 3 7\nend\nx", Err(6)),
-        ("smooth 1\nslots 3\nbytes 7\nsegment 3 7\nend\n\n", Err(6)),
-        (
-            "smooth 1\nslots 3\nbytes 7\nsegment 3 7\nend\nend\n",
-            Err(6),
-        ),
-        ("smooth 1\nslots 4\nbytes 7\nsegment 3 7\nend\n", Err(2)),
-        ("smooth 1\nslots 3\nbytes 8\nsegment 3 7\nend\n", Err(3)),
-        ("smooth 1\nslots 4\nbytes 8\nsegment 3 7\nend\n", Err(2)),
-        ("smooth 1\nslots 4\nbytes 8\nsegment 3 x\nend\n", Err(4)),
     ];
-    for (text, want) in rows {
-        match (read_cert(rt.alloc(), text.as_bytes()), want) {
-            (Ok(cert), Ok((slots, bytes, pairs))) => {
-                assert_eq!(rt; (cert.slots, cert.bytes), (slots, bytes), "sums of {text}");
-                let plan = segments_of(rt.alloc(), pairs)?;
-                assert_eq!(rt;
-                    cert.segments.as_slice(),
-                    plan.as_slice(),
-                    "segments of {text}"
-                );
-            }
-            (Err(refusal), Err(line)) => assert_eq!(rt;
-                refusal,
-                CertRead::BadCert { line },
-                "refusal of {text}"
-            ),
-            (read, _) => assert!(rt; false, "{text} gave {read:?}"),
-        }
+    for (text, sums, pairs) in rows {
+        let Ok(cert) = read_cert(rt.alloc(), text.as_bytes()) else {
+            panic!(rt; "{text} is refused");
+        };
+        assert_eq!(rt; (cert.slots, cert.bytes), sums, "sums of {text}");
+        let plan = segments_of(rt.alloc(), pairs)?;
+        assert_eq!(rt;
+            cert.segments.as_slice(),
+            plan.as_slice(),
+            "segments of {text}"
+        );
     }
     Ok(())
+}
+
+/// A text is refused, and this is its bad line.
+fn names_the_line(rt: &impl Abort, alloc: Global, text: &str, line: u64) {
+    let refusal = read_cert(alloc, text.as_bytes()).err();
+    assert_eq!(rt;
+        refusal,
+        Some(CertRead::BadCert { line }),
+        "refusal of {text}"
+    );
+}
+
+#[test]
+fn names_the_bad_line_of_a_head(rt: HostRuntime) {
+    let rows: [(&str, u64); 12] = [
+        ("", 1),
+        ("smooth 1", 1),
+        ("smooth 1\n", 2),
+        ("smooth 1\r\nslots 0\nbytes 0\nend\n", 1),
+        ("smooth 01\nslots 0\nbytes 0\nend\n", 1),
+        ("smooth 1\nslots 03\nbytes 7\nsegment 3 7\nend\n", 2),
+        ("smooth 1\nslots 3\nbytes\nsegment 3 7\nend\n", 3),
+        ("smooth 1\nslots 3\nslots 3\nbytes 7\nsegment 3 7\nend\n", 3),
+        (
+            "smooth 1\nslots 3\nbytes 4398046511105\nsegment 3 4398046511105\nend\n",
+            3,
+        ),
+        ("smooth 1\nslots 4\nbytes 7\nsegment 3 7\nend\n", 2),
+        ("smooth 1\nslots 3\nbytes 8\nsegment 3 7\nend\n", 3),
+        ("smooth 1\nslots 4\nbytes 8\nsegment 3 7\nend\n", 2),
+    ];
+    for (text, line) in rows {
+        names_the_line(&rt, rt.alloc(), text, line);
+    }
+}
+
+#[test]
+fn names_the_bad_line_after_a_head(rt: HostRuntime) {
+    let rows: [(&str, u64); 12] = [
+        ("smooth 1\nslots 3\nbytes 7\nsegment 3 7\n", 5),
+        ("smooth 1\nslots 3\nbytes 7\nsegment 03 7\nend\n", 4),
+        ("smooth 1\nslots 3\nbytes 7\nsegment 3 07\nend\n", 4),
+        ("smooth 1\nslots 3\nbytes 7\nsegment 3  7\nend\n", 4),
+        ("smooth 1\nslots 3\nbytes 7\nsegment 3 7 \nend\n", 4),
+        ("smooth 1\nslots 3\nbytes 7\nsegment 3\nend\n", 4),
+        ("smooth 1\nslots 3\nbytes 7\n\nsegment 3 7\nend\n", 4),
+        ("smooth 1\nslots 3\nbytes 7\nsegment 3 7\nend", 5),
+        ("smooth 1\nslots 3\nbytes 7\nsegment 3 7\nend\nx", 6),
+        ("smooth 1\nslots 3\nbytes 7\nsegment 3 7\nend\n\n", 6),
+        ("smooth 1\nslots 3\nbytes 7\nsegment 3 7\nend\nend\n", 6),
+        ("smooth 1\nslots 4\nbytes 8\nsegment 3 x\nend\n", 4),
+    ];
+    for (text, line) in rows {
+        names_the_line(&rt, rt.alloc(), text, line);
+    }
 }

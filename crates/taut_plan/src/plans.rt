@@ -36,10 +36,8 @@ pub fn plan(alloc: Global, curves: &Curves) -> Result<Plan, NoMemory>
     ensures best { IfOk result (λ plan.
         IsBestPlan curves.now.from curves.now.low.items curves.now.up.items plan) }
 {
-    match taut_segments(alloc, curves) {
-        Ok(segments) => Ok(Plan::new(segments)),
-        Err(_) => Err(NoMemory),
-    }
+    let segments = taut_segments(alloc, curves)?;
+    Ok(Plan::new(segments))
 }
 
 /// The front of the other chain, where `point` stands outside of it.

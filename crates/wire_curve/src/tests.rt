@@ -5,6 +5,7 @@ ghost use Rattle.wire_curve.specs.FilmCurves.{IsWithinLimits};
 
 use super::*;
 use std::alloc::Global;
+use std::process::Abort;
 
 /// One slot a picture.
 fn timing(buffer: u64, delay: u64) -> Timing {
@@ -47,28 +48,25 @@ fn is_within_limits(sizes: &[u64], timing: &Timing) -> bool
     false
 }
 
+/// A film's sizes and timing, and the numbers of its two curves.
+type Row<'a> = (&'a [u64], Timing, &'a [u64], &'a [u64]);
+
+fn have_these_curves(rt: &impl Abort, alloc: Global, rows: &[Row<'_>]) -> Result<(), CurveRefused> {
+    for (sizes, timing, low, up) in rows {
+        assert!(rt; is_within_limits(sizes, timing));
+        let curves = film_curves(alloc, sizes, timing)?;
+        assert_eq!(rt; curves.from, timing.sent, "from of {sizes:?}");
+        assert_eq!(rt; curves.low.as_slice(), *low, "low of {sizes:?}");
+        assert_eq!(rt; curves.up.as_slice(), *up, "up of {sizes:?}");
+    }
+    Ok(())
+}
+
 #[test]
 fn films_have_these_curves(rt: HostRuntime) -> Result<(), CurveRefused> {
-    let half_slots = Timing {
-        slot_units: 7_200,
-        ..timing(1_048_576, 0)
-    };
-    let resumed = Timing {
-        sent: 52,
-        ..timing(1_048_576, 2)
-    };
-    let played = Timing {
-        played: 5,
-        sent: 7,
-        ..timing(6, 0)
-    };
-    let rows: [(&[u64], Timing, &[u64], &[u64]); 9] = [
-        (
-            &[10, 10, 10, 10, 10],
-            timing(10, 0),
-            &[10, 20, 30, 40, 50],
-            &[10, 20, 30, 40, 50],
-        ),
+    let steps: [u64; 5] = [10, 20, 30, 40, 50];
+    let rows: [Row; 6] = [
+        (&[10, 10, 10, 10, 10], timing(10, 0), &steps, &steps),
         (
             &[1, 9, 1, 1],
             timing(9, 0),
@@ -84,6 +82,26 @@ fn films_have_these_curves(rt: HostRuntime) -> Result<(), CurveRefused> {
         ),
         (&[9, 1], timing(20, 2), &[0, 0, 9, 10], &[10, 10, 10, 10]),
         (&[3, 9], timing(9, 0), &[3, 12], &[9, 12]),
+    ];
+    have_these_curves(&rt, rt.alloc(), &rows)
+}
+
+#[test]
+fn begun_films_have_these_curves(rt: HostRuntime) -> Result<(), CurveRefused> {
+    let half_slots = Timing {
+        slot_units: 7_200,
+        ..timing(1_048_576, 0)
+    };
+    let resumed = Timing {
+        sent: 52,
+        ..timing(1_048_576, 2)
+    };
+    let played = Timing {
+        played: 5,
+        sent: 7,
+        ..timing(6, 0)
+    };
+    let rows: [Row; 3] = [
         // Two slots a picture: the pictures are used in slots 0 and 2.
         (&[106, 35], half_slots, &[106, 106, 141], &[141, 141, 141]),
         // Nothing was used yet, and 52 bytes were sent.
@@ -95,18 +113,38 @@ fn films_have_these_curves(rt: HostRuntime) -> Result<(), CurveRefused> {
         ),
         (&[1, 3, 2], played, &[7, 9, 11], &[11, 11, 11]),
     ];
-    for (sizes, timing, low, up) in rows {
-        assert!(rt; is_within_limits(sizes, &timing));
-        let curves = film_curves(rt.alloc(), sizes, &timing)?;
-        assert_eq!(rt; curves.from, timing.sent, "from of {sizes:?}");
-        assert_eq!(rt; curves.low.as_slice(), low, "low of {sizes:?}");
-        assert_eq!(rt; curves.up.as_slice(), up, "up of {sizes:?}");
-    }
-    Ok(())
+    have_these_curves(&rt, rt.alloc(), &rows)
+}
+
+/// What the answer says of a film is this fault, or none.
+fn names(
+    rt: &impl Abort,
+    alloc: Global,
+    sizes: &[u64],
+    timing: &Timing,
+    fault: Option<CurveFault>,
+) {
+    assert!(rt; is_within_limits(sizes, timing));
+    let answer = film_curves(alloc, sizes, timing).err();
+    assert_eq!(rt; answer, fault.map(CurveRefused::Fault), "{sizes:?}");
 }
 
 #[test]
-fn refused_films_name_their_fault(rt: HostRuntime) {
+fn names_a_buffer_that_is_too_small(rt: HostRuntime) {
+    let small = |slot, used, least| { Some(CurveFault::BufferTooSmall { slot, used, least }) };
+    let rows: [(&[u64], Timing, Option<CurveFault>); 4] = [
+        (&[], timing(9, 0), Some(CurveFault::NoPictures)),
+        (&[3, 9], timing(8, 0), small(1, 9, 9)),
+        (&[9, 12, 8], timing(8, 3), small(3, 9, 12)),
+        (&[3, 9], timing(9, 0), None),
+    ];
+    for (sizes, timing, fault) in rows {
+        names(&rt, rt.alloc(), sizes, &timing, fault);
+    }
+}
+
+#[test]
+fn names_slots_that_are_too_many(rt: HostRuntime) {
     // One picture a 330,000 units, and slots of one unit: the fourth is used in slot 990,000 +
     // delay.
     let long = |delay| Timing {
@@ -114,42 +152,13 @@ fn refused_films_name_their_fault(rt: HostRuntime) {
         slot_units: 1,
         ..timing(1, delay)
     };
-    let rows: [(&[u64], Timing, Option<CurveFault>); 7] = [
-        (&[], timing(9, 0), Some(CurveFault::NoPictures)),
-        (
-            &[3, 9],
-            timing(8, 0),
-            Some(CurveFault::BufferTooSmall {
-                slot: 1,
-                used: 9,
-                least: 9,
-            }),
-        ),
-        (
-            &[9, 12, 8],
-            timing(8, 3),
-            Some(CurveFault::BufferTooSmall {
-                slot: 3,
-                used: 9,
-                least: 12,
-            }),
-        ),
-        (&[3, 9], timing(9, 0), None),
-        (
-            &[1, 1, 1, 1],
-            long(10_000),
-            Some(CurveFault::TooManySlots { slots: 1_000_001 }),
-        ),
-        (
-            &[1, 2, 1, 1],
-            long(10_000),
-            Some(CurveFault::TooManySlots { slots: 1_000_001 }),
-        ),
+    let many = Some(CurveFault::TooManySlots { slots: 1_000_001 });
+    let rows: [(&[u64], Timing, Option<CurveFault>); 3] = [
+        (&[1, 1, 1, 1], long(10_000), many),
+        (&[1, 2, 1, 1], long(10_000), many),
         (&[1, 1, 1, 1], long(9_999), None),
     ];
     for (sizes, timing, fault) in rows {
-        assert!(rt; is_within_limits(sizes, &timing));
-        let answer = film_curves(rt.alloc(), sizes, &timing).err();
-        assert_eq!(rt; answer, fault.map(CurveRefused::Fault), "{sizes:?}");
+        names(&rt, rt.alloc(), sizes, &timing, fault);
     }
 }

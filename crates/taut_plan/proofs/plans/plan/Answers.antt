@@ -7,16 +7,16 @@ use Rattle.taut_plan.proofs.plans.plan.Goals as goal
 pub new-requires : goal.new-requires
 new-requires c =
     let curves = c.args.curves.now in
-    plan_of_whole curves.from curves.low.items curves.up.items c.in-Ok.segments.items c.requires c.in-Ok.ensures
+    plan_of_whole curves.from curves.low.items curves.up.items c.in_ok-segments.segments.items c.requires c.in_ok-segments.ensures
 
-pub returns-in-Ok-clause-taut : goal.returns-in-Ok-clause-taut
-returns-in-Ok-clause-taut c =
+pub returns-clause-taut : goal.returns-clause-taut
+returns-clause-taut c =
     let curves = c.args.curves.now in
     subst (IsTaut curves.from curves.low.items curves.up.items) (sym c.new.ensures)
-    (taut_of_whole curves.from curves.low.items curves.up.items c.in-Ok.segments.items c.requires c.in-Ok.ensures)
+    (taut_of_whole curves.from curves.low.items curves.up.items c.in_ok-segments.segments.items c.requires c.in_ok-segments.ensures)
 
-pub returns-in-Ok-clause-best : goal.returns-in-Ok-clause-best
-returns-in-Ok-clause-best c =
+pub returns-clause-best : goal.returns-clause-best
+returns-clause-best c =
     let curves = c.args.curves.now in
     subst (IsBestPlan curves.from curves.low.items curves.up.items) (sym c.new.ensures)
-    (best_of_whole curves.from curves.low.items curves.up.items c.in-Ok.segments.items c.requires c.in-Ok.ensures)
+    (best_of_whole curves.from curves.low.items curves.up.items c.in_ok-segments.segments.items c.requires c.in_ok-segments.ensures)
