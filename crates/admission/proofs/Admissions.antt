@@ -26,9 +26,10 @@ pub record IsKnown (entries : List Entry) (count : ℕ) (h : Held) : Type 0 wher
 known_more : (entries : List Entry) (n : ℕ) (held : List Held) → All (IsKnown entries n) held → All (IsKnown entries (n + 1)) held
 known_more entries n held all = All-weaker (IsKnown entries n) (IsKnown entries (n + 1)) (λ h known. record { inside = omega (arith, known.inside); admitted = known.admitted }) held all
 
-known-next : {entries : List Entry} {n : ℕ} (m : Machine) (command : Command) (answer : Answer) → IsAnswer m.steps m.state command answer →
-    ((none : Entry) → play_admitted (get_or entries n none).command (get_or entries n none).answer ≡ play_admitted command answer) →
-    All (IsKnown entries n) m.state.held → All (IsKnown entries (n + 1)) (next_state m.state n command answer).held
+known-next : {entries : List Entry} {n : ℕ} (m : Machine) (command : Command) (answer : Answer)
+    → IsAnswer m.steps m.state command answer
+    → ((none : Entry) → play_admitted (get_or entries n none).command (get_or entries n none).answer ≡ play_admitted command answer)
+    → All (IsKnown entries n) m.state.held → All (IsKnown entries (n + 1)) (next_state m.state n command answer).held
 known-next {entries} {n} m (Play slot segments) (Admitted start) is here all =
     All-push (IsKnown entries (n + 1)) m.state.held (admitted_play n start segments) (known_more entries n m.state.held all) (record { inside = omega arith; admitted = here })
 known-next {entries} {n} m (Play slot segments) (Overflow over booked asked) is here all = known_more entries n m.state.held all

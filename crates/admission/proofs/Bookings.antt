@@ -28,16 +28,18 @@ entry_of maker command answer = record { maker = maker; command = command; answe
 after_entry : (xs : List Entry) (e : Entry) (t : ℕ) → booked_after (xs ++ e ∷ []) t ≡ booked_in (next_state (state_after xs) (length xs) e.command e.answer) t
 after_entry xs e t = ap (λ (s : State). booked_in s t) (state-push xs e)
 
-pub booked_admitted : {segments : List Segment} (xs : List Entry) (maker slot start t : ℕ) → IsPlan segments →
-    booked_after (xs ++ entry_of maker (Play slot segments) (Admitted start) ∷ []) t ≡ booked_after xs t + asked_at segments start t
+pub booked_admitted : {segments : List Segment} (xs : List Entry) (maker slot start t : ℕ) → IsPlan segments
+    → booked_after (xs ++ entry_of maker (Play slot segments)
+    (Admitted start) ∷ []) t ≡ booked_after xs t + asked_at segments start t
 booked_admitted {segments} xs maker slot start t plan =
     let state = state_after xs in
     after_entry xs (entry_of maker (Play slot segments) (Admitted start)) t
     ∙ ap (λ (l : List Booked). booked_by l t) (map-append play_of state.held (admitted_play (length xs) start segments ∷ []))
     ∙ booked-push (plays_of state) segments start t plan
 
-halted_state : {number start : ℕ} {segments : List Segment} (state : State) (keep t : ℕ) → IsPlan segments → held_as number state.held ≡ Some (admitted_play number start segments) →
-    booked_by (map play_of (with_halted number keep state.held)) t + cut_at segments start keep t ≡ booked_in state t
+halted_state : {number start : ℕ} {segments : List Segment} (state : State) (keep t : ℕ) → IsPlan segments
+    → held_as number state.held ≡ Some (admitted_play number start segments)
+    → booked_by (map play_of (with_halted number keep state.held)) t + cut_at segments start keep t ≡ booked_in state t
 halted_state {number} {start} {segments} state keep t plan is =
     let h = admitted_play number start segments in
     let parts = split number state.held h is in
@@ -48,8 +50,9 @@ halted_state {number} {start} {segments} state keep t plan is =
     ap (λ (l : List Booked). booked_by l t + cut_at segments start keep t) becomes ∙ booked-cut front back (cut_play start segments keep) t plan
     ∙ ap (λ (l : List Booked). booked_by l t) (sym (plays-around state number start segments is refl))
 
-pub booked_halted : {steps : List CapStep} {xs : List Entry} {number start : ℕ} {segments : List Segment} (maker keep t : ℕ) → IsPlan segments →
-    PlayAdmitted steps xs number start segments → CanHalt (state_after xs) number keep → booked_after (xs ++ entry_of maker (Halt number keep) Halted ∷ []) t + cut_at segments start keep t ≡ booked_after xs t
+pub booked_halted : {steps : List CapStep} {xs : List Entry} {number start : ℕ} {segments : List Segment} (maker keep t : ℕ)
+    → IsPlan segments → PlayAdmitted steps xs number start segments → CanHalt (state_after xs) number keep
+    → booked_after (xs ++ entry_of maker (Halt number keep) Halted ∷ []) t + cut_at segments start keep t ≡ booked_after xs t
 booked_halted {steps} {xs} {number} {start} {segments} maker keep t plan admitted can =
     let still = can-still steps xs number keep admitted.legal can in
     let is = whole-after admitted still.unhalted in
@@ -74,8 +77,8 @@ pub booked_other : (xs : List Entry) (e : Entry) (t : ℕ) → is_admission e.an
 booked_other xs e t unopened unhalted = after_entry xs e t ∙ other_state (state_after xs) (length xs) e.command e.answer t (record { unopened = unopened; unhalted = unhalted })
 
 -- ---- where a play begins
-pub start_is : {steps : List CapStep} {xs : List Entry} {number start : ℕ} {segments : List Segment} → PlayAdmitted steps xs number start segments →
-    start ≡ latest_asked (take (number + 1) xs) + 1
+pub start_is : {steps : List CapStep} {xs : List Entry} {number start : ℕ} {segments : List Segment}
+    → PlayAdmitted steps xs number start segments → start ≡ latest_asked (take (number + 1) xs) + 1
 start_is {steps} {xs} {number} {start} {segments} admitted =
     let legal = admitted.legal in
     let admission = admitted.admission in

@@ -68,17 +68,19 @@ pub record HoldsWhole (state : State) (number start : ℕ) (segments : List Segm
   pub play_is : held.play ≡ whole_play start segments
 
 -- it may be cut
-pub cut-allowed : {calendar : Calendar} {state : State} {number start : ℕ} {segments : List Segment} (keep : ℕ) → HoldsWhole state number start segments →
-    StandsFor calendar (plays_of state) → ((before after : List Booked) → StandsFor calendar (before ++ whole_play start segments ∷ after) →
-    (t : ℕ) → calendar.first ≤ t → cut_at segments start keep t ≤ booked_at calendar t) → (t : ℕ) → calendar.first ≤ t → cut_at segments start keep t ≤ booked_at calendar t
+pub cut-allowed : {calendar : Calendar} {state : State} {number start : ℕ} {segments : List Segment} (keep : ℕ)
+    → HoldsWhole state number start segments → StandsFor calendar (plays_of state)
+    → ((before after : List Booked) → StandsFor calendar (before ++ whole_play start segments ∷ after) → (t : ℕ) → calendar.first ≤ t → cut_at segments start keep t ≤ booked_at calendar t)
+    → (t : ℕ) → calendar.first ≤ t → cut_at segments start keep t ≤ booked_at calendar t
 cut-allowed {calendar} {state} {number} {start} {segments} keep whole stands law =
     let parts = split number state.held whole.held whole.is in
     law (map play_of parts.before) (map play_of parts.after) (subst (StandsFor calendar) (plays-around state number start segments whole.is whole.play_is) stands)
 
 -- once it is cut, the calendar stands for the plays with that one halted
-pub stands-halted : {old new : Calendar} {state : State} {number start : ℕ} {segments : List Segment} (keep : ℕ) → HoldsWhole state number start segments →
-    StandsFor old (plays_of state) → ((before after : List Booked) → StandsFor old (before ++ whole_play start segments ∷ after) → StandsFor new (before ++ cut_play start segments keep ∷ after)) →
-    StandsFor new (map play_of (with_halted number keep state.held))
+pub stands-halted : {old new : Calendar} {state : State} {number start : ℕ} {segments : List Segment} (keep : ℕ)
+    → HoldsWhole state number start segments → StandsFor old (plays_of state)
+    → ((before after : List Booked) → StandsFor old (before ++ whole_play start segments ∷ after) → StandsFor new (before ++ cut_play start segments keep ∷ after))
+    → StandsFor new (map play_of (with_halted number keep state.held))
 stands-halted {old} {new} {state} {number} {start} {segments} keep whole stands cut =
     let h = whole.held in
     let parts = split number state.held h whole.is in

@@ -67,8 +67,8 @@ pub record IsUntouched (state : State) (number : ℕ) (h : Held) (command : Comm
   pub unhalted : ¬ Halts number command
 
 -- the step leaves it
-pub found-next : {state : State} {number : ℕ} {h : Held} (place : ℕ) (command : Command) (answer : Answer) → IsUntouched state number h command →
-    held_as number (next_state state place command answer).held ≡ Some h
+pub found-next : {state : State} {number : ℕ} {h : Held} (place : ℕ) (command : Command) (answer : Answer)
+    → IsUntouched state number h command → held_as number (next_state state place command answer).held ≡ Some h
 found-next {state} {number} {h} place (Play slot segments) (Admitted start) held = found-push number state.held h (admitted_play place start segments) held.is
 found-next place (Play slot segments) (Overflow over booked asked) held = held.is
 found-next place (Play slot segments) Halted held = held.is

@@ -69,8 +69,8 @@ holds-of P number held h all is =
     (all' (length parts.before) h (omega (arith, length-append parts.before (h ∷ parts.after))))
 
 -- and of all plays after the halt, if it holds of that one
-pub all-halted : {state : State} {number keep : ℕ} (P : Held → Type 0) (halt : Halting state number keep) → P (halted_play keep halt.held) → All P state.held
-    → All P (with_halted number keep state.held)
+pub all-halted : {state : State} {number keep : ℕ} (P : Held → Type 0) (halt : Halting state number keep)
+    → P (halted_play keep halt.held) → All P state.held → All P (with_halted number keep state.held)
 all-halted {state} {number} {keep} P halt here all =
     let h = halt.held in
     let parts = split number state.held h halt.is in

@@ -26,8 +26,9 @@ opens-most Halted = omega arith
 opens-most (Looked now at booked) = omega arith
 
 -- a play that was asked for
-pub open-asked : (m : Machine) (place slot : ℕ) (segments : List Segment) (answer : Answer) → IsAnswer m.steps m.state (Play slot segments) answer →
-    open_plays (next_state m.state place (Play slot segments) answer) ≡ open_plays m.state + cond (is_admission answer) 1 0
+pub open-asked : (m : Machine) (place slot : ℕ) (segments : List Segment) (answer : Answer)
+    → IsAnswer m.steps m.state (Play slot segments) answer
+    → open_plays (next_state m.state place (Play slot segments) answer) ≡ open_plays m.state + cond (is_admission answer) 1 0
 open-asked m place slot segments (Admitted start) is = sum_by_push (λ (h : Held). cond h.is_open 1 0) m.state.held (admitted_play place start segments)
 open-asked m place slot segments (Overflow over booked asked) is = omega arith
 open-asked m place slot segments Halted is = absurd is
@@ -56,8 +57,9 @@ pub record HasGrown (calendar new : Calendar) (xs ys : List Entry) (e : Entry) (
   pub fits : length xs + 1 + more ≤ limit
   pub wide_is : wide ≡ room
 
-pub kept-push : {calendar new : Calendar} {xs ys : List Entry} {e : Entry} {limit count more room wide : ℕ} → IsKept calendar xs limit count room →
-    HasGrown calendar new xs ys e limit room more wide → IsKept new ys limit more wide
+pub kept-push : {calendar new : Calendar} {xs ys : List Entry} {e : Entry} {limit count more room wide : ℕ}
+    → IsKept calendar xs limit count room → HasGrown calendar new xs ys e limit room more wide
+    → IsKept new ys limit more wide
 kept-push {calendar} {new} {xs} {ys} {e} {more} kept grown =
     let is = grown.entries_are in
     let steps = grown.steps_are in

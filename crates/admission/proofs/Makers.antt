@@ -74,8 +74,8 @@ record IsMadeBy (maker : ℕ) (xs : List Entry) (i : ℕ) : Type 0 where
   pub inside : i < length xs
   pub own : (get_or xs i no_entry).maker ≡ maker
 
-one-made : {maker : ℕ} (P : Placed → Type 0) (place : ℕ) (xs : List Entry) (i : ℕ) → All P (made_from place maker xs) → IsMadeBy maker xs i →
-    P (record { place = place + i; entry = get_or xs i no_entry })
+one-made : {maker : ℕ} (P : Placed → Type 0) (place : ℕ) (xs : List Entry) (i : ℕ) → All P (made_from place maker xs)
+    → IsMadeBy maker xs i → P (record { place = place + i; entry = get_or xs i no_entry })
 one-made P place [] i all made = absurd (omega (arith, made.inside))
 one-made {maker} P place (e ∷ rest) zero all made =
     let here : Placed = record { place = place; entry = e } in
@@ -131,6 +131,6 @@ open-own {xs} {number} steps maker own open_ =
       small = open_.small;
     }
 
-pub can-own : {steps : List CapStep} {xs : List Entry} (maker number keep : ℕ) → IsLegal steps xs → AreHaltsOwn xs → IsOpenAmong (made_by maker xs) number keep →
-    CanHalt (state_after xs) number keep
+pub can-own : {steps : List CapStep} {xs : List Entry} (maker number keep : ℕ) → IsLegal steps xs → AreHaltsOwn xs
+    → IsOpenAmong (made_by maker xs) number keep → CanHalt (state_after xs) number keep
 can-own {steps} {xs} maker number keep legal own open_ = still-open steps xs number keep legal (open-own steps maker own open_)

@@ -21,7 +21,8 @@ same-overflow : {booked capacity : ℕ → ℕ} {start : ℕ} {segments : List S
 same-overflow {booked} {capacity} {start} {segments} {a} {b} x y =
     ap (λ (over : Over). Overflow over.slot over.booked over.asked) (one-overflow x y)
 
-pub answer-once : (m : Machine) (command : Command) (a b : Answer) → IsAnswer m.steps m.state command a → IsAnswer m.steps m.state command b → a ≡ b
+pub answer-once : (m : Machine) (command : Command) (a b : Answer) → IsAnswer m.steps m.state command a
+    → IsAnswer m.steps m.state command b → a ≡ b
 answer-once m (Play slot segments) (Admitted start) (Admitted other) x y = ap (λ n. Admitted n) (x.0 ∙ sym y.0)
 answer-once m (Play slot segments) (Admitted start) (Overflow over booked asked) x y =
     let R : ℕ → Type 0 = λ n. HasRoom 0 (booked_in m.state) (capacity_at m.steps) n segments in
@@ -69,7 +70,8 @@ entry-same a b maker command answer =
 long_map : {Y : Type 0} (f : Entry → Y) (xs ys : List Entry) → map f xs ≡ map f ys → length xs ≡ length ys
 long_map f xs ys same = sym (length-map xs f) ∙ ap length same ∙ length-map ys f
 
-at_map : {Y : Type 0} (f : Entry → Y) (xs ys : List Entry) (n : ℕ) → map f xs ≡ map f ys → n < length xs → f (get_or xs n no_entry) ≡ f (get_or ys n no_entry)
+at_map : {Y : Type 0} (f : Entry → Y) (xs ys : List Entry) (n : ℕ) → map f xs ≡ map f ys → n < length xs
+    → f (get_or xs n no_entry) ≡ f (get_or ys n no_entry)
 at_map f xs ys n same inside =
     let within : n < length ys = omega (arith, inside, long_map f xs ys same) in
     sym (get_or-map f xs n no_entry (f no_entry) inside) ∙ ap (λ l. get_or l n (f no_entry)) same ∙ get_or-map f ys n no_entry (f no_entry) within
@@ -79,8 +81,8 @@ pub record HaveSameCommands (xs ys : List Entry) : Type 0 where
   pub makers : map (λ (e : Entry). e.maker) xs ≡ map (λ (e : Entry). e.maker) ys
   pub commands : map (λ (e : Entry). e.command) xs ≡ map (λ (e : Entry). e.command) ys
 
-same-front : {steps : List CapStep} {xs ys : List Entry} (n : ℕ) → IsLegal steps xs → IsLegal steps ys → HaveSameCommands xs ys → n ≤ length xs →
-    take n xs ≡ take n ys
+same-front : {steps : List CapStep} {xs ys : List Entry} (n : ℕ) → IsLegal steps xs → IsLegal steps ys
+    → HaveSameCommands xs ys → n ≤ length xs → take n xs ≡ take n ys
 same-front {steps} zero legal other same few = refl
 same-front {steps} {xs} {ys} (suc n) legal other same few =
     let long = long_map (λ (e : Entry). e.maker) xs ys same.makers in
@@ -99,7 +101,8 @@ same-front {steps} {xs} {ys} (suc n) legal other same few =
     let T : ℕ → Type 0 = λ k. take k xs ≡ take k ys in
     subst T at (take_more_same xs ys n no_entry inside within before (entry-same a b maker command answer))
 
-pub history-once : {steps : List CapStep} {xs ys : List Entry} → IsLegal steps xs → IsLegal steps ys → HaveSameCommands xs ys → xs ≡ ys
+pub history-once : {steps : List CapStep} {xs ys : List Entry} → IsLegal steps xs → IsLegal steps ys
+    → HaveSameCommands xs ys → xs ≡ ys
 history-once {xs} {ys} legal other same =
     let long = long_map (λ (e : Entry). e.maker) xs ys same.makers in
     sym (take_all (length xs) xs (omega arith)) ∙ same-front (length xs) legal other same (omega arith) ∙ take_all (length xs) ys (omega (arith, long))

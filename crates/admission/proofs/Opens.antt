@@ -24,8 +24,9 @@ use Rattle.admission.proofs.Finds.{found-closed, found-new, found-next}
 numbers-below : (steps : List CapStep) (xs : List Entry) (n : ℕ) → IsLegal steps xs → n ≤ length xs → All (λ h. h.number < n) (state_after (take n xs)).held
 numbers-below steps xs n legal few = All-weaker (IsKnown xs n) (λ h. h.number < n) (λ h known. known.inside) (state_after (take n xs)).held (known-at steps xs n legal few)
 
-opened-here : {steps : List CapStep} {xs : List Entry} {number start : ℕ} {segments : List Segment} → PlayAdmitted steps xs number start segments →
-    held_as number (state_after (take (suc number) xs)).held ≡ Some (admitted_play number start segments)
+opened-here : {steps : List CapStep} {xs : List Entry} {number start : ℕ} {segments : List Segment}
+    → PlayAdmitted steps xs number start segments
+    → held_as number (state_after (take (suc number) xs)).held ≡ Some (admitted_play number start segments)
 opened-here {steps} {xs} {number} {start} {segments} admitted =
     let admission = admitted.admission in
     let e = get_or xs number no_entry in
@@ -35,8 +36,9 @@ opened-here {steps} {xs} {number} {start} {segments} admitted =
     state-next xs number admission.inside ∙ ap (λ k. next_state state number k e.answer) found.1.0 ∙ ap (next_state state number (Play found.0 segments)) found.1.1 in
     ap (λ (s : State). held_as number s.held) next ∙ found-new number start segments state.held (numbers-below steps xs number admitted.legal (omega (arith, admission.inside)))
 
-pub stays-open : {steps : List CapStep} {xs : List Entry} {number start : ℕ} {segments : List Segment} (k : ℕ) → PlayAdmitted steps xs number start segments →
-    IsUnhalted xs number → number < k → k ≤ length xs → held_as number (state_after (take k xs)).held ≡ Some (admitted_play number start segments)
+pub stays-open : {steps : List CapStep} {xs : List Entry} {number start : ℕ} {segments : List Segment} (k : ℕ)
+    → PlayAdmitted steps xs number start segments → IsUnhalted xs number → number < k → k ≤ length xs
+    → held_as number (state_after (take k xs)).held ≡ Some (admitted_play number start segments)
 stays-open {steps} {number} {start} zero admitted unhalted less few = absurd (omega (arith, less))
 stays-open {steps} {xs} {number} {start} {segments} (suc j) admitted unhalted less few = elim (cases_order j number) [
   | inl same ↦ (
@@ -52,8 +54,9 @@ stays-open {steps} {xs} {number} {start} {segments} (suc j) admitted unhalted le
       )
 ]
 
-pub whole-after : {steps : List CapStep} {xs : List Entry} {number start : ℕ} {segments : List Segment} → PlayAdmitted steps xs number start segments →
-    IsUnhalted xs number → held_as number (state_after xs).held ≡ Some (admitted_play number start segments)
+pub whole-after : {steps : List CapStep} {xs : List Entry} {number start : ℕ} {segments : List Segment}
+    → PlayAdmitted steps xs number start segments → IsUnhalted xs number
+    → held_as number (state_after xs).held ≡ Some (admitted_play number start segments)
 whole-after {xs} {number} {start} {segments} admitted unhalted =
     let S : List Entry → Type 0 = λ l. held_as number (state_after l).held ≡ Some (admitted_play number start segments) in
     subst S (take_all (length xs) xs (omega arith)) (stays-open (length xs) admitted unhalted admitted.admission.inside (omega arith))
@@ -87,8 +90,9 @@ record IsClosed (number : ℕ) (state : State) : Type 0 where
   is : held_as number state.held ≡ Some held
   closed_is : held.is_open ≡ false
 
-closed-here : {number : ℕ} (m : Machine) (place : ℕ) (command : Command) (answer : Answer) → IsAnswer m.steps m.state command answer → Halts number command →
-    IsClosed number (next_state m.state place command answer)
+closed-here : {number : ℕ} (m : Machine) (place : ℕ) (command : Command) (answer : Answer)
+    → IsAnswer m.steps m.state command answer → Halts number command
+    → IsClosed number (next_state m.state place command answer)
 closed-here {number} m place (Halt that keep) Halted is same =
     let h = halting m.state that keep is in
     let here : held_as that (with_halted that keep m.state.held) ≡ Some (halted_play keep h.held) = found-closed that keep m.state.held h.held h.is in
@@ -114,8 +118,9 @@ halted-once {number} steps (Play slot segments) answer is was same = same
 halted-once {number} steps (Look slot) answer is was same = same
 
 -- so it stays as it is
-closed-rest : {steps : List CapStep} {xs : List Entry} {number from : ℕ} (k : ℕ) → IsLegal steps xs → (closed : IsClosed number (state_after (take from xs))) →
-    from ≤ k → k ≤ length xs → held_as number (state_after (take k xs)).held ≡ Some closed.held
+closed-rest : {steps : List CapStep} {xs : List Entry} {number from : ℕ} (k : ℕ) → IsLegal steps xs
+    → (closed : IsClosed number (state_after (take from xs))) → from ≤ k → k ≤ length xs
+    → held_as number (state_after (take k xs)).held ≡ Some closed.held
 closed-rest {steps} {xs} {number} {from} k legal closed later few = elim (cases_order from k) [
   | inl same ↦ (let H : ℕ → Type 0 = λ n. held_as number (state_after (take n xs)).held ≡ Some closed.held in subst H same closed.is)
   | inr (inl before) ↦ closed-more steps xs number from k legal closed before few
@@ -137,8 +142,9 @@ closed-rest {steps} {xs} {number} {from} k legal closed later few = elim (cases_
         let apart = halted-once steps e.command e.answer (legal-at steps xs j legal (omega (arith, few))) still in
         ap (λ (s : State). held_as number s.held) (state-next xs j (omega (arith, few))) ∙ found-next j e.command e.answer (record { is = was; unhalted = apart })
 
-closed-after : {steps : List CapStep} {xs : List Entry} {number i : ℕ} → IsLegal steps xs → i < length xs → (closed : IsClosed number (state_after (take (suc i) xs))) →
-    held_as number (state_after xs).held ≡ Some closed.held
+closed-after : {steps : List CapStep} {xs : List Entry} {number i : ℕ} → IsLegal steps xs → i < length xs
+    → (closed : IsClosed number (state_after (take (suc i) xs)))
+    → held_as number (state_after xs).held ≡ Some closed.held
 closed-after {steps} {xs} {number} {i} legal inside closed =
     let S : List Entry → Type 0 = λ l. held_as number (state_after l).held ≡ Some closed.held in
     subst S (take_all (length xs) xs (omega arith)) (closed-rest {from = suc i} (length xs) legal closed (omega (arith, inside)) (omega arith))
@@ -198,9 +204,10 @@ halted-whole {steps} {xs} {number} {start} {segments} {h} n admitted few is is_o
     let C : Bool → Held = λ b. record { number = number; play = whole_play start segments; is_open = b } in
     ap A number_is ∙ ap B play_is ∙ ap C is_open
 
-cut-here : {steps : List CapStep} {xs : List Entry} {number start keep : ℕ} {segments : List Segment} (i : ℕ) → PlayAdmitted steps xs number start segments → i < length xs →
-    {command : Command} (answer : Answer) → command ≡ Halt number keep → IsAnswer steps (state_after (take i xs)) command answer →
-    held_as number (next_state (state_after (take i xs)) i command answer).held ≡ Some (halted_play keep (admitted_play number start segments))
+cut-here : {steps : List CapStep} {xs : List Entry} {number start keep : ℕ} {segments : List Segment} (i : ℕ)
+    → PlayAdmitted steps xs number start segments → i < length xs → {command : Command} (answer : Answer)
+    → command ≡ Halt number keep → IsAnswer steps (state_after (take i xs)) command answer
+    → held_as number (next_state (state_after (take i xs)) i command answer).held ≡ Some (halted_play keep (admitted_play number start segments))
 cut-here {steps} {xs} {number} {start} {keep} {segments} i admitted inside answer same is =
     let state = state_after (take i xs) in
     let I : Command → Type 0 = λ c. IsAnswer steps state c answer in
@@ -217,8 +224,9 @@ cut-here {steps} {xs} {number} {start} {keep} {segments} i admitted inside answe
     closing (Overflow over booked asked) can = absurd can
     closing (Looked now at booked) can = absurd can
 
-pub cut-after : {steps : List CapStep} {xs : List Entry} {number start keep i : ℕ} {segments : List Segment} → PlayAdmitted steps xs number start segments →
-    IsHalt xs i number keep → held_as number (state_after xs).held ≡ Some (halted_play keep (admitted_play number start segments))
+pub cut-after : {steps : List CapStep} {xs : List Entry} {number start keep i : ℕ} {segments : List Segment}
+    → PlayAdmitted steps xs number start segments → IsHalt xs i number keep
+    → held_as number (state_after xs).held ≡ Some (halted_play keep (admitted_play number start segments))
 cut-after {steps} {xs} {number} {start} {keep} {i} {segments} admitted halt =
     let e = get_or xs i no_entry in
     let closed : IsClosed number (state_after (take (suc i) xs)) = record {
@@ -230,7 +238,8 @@ cut-after {steps} {xs} {number} {start} {keep} {i} {segments} admitted halt =
     closed-after {i = i} admitted.legal halt.inside closed
 
 -- a halt stands after the entry that admitted its play
-pub halt-later : {steps : List CapStep} {xs : List Entry} {number keep i : ℕ} → IsLegal steps xs → IsHalt xs i number keep → number < i
+pub halt-later : {steps : List CapStep} {xs : List Entry} {number keep i : ℕ} → IsLegal steps xs
+    → IsHalt xs i number keep → number < i
 halt-later {steps} {xs} {number} {keep} {i} legal halt =
     let e = get_or xs i no_entry in
     let A : Command → Type 0 = λ c. IsAnswer steps (state_after (take i xs)) c e.answer in

@@ -56,8 +56,9 @@ none-admitted steps entries more legal halts = λ k d inside.
     subst (λ (e : Entry). IsAnswer steps (state_after (take i (entries ++ more))) e.command e.answer) at answered in
     admits-none steps (state_after (take i (entries ++ more))) (get_or more k d).command (get_or more k d).answer is (halts k d inside)
 
-pub halts-fit : {steps : List CapStep} (entries more : List Entry) (limit : ℕ) → IsLegal steps (entries ++ more) → All (λ (e : Entry). is_halt e.command ≡ true) more
-    → places_taken entries ≤ limit → length (entries ++ more) ≤ limit
+pub halts-fit : {steps : List CapStep} (entries more : List Entry) (limit : ℕ) → IsLegal steps (entries ++ more)
+    → All (λ (e : Entry). is_halt e.command ≡ true) more → places_taken entries ≤ limit
+    → length (entries ++ more) ≤ limit
 halts-fit {steps} entries more limit legal halts few =
     let front : take (length entries) (entries ++ more) ≡ entries = take-append-le (length entries) entries more (omega arith) ∙ take_all (length entries) entries (omega arith) in
     let first : IsLegal steps entries = subst (IsLegal steps) front (legal-take steps (entries ++ more) (length entries) legal) in

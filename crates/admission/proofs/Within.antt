@@ -23,8 +23,9 @@ use Rattle.admission.proofs.Halts.{halting, split, holds-of, all-halted, play_of
 pub record IsWhole (h : Held) : Type 0 where
   pub whole : h.is_open ≡ true → h.play.keep ≡ total_bytes h.play.segments
 
-pub whole-next : (m : Machine) (place : ℕ) (command : Command) (answer : Answer) → IsAnswer m.steps m.state command answer → All IsWhole m.state.held →
-    All IsWhole (next_state m.state place command answer).held
+pub whole-next : (m : Machine) (place : ℕ) (command : Command) (answer : Answer)
+    → IsAnswer m.steps m.state command answer → All IsWhole m.state.held
+    → All IsWhole (next_state m.state place command answer).held
 whole-next m place (Play slot segments) (Admitted start) is all = All-push IsWhole m.state.held (admitted_play place start segments) all (record { whole = λ _. refl })
 whole-next m place (Play slot segments) (Overflow over booked asked) is all = all
 whole-next m place (Play slot segments) Halted is all = absurd is

@@ -86,14 +86,16 @@ hot_step {m} {p} hot =
     open hot use {segment.{slots as n, bytes as b}}
 
 -- a segment above p that is followed by one at most p doesn't rise
-no_rise : (p : ℕ) (s next : Segment) → s.slots * p < s.bytes → next.bytes ≤ next.slots * p → IsBelow (slope_of s) (slope_of next) → ⊥
+no_rise : (p : ℕ) (s next : Segment) → s.slots * p < s.bytes → next.bytes ≤ next.slots * p
+    → IsBelow (slope_of s) (slope_of next) → ⊥
 no_rise p s next is_hot is_cold rises =
     let one : s.slots * p * next.slots ≤ s.bytes * next.slots = mul-le-mul_right next.slots (omega arith) in
     let two : next.bytes * s.slots ≤ next.slots * p * s.slots = mul-le-mul_right s.slots is_cold in
     omega (arith, one, two, rises)
 
 -- a segment at most p that is followed by one above p doesn't fall
-no_fall : (p : ℕ) (s next : Segment) → s.bytes ≤ s.slots * p → next.slots * p < next.bytes → IsBelow (slope_of next) (slope_of s) → ⊥
+no_fall : (p : ℕ) (s next : Segment) → s.bytes ≤ s.slots * p → next.slots * p < next.bytes
+    → IsBelow (slope_of next) (slope_of s) → ⊥
 no_fall p s next is_cold is_hot falls =
     let one : next.slots * p * s.slots ≤ next.bytes * s.slots = mul-le-mul_right s.slots (omega arith) in
     let two : s.bytes * next.slots ≤ s.slots * p * next.slots = mul-le-mul_right next.slots is_cold in

@@ -9,7 +9,8 @@ use Rattle.plan_cert.proofs.SlotSums.{sum-take-in, sum-take-past}
 use Rattle.cert_check.specs.Taut.{RunsTaut}
 
 -- the floor of a segment's line from height v, against a whole number
-floor_above : (v : ℕ) (s : Segment) (t h : ℕ) → 0 < s.slots → h * s.slots ≤ v * s.slots + t * s.bytes → h ≤ v + t * s.bytes / s.slots
+floor_above : (v : ℕ) (s : Segment) (t h : ℕ) → 0 < s.slots → h * s.slots ≤ v * s.slots + t * s.bytes
+    → h ≤ v + t * s.bytes / s.slots
 floor_above v s t h pos under =
     let q = t * b / n in
     let over : t * b < t * b / n * n + n = lt-div-mul-add pos in
@@ -19,7 +20,8 @@ floor_above v s t h pos under =
   where
     open s use {slots as n, bytes as b}
 
-floor_below : (v : ℕ) (s : Segment) (t h : ℕ) → 0 < s.slots → v * s.slots + t * s.bytes ≤ h * s.slots → v + t * s.bytes / s.slots ≤ h
+floor_below : (v : ℕ) (s : Segment) (t h : ℕ) → 0 < s.slots → v * s.slots + t * s.bytes ≤ h * s.slots
+    → v + t * s.bytes / s.slots ≤ h
 floor_below v s t h pos above =
     let flat : t * b / n * n ≤ t * b = div-mul-le_self (t * b) n in
     let all : (v + t * b / n) * n ≤ h * n = omega (arith, above, flat) in

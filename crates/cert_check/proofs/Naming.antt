@@ -7,12 +7,13 @@ use Rattle.cert_check.specs.First.{IsFirst}
 use Rattle.cert_check.specs.Fault.{IsEmptyAt, IsEqualAt, IsRiseOffUpper, IsFallOffLower, IsThere, kind_of, number_of, IsFirstFault}
 use Rattle.cert_check.specs.Whole.{AddsUp, StaysWithin}
 
-not_empty : {from : ℕ} {low up : List ℕ} {segments : List Segment} → AddsUp from low up segments → {i : ℕ} → IsEmptyAt segments i → ⊥
+not_empty : {from : ℕ} {low up : List ℕ} {segments : List Segment} → AddsUp from low up segments → {i : ℕ}
+    → IsEmptyAt segments i → ⊥
 not_empty {from} {low} whole {i} empty = let some = whole.some i empty.0 in omega (arith, some, empty.1)
 
-pub first_fall : {from : ℕ} {low up : List ℕ} {segments : List Segment} (i : ℕ) → StaysWithin from low up segments →
-    ((j : ℕ) → ¬ IsEqualAt segments j) → ((j : ℕ) → ¬ IsRiseOffUpper from up segments j) → IsFirst (IsFallOffLower from low segments) i →
-    IsFirstFault from low up segments (FallOffLower i)
+pub first_fall : {from : ℕ} {low up : List ℕ} {segments : List Segment} (i : ℕ) → StaysWithin from low up segments
+    → ((j : ℕ) → ¬ IsEqualAt segments j) → ((j : ℕ) → ¬ IsRiseOffUpper from up segments j)
+    → IsFirst (IsFallOffLower from low segments) i → IsFirstFault from low up segments (FallOffLower i)
 first_fall {from} {low} {up} {segments} i within no_equal no_rise first = record {
   there = first.here;
   no_earlier_kind = earlier;

@@ -23,7 +23,8 @@ record SplitSegment : Type 0 where
   pub some : 1 ≤ last.slots
   pub level : first.bytes * whole.slots ≡ whole.bytes * first.slots
 
-parts_cross : (split : SplitSegment) → split.first.bytes * (split.first.slots + split.last.slots) ≡ (split.first.bytes + split.last.bytes) * split.first.slots
+parts_cross : (split : SplitSegment)
+    → split.first.bytes * (split.first.slots + split.last.slots) ≡ (split.first.bytes + split.last.bytes) * split.first.slots
 parts_cross split = ap (λ x. split.first.bytes * x) (sym split.slots) ∙ split.level ∙ ap (λ x. x * split.first.slots) split.bytes
 
 level_first : (split : SplitSegment) → split.first.bytes * split.last.slots ≡ split.last.bytes * split.first.slots

@@ -102,7 +102,8 @@ no_steeper {lo} {hi} {k} {v} {flat} {steep} high low steeper =
       | inr after ↦ apart fork high.far (hi (k + high.far)) high.later high.touches (low.free high.far after)
     ]
 
-first_meets_low : {lo hi : ℕ → ℕ} {k v : ℕ} {s : Segment} → StaysBetween lo hi k v s → v + s.bytes ≡ lo (k + s.slots) → MeetsLow lo hi k v s
+first_meets_low : {lo hi : ℕ → ℕ} {k v : ℕ} {s : Segment} → StaysBetween lo hi k v s → v + s.bytes ≡ lo (k + s.slots)
+    → MeetsLow lo hi k v s
 first_meets_low {lo} {k} {v} {s} stays on_low = record {
   far = s.slots;
   later = stays.some;
@@ -110,7 +111,8 @@ first_meets_low {lo} {k} {v} {s} stays on_low = record {
   free = stays.below;
 }
 
-first_meets_high : {lo hi : ℕ → ℕ} {k v : ℕ} {s : Segment} → StaysBetween lo hi k v s → v + s.bytes ≡ hi (k + s.slots) → MeetsHigh lo hi k v s
+first_meets_high : {lo hi : ℕ → ℕ} {k v : ℕ} {s : Segment} → StaysBetween lo hi k v s → v + s.bytes ≡ hi (k + s.slots)
+    → MeetsHigh lo hi k v s
 first_meets_high {lo} {hi} {k} {v} {s} stays on_high = record {
   far = s.slots;
   later = stays.some;
@@ -168,7 +170,8 @@ line_on {lo} {hi} {k} {v} {s} {rest} line =
     record { runs = line.runs.2; ends = ends_on {lo = lo} {hi = hi} {k = k} {v = v} {s = s} {rest = rest} line.ends }
 
 -- every taut line's first ray meets low
-pub meets_low : {lo hi : ℕ → ℕ} {k v : ℕ} {s : Segment} {rest : List Segment} → IsTautLine lo hi k v (s ∷ rest) → MeetsLow lo hi k v s
+pub meets_low : {lo hi : ℕ → ℕ} {k v : ℕ} {s : Segment} {rest : List Segment} → IsTautLine lo hi k v (s ∷ rest)
+    → MeetsLow lo hi k v s
 meets_low {lo} {k} {v} {s} {rest = []} line =
     let e = (line_on line).ends.low in
     let on_low : v + s.bytes ≡ lo (k + s.slots) = sym (ap lo (omega arith) ∙ e ∙ omega arith) in
@@ -181,7 +184,8 @@ meets_low {lo} {hi} {k} {v} {s} {rest = next ∷ rest} line =
     ]
 
 -- and meets high
-pub meets_high : {lo hi : ℕ → ℕ} {k v : ℕ} {s : Segment} {rest : List Segment} → IsTautLine lo hi k v (s ∷ rest) → MeetsHigh lo hi k v s
+pub meets_high : {lo hi : ℕ → ℕ} {k v : ℕ} {s : Segment} {rest : List Segment} → IsTautLine lo hi k v (s ∷ rest)
+    → MeetsHigh lo hi k v s
 meets_high {lo} {hi} {k} {v} {s} {rest = []} line =
     let e = (line_on line).ends.high in
     let on_high : v + s.bytes ≡ hi (k + s.slots) = sym (ap hi (omega arith) ∙ e ∙ omega arith) in

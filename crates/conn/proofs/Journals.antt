@@ -3,7 +3,7 @@ use Rattle.std.proofs.Common.{◌≡◌, ℕ, ◌+◌, ◌^◌, ◌≤◌, ◌++
 use Rattle.std.proofs.Common.{take, refl, ap, sym, ◌∙◌, subst, arith}
 use Rattle.std.proofs.lemmas.List.{append-nil, length-append, take_all}
 use mathlib.Core.List.{IsPrefix}
-use Rattle.early_start.specs.Offered.{Found, IsOffer}
+use Rattle.early_start.specs.Offered.{IsOffer, Offers}
 use Rattle.slot_calendar.specs.declared.profiles.CapStep.{CapStep}
 use Rattle.slot_calendar.specs.Profiles.{capacity_at}
 use Rattle.plan_cert.specs.declared.Segment.{Segment}
@@ -174,7 +174,7 @@ full_agrees {seat} {next} {more} {entries} same full =
       omega (arith, full.entries_are),
     )
 
-pub offer_agrees : {seat next : Sitting} {heard : ℕ} {plan : List Segment} {told : Told} {found : Found} → IsSameSeat seat next
+pub offer_agrees : {seat next : Sitting} {heard : ℕ} {plan : List Segment} {told : Told} {found : Offers} → IsSameSeat seat next
     → IsOffered next.steps next.seen heard plan told found
     → AgreeWith (terms_of seat) next.seen (length seat.seen)
     (Offered heard (record { seen = told.seen; first = told.first; plan = plan; offers = found }) ∷ [])

@@ -8,7 +8,7 @@ use Rattle.station.specs.declared.answers.PlayRefused.{PlayRefused}
 use Rattle.station.specs.Ledgers.{IsOffered}
 use Rattle.station.specs.declared.answers.Offered.{Offered as Told}
 use Rattle.station.specs.Seats.{IsSameSeat, IsSeat, Sitting}
-use Rattle.early_start.specs.Offered.{Found}
+use Rattle.early_start.specs.Offered.{Offers}
 use Rattle.plan_cert.specs.declared.Segment.{Segment}
 use Rattle.admission.specs.declared.entries.Answer.{Answer}
 use Rattle.admission.specs.declared.entries.Answer.TheVariants.{Halted}
@@ -50,7 +50,7 @@ pub refused_as : {was is : PlayRefused} (seat next : Sitting) (heard : ℕ) (pla
 refused_as seat next heard plan refused same = subst (IsRefused seat next heard plan) same refused
 
 pub answered_offer : {old : Standing} {ask : Ask} {new : Standing} {seat next : Sitting} {heard : ℕ}
-    {plan : List Segment} {told : Told} {found : Found}
+    {plan : List Segment} {told : Told} {found : Offers}
     → IsSameSeat seat next → next.mine ≡ seat.mine → IsOffered next.steps next.seen heard plan told found
     → IsAnswered old ask (Offered heard (record { seen = told.seen; first = told.first; plan = plan; offers = found })) new
     → HasAnswered old ask new seat next

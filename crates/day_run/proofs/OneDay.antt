@@ -15,7 +15,7 @@ use Rattle.film_run.proofs.LeftLaws.{left-one}
 use Rattle.film_run.proofs.PlayLaws.{sending-one}
 use Rattle.slot_calendar.specs.Plays.{cut_play}
 use Rattle.slot_calendar.specs.Profiles.{capacity_at}
-use Rattle.early_start.specs.Offered.{Found, IsOffer}
+use Rattle.early_start.specs.Offered.{IsOffer, Offers}
 use Rattle.early_start.proofs.Refusals.{same_start, same_tried}
 use Rattle.admission.specs.declared.entries.Answer.TheVariants.{Halted}
 use Rattle.admission.specs.declared.entries.Command.TheVariants as commands
@@ -136,7 +136,7 @@ one-look {link} {slot} {old} {new} {text} (inr a) (inr b) =
     let same = answer-once (record { steps = link.steps; state = state_after old.entries }) (commands.Look slot) a.answer b.answer a.noted.answered b.noted.answered in
     one-noted (ap (entry_by 0 (commands.Look slot)) same) refl a.noted b.noted
 
-one-found : (one other : Found) → one.wait ≡ other.wait → one.start ≡ other.start → one.tried ≡ other.tried → one ≡ other
+one-found : (one other : Offers) → one.wait ≡ other.wait → one.start ≡ other.start → one.tried ≡ other.tried → one ≡ other
 one-found one other w s t =
     ap (λ n. record { wait = n; start = one.start; tried = one.tried }) w ∙ ap (λ n. record { wait = other.wait; start = n; tried = one.tried }) s
     ∙ ap (λ l. record { wait = other.wait; start = other.start; tried = l }) t
@@ -159,7 +159,7 @@ one-offer {link} {rest} {old} {new} {text} own (inr a) (inr b) =
     let found : a.found ≡ b.found =
     one-found a.found b.found waits (same_start waits mine b.found_is)
     (same_tried waits mine b.found_is) in
-    let T : Found → Type 0 = λ f. IsTold (offer_text f) old new text in
+    let T : Offers → Type 0 = λ f. IsTold (offer_text f) old new text in
     one-told (subst T found a.told) b.told
 
 one-line : {link : Link} {old new new' : Moment} {text text' : List ℕ} (line : Line) → IsLink link → IsClient line → StandsAfter old.heard (length link.reels) line

@@ -20,7 +20,7 @@ use Rattle.admission.specs.declared.entries.Full.{Full}
 use Rattle.admission.specs.Books.{places_taken}
 use Rattle.admission.specs.Histories.{IsAnswered, open_count, state_after}
 use Rattle.admission.specs.Machine.{booked_in}
-use Rattle.early_start.specs.Offered.{Found, IsOffer}
+use Rattle.early_start.specs.Offered.{IsOffer, Offers}
 use Rattle.report.specs.CalendarTexts.{calendar_text}
 use Rattle.report.specs.EntryLines.{entry_line}
 use Rattle.report.specs.JournalTexts.{journal_text}
@@ -179,7 +179,7 @@ pub record IsOffered (link : Link) (rest : Rest) (wait : ℕ) (old new : Moment)
     : Type 0 where
   pub plan : List Segment
   pub plan_is : IsPlanOf rest.sizes rest.playback rest.run plan
-  pub found : Found
+  pub found : Offers
   pub wait_is : found.wait ≡ wait
   pub found_is : IsOffer 0 (booked_in (state_after old.entries)) (capacity_at link.steps) plan
       (max (state_after old.entries).now old.heard + 1) found

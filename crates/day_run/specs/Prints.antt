@@ -2,7 +2,7 @@
 -- ends with LF.
 use Rattle.std.specs.Prelude.{ℕ, List, ◌++◌, Option, Some, None, codes, length, flat_map}
 use Rattle.admission.specs.declared.entries.Full.{Full}
-use Rattle.early_start.specs.Offered.{Found}
+use Rattle.early_start.specs.Offered.{Offers}
 use Rattle.early_start.specs.declared.Tried.{Tried}
 use Rattle.report.specs.Fields.{field}
 use Rattle.wire_curve.specs.declared.film.CurveFault.{CurveFault}
@@ -49,7 +49,7 @@ start_words (Some start) = field (codes "offer start=") start
 start_words None = codes "offer none"
 
 -- the starts that were tried in vain, and what is offered
-abbrev pub offer_text : Found → List ℕ
+abbrev pub offer_text : Offers → List ℕ
 offer_text found =
     flat_map tried_text found.tried
     ++ (start_words found.start ++ field (codes " tried=") (length found.tried) ++ codes "\n")

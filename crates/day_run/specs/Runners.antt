@@ -3,7 +3,7 @@ use Rattle.std.specs.Prelude.{ℕ, ◌≡◌, ◌^◌, ◌≤◌, ◌++◌, List
 use Rattle.std.specs.Prelude.{flat_map}
 use Rattle.admission.specs.declared.entries.Entry.{Entry}
 use Rattle.admission.specs.Histories.{state_after}
-use Rattle.early_start.specs.Offered.{Found}
+use Rattle.early_start.specs.Offered.{Offers}
 use Rattle.wire_curve.specs.declared.film.CurveFault.{CurveFault}
 use Rattle.day_run.specs.declared.scripts.Line.{Line}
 use Rattle.day_run.specs.declared.clients.Client.{Client}
@@ -57,7 +57,7 @@ told_text entries tolds.State = state_text
 told_text entries (tolds.Fault fault) = fault_text fault
 
 -- the text of an offer
-abbrev pub offer_lines : Result Found CurveFault → List ℕ
+abbrev pub offer_lines : Result Offers CurveFault → List ℕ
 offer_lines (Ok found) = offer_text found
 offer_lines (Err fault) = fault_text fault
 

@@ -7,7 +7,7 @@ use Rattle.slot_calendar.specs.Plays.{Play, booked_by}
 use Rattle.slot_calendar.specs.Profiles.{capacity_at}
 use Rattle.slot_calendar.specs.declared.calendar.Overflow.{Overflow}
 use Rattle.slot_calendar.proofs.Sending.{asked-before}
-use Rattle.early_start.specs.Offered.{Found, IsOffer, IsOfferIn, IsStart, IsStartIn}
+use Rattle.early_start.specs.Offered.{IsOffer, IsOfferIn, IsStart, IsStartIn, Offers}
 
 -- a calendar stands for plays that book no slot above its capacity
 pub record StandsWithin (calendar : Entries) (plays : List Play) : Type 0 where
@@ -15,17 +15,19 @@ pub record StandsWithin (calendar : Entries) (plays : List Play) : Type 0 where
   pub within : (t : ℕ) → booked_by plays t ≤ capacity_at calendar.steps t
 
 -- a plan that fits from the calendar's first slot on fits everywhere: before its start it asks for nothing
-fits_each : {calendar : Entries} {plays : List Play} {start u : ℕ} (segments : List Segment) → StandsWithin calendar plays → calendar.first < start →
-    (calendar.first ≤ u → Fits (booked_at calendar) (capacity_at calendar.steps) start segments u) →
-    Fits (booked_by plays) (capacity_at calendar.steps) start segments u
+fits_each : {calendar : Entries} {plays : List Play} {start u : ℕ} (segments : List Segment)
+    → StandsWithin calendar plays → calendar.first < start
+    → (calendar.first ≤ u → Fits (booked_at calendar) (capacity_at calendar.steps) start segments u)
+    → Fits (booked_by plays) (capacity_at calendar.steps) start segments u
 fits_each {calendar} {start} {u} segments its after fits = elim (cases_lt u calendar.first) [
   | inl early ↦ omega (arith, its.within u, asked-before segments start u (omega (arith, early, after)))
   | inr since ↦ omega (arith, its.stands.each u since, fits since)
 ]
 
-room_everywhere : {calendar : Entries} {plays : List Play} {start : ℕ} {segments : List Segment} → StandsWithin calendar plays → calendar.first < start →
-    HasRoom calendar.first (booked_at calendar) (capacity_at calendar.steps) start segments →
-    HasRoom 0 (booked_by plays) (capacity_at calendar.steps) start segments
+room_everywhere : {calendar : Entries} {plays : List Play} {start : ℕ} {segments : List Segment}
+    → StandsWithin calendar plays → calendar.first < start
+    → HasRoom calendar.first (booked_at calendar) (capacity_at calendar.steps) start segments
+    → HasRoom 0 (booked_by plays) (capacity_at calendar.steps) start segments
 room_everywhere {start} {segments} its after room = record {
   each = λ u _. fits_each segments its after (λ since. room.each u since);
 }
@@ -42,8 +44,9 @@ overflow_everywhere {start} {segments} {over} its after first = record {
   asked_is = first.asked_is;
 }
 
-pub offer_everywhere : {calendar : Entries} {plays : List Play} {segments : List Segment} {first : ℕ} {found : Found} → StandsWithin calendar plays →
-    calendar.first < first → IsOfferIn calendar segments first found → IsOffer 0 (booked_by plays) (capacity_at calendar.steps) segments first found
+pub offer_everywhere : {calendar : Entries} {plays : List Play} {segments : List Segment} {first : ℕ} {found : Offers}
+    → StandsWithin calendar plays → calendar.first < first → IsOfferIn calendar segments first found
+    → IsOffer 0 (booked_by plays) (capacity_at calendar.steps) segments first found
 offer_everywhere {calendar} {plays} {segments} {first} {found} its after offer = record {
   refusals = record {
     starts = offer.refusals.starts;

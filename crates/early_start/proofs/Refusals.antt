@@ -6,7 +6,7 @@ use Rattle.plan_cert.specs.declared.Segment.{Segment}
 use Rattle.slot_calendar.specs.Calendars.{IsFirstOverflow}
 use Rattle.slot_calendar.specs.declared.calendar.Overflow.{Overflow}
 use Rattle.slot_calendar.proofs.Overflows.{no-room, overflow-once}
-use Rattle.early_start.specs.Offered.{AreRefusals, CanStart, Found, IsOffer, IsRefusal, IsStart}
+use Rattle.early_start.specs.Offered.{AreRefusals, CanStart, IsOffer, IsRefusal, IsStart, Offers}
 use Rattle.early_start.specs.declared.Tried.{Tried}
 
 pub refusals_more : {from : ℕ} {booked capacity : ℕ → ℕ} {segments : List Segment} {first : ℕ} {xs : List Tried}
@@ -44,8 +44,9 @@ no_start : Tried
 no_start = record { start = 0; over = no_overflow }
 
 -- the plan fits at no start that was tried
-pub no_room_tried : {from : ℕ} {booked capacity : ℕ → ℕ} {segments : List Segment} {first : ℕ} {tried : List Tried} {start : ℕ} →
-    AreRefusals from booked capacity segments first tried → first ≤ start → start < first + length tried → CanStart from booked capacity segments start → ⊥
+pub no_room_tried : {from : ℕ} {booked capacity : ℕ → ℕ} {segments : List Segment} {first : ℕ} {tried : List Tried} {start : ℕ}
+    → AreRefusals from booked capacity segments first tried → first ≤ start → start < first + length tried
+    → CanStart from booked capacity segments start → ⊥
 no_room_tried {from} {booked} {capacity} {segments} {first} {tried} {start} all begun before room =
     let i = start - first in
     let inside : i < length tried = omega (arith, begun, before) in
@@ -61,7 +62,7 @@ nothing_next {from} {capacity} first None is few start refusal = omega (arith, i
 nothing_next {from} {booked} {capacity} {segments} {t} first (Some s) is few start refusal =
     no-room refusal (subst (CanStart from booked capacity segments) (is.1 ∙ sym start) is.2)
 
-few_tried : {from : ℕ} {booked capacity : ℕ → ℕ} {segments : List Segment} {first : ℕ} {found : Found} →
+few_tried : {from : ℕ} {booked capacity : ℕ → ℕ} {segments : List Segment} {first : ℕ} {found : Offers} →
     IsOffer from booked capacity segments first found → length found.tried ≤ found.wait + 1
 few_tried {from} {booked} {capacity} {segments} {first} {found} offer = few found.start offer.start
   where
@@ -70,15 +71,17 @@ few_tried {from} {booked} {capacity} {segments} {first} {found} offer = few foun
     few (Some s) is = omega (arith, is.0)
 
 -- none tries fewer
-not_fewer : {from : ℕ} {booked capacity : ℕ → ℕ} {segments : List Segment} {first : ℕ} {a b : Found} → a.wait ≡ b.wait → IsOffer from booked capacity segments first a → IsOffer from booked capacity segments first b →
-    length a.tried < length b.tried → ⊥
+not_fewer : {from : ℕ} {booked capacity : ℕ → ℕ} {segments : List Segment} {first : ℕ} {a b : Offers} → a.wait ≡ b.wait
+    → IsOffer from booked capacity segments first a → IsOffer from booked capacity segments first b
+    → length a.tried < length b.tried → ⊥
 not_fewer {from} {booked} {capacity} {segments} {first} {a} {b} wait x y less =
     nothing_next first a.start x.start
     (omega (arith, wait, less, few_tried y))
     (y.refusals.starts (length a.tried) no_start less) (y.refusals.refused (length a.tried) no_start less)
 
-pub as_many : {from : ℕ} {booked capacity : ℕ → ℕ} {segments : List Segment} {first : ℕ} {a b : Found} → a.wait ≡ b.wait → IsOffer from booked capacity segments first a → IsOffer from booked capacity segments first b →
-    length a.tried ≡ length b.tried
+pub as_many : {from : ℕ} {booked capacity : ℕ → ℕ} {segments : List Segment} {first : ℕ} {a b : Offers}
+    → a.wait ≡ b.wait → IsOffer from booked capacity segments first a → IsOffer from booked capacity segments first b
+    → length a.tried ≡ length b.tried
 as_many {from} {capacity} {first} {a} {b} wait x y =
     elim (cases_order (length a.tried) (length b.tried)) [
       | inl same ↦ same
@@ -86,8 +89,9 @@ as_many {from} {capacity} {first} {a} {b} wait x y =
       | inr (inr more) ↦ absurd (not_fewer (sym wait) y x more)
     ]
 
-pub same_start : {from : ℕ} {booked capacity : ℕ → ℕ} {segments : List Segment} {first : ℕ} {a b : Found} → a.wait ≡ b.wait → IsOffer from booked capacity segments first a → IsOffer from booked capacity segments first b →
-    a.start ≡ b.start
+pub same_start : {from : ℕ} {booked capacity : ℕ → ℕ} {segments : List Segment} {first : ℕ} {a b : Offers}
+    → a.wait ≡ b.wait → IsOffer from booked capacity segments first a → IsOffer from booked capacity segments first b
+    → a.start ≡ b.start
 same_start {from} {booked} {capacity} {segments} {first} {a} {b} wait x y =
     let W : ℕ → Type 0 = λ w. IsStart from booked capacity segments first w (length a.tried) a.start in
     let N : ℕ → Type 0 = λ n. IsStart from booked capacity segments first b.wait n a.start in
@@ -100,8 +104,9 @@ same_start {from} {booked} {capacity} {segments} {first} {a} {b} wait x y =
     once (Some t) None p q = let bad : ⊥ = omega (arith, q, p.0) in absurd bad
     once (Some t) (Some u) p q = ap (λ k. Some k) (p.1 ∙ sym q.1)
 
-pub same_tried : {from : ℕ} {booked capacity : ℕ → ℕ} {segments : List Segment} {first : ℕ} {a b : Found} → a.wait ≡ b.wait → IsOffer from booked capacity segments first a → IsOffer from booked capacity segments first b →
-    a.tried ≡ b.tried
+pub same_tried : {from : ℕ} {booked capacity : ℕ → ℕ} {segments : List Segment} {first : ℕ} {a b : Offers}
+    → a.wait ≡ b.wait → IsOffer from booked capacity segments first a → IsOffer from booked capacity segments first b
+    → a.tried ≡ b.tried
 same_tried {a} {b} wait x y =
     let many : length a.tried ≡ length b.tried = as_many wait x y in
     same_lists a.tried b.tried many (λ k none below.

@@ -1,9 +1,9 @@
 -- How an answer is kept: with room for all starts.
 use Rattle.std.specs.Prelude.{◌+◌, ◌≤◌, length, vec_capacity}
-use Rattle.early_start.specs.Offered.{Found}
+use Rattle.early_start.specs.Offered.{Offers}
 use Rattle.early_start.specs.declared.Offers.TheInside.{Inside}
 
-abbrev pub found_of : Inside → Found
+abbrev pub found_of : Inside → Offers
 found_of offers = record { wait = offers.wait; start = offers.start; tried = offers.tried.items }
 
 pub record IsKept (offers : Inside) : Type 0 where

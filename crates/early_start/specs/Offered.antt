@@ -8,7 +8,7 @@ use Rattle.early_start.specs.declared.Tried.{Tried}
 
 -- what was found: how many slots later than the first one a play may start, the start, and the
 -- starts at which it doesn't fit
-pub record Found : Type 0 where
+pub record Offers : Type 0 where
   pub wait : ℕ
   pub start : Option ℕ
   pub tried : List Tried
@@ -41,13 +41,13 @@ IsStart from booked capacity segments first wait tried (Some start) =
 -- `from` on have these booked bytes and capacities: the least start where it fits, and for each
 -- earlier one the first slot without room.
 pub record IsOffer (from : ℕ) (booked capacity : ℕ → ℕ) (segments : List Segment) (first : ℕ)
-    (found : Found) : Type 0 where
+    (found : Offers) : Type 0 where
   pub refusals : AreRefusals from booked capacity segments first found.tried
   pub start : IsStart from booked capacity segments first found.wait
       (length found.tried) found.start
 
 -- what is found in a calendar
-abbrev pub IsOfferIn : Entries → List Segment → ℕ → Found → Type 0
+abbrev pub IsOfferIn : Entries → List Segment → ℕ → Offers → Type 0
 IsOfferIn calendar segments first found =
     IsOffer calendar.first (booked_at calendar) (capacity_at calendar.steps) segments first found
 

@@ -5,16 +5,16 @@ ghost use Rattle.plan_cert.specs.declared.Segment.{Segment};
 ghost use Rattle.slot_calendar.specs.Calendars.{Entries, HasRoom, StandsFor};
 ghost use Rattle.slot_calendar.specs.Plays.{Play, booked_by};
 ghost use Rattle.slot_calendar.specs.Profiles.{capacity_at};
-ghost use Rattle.early_start.specs.Offered.{Found, IsOffer, IsOfferIn};
+ghost use Rattle.early_start.specs.Offered.{IsOffer, IsOfferIn, Offers};
 
 /// A plan and its first start have one answer within a wait, whatever is booked.
 pub fn law_one_offer()
     ensures start { (from first : ℕ) (booked capacity : ℕ → ℕ) (segments : List Segment)
-        (one other : Found) → one.wait ≡ other.wait →
+        (one other : Offers) → one.wait ≡ other.wait →
         IsOffer from booked capacity segments first one →
         IsOffer from booked capacity segments first other → one.start ≡ other.start }
     ensures tried { (from first : ℕ) (booked capacity : ℕ → ℕ) (segments : List Segment)
-        (one other : Found) → one.wait ≡ other.wait →
+        (one other : Offers) → one.wait ≡ other.wait →
         IsOffer from booked capacity segments first one →
         IsOffer from booked capacity segments first other → one.tried ≡ other.tried }
 {}
@@ -23,7 +23,7 @@ pub fn law_one_offer()
 /// calendar stands for, where they book no slot above its capacity.
 pub fn law_offer_of_plays()
     ensures { (calendar : Entries) (plays : List Play) (segments : List Segment) (first : ℕ)
-        (found : Found) →
+        (found : Offers) →
         StandsFor calendar plays →
         ((t : ℕ) → booked_by plays t ≤ capacity_at calendar.steps t) →
         calendar.first < first → IsOfferIn calendar segments first found →
@@ -34,20 +34,20 @@ pub fn law_offer_of_plays()
 /// is found it fits at none of them.
 pub fn law_least_start()
     ensures fits { (from first start : ℕ) (booked capacity : ℕ → ℕ) (segments : List Segment)
-        (found : Found) → IsOffer from booked capacity segments first found →
+        (found : Offers) → IsOffer from booked capacity segments first found →
         found.start ≡ Some start → HasRoom from booked capacity start segments }
     ensures begun { (from first start : ℕ) (booked capacity : ℕ → ℕ) (segments : List Segment)
-        (found : Found) → IsOffer from booked capacity segments first found →
+        (found : Offers) → IsOffer from booked capacity segments first found →
         found.start ≡ Some start → first ≤ start }
     ensures within { (from first start : ℕ) (booked capacity : ℕ → ℕ) (segments : List Segment)
-        (found : Found) → IsOffer from booked capacity segments first found →
+        (found : Offers) → IsOffer from booked capacity segments first found →
         found.start ≡ Some start → start ≤ first + found.wait }
     ensures least { (from first start earlier : ℕ) (booked capacity : ℕ → ℕ)
-        (segments : List Segment) (found : Found) →
+        (segments : List Segment) (found : Offers) →
         IsOffer from booked capacity segments first found → found.start ≡ Some start →
         first ≤ earlier → earlier < start → ¬ HasRoom from booked capacity earlier segments }
     ensures none { (from first start : ℕ) (booked capacity : ℕ → ℕ) (segments : List Segment)
-        (found : Found) → IsOffer from booked capacity segments first found →
+        (found : Offers) → IsOffer from booked capacity segments first found →
         found.start ≡ None → first ≤ start → start ≤ first + found.wait →
         ¬ HasRoom from booked capacity start segments }
 {}

@@ -35,10 +35,10 @@ pub struct Offers {
 }
 
 impl Model for Offers {
-    ghost use Rattle.early_start.specs.Offered.{Found};
+    ghost use Rattle.early_start.specs.Offered.{Offers};
     ghost use Rattle.early_start.specs.Kept.{found_of, IsKept};
 
-    ghost Value = { Found };
+    ghost Value = { Offers };
 
     ghost view = { found_of };
 

@@ -95,7 +95,8 @@ due-of-both plan a b keep due is =
 
 -- ---- a step that failed
 
-pub step-failed : {stop : Bool} {slot : ℕ} {old : Pacing} {to whole : ℕ} {told_old told_new : Option (List Doing)} (pacing : Pacing)
+pub step-failed : {stop : Bool} {slot : ℕ} {old : Pacing} {to whole : ℕ} {told_old told_new : Option (List Doing)}
+    (pacing : Pacing)
     → pacing ≡ at_slot slot old → to ≡ step_end stop pacing → pacing.sent ≤ to
     → HasStopped (bytes_between pacing.pieces (pacing.before + pacing.sent) (pacing.before + to)) told_old told_new whole
     → HasFailed stop slot old (record pacing { sent = pacing.sent + whole }) told_old told_new

@@ -141,7 +141,8 @@ one_text one other e =
     open one use {slots, bytes, segments as xs, few_slots, few_bytes, few}
     open other use {slots as slots', bytes as bytes', segments as ys, few_slots as few_slots', few_bytes as few_bytes', few as few'}
 
-abbrev contents_of : {text : List ℕ} {slots bytes : ℕ} {segments : List Segment} → IsCertificate text slots bytes segments → Contents
+abbrev contents_of : {text : List ℕ} {slots bytes : ℕ} {segments : List Segment}
+    → IsCertificate text slots bytes segments → Contents
 contents_of {segments} certificate = record {
   slots = total_slots segments;
   bytes = total_bytes segments;

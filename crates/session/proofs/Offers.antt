@@ -7,7 +7,7 @@ use Rattle.wire_curve.specs.declared.film.CurveFault.TheVariants.{BufferTooSmall
 use Rattle.wire_curve.specs.declared.film.CurveRefused.{CurveRefused}
 use Rattle.wire_curve.specs.declared.film.CurveRefused.TheVariants.{Fault, NoMemory}
 use Rattle.wire_curve.specs.Refusal.{IsOverfull, IsRefused as HaveNoCurves}
-use Rattle.early_start.specs.Offered.{Found}
+use Rattle.early_start.specs.Offered.{Offers}
 use Rattle.early_start.specs.declared.Tried.{Tried}
 use Rattle.film_run.specs.declared.runs.Run.{Run}
 use Rattle.film_run.specs.Plans.{rest_sizes, timing_of}
@@ -42,7 +42,7 @@ wait_in : (head : List ℕ) (value : Option (List ℕ)) (wait : ℕ) → header_
 wait_in head None wait same is = absurd is
 wait_in head (Some text) wait same is = record { text = text; named = same; number_is = is.is_number; fits = omega (arith, is.below) }
 
-module _ (old : Standing) (message : List ℕ) (plan : List Segment) (offers : Found) (new : Standing) where
+module _ (old : Standing) (message : List ℕ) (plan : List Segment) (offers : Offers) (new : Standing) where
   abbrev Asked : Type 0
   Asked = IsOfferAsked old message plan offers new
 
@@ -60,11 +60,11 @@ module _ (old : Standing) (message : List ℕ) (plan : List Segment) (offers : F
         planned = planned;
         asked_by = by;
         ready = ready;
-        wait = subst (λ w. IsWaitIn request.head.now w) (sym (ap (λ (o : Found). o.wait) same ∙ asks.wait_is)) its;
+        wait = subst (λ w. IsWaitIn request.head.now w) (sym (ap (λ (o : Offers). o.wait) same ∙ asks.wait_is)) its;
         planned_is = is.1;
         plan_is = cc (asks.command);
-        not_found = ap (λ (o : Found). o.start) same ∙ asks.start_is;
-        not_tried = ap (λ (o : Found). o.tried) same ∙ asks.tried_is;
+        not_found = ap (λ (o : Offers). o.start) same ∙ asks.start_is;
+        not_tried = ap (λ (o : Offers). o.tried) same ∙ asks.tried_is;
         leaves = asks.state;
       }
   asks_offer request setup paused wait (Ok planned) by ready has is (inr refused) = absurd (let no : ⊥ = cc (refused.0) in no)

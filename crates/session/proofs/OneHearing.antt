@@ -6,7 +6,7 @@ use Rattle.film_run.specs.declared.runs.Run.{Run}
 use Rattle.film_run.proofs.LeftLaws.{left-one}
 use Rattle.film_run.specs.Pauses.{IsLeft}
 use Rattle.film_run.specs.Units.{stored_sizes}
-use Rattle.early_start.specs.Offered.{Found}
+use Rattle.early_start.specs.Offered.{Offers}
 use Rattle.early_start.specs.declared.Tried.{Tried}
 use Rattle.pacer.specs.Pacings.{next_boundary, slots_through}
 use Rattle.rtsp_fields.specs.declared.transports.Channels.{Channels}
@@ -182,9 +182,9 @@ through_once None (Some n) same = absurd (omega (arith, same))
 through_once (Some n) None same = absurd (omega (arith, same))
 through_once (Some n) (Some m) same = ap (λ k. Some k) (let is : m ≡ n = omega (arith, same) in is)
 
-found_once : (one other : Found) → other.wait ≡ one.wait → other.start ≡ one.start → other.tried ≡ one.tried → other ≡ one
+found_once : (one other : Offers) → other.wait ≡ one.wait → other.start ≡ one.start → other.tried ≡ one.tried → other ≡ one
 found_once one other wait start tried =
-    let F : ℕ → Option ℕ → List Tried → Found = λ w s t. record { wait = w; start = s; tried = t } in
+    let F : ℕ → Option ℕ → List Tried → Offers = λ w s t. record { wait = w; start = s; tried = t } in
     ap (λ w. F w other.start other.tried) wait ∙ ap (λ s. F one.wait s other.tried) start ∙ ap (λ t. F one.wait one.start t) tried
 
 module _ (old : Standing) (message : List ℕ) (ask again : Ask) (one other : Standing) where

@@ -1,7 +1,7 @@
 -- What a request can come to, as far as the connection's course goes by it.
 use Rattle.std.proofs.Common.{◌≡◌, ℕ, Bool, true, List, Option, None}
 use Rattle.plan_cert.specs.declared.Segment.{Segment}
-use Rattle.early_start.specs.Offered.{Found}
+use Rattle.early_start.specs.Offered.{Offers}
 use Rattle.film_run.specs.declared.runs.Run.{Run}
 use Rattle.pacer.specs.Pacings.{next_boundary}
 use Rattle.session.specs.declared.asks.Ask.{Ask}
@@ -29,7 +29,7 @@ pub data HearsAs (old : Standing) (ask : Ask) (new : Standing) : Type 0 where
       → new ≡ record old { state = Playing setup (record play { pacer = record play.pacer { keep = keep } }); awaited = Halt keep next; text = text }
       → HearsAs old ask new
   AsksLook : (looks sequence : ℕ) → ask ≡ AskLook old.heard → new ≡ record old { looks_left = looks; awaited = Look sequence } → HearsAs old ask new
-  AsksOffer : (plan : List Segment) (offers : Found) (sequence : ℕ) → ask ≡ AskOffer plan offers → new ≡ record old { awaited = Offer sequence }
+  AsksOffer : (plan : List Segment) (offers : Offers) (sequence : ℕ) → ask ≡ AskOffer plan offers → new ≡ record old { awaited = Offer sequence }
       → HearsAs old ask new
 
 comes_as : (old : Standing) (message : List ℕ) (ask : Ask) (new : Standing) → ComesTo old message ask new → HearsAs old ask new

@@ -4,7 +4,7 @@ use Rattle.std.specs.Prelude.{codes, string_bytes}
 use Rattle.rtsp_text.specs.Fields.{header_value}
 use Rattle.rtsp_text.specs.Replies.{reply_front}
 use Rattle.rtsp_fields.specs.Values.{IsWithin}
-use Rattle.early_start.specs.Offered.{Found}
+use Rattle.early_start.specs.Offered.{Offers}
 use Rattle.rtsp_text.specs.declared.requests.Request.{Request}
 use Rattle.film_frames.specs.declared.stores.Stored.{Stored}
 use Rattle.pacer.specs.Pacings.{next_boundary, slots_through}
@@ -208,7 +208,7 @@ HasWait head wait = IsWaitOf (header_value head (codes "x-Wait")) wait
 
 pub record AsksOffer (old : Standing) (sequence wait : ℕ) (planned : Planned) (ask : Ask)
     (new : Standing) : Type 0 where
-  pub offers : Found
+  pub offers : Offers
   pub wait_is : offers.wait ≡ wait
   pub start_is : offers.start ≡ None
   pub tried_is : offers.tried ≡ []

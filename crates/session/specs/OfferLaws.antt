@@ -6,7 +6,7 @@ use Rattle.vod_base.specs.Numbers.{number_of}
 use Rattle.plan_cert.specs.declared.Segment.{Segment}
 use Rattle.wire_curve.specs.Refusal.{IsAccepted}
 use Rattle.wire_curve.specs.declared.film.Timing.{Timing}
-use Rattle.early_start.specs.Offered.{Found}
+use Rattle.early_start.specs.Offered.{Offers}
 use Rattle.early_start.specs.declared.Tried.{Tried}
 use Rattle.rtsp_text.specs.Fields.{header_value}
 use Rattle.rtsp_text.specs.Replies.{Field, reply_text, value_named}
@@ -36,7 +36,7 @@ pub record IsWaitIn (head : List ℕ) (wait : ℕ) : Type 0 where
 
 -- the station is asked with the plan of a PLAY without a Range, and no start was tried yet; the
 -- state and what was played stay
-pub record IsOfferAsked (old : Standing) (message : List ℕ) (plan : List Segment) (offers : Found)
+pub record IsOfferAsked (old : Standing) (message : List ℕ) (plan : List Segment) (offers : Offers)
     (new : Standing) : Type 0 where
   pub request : Request
   pub setup : Setup
@@ -63,7 +63,7 @@ tried_line tried = codes "x-Over: " ++ (decimal tried.start ++ (codes " "
     ++ (decimal tried.over.slot ++ (codes " " ++ (decimal tried.over.booked
     ++ (codes " " ++ decimal tried.over.asked))))))
 
-pub record IsOfferTold (sequence : ℕ) (offers : Found) (text : List ℕ) : Type 0 where
+pub record IsOfferTold (sequence : ℕ) (offers : Offers) (text : List ℕ) : Type 0 where
   pub fields : List Field
   pub body : List ℕ
   pub text_is : text ≡ reply_text 200 (Some sequence) fields body

@@ -2,7 +2,7 @@
 
 ghost use Rattle.std.specs.Prelude.{◌≡◌, ℕ, List, Option};
 ghost use Rattle.plan_cert.specs.declared.Segment.{Segment};
-ghost use Rattle.early_start.specs.Offered.{Found};
+ghost use Rattle.early_start.specs.Offered.{Offers};
 ghost use Rattle.film_run.specs.declared.runs.Run.{Run};
 ghost use Rattle.film_run.specs.Plans.{rest_sizes, timing_of};
 ghost use Rattle.film_run.specs.Units.{stored_sizes};
@@ -21,7 +21,7 @@ ghost use Rattle.session.specs.Standings.{Standing, sequence_of};
 /// PLAY without a Range and the wait that its `x-Wait` names, and nothing else changes. The reply
 /// tells the start that was found, and each start that was tried in vain, a line each.
 pub fn law_offer()
-    ensures asked { (old new : Standing) (message : List ℕ) (plan : List Segment) (offers : Found) →
+    ensures asked { (old new : Standing) (message : List ℕ) (plan : List Segment) (offers : Offers) →
         Hears old message (Ask.Offer plan offers) new
         → IsOfferAsked old message plan offers new }
     ensures told { (old : Standing) (note : OfferNote)

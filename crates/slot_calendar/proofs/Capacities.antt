@@ -61,8 +61,9 @@ pub record HaveBegun (steps : List CapStep) (i slot bytes : ℕ) : Type 0 where
   pub bytes_are : (k : ℕ) → k + 1 ≡ i → bytes ≡ (step_at steps k).bytes
 
 -- step i begins after it
-pub capacity-before : {steps : List CapStep} {i slot u bytes : ℕ} → IsProfile steps → i < length steps → HaveBegun steps i slot bytes
-    → slot < (step_at steps i).from → slot ≤ u → u < (step_at steps i).from → IsCapacity steps u bytes
+pub capacity-before : {steps : List CapStep} {i slot u bytes : ℕ} → IsProfile steps → i < length steps
+    → HaveBegun steps i slot bytes → slot < (step_at steps i).from → slot ≤ u → u < (step_at steps i).from
+    → IsCapacity steps u bytes
 capacity-before {steps} {i} profile inside first after from less =
     elim (cases_lt 0 i) [
       | inl some ↦ record {
@@ -80,8 +81,8 @@ capacity-before {steps} {i} profile inside first after from less =
     ]
 
 -- all steps begin at or before the slot
-pub capacity-last : {steps : List CapStep} {i slot u bytes : ℕ} → IsProfile steps → length steps ≡ i → HaveBegun steps i slot bytes
-    → slot ≤ u → IsCapacity steps u bytes
+pub capacity-last : {steps : List CapStep} {i slot u bytes : ℕ} → IsProfile steps → length steps ≡ i
+    → HaveBegun steps i slot bytes → slot ≤ u → IsCapacity steps u bytes
 capacity-last {steps} {i} profile count all from = record {
   index = i - 1;
   inside = omega (arith, count, profile.some);

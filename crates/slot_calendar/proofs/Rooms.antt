@@ -31,9 +31,11 @@ fits-next {from} first booked capacity at before here = λ u since less.
     ]
 
 -- its first overflow is that of the first segment that has one
-pub first-overflow : {first : ℕ} {booked capacity : ℕ → ℕ} {segments : List Segment} {i : ℕ} {s : Segment} {start from : ℕ}
-    {over : Overflow} → IsSegmentFrom segments i s start from → first ≤ from → FitsIn first from booked capacity start segments
-    → IsOverflowIn from (from + s.slots) booked capacity from (s ∷ []) over → IsFirstOverflow first booked capacity start segments over
+pub first-overflow : {first : ℕ} {booked capacity : ℕ → ℕ} {segments : List Segment} {i : ℕ} {s : Segment}
+    {start from : ℕ} {over : Overflow}
+    → IsSegmentFrom segments i s start from → first ≤ from → FitsIn first from booked capacity start segments
+    → IsOverflowIn from (from + s.slots) booked capacity from (s ∷ []) over
+    → IsFirstOverflow first booked capacity start segments over
 first-overflow {capacity} {from} {over} at later before here =
     let asked = asked-in over.slot at here.first.begun here.inside in
     record {

@@ -129,8 +129,9 @@ pub record IsSegmentFrom (segments : List Segment) (i : ℕ) (s : Segment) (star
   pub from_is : from ≡ start + total_slots (take i segments)
 
 -- the first i + 1 segments ask for what the first i do and what segment i does
-pub asked-next : {segments : List Segment} {i : ℕ} {s : Segment} {start from : ℕ} (t : ℕ) → IsSegmentFrom segments i s start from →
-    asked_at (take (i + 1) segments) start t ≡ asked_at (take i segments) start t + asked_at (s ∷ []) from t
+pub asked-next : {segments : List Segment} {i : ℕ} {s : Segment} {start from : ℕ} (t : ℕ)
+    → IsSegmentFrom segments i s start from
+    → asked_at (take (i + 1) segments) start t ≡ asked_at (take i segments) start t + asked_at (s ∷ []) from t
 asked-next {segments} {i} {s} {start} t at =
     ap (λ l. asked_at l start t) (front-next segments i s at.inside at.segment_is) ∙ asked-append (take i segments) (s ∷ []) start t
     ∙ ap (λ n. asked_at (take i segments) start t + asked_at (s ∷ []) n t) (sym at.from_is)
@@ -193,8 +194,9 @@ cut-append {xs} {start} {keep} {from} {left} ys t front =
     sum-parts : (a b c d e f : ℕ) → a ≡ c + e → b ≡ d + f → c ≤ d → e ≤ f → b - a ≡ (d - c) + (f - e)
     sum-parts a b c d e f p q r s = omega arith
 
-pub cut-next : {segments : List Segment} {i : ℕ} {s : Segment} {start from left : ℕ} (keep t : ℕ) → All (λ x. 1 ≤ x.slots) segments
-    → IsSegmentFrom segments i s start from → left ≡ keep - total_bytes (take i segments)
+pub cut-next : {segments : List Segment} {i : ℕ} {s : Segment} {start from left : ℕ} (keep t : ℕ)
+    → All (λ x. 1 ≤ x.slots) segments → IsSegmentFrom segments i s start from
+    → left ≡ keep - total_bytes (take i segments)
     → cut_at (take (i + 1) segments) start keep t ≡ cut_at (take i segments) start keep t + cut_at (s ∷ []) from left t
 cut-next {segments} {i} {s} {start} keep t some at rest =
     ap (λ l. cut_at l start keep t) (front-next segments i s at.inside at.segment_is)
@@ -248,8 +250,9 @@ asked-here {sent} segments from j was is =
     let next : sent_before segments from (from + j + 1) ≡ sent = ap (sent_before segments from) (let e : from + j + 1 ≡ from + (j + 1) = omega arith in e) ∙ is in
     omega (arith, was, next)
 
-pub cut-here : {before over : ℕ} (segments : List Segment) (from keep j : ℕ) → before ≡ sent_before segments from (from + j) - keep →
-    over ≡ sent_before segments from (from + (j + 1)) - keep → cut_at segments from keep (from + j) ≡ over - before
+pub cut-here : {before over : ℕ} (segments : List Segment) (from keep j : ℕ)
+    → before ≡ sent_before segments from (from + j) - keep → over ≡ sent_before segments from (from + (j + 1)) - keep
+    → cut_at segments from keep (from + j) ≡ over - before
 cut-here segments from keep j was is =
     let next : sent_before segments from (from + j + 1) ≡ sent_before segments from (from + (j + 1)) = ap (sent_before segments from) (omega arith) in
     omega (arith, was, next, is)
@@ -285,9 +288,10 @@ raised-next step asked here done {t} since less =
     before : (x y : ℕ) → x < y + 1 → x ≢ y → x < y
     before x y most apart = omega arith
 
-pub lowered-next : (step : OneSlotMore) (cut : ℕ → ℕ) → (step.first ≤ step.place → step.new step.place + cut step.place ≡ step.mid step.place)
-    → ((t : ℕ) → step.first ≤ t → t < step.place → step.mid t + cut t ≡ step.old t)
-    → {t : ℕ} → step.first ≤ t → t < step.place + 1 → step.new t + cut t ≡ step.old t
+pub lowered-next : (step : OneSlotMore) (cut : ℕ → ℕ)
+    → (step.first ≤ step.place → step.new step.place + cut step.place ≡ step.mid step.place)
+    → ((t : ℕ) → step.first ≤ t → t < step.place → step.mid t + cut t ≡ step.old t) → {t : ℕ} → step.first ≤ t
+    → t < step.place + 1 → step.new t + cut t ≡ step.old t
 lowered-next step cut here done {t} since less =
     elim (cases_eq t place) [
       | inl is ↦ (

@@ -59,8 +59,8 @@ booked-around before after play t =
     sum_by-append (share_at t) before (play ∷ after) ∙ ap (λ n. booked_by before t + n) (sum_by-cons (share_at t) play after)
 
 -- a play that is cut
-pub booked-cut : (before after : List Play) (play : Play) (t : ℕ) → IsPlan play.segments →
-    booked_by (before ++ play ∷ after) t + cut_at play.segments play.start play.keep t ≡ booked_by (before ++ whole_play play.start play.segments ∷ after) t
+pub booked-cut : (before after : List Play) (play : Play) (t : ℕ) → IsPlan play.segments
+    → booked_by (before ++ play ∷ after) t + cut_at play.segments play.start play.keep t ≡ booked_by (before ++ whole_play play.start play.segments ∷ after) t
 booked-cut before after play t plan =
     omega (arith, booked-around before after play t, booked-around before after (whole_play start segments) t, share-whole segments start t plan, share-cut segments start keep t)
   where

@@ -26,7 +26,8 @@ pub record IsInTurn (n first t : ℕ) : Type 0 where
   pub inside : t < first + n
 
 -- the element of slot t
-rotation-at : {n : ℕ} {xs : List ℕ} (first k : ℕ) → HasPlaces n xs → k < n → get_or (rotation (first % n) xs) k 0 ≡ get_or xs ((first + k) % n) 0
+rotation-at : {n : ℕ} {xs : List ℕ} (first k : ℕ) → HasPlaces n xs → k < n
+    → get_or (rotation (first % n) xs) k 0 ≡ get_or xs ((first + k) % n) 0
 rotation-at {n} {xs} first k places inside =
     let h = first % n in
     let below : h < n = mod_below first n places.some in
@@ -43,12 +44,14 @@ rotation-at {n} {xs} first k places inside =
           )
     ]
 
-pub total-in : {n : ℕ} {xs : List ℕ} {first t : ℕ} → HasPlaces n xs → IsInTurn n first t → total_at first (rotation (first % n) xs) t ≡ get_or xs (t % n) 0
+pub total-in : {n : ℕ} {xs : List ℕ} {first t : ℕ} → HasPlaces n xs → IsInTurn n first t
+    → total_at first (rotation (first % n) xs) t ≡ get_or xs (t % n) 0
 total-in {n} {xs} {first} {t} places turn =
     let at : first + (t - first) ≡ t = omega (arith, turn.from) in
     rotation-at first (t - first) places (omega (arith, turn.from, turn.inside)) ∙ ap (λ u. get_or xs (u % n) 0) at
 
-pub total-past : {n : ℕ} {xs : List ℕ} (first t : ℕ) → HasPlaces n xs → first + n ≤ t → total_at first (rotation (first % n) xs) t ≡ 0
+pub total-past : {n : ℕ} {xs : List ℕ} (first t : ℕ) → HasPlaces n xs → first + n ≤ t
+    → total_at first (rotation (first % n) xs) t ≡ 0
 total-past {n} {xs} first t places past =
     let below : first % n < n = mod_below first n places.some in
     get_or_past (rotation (first % n) xs) (t - first) 0
@@ -98,8 +101,9 @@ set-there {n} {xs} {first} {slot} {t} v places turn since other =
     ]
 
 -- the first slot is forgotten where it holds nothing
-pub total-next : {n : ℕ} {xs : List ℕ} (first t : ℕ) → HasPlaces n xs → total_at first (rotation (first % n) xs) first ≡ 0 → first + 1 ≤ t →
-    total_at (first + 1) (rotation ((first + 1) % n) xs) t ≡ total_at first (rotation (first % n) xs) t
+pub total-next : {n : ℕ} {xs : List ℕ} (first t : ℕ) → HasPlaces n xs
+    → total_at first (rotation (first % n) xs) first ≡ 0 → first + 1 ≤ t
+    → total_at (first + 1) (rotation ((first + 1) % n) xs) t ≡ total_at first (rotation (first % n) xs) t
 total-next {n} {xs} first t places none since =
     let pos : 0 < n = places.some in
     elim (cases_lt t (first + n)) [
@@ -120,7 +124,8 @@ total-next {n} {xs} first t places none since =
     more a b u least other = omega arith
 
 -- nothing is booked where all places are 0
-pub total-zero : {n : ℕ} {xs : List ℕ} (first t : ℕ) → HasPlaces n xs → ((i : ℕ) → get_or xs i 0 ≡ 0) → first ≤ t → total_at first (rotation (first % n) xs) t ≡ 0
+pub total-zero : {n : ℕ} {xs : List ℕ} (first t : ℕ) → HasPlaces n xs → ((i : ℕ) → get_or xs i 0 ≡ 0) → first ≤ t
+    → total_at first (rotation (first % n) xs) t ≡ 0
 total-zero {n} {xs} first t places zeros from =
     elim (cases_lt t (first + n)) [
       | inl inside ↦ total-in {first = first} places (record { from = from; inside = inside }) ∙ zeros (t % n)
@@ -144,7 +149,8 @@ total-bounded {xs} {tops} {first} {slot} {t} topped from since same =
       | inr past ↦ (let none = total-past first t places past in omega (arith, none))
     ]
 
-pub total-zeros : {n : ℕ} {xs : List ℕ} (first t : ℕ) → HasPlaces n xs → ((i : ℕ) → get_or xs i 0 ≡ 0) → total_at first (rotation (first % n) xs) t ≡ 0
+pub total-zeros : {n : ℕ} {xs : List ℕ} (first t : ℕ) → HasPlaces n xs → ((i : ℕ) → get_or xs i 0 ≡ 0)
+    → total_at first (rotation (first % n) xs) t ≡ 0
 total-zeros {n} {xs} first t places zeros =
     elim (cases_lt t first) [
       | inl before ↦ (

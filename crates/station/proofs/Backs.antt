@@ -35,13 +35,16 @@ seat_of p = record {
   joined = p.joined;
 }
 
-pub back_seat : {taken back : PassState} {seat : Sitting} (p : PassState) (old new : Journal) → seat_of p ≡ seat → taken ≡ record p { seen = old.entries }
-    → back ≡ record taken { seen = new.entries; mine = made_by taken.number new.entries } → seat_of back ≡ seat_after seat new
+pub back_seat : {taken back : PassState} {seat : Sitting} (p : PassState) (old new : Journal) → seat_of p ≡ seat
+    → taken ≡ record p { seen = old.entries }
+    → back ≡ record taken { seen = new.entries; mine = made_by taken.number new.entries }
+    → seat_of back ≡ seat_after seat new
 back_seat {taken} {back} p old new v t n =
     ap seat_of n ∙ (ap (λ (x : PassState). seat_of (record x { seen = new.entries; mine = made_by x.number new.entries })) t
     ∙ ap (λ (s : Sitting). seat_after s new) v)
 
-pub back_at : {seat : Sitting} {old : Journal} (p : PassState) → seat_of p ≡ seat → IsPrefix p.seen old.entries → p.mine ≡ made_by p.number old.entries
+pub back_at : {seat : Sitting} {old : Journal} (p : PassState) → seat_of p ≡ seat → IsPrefix p.seen old.entries
+    → p.mine ≡ made_by p.number old.entries
     → (let t : Terms = record { steps = old.steps; limit = old.limit } in t) ≡ p.terms → IsAt seat old
 back_at {old} p v longer own terms = record {
   steps = ap (λ (t : Terms). t.steps) terms ∙ ap (λ (s : Sitting). s.steps) v;
@@ -119,7 +122,8 @@ visit {taken} {seat} {old} {new} p v turn given maker_is = record {
   maker_is = maker_is ∙ ap (λ (s : Sitting). s.number) v;
 }
 
-pub visit_same : {seat : Sitting} {back : PassState} {lent new : Journal} {maker : ℕ} → IsVisit seat back lent new maker → IsPrefix lent.entries new.entries → IsSameSeat seat (seat_of back)
+pub visit_same : {seat : Sitting} {back : PassState} {lent new : Journal} {maker : ℕ} → IsVisit seat back lent new maker
+    → IsPrefix lent.entries new.entries → IsSameSeat seat (seat_of back)
 visit_same {seat} {back} {lent} {new} is longer = subst (IsSameSeat seat) (sym is.back_is) (same_after seat lent new is.at longer)
 
 pub visit_made : {seat : Sitting} {back : PassState} {lent new : Journal} {maker more : ℕ} {command : Command}
@@ -130,8 +134,9 @@ visit_made {seat} {back} {lent} {new} {more} {command} {place} {answer} is e =
     (entry_made is.at (subst (λ k. IsEntered lent new k more command place answer) is.maker_is e))
 
 pub visit_open : {seat : Sitting} {back : PassState} {lent new : Journal} {maker number start keep : ℕ} (heard : ℕ)
-    (plan : List Segment) → IsVisit seat back lent new maker
-    → IsEntered lent new maker 2 (play_of heard plan) number (Admitted start) → keep ≤ total_bytes plan → IsOpenAmong back.mine number keep
+    (plan : List Segment)
+    → IsVisit seat back lent new maker → IsEntered lent new maker 2 (play_of heard plan) number (Admitted start)
+    → keep ≤ total_bytes plan → IsOpenAmong back.mine number keep
 visit_open {back} {lent} {new} {number} {start} {keep} heard plan is e small =
     subst (λ (s : Sitting). IsOpenAmong s.mine number keep) (sym is.back_is)
     (play_open heard plan (subst (λ k. IsEntered lent new k 2 (play_of heard plan) number (Admitted start)) is.maker_is e) small)
@@ -143,7 +148,8 @@ visit_refused {seat} {back} {lent} {new} heard plan why is e =
     subst (λ s. IsRefused seat s heard plan why) (sym is.back_is)
     (refused_for new heard plan why is.at (subst (λ k. IsPlayRefused lent new k heard plan why) is.maker_is e))
 
-pub visit_full : {seat : Sitting} {back : PassState} {lent new : Journal} {maker more entries live_plays : ℕ} → IsVisit seat back lent new maker
-    → IsFullFor lent new more entries live_plays → IsFull seat (seat_of back) more entries live_plays
+pub visit_full : {seat : Sitting} {back : PassState} {lent new : Journal} {maker more entries live_plays : ℕ}
+    → IsVisit seat back lent new maker → IsFullFor lent new more entries live_plays
+    → IsFull seat (seat_of back) more entries live_plays
 visit_full {seat} {back} {lent} {new} {more} {entries} {live_plays} is f =
     subst (λ s. IsFull seat s more entries live_plays) (sym is.back_is) (full_for is.at f)

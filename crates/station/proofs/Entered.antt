@@ -39,8 +39,9 @@ pub record HaltlessCall : Type 0 where
   pub no_halt : is_halt command ≡ false
 
 -- so does such a call, with or without an entry
-pub halts-told : {E : Type 0} (r : Result Noted E) (call : HaltlessCall) → IfOk r (λ noted. IsNoted call.old call.maker call.command noted call.new)
-    → OnErr r (call.new ≡ call.old) → AreHaltsOwn call.old.entries → AreHaltsOwn call.new.entries
+pub halts-told : {E : Type 0} (r : Result Noted E) (call : HaltlessCall)
+    → IfOk r (λ noted. IsNoted call.old call.maker call.command noted call.new) → OnErr r (call.new ≡ call.old)
+    → AreHaltsOwn call.old.entries → AreHaltsOwn call.new.entries
 halts-told (Ok noted) call is left own = halts-noted is own
     (λ number keep none e. absurd (true≢false (sym (ap is_halt e) ∙ call.no_halt)))
 halts-told (Err why) call is left own = subst (λ (j : Journal). AreHaltsOwn j.entries) (sym left) own

@@ -19,12 +19,14 @@ prefix-take seen journal p n le = ap (take n) (sym p.1) ∙ take-append-le n see
 pub prefix-made : (seen journal : List Entry) → IsPrefix seen journal → (maker : ℕ) → IsPrefix (made_by maker seen) (made_by maker journal)
 prefix-made seen journal p maker = (made_from (0 + length seen) maker p.0, sym (made_more maker 0 seen p.0) ∙ ap (made_by maker) p.1)
 
-pub last-entry : {old new : Sitting} {more : ℕ} {command : Command} {place : ℕ} {answer : Answer} → Made old new more command place answer → (none : Entry)
+pub last-entry : {old new : Sitting} {more : ℕ} {command : Command} {place : ℕ} {answer : Answer}
+    → Made old new more command place answer → (none : Entry)
     → get_or new.seen place none ≡ (let e : Entry = record { maker = old.number; command = command; answer = answer } in e)
 last-entry {old} {command} {place} {answer} m none =
     ap (λ (xs : List Entry). get_or xs place none) m.seen ∙ get_or_push m.before (let e : Entry = record { maker = old.number; command = command; answer = answer } in e) none place (sym m.place_is)
 
-pub last-place : {old new : Sitting} {more : ℕ} {command : Command} {place : ℕ} {answer : Answer} → Made old new more command place answer → place + 1 ≡ length new.seen
+pub last-place : {old new : Sitting} {more : ℕ} {command : Command} {place : ℕ} {answer : Answer}
+    → Made old new more command place answer → place + 1 ≡ length new.seen
 last-place {old} {new} {command} {place} {answer} m =
     let e : Entry = record { maker = old.number; command = command; answer = answer } in
     let long = ap (λ (xs : List Entry). length xs) m.seen in let more_ = length-append m.before (e ∷ []) in let at = m.place_is in omega arith

@@ -18,8 +18,8 @@ pub record IsJoinOf (pass other back : PassState) : Type 0 where
   pub is : back ≡ after pass other
   pub own : back.mine ≡ made_by back.number back.seen
 
-pub seat_joins : {back : PassState} (pass other : PassState) → IsSeat (seat_of pass) → IsSeat (seat_of other) → IsJoinOf pass other back
-    → IsSeat (seat_of back)
+pub seat_joins : {back : PassState} (pass other : PassState) → IsSeat (seat_of pass) → IsSeat (seat_of other)
+    → IsJoinOf pass other back → IsSeat (seat_of back)
 seat_joins {back} pass other p q join = record {
   legal = subst (λ (b : PassState). IsLegal b.terms.steps b.seen) (sym join.is)
       (either_of (IsLegal pass.terms.steps) (ltb (length pass.seen) (length other.seen)) pass.seen other.seen p.legal (subst (λ (s : List CapStep). IsLegal s other.seen) join.same_steps q.legal));

@@ -3,10 +3,10 @@ use Rattle.std.proofs.Common.{◌≡◌, ℕ, zero, suc, ◌+◌, ◌<◌, List,
 use Rattle.plan_cert.specs.declared.Segment.{Segment}
 use Rattle.slot_calendar.specs.Calendars.{IsFirstOverflow}
 use Rattle.early_start.specs.declared.Tried.{Tried}
-use Rattle.early_start.specs.Offered.{Found, IsOffer, IsStart}
+use Rattle.early_start.specs.Offered.{IsOffer, IsStart, Offers}
 
 -- where another start than the first is found, or none, a start was tried
-some-tried : {from : ℕ} {booked capacity : ℕ → ℕ} {segments : List Segment} {first : ℕ} {found : Found}
+some-tried : {from : ℕ} {booked capacity : ℕ → ℕ} {segments : List Segment} {first : ℕ} {found : Offers}
     → IsOffer from booked capacity segments first found → (found.start ≡ Some first → ⊥) → 0 < length found.tried
 some-tried {from} {booked} {capacity} {segments} {first} {found} offer other = tried found.start (length found.tried) offer.start other
   where
@@ -16,9 +16,9 @@ some-tried {from} {booked} {capacity} {segments} {first} {found} offer other = t
     tried (Some s) (suc n) is other = omega arith
 
 -- then the first of them is the offer's first start, and its slot the first without room
-pub first-refusal : {from : ℕ} {booked capacity : ℕ → ℕ} {segments : List Segment} {first : ℕ} {found : Found}
-    (none : Tried)
-    → IsOffer from booked capacity segments first found → (found.start ≡ Some first → ⊥) → IsFirstOverflow from booked capacity first segments (get_or found.tried 0 none).over
+pub first-refusal : {from : ℕ} {booked capacity : ℕ → ℕ} {segments : List Segment} {first : ℕ} {found : Offers} (none : Tried)
+    → IsOffer from booked capacity segments first found → (found.start ≡ Some first → ⊥)
+    → IsFirstOverflow from booked capacity first segments (get_or found.tried 0 none).over
 first-refusal {from} {booked} {capacity} {segments} {first} {found} none is other =
     let some = some-tried is other in
     let at : (get_or found.tried 0 none).start ≡ first = is.refusals.starts 0 none some ∙ omega arith in

@@ -35,7 +35,8 @@ none-later {steps} {xs} {number} {d} legal long {p} h before halts =
     omega (arith, h.place_is)
 
 pub play_open : {new : Journal} {maker number start keep : ℕ} {old : Journal} (heard : ℕ) (plan : List Segment)
-    → IsEntered old new maker 2 (play_of heard plan) number (Admitted start) → keep ≤ total_bytes plan → IsOpenAmong (made_by maker new.entries) number keep
+    → IsEntered old new maker 2 (play_of heard plan) number (Admitted start) → keep ≤ total_bytes plan
+    → IsOpenAmong (made_by maker new.entries) number keep
 play_open {new} {maker} {number} {start} {keep} {old} heard plan e small =
     let last : Entry = record { maker = maker; command = play_of heard plan; answer = Admitted start } in
     let p : Placed = record { place = length old.entries; entry = last } in

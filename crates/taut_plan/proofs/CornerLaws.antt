@@ -24,16 +24,20 @@ abbrev ray_to : Point → Point → Ray
 ray_to from to = record { height = from.height; slots = to.place - from.place; bytes = to.height - from.height }
 
 -- The ray, where h is its end, against a height y at offset i.
-ray_le : {h : ℕ} (ray : Ray) (i y : ℕ) → h ≡ ray.height + ray.bytes → slope_le ray.height ray.slots h i y → ray.height * ray.slots + i * ray.bytes ≤ y * ray.slots
+ray_le : {h : ℕ} (ray : Ray) (i y : ℕ) → h ≡ ray.height + ray.bytes → slope_le ray.height ray.slots h i y
+    → ray.height * ray.slots + i * ray.bytes ≤ y * ray.slots
 ray_le {h} ray i y is le = let e : i * h ≡ i * (ray.height + ray.bytes) = ap (λ x. i * x) is in omega (arith, le, e)
 
-ray_lt : {h : ℕ} (ray : Ray) (i y : ℕ) → h ≡ ray.height + ray.bytes → slope_lt ray.height ray.slots h i y → ray.height * ray.slots + i * ray.bytes < y * ray.slots
+ray_lt : {h : ℕ} (ray : Ray) (i y : ℕ) → h ≡ ray.height + ray.bytes → slope_lt ray.height ray.slots h i y
+    → ray.height * ray.slots + i * ray.bytes < y * ray.slots
 ray_lt {h} ray i y is lt = let e : i * h ≡ i * (ray.height + ray.bytes) = ap (λ x. i * x) is in omega (arith, lt, e)
 
-ray_ge : {h : ℕ} (ray : Ray) (i y : ℕ) → h ≡ ray.height + ray.bytes → slope_le ray.height i y ray.slots h → y * ray.slots ≤ ray.height * ray.slots + i * ray.bytes
+ray_ge : {h : ℕ} (ray : Ray) (i y : ℕ) → h ≡ ray.height + ray.bytes → slope_le ray.height i y ray.slots h
+    → y * ray.slots ≤ ray.height * ray.slots + i * ray.bytes
 ray_ge {h} ray i y is le = let e : i * h ≡ i * (ray.height + ray.bytes) = ap (λ x. i * x) is in omega (arith, le, e)
 
-ray_gt : {h : ℕ} (ray : Ray) (i y : ℕ) → h ≡ ray.height + ray.bytes → slope_lt ray.height i y ray.slots h → y * ray.slots < ray.height * ray.slots + i * ray.bytes
+ray_gt : {h : ℕ} (ray : Ray) (i y : ℕ) → h ≡ ray.height + ray.bytes → slope_lt ray.height i y ray.slots h
+    → y * ray.slots < ray.height * ray.slots + i * ray.bytes
 ray_gt {h} ray i y is lt = let e : i * h ≡ i * (ray.height + ray.bytes) = ap (λ x. i * x) is in omega (arith, lt, e)
 
 -- The same over points, at an offset from the first one.

@@ -178,15 +178,18 @@ turned_corner seen = record {
   other_beyond = seen.one_beyond;
 }
 
-one_offset : (seen : SeenCorner) → seen.one.place - seen.from.place ≡ (seen.corner.place - seen.from.place) + (seen.one.place - seen.corner.place)
+one_offset : (seen : SeenCorner)
+    → seen.one.place - seen.from.place ≡ (seen.corner.place - seen.from.place) + (seen.one.place - seen.corner.place)
 one_offset seen = omega (arith, seen.ahead, seen.one_beyond)
 
-other_offset : (seen : SeenCorner) → seen.other.place - seen.from.place ≡ (seen.corner.place - seen.from.place) + (seen.other.place - seen.corner.place)
+other_offset : (seen : SeenCorner)
+    → seen.other.place - seen.from.place ≡ (seen.corner.place - seen.from.place) + (seen.other.place - seen.corner.place)
 other_offset seen = omega (arith, seen.ahead, seen.other_beyond)
 
 -- a chain that turns at the corner and again at the one point keeps what is beyond inside
-pub turns_on : (side : Side) (seen : SeenCorner) → seen.corner.place < seen.other.place → IsInside side seen.from seen.one seen.corner
-    → IsInside side seen.corner seen.other seen.one → IsInside side seen.from seen.other seen.corner
+pub turns_on : (side : Side) (seen : SeenCorner) → seen.corner.place < seen.other.place
+    → IsInside side seen.from seen.one seen.corner → IsInside side seen.corner seen.other seen.one
+    → IsInside side seen.from seen.other seen.corner
 turns_on Lower seen past a b =
     rw (other_offset seen) (falls_on (turn_of seen) (omega (arith, seen.ahead)) (omega (arith, past)) (rw (one_offset seen) at a) b)
 turns_on Upper seen past a b =

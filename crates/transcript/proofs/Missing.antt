@@ -6,7 +6,7 @@ use Rattle.std.proofs.lemmas.Bool.{and_from, and_right, cases_lt, false_from_ne_
 use Rattle.std.proofs.lemmas.List.Sums.{sum_by-cons}
 use Rattle.vod_base.specs.Links.{Doing, HeardBytes, HeardEnd, HeardSlot, Sent}
 use Rattle.plan_cert.specs.declared.Segment.{Segment}
-use Rattle.early_start.specs.Offered.{Found}
+use Rattle.early_start.specs.Offered.{Offers}
 use Rattle.film_frames.specs.declared.stores.Stored.{Stored}
 use Rattle.admission.specs.Makers.{Placed}
 use Rattle.admission.specs.declared.entries.Answer.{Answer}

@@ -8,7 +8,7 @@ use Rattle.plan_cert.specs.Slots.{total_bytes}
 use Rattle.slot_calendar.specs.Plays.{whole_play}
 use Rattle.film_frames.specs.declared.stores.Stored.{Stored}
 use Rattle.film_run.specs.declared.runs.Run.{Run}
-use Rattle.early_start.specs.Offered.{Found}
+use Rattle.early_start.specs.Offered.{Offers}
 use Rattle.admission.specs.Histories.{play_admitted}
 use Rattle.admission.specs.Makers.{Placed}
 use Rattle.admission.specs.declared.entries.Answer.{Answer}
@@ -261,7 +261,7 @@ asks-look {outcome = WasFull more entries live} old new slot answered state play
     (λ later. refl) (λ k. refl)
 asks-look {outcome = Offered at_slot note} old new slot answered state plays awaited = absurd answered
 
-asks-offer : {asking : Standing} {outcome : Outcome} (old new : Standing) (plan : List Segment) (offers : Found) → IsAnswered asking (AskOffer plan offers) outcome new
+asks-offer : {asking : Standing} {outcome : Outcome} (old new : Standing) (plan : List Segment) (offers : Offers) → IsAnswered asking (AskOffer plan offers) outcome new
     → asking.state ≡ old.state → asking.plays ≡ old.plays → CarriesOn old asking outcome new
 asks-offer {outcome = Unasked} old new plan offers answered state plays = absurd answered
 asks-offer {outcome = Entered placed} old new plan offers answered state plays = absurd answered

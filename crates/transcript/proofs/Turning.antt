@@ -4,7 +4,7 @@ use Rattle.film_frames.specs.Runs.{run_pieces}
 use Rattle.film_run.specs.declared.runs.Run.{Run}
 use Rattle.pacer.specs.Pacings.{IsPacing, Pacing, next_boundary, whole_pacing}
 use Rattle.plan_cert.specs.declared.Segment.{Segment}
-use Rattle.early_start.specs.Offered.{Found}
+use Rattle.early_start.specs.Offered.{Offers}
 use Rattle.admission.specs.declared.entries.Answer.{Answer}
 use Rattle.admission.specs.declared.entries.Answer.TheVariants.{Admitted, Halted, Looked, Overflow}
 use Rattle.admission.specs.declared.entries.Command.TheVariants.{Halt as HaltCommand}
@@ -274,7 +274,7 @@ asked_look {slot} {outcome = WasFull more entries live} {new} asked answered slo
     }) (record { none = λ later. refl; kept = λ later. refl; untold = λ made. refl })
 asked_look {slot} {outcome = Offered at_slot note} {new} asked answered slot_is state heard awaited = absurd answered
 
-asked_offer : {old : Standing} {outcome : Outcome} {new : Standing} (plan : List Segment) (offers : Found)
+asked_offer : {old : Standing} {outcome : Outcome} {new : Standing} (plan : List Segment) (offers : Offers)
     (asked : Standing)
     → IsAnswered asked (AskOffer plan offers) outcome new → asked.state ≡ old.state → asked.heard ≡ old.heard
     → TurnsAs old asked.awaited outcome new

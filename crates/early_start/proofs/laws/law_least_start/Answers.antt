@@ -1,10 +1,10 @@
 use Rattle.std.proofs.Common.{◌≡◌, ℕ, List, Option, Some, None, length, subst, arith}
 use Rattle.plan_cert.specs.declared.Segment.{Segment}
-use Rattle.early_start.specs.Offered.{Found, IsOffer, IsStart}
+use Rattle.early_start.specs.Offered.{IsOffer, IsStart, Offers}
 use Rattle.early_start.proofs.Refusals.{no_room_tried}
 use Rattle.early_start.proofs.laws.law_least_start.Goals as goal
 
-start_as : {from : ℕ} {booked capacity : ℕ → ℕ} {segments : List Segment} {first : ℕ} {found : Found}
+start_as : {from : ℕ} {booked capacity : ℕ → ℕ} {segments : List Segment} {first : ℕ} {found : Offers}
     {start : Option ℕ} → IsOffer from booked capacity segments first found → found.start ≡ start →
     IsStart from booked capacity segments first found.wait (length found.tried) start
 start_as {from} {booked} {capacity} {segments} {first} {found} {start} is same =

@@ -9,8 +9,8 @@ use Rattle.slot_calendar.proofs.Blocks.{topped-lower}
 use Rattle.slot_calendar.proofs.ring.Ring.lower.Goals as goal
 
 -- the slot is one of the ring, since something is booked in it
-in_ring : {xs : List ℕ} (first slot : ℕ) → HasPlaces 1048576 xs → first ≤ slot → 0 < total_at first (rotation (first % 1048576) xs) slot
-    → IsInTurn 1048576 first slot
+in_ring : {xs : List ℕ} (first slot : ℕ) → HasPlaces 1048576 xs → first ≤ slot
+    → 0 < total_at first (rotation (first % 1048576) xs) slot → IsInTurn 1048576 first slot
 in_ring first slot places from booked = record {
   from = from;
   inside = elim (cases_lt slot (first + 1048576)) [
