@@ -10,6 +10,7 @@ ghost use Rattle.station.specs.Answers.{IsFull, IsRefused, Made};
 ghost use Rattle.station.specs.Ledgers.{IsOffered, look_at, play_of};
 ghost use Rattle.station.specs.Seats.{IsJournalOf, IsSameSeat, IsSeat, after_join};
 ghost use Rattle.station.specs.Seats.{after_split, first_seat, new_seat};
+ghost use Rattle.turnstile.specs.Passes.{AllJoined};
 
 use crate::answers::{Booking, Looked, Offered, PlayRefused};
 use crate::ledger::Ledger;
