@@ -18,7 +18,7 @@ use Rattle.day_run.specs.Clients.{after_open}
 use Rattle.day_run.specs.ClientStates.{Idle, Playing, Pausing, Paused, Play, Rest, ClientState, after_play, after_sending, booking_of, is_done, pausing_state, sent_by}
 use Rattle.day_run.proofs.LineSteps.{halt_entries-sent}
 use Rattle.day_run.proofs.Sweeps.{IsSwept, entries-more, swept-all, swept-none, swept-set}
-use Rattle.day_run.proofs.Balances.{balanced-halt, booked-halted, share-done}
+use Rattle.day_run.proofs.Balances.{BalancedClient, balanced-halt, booked-halted, share-done}
 
 -- ---- a slot comes
 pause-share : (b : Bool) (t : ℕ) (stop : Booked) (rest : Rest) → (b ≡ true → share_at t stop ≡ 0) → share_of t (cond b (Paused rest) (Pausing stop rest)) ≡ share_at t stop
@@ -88,26 +88,31 @@ Stays slot old new = (t : ℕ) → t ≤ slot → booked_in (state_after new) t 
 pub stays-none : (slot : ℕ) (entries : List Entry) → Stays slot entries (entries ++ [])
 stays-none slot entries t past = ap (λ es. booked_in (state_after es) t) (append-nil entries)
 
+-- what is kept of a play: no less than was sent
+pub record KeepsSent (slot start keep : ℕ) (plan : List Segment) : Type 0 where
+  pub sent : sent_by (whole_play start plan) slot ≤ keep
+  pub most : keep ≤ total_bytes plan
+
 -- a play books in past slots what it did, where it keeps what was sent
-past-share : (t slot start keep : ℕ) (plan : List Segment) → t ≤ slot → sent_by (whole_play start plan) slot ≤ keep → keep ≤ total_bytes plan
+past-share : {slot start keep : ℕ} {plan : List Segment} (t : ℕ) → t ≤ slot → KeepsSent slot start keep plan
     → share_at t (whole_play start plan) ≡ share_at t (cut_play start plan keep)
-past-share t slot start keep plan past sent most =
+past-share {slot} {start} {plan} t past kept =
     omega (
       arith,
-      sent,
-      most,
+      kept.sent,
+      kept.most,
       sent-rises plan start t (t + 1) (omega arith),
       sent-rises plan start (t + 1) (slot + 1) (omega (arith, past)),
     )
 
 pub stays-halt : {slot : ℕ} (entries : List Entry) (c keep : ℕ) (play : Play)
-    → held_as play.number (state_after entries).held ≡ Some (admitted_play play.number play.start play.plan) → sent_by (booking_of play) slot ≤ keep
-    → keep ≤ total_bytes play.plan → Stays slot entries (entries ++ halt_by c play.number keep)
-stays-halt {slot} entries c keep play held sent most t past =
+    → held_as play.number (state_after entries).held ≡ Some (admitted_play play.number play.start play.plan)
+    → KeepsSent slot play.start keep play.plan → Stays slot entries (entries ++ halt_by c play.number keep)
+stays-halt entries c keep play held kept t past =
     omega (
       arith,
-      booked-halted entries c play.number keep play.start t play.plan held,
-      past-share t slot play.start keep play.plan past sent most,
+      booked-halted entries c (record { number = play.number; start = play.start; plan = play.plan; held = held }) keep t,
+      past-share t past kept,
     )
 
 -- ---- the halts of a slot, or of a day's end
@@ -127,39 +132,41 @@ its-held {entries} {play} c inside at balanced =
     let its : IsHeld entries c play = subst H at (balanced.held c inside) in
     its.held
 
-step-play : {slot : ℕ} {entries : List Entry} {states : List ClientState} {play : Play} {done : Bool} (c : ℕ) → is_done slot play ≡ done → c < length states
-    → get_or states c Idle ≡ Playing play → IsBalanced entries states slot
+step-play : {slot : ℕ} {entries : List Entry} {states : List ClientState} {play : Play} {done : Bool} (c : ℕ) → is_done slot play ≡ done
+    → BalancedClient slot c entries states (Playing play)
     → IsStep slot entries (entries ++ cond done (halt_by c play.number (total_bytes play.plan)) []) (set states c (cond done Idle (Playing play)))
-step-play {slot} {entries} {play} {done = true} c done inside at balanced = record {
-  balanced = balanced-halt c (total_bytes play.plan) Idle inside at tt (λ t later. done-shares t slot play later done) balanced;
-  stays = stays-halt entries c (total_bytes play.plan) play (its-held c inside at balanced) (omega arith) (omega arith);
+step-play {slot} {entries} {play} {done = true} c done own = record {
+  balanced = balanced-halt c (total_bytes play.plan) Idle own tt (λ t later. done-shares t slot play later done);
+  stays = stays-halt entries c (total_bytes play.plan) play (its-held c own.inside own.at own.balanced) (record { sent = omega arith; most = omega arith });
 }
-step-play {slot} {done = false} c done inside at balanced = kept-step c at balanced
+step-play {slot} {done = false} c done own = kept-step c own.at own.balanced
 
-step-state : {slot : ℕ} (c : ℕ) (entries : List Entry) (states : List ClientState) (state : ClientState) → c < length states → get_or states c Idle ≡ state → IsBalanced entries states slot
+step-state : {slot : ℕ} (c : ℕ) (entries : List Entry) (states : List ClientState) (state : ClientState)
+    → BalancedClient slot c entries states state
     → IsStep slot entries (entries ++ done_halt slot c state) (set states c (after_play slot state))
-step-state {slot} c entries states Idle inside at balanced = kept-step c at balanced
-step-state {slot} c entries states (Playing play) inside at balanced = step-play c refl inside at balanced
-step-state {slot} c entries states (Pausing stop rest) inside at balanced = kept-step c at balanced
-step-state {slot} c entries states (Paused rest) inside at balanced = kept-step c at balanced
+step-state {slot} c entries states Idle own = kept-step c own.at own.balanced
+step-state {slot} c entries states (Playing play) own = step-play c refl own
+step-state {slot} c entries states (Pausing stop rest) own = kept-step c own.at own.balanced
+step-state {slot} c entries states (Paused rest) own = kept-step c own.at own.balanced
 
-open-state : {slot : ℕ} (c : ℕ) (entries : List Entry) (states : List ClientState) (state : ClientState) → c < length states → get_or states c Idle ≡ state → IsBalanced entries states slot
+open-state : {slot : ℕ} (c : ℕ) (entries : List Entry) (states : List ClientState) (state : ClientState)
+    → BalancedClient slot c entries states state
     → IsStep slot entries (entries ++ open_halt slot c state) (set states c (after_open state))
-open-state {slot} c entries states Idle inside at balanced = kept-step c at balanced
-open-state {slot} c entries states (Playing play) inside at balanced =
+open-state {slot} c entries states Idle own = kept-step c own.at own.balanced
+open-state {slot} c entries states (Playing play) own =
     let keep = sent_by (booking_of play) slot in
     record {
       balanced =
-          balanced-halt c keep Idle inside at tt
-          (λ t later. sym (share-done t slot (cut_play play.start play.plan keep) later (omega arith))) balanced;
-      stays = stays-halt entries c keep play (its-held c inside at balanced) (omega arith) (omega arith);
+          balanced-halt c keep Idle own tt
+          (λ t later. sym (share-done t slot (cut_play play.start play.plan keep) later (omega arith)));
+      stays = stays-halt entries c keep play (its-held c own.inside own.at own.balanced) (record { sent = omega arith; most = omega arith });
     }
-open-state {slot} c entries states (Pausing stop rest) inside at balanced = kept-step c at balanced
-open-state {slot} c entries states (Paused rest) inside at balanced = kept-step c at balanced
+open-state {slot} c entries states (Pausing stop rest) own = kept-step c own.at own.balanced
+open-state {slot} c entries states (Paused rest) own = kept-step c own.at own.balanced
 
 abbrev IsStepOf : ℕ → (ℕ → ClientState → List Entry) → (ClientState → ClientState) → Type 0
 IsStepOf slot halt after =
-    (c : ℕ) (entries : List Entry) (states : List ClientState) (state : ClientState) → c < length states → get_or states c Idle ≡ state → IsBalanced entries states slot
+    (c : ℕ) (entries : List Entry) (states : List ClientState) (state : ClientState) → BalancedClient slot c entries states state
     → IsStep slot entries (entries ++ halt c state) (set states c (after state))
 
 record Ending (slot n : ℕ) (halt : ℕ → ClientState → List Entry) (after : ClientState → ClientState) (begun : List Entry) (old : List ClientState) : Type 0 where
@@ -186,13 +193,18 @@ ending {slot} {halt} {after} {begun} {old} {n = suc n} step most balanced =
     let state = get_or old n Idle in
     let one : n + 1 ≡ suc n = omega arith in
     let inside : n < length old = omega (arith, most) in
-    let next = step n e.entries e.states state (omega (arith, inside, e.swept.count)) (e.swept.later n (omega arith)) e.balanced in
+    let next = step n e.entries e.states state (record {
+      inside = omega (arith, inside, e.swept.count);
+      at = e.swept.later n (omega arith);
+      balanced = e.balanced;
+    }) in
     let E : ℕ → Type 0 = λ k. Ending slot k halt after begun old in
     subst E one (record {
       entries = e.entries ++ halt n state;
       states = set e.states n (after state);
       swept = swept-set {f = after} {i = n} {old = old} {new = e.states} {state = after state} inside refl e.swept;
-      entries_are = entries-more {i = n} {before = e.entries} {after = e.entries ++ halt n state} {more = halt n state} halt old begun inside e.entries_are refl refl;
+      entries_are = entries-more {i = n} {before = e.entries} {after = e.entries ++ halt n state} {more = halt n state} halt old begun inside
+          (record { before_is = e.entries_are; after_is = refl; here = refl });
       balanced = next.balanced;
       stays = λ t past. next.stays t past ∙ e.stays t past;
     })
@@ -202,7 +214,7 @@ pub balanced-slot : (old : Moment) (slot : ℕ) → old.heard ≤ slot → IsBal
 balanced-slot old slot le balanced =
     let sent = map (after_sending slot) old.states in
     let n = length sent in
-    let e = ending {slot = slot} {halt = done_halt slot} {after = after_play slot} {begun = old.entries} {old = sent} {n = n} (step-state) (omega arith) (balanced-sending old.entries old.states old.heard slot le balanced) in
+    let e = ending {slot = slot} {halt = done_halt slot} {after = after_play slot} {begun = old.entries} {old = sent} {n = n} step-state (omega arith) (balanced-sending old.entries old.states old.heard slot le balanced) in
     let states : e.states ≡ map (after_play slot) sent = swept-all (after_play slot) n sent e.states (omega arith) e.swept in
     let entries : e.entries ≡ old.entries ++ halt_entries (done_halt slot) 0 old.states =
     e.entries_are ∙ ap (λ l. old.entries ++ halt_entries (done_halt slot) 0 l) (take_all n sent (omega arith))
@@ -216,7 +228,7 @@ pub slot-stays : (old : Moment) (slot t : ℕ) → old.heard ≤ slot → t ≤ 
 slot-stays old slot t le past balanced =
     let sent = map (after_sending slot) old.states in
     let n = length sent in
-    let e = ending {slot = slot} {halt = done_halt slot} {after = after_play slot} {begun = old.entries} {old = sent} {n = n} (step-state) (omega arith) (balanced-sending old.entries old.states old.heard slot le balanced) in
+    let e = ending {slot = slot} {halt = done_halt slot} {after = after_play slot} {begun = old.entries} {old = sent} {n = n} step-state (omega arith) (balanced-sending old.entries old.states old.heard slot le balanced) in
     let entries : e.entries ≡ old.entries ++ halt_entries (done_halt slot) 0 old.states =
     e.entries_are ∙ ap (λ l. old.entries ++ halt_entries (done_halt slot) 0 l) (take_all n sent (omega arith))
     ∙ ap (λ es. old.entries ++ es) (halt_entries-sent slot 0 old.states) in
@@ -227,15 +239,22 @@ pub last-stays : (m : Moment) (t : ℕ) → t ≤ m.heard → IsBalanced m.entri
     → booked_in (state_after (last_journal m)) t ≡ booked_in (state_after m.entries) t
 last-stays m t past balanced =
     let n = length m.states in
-    let e = ending {slot = m.heard} {halt = open_halt m.heard} {after = after_open} {begun = m.entries} {old = m.states} {n = n} (open-state) (omega arith) balanced in
+    let e = ending {slot = m.heard} {halt = open_halt m.heard} {after = after_open} {begun = m.entries} {old = m.states} {n = n} open-state (omega arith) balanced in
     let entries : e.entries ≡ last_journal m = e.entries_are ∙ ap (λ l. m.entries ++ halt_entries (open_halt m.heard) 0 l) (take_all n m.states (omega arith)) in
     sym (ap (λ es. booked_in (state_after es) t) entries) ∙ e.stays t past
 
+-- the entry of a play that begins
+pub record BegunPlay (entries : List Entry) : Type 0 where
+  pub e : Entry
+  pub number : ℕ
+  pub start : ℕ
+  pub plan : List Segment
+  pub is : (state_after (entries ++ e ∷ [])).held ≡ (state_after entries).held ++ admitted_play number start plan ∷ []
+
 -- a play was admitted after the slot that was heard last
-pub play-stays : (entries : List Entry) (e : Entry) (number start heard t : ℕ) (plan : List Segment) → heard < start → t ≤ heard
-    → (state_after (entries ++ e ∷ [])).held ≡ (state_after entries).held ++ admitted_play number start plan ∷ []
-    → booked_in (state_after (entries ++ e ∷ [])) t ≡ booked_in (state_after entries) t
-play-stays entries e number start heard t plan early past is =
+pub play-stays : (entries : List Entry) (heard t : ℕ) (begun : BegunPlay entries) → heard < begun.start → t ≤ heard
+    → booked_in (state_after (entries ++ begun.e ∷ [])) t ≡ booked_in (state_after entries) t
+play-stays entries heard t begun early past =
     let held = (state_after entries).held in
     let none : t + 1 - start ≡ 0 = omega (arith, early, past) in
     let sent : sent_before plan start (t + 1) ≡ 0 = ap (λ n. sum (take n (plan_slots plan))) none in
@@ -243,12 +262,14 @@ play-stays entries e number start heard t plan early past is =
     ap (λ hs. sum_by (share_at t) (map (λ (x : Held). x.play) hs)) is ∙ ap (sum_by (share_at t)) (map-append (λ (x : Held). x.play) held (admitted_play number start plan ∷ []))
     ∙ sum_by_push (share_at t) (map (λ (x : Held). x.play) held) (whole_play start plan) in
     omega (arith, b, sent)
+  where
+    open begun use {e, number, start, plan, is}
 
 pub last-later : (m : Moment) (t : ℕ) → m.heard < t → IsBalanced m.entries m.states m.heard
     → booked_in (state_after (last_journal m)) t ≡ sum_by (share_of t) (map after_open m.states)
 last-later m t later balanced =
     let n = length m.states in
-    let e = ending {slot = m.heard} {halt = open_halt m.heard} {after = after_open} {begun = m.entries} {old = m.states} {n = n} (open-state) (omega arith) balanced in
+    let e = ending {slot = m.heard} {halt = open_halt m.heard} {after = after_open} {begun = m.entries} {old = m.states} {n = n} open-state (omega arith) balanced in
     let entries : e.entries ≡ last_journal m = e.entries_are ∙ ap (λ l. m.entries ++ halt_entries (open_halt m.heard) 0 l) (take_all n m.states (omega arith)) in
     let states : e.states ≡ map after_open m.states = swept-all after_open n m.states e.states (omega arith) e.swept in
     sym (ap (λ es. booked_in (state_after es) t) entries) ∙ e.balanced.each t later ∙ ap (sum_by (share_of t)) states

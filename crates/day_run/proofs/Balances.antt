@@ -127,12 +127,18 @@ sum-split t before after h =
     ∙ sum_by-append (share_at t) (map (λ (x : Held). x.play) before) (h.play ∷ map (λ (x : Held). x.play) after)
     ∙ ap (λ k. sum_by (share_at t) (map (λ (x : Held). x.play) before) + k) (sum_by-cons (share_at t) h.play (map (λ (x : Held). x.play) after))
 
+-- a play that the machine holds
+pub record HeldPlay (entries : List Entry) : Type 0 where
+  pub number : ℕ
+  pub start : ℕ
+  pub plan : List Segment
+  pub held : held_as number (state_after entries).held ≡ Some (admitted_play number start plan)
+
 -- what is booked once a play was halted
-pub booked-halted : (entries : List Entry) (c number keep start t : ℕ) (plan : List Segment)
-    → held_as number (state_after entries).held ≡ Some (admitted_play number start plan)
-    → booked_in (state_after (entries ++ halt_by c number keep)) t + share_at t (whole_play start plan)
-    ≡ booked_in (state_after entries) t + share_at t (cut_play start plan keep)
-booked-halted entries c number keep start t plan is =
+pub booked-halted : (entries : List Entry) (c : ℕ) (play : HeldPlay entries) (keep t : ℕ)
+    → booked_in (state_after (entries ++ halt_by c play.number keep)) t + share_at t (whole_play play.start play.plan)
+    ≡ booked_in (state_after entries) t + share_at t (cut_play play.start play.plan keep)
+booked-halted entries c play keep t =
     let held = (state_after entries).held in
     let parts = split number held (admitted_play number start plan) is in
     let F : List Held → ℕ = λ hs. sum_by (share_at t) (map (λ (x : Held). x.play) hs) in
@@ -143,21 +149,30 @@ booked-halted entries c number keep start t plan is =
     let old : F held ≡ F parts.before + (share_at t (whole_play start plan) + F parts.after) =
     ap F parts.was ∙ sum-split t parts.before parts.after (admitted_play number start plan) in
     omega (arith, s, new, old)
+  where
+    open play use {number, start, plan, held as is}
 
-other-halted : {entries : List Entry} {c d : ℕ} {play : Play} (number keep : ℕ) → number < length entries → ((none : Entry) → (get_or entries number none).maker ≡ c)
-    → (d ≡ c → ⊥) → IsHeld entries d play → IsHeld (entries ++ halt_by c number keep) d play
-other-halted {entries} {c} {d} {play} number keep inside maker other its =
+-- another client's play is halted
+record HaltedApart (c d : ℕ) (entries : List Entry) (number : ℕ) : Type 0 where
+  pub inside : number < length entries
+  pub maker : (none : Entry) → (get_or entries number none).maker ≡ c
+  pub other : d ≡ c → ⊥
+
+other-halted : {entries : List Entry} {c d : ℕ} {play : Play} (number keep : ℕ) → HaltedApart c d entries number
+    → IsHeld entries d play → IsHeld (entries ++ halt_by c number keep) d play
+other-halted {entries} {c} {d} {play} number keep halted its =
     let e = entry_by c (commands.Halt number keep) Halted in
-    let apart : number ≡ play.number → ⊥ = λ same. other (sym (its.maker e) ∙ ap (λ k. (get_or entries k e).maker) (sym same) ∙ maker e) in
+    let apart : number ≡ play.number → ⊥ = λ same. halted.other (sym (its.maker e) ∙ ap (λ k. (get_or entries k e).maker) (sym same) ∙ halted.maker e) in
     maker-more entries e d play its
     (ap (λ (x : State). held_as play.number x.held) (state-push entries e) ∙ found-other play.number number keep (state_after entries).held apart ∙ its.held)
 
-others-halted : {c d : ℕ} (entries : List Entry) (number keep : ℕ) (state : ClientState) → number < length entries → ((none : Entry) → (get_or entries number none).maker ≡ c)
-    → (d ≡ c → ⊥) → AreHeldOf entries d state → AreHeldOf (entries ++ halt_by c number keep) d state
-others-halted {c} entries number keep Idle inside maker other its = tt
-others-halted {c} entries number keep (Playing play) inside maker other its = other-halted number keep inside maker other its
-others-halted {c} entries number keep (Pausing stop rest) inside maker other its = tt
-others-halted {c} entries number keep (Paused rest) inside maker other its = tt
+others-halted : {c d : ℕ} (entries : List Entry) (number keep : ℕ) (state : ClientState)
+    → HaltedApart c d entries number → AreHeldOf entries d state
+    → AreHeldOf (entries ++ halt_by c number keep) d state
+others-halted {c} entries number keep Idle apart its = tt
+others-halted {c} entries number keep (Playing play) apart its = other-halted number keep apart its
+others-halted {c} entries number keep (Pausing stop rest) apart its = tt
+others-halted {c} entries number keep (Paused rest) apart its = tt
 
 fresh-halted : (number keep n : ℕ) (held : List Held) → All (λ (h : Held). h.number < n) held → All (λ (h : Held). h.number < n) (with_halted number keep held)
 fresh-halted number keep n [] all = all
@@ -177,17 +192,24 @@ fresh-more : (n m : ℕ) (held : List Held) → n ≤ m → All (λ (h : Held). 
 fresh-more n m held le all =
     All-weaker (λ (h : Held). h.number < n) (λ (h : Held). h.number < m) (λ h less. omega (arith, less, le)) held all
 
+-- a client among balanced ones
+pub record BalancedClient (heard c : ℕ) (entries : List Entry) (states : List ClientState) (state : ClientState) : Type 0 where
+  pub inside : c < length states
+  pub at : get_or states c Idle ≡ state
+  pub balanced : IsBalanced entries states heard
+
 -- a client's play was halted, and the client books what is kept of it
-pub balanced-halt : {entries : List Entry} {states : List ClientState} {heard : ℕ} {play : Play} (c keep : ℕ) (next : ClientState) → c < length states
-    → get_or states c Idle ≡ Playing play → IsShut next → ((t : ℕ) → heard < t → share_of t next ≡ share_at t (cut_play play.start play.plan keep))
-    → IsBalanced entries states heard → IsBalanced (entries ++ halt_by c play.number keep) (set states c next) heard
-balanced-halt {entries} {states} {play} c keep next inside at shut shares balanced =
+pub balanced-halt : {entries : List Entry} {states : List ClientState} {heard : ℕ} {play : Play} (c keep : ℕ) (next : ClientState)
+    → BalancedClient heard c entries states (Playing play) → IsShut next
+    → ((t : ℕ) → heard < t → share_of t next ≡ share_at t (cut_play play.start play.plan keep))
+    → IsBalanced (entries ++ halt_by c play.number keep) (set states c next) heard
+balanced-halt {entries} {states} {play} c keep next own shut shares =
     let e = entry_by c (commands.Halt play.number keep) Halted in
     let H : ClientState → Type 0 = λ s. AreHeldOf entries c s in
     let its : IsHeld entries c play = subst H at (balanced.held c inside) in
     record {
       each = λ t later.
-          let b = booked-halted entries c play.number keep play.start t play.plan its.held in
+          let b = booked-halted entries c (record { number = play.number; start = play.start; plan = play.plan; held = its.held }) keep t in
           let s = sum_by-set (share_of t) states c next Idle inside in
           let was : share_of t (get_or states c Idle) ≡ share_at t (whole_play play.start play.plan) = ap (share_of t) at in
           omega (arith, b, s, was, shares t later, balanced.each t later);
@@ -199,7 +221,8 @@ balanced-halt {entries} {states} {play} c keep next inside at shut shares balanc
         | inr other ↦
             let C : ClientState → Type 0 = λ x. AreHeldOf (entries ++ halt_by c play.number keep) d x in
             subst C (sym (get_or-set_other states c d next Idle other))
-            (others-halted entries play.number keep (get_or states d Idle) its.inside its.maker other (balanced.held d (omega (arith, within, length-set states c next))))
+            (others-halted entries play.number keep (get_or states d Idle) (record { inside = its.inside; maker = its.maker; other = other })
+            (balanced.held d (omega (arith, within, length-set states c next))))
       ];
       fresh =
           let A : State → Type 0 = λ s. All (λ (h : Held). h.number < length (entries ++ halt_by c play.number keep)) s.held in
@@ -207,6 +230,8 @@ balanced-halt {entries} {states} {play} c keep next inside at shut shares balanc
           (fresh-more (length entries) (length (entries ++ halt_by c play.number keep)) (with_halted play.number keep (state_after entries).held)
           (omega (arith, length-append entries (e ∷ []))) (fresh-halted play.number keep (length entries) (state_after entries).held balanced.fresh));
     }
+  where
+    open own use {inside, at, balanced}
 
 -- an entry that leaves the plays of the machine as they are
 same-held : (entries : List Entry) (e : Entry) (c : ℕ) (state : ClientState) → (state_after (entries ++ e ∷ [])).held ≡ (state_after entries).held
@@ -227,20 +252,36 @@ balanced-same entries states heard e same balanced = record {
       (fresh-more (length entries) (length (entries ++ e ∷ [])) (state_after entries).held (omega (arith, length-append entries (e ∷ []))) balanced.fresh);
 }
 
-push-held : (entries : List Entry) (e : Entry) (c : ℕ) (state : ClientState) (new : Held) → (state_after (entries ++ e ∷ [])).held ≡ (state_after entries).held ++ new ∷ []
-    → AreHeldOf entries c state → AreHeldOf (entries ++ e ∷ []) c state
-push-held entries e c Idle new is its = tt
-push-held entries e c (Playing play) new is its =
+-- an entry by which the machine holds one play more
+record NextHeld (entries : List Entry) : Type 0 where
+  pub e : Entry
+  pub new : Held
+  pub is : (state_after (entries ++ e ∷ [])).held ≡ (state_after entries).held ++ new ∷ []
+
+push-held : (entries : List Entry) (next : NextHeld entries) (c : ℕ) (state : ClientState) → AreHeldOf entries c state
+    → AreHeldOf (entries ++ next.e ∷ []) c state
+push-held entries next c Idle its = tt
+push-held entries next c (Playing play) its =
     maker-more entries e c play its
     (ap (held_as play.number) is ∙ found-push play.number (state_after entries).held (admitted_play play.number play.start play.plan) new its.held)
-push-held entries e c (Pausing stop rest) new is its = tt
-push-held entries e c (Paused rest) new is its = tt
+  where
+    open next use {e, new, is}
+push-held entries next c (Pausing stop rest) its = tt
+push-held entries next c (Paused rest) its = tt
+
+-- a client's play was admitted
+pub record ClientPlayed (entries : List Entry) (c : ℕ) : Type 0 where
+  pub play : Play
+  pub e : Entry
+  pub number : play.number ≡ length entries
+  pub maker : e.maker ≡ c
+  pub is : (state_after (entries ++ e ∷ [])).held ≡ (state_after entries).held ++ admitted_play play.number play.start play.plan ∷ []
 
 -- a client's play was admitted, which booked nothing before
-pub balanced-play : {entries : List Entry} {states : List ClientState} {heard c : ℕ} (play : Play) (e : Entry) → c < length states → play.number ≡ length entries → e.maker ≡ c
-    → (state_after (entries ++ e ∷ [])).held ≡ (state_after entries).held ++ admitted_play play.number play.start play.plan ∷ []
-    → ((t : ℕ) → share_of t (get_or states c Idle) ≡ 0) → IsBalanced entries states heard → IsBalanced (entries ++ e ∷ []) (set states c (Playing play)) heard
-balanced-play {entries} {states} {c} play e inside number maker is free balanced =
+pub balanced-play : {entries : List Entry} {states : List ClientState} {heard c : ℕ} (played : ClientPlayed entries c)
+    → c < length states → ((t : ℕ) → share_of t (get_or states c Idle) ≡ 0) → IsBalanced entries states heard
+    → IsBalanced (entries ++ played.e ∷ []) (set states c (Playing played.play)) heard
+balanced-play {entries} {states} {c} played inside free balanced =
     let new = admitted_play play.number play.start play.plan in
     let held = (state_after entries).held in
     let n : length (entries ++ e ∷ []) ≡ length entries + 1 = omega (arith, length-append entries (e ∷ [])) in
@@ -269,7 +310,8 @@ balanced-play {entries} {states} {c} play e inside number maker is free balanced
         | inr other ↦
             let C : ClientState → Type 0 = λ x. AreHeldOf (entries ++ e ∷ []) d x in
             subst C (sym (get_or-set_other states c d (Playing play) Idle other))
-            (push-held entries e d (get_or states d Idle) new is (balanced.held d (omega (arith, within, length-set states c (Playing play)))))
+            (push-held entries (record { e = e; new = new; is = is }) d (get_or states d Idle)
+            (balanced.held d (omega (arith, within, length-set states c (Playing play)))))
       ];
       fresh =
           let P : Held → Type 0 = λ h. h.number < length (entries ++ e ∷ []) in
@@ -277,3 +319,5 @@ balanced-play {entries} {states} {c} play e inside number maker is free balanced
           subst A (sym is)
           (All-push P held new (fresh-more (length entries) (length (entries ++ e ∷ [])) held (omega (arith, n)) balanced.fresh) (omega (arith, number, n)));
     }
+  where
+    open played use {play, e, number, maker, is}

@@ -1,5 +1,5 @@
 -- Lines of a script, one after the other.
-use Rattle.std.proofs.Common.{◌≡◌, ◌<◌, ◌≤◌, ◌+◌, ℕ, suc, List, [], ◌∷◌, ◌++◌, length, take, drop, get_or, refl, sym, ap, subst, ◌∙◌}
+use Rattle.std.proofs.Common.{◌≡◌, ◌≤◌, ◌+◌, ℕ, suc, List, [], ◌∷◌, ◌++◌, length, take, drop, get_or, refl, sym, ap, subst, ◌∙◌}
 use Rattle.std.specs.Prelude.{flat_map}
 use Rattle.std.proofs.lemmas.Grind.{flat_map-append}
 use Rattle.std.proofs.lemmas.List.{append-nil, append_assoc, drop_all, drop_more, take_more}
@@ -10,16 +10,27 @@ use Rattle.report.specs.JournalTexts.{journal_text}
 use Rattle.day_run.specs.Days.{AreRun, IsDay, IsLine, Link, Moment, halts_at, last_journal, last_lines, first_moment}
 use Rattle.day_run.specs.Runners.{HasRun, IsPrinted}
 use Rattle.day_run.proofs.LineSteps.{more-entries}
+use Rattle.day_run.proofs.Takings.{Place}
 
-pub run-more : (link : Link) (lines : List Line) (texts : List (List ℕ)) (line : Line) (text : List ℕ) (old mid new : Moment) → AreRun link lines texts old mid
-    → IsLine link line mid new text → AreRun link (lines ++ line ∷ []) (texts ++ text ∷ []) old new
-run-more link [] [] line text old mid new run is =
-    let P : Moment → Type 0 = λ m. IsLine link line m new text in
-    (new, (subst P run is, refl))
-run-more link [] (t ∷ texts) line text old mid new run is = absurd run
-run-more link (l ∷ lines) [] line text old mid new run is = absurd run
-run-more link (l ∷ lines) (t ∷ texts) line text old mid new run is =
-    (run.0, (run.1.0, run-more link lines texts line text run.0 mid new run.1.1 is))
+-- the last line, after the others
+pub record LastLine : Type 0 where
+  pub link : Link
+  pub line : Line
+  pub text : List ℕ
+  pub old : Moment
+  pub new : Moment
+  pub is : IsLine link line old new text
+
+pub run-more : (last : LastLine) (lines : List Line) (texts : List (List ℕ)) (old : Moment)
+    → AreRun last.link lines texts old last.old
+    → AreRun last.link (lines ++ last.line ∷ []) (texts ++ last.text ∷ []) old last.new
+run-more last [] [] old run =
+    let P : Moment → Type 0 = λ m. IsLine last.link last.line m last.new last.text in
+    (last.new, (subst P run last.is, refl))
+run-more last [] (t ∷ texts) old run = absurd run
+run-more last (l ∷ lines) [] old run = absurd run
+run-more last (l ∷ lines) (t ∷ texts) old run =
+    (run.0, (run.1.0, run-more last lines texts run.0 run.1.1))
 
 flat-push : (texts : List (List ℕ)) (text : List ℕ) → flat_map (λ (t : List ℕ). t) (texts ++ text ∷ []) ≡ flat_map (λ (t : List ℕ). t) texts ++ text
 flat-push texts text =
@@ -30,25 +41,32 @@ pub run-push : {link : Link} {lines : List Line} {before after : List ℕ} {old 
 run-push {link} {lines} {old} {new} line run printed = record {
   texts = run.texts ++ printed.text ∷ [];
   text_is = printed.after_is ∙ ap (λ l. l ++ printed.text) run.text_is ∙ sym (flat-push run.texts printed.text);
-  run = run-more link lines run.texts line printed.text _ old new run.run printed.is;
+  run = run-more (record { link = link; line = line; text = printed.text; old = old; new = new; is = printed.is }) lines run.texts first_moment run.run;
 }
 
-pub run-next : {link here : Link} {before after : List ℕ} {old new : Moment} (lines : List Line) (i : ℕ)
-    (none : Line) → here ≡ link → i < length lines
-    → HasRun link (take i lines) before old → IsPrinted before after (IsLine here (get_or lines i none) old new) → HasRun link (take (i + 1) lines) after new
-run-next {link} {here} {before} {after} {old} {new} lines i none same inside run printed =
+pub run-next : {link here : Link} {before after : List ℕ} {old new : Moment} (lines : List Line) (place : Place lines)
+    → here ≡ link → HasRun link (take place.index lines) before old
+    → IsPrinted before after (IsLine here (get_or lines place.index place.none) old new)
+    → HasRun link (take (place.index + 1) lines) after new
+run-next {link} {here} {before} {after} {old} {new} lines place same run printed =
     let P : Link → Type 0 = λ l. IsPrinted before after (IsLine l (get_or lines i none) old new) in
     let L : List Line → Type 0 = λ ls. HasRun link ls after new in
     subst L (sym (take_more lines i none inside)) (run-push (get_or lines i none) run (subst P same printed))
+  where
+    open place use {index as i, none, inside}
+
+-- the halts of a slot are those that were noted from a place on
+pub record HaltsNoted (old : Moment) (slot from : ℕ) (ys : List Entry) : Type 0 where
+  pub from_is : from ≡ length old.entries
+  pub entries_are : ys ≡ old.entries ++ halts_at old slot
 
 -- the text of a slot
-pub slot-printed : {from : ℕ} {ys : List Entry} {middle after : List ℕ} (old : Moment) (slot sent booked : ℕ)
-    (before sent-text : List ℕ) → from ≡ length old.entries
-    → ys ≡ old.entries ++ halts_at old slot → middle ≡ before ++ sent-text → after ≡ middle ++ journal_text from (drop from ys)
+pub slot-printed : {old : Moment} {slot from : ℕ} {ys : List Entry} {middle after : List ℕ} (before sent-text : List ℕ)
+    → HaltsNoted old slot from ys → middle ≡ before ++ sent-text → after ≡ middle ++ journal_text from (drop from ys)
     → after ≡ before ++ (sent-text ++ journal_text (length old.entries) (halts_at old slot))
-slot-printed {from} {ys} old slot sent booked before sent-text at y m a =
-    a ∙ ap (λ l. l ++ journal_text from (drop from ys)) m ∙ ap (λ n. (before ++ sent-text) ++ journal_text n (drop n ys)) at
-    ∙ ap (λ es. (before ++ sent-text) ++ journal_text (length old.entries) es) (more-entries old.entries ys (halts_at old slot) y)
+slot-printed {old} {slot} {from} {ys} before sent-text noted m a =
+    a ∙ ap (λ l. l ++ journal_text from (drop from ys)) m ∙ ap (λ n. (before ++ sent-text) ++ journal_text n (drop n ys)) noted.from_is
+    ∙ ap (λ es. (before ++ sent-text) ++ journal_text (length old.entries) es) (more-entries old.entries ys (halts_at old slot) noted.entries_are)
     ∙ append_assoc before sent-text (journal_text (length old.entries) (halts_at old slot))
 
 -- a whole day

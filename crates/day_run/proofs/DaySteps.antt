@@ -71,26 +71,41 @@ open-halt {xs} {c} {halt} (clients.Playing play) going booked is =
 open-halt {c} {halt} (clients.Pausing stop) going booked is = absurd is
 open-halt {c} {halt} (clients.Paused rest) going booked is = absurd is
 
+-- the entry of a client's halt, and the clients after it
+pub record HaltEntered (xs ys : List Entry) (cs ds : List Client) (c number keep : ℕ) (client : Client) (e : Entry)
+    : Type 0 where
+  pub entries_are : ys ≡ xs ++ e ∷ []
+  pub clients_are : ds ≡ set cs c client
+  pub command : e.command ≡ Halt number keep
+
+-- what is sound of a client that was halted
+pub record SoundNext (heard : ℕ) (client : Client) : Type 0 where
+  pub going : IsGoing client
+  pub undone : IsUndone client
+  pub quiet : IsQuiet client
+  pub timed : IsTimed heard client
+
 -- a client's play was halted
-pub day-halted : {slot_units heard : ℕ} {xs ys : List Entry} {cs ds : List Client} {c number bytes keep : ℕ}
-    (client : Client) (e : Entry)
-    → IsSoundDay slot_units heard xs cs → ys ≡ xs ++ e ∷ [] → ds ≡ set cs c client → e.command ≡ Halt number keep → IsOpenOf xs c number bytes
-    → c < length cs → IsGoing client → IsUndone client → IsQuiet client → IsTimed heard client → IsSoundDay slot_units heard ys ds
-day-halted {slot_units} {heard} {xs} {ys} {cs} {c} {number} {keep} client e day y d is its inside going undone quiet timed =
+pub day-halted : {slot_units heard : ℕ} {xs ys : List Entry} {cs ds : List Client} {c number bytes keep : ℕ} {e : Entry}
+    (client : Client) → IsSoundDay slot_units heard xs cs → HaltEntered xs ys cs ds c number keep client e → IsOpenOf xs c number bytes
+    → c < length cs → SoundNext heard client → IsSoundDay slot_units heard ys ds
+day-halted {slot_units} {heard} {xs} {ys} {cs} {c} {number} {keep} {e} client day entered its inside next =
     let D : List Client → Type 0 = λ l. IsSoundDay slot_units heard ys l in
     let Y : List Entry → Type 0 = λ l. IsSoundDay slot_units heard l (set cs c client) in
     let U : ℕ → Type 0 = λ n. AreUndone n (set cs c client) in
-    subst D (sym d) (subst Y (sym y) (record {
+    subst D (sym entered.clients_are) (subst Y (sym entered.entries_are) (record {
       count = length-set cs c client ∙ day.count;
       some_slot_units = day.some_slot_units;
       slot_units_fit = day.slot_units_fit;
       heard_fits = day.heard_fits;
-      now_heard = omega (arith, halted-now xs e number keep is, day.now_heard);
+      now_heard = omega (arith, halted-now xs e number keep entered.command, day.now_heard);
       going = going-set cs c client going day.going;
       undone = subst U (sym (length-set cs c client)) (undone-set c client inside undone day.undone);
-      booked = booked-halt client e is its quiet day.booked;
+      booked = booked-halt client e entered.command its quiet day.booked;
       timed = timed-set heard cs c client timed day.timed;
     }))
+  where
+    open next use {going, undone, quiet, timed}
 
 -- an entry was made that halts no play
 pub day-noted : {slot_units heard : ℕ} {xs ys : List Entry} {cs : List Client} (e : Entry) → IsSoundDay slot_units heard xs cs → ys ≡ xs ++ e ∷ []
@@ -109,13 +124,28 @@ day-noted {slot_units} {heard} {xs} {cs} e day y none now =
       timed = day.timed;
     })
 
+-- the entry of a client's play, and the clients after it
+pub record PlayEntered (heard : ℕ) (xs ys : List Entry) (cs ds : List Client) (c slot : ℕ) (segments : List Segment)
+    (play : ClientPlay) (e : Entry) : Type 0 where
+  pub entries_are : ys ≡ xs ++ e ∷ []
+  pub clients_are : ds ≡ set cs c (clients.Playing play)
+  pub command : e.command ≡ Play slot segments
+  pub late : slot ≤ heard
+  pub maker : e.maker ≡ c
+  pub number : play.number ≡ length xs
+  pub can : CanHalt (state_after (xs ++ e ∷ [])) play.number (total_bytes play.plan)
+
+-- what is sound of a client whose play begins
+pub record SoundPlaying (heard : ℕ) (play : ClientPlay) : Type 0 where
+  pub playing : IsPlaying play
+  pub undone : IsUndone (clients.Playing play)
+  pub timed : IsTimed heard (clients.Playing play)
+
 -- a client's play was admitted
-pub day-played : {slot_units heard : ℕ} {xs ys : List Entry} {cs ds : List Client} {c slot : ℕ}
-    {segments : List Segment} {play : ClientPlay} (e : Entry)
-    → IsSoundDay slot_units heard xs cs → ys ≡ xs ++ e ∷ [] → ds ≡ set cs c (clients.Playing play) → e.command ≡ Play slot segments → slot ≤ heard
-    → e.maker ≡ c → play.number ≡ length xs → CanHalt (state_after (xs ++ e ∷ [])) play.number (total_bytes play.plan)
-    → c < length cs → IsPlaying play → IsUndone (clients.Playing play) → IsTimed heard (clients.Playing play) → IsSoundDay slot_units heard ys ds
-day-played {slot_units} {heard} {xs} {ys} {cs} {c} {slot} {segments} {play} e day y d is le maker number can inside playing undone timed =
+pub day-played : {slot_units heard : ℕ} {xs ys : List Entry} {cs ds : List Client} {c slot : ℕ} {segments : List Segment}
+    {play : ClientPlay} (e : Entry) → IsSoundDay slot_units heard xs cs → PlayEntered heard xs ys cs ds c slot segments play e → c < length cs
+    → SoundPlaying heard play → IsSoundDay slot_units heard ys ds
+day-played {slot_units} {heard} {xs} {ys} {cs} {c} {slot} {segments} {play} e day entered inside next =
     let D : List Client → Type 0 = λ l. IsSoundDay slot_units heard ys l in
     let Y : List Entry → Type 0 = λ l. IsSoundDay slot_units heard l (set cs c (clients.Playing play)) in
     let U : ℕ → Type 0 = λ n. AreUndone n (set cs c (clients.Playing play)) in
@@ -134,8 +164,10 @@ day-played {slot_units} {heard} {xs} {ys} {cs} {c} {slot} {segments} {play} e da
       slot_units_fit = day.slot_units_fit;
       heard_fits = day.heard_fits;
       now_heard = omega (arith, played-now xs e slot segments is, day.now_heard, le);
-      going = going-set cs c (clients.Playing play) playing day.going;
-      undone = subst U (sym (length-set cs c (clients.Playing play))) (undone-set c (clients.Playing play) inside undone day.undone);
+      going = going-set cs c (clients.Playing play) next.playing day.going;
+      undone = subst U (sym (length-set cs c (clients.Playing play))) (undone-set c (clients.Playing play) inside next.undone day.undone);
       booked = booked-set (clients.Playing play) (λ d other. record { apart = λ n halts _. none n halts }) its day.booked;
-      timed = timed-set heard cs c (clients.Playing play) timed day.timed;
+      timed = timed-set heard cs c (clients.Playing play) next.timed day.timed;
     }))
+  where
+    open entered use {entries_are as y, clients_are as d, command as is, late as le, maker, number, can}

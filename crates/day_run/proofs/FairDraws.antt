@@ -1,5 +1,5 @@
 -- Traces that are drawn one after the other.
-use Rattle.std.proofs.Common.{◌≡◌, ◌<◌, ◌+◌, ◌%◌, ℕ, List, [], ◌∷◌, ◌++◌, length, map, take, get_or, add-one, arith, refl, sym, ap, ◌∙◌}
+use Rattle.std.proofs.Common.{◌≡◌, ◌+◌, ◌%◌, ℕ, List, [], ◌∷◌, ◌++◌, map, take, get_or, add-one, arith, refl, sym, ap, ◌∙◌}
 use Rattle.std.specs.Global.{Vec}
 use Rattle.std.proofs.lemmas.List.{map-append, map_more}
 use Rattle.std.proofs.lemmas.List.FromFn.{map-range_with_len_more}
@@ -10,15 +10,21 @@ use Rattle.day_run.specs.FairDays.{after_traces, picture_count, trace_drawn, tra
 use Rattle.day_run.specs.Fairs.{sizes_in}
 use Rattle.day_run.specs.ClientStates.{trace_content}
 use Rattle.day_run.specs.ReelContents.{reel_content}
+use Rattle.day_run.proofs.Takings.{Place}
+
+-- the trace that is drawn by the next words
+pub record TraceDrawn (left : ℕ → ℕ) (pictures : ℕ) (words : ℕ → ℕ) (k : ℕ) (trace : Vec ℕ) : Type 0 where
+  pub left_is : left ≡ after_traces k words
+  pub pictures_are : pictures ≡ 100 + left 0 % 101
+  pub sizes_are : trace.items ≡ sizes_of (after 1 left) pictures
 
 -- one trace more
-pub sizes-next : {left : ℕ → ℕ} {pictures : ℕ} {more : List (Vec ℕ)} (words : ℕ → ℕ) (k : ℕ) (traces : List (Vec ℕ))
-    (trace : Vec ℕ) → more ≡ traces ++ trace ∷ [] → left ≡ after_traces k words
-    → pictures ≡ 100 + left 0 % 101 → trace.items ≡ sizes_of (after 1 left) pictures → sizes_in traces ≡ traces_drawn k words
+pub sizes-next : {left : ℕ → ℕ} {pictures : ℕ} {more : List (Vec ℕ)} {words : ℕ → ℕ} {k : ℕ} (traces : List (Vec ℕ))
+    (trace : Vec ℕ) → more ≡ traces ++ trace ∷ [] → TraceDrawn left pictures words k trace → sizes_in traces ≡ traces_drawn k words
     → sizes_in more ≡ traces_drawn (k + 1) words
-sizes-next {left} {more} words k traces trace m l p t before =
+sizes-next {left} {more} {words} {k} traces trace m drawn before =
     let own : trace.items ≡ trace_drawn (after_traces k words) =
-    t ∙ ap (sizes_of (after 1 left)) p ∙ ap (λ (w : ℕ → ℕ). sizes_of (after 1 w) (100 + w 0 % 101)) l in
+    drawn.sizes_are ∙ ap (sizes_of (after 1 left)) drawn.pictures_are ∙ ap (λ (w : ℕ → ℕ). sizes_of (after 1 w) (100 + w 0 % 101)) drawn.left_is in
     let at : 0 + k ≡ k = omega arith in
     ap sizes_in m ∙ map-append (λ (v : Vec ℕ). v.items) traces (trace ∷ []) ∙ ap (λ ts. ts ++ trace.items ∷ []) before
     ∙ ap (λ x. traces_drawn k words ++ x ∷ []) own
@@ -37,13 +43,22 @@ pub left-none : (words : ℕ → ℕ) → words ≡ after_traces 0 words
 unfolding after_traces
 left-none words = refl
 
+-- a reel that was pushed
+pub record ReelMore (more : List Reel) : Type 0 where
+  pub reels : List Reel
+  pub reel : Reel
+  pub more_are : more ≡ reels ++ reel ∷ []
+
 -- one reel more
-pub reels-next : {more : List Reel} (reels : List Reel) (reel : Reel) (traces : List (Vec ℕ)) (i : ℕ) (none : Vec ℕ) → i < length traces → more ≡ reels ++ reel ∷ []
-    → reel_content 14400 reel ≡ trace_content 14400 (get_or traces i none).items
-    → map (reel_content 14400) reels ≡ map (trace_content 14400) (sizes_in (take i traces))
-    → map (reel_content 14400) more ≡ map (trace_content 14400) (sizes_in (take (i + 1) traces))
-reels-next {more} reels reel traces i none inside m own before =
+pub reels-next : {more : List Reel} (next : ReelMore more) (traces : List (Vec ℕ)) (place : Place traces)
+    → reel_content 14400 next.reel ≡ trace_content 14400 (get_or traces place.index place.none).items
+    → map (reel_content 14400) next.reels ≡ map (trace_content 14400) (sizes_in (take place.index traces))
+    → map (reel_content 14400) more ≡ map (trace_content 14400) (sizes_in (take (place.index + 1) traces))
+reels-next next traces place own before =
     ap (map (reel_content 14400)) m ∙ map-append (reel_content 14400) reels (reel ∷ []) ∙ ap (λ ts. ts ++ reel_content 14400 reel ∷ []) before
     ∙ ap (λ t. map (trace_content 14400) (sizes_in (take i traces)) ++ t ∷ []) own
     ∙ sym (map-append (trace_content 14400) (sizes_in (take i traces)) ((get_or traces i none).items ∷ []))
     ∙ ap (map (trace_content 14400)) (sym (map_more (λ (v : Vec ℕ). v.items) traces i none inside))
+  where
+    open next use {reels, reel, more_are as m}
+    open place use {index as i, none, inside}

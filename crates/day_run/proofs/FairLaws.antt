@@ -18,6 +18,7 @@ use Rattle.day_run.specs.FairDays.{AreTurns, IsDone, IsTurn, Turn, after_turn, a
 use Rattle.day_run.specs.ClientStates.{Rest, ClientState, Idle, Playing, Pausing, Paused}
 use Rattle.day_run.proofs.BalancedLines.{pause-heard, play-heard, ready-sent, resume-heard, slot-ready}
 use Rattle.day_run.proofs.FairTurns.{done-ready}
+use Rattle.day_run.proofs.Takings.{LineStep}
 
 -- ---- what is sent is what is booked
 pub later-ready : (old : Moment) (later : ℕ) → IsReady old → IsReady (at_later old later)
@@ -38,7 +39,8 @@ pub turn-ready : (link : Link) (words : ℕ → ℕ) (turn : Turn) → IsTurn li
 turn-ready link words turn is ready =
     let R : Moment → Type 0 = λ m. IsReady m in
     let mid : IsReady turn.mid = subst R (sym is.slot) (later-ready turn.old (words 0 % 4) ready) in
-    done-ready link (after 2 words) turn.text (omega arith) refl is.done mid
+    done-ready (record { link = link; old = turn.mid; new = turn.new; text = turn.text }) (after 2 words)
+    (record { client = omega arith; at = refl }) is.done mid
 
 turn-balanced : (link : Link) (words : ℕ → ℕ) (turn : Turn) → IsTurn link words turn → IsReady turn.old → turn_sent turn ≡ turn_booked turn
 turn-balanced link words turn is ready =
@@ -78,30 +80,34 @@ asked-grown {c} {old} {new} {text} (inr planned) = elim planned.done [
   | inr made ↦ record { made = _; new_is = ap (λ (m : Moment). m.entries) made.noted.new_is }
 ]
 
-play-grown : (link : Link) (c : ℕ) (rest : Rest) (state : ClientState) (old new : Moment) (text : List ℕ) → IsPlayLine link c rest state old new text → HasGrown old.entries new.entries
-play-grown link c rest Idle old new text is = asked-grown is
-play-grown link c rest (Playing play) old new text is = kept-grown old new is.kept
-play-grown link c rest (Pausing stop left) old new text is = kept-grown old new is.kept
-play-grown link c rest (Paused left) old new text is = asked-grown is
+play-grown : (step : LineStep) (c : ℕ) (rest : Rest) (state : ClientState)
+    → IsPlayLine step.link c rest state step.old step.new step.text → HasGrown step.old.entries step.new.entries
+play-grown step c rest Idle is = asked-grown is
+play-grown step c rest (Playing play) is = kept-grown step.old step.new is.kept
+play-grown step c rest (Pausing stop left) is = kept-grown step.old step.new is.kept
+play-grown step c rest (Paused left) is = asked-grown is
 
-resume-grown : (link : Link) (c : ℕ) (state : ClientState) (old new : Moment) (text : List ℕ) → IsResumeLine link c state old new text → HasGrown old.entries new.entries
-resume-grown link c Idle old new text is = kept-grown old new is.kept
-resume-grown link c (Playing play) old new text is = kept-grown old new is.kept
-resume-grown link c (Pausing stop rest) old new text is = kept-grown old new is.kept
-resume-grown link c (Paused rest) old new text is = asked-grown is
+resume-grown : (step : LineStep) (c : ℕ) (state : ClientState)
+    → IsResumeLine step.link c state step.old step.new step.text → HasGrown step.old.entries step.new.entries
+resume-grown step c Idle is = kept-grown step.old step.new is.kept
+resume-grown step c (Playing play) is = kept-grown step.old step.new is.kept
+resume-grown step c (Pausing stop rest) is = kept-grown step.old step.new is.kept
+resume-grown step c (Paused rest) is = asked-grown is
 
-pause-grown : (link : Link) (c : ℕ) (state : ClientState) (old new : Moment) (text : List ℕ) → IsPauseLine link c state old new text → HasGrown old.entries new.entries
-pause-grown link c Idle old new text is = kept-grown old new is.kept
-pause-grown link c (Playing play) old new text is = record { made = _; new_is = ap (λ (m : Moment). m.entries) is.noted.new_is }
-pause-grown link c (Pausing stop rest) old new text is = kept-grown old new is.kept
-pause-grown link c (Paused rest) old new text is = kept-grown old new is.kept
+pause-grown : (step : LineStep) (c : ℕ) (state : ClientState)
+    → IsPauseLine step.link c state step.old step.new step.text → HasGrown step.old.entries step.new.entries
+pause-grown step c Idle is = kept-grown step.old step.new is.kept
+pause-grown step c (Playing play) is = record { made = _; new_is = ap (λ (m : Moment). m.entries) is.noted.new_is }
+pause-grown step c (Pausing stop rest) is = kept-grown step.old step.new is.kept
+pause-grown step c (Paused rest) is = kept-grown step.old step.new is.kept
 
-done-grown : (link : Link) (words : ℕ → ℕ) (c : ℕ) (state : ClientState) (old new : Moment) (text : List ℕ) → IsDone link words c state old new text → HasGrown old.entries new.entries
-done-grown link words c Idle old new text is =
-    play-grown link c (rest_at link (words 0 % 16) (16384 + words 1 % 16384) (words 2 % 26)) (state_at old c) old new text is
-done-grown link words c (Playing play) old new text is = pause-grown link c (state_at old c) old new text is
-done-grown link words c (Pausing stop rest) old new text is = kept-grown old new is.kept
-done-grown link words c (Paused rest) old new text is = resume-grown link c (state_at old c) old new text is
+done-grown : (step : LineStep) (words : ℕ → ℕ) (c : ℕ) (state : ClientState)
+    → IsDone step.link words c state step.old step.new step.text → HasGrown step.old.entries step.new.entries
+done-grown step words c Idle is =
+    play-grown step c (rest_at step.link (words 0 % 16) (16384 + words 1 % 16384) (words 2 % 26)) (state_at step.old c) is
+done-grown step words c (Playing play) is = pause-grown step c (state_at step.old c) is
+done-grown step words c (Pausing stop rest) is = kept-grown step.old step.new is.kept
+done-grown step words c (Paused rest) is = resume-grown step c (state_at step.old c) is
 
 later-grown : (old : Moment) (later : ℕ) → HasGrown old.entries (at_later old later).entries
 later-grown old later = grown-if (later == 0)
@@ -114,7 +120,7 @@ turn-grown : (link : Link) (words : ℕ → ℕ) (turn : Turn) → IsTurn link w
 turn-grown link words turn is =
     let G : Moment → Type 0 = λ m. HasGrown turn.old.entries m.entries in
     grown-on turn.old.entries turn.mid.entries turn.new.entries (subst G (sym is.slot) (later-grown turn.old (words 0 % 4)))
-    (done-grown link (after 2 words) (client_of words) _ turn.mid turn.new turn.text is.done)
+    (done-grown (record { link = link; old = turn.mid; new = turn.new; text = turn.text }) (after 2 words) (client_of words) _ is.done)
 
 turns-grown : (link : Link) (words : ℕ → ℕ) (turns : List Turn) (old new : Moment) → AreTurns link words turns old new → HasGrown old.entries new.entries
 turns-grown link words [] old new run = kept-grown old new run
@@ -128,36 +134,56 @@ most-of : (f : ℕ → ℕ) (most top : ℕ) (ts : List ℕ) → top ≤ most �
 most-of f most top [] small each = small
 most-of f most top (t ∷ ts) small each = most-of f most (max top (f t)) ts (omega (arith, small, each t)) each
 
-moment-within : {steps : List CapStep} {journal : List Entry} (m : Moment) (most slot : ℕ) → IsLegal steps journal → HasGrown m.entries journal
-    → ((t : ℕ) → capacity_at steps t ≤ most) → most_up_to m slot ≤ most
-moment-within {steps} {journal} m most slot legal grown capacity =
+-- a legal journal that goes on from a moment's, on a link of so much capacity at most
+pub record GrownJournal (steps : List CapStep) (journal : List Entry) (moment : Moment) (most : ℕ) : Type 0 where
+  pub legal : IsLegal steps journal
+  pub grown : HasGrown moment.entries journal
+  pub capacity : (t : ℕ) → capacity_at steps t ≤ most
+
+moment-within : {steps : List CapStep} {journal : List Entry} {m : Moment} {most : ℕ} (slot : ℕ) → GrownJournal steps journal m most
+    → most_up_to m slot ≤ most
+moment-within {steps} {journal} {m} {most} slot given =
     most-of (booked_in (state_after m.entries)) most 0 (range_with_len (m.heard + 1) (slot - m.heard)) (omega arith)
     (λ t.
     let front : take (length m.entries) journal ≡ m.entries = ap (take (length m.entries)) grown.new_is ∙ take_at m.entries grown.made (length m.entries) refl in
     let E : List Entry → Type 0 = λ es. booked_after es t ≤ capacity_at steps t in
     omega (arith, subst E front ((sound-after steps (take (length m.entries) journal) (legal-take steps journal (length m.entries) legal)).within.each t), capacity t))
+  where
+    open given use {legal, grown, capacity}
 
-pub turns-within : {steps : List CapStep} {journal : List Entry} (link : Link) (words : ℕ → ℕ) (turns : List Turn)
-    (old new : Moment) (most top : ℕ)
-    → AreTurns link words turns old new → IsLegal steps journal → HasGrown new.entries journal → ((t : ℕ) → capacity_at steps t ≤ most) → top ≤ most
-    → fold max top (map turn_peak turns) ≤ most
-turns-within {steps} link words [] old new most top run legal grown capacity small = small
-turns-within {steps} {journal} link words (turn ∷ turns) old new most top run legal grown capacity small =
-    let later = turns-grown link (after_turn words turn) turns turn.new new run.1.1 in
-    let from-old = grown-on turn.old.entries turn.new.entries journal (turn-grown link words turn run.1.0) (grown-on turn.new.entries new.entries journal later grown) in
-    let here : turn_peak turn ≤ most = moment-within turn.old most turn.mid.heard legal from-old capacity in
-    turns-within link (after_turn words turn) turns turn.new new most (max top (turn_peak turn)) run.1.1 legal grown capacity (omega (arith, small, here))
+-- turns that came one after the other
+pub record TurnsCome (turns : List Turn) : Type 0 where
+  pub link : Link
+  pub words : ℕ → ℕ
+  pub old : Moment
+  pub new : Moment
+  pub run : AreTurns link words turns old new
+
+pub turns-within : {steps : List CapStep} {journal : List Entry} {most : ℕ} (turns : List Turn) (come : TurnsCome turns) (top : ℕ)
+    → GrownJournal steps journal come.new most → top ≤ most → fold max top (map turn_peak turns) ≤ most
+turns-within [] come top given small = small
+turns-within {journal} {most} (turn ∷ turns) come top given small =
+    let is = run.1.0 in
+    let later : TurnsCome turns = record { link = link; words = after_turn words turn; old = turn.new; new = new; run = run.1.1 } in
+    let rest = turns-grown link (after_turn words turn) turns turn.new new run.1.1 in
+    let from-old = grown-on turn.old.entries turn.new.entries journal (turn-grown link words turn is) (grown-on turn.new.entries new.entries journal rest given.grown) in
+    let here : turn_peak turn ≤ most =
+    moment-within {m = turn.old} turn.mid.heard (record { legal = given.legal; grown = from-old; capacity = given.capacity }) in
+    turns-within turns later (max top (turn_peak turn)) given (omega (arith, small, here))
+  where
+    open come use {link, words, new, run}
 
 pub evening-grown : (evening : Moment) (journal : List Entry) → journal ≡ last_journal evening → HasGrown evening.entries journal
 evening-grown evening journal is = record { made = last_halts evening; new_is = is }
 
 -- ---- a turn brings at most three slots
-pub done-heard : (link : Link) (words : ℕ → ℕ) (c : ℕ) (state : ClientState) (old new : Moment) (text : List ℕ) → IsDone link words c state old new text → new.heard ≡ old.heard
-done-heard link words c Idle old new text is =
-    play-heard link c (rest_at link (words 0 % 16) (16384 + words 1 % 16384) (words 2 % 26)) (state_at old c) old new text is
-done-heard link words c (Playing play) old new text is = pause-heard link c (state_at old c) old new text is
-done-heard link words c (Pausing stop rest) old new text is = ap (λ (m : Moment). m.heard) is.kept
-done-heard link words c (Paused rest) old new text is = resume-heard link c (state_at old c) old new text is
+pub done-heard : (step : LineStep) (words : ℕ → ℕ) (c : ℕ) (state : ClientState)
+    → IsDone step.link words c state step.old step.new step.text → step.new.heard ≡ step.old.heard
+done-heard step words c Idle is =
+    play-heard step c (rest_at step.link (words 0 % 16) (16384 + words 1 % 16384) (words 2 % 26)) (state_at step.old c) is
+done-heard step words c (Playing play) is = pause-heard step c (state_at step.old c) is
+done-heard step words c (Pausing stop rest) is = ap (λ (m : Moment). m.heard) is.kept
+done-heard step words c (Paused rest) is = resume-heard step c (state_at step.old c) is
 
 later-most : (old : Moment) (later : ℕ) → (at_later old later).heard ≤ old.heard + later
 later-most old later = most-if (later == 0)
@@ -175,7 +201,7 @@ turns-heard link words (turn ∷ turns) old new run =
       arith,
       ap (λ (m : Moment). m.heard) run.0,
       subst M (sym is.slot) (later-most turn.old (words 0 % 4)),
-      done-heard link (after 2 words) (client_of words) _ turn.mid turn.new turn.text is.done,
+      done-heard (record { link = link; old = turn.mid; new = turn.new; text = turn.text }) (after 2 words) (client_of words) _ is.done,
       turns-heard link (after_turn words turn) turns turn.new new run.1.1,
     )
 

@@ -10,12 +10,12 @@ use Rattle.day_run.specs.Days.{first_moment}
 use Rattle.day_run.specs.DayLaws.{IsFairLine}
 use Rattle.day_run.specs.FairDays.{IsFair, after_traces, counts_of, fair_link}
 use Rattle.day_run.proofs.BalancedLines.{morning-ready}
-use Rattle.day_run.proofs.FairLaws.{evening-grown, turns-balanced, turns-heard, turns-ready, turns-within}
+use Rattle.day_run.proofs.FairLaws.{TurnsCome, evening-grown, turns-balanced, turns-heard, turns-ready, turns-within}
 use Rattle.day_run.proofs.PastSlots.{fair-past}
 
-pub fair-line : (steps : List CapStep) (number plays : ℕ) (text : List ℕ) (journal : List Entry) → IsFair steps number plays text journal → IsLegal steps journal
-    → IsFairLine steps plays text journal
-fair-line steps number plays text journal fair legal =
+pub fair-line : {number : ℕ} (steps : List CapStep) (plays : ℕ) (text : List ℕ) (journal : List Entry)
+    → IsFair steps number plays text journal → IsLegal steps journal → IsFairLine steps plays text journal
+fair-line {number} steps plays text journal fair legal =
     let link = fair_link steps (words_of number) in
     let words = after_traces 16 (words_of number) in
     let turns = fair.turns in
@@ -31,5 +31,7 @@ fair-line steps number plays text journal fair legal =
       booked_is = past.sum_is ∙ ap (λ k. sum_by (booked_after journal) (range_with_len 1 k)) whole;
       peak_is = past.peak_is ∙ ap (λ k. fold max 0 (map (booked_after journal) (range_with_len 1 k))) whole;
       within = λ most capacity.
-          turns-within link words turns first_moment fair.evening most 0 fair.run legal (evening-grown fair.evening journal fair.journal_is) capacity (omega arith);
+          let come : TurnsCome turns = record { link = link; words = words; old = first_moment; new = fair.evening; run = fair.run } in
+          turns-within turns come 0
+          (record { legal = legal; grown = evening-grown fair.evening journal fair.journal_is; capacity = capacity }) (omega arith);
     }

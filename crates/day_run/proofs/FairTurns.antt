@@ -27,16 +27,18 @@ use Rattle.day_run.specs.ClientStates.{Rest, ClientState, Idle, Playing, Pausing
 use Rattle.day_run.proofs.Balances.{sum-none}
 use Rattle.day_run.proofs.BalancedLines.{morning-ready, pause-ready, play-ready, ready-kept, resume-ready}
 use Rattle.day_run.proofs.Sweeps.{state-at}
+use Rattle.day_run.proofs.Takings.{ClientAsks, ClientOf, LineStep}
 use Rattle.day_run.proofs.Peaks.{peak-push}
 
 -- ---- what a client does keeps the balance
-pub done-ready : {c : ℕ} {state : ClientState} {old new : Moment} (link : Link) (words : ℕ → ℕ) (text : List ℕ) → c < 256 → get_or old.states c Idle ≡ state
-    → IsDone link words c state old new text → IsReady old → IsReady new
-done-ready {c} {state = Idle} {new} link words text client at is ready =
-    play-ready link (rest_at link (words 0 % 16) (16384 + words 1 % 16384) (words 2 % 26)) text client refl is ready
-done-ready {c} {state = Playing play} {new} link words text client at is ready = pause-ready link text client refl is ready
-done-ready {c} {state = Pausing stop rest} {old} {new} link words text client at is ready = ready-kept old new is.kept ready
-done-ready {c} {state = Paused rest} {new} link words text client at is ready = resume-ready link text client refl is ready
+pub done-ready : {c : ℕ} {state : ClientState} (step : LineStep) (words : ℕ → ℕ) → ClientOf step.old c state
+    → IsDone step.link words c state step.old step.new step.text → IsReady step.old → IsReady step.new
+done-ready {c} {state = Idle} step words own is ready =
+    play-ready step (rest_at step.link (words 0 % 16) (16384 + words 1 % 16384) (words 2 % 26))
+    (record { client = own.client; at = refl }) is ready
+done-ready {c} {state = Playing play} step words own is ready = pause-ready step (record { client = own.client; at = refl }) is ready
+done-ready {c} {state = Pausing stop rest} step words own is ready = ready-kept step.old step.new is.kept ready
+done-ready {c} {state = Paused rest} step words own is ready = resume-ready step (record { client = own.client; at = refl }) is ready
 
 -- ---- a slot, or none
 pub later-none : (old new : Moment) (later : ℕ) → later ≡ 0 → new ≡ old → new ≡ at_later old later
@@ -71,15 +73,25 @@ same-counts counts moment last =
     (sum-none moment.heard moment.states) (ap (λ n. sum_by f (range_with_len (moment.heard + 1) n)) none)
     (ap (λ n. fold max 0 (map f (range_with_len (moment.heard + 1) n))) none)
 
+-- the steps of a turn, one after the other
+pub record TurnSteps (link here : Link) (w w1 w2 w3 : ℕ → ℕ) (later client : ℕ) (c c1 c2 : Counts) (full : Bool) (turn : Turn)
+    : Type 0 where
+  pub same : here ≡ link
+  pub one : w1 ≡ after 1 w
+  pub two : w2 ≡ after 1 w1
+  pub later_is : later ≡ w 0 % 4
+  pub who : client ≡ w1 0 % 256
+  pub slot : turn.mid ≡ at_later turn.old later
+  pub done : IsDone here w2 client (state_at turn.mid client) turn.mid turn.new turn.text
+  pub left : w3 ≡ after (words_for (state_at turn.mid client)) w2
+  pub counted : c1 ≡ with_slot c turn.old turn.mid.heard
+  pub told : is_full_line turn.text ≡ full
+  pub counts_are : c2 ≡ record { turns = c1.turns + 1; full = c1.full + cond full 1 0; last = c1.last; sent = c1.sent; booked = c1.booked; peak = c1.peak }
+
 -- ---- one turn
-pub turn-of : {link here : Link} {w w1 w2 w3 : ℕ → ℕ} {later client : ℕ} {c c1 c2 : Counts} {full : Bool}
-    (turn : Turn) → here ≡ link → w1 ≡ after 1 w
-    → w2 ≡ after 1 w1 → later ≡ w 0 % 4 → client ≡ w1 0 % 256 → turn.mid ≡ at_later turn.old later
-    → IsDone here w2 client (state_at turn.mid client) turn.mid turn.new turn.text → w3 ≡ after (words_for (state_at turn.mid client)) w2
-    → c1 ≡ with_slot c turn.old turn.mid.heard → is_full_line turn.text ≡ full
-    → c2 ≡ record { turns = c1.turns + 1; full = c1.full + cond full 1 0; last = c1.last; sent = c1.sent; booked = c1.booked; peak = c1.peak }
-    → HasTurned link w w3 c c2 turn.old turn.new
-turn-of {here} {w} {w2} {later} {client} {c} {full} turn same one two l who slot done left n told m =
+pub turn-of : {link here : Link} {w w1 w2 w3 : ℕ → ℕ} {later client : ℕ} {c c1 c2 : Counts} {full : Bool} (turn : Turn)
+    → TurnSteps link here w w1 w2 w3 later client c c1 c2 full turn → HasTurned link w w3 c c2 turn.old turn.new
+turn-of {here} {w} {w2} {later} {client} {c} {full} turn steps =
     let who-is : client ≡ w 1 % 256 = who ∙ ap (λ (f : ℕ → ℕ). f 0 % 256) one ∙ ap (λ k. k % 256) (after-at 1 w 0) in
     let second : w2 ≡ after 2 w = two ∙ ap (after 1) one ∙ after-after 1 1 w in
     let D : ℕ → Type 0 = λ k. IsDone here w2 k (state_at turn.mid k) turn.mid turn.new turn.text in
@@ -97,6 +109,8 @@ turn-of {here} {w} {w2} {later} {client} {c} {full} turn same one two l who slot
           m ∙ ap (λ (x : Counts). record { turns = x.turns + 1; full = x.full + cond full 1 0; last = x.last; sent = x.sent; booked = x.booked; peak = x.peak }) n
           ∙ ap (λ b. record (with_turn c turn) { full = c.full + cond b 1 0 }) (sym told);
     }
+  where
+    open steps use {same, one, two, later_is as l, who, slot, done, left, counted as n, told, counts_are as m}
 
 -- ---- turns
 turns-more : {link : Link} {turn : Turn} {mid : Moment} (words : ℕ → ℕ) (turns : List Turn) (old : Moment) → AreTurns link words turns old mid → turn.old ≡ mid
@@ -176,16 +190,24 @@ pub ok-of : {A E : Type 0} (r : Result A E) (X : Type 0) → X → OnOk r X
 ok-of (Ok a) X x = x
 ok-of (Err e) X x = tt
 
-pub line-drawn : {s b d source buffer delay : ℕ} (r : Result Told NoMemory) (link : Link) (client : ℕ) (state : ClientState)
-    (old new : Moment) (entries : List Entry)
-    → s ≡ source → b ≡ buffer → d ≡ delay
-    → IfOk r (λ told. IsPlayLine link client (rest_at link s b d) state old new (told_text entries told))
-    → IfOk r (λ told. IsPlayLine link client (rest_at link source buffer delay) state old new (told_text entries told))
-line-drawn {s} {b} {d} {source} {buffer} {delay} r link client state old new entries es eb ed is =
+-- the source, the buffer and the delay that were drawn
+pub record SameDraws (s b d source buffer delay : ℕ) : Type 0 where
+  pub sources_are : s ≡ source
+  pub buffers_are : b ≡ buffer
+  pub delays_are : d ≡ delay
+
+pub line-drawn : {s b d source buffer delay : ℕ} (r : Result Told NoMemory) (asks : ClientAsks) (state : ClientState)
+    → SameDraws s b d source buffer delay
+    → IfOk r (λ told. IsPlayLine asks.link asks.client (rest_at asks.link s b d) state asks.old asks.new (told_text asks.entries told))
+    → IfOk r (λ told. IsPlayLine asks.link asks.client (rest_at asks.link source buffer delay) state asks.old asks.new (told_text asks.entries told))
+line-drawn {s} {b} {d} {source} {buffer} {delay} r asks state draws is =
     let P : Rest → Type 0 = λ rest. IfOk r (λ told. IsPlayLine link client rest state old new (told_text entries told)) in
     let e : rest_at link s b d ≡ rest_at link source buffer delay =
     ap (λ k. rest_at link k b d) es ∙ ap (λ k. rest_at link source k d) eb ∙ ap (rest_at link source buffer) ed in
     subst P e is
+  where
+    open draws use {sources_are as es, buffers_are as eb, delays_are as ed}
+    open asks use {link, client, old, new, entries}
 
 -- no words are drawn
 none-left : (w : ℕ → ℕ) (n : ℕ) → n ≡ 0 → w ≡ after n w

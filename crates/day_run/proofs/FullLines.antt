@@ -1,5 +1,5 @@
 -- Which of the texts that clients are told say that the journal is full.
-use Rattle.std.proofs.Common.{◌≡◌, ◌<◌, ◌+◌, ◌^◌, ℕ, true, false, ◌&&◌, ◌==◌, List, [], ◌∷◌, ◌++◌, take, length, arith, refl, ap, inl, inr}
+use Rattle.std.proofs.Common.{◌≡◌, ◌<◌, ◌+◌, ◌^◌, ℕ, true, false, ◌&&◌, ◌==◌, List, [], ◌∷◌, ◌++◌, take, length, arith, refl, ap, ◌∙◌, inl, inr, append_assoc}
 use Rattle.std.specs.Prelude.{codes, decimal}
 use Rattle.std.specs.Str.{bytes_eq}
 use Rattle.std.proofs.lemmas.Bool.{cases_Bool, eqb-true}
@@ -22,16 +22,24 @@ digit-other c digit = elim (cases_Bool (c == 114)) [
   | inr other ↦ other
 ]
 
-digits-other : (ds a b c d e : List ℕ) → 0 < length ds → AllDigits 10 ds → is_full_line (((((ds ++ a) ++ b) ++ c) ++ d) ++ e) ≡ false
-digits-other [] a b c d e some digits = absurd (omega (arith, some))
-digits-other (x ∷ ds) a b c d e some digits =
+digits-other : (ds rest : List ℕ) → 0 < length ds → AllDigits 10 ds → is_full_line (ds ++ rest) ≡ false
+digits-other [] rest some digits = absurd (omega (arith, some))
+digits-other (x ∷ ds) rest some digits =
     let digit = digit_from_value x digits.0 in
-    ap (λ r. r && bytes_eq (take 14 (((((ds ++ a) ++ b) ++ c) ++ d) ++ e)) (codes "efused journal")) (digit-other x (omega (arith, digit)))
+    ap (λ r. r && bytes_eq (take 14 (ds ++ rest)) (codes "efused journal")) (digit-other x (omega (arith, digit)))
 
 pub entry-other : (place : ℕ) (entry : Entry) (rest : List ℕ) → place < 2 ^ 64 → is_full_line (entry_line place entry ++ rest) ≡ false
 entry-other place entry rest small =
     let numeral = (decimal_is_IsNumeral place small).0 in
-    digits-other (decimal place) (field (codes " seat=") entry.maker) (command_words entry.command) (answer_words entry.answer) (codes "\n") rest numeral.0 numeral.1
+    let number = decimal place in
+    let seat = field (codes " seat=") entry.maker in
+    let command = command_words entry.command in
+    let answer = answer_words entry.answer in
+    let end = codes "\n" in
+    let parts : ((((number ++ seat) ++ command) ++ answer) ++ end) ++ rest ≡ number ++ (seat ++ (command ++ (answer ++ (end ++ rest)))) =
+    append_assoc (((number ++ seat) ++ command) ++ answer) end rest ∙ append_assoc ((number ++ seat) ++ command) answer (end ++ rest)
+    ∙ append_assoc (number ++ seat) command (answer ++ (end ++ rest)) ∙ append_assoc number seat (command ++ (answer ++ (end ++ rest))) in
+    ap is_full_line parts ∙ digits-other number (seat ++ (command ++ (answer ++ (end ++ rest)))) numeral.0 numeral.1
 
 pub entries-other : (place : ℕ) (entries : List Entry) → place < 2 ^ 64 → is_full_line (journal_text place entries) ≡ false
 entries-other place [] small = refl

@@ -1,3 +1,4 @@
+pub mod Takings
 pub mod Cuts
 pub mod Quiet
 pub mod ReadLines

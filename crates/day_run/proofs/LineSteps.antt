@@ -29,6 +29,7 @@ use Rattle.day_run.specs.Prints.{full_text, state_text}
 use Rattle.day_run.specs.Runners.{IsPrinted, told_text}
 use Rattle.day_run.specs.ClientStates.{Idle, Playing, Pausing, Paused, Rest, ClientState, after_sending, is_busy}
 use Rattle.day_run.proofs.Sweeps.{state-at, states-set}
+use Rattle.day_run.proofs.Takings.{ClientAsks}
 use Rattle.day_run.proofs.Timings.{done-sent}
 
 -- the entries after those of a moment
@@ -50,11 +51,17 @@ told-full {old} {new} full above entries opened kept = record {
   };
 }
 
+-- an entry was made: its place, and the day after it
+pub record EntryMade (old new : Moment) (place : ℕ) (e : Entry) (states : List ClientState) : Type 0 where
+  pub place_is : place ≡ length old.entries
+  pub entries_are : new.entries ≡ old.entries ++ e ∷ []
+  pub states_are : new.states ≡ states
+  pub heard_is : new.heard ≡ old.heard
+
 -- an entry was made
 pub noted : {link : Link} {old new : Moment} {place : ℕ} {e : Entry} {states : List ClientState} → IsAnswered link.steps (state_after old.entries) e
-    → place ≡ length old.entries → new.entries ≡ old.entries ++ e ∷ [] → new.states ≡ states → new.heard ≡ old.heard
-    → IsNoted link e states old new (told_text new.entries (tolds.Entry place))
-noted {old} {new} {place} {e} {states} answered at y s h = record {
+    → EntryMade old new place e states → IsNoted link e states old new (told_text new.entries (tolds.Entry place))
+noted {old} {new} {place} {e} {states} answered made = record {
   answered = answered;
   new_is =
       ap (λ es. record { entries = es; states = new.states; heard = new.heard }) y
@@ -62,47 +69,64 @@ noted {old} {new} {place} {e} {states} answered at y s h = record {
       ∙ ap (λ n. record { entries = old.entries ++ e ∷ []; states = states; heard = n }) h;
   text_is = told-entry place old.entries new.entries e at y;
 }
+  where
+    open made use {place_is as at, entries_are as y, states_are as s, heard_is as h}
+
+-- the entry of a client's halt
+pub record HaltEntry (c number keep : ℕ) (e : Entry) : Type 0 where
+  pub maker : e.maker ≡ c
+  pub answer : e.answer ≡ Halted
+  pub command : e.command ≡ commands.Halt number keep
 
 -- the entry of a halt was made
-pub noted-halt : (link : Link) (old new : Moment) (place c number keep : ℕ) (e : Entry) {states : List ClientState} → IsAnswered link.steps (state_after old.entries) e
-    → place ≡ length old.entries → new.entries ≡ old.entries ++ e ∷ [] → new.states ≡ states → new.heard ≡ old.heard
-    → e.maker ≡ c → e.answer ≡ Halted → e.command ≡ commands.Halt number keep
+pub noted-halt : {link : Link} {old new : Moment} {place c number keep : ℕ} {e : Entry} {states : List ClientState}
+    → IsAnswered link.steps (state_after old.entries) e → EntryMade old new place e states → HaltEntry c number keep e
     → IsNoted link (entry_by c (commands.Halt number keep) Halted) states old new (told_text new.entries (tolds.Entry place))
-noted-halt link old new place c number keep e {states} answered at y s h maker answer command =
+noted-halt {link} {old} {new} {place} {c} {number} {keep} {e} {states} answered made entry =
     let same : e ≡ entry_by c (commands.Halt number keep) Halted =
     ap (λ n. record { maker = n; command = e.command; answer = e.answer }) maker ∙ ap (λ x. record { maker = c; command = x; answer = e.answer }) command
     ∙ ap (λ a. entry_by c (commands.Halt number keep) a) answer in
     let N : Entry → Type 0 = λ x. IsNoted link x states old new (told_text new.entries (tolds.Entry place)) in
-    subst N same (noted answered at y s h)
+    subst N same (noted answered made)
+  where
+    open entry use {maker, answer, command}
 
 -- the entry of a play was made
 pub noted-play : {link : Link} {old new : Moment} {place c slot maker : ℕ} {states : List ClientState} (plan : List Segment)
     (answer : Answer) → slot ≡ old.heard → maker ≡ c
-    → IsAnswered link.steps (state_after old.entries) (entry_by maker (commands.Play slot plan) answer) → place ≡ length old.entries
-    → new.entries ≡ old.entries ++ entry_by maker (commands.Play slot plan) answer ∷ [] → new.states ≡ states → new.heard ≡ old.heard
+    → IsAnswered link.steps (state_after old.entries) (entry_by maker (commands.Play slot plan) answer)
+    → EntryMade old new place (entry_by maker (commands.Play slot plan) answer) states
     → IsNoted link (entry_by c (commands.Play old.heard plan) answer) states old new (told_text new.entries (tolds.Entry place))
-noted-play {link} {old} {new} {place} {c} {slot} {maker} {states} plan answer late own answered at y s h =
+noted-play {link} {old} {new} {place} {c} {slot} {maker} {states} plan answer late own answered made =
     let N : Entry → Type 0 = λ x. IsNoted link x states old new (told_text new.entries (tolds.Entry place)) in
     let same : entry_by maker (commands.Play slot plan) answer ≡ entry_by c (commands.Play old.heard plan) answer =
     ap (λ n. entry_by n (commands.Play slot plan) answer) own ∙ ap (λ n. entry_by c (commands.Play n plan) answer) late in
-    subst N same (noted answered at y s h)
+    subst N same (noted answered made)
+
+-- a play that was begun: its number, what was to be sent, its plan, and its first slot
+pub record PlayBegun (number : ℕ) (rest : ClientRest) (plan : List Segment) (start : ℕ) (play : ClientPlay)
+    : Type 0 where
+  pub number_is : play.number ≡ number
+  pub rest_is : play.rest ≡ rest
+  pub plan_is : play.plan ≡ plan
+  pub start_is : play.pacer.start ≡ start
 
 -- a play in the words of a day
-pub play-is : {number : ℕ} {rest : ClientRest} {plan : List Segment} {start : ℕ} (play : ClientPlay) → play.number ≡ number → play.rest ≡ rest
-    → play.plan ≡ plan → play.pacer.start ≡ start → play_of play ≡ record { number = number; rest = rest_of rest; plan = plan; start = start }
-play-is {number} {rest} {plan} {start} play n r p s =
-    ap (λ x. record { number = x; rest = rest_of play.rest; plan = play.plan; start = play.pacer.start }) n
-    ∙ ap (λ x. record { number = number; rest = rest_of x; plan = play.plan; start = play.pacer.start }) r
-    ∙ ap (λ x. record { number = number; rest = rest_of rest; plan = x; start = play.pacer.start }) p
-    ∙ ap (λ x. record { number = number; rest = rest_of rest; plan = plan; start = x }) s
+pub play-is : {number : ℕ} {rest : ClientRest} {plan : List Segment} {start : ℕ} (play : ClientPlay)
+    → PlayBegun number rest plan start play
+    → play_of play ≡ record { number = number; rest = rest_of rest; plan = plan; start = start }
+play-is {number} {rest} {plan} {start} play begun =
+    ap (λ x. record { number = x; rest = rest_of play.rest; plan = play.plan; start = play.pacer.start }) begun.number_is
+    ∙ ap (λ x. record { number = number; rest = rest_of x; plan = play.plan; start = play.pacer.start }) begun.rest_is
+    ∙ ap (λ x. record { number = number; rest = rest_of rest; plan = x; start = play.pacer.start }) begun.plan_is
+    ∙ ap (λ x. record { number = number; rest = rest_of rest; plan = plan; start = x }) begun.start_is
 
 -- the clients after a play's answer
-pub states-played : {number : ℕ} {rest : ClientRest} {plan : List Segment} {start : ℕ} {answer : Answer}
-    (cs : List Client) (c : ℕ) (play : ClientPlay)
-    → answer ≡ Admitted start → play.number ≡ number → play.rest ≡ rest → play.plan ≡ plan → play.pacer.start ≡ start
+pub states-played : {number : ℕ} {rest : ClientRest} {plan : List Segment} {start : ℕ} {answer : Answer} (cs : List Client) (c : ℕ)
+    (play : ClientPlay) → answer ≡ Admitted start → PlayBegun number rest plan start play
     → map state_of (set cs c (clients.Playing play)) ≡ with_play c (rest_of rest) plan number answer (map state_of cs)
-states-played {number} {rest} {plan} {start} cs c play is n r p s =
-    states-set cs c (clients.Playing play) ∙ ap (λ x. set (map state_of cs) c (Playing x)) (play-is play n r p s)
+states-played {number} {rest} {plan} {start} cs c play is begun =
+    states-set cs c (clients.Playing play) ∙ ap (λ x. set (map state_of cs) c (Playing x)) (play-is play begun)
     ∙ ap (λ a. with_play c (rest_of rest) plan number a (map state_of cs)) (sym is)
 
 pub states-same : {states : List ClientState} (c : ℕ) (rest : Rest) (plan : List Segment) (number : ℕ) (answer : Answer) → is_admission answer ≡ false
@@ -112,15 +136,21 @@ states-same c rest plan number (Overflow over booked asked) not = refl
 states-same c rest plan number Halted not = refl
 states-same c rest plan number (Looked now at booked) not = refl
 
+-- a play was admitted after the slot that was heard
+pub record PlayAdmitted (slot start heard : ℕ) (answer : Answer) (steps : List CapStep) (state : State) (plan : List Segment)
+    : Type 0 where
+  pub is : answer ≡ Admitted start
+  pub answered : IsAnswer steps state (commands.Play slot plan) answer
+  pub late : slot ≡ heard
+
 -- a play that was admitted hasn't come to its first slot
-pub begun-timed : {slot start heard : ℕ} {answer : Answer} (steps : List CapStep) (state : State) (play : ClientPlay)
-    (plan : List Segment) → answer ≡ Admitted start
-    → IsAnswer steps state (commands.Play slot plan) answer → slot ≡ heard → play.pacer.start ≡ start → play.pacer.passed ≡ 0
+pub begun-timed : {slot start heard : ℕ} {answer : Answer} {steps : List CapStep} {state : State} {plan : List Segment}
+    (play : ClientPlay) → PlayAdmitted slot start heard answer steps state plan → play.pacer.start ≡ start → play.pacer.passed ≡ 0
     → IsTimed heard (clients.Playing play)
-begun-timed {slot} {start} steps state play plan is answered late at begun =
+begun-timed {slot} {start} {steps} {state} {plan} play admitted at begun =
     let A : Answer → Type 0 = λ a. IsAnswer steps state (commands.Play slot plan) a in
-    let its = subst A is answered in
-    omega (arith, its.0, late, at, begun)
+    let its = subst A admitted.is admitted.answered in
+    omega (arith, its.0, admitted.late, at, begun)
 
 -- a client pauses
 pub pause-line : {link : Link} {c : ℕ} {halt : Halt} {old new : Moment} {text : List ℕ} (client next : Client) → IsPauseOf old.heard halt client next
@@ -162,13 +192,13 @@ play-asked {link} {c} {one} {own} {state} {old} {new} {text} r s free asked =
     let S : ClientState → Type 0 = λ x. IsPlayLine link c one x old new text in
     subst R r (subst S s (play-line own free asked))
 
-pub play-ok : {one rest : Rest} {own state : ClientState} (r : Result Told NoMemory) (link : Link) (c : ℕ) (old new : Moment)
-    (entries : List Entry) → one ≡ rest → own ≡ state
-    → is_busy own ≡ false → IfOk r (λ told. IsAsked link c one old new (told_text entries told))
-    → IfOk r (λ told. IsPlayLine link c rest state old new (told_text entries told))
-play-ok {one} (Ok told) link c old new entries r s free asked =
+pub play-ok : {one rest : Rest} {own state : ClientState} (r : Result Told NoMemory) (asks : ClientAsks) → one ≡ rest
+    → own ≡ state → is_busy own ≡ false
+    → IfOk r (λ told. IsAsked asks.link asks.client one asks.old asks.new (told_text asks.entries told))
+    → IfOk r (λ told. IsPlayLine asks.link asks.client rest state asks.old asks.new (told_text asks.entries told))
+play-ok {one} (Ok told) asks r s free asked =
     play-asked r s free asked
-play-ok {one} (Err e) link c old new entries r s free asked = tt
+play-ok {one} (Err e) asks r s free asked = tt
 
 -- a line's text was printed
 pub printed : {text : List ℕ} (r : Result (Unit {0}) NoMemory) (before after : List ℕ) (Is : List ℕ → Type 0) → Is text → OnOk r (after ≡ before ++ text)

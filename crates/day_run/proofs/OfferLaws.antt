@@ -25,10 +25,20 @@ start-least {booked} {capacity} {plan} {first} {tried} wait (Some start) refusal
   λ earlier begun before room. no_room_tried refusals begun (omega (arith, is.1, before)) room,
 )
 
-start-count : (booked capacity : ℕ → ℕ) (plan : List Segment) (first wait count : ℕ) (start : Option ℕ) → IsStart 0 booked capacity plan first wait count start
-    → IsCount first (first + wait) start count
-start-count booked capacity plan first wait count None is = omega (arith, is)
-start-count booked capacity plan first wait count (Some start) is = sym is.1
+-- a search for a start: what is booked, the capacity, the plan, and how far it has come
+record StartSearch : Type 0 where
+  pub booked : ℕ → ℕ
+  pub capacity : ℕ → ℕ
+  pub plan : List Segment
+  pub first : ℕ
+  pub wait : ℕ
+  pub count : ℕ
+
+start-count : (query : StartSearch) (start : Option ℕ)
+    → IsStart 0 query.booked query.capacity query.plan query.first query.wait query.count start
+    → IsCount query.first (query.first + query.wait) start query.count
+start-count query None is = omega (arith, is)
+start-count query (Some start) is = sym is.1
 
 pub offer-told : {link : Link} {rest : Rest} {wait : ℕ} {old new : Moment} {text : List ℕ} → IsOfferLine link rest wait old new text
     → IsFaulty rest old new text ⊎ IsOfferTold link rest wait old text
@@ -50,7 +60,14 @@ offer-told {link} {wait} {old} {new} {text} (inr offered) =
       start = found.start;
       least = start-least wait found.start refusals start;
       tried = found.tried;
-      count = start-count booked capacity plan first wait (length found.tried) found.start start;
+      count = start-count (record {
+        booked = booked;
+        capacity = capacity;
+        plan = plan;
+        first = first;
+        wait = wait;
+        count = length found.tried;
+      }) found.start start;
       each = λ i none inside.
           let O : ℕ → Type 0 = λ s. IsFirstOverflow 0 booked capacity s plan (get_or found.tried i none).over in
           record { start_is = refusals.starts i none inside; over = subst O (refusals.starts i none inside) (refusals.refused i none inside) };

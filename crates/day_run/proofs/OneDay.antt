@@ -1,5 +1,5 @@
 -- A script has one day.
-use Rattle.std.proofs.Common.{◌≡◌, ◌<◌, ◌≤◌, ◌+◌, ℕ, zero, suc, max, List, [], ◌∷◌, ◌++◌, length, take, set, get_or, arith, refl, sym, ap, subst, ◌∙◌, inl, inr}
+use Rattle.std.proofs.Common.{◌≡◌, ◌<◌, ◌≤◌, ◌+◌, ℕ, max, List, [], ◌∷◌, ◌++◌, length, set, arith, refl, sym, ap, subst, ◌∙◌, inl, inr}
 use Rattle.wire_curve.proofs.Exact.{HasFault-unique}
 use Rattle.std.specs.Prelude.{flat_map, ◌⊎◌}
 use Rattle.std.proofs.lemmas.Bool.{cases_lt}
@@ -25,15 +25,15 @@ use Rattle.admission.specs.Machine.{booked_in}
 use Rattle.admission.proofs.Once.{answer-once}
 use Rattle.day_run.specs.declared.scripts.Line.{Line}
 use Rattle.day_run.specs.declared.scripts.Line.TheVariants as lines
-use Rattle.day_run.specs.DayLaws.{AreClients, IsClient, IsLink, IsSoundRest, IsSoundClient}
+use Rattle.day_run.specs.DayLaws.{AreClients, IsLink, IsSoundRest, IsSoundClient}
 use Rattle.day_run.specs.Days.{AreRun, IsAnsweredPlay, IsAsked, IsDay, IsFaulty, IsFull, IsHaltedPlay, IsLine, IsLookLine, IsNoted, IsOfferLine, IsPauseLine, IsPlayLine, IsResumeLine, IsTold, Link, Moment, entry_by, last_journal, last_lines, first_moment, rest_at, state_at, with_play}
 use Rattle.day_run.specs.Prints.{fault_text, offer_text}
 use Rattle.report.specs.EntryLines.{entry_line}
-use Rattle.day_run.specs.Scripts.{AreLines, StandsAfter, slot_after}
+use Rattle.day_run.specs.Scripts.{AreLines}
 use Rattle.day_run.specs.ClientStates.{Idle, Playing, Pausing, Paused, Play, Rest, ClientState, pausing_state, slot_sent}
-use Rattle.day_run.proofs.BalancedLines.{heard-after, morning-ready, stands-rest}
-use Rattle.std.specs.List.{fold}
+use Rattle.day_run.proofs.BalancedLines.{heard-after, morning-ready}
 use Rattle.day_run.proofs.SoundClients.{IsSound, idle-sound, line-sound, whole-sound}
+use Rattle.day_run.proofs.Takings.{LineStep, StandingLine, StandingLines, first-standing, rest-standing}
 
 -- ---- one fault, one plan
 fault-apart : (sizes : List ℕ) (timing : Timing) (fault : CurveFault) → HasFault sizes timing fault → IsAccepted sizes timing → ⊥
@@ -92,19 +92,28 @@ one-asked {link} {c} {rest} {old} {new} {text} own (inr a) (inr b) =
     let D : List Segment → Type 0 = λ p. IsFull link 2 old new text ⊎ IsAnsweredPlay link c rest p old new text in
     one-planned (subst D same a.done) b.done
 
-one-play : {rest : Rest} {new new' : Moment} {text text' : List ℕ} (link : Link) (c : ℕ) (state : ClientState) (old : Moment) → (0 < length (rest_sizes rest.sizes rest.run) → IsSoundRest rest)
-    → IsPlayLine link c rest state old new text → IsPlayLine link c rest state old new' text' → IsOne new new' text text'
-one-play {new} {text} link c Idle old own a b = one-asked own a b
-one-play {new} {text} link c (Playing play) old own a b = one-told a b
-one-play {new} {text} link c (Pausing stop left) old own a b = one-told a b
-one-play {new} {text} link c (Paused left) old own a b = one-asked own a b
+-- a client that asks for something at a moment
+record Asker : Type 0 where
+  pub link : Link
+  pub c : ℕ
+  pub old : Moment
 
-one-resume : {new new' : Moment} {text text' : List ℕ} (link : Link) (c : ℕ) (state : ClientState) (old : Moment) → IsSoundClient old.heard state
-    → IsResumeLine link c state old new text → IsResumeLine link c state old new' text' → IsOne new new' text text'
-one-resume {new} {text} link c Idle old own a b = one-told a b
-one-resume {new} {text} link c (Playing play) old own a b = one-told a b
-one-resume {new} {text} link c (Pausing stop rest) old own a b = one-told a b
-one-resume {new} {text} link c (Paused rest) old own a b = one-asked (λ some. own) a b
+one-play : {rest : Rest} {new new' : Moment} {text text' : List ℕ} (asker : Asker) (state : ClientState)
+    → (0 < length (rest_sizes rest.sizes rest.run) → IsSoundRest rest)
+    → IsPlayLine asker.link asker.c rest state asker.old new text
+    → IsPlayLine asker.link asker.c rest state asker.old new' text' → IsOne new new' text text'
+one-play {new} {text} asker Idle own a b = one-asked own a b
+one-play {new} {text} asker (Playing play) own a b = one-told a b
+one-play {new} {text} asker (Pausing stop left) own a b = one-told a b
+one-play {new} {text} asker (Paused left) own a b = one-asked own a b
+
+one-resume : {new new' : Moment} {text text' : List ℕ} (asker : Asker) (state : ClientState)
+    → IsSoundClient asker.old.heard state → IsResumeLine asker.link asker.c state asker.old new text
+    → IsResumeLine asker.link asker.c state asker.old new' text' → IsOne new new' text text'
+one-resume {new} {text} asker Idle own a b = one-told a b
+one-resume {new} {text} asker (Playing play) own a b = one-told a b
+one-resume {new} {text} asker (Pausing stop rest) own a b = one-told a b
+one-resume {new} {text} asker (Paused rest) own a b = one-asked (λ some. own) a b
 
 one-halted : {link : Link} {c : ℕ} {play : Play} {old new new' : Moment} {text text' : List ℕ} → IsHaltedPlay link c play old new text
     → IsHaltedPlay link c play old new' text' → IsOne new new' text text'
@@ -162,17 +171,18 @@ one-offer {link} {rest} {old} {new} {text} own (inr a) (inr b) =
     let T : Offers → Type 0 = λ f. IsTold (offer_text f) old new text in
     one-told (subst T found a.told) b.told
 
-one-line : {link : Link} {old new new' : Moment} {text text' : List ℕ} (line : Line) → IsLink link → IsClient line → StandsAfter old.heard (length link.reels) line
-    → IsSound old → IsLine link line old new text → IsLine link line old new' text' → IsOne new new' text text'
-one-line {link} {old} {new} {text} (lines.Play c source buffer delay) link-is client stands sound a b =
-    one-play link c (state_at old c) old (whole-sound link-is stands) a b
-one-line {link} {old} {new} {text} (lines.Pause c) link-is client stands sound a b = one-pause link c (state_at old c) old a b
-one-line {link} {old} {new} {text} (lines.Resume c) link-is client stands sound a b =
-    one-resume link c (state_at old c) old (sound.each c client) a b
-one-line {new} {text} (lines.Look slot) link-is client stands sound a b = one-look a b
-one-line {new} {text} (lines.Slot slot) link-is client stands sound a b = record { new_is = a.0 ∙ sym b.0; text_is = a.1 ∙ sym b.1 }
-one-line {new} {text} (lines.Offer c source buffer delay wait) link-is client stands sound a b =
-    one-offer (whole-sound link-is stands.0) a b
+one-line : {link : Link} {old new new' : Moment} {text text' : List ℕ} (line : Line) → IsLink link
+    → StandingLine old.heard (length link.reels) line → IsSound old → IsLine link line old new text
+    → IsLine link line old new' text' → IsOne new new' text text'
+one-line {link} {old} {new} {text} (lines.Play c source buffer delay) link-is standing sound a b =
+    one-play (record { link = link; c = c; old = old }) (state_at old c) (whole-sound link-is standing.stands) a b
+one-line {link} {old} {new} {text} (lines.Pause c) link-is standing sound a b = one-pause link c (state_at old c) old a b
+one-line {link} {old} {new} {text} (lines.Resume c) link-is standing sound a b =
+    one-resume (record { link = link; c = c; old = old }) (state_at old c) (sound.each c standing.client) a b
+one-line {new} {text} (lines.Look slot) link-is standing sound a b = one-look a b
+one-line {new} {text} (lines.Slot slot) link-is standing sound a b = record { new_is = a.0 ∙ sym b.0; text_is = a.1 ∙ sym b.1 }
+one-line {new} {text} (lines.Offer c source buffer delay wait) link-is standing sound a b =
+    one-offer (whole-sound link-is standing.stands.0) a b
 
 -- ---- a run of lines has one outcome
 pub record IsOneRun (new new' : Moment) (texts texts' : List (List ℕ)) : Type 0 where
@@ -180,29 +190,28 @@ pub record IsOneRun (new new' : Moment) (texts texts' : List (List ℕ)) : Type 
   pub texts_are : texts ≡ texts'
 
 one-run : {link : Link} {texts texts' : List (List ℕ)} {old new new' : Moment} (ls : List Line) → IsLink link
-    → ((i : ℕ) (none : Line) → i < length ls → IsClient (get_or ls i none))
-    → ((i : ℕ) (none : Line) → i < length ls → StandsAfter (fold slot_after old.heard (take i ls)) (length link.reels) (get_or ls i none))
-    → IsSound old → AreRun link ls texts old new → AreRun link ls texts' old new' → IsOneRun new new' texts texts'
-one-run {texts = []} {texts' = []} {new} [] link-is clients stands sound a b = record { new_is = a ∙ sym b; texts_are = refl }
-one-run {texts = t ∷ ts} {new} [] link-is clients stands sound a b = absurd a
-one-run {texts = []} {texts' = t ∷ ts} {new} [] link-is clients stands sound a b = absurd b
-one-run {texts = []} {new} (l ∷ ls) link-is clients stands sound a b = absurd a
-one-run {texts = t ∷ ts} {texts' = []} {new} (l ∷ ls) link-is clients stands sound a b = absurd b
-one-run {link} {texts = t ∷ ts} {texts' = t' ∷ ts'} {old} {new} {new'} (l ∷ ls) link-is clients stands sound a b =
-    let client = clients zero l (omega arith) in
-    let stand = stands zero l (omega arith) in
-    let one = one-line l link-is client stand sound a.1.0 b.1.0 in
-    let next = line-sound l t link-is client stand sound a.1.0 in
-    let H : ℕ → Type 0 = λ h. (i : ℕ) (none : Line) → i < length ls → StandsAfter (fold slot_after h (take i ls)) (length link.reels) (get_or ls i none) in
-    let after : H a.0.heard = subst H (sym (heard-after link l old a.0 t a.1.0)) (stands-rest l ls stands) in
+    → StandingLines old.heard (length link.reels) ls → IsSound old → AreRun link ls texts old new → AreRun link ls texts' old new'
+    → IsOneRun new new' texts texts'
+one-run {texts = []} {texts' = []} {new} [] link-is standing sound a b = record { new_is = a ∙ sym b; texts_are = refl }
+one-run {texts = t ∷ ts} {new} [] link-is standing sound a b = absurd a
+one-run {texts = []} {texts' = t ∷ ts} {new} [] link-is standing sound a b = absurd b
+one-run {texts = []} {new} (l ∷ ls) link-is standing sound a b = absurd a
+one-run {texts = t ∷ ts} {texts' = []} {new} (l ∷ ls) link-is standing sound a b = absurd b
+one-run {link} {texts = t ∷ ts} {texts' = t' ∷ ts'} {old} {new} {new'} (l ∷ ls) link-is standing sound a b =
+    let step : LineStep = record { link = link; old = old; new = a.0; text = t } in
+    let first = first-standing standing in
+    let one = one-line l link-is first sound a.1.0 b.1.0 in
+    let next = line-sound step l link-is first sound a.1.0 in
+    let after = rest-standing standing (heard-after step l a.1.0) in
     let R : Moment → Type 0 = λ m. AreRun link ls ts' m new' in
-    let rest = one-run {link = link} {texts = ts} {texts' = ts'} {old = a.0} {new = new} {new' = new'} ls link-is (λ i none inside. clients (suc i) none (omega (arith, inside))) after next a.1.1 (subst R (sym one.new_is) b.1.1) in
+    let rest = one-run {link = link} {texts = ts} {texts' = ts'} {old = a.0} {new = new} {new' = new'} ls link-is after next a.1.1 (subst R (sym one.new_is) b.1.1) in
     record { new_is = rest.new_is; texts_are = ap (λ x. x ∷ ts) one.text_is ∙ ap (λ xs. t' ∷ xs) rest.texts_are }
 
-pub one-day : (link : Link) (ls : List Line) (text text' : List ℕ) (journal journal' : List Entry) → IsLink link → AreClients ls → AreLines (length link.reels) ls
-    → IsDay link ls text journal → IsDay link ls text' journal' → (text ≡ text') × (journal ≡ journal')
-one-day link ls text text' journal journal' link-is clients are a b =
-    let one = one-run ls link-is clients.each are.each (record { ready = morning-ready; each = idle-sound }) a.run b.run in (
+pub one-day : {link : Link} {ls : List Line} {text text' : List ℕ} {journal journal' : List Entry} → IsLink link
+    → AreClients ls → AreLines (length link.reels) ls → IsDay link ls text journal → IsDay link ls text' journal'
+    → (text ≡ text') × (journal ≡ journal')
+one-day {ls} link-is clients are a b =
+    let one = one-run ls link-is (record { clients = clients.each; stands = are.each }) (record { ready = morning-ready; each = idle-sound }) a.run b.run in (
       a.text_is ∙ ap (λ ts. flat_map (λ (t : List ℕ). t) ts ++ last_lines a.evening) one.texts_are
           ∙ ap (λ m. flat_map (λ (t : List ℕ). t) b.texts ++ last_lines m) one.new_is ∙ sym b.text_is,
       a.journal_is ∙ ap last_journal one.new_is ∙ sym b.journal_is,

@@ -4,7 +4,6 @@ use Rattle.std.specs.Prelude.{sum_by}
 use Rattle.std.specs.List.{fold, range_with_len}
 use Rattle.std.proofs.lemmas.List.Sums.{sum_by-cons}
 use Rattle.film_make.specs.Generator.{after}
-use Rattle.plan_cert.specs.declared.Segment.{Segment}
 use Rattle.slot_calendar.specs.Plays.{booked_by}
 use Rattle.admission.specs.declared.entries.Answer.{Answer}
 use Rattle.admission.specs.declared.entries.Answer.TheVariants.{Admitted, Overflow, Halted, Looked}
@@ -17,13 +16,12 @@ use Rattle.day_run.specs.declared.scripts.Line.{Line}
 use Rattle.day_run.specs.declared.scripts.Line.TheVariants as lines
 use Rattle.day_run.specs.Balanced.{IsReady, share_of}
 use Rattle.day_run.specs.Clients.{after_open}
-use Rattle.day_run.specs.DayLaws.{AreClients, IsClient}
-use Rattle.day_run.specs.Days.{AreRun, IsAsked, IsHaltedPlay, IsLine, IsLookLine, IsOfferLine, IsPauseLine, IsPlayLine, IsResumeLine, Link, Moment, at_slot, entry_by, last_journal, first_moment, rest_at, state_at, with_play}
+use Rattle.day_run.specs.Days.{IsAsked, IsHaltedPlay, IsLine, IsLookLine, IsOfferLine, IsPauseLine, IsPlayLine, IsResumeLine, Link, Moment, at_slot, entry_by, last_journal, first_moment, rest_at, state_at, with_play}
 use Rattle.day_run.specs.FairDays.{AreTurns, IsDone, IsTurn, Turn, after_turn, at_later, client_of, turn_booked, turn_peak}
-use Rattle.day_run.specs.Scripts.{AreLines, StandsAfter}
 use Rattle.day_run.specs.ClientStates.{Idle, Playing, Pausing, Paused, Play, Rest, ClientState, booking_of, sent_by}
-use Rattle.day_run.proofs.BalancedSlots.{its-held, last-later, last-stays, play-stays, slot-stays, stays-halt}
-use Rattle.day_run.proofs.BalancedLines.{morning-ready, run-ready}
+use Rattle.day_run.proofs.BalancedSlots.{BegunPlay, its-held, last-later, last-stays, play-stays, slot-stays, stays-halt}
+use Rattle.day_run.proofs.BalancedLines.{morning-ready, taken-ready}
+use Rattle.day_run.proofs.Takings.{AskedPlay, ClientOf, LineStep, LinesTaken, NextTaken, StandingLine}
 use Rattle.day_run.proofs.FairLaws.{done-heard, later-heard, turn-ready, later-ready}
 use Rattle.day_run.proofs.SoundClients.{kept-most}
 use Rattle.day_run.proofs.Peaks.{peak-slots}
@@ -40,47 +38,55 @@ same-past : (old new : Moment) (e : Entry) (states : List ClientState) → new �
 same-past old new e states is same t past =
     ap (λ (m : Moment). booked_after m.entries t) is ∙ ap (λ hs. booked_by (map (λ (h : Held). h.play) hs) t) same
 
-answered-past : {new : Moment} (answer : Answer) (link : Link) (c : ℕ) (rest : Rest) (plan : List Segment)
-    (old : Moment)
-    → IsAnswered link.steps (state_after old.entries) (entry_by c (commands.Play old.heard plan) answer)
+answered-past : {new : Moment} (answer : Answer) (link : Link) (ask : AskedPlay) (old : Moment)
+    → IsAnswered link.steps (state_after old.entries) (entry_by ask.c (commands.Play old.heard ask.plan) answer)
     → new ≡ record {
-      entries = old.entries ++ entry_by c (commands.Play old.heard plan) answer ∷ [];
-      states = with_play c rest plan (length old.entries) answer old.states;
+      entries = old.entries ++ entry_by ask.c (commands.Play old.heard ask.plan) answer ∷ [];
+      states = with_play ask.c ask.rest ask.plan (length old.entries) answer old.states;
       heard = old.heard;
     } → Past old new
-answered-past {new} (Admitted start) link c rest plan old answered is = λ t past.
-    let e = entry_by c (commands.Play old.heard plan) (Admitted start) in
+answered-past {new} (Admitted start) link ask old answered is = λ t past.
+    let e = entry_by ask.c (commands.Play old.heard ask.plan) (Admitted start) in
     let early : old.heard < start = omega (arith, answered.0) in
+    let begun : BegunPlay old.entries = record {
+      e = e;
+      number = length old.entries;
+      start = start;
+      plan = ask.plan;
+      is = ap (λ (s : State). s.held) (state-push old.entries e);
+    } in
     ap (λ (m : Moment). booked_after m.entries t) is
-    ∙ play-stays old.entries e (length old.entries) start old.heard t plan early past (ap (λ (s : State). s.held) (state-push old.entries e))
-answered-past {new} (Overflow over booked asked) link c rest plan old answered is =
-    let e = entry_by c (commands.Play old.heard plan) (Overflow over booked asked) in
+    ∙ play-stays old.entries old.heard t begun early past
+answered-past {new} (Overflow over booked asked) link ask old answered is =
+    let e = entry_by ask.c (commands.Play old.heard ask.plan) (Overflow over booked asked) in
     same-past old new e old.states is (ap (λ (s : State). s.held) (state-push old.entries e))
-answered-past {new} Halted link c rest plan old answered is =
-    let e = entry_by c (commands.Play old.heard plan) Halted in
+answered-past {new} Halted link ask old answered is =
+    let e = entry_by ask.c (commands.Play old.heard ask.plan) Halted in
     same-past old new e old.states is (ap (λ (s : State). s.held) (state-push old.entries e))
-answered-past {new} (Looked now at booked) link c rest plan old answered is =
-    let e = entry_by c (commands.Play old.heard plan) (Looked now at booked) in
+answered-past {new} (Looked now at booked) link ask old answered is =
+    let e = entry_by ask.c (commands.Play old.heard ask.plan) (Looked now at booked) in
     same-past old new e old.states is (ap (λ (s : State). s.held) (state-push old.entries e))
 
 asked-past : {link : Link} {c : ℕ} {rest : Rest} {old new : Moment} {text : List ℕ} → IsAsked link c rest old new text → Past old new
 asked-past {c} {old} {new} {text} (inl faulty) = kept-past old new faulty.told.kept
 asked-past {link} {c} {rest} {old} {new} {text} (inr planned) = elim planned.done [
   | inl full ↦ kept-past old new full.told.kept
-  | inr made ↦ answered-past made.answer link c rest planned.plan old made.noted.answered made.noted.new_is
+  | inr made ↦ answered-past made.answer link (record { c = c; rest = rest; plan = planned.plan }) old made.noted.answered made.noted.new_is
 ]
 
-play-past : (link : Link) (c : ℕ) (rest : Rest) (state : ClientState) (old new : Moment) (text : List ℕ) → IsPlayLine link c rest state old new text → Past old new
-play-past link c rest Idle old new text is = asked-past is
-play-past link c rest (Playing play) old new text is = kept-past old new is.kept
-play-past link c rest (Pausing stop left) old new text is = kept-past old new is.kept
-play-past link c rest (Paused left) old new text is = asked-past is
+play-past : (step : LineStep) (c : ℕ) (rest : Rest) (state : ClientState)
+    → IsPlayLine step.link c rest state step.old step.new step.text → Past step.old step.new
+play-past step c rest Idle is = asked-past is
+play-past step c rest (Playing play) is = kept-past step.old step.new is.kept
+play-past step c rest (Pausing stop left) is = kept-past step.old step.new is.kept
+play-past step c rest (Paused left) is = asked-past is
 
-resume-past : (link : Link) (c : ℕ) (state : ClientState) (old new : Moment) (text : List ℕ) → IsResumeLine link c state old new text → Past old new
-resume-past link c Idle old new text is = kept-past old new is.kept
-resume-past link c (Playing play) old new text is = kept-past old new is.kept
-resume-past link c (Pausing stop rest) old new text is = kept-past old new is.kept
-resume-past link c (Paused rest) old new text is = asked-past is
+resume-past : (step : LineStep) (c : ℕ) (state : ClientState)
+    → IsResumeLine step.link c state step.old step.new step.text → Past step.old step.new
+resume-past step c Idle is = kept-past step.old step.new is.kept
+resume-past step c (Playing play) is = kept-past step.old step.new is.kept
+resume-past step c (Pausing stop rest) is = kept-past step.old step.new is.kept
+resume-past step c (Paused rest) is = asked-past is
 
 halted-past : {link : Link} {c : ℕ} {play : Play} {old new : Moment} {text : List ℕ} → c < 256 → get_or old.states c Idle ≡ Playing play → IsReady old
     → IsHaltedPlay link c play old new text → Past old new
@@ -88,14 +94,14 @@ halted-past {c} {play} {old} {new} {text} client at ready is t past =
     let held = its-held c (omega (arith, client, ready.count)) at ready.balanced in
     let most = kept-most old.entries play is.keep held is.noted.answered in
     let sent : sent_by (booking_of play) old.heard ≤ is.keep = omega (arith, is.pause.boundary.after) in
-    ap (λ (m : Moment). booked_after m.entries t) is.noted.new_is ∙ stays-halt old.entries c is.keep play held sent most t past
+    ap (λ (m : Moment). booked_after m.entries t) is.noted.new_is ∙ stays-halt old.entries c is.keep play held (record { sent = sent; most = most }) t past
 
-pause-past : {c : ℕ} {state : ClientState} {old : Moment} (link : Link) (new : Moment) (text : List ℕ) → c < 256 → get_or old.states c Idle ≡ state → IsReady old
-    → IsPauseLine link c state old new text → Past old new
-pause-past {c} {state = Idle} {old} link new text client at ready is = kept-past old new is.kept
-pause-past {c} {state = Playing play} link new text client at ready is = halted-past client at ready is
-pause-past {c} {state = Pausing stop rest} {old} link new text client at ready is = kept-past old new is.kept
-pause-past {c} {state = Paused rest} {old} link new text client at ready is = kept-past old new is.kept
+pause-past : {c : ℕ} {state : ClientState} (step : LineStep) → ClientOf step.old c state → IsReady step.old
+    → IsPauseLine step.link c state step.old step.new step.text → Past step.old step.new
+pause-past {c} {state = Idle} step own ready is = kept-past step.old step.new is.kept
+pause-past {c} {state = Playing play} step own ready is = halted-past own.client own.at ready is
+pause-past {c} {state = Pausing stop rest} step own ready is = kept-past step.old step.new is.kept
+pause-past {c} {state = Paused rest} step own ready is = kept-past step.old step.new is.kept
 
 look-past : (link : Link) (slot : ℕ) (old new : Moment) (text : List ℕ) → IsLookLine link slot old new text → Past old new
 look-past link slot old new text (inl full) = kept-past old new full.told.kept
@@ -111,38 +117,36 @@ offer-past : {link : Link} {rest : Rest} {wait : ℕ} {old new : Moment} {text :
 offer-past {old} {new} {text} (inl faulty) = kept-past old new faulty.told.kept
 offer-past {old} {new} {text} (inr offered) = kept-past old new offered.told.kept
 
-line-past : {old : Moment} (link : Link) (line : Line) (n : ℕ) (new : Moment) (text : List ℕ) → IsClient line → StandsAfter old.heard n line → IsReady old
-    → IsLine link line old new text → Past old new
-line-past {old} link (lines.Play c source buffer delay) n new text client stands ready is =
-    play-past link c (rest_at link source buffer delay) (state_at old c) old new text is
-line-past link (lines.Pause c) n new text client stands ready is = pause-past link new text client refl ready is
-line-past {old} link (lines.Resume c) n new text client stands ready is = resume-past link c (state_at old c) old new text is
-line-past {old} link (lines.Look slot) n new text client stands ready is = look-past link _ old new text is
-line-past {old} link (lines.Slot slot) n new text client stands ready is = λ t past.
-    ap (λ (m : Moment). booked_after m.entries t) is.0 ∙ slot-stays old slot t (omega (arith, stands.0)) (omega (arith, past, stands.0)) ready.balanced
-line-past link (lines.Offer c source buffer delay wait) n new text client stands ready is =
+line-past : {n : ℕ} (step : LineStep) (line : Line) → StandingLine step.old.heard n line → IsReady step.old
+    → IsLine step.link line step.old step.new step.text → Past step.old step.new
+line-past step (lines.Play c source buffer delay) standing ready is =
+    play-past step c (rest_at step.link source buffer delay) (state_at step.old c) is
+line-past step (lines.Pause c) standing ready is = pause-past step (record { client = standing.client; at = refl }) ready is
+line-past step (lines.Resume c) standing ready is = resume-past step c (state_at step.old c) is
+line-past step (lines.Look slot) standing ready is = look-past step.link _ step.old step.new step.text is
+line-past step (lines.Slot slot) standing ready is = λ t past.
+    ap (λ (m : Moment). booked_after m.entries t) is.0 ∙ slot-stays step.old slot t (omega (arith, standing.stands.0)) (omega (arith, past, standing.stands.0)) ready.balanced
+line-past step (lines.Offer c source buffer delay wait) standing ready is =
     offer-past is
 
-pub day-past : {n : ℕ} {ls : List Line} (link : Link) (texts : List (List ℕ)) (m new : Moment) (line : Line)
-    (text : List ℕ) (t : ℕ) → AreClients ls → AreLines n ls
-    → AreRun link ls texts first_moment m → IsClient line → StandsAfter m.heard n line → IsLine link line m new text → t ≤ m.heard
-    → booked_after new.entries t ≡ booked_after m.entries t
-day-past {n} {ls} link texts m new line text t clients are run client stands is past =
-    line-past link line n new text client stands (run-ready link n ls texts clients.each are.each run morning-ready) is t past
+pub day-past : {link : Link} {n : ℕ} (taken : LinesTaken link n) (next : NextTaken link n taken) (t : ℕ) → t ≤ taken.moment.heard
+    → booked_after next.new.entries t ≡ booked_after taken.moment.entries t
+day-past {link} taken next t past =
+    let step : LineStep = record { link = link; old = taken.moment; new = next.new; text = next.text } in
+    line-past step next.line next.standing (taken-ready taken) next.is t past
 
-pub end-past : {n : ℕ} {ls : List Line} (link : Link) (texts : List (List ℕ)) (m : Moment) (t : ℕ) → AreClients ls → AreLines n ls
-    → AreRun link ls texts first_moment m → t ≤ m.heard → booked_after (last_journal m) t ≡ booked_after m.entries t
-end-past {n} {ls} link texts m t clients are run past =
-    last-stays m t past (run-ready link n ls texts clients.each are.each run morning-ready).balanced
+pub end-past : {link : Link} {n : ℕ} (taken : LinesTaken link n) (t : ℕ) → t ≤ taken.moment.heard
+    → booked_after (last_journal taken.moment) t ≡ booked_after taken.moment.entries t
+end-past taken t past = last-stays taken.moment t past (taken-ready taken).balanced
 
 -- ---- the same of turns
-done-past : {c : ℕ} {state : ClientState} {old : Moment} (link : Link) (words : ℕ → ℕ) (new : Moment) (text : List ℕ) → c < 256 → IsReady old → get_or old.states c Idle ≡ state
-    → IsDone link words c state old new text → Past old new
-done-past {c} {state = Idle} {old} link words new text client ready at is =
-    play-past link c (rest_at link (words 0 % 16) (16384 + words 1 % 16384) (words 2 % 26)) (state_at old c) old new text is
-done-past {c} {state = Playing play} link words new text client ready at is = pause-past link new text client refl ready is
-done-past {c} {state = Pausing stop rest} {old} link words new text client ready at is = kept-past old new is.kept
-done-past {c} {state = Paused rest} {old} link words new text client ready at is = resume-past link c (state_at old c) old new text is
+done-past : {c : ℕ} {state : ClientState} (step : LineStep) (words : ℕ → ℕ) → ClientOf step.old c state
+    → IsReady step.old → IsDone step.link words c state step.old step.new step.text → Past step.old step.new
+done-past {c} {state = Idle} step words own ready is =
+    play-past step c (rest_at step.link (words 0 % 16) (16384 + words 1 % 16384) (words 2 % 26)) (state_at step.old c) is
+done-past {c} {state = Playing play} step words own ready is = pause-past step (record { client = own.client; at = refl }) ready is
+done-past {c} {state = Pausing stop rest} step words own ready is = kept-past step.old step.new is.kept
+done-past {c} {state = Paused rest} step words own ready is = resume-past step c (state_at step.old c) is
 
 -- a slot or none leaves what is booked up to it
 later-past : (old : Moment) (later t : ℕ) → IsReady old → t ≤ (at_later old later).heard → booked_after (at_later old later).entries t ≡ booked_after old.entries t
@@ -160,7 +164,8 @@ turn-past {link} {words} {turn} t is ready past =
     let mid : IsReady turn.mid = subst R (sym is.slot) (later-ready turn.old (words 0 % 4) ready) in
     let P : Moment → Type 0 = λ m. t ≤ m.heard → booked_after m.entries t ≡ booked_after turn.old.entries t in
     let to-mid : P turn.mid = subst P (sym is.slot) (later-past turn.old (words 0 % 4) t ready) in
-    done-past link (after 2 words) turn.new turn.text (omega arith) mid refl is.done t past ∙ to-mid past
+    done-past (record { link = link; old = turn.mid; new = turn.new; text = turn.text }) (after 2 words)
+    (record { client = omega arith; at = refl }) mid is.done t past ∙ to-mid past
 
 -- ---- sums and peaks over slots that join
 sum-same : (f g : ℕ → ℕ) (a n : ℕ) → ((t : ℕ) → t < a + n → f t ≡ g t) → sum_by f (range_with_len a n) ≡ sum_by g (range_with_len a n)
@@ -249,7 +254,8 @@ turns-past {turns = turn ∷ turns} {old} {booked} link words new run ready same
     let is = run.1.0 in
     let rest = turns-past {turns = turns} {old = turn.new} {booked = booked} link (after_turn words turn) new run.1.1 (turn-ready link words turn is begun) same in
     let from : turn.old.heard ≡ old.heard = ap (λ (m : Moment). m.heard) run.0 in
-    let mid : turn.new.heard ≡ turn.mid.heard = done-heard link (after 2 words) (client_of words) _ turn.mid turn.new turn.text is.done in
+    let mid : turn.new.heard ≡ turn.mid.heard =
+    done-heard (record { link = link; old = turn.mid; new = turn.new; text = turn.text }) (after 2 words) (client_of words) _ is.done in
     let M : Moment → Type 0 = λ m. turn.old.heard ≤ m.heard in
     let later : turn.old.heard ≤ turn.mid.heard = subst M (sym is.slot) (later-heard turn.old (words 0 % 4)) in
     let here : (t : ℕ) → t ≤ turn.mid.heard → booked t ≡ booked_after turn.old.entries t =
@@ -306,12 +312,11 @@ look-leaves link slot old new text (inr made) = (
   ap (λ (m : Moment). state_after m.entries) made.noted.new_is ∙ state-push old.entries (entry_by 0 (commands.Look _) made.answer),
 )
 
-pub offer-leaves : (link : Link) (client source buffer delay wait : ℕ) (old new : Moment) (text : List ℕ)
+pub offer-leaves : {link : Link} {wait : ℕ} {old new : Moment} {text : List ℕ} (client source buffer delay : ℕ)
     → IsLine link (lines.Offer client source buffer delay wait) old new text → new ≡ old
-offer-leaves link client source buffer delay wait old new text (inl faulty) = faulty.told.kept
-offer-leaves link client source buffer delay wait old new text (inr offered) = offered.told.kept
+offer-leaves client source buffer delay (inl faulty) = faulty.told.kept
+offer-leaves client source buffer delay (inr offered) = offered.told.kept
 
-pub end-later : {n : ℕ} {ls : List Line} (link : Link) (texts : List (List ℕ)) (m : Moment) (t : ℕ) → AreClients ls → AreLines n ls
-    → AreRun link ls texts first_moment m → m.heard < t → booked_after (last_journal m) t ≡ sum_by (share_of t) (map after_open m.states)
-end-later {n} {ls} link texts m t clients are run later =
-    last-later m t later (run-ready link n ls texts clients.each are.each run morning-ready).balanced
+pub end-later : {link : Link} {n : ℕ} (taken : LinesTaken link n) (t : ℕ) → taken.moment.heard < t
+    → booked_after (last_journal taken.moment) t ≡ sum_by (share_of t) (map after_open taken.moment.states)
+end-later taken t later = last-later taken.moment t later (taken-ready taken).balanced

@@ -5,13 +5,25 @@ use Rattle.std.specs.List.{range_with_len}
 use Rattle.std.proofs.lemmas.List.FromFn.{map-range_with_len_more}
 use Rattle.std.proofs.lemmas.List.Sums.{sum-map, sum_by_push}
 
-pub booked-more : (booked here slot from : ℕ) → from + 1 ≤ slot → booked ≤ (slot - (from + 1)) * 2 ^ 42 → here ≤ 2 ^ 42
-    → booked + here ≤ (slot + 1 - (from + 1)) * 2 ^ 42
-booked-more booked here slot from begun few small = omega arith
+-- what is booked in one slot more
+pub record SlotMore (booked here slot from : ℕ) : Type 0 where
+  pub begun : from + 1 ≤ slot
+  pub few : booked ≤ (slot - (from + 1)) * 2 ^ 42
+  pub small : here ≤ 2 ^ 42
 
-pub booked-fits : (booked here slot from end now : ℕ) → from + 1 ≤ slot → booked ≤ (slot - (from + 1)) * 2 ^ 42 → here ≤ 2 ^ 42 → slot < end + 1
-    → end ≤ now + 1048576 → now ≤ from → booked + here < 2 ^ 64
-booked-fits booked here slot from end now begun few small before ring first = omega arith
+pub booked-more : (booked here slot from : ℕ) → SlotMore booked here slot from
+    → booked + here ≤ (slot + 1 - (from + 1)) * 2 ^ 42
+booked-more booked here slot from more = omega arith
+
+-- the slots of a ring up to an end
+pub record RingSlots (slot from end now : ℕ) : Type 0 where
+  pub before : slot < end + 1
+  pub ring : end ≤ now + 1048576
+  pub first : now ≤ from
+
+pub booked-fits : {booked here slot from end now : ℕ} → SlotMore booked here slot from → RingSlots slot from end now
+    → booked + here < 2 ^ 64
+booked-fits more slots = omega arith
 
 -- the sum of one slot more
 pub sum-slots : (f : ℕ → ℕ) (a n : ℕ) → sum_by f (range_with_len a (n + 1)) ≡ sum_by f (range_with_len a n) + f (a + n)

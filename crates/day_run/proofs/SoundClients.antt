@@ -1,5 +1,5 @@
 -- What holds of the clients after each line.
-use Rattle.std.proofs.Common.{◌≡◌, ◌<◌, ◌≤◌, ◌+◌, ◌-◌, ◌==◌, ◌&&◌, ℕ, zero, suc, true, false, Bool, cond, nat_le, nat_lt, List, [], ◌∷◌, All, length, map, take, drop, set, get_or, sum, replicate, Option, Some, None, arith, refl, sym, ap, subst, ◌∙◌, inl, inr}
+use Rattle.std.proofs.Common.{◌≡◌, ◌<◌, ◌≤◌, ◌+◌, ◌-◌, ◌==◌, ◌&&◌, ℕ, true, false, Bool, cond, nat_le, nat_lt, List, [], ◌∷◌, All, length, map, take, drop, set, get_or, sum, replicate, Option, Some, None, arith, refl, sym, ap, subst, ◌∙◌, inl, inr}
 use Rattle.std.specs.Prelude.{IsSomeAnd, IsTrue}
 use Rattle.std.proofs.lemmas.Bool.{cases_eq, cases_lt, eqb-false, le-leb, ltb-false, ltb-true}
 use Rattle.std.proofs.lemmas.List.{get_or-map, get_or-replicate, get_or-set_other, get_or-set_same, length-map, length-take, take_all}
@@ -25,51 +25,63 @@ use Rattle.admission.specs.Machine.{CanHalt, Held, admitted_play, held_as}
 use Rattle.day_run.specs.declared.scripts.Line.{Line}
 use Rattle.day_run.specs.declared.scripts.Line.TheVariants as lines
 use Rattle.day_run.specs.Balanced.{AreHeldOf, IsHeld, IsReady}
-use Rattle.day_run.specs.DayLaws.{AreClients, IsClient, IsLink, IsSoundPlay, IsSoundRest, IsSoundClient}
+use Rattle.day_run.specs.DayLaws.{IsLink, IsSoundPlay, IsSoundRest, IsSoundClient}
 use Rattle.day_run.specs.Days.{AreRun, IsAsked, IsHaltedPlay, IsLine, IsLookLine, IsOfferLine, IsPauseLine, IsPlayLine, IsResumeLine, Link, Moment, at_slot, entry_by, first_moment, rest_at, state_at, with_play}
-use Rattle.day_run.specs.Scripts.{AreLines, IsWish, StandsAfter, slot_after}
+use Rattle.day_run.specs.Scripts.{IsWish}
 use Rattle.day_run.specs.ClientStates.{Idle, Playing, Pausing, Paused, IsPause, Play, Rest, ClientState, after_play, after_sending, booking_of, is_done, no_reel, sent_by, slot_sent}
-use Rattle.day_run.proofs.BalancedLines.{heard-after, line-ready, morning-ready, stands-rest}
-use Rattle.std.specs.List.{fold}
+use Rattle.day_run.proofs.BalancedLines.{heard-after, line-ready, morning-ready}
+use Rattle.day_run.proofs.Takings.{ClientOf, LineStep, LinesTaken, StandingLine, StandingLines, first-standing, rest-standing, standing_of}
 
 -- ---- what holds of the clients
 pub record IsSound (m : Moment) : Type 0 where
   pub ready : IsReady m
   pub each : (c : ℕ) → c < 256 → IsSoundClient m.heard (get_or m.states c Idle)
 
+abbrev AreStates : ℕ → List ClientState → Type 0
+AreStates heard states = (c : ℕ) → c < 256 → IsSoundClient heard (get_or states c Idle)
+
+-- a client of a day whose state is sound
+record SoundState (heard c : ℕ) (state : ClientState) : Type 0 where
+  client : c < 256
+  sound : IsSoundClient heard state
+
 -- the states but one stay
-set-sound : (heard c : ℕ) (states : List ClientState) (state : ClientState) → length states ≡ 256 → c < 256 → IsSoundClient heard state
-    → ((d : ℕ) → d < 256 → IsSoundClient heard (get_or states d Idle)) → (d : ℕ) → d < 256 → IsSoundClient heard (get_or (set states c state) d Idle)
-set-sound heard c states state count client own each d inside = elim (cases_eq d c) [
+set-sound : {heard c : ℕ} {state : ClientState} (states : List ClientState) → length states ≡ 256 → SoundState heard c state
+    → AreStates heard states → AreStates heard (set states c state)
+set-sound {heard} {c} {state} states count own each d inside = elim (cases_eq d c) [
   | inl same ↦
       let N : ℕ → Type 0 = λ n. IsSoundClient heard (get_or (set states c state) n Idle) in
       let S : ClientState → Type 0 = λ s. IsSoundClient heard s in
-      subst N (sym same) (subst S (sym (get_or-set_same states c state Idle (omega (arith, client, count)))) own)
+      subst N (sym same) (subst S (sym (get_or-set_same states c state Idle (omega (arith, own.client, count)))) own.sound)
   | inr other ↦
       let S : ClientState → Type 0 = λ s. IsSoundClient heard s in
       subst S (sym (get_or-set_other states c d state Idle other)) (each d inside)
 ]
-
-abbrev AreStates : ℕ → List ClientState → Type 0
-AreStates heard states = (c : ℕ) → c < 256 → IsSoundClient heard (get_or states c Idle)
 
 kept-states : (old new : Moment) → new ≡ old → AreStates old.heard old.states → AreStates new.heard new.states
 kept-states old new kept each =
     let M : Moment → Type 0 = λ m. AreStates m.heard m.states in
     subst M (sym kept) each
 
+-- a client asks for what can be sent, by its plan
+record SoundAsk (rest : Rest) (plan : List Segment) (c : ℕ) : Type 0 where
+  client : c < 256
+  rest_is : IsSoundRest rest
+  plan_is : IsPlanOf rest.sizes rest.playback rest.run plan
+
 -- ---- a play that begins
-answered-states : {rest : Rest} {plan : List Segment} {old : Moment} (answer : Answer) (link : Link) (c : ℕ) → c < 256 → IsSoundRest rest
-    → IsPlanOf rest.sizes rest.playback rest.run plan → IsSound old
-    → IsAnswered link.steps (state_after old.entries) (entry_by c (commands.Play old.heard plan) answer) → AreStates old.heard (with_play c rest plan (length old.entries) answer old.states)
-answered-states {rest} {plan} {old} (Admitted start) link c client own plan-is sound answer =
+answered-states : {rest : Rest} {plan : List Segment} {old : Moment} {c : ℕ} (answer : Answer) (link : Link)
+    → SoundAsk rest plan c → IsSound old
+    → IsAnswered link.steps (state_after old.entries) (entry_by c (commands.Play old.heard plan) answer)
+    → AreStates old.heard (with_play c rest plan (length old.entries) answer old.states)
+answered-states {rest} {plan} {old} {c} (Admitted start) link ask sound answer =
     let play : Play = record { number = length old.entries; rest = rest; plan = plan; start = start } in
     let early : old.heard < start = omega (arith, answer.0) in
-    set-sound old.heard c old.states (Playing play) sound.ready.count client
-    (record { rest = own; plan = plan-is; left = λ begun. absurd (omega (arith, begun, early)) }) sound.each
-answered-states (Overflow over booked asked) link c client own plan-is sound answer = sound.each
-answered-states Halted link c client own plan-is sound answer = sound.each
-answered-states (Looked now at booked) link c client own plan-is sound answer = sound.each
+    let own : IsSoundPlay old.heard play = record { rest = ask.rest_is; plan = ask.plan_is; left = λ begun. absurd (omega (arith, begun, early)) } in
+    set-sound old.states sound.ready.count (record { client = ask.client; sound = own }) sound.each
+answered-states (Overflow over booked asked) link ask sound answer = sound.each
+answered-states Halted link ask sound answer = sound.each
+answered-states (Looked now at booked) link ask sound answer = sound.each
 
 asked-states : {link : Link} {c : ℕ} {rest : Rest} {old new : Moment} {text : List ℕ} → c < 256 → (0 < length (rest_sizes rest.sizes rest.run) → IsSoundRest rest)
     → IsSound old → IsAsked link c rest old new text → AreStates new.heard new.states
@@ -79,7 +91,11 @@ asked-states {link} {c} {old} {new} {text} client own sound (inr planned) = elim
   | inr made ↦
       let M : Moment → Type 0 = λ m. AreStates m.heard m.states in
       subst M (sym made.noted.new_is)
-      (answered-states made.answer link c client (own planned.plan_is.accepted.some_picture) planned.plan_is sound made.noted.answered)
+      (answered-states {c = c} made.answer link (record {
+        client = client;
+        rest_is = own planned.plan_is.accepted.some_picture;
+        plan_is = planned.plan_is;
+      }) sound made.noted.answered)
 ]
 
 -- ---- a play that is halted
@@ -179,7 +195,7 @@ halted-states {c} {play} {old} {new} {text} client at sound is =
     let rest = left-sound own is.pause most in
     let state : IsSoundClient old.heard is.state = subst P (sym is.pause.state_is) (pausing-sound old.heard old.heard _ _ _ rest) in
     let M : Moment → Type 0 = λ m. AreStates m.heard m.states in
-    subst M (sym is.noted.new_is) (set-sound old.heard c old.states is.state sound.ready.count client state sound.each)
+    subst M (sym is.noted.new_is) (set-sound old.states sound.ready.count (record { client = client; sound = state }) sound.each)
 
 -- ---- a slot comes
 done-if : (slot : ℕ) (play : Play) (b : Bool) → is_done slot play ≡ b → IsSoundRest play.rest → IsPlanOf play.rest.sizes play.rest.playback play.rest.run play.plan
@@ -240,29 +256,30 @@ whole-sound {link} {source} {buffer} {delay} link-is wish some =
     }
 
 -- ---- each kind of line leaves the clients sound
-play-states : {c : ℕ} {rest : Rest} {old : Moment} (link : Link) (state : ClientState) (new : Moment) (text : List ℕ) → c < 256
-    → (0 < length (rest_sizes rest.sizes rest.run) → IsSoundRest rest) → IsSound old → IsPlayLine link c rest state old new text → AreStates new.heard new.states
-play-states {c} link Idle new text client own sound is = asked-states client own sound is
-play-states {c} {old} link (Playing play) new text client own sound is = kept-states old new is.kept sound.each
-play-states {c} {old} link (Pausing stop left) new text client own sound is = kept-states old new is.kept sound.each
-play-states {c} link (Paused left) new text client own sound is = asked-states client own sound is
+play-states : {c : ℕ} {rest : Rest} (step : LineStep) (state : ClientState) → c < 256
+    → (0 < length (rest_sizes rest.sizes rest.run) → IsSoundRest rest) → IsSound step.old
+    → IsPlayLine step.link c rest state step.old step.new step.text → AreStates step.new.heard step.new.states
+play-states {c} step Idle client own sound is = asked-states client own sound is
+play-states {c} step (Playing play) client own sound is = kept-states step.old step.new is.kept sound.each
+play-states {c} step (Pausing stop left) client own sound is = kept-states step.old step.new is.kept sound.each
+play-states {c} step (Paused left) client own sound is = asked-states client own sound is
 
-resume-states : {c : ℕ} {state : ClientState} {old : Moment} (link : Link) (new : Moment) (text : List ℕ) → c < 256 → get_or old.states c Idle ≡ state → IsSound old
-    → IsResumeLine link c state old new text → AreStates new.heard new.states
-resume-states {c} {state = Idle} {old} link new text client at sound is = kept-states old new is.kept sound.each
-resume-states {c} {state = Playing play} {old} link new text client at sound is = kept-states old new is.kept sound.each
-resume-states {c} {state = Pausing stop rest} {old} link new text client at sound is = kept-states old new is.kept sound.each
-resume-states {c} {state = Paused rest} {old} link new text client at sound is =
-    let P : ClientState → Type 0 = λ s. IsSoundClient old.heard s in
-    let own : IsSoundRest rest = subst P at (sound.each c client) in
-    asked-states client (λ some. own) sound is
+resume-states : {c : ℕ} {state : ClientState} (step : LineStep) → ClientOf step.old c state → IsSound step.old
+    → IsResumeLine step.link c state step.old step.new step.text → AreStates step.new.heard step.new.states
+resume-states {c} {state = Idle} step own sound is = kept-states step.old step.new is.kept sound.each
+resume-states {c} {state = Playing play} step own sound is = kept-states step.old step.new is.kept sound.each
+resume-states {c} {state = Pausing stop rest} step own sound is = kept-states step.old step.new is.kept sound.each
+resume-states {c} {state = Paused rest} step own sound is =
+    let P : ClientState → Type 0 = λ s. IsSoundClient step.old.heard s in
+    let sending : IsSoundRest rest = subst P own.at (sound.each c own.client) in
+    asked-states own.client (λ some. sending) sound is
 
-pause-states : {c : ℕ} {state : ClientState} {old : Moment} (link : Link) (new : Moment) (text : List ℕ) → c < 256 → get_or old.states c Idle ≡ state → IsSound old
-    → IsPauseLine link c state old new text → AreStates new.heard new.states
-pause-states {c} {state = Idle} {old} link new text client at sound is = kept-states old new is.kept sound.each
-pause-states {c} {state = Playing play} link new text client at sound is = halted-states client at sound is
-pause-states {c} {state = Pausing stop rest} {old} link new text client at sound is = kept-states old new is.kept sound.each
-pause-states {c} {state = Paused rest} {old} link new text client at sound is = kept-states old new is.kept sound.each
+pause-states : {c : ℕ} {state : ClientState} (step : LineStep) → ClientOf step.old c state → IsSound step.old
+    → IsPauseLine step.link c state step.old step.new step.text → AreStates step.new.heard step.new.states
+pause-states {c} {state = Idle} step own sound is = kept-states step.old step.new is.kept sound.each
+pause-states {c} {state = Playing play} step own sound is = halted-states own.client own.at sound is
+pause-states {c} {state = Pausing stop rest} step own sound is = kept-states step.old step.new is.kept sound.each
+pause-states {c} {state = Paused rest} step own sound is = kept-states step.old step.new is.kept sound.each
 
 look-states : {link : Link} {slot : ℕ} {old new : Moment} {text : List ℕ} → IsSound old → IsLookLine link slot old new text → AreStates new.heard new.states
 look-states {slot} {old} {new} {text} sound (inl full) = kept-states old new full.told.kept sound.each
@@ -275,48 +292,48 @@ offer-states {old} {new} {text} sound (inl faulty) = kept-states old new faulty.
 offer-states {old} {new} {text} sound (inr offered) = kept-states old new offered.told.kept sound.each
 
 -- ---- lines leave the clients sound
-line-states : {link : Link} {old : Moment} (line : Line) (new : Moment) (text : List ℕ) → IsLink link → IsClient line → StandsAfter old.heard (length link.reels) line
-    → IsSound old → IsLine link line old new text → AreStates new.heard new.states
-line-states {link} {old} (lines.Play c source buffer delay) new text link-is client stands sound is =
-    play-states link (state_at old c) new text client (whole-sound link-is stands) sound is
-line-states {link} (lines.Pause c) new text link-is client stands sound is = pause-states link new text client refl sound is
-line-states {link} (lines.Resume c) new text link-is client stands sound is = resume-states link new text client refl sound is
-line-states (lines.Look slot) new text link-is client stands sound is = look-states sound is
-line-states {old} (lines.Slot slot) new text link-is client stands sound is =
+line-states : (step : LineStep) (line : Line) → IsLink step.link
+    → StandingLine step.old.heard (length step.link.reels) line → IsSound step.old
+    → IsLine step.link line step.old step.new step.text → AreStates step.new.heard step.new.states
+line-states step (lines.Play c source buffer delay) link-is standing sound is =
+    play-states step (state_at step.old c) standing.client (whole-sound link-is standing.stands) sound is
+line-states step (lines.Pause c) link-is standing sound is = pause-states step (record { client = standing.client; at = refl }) sound is
+line-states step (lines.Resume c) link-is standing sound is = resume-states step (record { client = standing.client; at = refl }) sound is
+line-states step (lines.Look slot) link-is standing sound is = look-states sound is
+line-states step (lines.Slot slot) link-is standing sound is =
     let M : Moment → Type 0 = λ m. AreStates m.heard m.states in
-    subst M (sym is.0) (slot-states old slot sound)
-line-states (lines.Offer c source buffer delay wait) new text link-is client stands sound is =
+    subst M (sym is.0) (slot-states step.old slot sound)
+line-states step (lines.Offer c source buffer delay wait) link-is standing sound is =
     offer-states sound is
 
-pub line-sound : {link : Link} {old new : Moment} (line : Line) (text : List ℕ) → IsLink link → IsClient line → StandsAfter old.heard (length link.reels) line
-    → IsSound old → IsLine link line old new text → IsSound new
-line-sound {link} {new} line text link-is client stands sound is = record {
-  ready = line-ready link line (length link.reels) text client stands is sound.ready;
-  each = line-states line new text link-is client stands sound is;
+pub line-sound : (step : LineStep) (line : Line) → IsLink step.link
+    → StandingLine step.old.heard (length step.link.reels) line → IsSound step.old
+    → IsLine step.link line step.old step.new step.text → IsSound step.new
+line-sound step line link-is standing sound is = record {
+  ready = line-ready step line standing is sound.ready;
+  each = line-states step line link-is standing sound is;
 }
 
 -- after lines, all clients are sound
 run-sound : {link : Link} {old new : Moment} (ls : List Line) (texts : List (List ℕ)) → IsLink link
-    → ((i : ℕ) (none : Line) → i < length ls → IsClient (get_or ls i none))
-    → ((i : ℕ) (none : Line) → i < length ls → StandsAfter (fold slot_after old.heard (take i ls)) (length link.reels) (get_or ls i none))
-    → IsSound old → AreRun link ls texts old new → IsSound new
-run-sound {new} [] [] link-is clients stands sound run =
+    → StandingLines old.heard (length link.reels) ls → IsSound old → AreRun link ls texts old new → IsSound new
+run-sound {new} [] [] link-is standing sound run =
     let S : Moment → Type 0 = λ m. IsSound m in
     subst S (sym run) sound
-run-sound {new} [] (t ∷ ts) link-is clients stands sound run = absurd run
-run-sound {new} (l ∷ ls) [] link-is clients stands sound run = absurd run
-run-sound {link} {old} {new} (l ∷ ls) (t ∷ ts) link-is clients stands sound run =
-    let next = line-sound l t link-is (clients zero l (omega arith)) (stands zero l (omega arith)) sound run.1.0 in
-    let H : ℕ → Type 0 = λ h. (i : ℕ) (none : Line) → i < length ls → StandsAfter (fold slot_after h (take i ls)) (length link.reels) (get_or ls i none) in
-    let after : H run.0.heard = subst H (sym (heard-after link l old run.0 t run.1.0)) (stands-rest l ls stands) in
-    run-sound {link = link} {old = run.0} {new = new} ls ts link-is (λ i none inside. clients (suc i) none (omega (arith, inside))) after next run.1.1
+run-sound {new} [] (t ∷ ts) link-is standing sound run = absurd run
+run-sound {new} (l ∷ ls) [] link-is standing sound run = absurd run
+run-sound {link} {old} {new} (l ∷ ls) (t ∷ ts) link-is standing sound run =
+    let step : LineStep = record { link = link; old = old; new = run.0; text = t } in
+    let next = line-sound step l link-is (first-standing standing) sound run.1.0 in
+    run-sound {link = link} {old = run.0} {new = new} ls ts link-is (rest-standing standing (heard-after step l run.1.0)) next run.1.1
 
 pub idle-sound : AreStates 0 (replicate 256 Idle)
 idle-sound c client =
     let S : ClientState → Type 0 = λ s. IsSoundClient 0 s in
     subst S (sym (get_or-replicate 256 c Idle Idle client)) tt
 
-pub day-sound : (link : Link) (ls : List Line) (texts : List (List ℕ)) (m : Moment) (c : ℕ) → IsLink link → AreClients ls → AreLines (length link.reels) ls
-    → AreRun link ls texts first_moment m → c < 256 → IsSoundClient m.heard (state_at m c)
-day-sound link ls texts m c link-is clients are run inside =
-    (run-sound ls texts link-is clients.each are.each (record { ready = morning-ready; each = idle-sound }) run).each c inside
+pub day-sound : {link : Link} (taken : LinesTaken link (length link.reels)) (c : ℕ) → IsLink link → c < 256
+    → IsSoundClient taken.moment.heard (state_at taken.moment c)
+day-sound taken c link-is inside =
+    let morning : IsSound first_moment = record { ready = morning-ready; each = idle-sound } in
+    (run-sound taken.lines taken.texts link-is (standing_of taken) morning taken.run).each c inside

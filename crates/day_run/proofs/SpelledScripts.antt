@@ -193,16 +193,32 @@ names-at {source} names k next most inside at =
 abbrev read_so_far : List Name → List Line → ℕ → ℕ → Reading
 read_so_far names lines k slot = record { lines = lines; names = take k names; slot = slot }
 
-named-read : (names : List Name) (lines : List Line) (k slot source : ℕ) (line : ℕ → Line) → AreApart names → source ≤ k → k ≤ length names
-    → is_good_name (name_at names source).name ≡ true
-    → with_named (read_so_far names lines k slot) (name_at names source) line ≡ Some (read_so_far names (lines ++ line source ∷ []) (max k (source + 1)) slot)
-named-read names lines k slot source line apart next most good =
+-- lines that were read up to a slot, with so many of the names, which are apart
+pub record ReadSoFar : Type 0 where
+  pub names : List Name
+  pub lines : List Line
+  pub k : ℕ
+  pub slot : ℕ
+  pub apart : AreApart names
+  pub most : k ≤ length names
+
+-- what was read by then
+abbrev reading_of : ReadSoFar → Reading
+reading_of read = read_so_far read.names read.lines read.k read.slot
+
+named-read : (read : ReadSoFar) (source : ℕ) (line : ℕ → Line) → source ≤ read.k
+    → is_good_name (name_at read.names source).name ≡ true
+    → with_named (reading_of read) (name_at read.names source) line
+    ≡ Some (read_so_far read.names (read.lines ++ line source ∷ []) (max read.k (source + 1)) read.slot)
+named-read read source line next good =
     let name = name_at names source in
     let inside = no-name names source good in
     let at = source-at names k apart next most inside in
     cond-true (is_good_name name.name) _ None good
     ∙ ap (λ n. Some (record { lines = lines ++ line n ∷ []; names = with_name (take k names) name; slot = slot })) at
     ∙ ap (λ ns. Some (record { lines = lines ++ line source ∷ []; names = ns; slot = slot })) (names-at names k next most inside at)
+  where
+    open read use {names, lines, k, slot, apart, most}
 
 -- a verb's line has a byte
 line-some : (names : List Name) (line : Line) → 0 < length (line_text names line)
@@ -222,22 +238,22 @@ line-words r names (Slot slot) own = text-read r (codes "slot") (decimal slot �
 line-words r names (Offer client source buffer delay wait) own =
     text-read r (codes "offer") (asked_words (name_at names source) client buffer delay (decimal wait ∷ [])) (line-some names (Offer client source buffer delay wait)) (words-plain names (Offer client source buffer delay wait) own)
 
-line-back : {k : ℕ} (names : List Name) (lines : List Line) (heard : ℕ) (line : Line) → AreApart names → IsNextName k line → k ≤ length names → MayStand heard names line
-    → with_words (read_so_far names lines k heard) (words_of names line)
-    ≡ Some (read_so_far names (lines ++ line ∷ []) (names_after k line) (slot_after heard line))
-line-back {k} names lines heard (Play client source buffer delay) apart next most may =
-    let name = name_at names source in
+line-back : (read : ReadSoFar) (line : Line) → IsNextName read.k line → MayStand read.slot read.names line
+    → with_words (reading_of read) (words_of read.names line)
+    ≡ Some (read_so_far read.names (read.lines ++ line ∷ []) (names_after read.k line) (slot_after read.slot line))
+line-back read (Play client source buffer delay) next may =
+    let name = name_at read.names source in
     rw (asked-back name client buffer delay may)
-    (named-read names lines k heard source (λ s. Play client s buffer delay) apart next most may.good)
-line-back names lines heard (Pause client) apart next most may = rw (number-back 0 255 client (omega (arith, may)) (omega arith) may) refl
-line-back names lines heard (Resume client) apart next most may = rw (number-back 0 255 client (omega (arith, may)) (omega arith) may) refl
-line-back names lines heard (Look slot) apart next most may = rw (number-back 0 (2 ^ 62) slot (omega (arith, may)) (omega arith) may) refl
-line-back names lines heard (Slot slot) apart next most may =
-    rw (number-back 1 (2 ^ 62) slot (omega (arith, may.1)) (omega (arith, may.0)) may.1) (rw (lt-ltb heard slot may.0) refl)
-line-back {k} names lines heard (Offer client source buffer delay wait) apart next most may =
-    let name = name_at names source in
+    (named-read read source (λ s. Play client s buffer delay) next may.good)
+line-back read (Pause client) next may = rw (number-back 0 255 client (omega (arith, may)) (omega arith) may) refl
+line-back read (Resume client) next may = rw (number-back 0 255 client (omega (arith, may)) (omega arith) may) refl
+line-back read (Look slot) next may = rw (number-back 0 (2 ^ 62) slot (omega (arith, may)) (omega arith) may) refl
+line-back read (Slot slot) next may =
+    rw (number-back 1 (2 ^ 62) slot (omega (arith, may.1)) (omega (arith, may.0)) may.1) (rw (lt-ltb read.slot slot may.0) refl)
+line-back read (Offer client source buffer delay wait) next may =
+    let name = name_at read.names source in
     rw (asked-back name client buffer delay may.0) (rw (number-back 0 255 wait (omega (arith, may.1)) (omega arith) may.1)
-    (named-read names lines k heard source (λ s. Offer client s buffer delay wait) apart next most may.0.good))
+    (named-read read source (λ s. Offer client s buffer delay wait) next may.0.good))
 
 -- ---- lines
 count-after : (names : List Name) (k heard : ℕ) (line : Line) → MayStand heard names line → k ≤ length names → names_after k line ≤ length names
@@ -248,16 +264,27 @@ count-after names k heard (Look slot) may most = most
 count-after names k heard (Slot slot) may most = most
 count-after names k heard (Offer client source buffer delay wait) may most = omega (arith, most, no-name names source may.0.good)
 
-pub texts-read : {k : ℕ} (names : List Name) (before lines : List Line) (heard : ℕ) → AreApart names → k ≤ length names → AreStanding names k heard lines
-    → lines_read (read_so_far names before k heard) (map (line_text names) lines)
-    ≡ Some (read_so_far names (before ++ lines) (fold names_after k lines) (fold slot_after heard lines))
-texts-read {k} names before [] heard apart most standing = ap (λ ls. Some (read_so_far names ls k heard)) (sym (append-nil before))
-texts-read {k} names before (line ∷ lines) heard apart most standing =
-    let read = line-words (read_so_far names before k heard) names line (in-words heard names line standing.1)
-    ∙ line-back names before heard line apart standing.0 most standing.1 in
-    ap (option_and_then (λ next. lines_read next (map (line_text names) lines))) read
-    ∙ texts-read {k = names_after k line} names (before ++ line ∷ []) lines (slot_after heard line) apart (count-after names k heard line standing.1 most) standing.2
-    ∙ ap (λ ls. Some (read_so_far names ls (fold names_after (names_after k line) lines) (fold slot_after (slot_after heard line) lines))) (append_assoc before (line ∷ []) lines)
+pub texts-read : (read : ReadSoFar) (lines : List Line) → AreStanding read.names read.k read.slot lines
+    → lines_read (reading_of read) (map (line_text read.names) lines)
+    ≡ Some (read_so_far read.names (read.lines ++ lines) (fold names_after read.k lines) (fold slot_after read.slot lines))
+texts-read read [] standing = ap (λ ls. Some (read_so_far read.names ls read.k read.slot)) (sym (append-nil read.lines))
+texts-read read (line ∷ rest) standing =
+    let here = line-words (reading_of read) names line (in-words slot names line standing.1)
+    ∙ line-back read line standing.0 standing.1 in
+    let after : ReadSoFar = record {
+      names = names;
+      lines = lines ++ line ∷ [];
+      k = names_after k line;
+      slot = slot_after slot line;
+      apart = apart;
+      most = count-after names k slot line standing.1 most;
+    } in
+    ap (option_and_then (λ next. lines_read next (map (line_text names) rest))) here
+    ∙ texts-read after rest standing.2
+    ∙ ap (λ ls. Some (read_so_far names ls (fold names_after (names_after k line) rest) (fold slot_after (slot_after slot line) rest)))
+    (append_assoc lines (line ∷ []) rest)
+  where
+    open read use {names, lines, k, slot, apart, most}
 
 -- the lines of a script's text, and of what stands after it
 pub texts-lines : (names : List Name) (lines : List Line) (rest : List ℕ) (k heard : ℕ) → AreStanding names k heard lines
@@ -382,7 +409,8 @@ first-bad {names} {lines} {line} rest written cut none =
     texts-lines names lines (line ++ 10 ∷ rest) 0 0 written.standing ∙ ap (λ ls. texts ++ ls) cut in
     let count : length texts ≡ length lines = length-map lines (line_text names) in
     let e : length lines + 1 - 1 ≡ length lines = omega arith in
-    let read = texts-read names [] lines 0 written.apart (omega arith) written.standing in
+    let nothing : ReadSoFar = record { names = names; lines = []; k = 0; slot = 0; apart = written.apart; most = omega arith } in
+    let read = texts-read nothing lines written.standing in
     record {
       reading = read_so_far names lines (names_used lines) (latest_slot lines);
       some = omega arith;
@@ -403,7 +431,8 @@ script-back script written used =
     let none : lines_of_script [] ≡ [] = refl in
     let all : lines_of_script (script_text names lines) ≡ map (line_text names) lines =
     ap lines_of_script (sym (append-nil (script_text names lines))) ∙ texts-lines names lines [] 0 0 written.standing ∙ append-nil (map (line_text names) lines) in
-    let read = texts-read names [] lines 0 written.apart (omega arith) written.standing in
+    let nothing : ReadSoFar = record { names = names; lines = []; k = 0; slot = 0; apart = written.apart; most = omega arith } in
+    let read = texts-read nothing lines written.standing in
     record {
       few = omega (arith, ap length all, length-map lines (line_text names), written.few);
       slot = latest_slot lines;
@@ -412,16 +441,35 @@ script-back script written used =
           ∙ ap (λ ns. Some (record { lines = lines; names = ns; slot = latest_slot lines })) (take_all (length names) names (omega arith));
     }
 
-pub range-bad : (names : List Name) (lines : List Line) (line : Line) (rest : List ℕ) → AreWritten names lines → IsInWords names line
-    → (MayStand (latest_slot lines) names line → ⊥) → IsBadLine (script_text names lines ++ (line_text names line ++ 10 ∷ rest)) (length lines + 1)
-range-bad names lines line rest written own not =
+-- a script that can be written
+pub record WrittenScript : Type 0 where
+  pub names : List Name
+  pub lines : List Line
+  pub written : AreWritten names lines
+
+pub range-bad : (script : WrittenScript) (line : Line) (rest : List ℕ) → IsInWords script.names line
+    → (MayStand (latest_slot script.lines) script.names line → ⊥)
+    → IsBadLine (script_text script.names script.lines ++ (line_text script.names line ++ 10 ∷ rest)) (length script.lines + 1)
+range-bad script line rest own not =
     first-bad rest written (spaced-line (words_of names line) rest (words-plain names line own))
     (line-bad (read_so_far names lines (names_used lines) (latest_slot lines)) names line own not)
+  where
+    open script use {names, lines, written}
 
-pub verb-bad : (names : List Name) (lines : List Line) (verb : List ℕ) (words : List (List ℕ)) (rest : List ℕ) → AreWritten names lines
-    → list_all is_word (verb ∷ words) ≡ true → 0 < length (words_text (verb ∷ words)) → is_verb (length (verb ∷ words)) verb ≡ false
-    → IsBadLine (script_text names lines ++ (words_text (verb ∷ words) ++ 10 ∷ rest)) (length lines + 1)
-verb-bad names lines verb words rest written plain some unknown =
-    let r = read_so_far names lines (names_used lines) (latest_slot lines) in
-    first-bad rest written (spaced-line (verb ∷ words) rest plain)
+-- words whose first is no verb
+pub record UnknownVerb : Type 0 where
+  pub verb : List ℕ
+  pub words : List (List ℕ)
+  pub plain : list_all is_word (verb ∷ words) ≡ true
+  pub some : 0 < length (words_text (verb ∷ words))
+  pub unknown : is_verb (length (verb ∷ words)) verb ≡ false
+
+pub verb-bad : (script : WrittenScript) (spoken : UnknownVerb) (rest : List ℕ)
+    → IsBadLine (script_text script.names script.lines ++ (words_text (spoken.verb ∷ spoken.words) ++ 10 ∷ rest))
+    (length script.lines + 1)
+verb-bad script spoken rest =
+    let r = read_so_far script.names script.lines (names_used script.lines) (latest_slot script.lines) in
+    first-bad rest script.written (spaced-line (verb ∷ words) rest plain)
     (text-read r verb words some plain ∙ ap (option_and_then (with_saying r (verb ∷ words))) (verb-unknown verb words unknown))
+  where
+    open spoken use {verb, words, plain, some, unknown}

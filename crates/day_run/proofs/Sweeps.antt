@@ -81,13 +81,19 @@ halt_entries-more f states i inside =
     ∙ ap (λ k. halt_entries f 0 (take i states) ++ (f k (get_or states i Idle) ++ [])) n
     ∙ ap (λ es. halt_entries f 0 (take i states) ++ es) (append-nil (f i (get_or states i Idle)))
 
+-- the halts before a place, and those there
+pub record NextHalts (i : ℕ) (before after more : List Entry) (f : ℕ → ClientState → List Entry) (states : List ClientState)
+    (begun : List Entry) : Type 0 where
+  pub before_is : before ≡ begun ++ halt_entries f 0 (take i states)
+  pub after_is : after ≡ before ++ more
+  pub here : f i (get_or states i Idle) ≡ more
+
 -- the entries of one halt more
 pub entries-more : {i : ℕ} {before after more : List Entry} (f : ℕ → ClientState → List Entry) (states : List ClientState)
-    (begun : List Entry) → i < length states
-    → before ≡ begun ++ halt_entries f 0 (take i states) → after ≡ before ++ more → f i (get_or states i Idle) ≡ more
+    (begun : List Entry) → i < length states → NextHalts i before after more f states begun
     → after ≡ begun ++ halt_entries f 0 (take (i + 1) states)
-entries-more {i} {before} {more} f states begun inside b a m =
-    a ∙ ap (λ es. before ++ es) (sym m) ∙ ap (λ es. es ++ f i (get_or states i Idle)) b
+entries-more {i} {before} {more} f states begun inside halts =
+    halts.after_is ∙ ap (λ es. before ++ es) (sym halts.here) ∙ ap (λ es. es ++ f i (get_or states i Idle)) halts.before_is
     ∙ append_assoc begun (halt_entries f 0 (take i states)) (f i (get_or states i Idle))
     ∙ ap (λ es. begun ++ es) (sym (halt_entries-more f states i inside))
 
@@ -197,33 +203,51 @@ pub ended-none : (f : ℕ → ClientState → List Entry) (g : ClientState → C
 ended-none f g slot begun old timed =
     record { timed = timed; entries_are = sym (append-nil begun); swept = swept-none g (map state_of old) }
 
+-- a halt is what a sweep asks for, and it is noted
+pub record HaltsOne (f : ℕ → ClientState → List Entry) (g : ClientState → ClientState) (slot i : ℕ) (xs ys : List Entry)
+    (cs : List Client) (none : Client) (halt : Option Halt) : Type 0 where
+  pub has : IsTimed slot (get_or cs i none) → f i (state_of (get_or cs i none)) ≡ halts_of i halt
+  pub goes : IsTimed slot (get_or cs i none) → g (state_of (get_or cs i none)) ≡ state_after_halt halt (state_of (get_or cs i none))
+  pub entries : ys ≡ xs ++ halts_of i halt
+
+-- the clients after a halt, or none
+pub record EndedOne (i : ℕ) (cs ds : List Client) (halt : Option Halt) : Type 0 where
+  pub some : OnSome halt (ds ≡ set cs i clients.Idle)
+  pub left : IfNone halt (ds ≡ cs)
+
 pub ended-next : {f : ℕ → ClientState → List Entry} {g : ClientState → ClientState} {slot i : ℕ} {begun xs ys : List Entry}
-    {old cs ds : List Client} (none : Client) (halt : Option Halt) → i < length cs → (IsTimed slot (get_or cs i none) → f i (state_of (get_or cs i none)) ≡ halts_of i halt)
-    → (IsTimed slot (get_or cs i none) → g (state_of (get_or cs i none)) ≡ state_after_halt halt (state_of (get_or cs i none)))
-    → ys ≡ xs ++ halts_of i halt → OnSome halt (ds ≡ set cs i clients.Idle) → IfNone halt (ds ≡ cs)
+    {old cs ds : List Client} (none : Client) (halt : Option Halt) → i < length cs → HaltsOne f g slot i xs ys cs none halt → EndedOne i cs ds halt
     → AreEndedTo f g slot i begun xs old cs → AreEndedTo f g slot (i + 1) begun ys old ds
-ended-next {f} {g} {slot} {i} {begun} {ys} {old} {cs} none None inside has goes y some left to =
+ended-next {f} {g} {slot} {i} {begun} {ys} {old} {cs} none None inside halts ended to =
     let timed : IsTimed slot (get_or cs i none) = to.timed.each i none inside in
     let at : get_or (map state_of old) i Idle ≡ state_of (get_or cs i none) = swept-at old cs none inside to.swept in
     let within : i < length (map state_of old) = swept-inside g i old cs inside to.swept in
     let D : List Client → Type 0 = λ l. AreEndedTo f g slot (i + 1) begun ys old l in
-    subst D (sym left) (record {
+    subst D (sym ended.left) (record {
       timed = to.timed;
-      entries_are = entries-more f (map state_of old) begun within to.entries_are y (ap (f i) at ∙ has timed);
-      swept = swept-same g i (map state_of old) (map state_of cs) (ap g at ∙ goes timed ∙ sym at) to.swept;
+      entries_are = entries-more f (map state_of old) begun within (record {
+        before_is = to.entries_are;
+        after_is = halts.entries;
+        here = ap (f i) at ∙ halts.has timed;
+      });
+      swept = swept-same g i (map state_of old) (map state_of cs) (ap g at ∙ halts.goes timed ∙ sym at) to.swept;
     })
-ended-next {f} {g} {slot} {i} {begun} {ys} {old} {cs} none (Some halt) inside has goes y some left to =
+ended-next {f} {g} {slot} {i} {begun} {ys} {old} {cs} none (Some halt) inside halts ended to =
     let timed : IsTimed slot (get_or cs i none) = to.timed.each i none inside in
     let at : get_or (map state_of old) i Idle ≡ state_of (get_or cs i none) = swept-at old cs none inside to.swept in
     let within : i < length (map state_of old) = swept-inside g i old cs inside to.swept in
     let D : List Client → Type 0 = λ l. AreEndedTo f g slot (i + 1) begun ys old l in
     let S : List ClientState → Type 0 = λ l. IsSwept g (i + 1) (map state_of old) l in
-    subst D (sym some) (record {
+    subst D (sym ended.some) (record {
       timed = timed-set slot cs i clients.Idle tt to.timed;
-      entries_are = entries-more f (map state_of old) begun within to.entries_are y (ap (f i) at ∙ has timed);
+      entries_are = entries-more f (map state_of old) begun within (record {
+        before_is = to.entries_are;
+        after_is = halts.entries;
+        here = ap (f i) at ∙ halts.has timed;
+      });
       swept =
           subst S (sym (states-set cs i clients.Idle))
-          (swept-set within (sym (ap g at ∙ goes timed)) to.swept);
+          (swept-set within (sym (ap g at ∙ halts.goes timed)) to.swept);
     })
 
 pub ended-entries : {f : ℕ → ClientState → List Entry} {g : ClientState → ClientState} {slot n : ℕ} {begun entries : List Entry}
@@ -245,12 +269,12 @@ read-any : (cs : List Client) (i : ℕ) (one other : Client) → i < length cs �
 read-any cs i one other inside =
     sym (ap (λ l. get_or l i other) (set-get_or cs i one)) ∙ get_or-set_same cs i (get_or cs i one) other inside
 
-pub undone-next : {i : ℕ} {cs ds : List Client} (none : Client) (halt : Option Halt) → i < length cs → IfNone halt (IsUndone (get_or cs i none))
-    → OnSome halt (ds ≡ set cs i clients.Idle) → IfNone halt (ds ≡ cs) → AreUndone i cs → AreUndone (i + 1) ds
-undone-next {i} {cs} none None inside own some left undone =
+pub undone-next : {i : ℕ} {cs ds : List Client} (none : Client) (halt : Option Halt) → i < length cs
+    → IfNone halt (IsUndone (get_or cs i none)) → EndedOne i cs ds halt → AreUndone i cs → AreUndone (i + 1) ds
+undone-next {i} {cs} none None inside own ended undone =
     let D : List Client → Type 0 = λ l. AreUndone (i + 1) l in
     let U : Client → Type 0 = λ x. IsUndone x in
-    subst D (sym left) (record {
+    subst D (sym ended.left) (record {
       each = λ c any before. elim (cases_eq c i) [
         | inl same ↦
             let B : ℕ → Type 0 = λ n. IsUndone (get_or cs n any) in
@@ -258,10 +282,10 @@ undone-next {i} {cs} none None inside own some left undone =
         | inr other ↦ undone.each c any (omega (arith, before, other))
       ];
     })
-undone-next {i} {cs} none (Some halt) inside own some left undone =
+undone-next {i} {cs} none (Some halt) inside own ended undone =
     let D : List Client → Type 0 = λ l. AreUndone (i + 1) l in
     let U : Client → Type 0 = λ x. IsUndone x in
-    subst D (sym some) (record {
+    subst D (sym ended.some) (record {
       each = λ c any before. elim (cases_eq c i) [
         | inl same ↦
             let B : ℕ → Type 0 = λ n. IsUndone (get_or (set cs i clients.Idle) n any) in
@@ -280,17 +304,25 @@ moment-as slot entries states = record { entries = entries; states = states; hea
 moment-same : {xs ys : List Entry} {one other : List ClientState} (slot : ℕ) → xs ≡ ys → one ≡ other → moment-as slot xs one ≡ moment-as slot ys other
 moment-same {ys} {one} {other} slot e s = ap (λ l. moment-as slot l one) e ∙ ap (moment-as slot ys) s
 
+-- a slot as it is taken: all clients are stepped, and then the plays that are done are halted
+pub record SlotSwept (n : ℕ) (ys : List Entry) (old xs ds zs : List Client) (heard slot sent : ℕ) (entries : List Entry)
+    (es : List Client) : Type 0 where
+  pub count : n ≡ length old
+  pub same : xs ≡ old
+  pub written : zs ≡ take n (ds ++ drop (length ds) old)
+  pub le : heard ≤ slot
+  pub timed : AreTimed heard old
+  pub stepped : (h : ℕ) → h ≤ slot → AreTimed h xs → AreSteps h slot xs ds sent
+  pub ended : (s : ℕ) → AreTimed s zs → ys ≡ entries ++ halt_entries (done_halt s) 0 (map state_of zs)
+  pub left : (s : ℕ) → AreTimed s zs → map state_of es ≡ map (after_play s) (map state_of zs)
+  pub quiet : halt_entries (done_halt slot) 0 (map (after_sending slot) (map state_of old)) ≡ halt_entries (done_halt slot) 0 (map state_of old)
+
 -- a day at a slot
 pub slot-moment : {n : ℕ} {ys : List Entry} {old xs ds zs : List Client} {heard slot sent : ℕ} (entries : List Entry)
-    (es : List Client) → n ≡ length old → xs ≡ old
-    → zs ≡ take n (ds ++ drop (length ds) old) → heard ≤ slot → AreTimed heard old
-    → ((h : ℕ) → h ≤ slot → AreTimed h xs → AreSteps h slot xs ds sent)
-    → ((s : ℕ) → AreTimed s zs → ys ≡ entries ++ halt_entries (done_halt s) 0 (map state_of zs))
-    → ((s : ℕ) → AreTimed s zs → map state_of es ≡ map (after_play s) (map state_of zs))
-    → halt_entries (done_halt slot) 0 (map (after_sending slot) (map state_of old)) ≡ halt_entries (done_halt slot) 0 (map state_of old)
+    (es : List Client) → SlotSwept n ys old xs ds zs heard slot sent entries es
     → record { entries = ys; states = map state_of (take n (es ++ drop (length es) (take n (ds ++ drop (length ds) old)))); heard = slot }
     ≡ at_slot (record { entries = entries; states = map state_of old; heard = heard }) slot
-slot-moment {n} {ys} {old} {ds} {zs} {heard} {slot} entries es len x z le timed stepped ended left quiet =
+slot-moment {n} {ys} {old} {ds} {zs} {heard} {slot} entries es swept =
     let T : List Client → Type 0 = λ l. AreTimed heard l in
     let U : List Client → Type 0 = λ l. AreTimed slot l in
     let steps = stepped heard le (subst T (sym x) timed) in
@@ -316,3 +348,5 @@ slot-moment {n} {ys} {old} {ds} {zs} {heard} {slot} entries es len x z le timed 
     moment-same slot
     y
     (ap (map state_of) (written n es (take n (ds ++ drop (length ds) old)) e-len) ∙ s)
+  where
+    open swept use {count as len, same as x, written as z, le, timed, stepped, ended, left, quiet}

@@ -3,8 +3,14 @@ use Rattle.std.proofs.Common.{◌≡◌, ℕ, List, ◌++◌, Result, Ok, Err, O
 use Rattle.vod_base.specs.declared.outside.NoMemory.{NoMemory}
 use Rattle.report.proofs.AppendLemmas.{both}
 
+-- what was appended first
+pub record TextBefore (mid : List ℕ) : Type 0 where
+  pub before : List ℕ
+  pub text : List ℕ
+  pub whole : mid ≡ before ++ text
+
 -- what was appended last is handed on
-pub then_more : {mid : List ℕ} (r : Result (Unit {0}) NoMemory) (before text next after : List ℕ) → mid ≡ before ++ text → OnOk r (after ≡ mid ++ next)
-    → OnOk r (after ≡ before ++ (text ++ next))
-then_more {mid} (Ok done) before text next after whole more = both before text next mid after whole more
-then_more (Err e) before text next after whole more = tt
+pub then_more : {mid : List ℕ} (r : Result (Unit {0}) NoMemory) (first : TextBefore mid) (next after : List ℕ)
+    → OnOk r (after ≡ mid ++ next) → OnOk r (after ≡ first.before ++ (first.text ++ next))
+then_more {mid} (Ok done) first next after more = both first.before first.text next mid after first.whole more
+then_more (Err e) first next after more = tt

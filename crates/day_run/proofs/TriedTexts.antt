@@ -4,6 +4,7 @@ use Rattle.std.proofs.lemmas.List.{append-nil, append_assoc, take_more}
 use Rattle.std.proofs.lemmas.Grind.{flat_map-append}
 use Rattle.early_start.specs.declared.Tried.{Tried}
 use Rattle.day_run.specs.Prints.{tried_text}
+use Rattle.day_run.proofs.Takings.{Place}
 
 tried-more : (xs : List Tried) (i : ℕ) (d : Tried) → i < length xs
     → flat_map tried_text (take (i + 1) xs) ≡ flat_map tried_text (take i xs) ++ tried_text (get_or xs i d)
@@ -11,8 +12,12 @@ tried-more xs i d within =
     ap (λ l. flat_map tried_text l) (take_more xs i d within) ∙ flat_map-append tried_text (take i xs) (get_or xs i d ∷ [])
     ∙ ap (λ l. flat_map tried_text (take i xs) ++ l) (append-nil (tried_text (get_or xs i d)))
 
-pub tried-step : {mid new : List ℕ} (xs : List Tried) (i : ℕ) (d : Tried) (out : List ℕ) → i < length xs → mid ≡ out ++ flat_map tried_text (take i xs)
-    → new ≡ mid ++ tried_text (get_or xs i d) → new ≡ out ++ flat_map tried_text (take (i + 1) xs)
-tried-step {new} xs i d out within before added =
+pub tried-step : {mid new : List ℕ} (xs : List Tried) (place : Place xs) (out : List ℕ)
+    → mid ≡ out ++ flat_map tried_text (take place.index xs)
+    → new ≡ mid ++ tried_text (get_or xs place.index place.none)
+    → new ≡ out ++ flat_map tried_text (take (place.index + 1) xs)
+tried-step {new} xs place out before added =
     added ∙ ap (λ l. l ++ tried_text (get_or xs i d)) before ∙ append_assoc out (flat_map tried_text (take i xs)) (tried_text (get_or xs i d))
     ∙ ap (λ l. out ++ l) (sym (tried-more xs i d within))
+  where
+    open place use {index as i, none as d, inside as within}

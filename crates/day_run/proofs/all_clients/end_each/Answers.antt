@@ -17,12 +17,14 @@ loop-client-preserved c =
       booked = done.booked;
       steps = done.steps ∙ inv.steps;
       now = done.now ∙ inv.now;
-      undone = undone-next none halt inside c.halt_of-halt.ensures.none done.ended done.left inv.undone;
+      undone = undone-next none halt inside c.halt_of-halt.ensures.none (record { some = done.ended; left = done.left }) inv.undone;
       limit = done.limit ∙ inv.limit;
       ended = λ slot timed.
-          ended-next
-          none halt inside (λ t. c.halt_of-halt.ensures.halt slot i (inv.going.each i none inside) t)
-          (λ t. c.halt_of-halt.ensures.state slot (inv.going.each i none inside) t) done.entries done.ended done.left (inv.ended slot timed);
+          ended-next none halt inside (record {
+            has = λ t. c.halt_of-halt.ensures.halt slot i (inv.going.each i none inside) t;
+            goes = λ t. c.halt_of-halt.ensures.state slot (inv.going.each i none inside) t;
+            entries = done.entries;
+          }) (record { some = done.ended; left = done.left }) (inv.ended slot timed);
     }
 
 pub returns-clause-states : goal.returns-clause-states

@@ -17,7 +17,8 @@ returns-then-sent-keep-clause-pause c = λ heard timed.
     let least : play.pacer.sent ≤ keep = omega (arith, c.ask_halt-keep.ensures.boundary.after) in
     let all : (play.pacer.sent == keep) ≡ true = eq-eqb play.pacer.sent keep (sym c.sent-sent.ensures.value ∙ c.if-sent-keep.true) in
     pause-of c.requires.playing timed c.last_slot-last.ensures c.ask_halt-keep.ensures.boundary
-    c.run_after-run.ensures.left (paused-state heard keep c.requires.playing timed least c.ask_halt-keep.ensures.most all)
+    c.run_after-run.ensures.left (paused-state heard keep (record { playing = c.requires.playing; timed = timed })
+    (record { least = least; most = c.ask_halt-keep.ensures.most }) all)
 
 pub returns-clause-pause : goal.returns-clause-pause
 returns-clause-pause c = λ heard timed.
@@ -28,5 +29,6 @@ returns-clause-pause c = λ heard timed.
     let not : (play.pacer.sent == keep) ≡ false = ne_eqb play.pacer.sent keep (λ e. c.if-sent-keep.false (c.sent-sent.ensures.value ∙ e)) in
     pause-of c.requires.playing timed c.last_slot-last.ensures c.ask_halt-keep.ensures.boundary
     c.run_after-run.ensures.left
-    (pausing-state heard keep c.requires.playing timed least c.ask_halt-keep.ensures.most not
+    (pausing-state heard keep (record { playing = c.requires.playing; timed = timed })
+    (record { least = least; most = c.ask_halt-keep.ensures.most }) not
     (c.ask_halt-keep.ensures.state ∙ ap (λ n. record play.pacer { keep = n }) (sym c.ask_halt-keep.ensures.value)))

@@ -19,8 +19,7 @@ loop-line-preserved c =
         steps = ran.kept.steps ∙ inv.kept.steps;
         reels = ran.kept.reels ∙ inv.kept.reels;
       };
-      heard = heard-next c.args.lines.now i _ inside ran.heard inv.heard;
+      heard = heard-next c.args.lines.now (record { index = i; none = _; inside = inside }) ran.heard inv.heard;
       run =
-          run-next c.args.lines.now i _
-          inv.kept.link inside inv.run ran.line;
+          run-next c.args.lines.now (record { index = i; none = _; inside = inside }) inv.kept.link inv.run ran.line;
     }

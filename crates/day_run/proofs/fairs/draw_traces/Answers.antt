@@ -32,9 +32,11 @@ loop-trace-preserved c =
       count = omega (arith, inv.count, ap length e, length-append c.loop-trace.traces.items (trace ∷ []));
       traces = traces-push c.loop-trace.traces.items c.push.new.self.items trace e own inv.traces;
       sizes =
-          sizes-next words c.loop-trace.trace c.loop-trace.traces.items trace e inv.left
-          (ap (λ n. 100 + n) c.draw-pictures.ensures.value)
-          (c.in_ok-draw_sizes.ensures.sizes ∙ ap (λ (w : ℕ → ℕ). sizes_of w (100 + c.draw-pictures.result)) c.draw-pictures.ensures.left) inv.sizes;
+          sizes-next {words = words} c.loop-trace.traces.items trace e (record {
+            left_is = inv.left;
+            pictures_are = ap (λ n. 100 + n) c.draw-pictures.ensures.value;
+            sizes_are = c.in_ok-draw_sizes.ensures.sizes ∙ ap (λ (w : ℕ → ℕ). sizes_of w (100 + c.draw-pictures.result)) c.draw-pictures.ensures.left;
+          }) inv.sizes;
       left =
           left-next words c.loop-trace.trace inv.left c.draw-pictures.ensures.left
           (ap (λ n. 100 + n) c.draw-pictures.ensures.value) c.in_ok-draw_sizes.ensures.left;

@@ -10,10 +10,17 @@ returns-clause-line c =
     let w = words_left c.args.draws.now in
     let one = c.draw-source.ensures.left in
     let two = c.draw.ensures.left in
-    line-drawn c.play.result (link_on c.args.runner.now) c.args.client (state_at (moment_of c.args.runner.now) c.args.client) (moment_of c.args.runner.now) _ _
-    c.draw-source.ensures.value
-    (ap (λ n. 16384 + n) (c.from-buffer.ensures ∙ c.draw.ensures.value ∙ ap (λ n. n % 16384) (second-word w _ one)))
-    (c.from-delay.ensures ∙ c.draw-2.ensures.value ∙ ap (λ n. n % 26) (third-word w _ _ one two)) c.play.ensures.line
+    line-drawn c.play.result (record {
+      link = link_on c.args.runner.now;
+      client = c.args.client;
+      old = moment_of c.args.runner.now;
+      new = _;
+      entries = _;
+    }) (state_at (moment_of c.args.runner.now) c.args.client) (record {
+      sources_are = c.draw-source.ensures.value;
+      buffers_are = ap (λ n. 16384 + n) (c.from-buffer.ensures ∙ c.draw.ensures.value ∙ ap (λ n. n % 16384) (second-word w _ one));
+      delays_are = c.from-delay.ensures ∙ c.draw-2.ensures.value ∙ ap (λ n. n % 26) (third-word w _ _ one two);
+    }) c.play.ensures.line
 
 pub returns-clause-left : goal.returns-clause-left
 returns-clause-left c =

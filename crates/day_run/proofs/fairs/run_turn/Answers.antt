@@ -10,14 +10,28 @@ pub returns-clause-ready : goal.returns-clause-ready
 returns-clause-ready c =
     let mid = c.go_on.new.runner in
     let client : c.draw-client.result < 256 = omega (arith, c.draw-client.ensures.value) in
-    done-ready (link_on mid) (words_left c.draw-client.new.self) (said_text c.turn_client.new.runner.book.entries c.in_ok-told.told) client refl c.in_ok-told.ensures.done c.go_on.ensures.ready
+    done-ready (record {
+      link = link_on mid;
+      old = moment_of mid;
+      new = moment_of c.turn_client.new.runner;
+      text = said_text c.turn_client.new.runner.book.entries c.in_ok-told.told;
+    }) (words_left c.draw-client.new.self) (record { client = client; at = refl }) c.in_ok-told.ensures.done c.go_on.ensures.ready
 
 pub returns-clause-turned : goal.returns-clause-turned
 returns-clause-turned c =
     let mid = c.go_on.new.runner in
     let new = c.turn_client.new.runner in
     let turn : Turn = record { old = moment_of c.args.runner.now; mid = moment_of mid; new = moment_of new; text = said_text new.book.entries c.in_ok-told.told } in
-    turn-of turn
-    c.go_on.ensures.kept.link c.draw.ensures.left c.draw-client.ensures.left (c.from-later.ensures ∙ c.draw.ensures.value)
-    c.draw-client.ensures.value c.go_on.ensures.moment c.in_ok-told.ensures.done c.in_ok-told.ensures.left c.go_on.ensures.counts
-    (c.is_refused.ensures new.book.entries) c.count_turn.ensures
+    turn-of turn (record {
+      same = c.go_on.ensures.kept.link;
+      one = c.draw.ensures.left;
+      two = c.draw-client.ensures.left;
+      later_is = c.from-later.ensures ∙ c.draw.ensures.value;
+      who = c.draw-client.ensures.value;
+      slot = c.go_on.ensures.moment;
+      done = c.in_ok-told.ensures.done;
+      left = c.in_ok-told.ensures.left;
+      counted = c.go_on.ensures.counts;
+      told = c.is_refused.ensures new.book.entries;
+      counts_are = c.count_turn.ensures;
+    })

@@ -13,8 +13,11 @@ loop-source-preserved c =
     let inside : i < length c.args.sources.now = omega arith in
     record {
       count = omega (arith, inv.count, ap length e, length-append c.loop-source.reels.items (reel ∷ []));
-      contents = λ u. contents-next u c.loop-source.reels.items reel c.args.sources.now i c.source-item.result inside e
-          (c.in_ok-reel_of.ensures u ∙ ap (source_content u) c.source-item.is) (inv.contents u);
+      contents = λ u. contents-next u (record { reels = c.loop-source.reels.items; reel = reel; after_are = e }) c.args.sources.now (record {
+        index = i;
+        none = c.source-item.result;
+        inside = inside;
+      }) (c.in_ok-reel_of.ensures u ∙ ap (source_content u) c.source-item.is) (inv.contents u);
     }
 
 pub returns-clause-contents : goal.returns-clause-contents

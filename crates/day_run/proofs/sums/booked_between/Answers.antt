@@ -15,8 +15,15 @@ overflow_add-booked c =
     let calendar = c.calendar-calendar.result.now in
     let small : c.booked_bytes-here.result ≤ 2 ^ 42 = omega (arith, c.booked_bytes-here.ensures.within, capacity-most calendar.steps c.loop-slot.slot c.now.ensures.calendar.profile) in
     let fits =
-    booked-fits c.loop-slot.booked c.booked_bytes-here.result c.loop-slot.slot c.args.from c.min-end.result calendar.first
-    (omega arith) c.loop-slot.invariant.few small (omega arith) (omega arith) (omega (arith, c.calendar-calendar.ensures.now, c.requires.from_now)) in
+    booked-fits {from = c.args.from} {end = c.min-end.result} {now = calendar.first} (record {
+      begun = omega arith;
+      few = c.loop-slot.invariant.few;
+      small = small;
+    }) (record {
+      before = omega arith;
+      ring = omega arith;
+      first = omega (arith, c.calendar-calendar.ensures.now, c.requires.from_now);
+    }) in
     omega (arith, fits)
 
 pub loop-slot-preserved : goal.loop-slot-preserved
@@ -27,7 +34,11 @@ loop-slot-preserved c =
     let begun : c.args.from + 1 ≤ c.loop-slot.slot = omega arith in
     let known : calendar.first ≤ c.loop-slot.slot = omega (arith, c.calendar-calendar.ensures.now, c.requires.from_now) in
     record {
-      few = booked-more c.loop-slot.booked c.booked_bytes-here.result c.loop-slot.slot c.args.from begun c.loop-slot.invariant.few small;
+      few = booked-more c.loop-slot.booked c.booked_bytes-here.result c.loop-slot.slot c.args.from (record {
+        begun = begun;
+        few = c.loop-slot.invariant.few;
+        small = small;
+      });
       late = omega arith;
       peak =
           c.max-peak.ensures ∙ max_by_order c.loop-slot.peak c.booked_bytes-here.result ∙ peak-next (booked_in state) c.args.from begun c.loop-slot.invariant.peak

@@ -9,5 +9,8 @@ returns c =
     let out = c.args.out.now.items in
     let turns = turn_words c.args.counts.now c.args.made.now in
     let slots = slot_words c.args.counts.now in
-    then_more c.push.result out (turns ++ slots) (codes "\n") c.push.new.out.items
-    (both out turns slots c.push_turns.new.out.items c.push_slots.new.out.items c.in_ok-push_turns.ensures c.in_ok-push_slots.ensures) c.push.ensures.whole
+    then_more c.push.result (record {
+      before = out;
+      text = turns ++ slots;
+      whole = both out turns slots c.push_turns.new.out.items c.push_slots.new.out.items c.in_ok-push_turns.ensures c.in_ok-push_slots.ensures;
+    }) (codes "\n") c.push.new.out.items c.push.ensures.whole

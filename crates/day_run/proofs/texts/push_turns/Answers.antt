@@ -7,5 +7,8 @@ use Rattle.day_run.proofs.texts.push_turns.Goals as goal
 pub returns : goal.returns
 unfolding turn_words
 returns c =
-    then_more c.push_made.result c.args.out.now.items (field (codes "fair turns=") c.args.counts.now.turns) (made_words c.args.made.now)
-    c.push_made.new.out.items c.in_ok-push_field.ensures.whole c.push_made.ensures
+    then_more c.push_made.result (record {
+      before = c.args.out.now.items;
+      text = field (codes "fair turns=") c.args.counts.now.turns;
+      whole = c.in_ok-push_field.ensures.whole;
+    }) (made_words c.args.made.now) c.push_made.new.out.items c.push_made.ensures

@@ -31,10 +31,21 @@ returns-in-Some-clause-runner c =
     let can = subst Y y (subst N (sym c.begin_play-play.ensures.number) can0) in
     let inside : c.args.client < length old.clients.items = omega (arith, day.count, c.ranges.client.fits) in
     let timed =
-    begun-timed old.book.steps (state_after old.book.entries) play c.args.plan c.in-Some.ensures.some
-    noted.answer_is late c.begin_play-play.ensures.start c.begin_play-play.ensures.begun in
-    day-played e day y refl refl
-    (omega arith) c.from.ensures (c.begin_play-play.ensures.number ∙ noted.place_is) can inside c.begin_play-play.ensures.playing c.begin_play-play.ensures.undone timed
+    begun-timed {steps = old.book.steps} {state = state_after old.book.entries} {plan = c.args.plan} play
+    (record { is = c.in-Some.ensures.some; answered = noted.answer_is; late = late }) c.begin_play-play.ensures.start c.begin_play-play.ensures.begun in
+    day-played e day (record {
+      entries_are = y;
+      clients_are = refl;
+      command = refl;
+      late = omega arith;
+      maker = c.from.ensures;
+      number = c.begin_play-play.ensures.number ∙ noted.place_is;
+      can = can;
+    }) inside (record {
+      playing = c.begin_play-play.ensures.playing;
+      undone = c.begin_play-play.ensures.undone;
+      timed = timed;
+    })
 
 pub returns-in-Some-clause-planned : goal.returns-in-Some-clause-planned
 returns-in-Some-clause-planned c =
@@ -50,9 +61,12 @@ returns-in-Some-clause-planned c =
       heard = old.heard;
     } in
     let states =
-    states-played old.clients.items c.args.client play c.in-Some.ensures.some
-    (c.begin_play-play.ensures.number ∙ made.place_is) c.begin_play-play.ensures.rest_is (c.begin_play-play.ensures.plan ∙ c.requires.kept)
-    c.begin_play-play.ensures.start in
+    states-played old.clients.items c.args.client play c.in-Some.ensures.some (record {
+      number_is = c.begin_play-play.ensures.number ∙ made.place_is;
+      rest_is = c.begin_play-play.ensures.rest_is;
+      plan_is = c.begin_play-play.ensures.plan ∙ c.requires.kept;
+      start_is = c.begin_play-play.ensures.start;
+    }) in
     record {
       plan = c.args.plan;
       plan_is = c.requires.plan.plan_is;
@@ -60,8 +74,12 @@ returns-in-Some-clause-planned c =
         room = c.in-Ok.ensures.room;
         answer = c.in-Ok.noted.answer;
         noted =
-            noted-play c.args.plan c.in-Ok.noted.answer late c.from.ensures
-            made.answer_is made.place_is (ap (λ (j : Journal). j.entries) made.journal_is) states refl;
+            noted-play {new = new} c.args.plan c.in-Ok.noted.answer late c.from.ensures made.answer_is (record {
+              place_is = made.place_is;
+              entries_are = ap (λ (j : Journal). j.entries) made.journal_is;
+              states_are = states;
+              heard_is = refl;
+            });
       });
     }
 
@@ -90,9 +108,12 @@ returns-in-None c =
           room = c.in-Ok.ensures.room;
           answer = c.in-Ok.noted.answer;
           noted =
-              noted-play c.args.plan
-              c.in-Ok.noted.answer late c.from.ensures made.answer_is made.place_is y
-              (states-same c.args.client (rest_of c.args.rest) c.args.plan (length old.book.entries) c.in-Ok.noted.answer c.in-None.ensures.none) refl;
+              noted-play c.args.plan c.in-Ok.noted.answer late c.from.ensures made.answer_is (record {
+                place_is = made.place_is;
+                entries_are = y;
+                states_are = states-same c.args.client (rest_of c.args.rest) c.args.plan (length old.book.entries) c.in-Ok.noted.answer c.in-None.ensures.none;
+                heard_is = refl;
+              });
         });
       };
     }

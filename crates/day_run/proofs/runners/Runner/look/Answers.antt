@@ -25,8 +25,12 @@ returns-in-Ok-clause-line c =
       room = c.in-Ok.ensures.room;
       answer = c.in-Ok.noted.answer;
       noted =
-          noted made.answer_is
-          made.place_is (ap (λ (j : Journal). j.entries) made.journal_is) refl refl;
+          noted made.answer_is (record {
+            place_is = made.place_is;
+            entries_are = ap (λ (j : Journal). j.entries) made.journal_is;
+            states_are = refl;
+            heard_is = refl;
+          });
     })
 
 pub returns-in-Err-clause-line : goal.returns-in-Err-clause-line

@@ -29,9 +29,16 @@ returns-in-Some-clause-runner c =
     let timed = subst T (sym c.index_mut.ensures.value) (day.timed.each c.args.client client inside) in
     let its = open-halt client going booked c.in-Some.ensures.some in
     let e : Entry = record { maker = c.from.result; command = Halt halt.number halt.keep; answer = c.halt-noted.result.answer } in
-    day-halted
-    c.pause.new.self e day (ap (λ (j : Journal). j.entries) c.halt-noted.ensures.noted.journal_is) refl refl its inside c.pause.ensures.going c.pause.ensures.undone
-    c.in-Some.ensures.quiet (c.pause.ensures.timed old.heard timed)
+    day-halted {e = e} c.pause.new.self day (record {
+      entries_are = ap (λ (j : Journal). j.entries) c.halt-noted.ensures.noted.journal_is;
+      clients_are = refl;
+      command = refl;
+    }) its inside (record {
+      going = c.pause.ensures.going;
+      undone = c.pause.ensures.undone;
+      quiet = c.in-Some.ensures.quiet;
+      timed = c.pause.ensures.timed old.heard timed;
+    })
 
 pub returns-in-Some-clause-line : goal.returns-in-Some-clause-line
 returns-in-Some-clause-line c =
@@ -51,8 +58,14 @@ returns-in-Some-clause-line c =
     ap state_of c.index_mut.ensures.value ∙ sym (state-at old.clients.items c.args.client client inside) in
     let P : ClientState → Type 0 = λ s. IsPauseLine (link_on old) c.args.client s (moment_of old) new text in
     subst P at (pause-line client next (c.in-Some.ensures.pause old.heard timed)
-    (noted-halt (link_on old) (moment_of old) new c.halt-noted.result.place c.args.client halt.number halt.keep e made.answer_is
-    made.place_is (ap (λ (j : Journal). j.entries) made.journal_is) (states-set old.clients.items c.args.client next) refl c.from.ensures c.halt-noted.ensures.answer refl))
+    (noted-halt {link = link_on old} {old = moment_of old} {new = new} {place = c.halt-noted.result.place} {number = halt.number} {keep = halt.keep} {e = e}
+    made.answer_is (record {
+      place_is = made.place_is;
+      entries_are = ap (λ (j : Journal). j.entries) made.journal_is;
+      states_are = states-set old.clients.items c.args.client next;
+      heard_is = refl;
+    })
+    (record { maker = c.from.ensures; answer = c.halt-noted.ensures.answer; command = refl })))
 
 pub returns-in-None-clause-line : goal.returns-in-None-clause-line
 returns-in-None-clause-line c =

@@ -16,4 +16,10 @@ returns-in-Some-clause-line c =
     c.in-Some.ensures.whole ∙ ap (λ (t : ReelContent). whole_rest old.slot_units t c.args.buffer c.args.delay) (sym (c.reel_at.ensures old.slot_units no_reel)) in
     let own : state_of client ≡ state_at (moment_of old) c.args.client = ap state_of c.index.ensures ∙ sym (state-at old.clients.items c.args.client client inside) in
     let free : is_busy (state_of client) ≡ false = sym c.is_busy.ensures ∙ c.if-is_busy.false in
-    play-ok c.ask.result (link_on old) c.args.client (moment_of old) _ _ one own free c.ask.ensures.asked
+    play-ok c.ask.result (record {
+      link = link_on old;
+      client = c.args.client;
+      old = moment_of old;
+      new = _;
+      entries = _;
+    }) one own free c.ask.ensures.asked

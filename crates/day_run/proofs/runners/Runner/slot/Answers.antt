@@ -8,6 +8,14 @@ pub returns-clause-moment : goal.returns-clause-moment
 returns-clause-moment c =
     let old = c.args.self.now in
     let day = c.requires.runner in
-    slot-moment old.book.entries c.end_each.new.clients
-    old.clients.ok.0 c.deref_mut.ensures.value c.deref_mut-2.ensures.value (omega arith) day.timed c.step_clients-sent.ensures.steps
-    c.end_each.ensures.entries c.end_each.ensures.states (halt_entries-sent c.args.slot 0 (map state_of old.clients.items))
+    slot-moment old.book.entries c.end_each.new.clients (record {
+      count = old.clients.ok.0;
+      same = c.deref_mut.ensures.value;
+      written = c.deref_mut-2.ensures.value;
+      le = omega arith;
+      timed = day.timed;
+      stepped = c.step_clients-sent.ensures.steps;
+      ended = c.end_each.ensures.entries;
+      left = c.end_each.ensures.states;
+      quiet = halt_entries-sent c.args.slot 0 (map state_of old.clients.items);
+    })
