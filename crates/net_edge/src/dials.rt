@@ -6,7 +6,7 @@ use crate::faults::Faults;
 use crate::links::{SlotClock, TcpLink};
 use std::alloc::Global;
 use std::net::{Ipv4Addr, Net, SocketAddr, TcpListener, TcpStream};
-use std::time::{Clock, Instant};
+use std::time::Clock;
 use std::{io, mem};
 use vod_base::{Gate, GateFault, Opening};
 
@@ -17,9 +17,7 @@ use vod_base::{Gate, GateFault, Opening};
 pub struct DialGate<'a, R: Net<Listener = TcpListener, Stream = TcpStream> + Clock> {
     rt: &'a R,
     alloc: Global,
-    is_open: bool,
-    /// The connection that is to be given.
-    dialed: Option<Dialed>,
+    call: Call,
     faults: Faults,
 }
 
@@ -29,8 +27,7 @@ impl<'a, R: Net<Listener = TcpListener, Stream = TcpStream> + Clock> DialGate<'a
         DialGate {
             rt,
             alloc,
-            is_open: false,
-            dialed: None,
+            call: Call::NotOpen,
             faults: Faults::none(),
         }
     }
@@ -40,13 +37,11 @@ impl<'a, R: Net<Listener = TcpListener, Stream = TcpStream> + Clock> DialGate<'a
         ensures faults { self.new.faults ≡ self.old.faults }
         ensures fresh { IfOk result (λ next. IfSome next (λ link. link.faults.count ≡ 0)) }
     {
-        match mem::replace(&mut self.dialed, None) {
-            None => Ok(None),
-            Some(dialed) => {
-                let link = TcpLink::new(self.rt, self.alloc, dialed.stream, dialed.clock)?;
-                Ok(Some(link))
-            }
-        }
+        let Some(dialed) = self.call.give() else {
+            return Ok(None);
+        };
+        let link = TcpLink::new(self.rt, self.alloc, dialed.stream, dialed.clock)?;
+        Ok(Some(link))
     }
 }
 
@@ -58,12 +53,10 @@ impl<'a, R: Net<Listener = TcpListener, Stream = TcpStream> + Clock> Gate for Di
     ghost told = { λ _. None };
 
     fn open(&mut self, how: &Opening) -> Result<(), GateFault> {
-        self.is_open = false;
-        self.dialed = None;
+        self.call = Call::NotOpen;
         match dial(self.rt, how) {
             Ok(dialed) => {
-                self.is_open = true;
-                self.dialed = Some(dialed);
+                self.call = Call::Waiting(dialed);
                 Ok(())
             }
             Err(_) => Err(self.faults.add_gate_fault()),
@@ -71,14 +64,13 @@ impl<'a, R: Net<Listener = TcpListener, Stream = TcpStream> + Clock> Gate for Di
     }
 
     fn split(&mut self) -> Result<Self, GateFault> {
-        if !self.is_open {
+        if matches!(self.call, Call::NotOpen) {
             return Err(self.faults.add_gate_fault());
         }
         Ok(DialGate {
             rt: self.rt,
             alloc: self.alloc,
-            is_open: true,
-            dialed: mem::replace(&mut self.dialed, None),
+            call: mem::replace(&mut self.call, Call::Given),
             faults: Faults::none(),
         })
     }
@@ -99,6 +91,31 @@ impl<'a, R: Net<Listener = TcpListener, Stream = TcpStream> + Clock> Gate for Di
     }
 }
 
+/// What became of the call that opens the gate.
+#[derive(Drop)]
+enum Call {
+    /// The gate isn't open.
+    NotOpen,
+    /// The connection waits to be given.
+    Waiting(Dialed),
+    /// The connection was given, or went to a part.
+    Given,
+}
+
+impl Call {
+    /// Gives the connection away, where it waits.
+    fn give(&mut self) -> Option<Dialed> {
+        match mem::replace(self, Call::Given) {
+            Call::Waiting(dialed) => Some(dialed),
+            Call::NotOpen => {
+                *self = Call::NotOpen;
+                None
+            }
+            Call::Given => None,
+        }
+    }
+}
+
 /// A connection that was made.
 #[derive(Drop)]
 struct Dialed {
@@ -114,9 +131,6 @@ fn dial<R: Net<Listener = TcpListener, Stream = TcpStream> + Clock>(
     let stream = TcpStream::connect(rt, SocketAddr::from((Ipv4Addr::LOCALHOST, how.port)))?;
     Ok(Dialed {
         stream,
-        clock: SlotClock {
-            opened: Instant::now(rt)?,
-            slot_units: how.slot_units,
-        },
+        clock: SlotClock::start(rt, how)?,
     })
 }

@@ -8,7 +8,7 @@ use std::alloc::Global;
 use std::io;
 use std::io::ErrorKind;
 use std::net::{Ipv4Addr, Net, SocketAddr, TcpListener, TcpStream};
-use std::time::{Clock, Instant};
+use std::time::Clock;
 use vod_base::{Gate, GateFault, Opening};
 
 /// A TCP port that connections come to. Slots count from its opening.
@@ -135,10 +135,7 @@ fn open_door<R: Net<Listener = TcpListener, Stream = TcpStream> + Clock>(
     let listener = TcpListener::bind(rt, SocketAddr::from((host, how.port)))?;
     Ok(Door {
         listener,
-        clock: SlotClock {
-            opened: Instant::now(rt)?,
-            slot_units: how.slot_units,
-        },
+        clock: SlotClock::start(rt, how)?,
         connections: how.connections,
     })
 }

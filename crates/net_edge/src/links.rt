@@ -14,7 +14,7 @@ use std::io::{ErrorKind, Read, Write};
 use std::net::{Net, Shutdown};
 use std::time::{Clock, Duration, Instant};
 use std::{io, net};
-use vod_base::{Heard, Link, LinkFault};
+use vod_base::{Heard, Link, LinkFault, Opening};
 
 /// For how many seconds a peer may take nothing of the bytes that wait for it.
 const PATIENCE: u64 = 60;
@@ -31,6 +31,16 @@ const LINGER: u64 = 1;
 pub(crate) struct SlotClock {
     pub(crate) opened: Instant,
     pub(crate) slot_units: u32,
+}
+
+impl SlotClock {
+    /// A clock whose slot 0 begins now.
+    pub(crate) fn start<R: Clock>(rt: &R, how: &Opening) -> io::Result<SlotClock> {
+        Ok(SlotClock {
+            opened: Instant::now(rt)?,
+            slot_units: how.slot_units,
+        })
+    }
 }
 
 /// A connection over TCP. What is sent is gathered, and leaves when the gathered bytes are many and
