@@ -1,12 +1,12 @@
 -- A message has one answer.
-use Rattle.std.proofs.Common.{◌≡◌, ℕ, ◌+◌, ◌<◌, List, [], ◌∷◌, ◌++◌, All, codes, Result, Ok, Err, length, get_or, take, drop, refl, sym, ap, subst, ◌∙◌, arith, inl, inr}
+use Rattle.std.proofs.Common.{◌≡◌, ℕ, ◌+◌, ◌<◌, List, [], ◌∷◌, All, codes, Result, Ok, Err, length, get_or, take, drop, refl, sym, ap, subst, ◌∙◌, arith, inl, inr}
 use Rattle.std.specs.Prelude.{IfOk, IfErr, IsOkAnd}
 use Rattle.std.proofs.lemmas.Bool.{cases_order}
 use Rattle.std.proofs.lemmas.List.{take_at, drop_at, length-drop, get_or-drop, drop-drop}
 use Rattle.std.proofs.lemmas.List.Elements.{All-from_get_or}
 use Rattle.std.proofs.lemmas.Option.{none-some, same_Some}
 use Rattle.interleave.proofs.Unique.{head_once}
-use Rattle.rtsp_text.specs.Lines.{first_line, header_lines}
+use Rattle.rtsp_text.specs.Lines.{header_lines}
 use Rattle.rtsp_text.specs.Grammar.{IsRequestLine, IsHeaderLine}
 use Rattle.rtsp_text.specs.Requests.{HasVersion, IsRequest, IsFirstBad, IsFault}
 use Rattle.rtsp_text.specs.declared.requests.RequestFault.{RequestFault}

@@ -10,7 +10,6 @@ use Rattle.std.proofs.lemmas.Option.{none-some, same_Some}
 use Rattle.vod_base.specs.Numbers.{is_decimal, number_of}
 use Rattle.vod_base.specs.Splits.{IsSplitAtFirst}
 use Rattle.interleave.proofs.Unique.{head_once}
-use Rattle.rtsp_text.specs.Lines.{first_line}
 use Rattle.rtsp_text.specs.StatusLines.{IsCode, IsStatusLine, IsReply}
 use Rattle.rtsp_text.proofs.Cuts.{cut_once, cut_none, all_other}
 use Rattle.rtsp_text.proofs.OneLines.{decimal_numerals}
