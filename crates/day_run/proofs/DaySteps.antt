@@ -79,7 +79,7 @@ pub record HaltEntered (xs ys : List Entry) (cs ds : List Client) (c number keep
   pub command : e.command ≡ Halt number keep
 
 -- what is sound of a client that was halted
-pub record SoundNext (heard : ℕ) (client : Client) : Type 0 where
+pub record HaltedClient (heard : ℕ) (client : Client) : Type 0 where
   pub going : IsGoing client
   pub undone : IsUndone client
   pub quiet : IsQuiet client
@@ -88,7 +88,7 @@ pub record SoundNext (heard : ℕ) (client : Client) : Type 0 where
 -- a client's play was halted
 pub day-halted : {slot_units heard : ℕ} {xs ys : List Entry} {cs ds : List Client} {c number bytes keep : ℕ} {e : Entry}
     (client : Client) → IsSoundDay slot_units heard xs cs → HaltEntered xs ys cs ds c number keep client e → IsOpenOf xs c number bytes
-    → c < length cs → SoundNext heard client → IsSoundDay slot_units heard ys ds
+    → c < length cs → HaltedClient heard client → IsSoundDay slot_units heard ys ds
 day-halted {slot_units} {heard} {xs} {ys} {cs} {c} {number} {keep} {e} client day entered its inside next =
     let D : List Client → Type 0 = λ l. IsSoundDay slot_units heard ys l in
     let Y : List Entry → Type 0 = λ l. IsSoundDay slot_units heard l (set cs c client) in
@@ -136,7 +136,7 @@ pub record PlayEntered (heard : ℕ) (xs ys : List Entry) (cs ds : List Client) 
   pub can : CanHalt (state_after (xs ++ e ∷ [])) play.number (total_bytes play.plan)
 
 -- what is sound of a client whose play begins
-pub record SoundPlaying (heard : ℕ) (play : ClientPlay) : Type 0 where
+pub record BegunClient (heard : ℕ) (play : ClientPlay) : Type 0 where
   pub playing : IsPlaying play
   pub undone : IsUndone (clients.Playing play)
   pub timed : IsTimed heard (clients.Playing play)
@@ -144,7 +144,7 @@ pub record SoundPlaying (heard : ℕ) (play : ClientPlay) : Type 0 where
 -- a client's play was admitted
 pub day-played : {slot_units heard : ℕ} {xs ys : List Entry} {cs ds : List Client} {c slot : ℕ} {segments : List Segment}
     {play : ClientPlay} (e : Entry) → IsSoundDay slot_units heard xs cs → PlayEntered heard xs ys cs ds c slot segments play e → c < length cs
-    → SoundPlaying heard play → IsSoundDay slot_units heard ys ds
+    → BegunClient heard play → IsSoundDay slot_units heard ys ds
 day-played {slot_units} {heard} {xs} {ys} {cs} {c} {slot} {segments} {play} e day entered inside next =
     let D : List Client → Type 0 = λ l. IsSoundDay slot_units heard ys l in
     let Y : List Entry → Type 0 = λ l. IsSoundDay slot_units heard l (set cs c (clients.Playing play)) in

@@ -10,6 +10,7 @@ use Rattle.day_run.specs.FairDays.{after_traces, picture_count, trace_drawn, tra
 use Rattle.day_run.specs.Fairs.{sizes_in}
 use Rattle.day_run.specs.ClientStates.{trace_content}
 use Rattle.day_run.specs.ReelContents.{reel_content}
+use Rattle.day_run.proofs.SourceReels.{NextReel}
 use Rattle.day_run.proofs.Takings.{Place}
 
 -- the trace that is drawn by the next words
@@ -43,14 +44,8 @@ pub left-none : (words : ℕ → ℕ) → words ≡ after_traces 0 words
 unfolding after_traces
 left-none words = refl
 
--- a reel that was pushed
-pub record ReelMore (more : List Reel) : Type 0 where
-  pub reels : List Reel
-  pub reel : Reel
-  pub more_are : more ≡ reels ++ reel ∷ []
-
 -- one reel more
-pub reels-next : {more : List Reel} (next : ReelMore more) (traces : List (Vec ℕ)) (place : Place traces)
+pub reels-next : {more : List Reel} (next : NextReel more) (traces : List (Vec ℕ)) (place : Place traces)
     → reel_content 14400 next.reel ≡ trace_content 14400 (get_or traces place.index place.none).items
     → map (reel_content 14400) next.reels ≡ map (trace_content 14400) (sizes_in (take place.index traces))
     → map (reel_content 14400) more ≡ map (trace_content 14400) (sizes_in (take (place.index + 1) traces))
@@ -60,5 +55,5 @@ reels-next next traces place own before =
     ∙ sym (map-append (trace_content 14400) (sizes_in (take i traces)) ((get_or traces i none).items ∷ []))
     ∙ ap (map (trace_content 14400)) (sym (map_more (λ (v : Vec ℕ). v.items) traces i none inside))
   where
-    open next use {reels, reel, more_are as m}
+    open next use {reels, reel, after_are as m}
     open place use {index as i, none, inside}

@@ -152,19 +152,19 @@ moment-within {steps} {journal} {m} {most} slot given =
     open given use {legal, grown, capacity}
 
 -- turns that came one after the other
-pub record TurnsCome (turns : List Turn) : Type 0 where
+pub record TurnRun (turns : List Turn) : Type 0 where
   pub link : Link
   pub words : ℕ → ℕ
   pub old : Moment
   pub new : Moment
   pub run : AreTurns link words turns old new
 
-pub turns-within : {steps : List CapStep} {journal : List Entry} {most : ℕ} (turns : List Turn) (come : TurnsCome turns) (top : ℕ)
+pub turns-within : {steps : List CapStep} {journal : List Entry} {most : ℕ} (turns : List Turn) (come : TurnRun turns) (top : ℕ)
     → GrownJournal steps journal come.new most → top ≤ most → fold max top (map turn_peak turns) ≤ most
 turns-within [] come top given small = small
 turns-within {journal} {most} (turn ∷ turns) come top given small =
     let is = run.1.0 in
-    let later : TurnsCome turns = record { link = link; words = after_turn words turn; old = turn.new; new = new; run = run.1.1 } in
+    let later : TurnRun turns = record { link = link; words = after_turn words turn; old = turn.new; new = new; run = run.1.1 } in
     let rest = turns-grown link (after_turn words turn) turns turn.new new run.1.1 in
     let from-old = grown-on turn.old.entries turn.new.entries journal (turn-grown link words turn is) (grown-on turn.new.entries new.entries journal rest given.grown) in
     let here : turn_peak turn ≤ most =

@@ -10,7 +10,7 @@ use Rattle.day_run.specs.Days.{first_moment}
 use Rattle.day_run.specs.DayLaws.{IsFairLine}
 use Rattle.day_run.specs.FairDays.{IsFair, after_traces, counts_of, fair_link}
 use Rattle.day_run.proofs.BalancedLines.{morning-ready}
-use Rattle.day_run.proofs.FairLaws.{TurnsCome, evening-grown, turns-balanced, turns-heard, turns-ready, turns-within}
+use Rattle.day_run.proofs.FairLaws.{TurnRun, evening-grown, turns-balanced, turns-heard, turns-ready, turns-within}
 use Rattle.day_run.proofs.PastSlots.{fair-past}
 
 pub fair-line : {number : ℕ} (steps : List CapStep) (plays : ℕ) (text : List ℕ) (journal : List Entry)
@@ -31,7 +31,7 @@ fair-line {number} steps plays text journal fair legal =
       booked_is = past.sum_is ∙ ap (λ k. sum_by (booked_after journal) (range_with_len 1 k)) whole;
       peak_is = past.peak_is ∙ ap (λ k. fold max 0 (map (booked_after journal) (range_with_len 1 k))) whole;
       within = λ most capacity.
-          let come : TurnsCome turns = record { link = link; words = words; old = first_moment; new = fair.evening; run = fair.run } in
+          let come : TurnRun turns = record { link = link; words = words; old = first_moment; new = fair.evening; run = fair.run } in
           turns-within turns come 0
           (record { legal = legal; grown = evening-grown fair.evening journal fair.journal_is; capacity = capacity }) (omega arith);
     }

@@ -6,12 +6,12 @@ use Rattle.std.proofs.lemmas.List.FromFn.{map-range_with_len_more}
 use Rattle.std.proofs.lemmas.List.Sums.{sum-map, sum_by_push}
 
 -- what is booked in one slot more
-pub record SlotMore (booked here slot from : ℕ) : Type 0 where
+pub record NextSlot (booked here slot from : ℕ) : Type 0 where
   pub begun : from + 1 ≤ slot
   pub few : booked ≤ (slot - (from + 1)) * 2 ^ 42
   pub small : here ≤ 2 ^ 42
 
-pub booked-more : (booked here slot from : ℕ) → SlotMore booked here slot from
+pub booked-more : (booked here slot from : ℕ) → NextSlot booked here slot from
     → booked + here ≤ (slot + 1 - (from + 1)) * 2 ^ 42
 booked-more booked here slot from more = omega arith
 
@@ -21,7 +21,7 @@ pub record RingSlots (slot from end now : ℕ) : Type 0 where
   pub ring : end ≤ now + 1048576
   pub first : now ≤ from
 
-pub booked-fits : {booked here slot from end now : ℕ} → SlotMore booked here slot from → RingSlots slot from end now
+pub booked-fits : {booked here slot from end now : ℕ} → NextSlot booked here slot from → RingSlots slot from end now
     → booked + here < 2 ^ 64
 booked-fits more slots = omega arith
 

@@ -64,14 +64,14 @@ kept-states old new kept each =
     subst M (sym kept) each
 
 -- a client asks for what can be sent, by its plan
-record SoundAsk (rest : Rest) (plan : List Segment) (c : ℕ) : Type 0 where
+record SoundAsking (rest : Rest) (plan : List Segment) (c : ℕ) : Type 0 where
   client : c < 256
   rest_is : IsSoundRest rest
   plan_is : IsPlanOf rest.sizes rest.playback rest.run plan
 
 -- ---- a play that begins
 answered-states : {rest : Rest} {plan : List Segment} {old : Moment} {c : ℕ} (answer : Answer) (link : Link)
-    → SoundAsk rest plan c → IsSound old
+    → SoundAsking rest plan c → IsSound old
     → IsAnswered link.steps (state_after old.entries) (entry_by c (commands.Play old.heard plan) answer)
     → AreStates old.heard (with_play c rest plan (length old.entries) answer old.states)
 answered-states {rest} {plan} {old} {c} (Admitted start) link ask sound answer =

@@ -19,12 +19,12 @@ trace-reel (Ok reel) is same has = λ u. has u ∙ ap (trace_content u) same ∙
 trace-reel (Err e) is same has = tt
 
 -- one reel more
-pub record ReelPushed (after : List Reel) : Type 0 where
+pub record NextReel (after : List Reel) : Type 0 where
   pub reels : List Reel
   pub reel : Reel
   pub after_are : after ≡ reels ++ reel ∷ []
 
-pub contents-next : {after : List Reel} (u : ℕ) (next : ReelPushed after) (sources : List Source) (place : Place sources)
+pub contents-next : {after : List Reel} (u : ℕ) (next : NextReel after) (sources : List Source) (place : Place sources)
     → reel_content u next.reel ≡ source_content u (get_or sources place.index place.none)
     → map (reel_content u) next.reels ≡ map (source_content u) (take place.index sources)
     → map (reel_content u) after ≡ map (source_content u) (take (place.index + 1) sources)

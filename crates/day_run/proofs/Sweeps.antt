@@ -204,19 +204,19 @@ ended-none f g slot begun old timed =
     record { timed = timed; entries_are = sym (append-nil begun); swept = swept-none g (map state_of old) }
 
 -- a halt is what a sweep asks for, and it is noted
-pub record HaltsOne (f : ℕ → ClientState → List Entry) (g : ClientState → ClientState) (slot i : ℕ) (xs ys : List Entry)
+pub record SweptHalt (f : ℕ → ClientState → List Entry) (g : ClientState → ClientState) (slot i : ℕ) (xs ys : List Entry)
     (cs : List Client) (none : Client) (halt : Option Halt) : Type 0 where
   pub has : IsTimed slot (get_or cs i none) → f i (state_of (get_or cs i none)) ≡ halts_of i halt
   pub goes : IsTimed slot (get_or cs i none) → g (state_of (get_or cs i none)) ≡ state_after_halt halt (state_of (get_or cs i none))
   pub entries : ys ≡ xs ++ halts_of i halt
 
 -- the clients after a halt, or none
-pub record EndedOne (i : ℕ) (cs ds : List Client) (halt : Option Halt) : Type 0 where
+pub record HaltOutcome (i : ℕ) (cs ds : List Client) (halt : Option Halt) : Type 0 where
   pub some : OnSome halt (ds ≡ set cs i clients.Idle)
   pub left : IfNone halt (ds ≡ cs)
 
 pub ended-next : {f : ℕ → ClientState → List Entry} {g : ClientState → ClientState} {slot i : ℕ} {begun xs ys : List Entry}
-    {old cs ds : List Client} (none : Client) (halt : Option Halt) → i < length cs → HaltsOne f g slot i xs ys cs none halt → EndedOne i cs ds halt
+    {old cs ds : List Client} (none : Client) (halt : Option Halt) → i < length cs → SweptHalt f g slot i xs ys cs none halt → HaltOutcome i cs ds halt
     → AreEndedTo f g slot i begun xs old cs → AreEndedTo f g slot (i + 1) begun ys old ds
 ended-next {f} {g} {slot} {i} {begun} {ys} {old} {cs} none None inside halts ended to =
     let timed : IsTimed slot (get_or cs i none) = to.timed.each i none inside in
@@ -270,7 +270,7 @@ read-any cs i one other inside =
     sym (ap (λ l. get_or l i other) (set-get_or cs i one)) ∙ get_or-set_same cs i (get_or cs i one) other inside
 
 pub undone-next : {i : ℕ} {cs ds : List Client} (none : Client) (halt : Option Halt) → i < length cs
-    → IfNone halt (IsUndone (get_or cs i none)) → EndedOne i cs ds halt → AreUndone i cs → AreUndone (i + 1) ds
+    → IfNone halt (IsUndone (get_or cs i none)) → HaltOutcome i cs ds halt → AreUndone i cs → AreUndone (i + 1) ds
 undone-next {i} {cs} none None inside own ended undone =
     let D : List Client → Type 0 = λ l. AreUndone (i + 1) l in
     let U : Client → Type 0 = λ x. IsUndone x in

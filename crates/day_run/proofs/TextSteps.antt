@@ -12,5 +12,5 @@ pub record TextBefore (mid : List ℕ) : Type 0 where
 -- what was appended last is handed on
 pub then_more : {mid : List ℕ} (r : Result (Unit {0}) NoMemory) (first : TextBefore mid) (next after : List ℕ)
     → OnOk r (after ≡ mid ++ next) → OnOk r (after ≡ first.before ++ (first.text ++ next))
-then_more {mid} (Ok done) first next after more = both first.before first.text next mid after first.whole more
+then_more (Ok done) first next after more = both first.before first.text next first.whole more
 then_more (Err e) first next after more = tt

@@ -10,6 +10,7 @@ use Rattle.film_run.specs.Runs.{Fits, IsRun}
 use Rattle.film_run.specs.Plans.{IsPlanOf, IsPlayback}
 use Rattle.pacer.specs.Pacings.{IsPacing, is_done}
 use Rattle.admission.specs.declared.entries.Entry.{Entry}
+use Rattle.admission.specs.Books.{Journal}
 use Rattle.admission.specs.Histories.{state_after}
 use Rattle.admission.specs.Machine.{CanHalt}
 use Rattle.day_run.specs.declared.clients.Client.{Client}
@@ -107,6 +108,17 @@ pub record AreUndone (upto : ℕ) (clients : List Client) : Type 0 where
 pub record AreBooked (entries : List Entry) (clients : List Client) : Type 0 where
   pub each : (c : ℕ) (none : Client) → c < length clients →
       IsBooked entries c (slice_index_or clients c none)
+
+-- the clients go on soundly, and the book has their plays open
+pub record AreOnBook (entries : List Entry) (clients : List Client) : Type 0 where
+  pub going : AreGoing clients
+  pub booked : AreBooked entries clients
+
+-- what halts leave of a book: its link, the most entries of its journal, and the machine's now
+pub record IsSameBook (old new : Journal) : Type 0 where
+  pub steps : new.steps ≡ old.steps
+  pub limit : new.limit ≡ old.limit
+  pub now : (state_after new.entries).now ≡ (state_after old.entries).now
 
 pub record AreIdle (clients : List Client) : Type 0 where
   pub each : (c : ℕ) (none : Client) → c < length clients → slice_index_or clients c none ≡ Idle

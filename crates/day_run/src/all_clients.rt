@@ -3,11 +3,10 @@
 ghost use Rattle.std.specs.Prelude.{◌≡◌, ◌≤◌, ◌<◌, ◌++◌, ℕ, List, length, map, slice_set};
 ghost use Rattle.std.specs.Prelude.{slice_index_or, IfSome, IfNone, IfOk, OnSome};
 ghost use Rattle.admission.specs.declared.entries.Entry.{Entry};
-ghost use Rattle.admission.specs.Histories.{state_after};
 ghost use Rattle.day_run.specs.declared.clients.Client.{Client};
 ghost use Rattle.day_run.specs.declared.clients.Client.TheVariants.{Idle};
 ghost use Rattle.day_run.specs.Clients.{AreBooked, AreGoing, AreIdle, AreSteps, AreTimed};
-ghost use Rattle.day_run.specs.Clients.{AreUndone};
+ghost use Rattle.day_run.specs.Clients.{AreOnBook, AreUndone, IsSameBook};
 ghost use Rattle.day_run.specs.Clients.{IsHaltOf, halt_for, halts_of, state_for, state_of};
 ghost use Rattle.day_run.specs.Days.{halt_entries};
 
@@ -51,14 +50,10 @@ pub(crate) fn step_clients(clients: &mut [Client<'_>], slot: u64) -> u64
 /// Halts the plays that are done, or all that are open.
 pub(crate) fn end_each(book: &mut Book, clients: &mut [Client<'_>], which: Which)
     requires few { length clients.old ≤ 256 }
-    requires going { AreGoing clients.old }
-    requires booked { AreBooked book.old.entries clients.old }
-    ensures going { AreGoing clients.new }
-    ensures booked { AreBooked book.new.entries clients.new }
-    ensures steps { book.new.steps ≡ book.old.steps }
-    ensures now { (state_after book.new.entries).now ≡ (state_after book.old.entries).now }
+    requires sound { AreOnBook book.old.entries clients.old }
+    ensures sound { AreOnBook book.new.entries clients.new }
+    ensures kept { IsSameBook book.old book.new }
     ensures undone { AreUndone (length clients.new) clients.new }
-    ensures limit { book.new.limit ≡ book.old.limit }
     ensures timed { (slot : ℕ) → AreTimed slot clients.old → AreTimed slot clients.new }
     ensures entries { (slot : ℕ) → AreTimed slot clients.old → book.new.entries
         ≡ book.old.entries ++ halt_entries (halt_for which slot) 0 (map state_of clients.old) }
@@ -77,16 +72,12 @@ fn end_play(book: &mut Book, clients: &mut [Client<'_>], client: usize, halt: Op
     requires few { length clients.old ≤ 256 }
     requires halt { IfSome halt (λ h. (none : Client) →
         IsHaltOf (slice_index_or clients.old client none) h) }
-    requires going { AreGoing clients.old }
-    requires booked { AreBooked book.old.entries clients.old }
-    ensures going { AreGoing clients.new }
-    ensures booked { AreBooked book.new.entries clients.new }
-    ensures steps { book.new.steps ≡ book.old.steps }
-    ensures now { (state_after book.new.entries).now ≡ (state_after book.old.entries).now }
+    requires sound { AreOnBook book.old.entries clients.old }
+    ensures sound { AreOnBook book.new.entries clients.new }
+    ensures kept { IsSameBook book.old book.new }
     ensures ended { OnSome halt (clients.new ≡ slice_set clients.old client Idle) }
     ensures left { IfNone halt (clients.new ≡ clients.old) }
     ensures entries { book.new.entries ≡ book.old.entries ++ halts_of client halt }
-    ensures limit { book.new.limit ≡ book.old.limit }
 {
     if let Some(halt) = halt {
         clients[client] = Client::Idle;

@@ -13,16 +13,17 @@ loop-client-preserved c =
     let done = c.end_play.ensures in
     let inside : i < length cs = omega arith in
     record {
-      going = done.going;
-      booked = done.booked;
-      steps = done.steps ∙ inv.steps;
-      now = done.now ∙ inv.now;
+      sound = done.sound;
+      kept = record {
+        steps = done.kept.steps ∙ inv.kept.steps;
+        limit = done.kept.limit ∙ inv.kept.limit;
+        now = done.kept.now ∙ inv.kept.now;
+      };
       undone = undone-next none halt inside c.halt_of-halt.ensures.none (record { some = done.ended; left = done.left }) inv.undone;
-      limit = done.limit ∙ inv.limit;
       ended = λ slot timed.
           ended-next none halt inside (record {
-            has = λ t. c.halt_of-halt.ensures.halt slot i (inv.going.each i none inside) t;
-            goes = λ t. c.halt_of-halt.ensures.state slot (inv.going.each i none inside) t;
+            has = λ t. c.halt_of-halt.ensures.halt slot i (inv.sound.going.each i none inside) t;
+            goes = λ t. c.halt_of-halt.ensures.state slot (inv.sound.going.each i none inside) t;
             entries = done.entries;
           }) (record { some = done.ended; left = done.left }) (inv.ended slot timed);
     }

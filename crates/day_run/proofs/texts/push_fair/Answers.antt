@@ -12,5 +12,5 @@ returns c =
     then_more c.push.result (record {
       before = out;
       text = turns ++ slots;
-      whole = both out turns slots c.push_turns.new.out.items c.push_slots.new.out.items c.in_ok-push_turns.ensures c.in_ok-push_slots.ensures;
+      whole = both out turns slots c.in_ok-push_turns.ensures c.in_ok-push_slots.ensures;
     }) (codes "\n") c.push.new.out.items c.push.ensures.whole
