@@ -14,10 +14,10 @@ use Rattle.admission.specs.declared.entries.Command.TheVariants.{Play, Halt, Loo
 use Rattle.admission.specs.declared.entries.Answer.{Answer}
 use Rattle.admission.specs.declared.entries.Answer.TheVariants.{Admitted, Overflow, Halted, Looked}
 use Rattle.admission.specs.Machine.{State, CanHalt, IsAnswer, admitted_play, booked_in, halted_play, held_as, next_state, plays_of, with_halted}
-use Rattle.admission.specs.Histories.{IsAdmission, IsLegal, asked_in, booked_after, is_admission, is_halt, latest_asked, state_after}
+use Rattle.admission.specs.Histories.{IsLegal, asked_in, booked_after, is_admission, is_halt, latest_asked, state_after}
 use Rattle.admission.proofs.Admissions.{admission_of}
 use Rattle.admission.proofs.Calendars.{plays-around}
-use Rattle.admission.proofs.Counts.{counted}
+use Rattle.admission.proofs.Counts.{tally}
 use Rattle.admission.proofs.Halts.{play_of, plays-split, split}
 use Rattle.admission.proofs.Opens.{can-still, whole-after}
 use Rattle.admission.proofs.Runs.{PlayAdmitted, legal-at, legal-take, no_entry, state-push}
@@ -88,7 +88,7 @@ start_is {steps} {xs} {number} {start} {segments} admitted =
     let C : Command → Type 0 = λ c. IsAnswer steps state c e.answer in
     let A : Answer → Type 0 = λ a. IsAnswer steps state (Play found.0 segments) a in
     let answered = subst A found.1.1 (subst C found.1.0 (legal-at steps xs number legal admission.inside)) in
-    let now_is = (counted steps (take number xs) (legal-take steps xs number legal)).1 in
+    let now_is = (tally steps (take number xs) (legal-take steps xs number legal)).1 in
     let slot_is : asked_in e.command ≡ found.0 = ap asked_in found.1.0 in
     let latest : latest_asked (take (number + 1) xs) ≡ max (latest_asked (take number xs)) (asked_in e.command) =
     fold_more (λ latest (x : Entry). max latest (asked_in x.command)) 0 xs number no_entry admission.inside in
@@ -102,5 +102,5 @@ look_is {steps} {xs} {slot} {at} place none legal inside command_is answer_is =
     let C : Command → Type 0 = λ c. IsAnswer steps state c (get_or xs place none).answer in
     let A : Answer → Type 0 = λ a. IsAnswer steps state (Look slot) a in
     let told = subst A answer_is (subst C command_is (legal.each place none inside)) in
-    let now_is = (counted steps (take place xs) (legal-take steps xs place legal)).1 in
+    let now_is = (tally steps (take place xs) (legal-take steps xs place legal)).1 in
     (told.0 ∙ now_is, omega (arith, told.0, told.1), told.2)

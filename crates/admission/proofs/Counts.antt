@@ -50,10 +50,10 @@ record IsCounted (entries : List Entry) : Type 0 where
   open_are : open_count entries + halts_of entries ≡ admissions_of entries
   now_is : (state_after entries).now ≡ latest_asked entries
 
-counted-at : (steps : List CapStep) (xs : List Entry) (n : ℕ) → IsLegal steps xs → n ≤ length xs → IsCounted (take n xs)
-counted-at steps xs zero legal few = record { open_are = refl; now_is = refl }
-counted-at steps xs (suc n) legal few =
-    let before = counted-at steps xs n legal (omega (arith, few)) in
+tally-at : (steps : List CapStep) (xs : List Entry) (n : ℕ) → IsLegal steps xs → n ≤ length xs → IsCounted (take n xs)
+tally-at steps xs zero legal few = record { open_are = refl; now_is = refl }
+tally-at steps xs (suc n) legal few =
+    let before = tally-at steps xs n legal (omega (arith, few)) in
     let e = get_or xs n no_entry in
     let state = state_after (take n xs) in
     let inside : n < length xs = omega (arith, few) in
@@ -73,7 +73,7 @@ counted-at steps xs (suc n) legal few =
       now_is = now_is ∙ now-next steps state n e.command e.answer answered ∙ ap (λ k. max k (asked_in e.command)) before.now_is ∙ sym latest;
     }
 
-pub counted : (steps : List CapStep) (xs : List Entry) → IsLegal steps xs → (open_count xs + halts_of xs ≡ admissions_of xs) × ((state_after xs).now ≡ latest_asked xs)
-counted steps xs legal =
-    let is = subst IsCounted (take_all (length xs) xs (omega arith)) (counted-at steps xs (length xs) legal (omega arith)) in
+pub tally : (steps : List CapStep) (xs : List Entry) → IsLegal steps xs → (open_count xs + halts_of xs ≡ admissions_of xs) × ((state_after xs).now ≡ latest_asked xs)
+tally steps xs legal =
+    let is = subst IsCounted (take_all (length xs) xs (omega arith)) (tally-at steps xs (length xs) legal (omega arith)) in
     (is.open_are, is.now_is)

@@ -12,7 +12,7 @@ use Rattle.admission.specs.declared.entries.Command.{Command}
 use Rattle.admission.specs.declared.entries.Command.TheVariants.{Play, Halt, Look}
 use Rattle.admission.specs.declared.entries.Answer.{Answer}
 use Rattle.admission.specs.declared.entries.Answer.TheVariants.{Admitted, Overflow, Halted, Looked}
-use Rattle.admission.specs.Machine.{State, IsAnswer, booked_in, start_after}
+use Rattle.admission.specs.Machine.{IsAnswer, booked_in}
 use Rattle.admission.specs.Histories.{IsLegal, state_after}
 use Rattle.admission.proofs.Runs.{Machine, machine_after, legal-at, no_entry}
 

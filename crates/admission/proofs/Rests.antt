@@ -1,5 +1,5 @@
 -- A journal that goes on by halts alone.
-use Rattle.std.proofs.Common.{◌≡◌, ◌≤◌, ◌<◌, ◌+◌, ◌-◌, ℕ, Bool, true, false, cond, List, [], ◌∷◌, ◌++◌, length, get_or, take, arith, refl, sym, ap, subst, ◌∙◌}
+use Rattle.std.proofs.Common.{◌≡◌, ◌≤◌, ◌+◌, ◌-◌, ℕ, Bool, true, false, cond, List, [], ◌∷◌, ◌++◌, length, get_or, take, arith, refl, ap, subst, ◌∙◌}
 use Rattle.std.specs.List.{All, AllByRecursion as ByRecursion}
 use Rattle.std.proofs.lemmas.Bool.{false≢true}
 use Rattle.std.proofs.lemmas.List.{get_or-append_right, length-append, take-append-le, take_all}
@@ -13,8 +13,8 @@ use Rattle.admission.specs.declared.entries.Answer.{Answer}
 use Rattle.admission.specs.declared.entries.Answer.TheVariants.{Admitted, Overflow, Halted, Looked}
 use Rattle.admission.specs.Books.{places_taken}
 use Rattle.admission.specs.Machine.{State, IsAnswer}
-use Rattle.admission.specs.Histories.{IsLegal, is_admission, is_halt, open_count, state_after}
-use Rattle.admission.proofs.Counts.{admissions_of, counted, halts_of}
+use Rattle.admission.specs.Histories.{IsLegal, is_admission, is_halt, state_after}
+use Rattle.admission.proofs.Counts.{admissions_of, tally, halts_of}
 use Rattle.admission.proofs.Runs.{legal-take}
 
 admits-none : (steps : List CapStep) (state : State) (command : Command) (answer : Answer) → IsAnswer steps state command answer → is_halt command ≡ true → is_admission answer ≡ false
@@ -62,7 +62,7 @@ pub halts-fit : {steps : List CapStep} (entries more : List Entry) (limit : ℕ)
 halts-fit {steps} entries more limit legal halts few =
     let front : take (length entries) (entries ++ more) ≡ entries = take-append-le (length entries) entries more (omega arith) ∙ take_all (length entries) entries (omega arith) in
     let first : IsLegal steps entries = subst (IsLegal steps) front (legal-take steps (entries ++ more) (length entries) legal) in
-    let before = (counted steps entries first).0 in let after = (counted steps (entries ++ more) legal).0 in
+    let before = (tally steps entries first).0 in let after = (tally steps (entries ++ more) legal).0 in
     let all : halts_of more ≡ length more = all-counted more (recursion_from_All (λ (e : Entry). is_halt e.command ≡ true) more halts) in
     let none : admissions_of more ≡ 0 = none-counted more (recursion_from_All (λ (e : Entry). is_admission e.answer ≡ false) more (none-admitted steps entries more legal halts)) in
     let halted : halts_of (entries ++ more) ≡ halts_of entries + halts_of more = sum_by-append (λ (e : Entry). cond (is_halt e.command) 1 0) entries more in

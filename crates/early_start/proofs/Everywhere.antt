@@ -1,5 +1,5 @@
 -- What is found in a calendar is found among the plays that it stands for, in all slots.
-use Rattle.std.proofs.Common.{ℕ, ◌<◌, ◌≤◌, List, Option, Some, None, length, get_or, arith, ◌∙◌, inl, inr}
+use Rattle.std.proofs.Common.{ℕ, ◌<◌, ◌≤◌, List, Option, Some, None, length, arith, ◌∙◌, inl, inr}
 use Rattle.std.proofs.lemmas.Bool.{cases_lt}
 use Rattle.plan_cert.specs.declared.Segment.{Segment}
 use Rattle.slot_calendar.specs.Calendars.{Entries, StandsFor, Fits, HasRoom, IsFirstOverflow, booked_at}

@@ -75,10 +75,10 @@ pub record AsksFor (from : ℕ) (to : Option ℕ) (units : List PictureUnit) (un
   pub some : first < end
   pub within : end ≤ length units
 
-pub asked : {film : Film} {from : ℕ} {to : Option ℕ} {run : Run} {units : List PictureUnit} {unit_time first end : ℕ}
+pub asks_for_run : {film : Film} {from : ℕ} {to : Option ℕ} {run : Run} {units : List PictureUnit} {unit_time first end : ℕ}
     → units ≡ film.units.items → unit_time ≡ picture_time film.rate → AsksFor from to units unit_time first end → BeginsAt first end run
     → IsAsked film from to run
-asked {film} {from} {to} {run} {unit_time} {first} {end} units_are time_is asks at =
+asks_for_run {film} {from} {to} {run} {unit_time} {first} {end} units_are time_is asks at =
     let first_is = at.first_is in
     let end_is = at.end_is in
     let some : first < end = asks.some in

@@ -46,9 +46,9 @@ ended-by film (Some time) first end same is = record {
       is.first other later group (λ early. let h : other * picture_time film.rate * 1000000000 < time * 360000 = early in omega arith);
 }
 
-pub sought : {film : Film} {from : ℕ} {to : Option ℕ} {run : Run} → 1 ≤ film.rate → film.rate ≤ 8 → IsAsked film from to run
+pub seeks_run : {film : Film} {from : ℕ} {to : Option ℕ} {run : Run} → 1 ≤ film.rate → film.rate ≤ 8 → IsAsked film from to run
     → IsSought film from to run
-sought {film} {from} {to} {run} least most is =
+seeks_run {film} {from} {to} {run} least most is =
     let same = agree film.rate least most in
     record {
       goes_on = λ past. is.some (inl (same.begun (length film.units.items) from past));

@@ -1,15 +1,12 @@
 -- Numbers in text: what the decimal form of a number is made of, and that it is the only one without leading zeros.
-use Rattle.std.proofs.Common.{◌≡◌, ◌≢◌, ◌<◌, ◌≤◌, ◌+◌, ◌^◌, ◌&&◌, ℕ, Bool, true, false, List, [], ◌∷◌, ◌++◌, All, length, slice_index, decimal, codes, take, drop, nat_eq, MatchOption, Option, Some, None, nat_lt, inl, inr, arith, rules, refl, sym, ap, ◌∙◌, lt-ltb, ltb-true}
-use Rattle.std.specs.List.{list_all}
-use Rattle.std.specs.Char.{is_ascii_digit}
+use Rattle.std.proofs.Common.{◌≡◌, ◌≢◌, ◌<◌, ◌≤◌, ◌+◌, ◌^◌, ℕ, Bool, true, false, List, [], ◌∷◌, ◌++◌, All, length, slice_index, decimal, codes, take, drop, nat_eq, MatchOption, Option, Some, None, inl, inr, arith, refl, sym, ap, ◌∙◌}
 use Rattle.std.specs.Int.{IsInRange}
-use Rattle.std.specs.Str.Parse.{digits_value}
 use Rattle.std.specs.Cmp.Lexicographic.{pointwise, same_text, other_text}
-use Rattle.std.proofs.lemmas.Bool.{cases_Bool, cases_lt, cond-true, cond-false, and_from, and_parts, both_ways}
+use Rattle.std.proofs.lemmas.Bool.{cases_lt, both_ways}
 use Rattle.std.proofs.lemmas.List.{append_cancel_left, append_assoc, take_at, take-append-drop}
 use Rattle.std.proofs.lemmas.List.Elements.{All-from_get_or, All-head, All-tail}
-use Rattle.std.proofs.lemmas.Fmt.{digits_decimal, digits_value-decimal, decimal_nonempty, decimal-digits_value, first_decimal, decimal_digit}
-use Rattle.std.proofs.lemmas.Str.Parse.{IsNumeralModel, numerals_by_value, not_in_digits}
+use Rattle.std.proofs.lemmas.Fmt.{digits_decimal, first_decimal, decimal_digit}
+use Rattle.std.proofs.lemmas.Str.Parse.{not_in_digits}
 use Rattle.vod_base.specs.Splits.{IsSplitAtFirst}
 use Rattle.vod_base.proofs.FirstBytes.{none_is}
 use Rattle.vod_base.proofs.Written.{own}

@@ -13,25 +13,25 @@ use Rattle.plan_cert.proofs.SlotSums.{sum-take-slots_of}
 use Rattle.plan_cert.proofs.Grammar.{head_text}
 use Rattle.plan_cert.proofs.OneText.{Contents, one_text}
 
-abbrev ended : List ℕ → List ℕ
-ended line = line ++ codes "\n"
+abbrev with_line_end : List ℕ → List ℕ
+with_line_end line = line ++ codes "\n"
 
 body_lines : (segments : List Segment) → flat_map segment_line segments ++ codes "end\n"
-    ≡ flat_map ended (map segment_words segments ++ codes "end" ∷ [])
+    ≡ flat_map with_line_end (map segment_words segments ++ codes "end" ∷ [])
 body_lines [] = refl
 body_lines (s ∷ rest) =
     append_assoc (segment_line s) (flat_map segment_line rest) (codes "end\n")
     ∙ ap (λ l. segment_line s ++ l) (body_lines rest)
 
-pub text_lines : (segments : List Segment) → cert_text segments ≡ flat_map ended
+pub text_lines : (segments : List Segment) → cert_text segments ≡ flat_map with_line_end
     (codes "smooth 1" ∷ (codes "slots " ++ decimal (total_slots segments)) ∷ (codes "bytes " ++ decimal (total_bytes segments))
     ∷ map segment_words segments ++ codes "end" ∷ [])
 text_lines segments =
     let slots = codes "slots " ++ decimal (total_slots segments) in
     let bytes = codes "bytes " ++ decimal (total_bytes segments) in
-    let body = flat_map ended (map segment_words segments ++ codes "end" ∷ []) in
-    let third = ended bytes ++ body in
-    let second = ended slots ++ third in
+    let body = flat_map with_line_end (map segment_words segments ++ codes "end" ∷ []) in
+    let third = with_line_end bytes ++ body in
+    let second = with_line_end slots ++ third in
     let whole : cert_text segments ≡ cert_head (total_slots segments) (total_bytes segments) ++ body =
     append_assoc (cert_head (total_slots segments) (total_bytes segments)) (flat_map segment_line segments) (codes "end\n")
     ∙ ap (λ l. cert_head (total_slots segments) (total_bytes segments) ++ l) (body_lines segments) in

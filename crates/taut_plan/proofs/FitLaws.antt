@@ -5,7 +5,7 @@ use Rattle.cert_check.proofs.TautForms.{bound_end}
 use Rattle.taut_plan.specs.declared.points.Point.{Point}
 use Rattle.taut_plan.specs.declared.points.Side.{Side}
 use Rattle.taut_plan.specs.declared.points.Side.TheVariants.{Lower, Upper}
-use Rattle.taut_plan.specs.Slopes.{Fits, other_side}
+use Rattle.taut_plan.specs.Slopes.{Fits}
 use Rattle.taut_plan.specs.Chain.{on_curve, IsFurthest, last_point, EdgesFit}
 use Rattle.taut_plan.specs.Funnel.{IsCrossing, FirstFits, curve_on}
 use Rattle.taut_plan.proofs.BandLaws.{band_of_sound}

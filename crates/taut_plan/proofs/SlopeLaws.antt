@@ -117,8 +117,8 @@ ahead seen = record {
   third = offset seen.from seen.third;
 }
 
-abbrev turned : Seen → Ahead
-turned seen = record {
+abbrev mirror : Seen → Ahead
+mirror seen = record {
   height = seen.from.height;
   first = offset seen.from seen.third;
   second = offset seen.from seen.second;
@@ -129,13 +129,13 @@ pub within_within : (side : Side) (seen : Seen) → seen.from.place < seen.secon
     → IsWithin side seen.from seen.first seen.second → IsWithin side seen.from seen.second seen.third
     → IsWithin side seen.from seen.first seen.third
 within_within Lower seen later p q = le_le (ahead seen) (omega arith) p q
-within_within Upper seen later p q = le_le (turned seen) (omega arith) q p
+within_within Upper seen later p q = le_le (mirror seen) (omega arith) q p
 
 pub inside_within : (side : Side) (seen : Seen) → seen.from.place < seen.third.place
     → IsInside side seen.from seen.first seen.second → IsWithin side seen.from seen.second seen.third
     → IsInside side seen.from seen.first seen.third
 inside_within Lower seen later p q = lt_le (ahead seen) (omega arith) p q
-inside_within Upper seen later p q = le_lt (turned seen) (omega arith) q p
+inside_within Upper seen later p q = le_lt (mirror seen) (omega arith) q p
 
 pub within_itself : (side : Side) (o a : Point) → IsWithin side o a a
 within_itself Lower o a = omega arith
@@ -167,8 +167,8 @@ turn_of seen = record {
   other = offset seen.corner seen.other;
 }
 
-abbrev turned_corner : SeenCorner → SeenCorner
-turned_corner seen = record {
+abbrev corner_mirror : SeenCorner → SeenCorner
+corner_mirror seen = record {
   from = seen.from;
   corner = seen.corner;
   one = seen.other;
@@ -201,4 +201,4 @@ pub turns_apart : (side : Side) (seen : SeenCorner) → IsWithin side seen.from 
 turns_apart Lower seen h k =
     turns_at (turn_of seen) (omega (arith, seen.ahead)) (rw (one_offset seen) at h) (rw (other_offset seen) at k)
 turns_apart Upper seen h k =
-    turns_at (turn_of (turned_corner seen)) (omega (arith, seen.ahead)) (rw (other_offset seen) at k) (rw (one_offset seen) at h)
+    turns_at (turn_of (corner_mirror seen)) (omega (arith, seen.ahead)) (rw (other_offset seen) at k) (rw (one_offset seen) at h)

@@ -1,7 +1,5 @@
 use Rattle.std.proofs.Common.{◌∙◌, sym, ap, rules, ◌+◌, length}
 use Rattle.std.proofs.lemmas.List.{length_push}
-use Rattle.slot_calendar.specs.Calendars.{booked_at}
-use Rattle.slot_calendar.specs.Profiles.{capacity_at}
 use Rattle.early_start.proofs.Refusals.{refusals_more}
 use Rattle.early_start.proofs.search.Goals as goal
 

@@ -1,4 +1,4 @@
-use Rattle.std.proofs.Common.{◌≡◌, ℕ, List, Option, Some, None, length, subst, arith}
+use Rattle.std.proofs.Common.{◌≡◌, ℕ, List, Option, length, subst, arith}
 use Rattle.plan_cert.specs.declared.Segment.{Segment}
 use Rattle.early_start.specs.Offered.{IsOffer, IsStart, Offers}
 use Rattle.early_start.proofs.Refusals.{no_room_tried}

@@ -1,5 +1,5 @@
-use Rattle.film_run.proofs.SeekTimes.{sought}
+use Rattle.film_run.proofs.SeekTimes.{seeks_run}
 use Rattle.film_run.proofs.laws.law_seek.Goals as goal
 
 pub returns : goal.returns
-returns c = λ film from to run. sought
+returns c = λ film from to run. seeks_run

@@ -1,4 +1,4 @@
-use Rattle.std.proofs.Common.{◌≡◌, ◌-◌, List, length, arith, ap, subst, sym, ◌∙◌, vec_len}
+use Rattle.std.proofs.Common.{◌≡◌, List, length, arith, ap, subst, sym, ◌∙◌, vec_len}
 use Rattle.admission.specs.declared.entries.Entry.{Entry}
 use Rattle.admission.specs.declared.entries.Command.TheVariants.{Halt}
 use Rattle.admission.specs.declared.entries.Answer.TheVariants.{Halted}

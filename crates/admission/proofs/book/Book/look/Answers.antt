@@ -1,7 +1,7 @@
 use Rattle.std.proofs.Common.{◌≡◌, ℕ, length, arith, refl, ap, subst}
 use Rattle.admission.specs.declared.entries.Command.TheVariants.{Look}
 use Rattle.admission.specs.Books.{IsNoted, Journal}
-use Rattle.admission.specs.Histories.{open_count, state_after}
+use Rattle.admission.specs.Histories.{open_count}
 use Rattle.admission.proofs.Calendars.{look-answer}
 use Rattle.admission.proofs.Journals.{kept-push, noted-push}
 use Rattle.admission.proofs.book.Book.look.Goals as goal
