@@ -4,7 +4,7 @@ use mathlib.Core.List.{IsPrefix}
 use Rattle.plan_cert.specs.declared.Segment.{Segment}
 use Rattle.plan_cert.specs.Slots.{total_bytes}
 use Rattle.admission.specs.declared.entries.Answer.{Answer}
-use Rattle.admission.specs.declared.entries.Answer.TheVariants.{Admitted, Looked, Overflow}
+use Rattle.admission.specs.declared.entries.Answer.TheVariants.{Admitted, Looked}
 use Rattle.admission.specs.declared.entries.Command.{Command}
 use Rattle.admission.specs.declared.entries.Entry.{Entry}
 use Rattle.admission.specs.declared.entries.Full.{Full}

@@ -4,7 +4,6 @@ use mathlib.Core.List.{IsPrefix}
 use Rattle.plan_cert.specs.declared.Segment.{Segment}
 use Rattle.slot_calendar.specs.declared.profiles.CapStep.{CapStep}
 use Rattle.admission.specs.declared.entries.Answer.{Answer}
-use Rattle.admission.specs.declared.entries.Answer.TheVariants.{Overflow}
 use Rattle.admission.specs.declared.entries.Command.{Command}
 use Rattle.admission.specs.declared.entries.Command.TheVariants.{Halt}
 use Rattle.admission.specs.declared.entries.Entry.{Entry}
@@ -17,7 +16,7 @@ use Rattle.turnstile.proofs.Prefixes.{made_own}
 use Rattle.station.specs.declared.answers.PlayRefused.{PlayRefused}
 use Rattle.station.specs.declared.answers.PlayRefused.TheVariants.{JournalFull, Overflow as PlayOverflow}
 use Rattle.station.specs.Answers.{IsFull, IsRefused, Made}
-use Rattle.station.specs.Ledgers.{IsEntered, IsFullFor, IsPlayRefused, play_of}
+use Rattle.station.specs.Ledgers.{IsEntered, IsFullFor, IsPlayRefused}
 use Rattle.station.specs.Seats.{Sitting}
 use Rattle.station.proofs.Halts.{halts-push}
 

@@ -1,7 +1,7 @@
-use Rattle.std.proofs.Common.{◌≡◌, ◌+◌, ℕ, min, get_or, subst, sym, ◌∙◌}
+use Rattle.std.proofs.Common.{ℕ, get_or, subst, sym, ◌∙◌}
 use Rattle.slot_calendar.specs.Calendars.{IsFirstOverflow}
 use Rattle.slot_calendar.specs.Profiles.{capacity_at}
-use Rattle.admission.specs.Histories.{booked_after, state_after}
+use Rattle.admission.specs.Histories.{booked_after}
 use Rattle.station.proofs.Offers.{first-refusal}
 use Rattle.station.proofs.laws.law_offer_told.Goals as goal
 

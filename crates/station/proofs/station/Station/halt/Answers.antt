@@ -1,6 +1,4 @@
 use Rattle.std.proofs.Common.{◌∙◌}
-use Rattle.admission.specs.declared.entries.Answer.TheVariants.{Halted}
-use Rattle.admission.specs.declared.entries.Command.TheVariants.{Halt}
 use Rattle.station.proofs.Backs.{entered_longer, visit, visit_made, visit_same}
 use Rattle.station.proofs.station.Station.halt.Goals as goal
 
