@@ -1,6 +1,6 @@
 -- What the link and the output tell, one thing after another.
-use Rattle.std.proofs.Common.{◌≡◌, ℕ, List, [], ◌++◌, length, Option, Some, None, refl, sym, ap, ◌∙◌, append_assoc, arith}
-use Rattle.std.proofs.lemmas.List.{append-nil, map-append, take_all}
+use Rattle.std.proofs.Common.{◌≡◌, ℕ, List, [], ◌++◌, length, Option, refl, sym, ap, ◌∙◌, arith}
+use Rattle.std.proofs.lemmas.List.{map-append, take_all}
 use Rattle.vod_base.specs.Links.{Doing, Sent, sends, told_more}
 use Rattle.vod_base.proofs.Telling.{told_more-append, told_more-nil}
 use Rattle.rtsp_client.specs.Courses.{IsFront}

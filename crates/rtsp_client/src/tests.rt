@@ -73,6 +73,7 @@ const ALL: Watched = Watched {
 
 /// A case: the client's buffer, what the link tells, what comes of it, how many requests are sent,
 /// and how many of the film's bytes are handed on.
+#[derive(Clone, Copy)]
 struct Case {
     buffer: u64,
     tells: &'static [Tell],
@@ -320,8 +321,17 @@ fn add_events(alloc: Global, events: &mut Vec<Event>, tell: Tell, cut: bool) -> 
     Ok(())
 }
 
+/// The events of all that a link tells.
+fn events_of(alloc: Global, tells: &[Tell], cut: bool) -> Result<Vec<Event>, Fail> {
+    let mut events = Vec::new(alloc);
+    for tell in tells {
+        add_events(alloc, &mut events, *tell, cut)?;
+    }
+    Ok(events)
+}
+
 /// What comes of watching, what was sent and what was handed on.
-#[derive(Drop)]
+#[derive(Debug, Drop, PartialEq)]
 struct Outcome {
     end: WatchEnd,
     sent: Vec<u8>,
@@ -388,25 +398,24 @@ fn film(alloc: Global, count: usize) -> Result<Vec<u8>, Fail> {
     Ok(bytes)
 }
 
+/// What should come of a case.
+fn wanted(alloc: Global, case: &Case) -> Result<Outcome, Fail> {
+    let sent = requests(alloc, case.requests, case.buffer)?;
+    Ok(Outcome {
+        end: case.end,
+        sent: Vec::from_slice(alloc, sent.as_bytes())?,
+        out: film(alloc, case.handed_on)?,
+    })
+}
+
 #[test]
 fn watches_films(rt: HostRuntime) -> Result<(), Fail> {
     let alloc = rt.alloc();
     for (number, case) in CASES.iter().enumerate() {
         for cut in [false, true] {
-            let mut events = Vec::new(alloc);
-            for tell in case.tells {
-                add_events(alloc, &mut events, *tell, cut)?;
-            }
+            let events = events_of(alloc, case.tells, cut)?;
             let got = watch_events(alloc, case.buffer, events, (&[], &[], &[]))?;
-            assert_eq!(rt; got.end, case.end, "case {number} {cut}");
-            let sent = requests(alloc, case.requests, case.buffer)?;
-            assert_eq!(rt; got.sent.as_slice(), sent.as_bytes(), "case {number} {cut}");
-            let handed_on = film(alloc, case.handed_on)?;
-            assert_eq!(rt;
-                got.out.as_slice(),
-                handed_on.as_slice(),
-                "case {number} {cut}"
-            );
+            assert_eq!(rt; got, wanted(alloc, case)?, "case {number} {cut}");
         }
     }
     Ok(())
@@ -423,17 +432,17 @@ fn blames_the_outside(rt: HostRuntime) -> Result<(), Fail> {
         ((&[], &[11], &[]), WatchEnd::LinkFault, 3, 49),
         ((&[], &[], &[2]), WatchEnd::SinkFault, 2, 34),
     ];
-    for (failing, end, sent, handed_on) in cases {
-        let mut events = Vec::new(alloc);
-        for tell in BY_PLAN {
-            add_events(alloc, &mut events, *tell, false)?;
-        }
-        let got = watch_events(alloc, BUFFER, events, failing)?;
-        assert_eq!(rt; got.end, end, "{failing:?}");
-        let wanted = requests(alloc, sent, BUFFER)?;
-        assert_eq!(rt; got.sent.as_slice(), wanted.as_bytes(), "{failing:?}");
-        let wanted = film(alloc, handed_on)?;
-        assert_eq!(rt; got.out.as_slice(), wanted.as_slice(), "{failing:?}");
+    for (failing, end, requests, handed_on) in cases {
+        let case = Case {
+            buffer: BUFFER,
+            tells: BY_PLAN,
+            end,
+            requests,
+            handed_on,
+        };
+        let events = events_of(alloc, case.tells, false)?;
+        let got = watch_events(alloc, case.buffer, events, failing)?;
+        assert_eq!(rt; got, wanted(alloc, &case)?, "{failing:?}");
     }
     Ok(())
 }

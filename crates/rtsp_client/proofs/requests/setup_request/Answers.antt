@@ -16,6 +16,6 @@ returns c =
     let e8 : c.put_number-2.new.text.items ≡ c.put-5.new.text.items ++ decimal c.args.wish.now.startup = c.in_ok-put_number-2.ensures in
     let e9 : c.put-6.new.text.items ≡ c.put_number-2.new.text.items ++ codes "\r\n\r\n" = c.in_ok-put-6.ensures in
     let transport = then_put (codes "Transport: RTP/AVP/TCP;unicast;interleaved=0-1\r\n")
-        (then_put (codes "/video RTSP/1.0\r\nCSeq: 1\r\n") (then_put (film_url c.args.wish.now) e1 e2) e3) e4 in
+    (then_put (codes "/video RTSP/1.0\r\nCSeq: 1\r\n") (then_put (film_url c.args.wish.now) e1 e2) e3) e4 in
     let buffer = then_put (decimal c.args.wish.now.buffer) (then_put (codes "x-Buffer: ") transport e5) e6 in
     then_put (codes "\r\n\r\n") (then_put (decimal c.args.wish.now.startup) (then_put (codes "\r\nx-Startup: ") buffer e7) e8) e9

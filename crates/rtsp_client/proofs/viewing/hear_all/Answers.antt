@@ -1,6 +1,5 @@
 use Rattle.std.proofs.Common.{◌≡◌, List, length, Option, rules, refl, ap, arith, inl}
-use Rattle.vod_base.specs.Links.{Doing, doing_of}
-use Rattle.rtsp_client.specs.declared.wishes.WatchEnd.TheVariants.{LinkFault}
+use Rattle.vod_base.specs.Links.{Doing}
 use Rattle.rtsp_client.specs.States.{State}
 use Rattle.rtsp_client.specs.Takings.{sight}
 use Rattle.rtsp_client.proofs.Coursing.{run-none, run-on, watched-end, watched-lost, watched-spent}

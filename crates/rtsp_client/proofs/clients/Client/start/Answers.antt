@@ -1,8 +1,7 @@
-use Rattle.std.proofs.Common.{◌≡◌, refl, sym, ap, subst, ◌∙◌, inr}
+use Rattle.std.proofs.Common.{◌≡◌, refl, ap, subst, ◌∙◌, inr}
 use Rattle.std.proofs.lemmas.Result.{err_from_is_err_and}
 use Rattle.vod_base.specs.Links.{IsFrontTold, sends, told_more}
 use Rattle.rtsp_client.specs.Requests.{setup_text}
-use Rattle.rtsp_client.proofs.Outcomes.{err-of, ok-of}
 use Rattle.rtsp_client.proofs.clients.Client.start.Goals as goal
 
 pub returns-in_err-send-clause-front : goal.returns-in_err-send-clause-front

@@ -4,11 +4,10 @@ use Rattle.std.proofs.lemmas.Result.{err_from_is_err_and}
 use Rattle.vod_base.specs.Links.{IsFrontTold, sends, told_more}
 use Rattle.vod_base.specs.Outside.{IsFrontMore}
 use Rattle.rtsp_client.specs.declared.wishes.Watched.{Watched}
-use Rattle.rtsp_client.specs.declared.wishes.WatchEnd.TheVariants.{Fault, LinkFault, NoMemory, SinkFault}
+use Rattle.rtsp_client.specs.declared.wishes.WatchEnd.TheVariants.{Fault}
 use Rattle.rtsp_client.specs.declared.wishes.WatchFault.TheVariants.{BadFrame}
 use Rattle.rtsp_client.specs.Requests.{teardown_text}
 use Rattle.rtsp_client.specs.States.{after_frame, has_all, source_with}
-use Rattle.rtsp_client.specs.Takings.{sight}
 use Rattle.rtsp_client.proofs.Framing.{TakenFrame, bad-frame, frame-cut, frame-done, frame-starved, last-cut, last-done, teardown-starved}
 use Rattle.rtsp_client.proofs.clients.Client.take_frame.Goals as goal
 
@@ -92,8 +91,8 @@ returns-in_err-send-clause-ended g c =
     let text : c.as_slice-2.result.now ≡ teardown_text c.args.wish.now c.args.self.now.session.items = search rules in
     let front : IsFrontTold (g.K.Link.told c.args.link.now) (g.K.Link.told c.send.new.self) c.as_slice-2.result.now = c.in_err-send.ensures.front in
     let taken : TakenFrame c.args.wish.now h c.args.self.now
-        (record { alloc = c.args.self.now.alloc; input = c.args.self.now.input; replies = c.args.self.now.replies; session = c.args.self.now.session; watching = c.add_frame.new.self })
-        (take c.args.length c.args.self.now.input) c.in-Some.source = record {
+    (record { alloc = c.args.self.now.alloc; input = c.args.self.now.input; replies = c.args.self.now.replies; session = c.args.self.now.session; watching = c.add_frame.new.self })
+    (take c.args.length c.args.self.now.input) c.in-Some.source = record {
       keeps = k;
       next_is = ap (λ i. source_with c.args.self.now.watching (take c.args.length i)) (sym c.waiting.ensures) ∙ (sym c.source_with.ensures.source ∙ c.in-Some.is);
       long = subst (λ (i : List ℕ). 20 ≤ length (take c.args.length i)) c.waiting.ensures long;

@@ -1,4 +1,4 @@
-use Rattle.std.proofs.Common.{take, ap, arith}
+use Rattle.std.proofs.Common.{ap, arith}
 use Rattle.rtsp_client.specs.declared.wishes.Watched.{Watched}
 use Rattle.rtsp_client.specs.declared.wishes.WatchEnd.TheVariants.{Done}
 use Rattle.rtsp_client.specs.Takings.{sight}

@@ -2,9 +2,7 @@ use Rattle.std.proofs.Common.{◌≡◌, ℕ, List, drop, rules, refl, ap, subst
 use Rattle.std.proofs.lemmas.Result.{err_from_is_err_and}
 use Rattle.interleave.specs.Pieces.{IsFirst}
 use Rattle.interleave.specs.declared.pieces.Step.TheVariants.{Block, More, Request, Skip}
-use Rattle.rtsp_client.specs.declared.wishes.WatchEnd.TheVariants.{Fault}
-use Rattle.rtsp_client.specs.declared.wishes.WatchFault.TheVariants.{Framing}
-use Rattle.rtsp_client.specs.Takings.{HasStopped, HasTaken, sight}
+use Rattle.rtsp_client.specs.Takings.{HasTaken, sight}
 use Rattle.rtsp_client.proofs.Cutting.{first_is}
 use Rattle.rtsp_client.proofs.Taking.{keeps-moved, stopped-block, stopped-framing, stopped-reply, taken-block, taken-ends, taken-none, taken-reply}
 use Rattle.rtsp_client.proofs.clients.Client.take_next.Goals as goal

@@ -1,6 +1,4 @@
 use Rattle.std.proofs.Common.{◌≡◌, ◌&&◌, Some, None, is_some, take, refl, sym, ap, ◌∙◌}
-use Rattle.rtsp_client.specs.declared.wishes.WatchEnd.TheVariants.{Fault}
-use Rattle.rtsp_client.specs.declared.wishes.WatchFault.TheVariants.{BadReply}
 use Rattle.rtsp_client.specs.Replies.{play_range, play_start}
 use Rattle.rtsp_client.proofs.Replying.{play-done, play-lacks}
 use Rattle.rtsp_client.proofs.clients.Client.take_play.Goals as goal

@@ -1,8 +1,5 @@
-use Rattle.std.proofs.Common.{◌+◌, ℕ, List, take, refl, subst}
-use Rattle.rtsp_client.specs.declared.wishes.WatchEnd.TheVariants.{Fault}
-use Rattle.rtsp_client.specs.declared.wishes.WatchFault.TheVariants.{BadReply, Refused}
+use Rattle.std.proofs.Common.{ℕ, List, take, refl, subst}
 use Rattle.rtsp_client.specs.Standing.{IsAwaited}
-use Rattle.rtsp_client.specs.Takings.{sight}
 use Rattle.rtsp_client.proofs.Cutting.{whole_request}
 use Rattle.rtsp_client.proofs.Replying.{bad-reply, refused-reply}
 use Rattle.rtsp_client.proofs.clients.Client.take_reply.Goals as goal

@@ -1,11 +1,8 @@
 use Rattle.std.proofs.Common.{◌≡◌, Some, None, take, rules, refl, sym, ap, subst, ◌∙◌}
 use Rattle.std.proofs.lemmas.Result.{err_from_is_err_and}
 use Rattle.vod_base.specs.Links.{IsFrontTold, sends, told_more}
-use Rattle.rtsp_client.specs.declared.wishes.WatchEnd.TheVariants.{Fault, LinkFault, NoMemory}
-use Rattle.rtsp_client.specs.declared.wishes.WatchFault.TheVariants.{BadReply}
 use Rattle.rtsp_client.specs.Replies.{session_in}
 use Rattle.rtsp_client.specs.Requests.{play_text}
-use Rattle.rtsp_client.specs.Takings.{sight}
 use Rattle.rtsp_client.proofs.Replying.{setup-cut, setup-done, setup-lacks, setup-starved}
 use Rattle.rtsp_client.proofs.clients.Client.take_setup.Goals as goal
 

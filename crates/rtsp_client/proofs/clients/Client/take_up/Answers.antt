@@ -1,6 +1,5 @@
 use Rattle.std.proofs.Common.{rules, refl, arith}
 use Rattle.std.proofs.lemmas.Result.{err_from_is_err_and}
-use Rattle.rtsp_client.specs.Takings.{sight}
 use Rattle.rtsp_client.proofs.Taking.{stopped-on, taken-none, taken-on}
 use Rattle.rtsp_client.proofs.clients.Client.take_up.Goals as goal
 
