@@ -145,37 +145,58 @@ halting_kept films keep kept pacing is = (
 )
 
 -- a play in hand, as a request is heard that halts it
-module _ (inside : Inside) (setup : Setup) (play : Played) (kept : IsKept inside) (state : inside.state ≡ Playing setup play)
-    (hear : CanHear (standing_of inside)) where
-  pub playing_in : IsStateKept inside.films.now inside.source inside.settings inside.counts (Playing setup play)
-  playing_in = subst (λ (s : State). IsStateKept inside.films.now inside.source inside.settings inside.counts s) state kept.state
+pub record HeardInPlay (inside : Inside) : Type 0 where
+  pub setup : Setup
+  pub play : Played
+  pub kept : IsKept inside
+  pub state : inside.state ≡ Playing setup play
+  pub hear : CanHear (standing_of inside)
 
-  pub unhalted : IsUnhalted play
-  unhalted = subst (λ (s : State). IsGoing inside.lost s) state
-      (subst (λ (a : Awaited). IsAwaitedKept inside.films.now inside.source inside.settings inside.counts inside.lost inside.state a)
-      (nothing_of inside.awaited hear.rest) kept.awaited) hear.lost
+pub playing_in : {inside : Inside} (hand : HeardInPlay inside)
+    → IsStateKept inside.films.now inside.source inside.settings inside.counts (Playing hand.setup hand.play)
+playing_in {inside} hand =
+    subst (λ (s : State). IsStateKept inside.films.now inside.source inside.settings inside.counts s) hand.state hand.kept.state
 
-  -- how the session is kept once its halt was asked for
-  pub halt_asked : (pacer : Pacing) (keep : ℕ) (next : Next) (reply : List ℕ) → IsPacing pacer
-      → pacer ≡ record play.pacer { keep = next_boundary play.pacer } → keep ≤ play.pacer.keep
-      → IsNextIn inside.films.now inside.source inside.counts (Playing setup (record play { pacer = pacer })) next
-      → IsKept (record inside { state = Playing setup (record play { pacer = pacer }); awaited = Halt keep next; reply = reply })
-  halt_asked pacer keep next reply pacing is most left =
-      let open_one : open_receipts inside.state ≡ 1 = ap open_receipts state in
-      record {
-        films = kept.films;
-        settings = kept.settings;
-        id = kept.id;
-        state = halting_kept inside.films.now (next_boundary play.pacer)
-            playing_in pacing is;
-        awaited = (keeps_within play keep unhalted most, left);
-        stop = tt;
-        receipt_room = omega (arith, kept.receipt_room);
-        play_room = omega (arith, kept.play_room);
-        offer_room = omega arith;
-        looks = kept.looks;
-        torn = kept.torn;
-        late = kept.late;
-        heard = kept.heard;
-        front = λ asks. absurd (omega (arith, asks));
-      }
+pub unhalted : {inside : Inside} (hand : HeardInPlay inside) → IsUnhalted hand.play
+unhalted {inside} hand = subst (λ (s : State). IsGoing inside.lost s) hand.state
+    (subst (λ (a : Awaited). IsAwaitedKept inside.films.now inside.source inside.settings inside.counts inside.lost inside.state a)
+    (nothing_of inside.awaited hand.hear.rest) hand.kept.awaited) hand.hear.lost
+
+-- a halt that was asked for: the pacer, what is kept, what comes then, and the reply
+pub record AskedHalt (inside : Inside) (setup : Setup) (play : Played) : Type 0 where
+  pub pacer : Pacing
+  pub keep : ℕ
+  pub next : Next
+  pub reply : List ℕ
+  pub pacing : IsPacing pacer
+  pub pacer_is : pacer ≡ record play.pacer { keep = next_boundary play.pacer }
+  pub most : keep ≤ play.pacer.keep
+  pub left : IsNextIn inside.films.now inside.source inside.counts (Playing setup (record play { pacer = pacer })) next
+
+-- how the session is kept once its halt was asked for
+pub halt_asked : {inside : Inside} (hand : HeardInPlay inside) (halt : AskedHalt inside hand.setup hand.play) → IsKept (record inside {
+  state = Playing hand.setup (record hand.play { pacer = halt.pacer });
+  awaited = Halt halt.keep halt.next;
+  reply = halt.reply;
+})
+halt_asked {inside} hand halt =
+    let open_one : open_receipts inside.state ≡ 1 = ap open_receipts state in
+    record {
+      films = kept.films;
+      settings = kept.settings;
+      id = kept.id;
+      state = halting_kept inside.films.now (next_boundary play.pacer) (playing_in hand) pacing pacer_is;
+      awaited = (keeps_within play keep (unhalted hand) most, left);
+      stop = tt;
+      receipt_room = omega (arith, kept.receipt_room);
+      play_room = omega (arith, kept.play_room);
+      offer_room = omega arith;
+      looks = kept.looks;
+      torn = kept.torn;
+      late = kept.late;
+      heard = kept.heard;
+      front = λ asks. absurd (omega (arith, asks));
+    }
+  where
+    open hand use {play, kept, state}
+    open halt use {keep, pacing, pacer_is, most, left}

@@ -87,12 +87,12 @@ settled_kept ground (Playing setup play) kept = kept
 settled_kept ground (Stopping setup stop) kept = (kept.0, kept.2)
 
 -- a slot carried a state on in which no halt is asked, and all that is due was sent
-pub record SteppedOn (lost : Bool) (old new : State) : Type 0 where
+pub record SteppedState (lost : Bool) (old new : State) : Type 0 where
   pub going : IsGoing lost old
   pub carried : IsCarried old new
   pub even : IsEven new
 
-going_kept : {lost : Bool} (old new : State) → SteppedOn lost old new → is_done_in new ≡ false → IsGoing lost new
+going_kept : {lost : Bool} (old new : State) → SteppedState lost old new → is_done_in new ≡ false → IsGoing lost new
 going_kept old Init given undone = tt
 going_kept old (Ready s p) given undone = tt
 going_kept Init (Playing s p) given undone = absurd given.carried
@@ -105,7 +105,7 @@ going_kept (Playing setup play) (Playing s p) given undone = λ linked. record {
 going_kept (Stopping setup stop) (Playing s p) given undone = absurd given.carried
 going_kept old (Stopping s p) given undone = tt
 
-pub awaited_kept : {lost : Bool} {old new : State} (ground : Ground) (awaited : Awaited) → SteppedOn lost old new
+pub awaited_kept : {lost : Bool} {old new : State} (ground : Ground) (awaited : Awaited) → SteppedState lost old new
     → IsFinished new awaited → IsAwaitedKept ground.films ground.source ground.settings ground.counts lost new awaited
 awaited_kept {old} {new} ground Nothing step is = going_kept old new step is
 awaited_kept ground (Play prepared) step is = absurd is
@@ -116,7 +116,7 @@ awaited_kept ground (Offer sequence) step is = absurd is
 
 -- the same once the reply of a PAUSE or a TEARDOWN was sent
 pub awaited_settled : {lost : Bool} {old : State} (ground : Ground) (new : State) (awaited : Awaited)
-    → SteppedOn lost old new → IsFinished (after_stop new) awaited
+    → SteppedState lost old new → IsFinished (after_stop new) awaited
     → IsAwaitedKept ground.films ground.source ground.settings ground.counts lost (after_stop new) awaited
 awaited_settled {lost} ground Init awaited step is =
     awaited_kept {lost = lost} {old = Init} {new = Init} ground awaited (record { going = tt; carried = tt; even = tt }) is

@@ -28,7 +28,7 @@ use Rattle.session.specs.PlayLaws.{IsDeclined}
 use Rattle.session.specs.Replies.{field, session_text}
 use Rattle.session.specs.Sendings.{after_play, is_between, is_done_in, is_sending, is_taken, next_of, sent_due, sent_in, sent_reply, sent_slot, stepped_in}
 use Rattle.session.specs.Standings.{Standing}
-use Rattle.session.proofs.Grounds.{Beginning, Taken}
+use Rattle.session.proofs.Grounds.{Beginning, TakenRequest}
 use Rattle.session.proofs.OneVerdict.{method_once}
 use Rattle.session.proofs.RangeInPlaying.{refused, same_request}
 use Rattle.session.proofs.Results.{ComesTo, Lacks, Refuses, Says, SettlesSetup, AsksForPlay, AsksForHalt, AsksForLook, AsksForOffer, comes_to}
@@ -101,13 +101,13 @@ pauses_in {state = Stopping setup stop} {ask} {new} sequence is pauses = absurd 
 
 -- what all requests of a method come to
 abbrev TakesMethod : (Standing → Ask → Standing → Type 0) → List ℕ → Type 0
-TakesMethod P method = (taken : Taken) (judgement : Result Task Refusal) → taken.request.method.now ≡ method
+TakesMethod P method = (taken : TakenRequest) (judgement : Result Task Refusal) → taken.request.method.now ≡ method
     → IsJudged taken.old.films taken.old.id (place_of taken.old.state) taken.request judgement
     → Takes taken.old taken.request judgement taken.ask taken.new → Comes P taken.old taken.ask taken.new
 
 -- a request of a method is refused, or does what the method's task does
 does_task : (P : Standing → Ask → Standing → Type 0) (method : Method)
-    → ((taken : Taken) (task : Task) → method_of task ≡ method
+    → ((taken : TakenRequest) (task : Task) → method_of task ≡ method
     → Takes taken.old taken.request (Ok task) taken.ask taken.new → P taken.old taken.ask taken.new)
     → TakesMethod P (name_of method)
 does_task P method does taken (Ok task) named judged takes =
@@ -115,7 +115,7 @@ does_task P method does taken (Ok task) named judged takes =
 does_task P method does taken (Err refusal) named judged takes =
     inl (refused (Some taken.request.sequence) refusal (option_of taken.request.head.now) takes)
 
-tears_task : (taken : Taken) (task : Task) → method_of task ≡ Teardown
+tears_task : (taken : TakenRequest) (task : Task) → method_of task ≡ Teardown
     → Takes taken.old taken.request (Ok task) taken.ask taken.new → IsTornDown taken.old taken.ask taken.new
 tears_task taken ToTeardown is takes = tears_in taken.request.sequence refl takes
 tears_task taken ToOptions is takes = absurd cc
@@ -125,7 +125,7 @@ tears_task taken (ToPlay asked) is takes = absurd cc
 tears_task taken ToPause is takes = absurd cc
 tears_task taken ToGetParameter is takes = absurd cc
 
-pauses_task : (taken : Taken) (task : Task) → method_of task ≡ Pause
+pauses_task : (taken : TakenRequest) (task : Task) → method_of task ≡ Pause
     → Takes taken.old taken.request (Ok task) taken.ask taken.new → IsPausedPlay taken.old taken.ask taken.new
 pauses_task taken ToPause is takes = pauses_in taken.request.sequence refl takes
 pauses_task taken ToOptions is takes = absurd cc

@@ -44,7 +44,7 @@ pub record HeardMessage : Type 0 where
   pub hears : Hears old message ask new
 
 -- a message that the same session heard twice
-pub record HeardTwice : Type 0 where
+pub record TwoHearings : Type 0 where
   pub old : Standing
   pub one : Standing
   pub other : Standing
@@ -56,7 +56,7 @@ pub record HeardTwice : Type 0 where
   pub its : Hears old message again other
 
 -- a request that was taken up, what it asks of the station, and the session before and after it
-pub record Taken : Type 0 where
+pub record TakenRequest : Type 0 where
   pub old : Standing
   pub new : Standing
   pub request : Request

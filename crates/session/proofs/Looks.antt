@@ -20,7 +20,7 @@ use Rattle.session.specs.Methods.{Gets, IsRefused, Looks, Takes}
 use Rattle.session.specs.Replies.{refusal_text}
 use Rattle.session.specs.Sendings.{after_play, is_between, is_sending, is_taken, sent_due, sent_reply, sent_slot, stepped_in}
 use Rattle.session.specs.Standings.{Standing}
-use Rattle.session.proofs.Grounds.{Beginning, HeardMessage, Taken}
+use Rattle.session.proofs.Grounds.{Beginning, HeardMessage, TakenRequest}
 use Rattle.session.proofs.OneHearing.{topic_once}
 use Rattle.session.proofs.RangeInPlaying.{same_request}
 use Rattle.session.proofs.Refusing.{one_code, own_code, refusal_code}
@@ -89,7 +89,7 @@ booked_asks : (old new : Standing) (sequence : ℕ) (ask : Ask) → 0 < old.look
 booked_asks old new sequence ask some (inl look) = λ lacks. subst (λ a. Is500 a new) look.command lacks
 booked_asks old new sequence ask some (inr short) = absurd (omega (arith, some, short.later))
 
-gets_booked : {topic : Topic} (taken : Taken) → 0 < taken.old.looks_left → topic ≡ Booked
+gets_booked : {topic : Topic} (taken : TakenRequest) → 0 < taken.old.looks_left → topic ≡ Booked
     → Gets taken.old taken.request topic taken.ask taken.new → ¬ Is500 taken.ask taken.new
 gets_booked {topic = NoTopic} taken some is gets = absurd (let no : ⊥ = cc in no)
 gets_booked {topic = Booked} taken some is gets = booked_asks taken.old taken.new taken.request.sequence taken.ask some gets
@@ -106,12 +106,12 @@ refuses_booked {new} {ask} {refusal} old sequence option other is = λ lacks.
     other (own.memory (one_code text own.small (omega arith) (refusal_code (Some sequence) refusal option) its))
 
 -- a request for what is booked, for which there is room
-record HasBookedAsked (old : Standing) (request : Request) : Type 0 where
+record BookedRequest (old : Standing) (request : Request) : Type 0 where
   some : 0 < old.looks_left
   method : request.method.now ≡ codes "GET_PARAMETER"
   body : IsWord (codes "x-Booked") request.body.now
 
-takes_booked : (taken : Taken) (judgement : Result Task Refusal) → HasBookedAsked taken.old taken.request
+takes_booked : (taken : TakenRequest) (judgement : Result Task Refusal) → BookedRequest taken.old taken.request
     → IsJudged taken.old.films taken.old.id (place_of taken.old.state) taken.request judgement
     → Takes taken.old taken.request judgement taken.ask taken.new → ¬ Is500 taken.ask taken.new
 takes_booked taken (Ok ToGetParameter) asked judged takes =

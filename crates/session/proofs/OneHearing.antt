@@ -48,7 +48,7 @@ use Rattle.session.specs.Ranges.{AreFilms}
 use Rattle.session.specs.Replies.{describe_text, plain_text, public_text, refusal_text, session_text}
 use Rattle.session.specs.Setups.{AreChannelsOf, AsksForSetup, HasChannels, IsChosen, HasNoMeaning, IsSetupRead}
 use Rattle.session.specs.Standings.{Standing, with_reply}
-use Rattle.session.proofs.Grounds.{HeardTwice, Taken}
+use Rattle.session.proofs.Grounds.{TwoHearings, TakenRequest}
 use Rattle.session.proofs.Namings.{film_once, named_once}
 use Rattle.session.proofs.OnePlan.{film_at_once, planned_once}
 use Rattle.session.proofs.OneVerdict.{AreAlike, method_once, not_both, refusal_once, turned}
@@ -326,7 +326,7 @@ By old Pause r ask new = Pauses old.state old r.sequence ask new
 By old Teardown r ask new = TearsDown old.state old r.sequence ask new
 By old GetParameter r ask new = GetsParameter old r ask new
 
-by_method : (taken : Taken) (place : Place) (task : Task)
+by_method : (taken : TakenRequest) (place : Place) (task : Task)
     → IsTaskOf taken.old.films place taken.request.url.now task
     → Takes taken.old taken.request (Ok task) taken.ask taken.new
     → By taken.old (method_of task) taken.request taken.ask taken.new
@@ -425,8 +425,8 @@ module _ (old : Standing) (message : List ℕ) (ask again : Ask) (one other : St
   takes_once films (Ok a) (Ok b) judged judged' is its =
       let method : method_of b ≡ method_of a =
       method_once request.method.now (method_of b) (method_of a) (sym alike.method ∙ judged'.talk.spoken.named) judged.talk.spoken.named in
-      let first : Taken = record { old = old; new = one; request = request; ask = ask } in
-      let second : Taken = record { old = old; new = other; request = request'; ask = again } in
+      let first : TakenRequest = record { old = old; new = one; request = request; ask = ask } in
+      let second : TakenRequest = record { old = old; new = other; request = request'; ask = again } in
       by_once films (method_of a) (by_method first (place_of old.state) a judged.film is)
       (subst (λ m. By old m request' again other) method (by_method second (place_of old.state) b judged'.film its))
   takes_once films (Ok a) (Err b) judged judged' is its =
@@ -470,6 +470,6 @@ hears_on_once {one} {other} {ask} false old message films (inr is) (inl its) =
 hears_on_once {one} {other} {ask} false old message films (inr is) (inr its) = whole_once films is its
 
 -- a message has one answer, state, reply and command, or memory is wanting for it
-pub hears_once : (twice : HeardTwice)
+pub hears_once : (twice : TwoHearings)
     → IsOneHearing twice.old twice.message twice.ask twice.one twice.again twice.other
 hears_once twice = hears_on_once twice.old.lost twice.old twice.message twice.films twice.is twice.its

@@ -24,8 +24,18 @@ use Rattle.session.specs.declared.states.Play.{Play as Played}
 use Rattle.session.specs.declared.states.Setup.{Setup}
 use Rattle.session.specs.declared.states.Source.{Source}
 
-module _ (p : Pacing) (keep : ℕ) (pacing : IsPacing p) (even : p.due ≡ p.sent) (whole : p.keep ≡ total_bytes p.plan)
-    (going : is_done p ≡ false) (after : IsBoundaryAfter p.pieces (p.before + p.sent) (p.before + keep)) (most : keep ≤ p.keep) where
+-- a pacing that is halted at a boundary before all that it keeps was sent
+pub record HaltedPacing (p : Pacing) (keep : ℕ) : Type 0 where
+  pub pacing : IsPacing p
+  pub even : p.due ≡ p.sent
+  pub whole : p.keep ≡ total_bytes p.plan
+  pub going : is_done p ≡ false
+  pub after : IsBoundaryAfter p.pieces (p.before + p.sent) (p.before + keep)
+  pub most : keep ≤ p.keep
+
+module _ (p : Pacing) (keep : ℕ) (halted : HaltedPacing p keep) where
+  open halted use {pacing, even, whole, going, after, most}
+
   -- not all that is kept was sent, once a slot was stepped
   not_done : 0 < p.passed → p.sent ≡ p.keep → ⊥
   not_done some all =
@@ -76,8 +86,14 @@ pub halts_play : {play : Played} {keep : ℕ} {halted : Pacing} (last : Option �
     → HaltAtBoundary play keep halted → slots_through last ≡ halted.passed → IsHalt play.plan last keep
 halts_play {play} {keep} {halted} last is unhalted halt through =
     subst (λ (plan : List Segment). IsHalt plan last keep) is.plan
-    (is_halt play.pacer keep is.pacing unhalted.even (unhalted.whole ∙ ap total_bytes (sym is.plan)) unhalted.going halt.after halt.most last
-    (through ∙ ap (λ (p : Pacing). p.passed) halt.state))
+    (is_halt play.pacer keep (record {
+      pacing = is.pacing;
+      even = unhalted.even;
+      whole = unhalted.whole ∙ ap total_bytes (sym is.plan);
+      going = unhalted.going;
+      after = halt.after;
+      most = halt.most;
+    }) last (through ∙ ap (λ (p : Pacing). p.passed) halt.state))
 
 -- what it keeps is of its plan
 pub keeps_within : (play : Played) (keep : ℕ) → IsUnhalted play → keep ≤ play.pacer.keep → keep ≤ total_bytes play.plan

@@ -12,7 +12,7 @@ use Rattle.session.specs.Hearings.{Hears}
 use Rattle.session.specs.Laws.{Is500, IsWanting, NeverLacks}
 use Rattle.session.specs.Replies.{code_of, refusal_text}
 use Rattle.session.specs.Standings.{Standing}
-use Rattle.session.proofs.Grounds.{HeardTwice}
+use Rattle.session.proofs.Grounds.{TwoHearings}
 use Rattle.session.proofs.OneHearing.{hears_once}
 use Rattle.session.proofs.Results.{ComesTo, Lacks, Refuses, Says, SettlesSetup, AsksForPlay, AsksForHalt, AsksForLook, AsksForOffer, comes_to}
 
@@ -168,7 +168,7 @@ same_wanting : {one other : Standing} {ask again : Ask} (old : Standing) (messag
 same_wanting {one} {other} {ask} old message is its = (is.0 ∙ sym its.0, is.1 ∙ sym its.1)
 
 -- where memory is found for both hearings of a message, or for none, they come to the same
-pub hears_same : (twice : HeardTwice) → (Is500 twice.ask twice.one → Is500 twice.again twice.other)
+pub hears_same : (twice : TwoHearings) → (Is500 twice.ask twice.one → Is500 twice.again twice.other)
     → (Is500 twice.again twice.other → Is500 twice.ask twice.one) → (twice.ask ≡ twice.again) × (twice.one ≡ twice.other)
 hears_same twice there back =
     elim (hears_once twice) [

@@ -12,7 +12,7 @@ use Rattle.session.specs.declared.states.Next.TheVariants.{Paused}
 use Rattle.session.specs.declared.states.State.{State}
 use Rattle.session.specs.declared.states.State.TheVariants.{Playing}
 use Rattle.session.specs.declared.asks.Ask.TheVariants.{Halt as AskHalt}
-use Rattle.session.proofs.Askings.{halt_asked, playing_in, unhalted}
+use Rattle.session.proofs.Askings.{HeardInPlay, halt_asked, playing_in, unhalted}
 use Rattle.session.proofs.Pausing.{halts_play, left_runs}
 use Rattle.session.proofs.Playables.{of_film}
 use Rattle.session.proofs.sessions.Session.pause.Goals as goal
@@ -24,8 +24,8 @@ run_after-left-requires-clause-halt c =
     let play = c.in-Playing.play in
     let state : inside.state ≡ Playing setup play = sym c.in-Playing.ensures.value in
     let hear : CanHear (standing_of inside) = subst CanHear (sym c.self.view_is) c.requires.hear in
-    halts_play c.last_slot-last.result
-    (playing_in inside setup play c.self.invariant state hear).1 (unhalted inside setup play c.self.invariant state hear) (record {
+    let hand : HeardInPlay inside = record { setup = setup; play = play; kept = c.self.invariant; state = state; hear = hear } in
+    halts_play c.last_slot-last.result (playing_in hand).1 (unhalted hand) (record {
       state = c.ask_halt-keep.ensures.state;
       after = c.ask_halt-keep.ensures.boundary;
       most = c.ask_halt-keep.ensures.most;
@@ -40,17 +40,26 @@ invariant_of-self c =
     let left = c.run_after-left.result in
     let state : inside.state ≡ Playing setup play = sym c.in-Playing.ensures.value in
     let hear : CanHear (standing_of inside) = subst CanHear (sym c.self.view_is) c.requires.hear in
-    let kept = playing_in inside setup play c.self.invariant state hear in
-    halt_asked inside setup play c.self.invariant state hear c.ask_halt-keep.new.self c.ask_halt-keep.result (Paused left)
-    c.put_session.new.reply c.ask_halt-keep.ensures.pacing c.ask_halt-keep.ensures.state c.ask_halt-keep.ensures.most
-    (of_film inside.films.now setup.film stored (λ s. IsRunOf s inside.source setup inside.counts left) c.stored_at-stored.ensures.film
-    (left_runs
+    let hand : HeardInPlay inside = record { setup = setup; play = play; kept = c.self.invariant; state = state; hear = hear } in
+    let kept = playing_in hand in
+    let runs =
+    left_runs
     kept.1 (kept.2 stored c.stored_at-stored.ensures.film) c.playback_of-playback.ensures.playback
     c.ask_halt-keep.ensures.boundary.boundary (record {
       left_is = c.run_after-left.ensures.left;
       run_is = c.run_after-left.ensures.run;
       fits = c.run_after-left.ensures.fits;
-    })))
+    }) in
+    halt_asked hand (record {
+      pacer = c.ask_halt-keep.new.self;
+      keep = c.ask_halt-keep.result;
+      next = Paused left;
+      reply = c.put_session.new.reply;
+      pacing = c.ask_halt-keep.ensures.pacing;
+      pacer_is = c.ask_halt-keep.ensures.state;
+      most = c.ask_halt-keep.ensures.most;
+      left = of_film inside.films.now setup.film stored (λ s. IsRunOf s inside.source setup inside.counts left) c.stored_at-stored.ensures.film runs;
+    })
 
 pub returns-clause-exact : goal.returns-clause-exact
 returns-clause-exact c =
