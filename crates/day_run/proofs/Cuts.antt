@@ -6,7 +6,6 @@ use Rattle.std.proofs.lemmas.List.Elements.{All-head, All-tail}
 use Rattle.std.specs.List.{slice_split, onto_first}
 use Rattle.vod_base.specs.Splits.{IsSplitAtFirst}
 use Rattle.vod_base.proofs.FirstBytes.{none_is}
-use Rattle.plan_cert.specs.Reading.{lines_of}
 use Rattle.plan_cert.proofs.Grammar.{lines-cut, lines-none}
 use Rattle.day_run.specs.Lines.{is_space, lines_of_script, last_line, texts_at, without_return}
 

@@ -1,13 +1,13 @@
 -- What a turn of a large day brings.
-use Rattle.std.proofs.Common.{◌≡◌, ◌<◌, ◌≤◌, ◌+◌, ◌%◌, ℕ, List, [], inl, inr, arith}
+use Rattle.std.proofs.Common.{◌<◌, ◌+◌, ◌%◌, ℕ, List, [], inl, inr, arith}
 use Rattle.std.specs.Prelude.{◌⊎◌}
 use Rattle.std.proofs.lemmas.Nat.{mod_below}
 use Rattle.film_make.specs.Generator.{after}
 use Rattle.day_run.specs.declared.scripts.Line.{Line}
 use Rattle.day_run.specs.declared.scripts.Line.TheVariants.{Play, Pause, Resume}
-use Rattle.day_run.specs.Days.{IsLine, IsTold, Link, Moment, state_at}
+use Rattle.day_run.specs.Days.{IsLine, IsTold, Link, Moment}
 use Rattle.day_run.specs.DayLaws.{IsDrawnLine, IsDrawnTurn}
-use Rattle.day_run.specs.FairDays.{IsDone, IsTurn, Turn, client_of, state_in}
+use Rattle.day_run.specs.FairDays.{IsDone, IsTurn, Turn, state_in}
 use Rattle.day_run.specs.ClientStates.{Idle, Paused, Pausing, Playing, ClientState}
 
 -- nothing, or a line

@@ -16,8 +16,8 @@ use Rattle.day_run.specs.declared.counts.Made.{Made}
 use Rattle.day_run.specs.declared.clients.Client.{Client}
 use Rattle.day_run.specs.Clients.{state_of}
 use Rattle.day_run.specs.Balanced.{IsReady}
-use Rattle.day_run.specs.Days.{Link, Moment, at_slot, booked_up_to, last_journal, IsPlayLine, first_moment, rest_at, state_at, sent_up_to}
-use Rattle.day_run.specs.FairDays.{AreTurns, IsDone, IsTurn, Turn, after_traces, after_turn, at_later, counts_of, fair_link, IsFair, is_full_line, is_refused, made_of, most_up_to, turn_booked, turn_peak, turn_sent, words_for}
+use Rattle.day_run.specs.Days.{Link, Moment, at_slot, last_journal, IsPlayLine, first_moment, rest_at, state_at}
+use Rattle.day_run.specs.FairDays.{AreTurns, IsDone, IsTurn, Turn, after_traces, after_turn, at_later, counts_of, fair_link, IsFair, is_full_line, is_refused, made_of, turn_booked, turn_peak, turn_sent, words_for}
 use Rattle.day_run.specs.Fairs.{HasCome, HasTurned, after_turns, with_slot, with_turn}
 use Rattle.day_run.specs.Prints.{fair_text}
 use Rattle.day_run.specs.declared.runners.Told.{Told}

@@ -1,13 +1,11 @@
 -- A script has one day.
-use Rattle.std.proofs.Common.{◌≡◌, ◌<◌, ◌≤◌, ◌+◌, ℕ, max, List, [], ◌∷◌, ◌++◌, length, set, arith, refl, sym, ap, subst, ◌∙◌, inl, inr}
+use Rattle.std.proofs.Common.{◌≡◌, ◌<◌, ◌+◌, ℕ, max, List, [], ◌∷◌, ◌++◌, length, set, arith, refl, sym, ap, subst, ◌∙◌, inl, inr}
 use Rattle.wire_curve.proofs.Exact.{HasFault-unique}
 use Rattle.std.specs.Prelude.{flat_map, ◌⊎◌}
-use Rattle.std.proofs.lemmas.Bool.{cases_lt}
 use Rattle.plan_cert.specs.declared.Segment.{Segment}
 use Rattle.wire_curve.specs.declared.film.CurveFault.{CurveFault}
 use Rattle.wire_curve.specs.declared.film.CurveFault.TheVariants.{NoPictures, TooManySlots, BufferTooSmall}
 use Rattle.wire_curve.specs.declared.film.Timing.{Timing}
-use Rattle.wire_curve.specs.FilmCurves.{bytes_used_in}
 use Rattle.wire_curve.specs.Refusal.{HasFault, IsAccepted}
 use Rattle.film_run.specs.Pauses.{IsLeft}
 use Rattle.film_run.specs.Plans.{rest_sizes, timing_of}
@@ -26,7 +24,7 @@ use Rattle.admission.proofs.Once.{answer-once}
 use Rattle.day_run.specs.declared.scripts.Line.{Line}
 use Rattle.day_run.specs.declared.scripts.Line.TheVariants as lines
 use Rattle.day_run.specs.DayLaws.{AreClients, IsLink, IsSoundRest, IsSoundClient}
-use Rattle.day_run.specs.Days.{AreRun, IsAnsweredPlay, IsAsked, IsDay, IsFaulty, IsFull, IsHaltedPlay, IsLine, IsLookLine, IsNoted, IsOfferLine, IsPauseLine, IsPlayLine, IsResumeLine, IsTold, Link, Moment, entry_by, last_journal, last_lines, first_moment, rest_at, state_at, with_play}
+use Rattle.day_run.specs.Days.{AreRun, IsAnsweredPlay, IsAsked, IsDay, IsFaulty, IsFull, IsHaltedPlay, IsLine, IsLookLine, IsNoted, IsOfferLine, IsPauseLine, IsPlayLine, IsResumeLine, IsTold, Link, Moment, entry_by, last_journal, last_lines, state_at, with_play}
 use Rattle.day_run.specs.Prints.{fault_text, offer_text}
 use Rattle.report.specs.EntryLines.{entry_line}
 use Rattle.day_run.specs.Scripts.{AreLines}

@@ -1,5 +1,4 @@
 use Rattle.std.proofs.Common.{◌<◌, length, ◌∙◌, arith}
-use Rattle.day_run.specs.Clients.{halt_for, state_for}
 use Rattle.day_run.proofs.Sweeps.{ended-next, ended-states, undone-next}
 use Rattle.day_run.proofs.all_clients.end_each.Goals as goal
 

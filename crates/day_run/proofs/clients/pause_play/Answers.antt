@@ -1,7 +1,6 @@
 use Rattle.std.proofs.Common.{◌≡◌, ◌≤◌, ◌==◌, true, false, eq-eqb, ne_eqb, sym, ap, ◌∙◌, arith}
 use Rattle.day_run.proofs.Pausing.{halts}
 use Rattle.day_run.proofs.Timings.{pause-of, paused-state, pausing-state}
-use Rattle.day_run.specs.Clients.{rest_of}
 use Rattle.day_run.proofs.clients.pause_play.Goals as goal
 
 pub run_after-run-requires-clause-halt : goal.run_after-run-requires-clause-halt

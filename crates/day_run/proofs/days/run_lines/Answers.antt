@@ -1,5 +1,4 @@
 use Rattle.std.proofs.Common.{◌<◌, length, ◌∙◌, arith}
-use Rattle.day_run.specs.Runners.{link_on, moment_of}
 use Rattle.day_run.proofs.DayRuns.{run-next}
 use Rattle.day_run.proofs.SourceReels.{heard-next}
 use Rattle.day_run.proofs.days.run_lines.Goals as goal

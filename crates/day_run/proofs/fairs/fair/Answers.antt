@@ -1,9 +1,9 @@
 use Rattle.std.proofs.Common.{◌≡◌, ◌++◌, ℕ, List, map, ap, ◌∙◌}
-use Rattle.film_make.specs.Generator.{words_left, words_of}
+use Rattle.film_make.specs.Generator.{words_of}
 use Rattle.day_run.specs.FairDays.{after_traces, fair_link, made_of, traces_drawn}
 use Rattle.day_run.specs.Fairs.{sizes_in}
 use Rattle.day_run.specs.Prints.{fair_text}
-use Rattle.day_run.specs.Runners.{link_on, moment_of}
+use Rattle.day_run.specs.Runners.{link_on}
 use Rattle.day_run.specs.ClientStates.{ReelContent, trace_content}
 use Rattle.day_run.specs.ReelContents.{reel_content}
 use Rattle.day_run.proofs.FairTurns.{fair-of}

@@ -1,4 +1,3 @@
-use Rattle.day_run.specs.Days.{rest_at}
 use Rattle.day_run.proofs.OfferLaws.{offer-told}
 use Rattle.day_run.proofs.laws.law_offers.Goals as goal
 

@@ -1,7 +1,7 @@
 use Rattle.std.proofs.Common.{◌≡◌, ◌≤◌, [], length, drop, ◌∙◌, false, true, arith, sym, ap, inl, inr}
 use Rattle.std.proofs.lemmas.List.{length-drop, take_all}
 use Rattle.day_run.specs.Lines.{lines_of_script}
-use Rattle.day_run.specs.Readings.{lines_read, nothing_read, reading_of}
+use Rattle.day_run.specs.Readings.{lines_read, nothing_read}
 use Rattle.day_run.proofs.ReadLines.{NextLine, next-line, read-next, bad-next}
 use Rattle.day_run.proofs.reading.read_script.Goals as goal
 

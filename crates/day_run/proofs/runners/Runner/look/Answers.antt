@@ -2,7 +2,7 @@ use Rattle.std.proofs.Common.{◌^◌, min, ap, refl, inl, inr, arith}
 use Rattle.admission.specs.declared.entries.Command.TheVariants.{Look}
 use Rattle.admission.specs.declared.entries.Entry.{Entry}
 use Rattle.admission.specs.Books.{Journal}
-use Rattle.day_run.specs.Runners.{link_on, moment_of}
+use Rattle.day_run.specs.Runners.{moment_of}
 use Rattle.day_run.proofs.DaySteps.{day-noted, looked-now}
 use Rattle.day_run.proofs.LineSteps.{noted, told-full}
 use Rattle.day_run.proofs.runners.Runner.look.Goals as goal
