@@ -33,7 +33,7 @@ use Rattle.session.specs.declared.refusals.Refusal.{Refusal}
 use Rattle.session.specs.declared.refusals.Refusal.TheVariants.{BadRequest, Version, Method, Option as Required, Session, Film as NoFilm, State, Transport, Parameter, Buffer, Range, Memory}
 use Rattle.session.specs.declared.states.Setup.{Setup}
 use Rattle.session.specs.Films.{begins_at, identity_of, length_ms, milliseconds_at, sending_of, timestamp_at}
-use Rattle.session.specs.Hearings.{after_admission, after_full, after_look, after_overflow, started_text}
+use Rattle.session.specs.Hearings.{after_admission, after_full, after_look, after_overflow}
 use Rattle.session.specs.Methods.{Describes, IsSetUp, first_number, play_front}
 use Rattle.session.specs.PublicLaws.{IsPublicTold}
 use Rattle.session.specs.declared.states.State.TheVariants.{Ready}
