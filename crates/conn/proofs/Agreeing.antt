@@ -2,7 +2,7 @@
 use Rattle.std.proofs.Common.{◌≡◌, ℕ, List, [], ◌∷◌, ◌++◌, Option, Some, None, option_map, refl, ap}
 use Rattle.std.proofs.Common.{sym, ◌∙◌, subst, inl, inr}
 use Rattle.std.specs.Prelude.{IfSome}
-use Rattle.vod_base.specs.Gates.{Content, Returned, LastTake, after_take, after_empty_take, after_return}
+use Rattle.vod_base.specs.Gates.{Content, Returned, LastTake, after_empty_take, after_return}
 use Rattle.vod_base.specs.Links.{Doing, told_more}
 use Rattle.vod_base.specs.Outside.{HasRisen}
 use Rattle.film_frames.specs.declared.stores.Stored.{Stored}
@@ -17,6 +17,7 @@ use Rattle.conn.specs.Promises.{KeepsPromise}
 use Rattle.conn.specs.Served.{HasServedConnection}
 use Rattle.conn.specs.Parts.{AreServed, AreTold, HasServedOne, IsUntouched, fresh_told}
 use Rattle.vod_base.proofs.Telling.{told_more-nil}
+use Rattle.conn.proofs.Occasions.{TakenBack}
 
 -- what a connection told at its end is what it told before, and more
 told_after : {session : Standing} {old new : Option (List Doing)} {seat next : Sitting} {report : ConnReport} → HasServedConnection session old new seat next report →
@@ -63,19 +64,32 @@ told_first {reports} films settings (Some part) seat untouched none =
     subst (λ bs. AreServed films settings seat bs reports seat) (sym untouched.back) (subst (λ rs. AreServed films settings seat [] rs seat) (sym none) refl)
 
 pub told_one : {films : List Stored} {settings : Settings} {taken new : Option Content} {between next : Sitting}
-    {more : List ConnReport} {returned : Returned} {report : ConnReport} (mid : Option Content) (old : Sitting)
-    (reports : List ConnReport) →
-    AreTold films settings mid reports old between → taken ≡ option_map after_take mid → new ≡ option_map (after_return returned) taken → more ≡ reports ++ report ∷ [] →
-    HasServedOne films settings returned report between next → AreTold films settings new more old next
-told_one {films} {settings} {taken} {new} {between} {next} {more} {returned} None old reports are is back items one =
-    subst (λ c. AreTold films settings c more old next) (sym (back ∙ ap (option_map (after_return returned)) is)) tt
-told_one {films} {settings} {taken} {new} {between} {next} {more} {returned} (Some mid) old reports are is back items one =
-    subst (λ c. AreTold films settings c more old next) (sym (back ∙ ap (option_map (after_return returned)) is))
+    {more : List ConnReport} {returned : Returned} {report : ConnReport} {mid : Option Content} (old : Sitting)
+    (reports : List ConnReport) → AreTold films settings mid reports old between → TakenBack mid taken new returned →
+    more ≡ reports ++ report ∷ [] → HasServedOne films settings returned report between next →
+    AreTold films settings new more old next
+told_one {films} {settings} {taken} {new} {between} {next} {more} {returned} {mid = None} old reports are back items one =
+    subst (λ c. AreTold films settings c more old next) (sym (back.returns ∙ ap (option_map (after_return returned)) back.takes)) tt
+told_one {films} {settings} {taken} {new} {between} {next} {more} {returned} {mid = Some mid} old reports are back items one =
+    subst (λ c. AreTold films settings c more old next) (sym (back.returns ∙ ap (option_map (after_return returned)) back.takes))
     (subst (λ rs. AreServed films settings old (mid.own.back ++ returned ∷ []) rs next) (sym items)
     (served_more old mid.own.back reports are one))
 
-pub told_end : {new : Option Content} (films : List Stored) (settings : Settings) (mid : Option Content)
-    (old next : Sitting) (reports : List ConnReport) (last : LastTake) → AreTold films settings mid reports old next →
-    new ≡ option_map (after_empty_take last) mid → AreTold films settings new reports old next
-told_end {new} films settings None old next reports last are is = subst (λ c. AreTold films settings c reports old next) (sym is) tt
-told_end {new} films settings (Some mid) old next reports last are is = subst (λ c. AreTold films settings c reports old next) (sym is) are
+-- what is told of a part beside its content: films and settings, the seat before and after, and the reports
+pub record PartServed : Type 0 where
+  pub films : List Stored
+  pub settings : Settings
+  pub old : Sitting
+  pub next : Sitting
+  pub reports : List ConnReport
+
+pub told_end : {new : Option Content} (part : PartServed) (mid : Option Content) (last : LastTake) →
+    AreTold part.films part.settings mid part.reports part.old part.next →
+    new ≡ option_map (after_empty_take last) mid →
+    AreTold part.films part.settings new part.reports part.old part.next
+told_end {new} part None last are is = subst (λ c. AreTold films settings c reports old next) (sym is) tt
+  where
+    open part use {films, settings, old, next, reports}
+told_end {new} part (Some mid) last are is = subst (λ c. AreTold films settings c reports old next) (sym is) are
+  where
+    open part use {films, settings, old, next, reports}

@@ -30,10 +30,15 @@ memory_code : (old : Standing) (ask : Ask) (asking : Standing) → LacksMemory o
 unfolding reply_text reply_front status_line digits
 memory_code old ask asking lacks = subst (HasCode 500) (sym (ap (λ (s : Standing). s.text) lacks.refused.1)) refl
 
-entry_replied : {old asking : Standing} (is : IsPlayAsked old asking) (placed : Placed) (answer : Answer)
-    (new : Standing) → asking.state ≡ old.state →
-    placed.entry.command ≡ play_of old.heard is.planned.plan → IsPlayAnswered asking placed answer new → IsEntryReplied old placed answer new
-entry_replied {old} {asking} is placed (Admitted start) new same command answered =
+-- a PLAY to which no refusal applies was asked for, and its play was entered
+pub record PlayEntered (old asking : Standing) (placed : Placed) : Type 0 where
+  pub asked : IsPlayAsked old asking
+  pub same : asking.state ≡ old.state
+  pub command : placed.entry.command ≡ play_of old.heard asked.planned.plan
+
+entry_replied : {old asking : Standing} {placed : Placed} → PlayEntered old asking placed → (answer : Answer)
+    (new : Standing) → IsPlayAnswered asking placed answer new → IsEntryReplied old placed answer new
+entry_replied {old} {asking} {placed} entered (Admitted start) new answered =
     let prepared = prepared_of old is.stored is.setup is.planned is.sequence in
     let ready : IsReady is.setup asking.state = subst (IsReady is.setup) (sym (same ∙ is.ready)) refl in
     let begun = play_begins asking placed answered ready is.awaited in
@@ -50,15 +55,18 @@ entry_replied {old} {asking} is placed (Admitted start) new same command answere
       start_is = begun.start_is;
       sent = begun.sent;
     }
-entry_replied {asking} is placed (Overflow slot booked asked) new same command answered = (sequence_of asking.awaited, ap (λ (s : Standing). s.text) answered)
-entry_replied is placed Halted new same command answered = absurd answered
-entry_replied is placed (Looked now at booked) new same command answered = absurd answered
+  where
+    open entered use {asked as is, same, command}
+entry_replied {asking} entered (Overflow slot booked asked) new answered = (sequence_of asking.awaited, ap (λ (s : Standing). s.text) answered)
+entry_replied entered Halted new answered = absurd answered
+entry_replied entered (Looked now at booked) new answered = absurd answered
 
 asked_replied : {old asking : Standing} (is : IsPlayAsked old asking) (outcome : Outcome) (new : Standing) → asking.state ≡ old.state → asking.heard ≡ old.heard →
     IsAnswered asking (AskPlay is.planned.plan) outcome new → IsPlayReplied old outcome new
 asked_replied is Unasked new same heard answered = absurd answered
 asked_replied is (Entered placed) new same heard answered =
-    entry_replied is placed placed.entry.answer new same (answered.0 ∙ ap (λ h. play_of h is.planned.plan) heard) answered.1
+    entry_replied (record { asked = is; same = same; command = answered.0 ∙ ap (λ h. play_of h is.planned.plan) heard })
+    placed.entry.answer new answered.1
 asked_replied {asking} is (WasFull more entries live) new same heard answered = (sequence_of asking.awaited, ap (λ (s : Standing). s.text) answered.0)
 asked_replied is (Offered at_slot note) new same heard answered = absurd answered
 

@@ -26,9 +26,10 @@ used_most sizes timing t =
     omega (arith, below, sum_by-range-all sizes)
 
 -- by the end of any slot of a play, also one after its plan's last, what its plan has through it lies between the curves
-pub planned_between : (sizes : List ℕ) (playback : Playback) (run : Run) (plan : List Segment) (slot count : ℕ) → IsPlan plan →
-    IsSending sizes playback run plan → count ≡ first_slots plan (slot + 1) → IsBetween sizes playback run slot (run.sent + count)
-planned_between sizes playback run plan slot count is_plan sending count_is =
+pub planned_between : {sizes : List ℕ} {playback : Playback} {run : Run} {plan : List Segment} {slot count : ℕ} →
+    IsPlan plan → IsSending sizes playback run plan → count ≡ first_slots plan (slot + 1) →
+    IsBetween sizes playback run slot (run.sent + count)
+planned_between {sizes} {playback} {run} {plan} {slot} is_plan sending count_is =
     let rest = rest_sizes sizes run in
     let timing = timing_of playback run in
     let good = (sending-best sizes playback run plan sending).feasible in

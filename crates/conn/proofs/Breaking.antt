@@ -4,11 +4,20 @@ use Rattle.session.specs.Sendings.{HasFailed, due_bytes}
 use Rattle.session.specs.Standings.{IsAtRest, taken_up}
 use Rattle.conn.specs.Sights.{HasBroken, Sight}
 
+-- what a slot leaves in which a send failed
+pub record FailedSlot (a b : Sight) (slot : ℕ) : Type 0 where
+  pub failed : HasFailed a.stage.session slot a.told b.told b.stage.session
+  pub input : b.stage.input ≡ a.stage.input
+  pub heard : b.stage.session.heard ≡ taken_up a.stage.session.heard slot
+  pub rest : IsAtRest b.stage.session
+  pub receipts : b.stage.session.receipts ≡ a.stage.session.receipts
+  pub plays : b.stage.session.plays ≡ a.stage.session.plays
+  pub offers : b.stage.session.offers ≡ a.stage.session.offers
+  pub seat : b.seat ≡ a.seat
+
 -- a send failed in a slot
-pub broken_slot : {a b : Sight} {slot : ℕ} → HasFailed a.stage.session slot a.told b.told b.stage.session → b.stage.input ≡ a.stage.input →
-    b.stage.session.heard ≡ taken_up a.stage.session.heard slot → IsAtRest b.stage.session → b.stage.session.receipts ≡ a.stage.session.receipts →
-    b.stage.session.plays ≡ a.stage.session.plays → b.stage.session.offers ≡ a.stage.session.offers → b.seat ≡ a.seat → HasBroken a b slot
-broken_slot {a} {b} {slot} failed input heard rest receipts plays offers seat = record {
+pub broken_slot : {a b : Sight} {slot : ℕ} → FailedSlot a b slot → HasBroken a b slot
+broken_slot {a} {b} {slot} slot_failed = record {
   front = take failed.front.0 (due_bytes a.stage.session.waits a.stage.session.state a.stage.session.text slot);
   fails = record {
     taken = failed.taken;
@@ -27,3 +36,5 @@ broken_slot {a} {b} {slot} failed input heard rest receipts plays offers seat = 
   sent = failed.front.1.1;
   noted = seat;
 }
+  where
+    open slot_failed use {failed, input, heard, rest, receipts, plays, offers, seat}

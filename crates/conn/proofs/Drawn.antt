@@ -16,16 +16,22 @@ word_of seed worker connection (suc (suc (suc zero))) less = refl
 word_of seed worker connection (suc (suc (suc (suc zero)))) less = refl
 word_of seed worker connection (suc (suc (suc (suc (suc place))))) less = absurd (omega (arith, less))
 
-pub word_drawn : (seed : List ℕ) (worker connection place : ℕ) → worker < 2 ^ 32 → connection < 2 ^ 32 → place < 5
-    → slice_index (words_of seed worker connection) place ≡ block_word 10 (key_of seed) 0 (worker * 2 ^ 32 + connection) place
-word_drawn seed worker connection place small few less =
+-- the numbers of a worker and of its connection, each in its half of a stream's number
+pub record ConnectionNumbers (worker connection : ℕ) : Type 0 where
+  pub worker_fits : worker < 2 ^ 32
+  pub connection_fits : connection < 2 ^ 32
+
+pub word_drawn : {worker connection : ℕ} (seed : List ℕ) (place : ℕ) → ConnectionNumbers worker connection →
+    place < 5 →
+    slice_index (words_of seed worker connection) place ≡ block_word 10 (key_of seed) 0 (worker * 2 ^ 32 + connection) place
+word_drawn {worker} {connection} seed place numbers less =
     word_of seed worker connection place less
-    ∙ ap (λ stream. block_word 10 (key_of seed) 0 stream place) (stream_is worker connection small few)
+    ∙ ap (λ stream. block_word 10 (key_of seed) 0 stream place) (stream_is worker connection numbers.worker_fits numbers.connection_fits)
 
-pub worker_apart : (worker other connection next : ℕ) → worker < 2 ^ 32 → other < 2 ^ 32 → connection < 2 ^ 32 → next < 2 ^ 32
-    → stream_of worker connection ≡ stream_of other next → worker ≡ other
-worker_apart worker other connection next a b c d same = omega (arith, same)
+pub worker_apart : {worker other connection next : ℕ} → ConnectionNumbers worker connection →
+    ConnectionNumbers other next → stream_of worker connection ≡ stream_of other next → worker ≡ other
+worker_apart numbers others same = omega (arith, same, numbers.worker_fits, numbers.connection_fits, others.worker_fits, others.connection_fits)
 
-pub connection_apart : (worker other connection next : ℕ) → worker < 2 ^ 32 → other < 2 ^ 32 → connection < 2 ^ 32 → next < 2 ^ 32
-    → stream_of worker connection ≡ stream_of other next → connection ≡ next
-connection_apart worker other connection next a b c d same = omega (arith, same)
+pub connection_apart : {worker other connection next : ℕ} → ConnectionNumbers worker connection →
+    ConnectionNumbers other next → stream_of worker connection ≡ stream_of other next → connection ≡ next
+connection_apart numbers others same = omega (arith, same, numbers.worker_fits, numbers.connection_fits, others.worker_fits, others.connection_fits)

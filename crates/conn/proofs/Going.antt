@@ -93,44 +93,68 @@ held_same mine None (Some old) (Some new) same held = held
 held_same mine (Some booking) (Some old) (Some new) same held =
     λ keep small. held keep (subst (λ (plan : List Segment). keep ≤ total_bytes plan) same.0 small)
 
+-- one more entry is the seat's own, and its receipt is noted
+pub record HasEntered (old new : Business) (placed : Placed) : Type 0 where
+  pub mine : new.mine ≡ old.mine ++ placed ∷ []
+  pub receipts : new.receipts ≡ old.receipts ++ receipt_for placed ∷ []
+
 -- the calls at the station, each with what it leaves
 pub gone_full : {old new : Business} (entries live : ℕ) → new.mine ≡ old.mine → new.booking ≡ old.booking →
     new.receipts ≡ old.receipts ++ FullReceipt entries live ∷ [] → HasGone old new
 gone_full {new} entries live mine booking receipts = gone_none (FullReceipt entries live ∷ []) mine booking receipts refl
 
-at_look : (booking : Option Booking) (maker place slot now at booked : ℕ) →
-    course_with (course_of booking) (record { place = place; entry = record { maker = maker; command = Look slot; answer = Looked now at booked } }) ≡ course_of booking
-at_look None maker place slot now at booked = refl
-at_look (Some booking) maker place slot now at booked = refl
+-- the values of a look's entry in the journal
+pub record LookEntry : Type 0 where
+  pub maker : ℕ
+  pub place : ℕ
+  pub slot : ℕ
+  pub now : ℕ
+  pub at : ℕ
+  pub booked : ℕ
 
-pub gone_look : {old new : Business} (maker place slot now at booked : ℕ) → new.booking ≡ old.booking →
-    new.mine ≡ old.mine ++ record { place = place; entry = record { maker = maker; command = Look slot; answer = Looked now at booked } } ∷ [] →
-    new.receipts ≡ old.receipts ++ EntryReceipt place (Looked now at booked) ∷ [] → HasGone old new
-gone_look {old} {new} maker place slot now at booked same mine receipts =
-    gone_one old new _ mine receipts (at_look old.booking maker place slot now at booked ∙ ap course_of (sym same))
+at_look : (booking : Option Booking) (look : LookEntry) →
+    course_with (course_of booking) (record {
+      place = look.place;
+      entry = record { maker = look.maker; command = Look look.slot; answer = Looked look.now look.at look.booked };
+    }) ≡ course_of booking
+at_look None look = refl
+at_look (Some booking) look = refl
 
-pub gone_overflow : {old new : Business} (maker place slot : ℕ) (plan : List Segment) (over booked asked : ℕ) → old.booking ≡ None → new.booking ≡ old.booking →
-    new.mine ≡ old.mine ++ record { place = place; entry = record { maker = maker; command = Play slot plan; answer = Overflow over booked asked } } ∷ [] →
-    new.receipts ≡ old.receipts ++ EntryReceipt place (Overflow over booked asked) ∷ [] → HasGone old new
-gone_overflow {old} {new} maker place slot plan over booked asked none same mine receipts =
-    gone_one old new _ mine receipts (ap (λ b. course_with (course_of b) (record { place = place; entry = record { maker = maker; command = Play slot plan; answer = Overflow over booked asked } })) none
+pub gone_look : {old new : Business} {maker place slot now at booked : ℕ} → new.booking ≡ old.booking →
+    HasEntered old new (record { place = place; entry = record { maker = maker; command = Look slot; answer = Looked now at booked } }) →
+    HasGone old new
+gone_look {old} {new} {maker} {place} {slot} {now} {at} {booked} same entered =
+    gone_one old new _ entered.mine entered.receipts (at_look old.booking
+    (record { maker = maker; place = place; slot = slot; now = now; at = at; booked = booked }) ∙ ap course_of (sym same))
+
+pub gone_overflow : {old new : Business} {maker place slot : ℕ} {plan : List Segment} {over booked asked : ℕ} →
+    old.booking ≡ None → new.booking ≡ old.booking →
+    HasEntered old new (record { place = place; entry = record { maker = maker; command = Play slot plan; answer = Overflow over booked asked } }) →
+    HasGone old new
+gone_overflow {old} {new} {maker} {place} {slot} {plan} {over} {booked} {asked} none same entered =
+    gone_one old new _ entered.mine entered.receipts (ap (λ b. course_with (course_of b)
+    (record { place = place; entry = record { maker = maker; command = Play slot plan; answer = Overflow over booked asked } })) none
     ∙ ap course_of (sym (same ∙ none)))
 
-pub gone_play : {old new : Business} {made : Booking} (maker slot : ℕ) (plan : List Segment) → old.booking ≡ None → new.booking ≡ Some made →
-    new.mine ≡ old.mine ++ record { place = made.number; entry = record { maker = maker; command = Play slot plan; answer = Admitted made.start } } ∷ [] →
-    new.receipts ≡ old.receipts ++ EntryReceipt made.number (Admitted made.start) ∷ [] → HasGone old new
-gone_play {old} {new} {made} maker slot plan none some mine receipts =
-    gone_one old new _ mine receipts (ap (λ b. course_with (course_of b) (record { place = made.number; entry = record { maker = maker; command = Play slot plan; answer = Admitted made.start } })) none
+pub gone_play : {old new : Business} {made : Booking} {maker slot : ℕ} {plan : List Segment} → old.booking ≡ None →
+    new.booking ≡ Some made →
+    HasEntered old new (record { place = made.number; entry = record { maker = maker; command = Play slot plan; answer = Admitted made.start } }) →
+    HasGone old new
+gone_play {old} {new} {made} {maker} {slot} {plan} none some entered =
+    gone_one old new _ entered.mine entered.receipts (ap (λ b. course_with (course_of b)
+    (record { place = made.number; entry = record { maker = maker; command = Play slot plan; answer = Admitted made.start } })) none
     ∙ ap course_of (sym some))
 
 at_halt : (number : ℕ) → (if number == number then Closed else Broken) ≡ Closed
 at_halt number = let same : (number == number) ≡ true = grind arith in ap (λ b. if b then Closed else Broken) same
 
-pub gone_halt : {old new : Business} {made : Booking} (maker place keep : ℕ) → old.booking ≡ Some made → new.booking ≡ None →
-    new.mine ≡ old.mine ++ record { place = place; entry = record { maker = maker; command = Halt made.number keep; answer = Halted } } ∷ [] →
-    new.receipts ≡ old.receipts ++ EntryReceipt place Halted ∷ [] → HasGone old new
-gone_halt {old} {new} {made} maker place keep some none mine receipts =
-    gone_one old new _ mine receipts (ap (λ b. course_with (course_of b) (record { place = place; entry = record { maker = maker; command = Halt made.number keep; answer = Halted } })) some
+pub gone_halt : {old new : Business} {made : Booking} {maker place keep : ℕ} → old.booking ≡ Some made →
+    new.booking ≡ None →
+    HasEntered old new (record { place = place; entry = record { maker = maker; command = Halt made.number keep; answer = Halted } }) →
+    HasGone old new
+gone_halt {old} {new} {made} {maker} {place} {keep} some none entered =
+    gone_one old new _ entered.mine entered.receipts (ap (λ b. course_with (course_of b)
+    (record { place = place; entry = record { maker = maker; command = Halt made.number keep; answer = Halted } })) some
     ∙ at_halt made.number ∙ ap course_of (sym none))
 
 -- no booking is held where the session has none open

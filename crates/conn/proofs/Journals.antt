@@ -25,21 +25,36 @@ use Rattle.conn.specs.Turns.{Outcome, Unasked, Entered, WasFull, Offered}
 prefix_length : (journal longer : List Entry) → IsPrefix journal longer → length journal ≤ length longer
 prefix_length journal longer prefix = omega (arith, length-append journal prefix.0, ap (λ (xs : List Entry). length xs) prefix.1)
 
+-- a journal and its terms, and two places, the first no later than the second
+pub record EarlierPlace : Type 0 where
+  pub terms : Terms
+  pub journal : List Entry
+  pub low : ℕ
+  pub from : ℕ
+  pub below : low ≤ from
+
 -- from an earlier place on
-pub agree_lower : (terms : Terms) (journal : List Entry) (low from : ℕ) (outcomes : List Outcome) → low ≤ from → AgreeWith terms journal from outcomes
-    → AgreeWith terms journal low outcomes
-agree_lower terms journal low from [] less agree = omega (arith, less, agree)
-agree_lower terms journal low from (Unasked ∷ outcomes) less agree = agree_lower terms journal low from outcomes less agree
-agree_lower terms journal low from (Entered placed ∷ outcomes) less agree = (
-  record { after = omega (arith, less, agree.0.after); within = agree.0.within; entry = agree.0.entry; maker_is = agree.0.maker_is; room = agree.0.room },
+pub agree_lower : (earlier : EarlierPlace) (outcomes : List Outcome) →
+    AgreeWith earlier.terms earlier.journal earlier.from outcomes →
+    AgreeWith earlier.terms earlier.journal earlier.low outcomes
+agree_lower earlier [] agree = omega (arith, earlier.below, agree)
+agree_lower earlier (Unasked ∷ outcomes) agree = agree_lower earlier outcomes agree
+agree_lower earlier (Entered placed ∷ outcomes) agree = (
+  record {
+    after = omega (arith, earlier.below, agree.0.after);
+    within = agree.0.within;
+    entry = agree.0.entry;
+    maker_is = agree.0.maker_is;
+    room = agree.0.room;
+  },
   agree.1,
 )
-agree_lower terms journal low from (WasFull more entries open_count ∷ outcomes) less agree = (
-  record { after = omega (arith, less, agree.0.after); within = agree.0.within; live_is = agree.0.live_is; full = agree.0.full },
+agree_lower earlier (WasFull more entries open_count ∷ outcomes) agree = (
+  record { after = omega (arith, earlier.below, agree.0.after); within = agree.0.within; live_is = agree.0.live_is; full = agree.0.full },
   agree.1,
 )
-agree_lower terms journal low from (Offered at_slot note ∷ outcomes) less agree = (
-  record { after = omega (arith, less, agree.0.after); within = agree.0.within; first_is = agree.0.first_is; offer = agree.0.offer },
+agree_lower earlier (Offered at_slot note ∷ outcomes) agree = (
+  record { after = omega (arith, earlier.below, agree.0.after); within = agree.0.within; first_is = agree.0.first_is; offer = agree.0.offer },
   agree.1,
 )
 
@@ -77,39 +92,55 @@ offered_longer {steps} {from} {slot} {journal} {longer} {note} prefix offered =
       offer = subst (λ (xs : List Entry). IsOffer 0 (booked_after xs) (capacity_at steps) note.plan note.first note.offers) (sym same) offered.offer;
     }
 
-pub agree_longer : (terms : Terms) (journal longer : List Entry) (from : ℕ) (outcomes : List Outcome) → IsPrefix journal longer
-    → AgreeWith terms journal from outcomes → AgreeWith terms longer from outcomes
-agree_longer terms journal longer from [] prefix agree = omega (arith, agree, prefix_length journal longer prefix)
-agree_longer terms journal longer from (Unasked ∷ outcomes) prefix agree = agree_longer terms journal longer from outcomes prefix agree
-agree_longer terms journal longer from (Entered placed ∷ outcomes) prefix agree = (
-  stands_longer prefix agree.0,
-  agree_longer terms journal longer (placed.place + 1) outcomes prefix agree.1,
+-- a journal and its terms, and a longer journal that begins with it
+pub record LongerJournal : Type 0 where
+  pub terms : Terms
+  pub journal : List Entry
+  pub longer : List Entry
+  pub prefix : IsPrefix journal longer
+
+pub agree_longer : (grown : LongerJournal) (from : ℕ) (outcomes : List Outcome) →
+    AgreeWith grown.terms grown.journal from outcomes → AgreeWith grown.terms grown.longer from outcomes
+agree_longer grown from [] agree = omega (arith, agree, prefix_length grown.journal grown.longer grown.prefix)
+agree_longer grown from (Unasked ∷ outcomes) agree = agree_longer grown from outcomes agree
+agree_longer grown from (Entered placed ∷ outcomes) agree = (
+  stands_longer grown.prefix agree.0,
+  agree_longer grown (placed.place + 1) outcomes agree.1,
 )
-agree_longer terms journal longer from (WasFull more entries open_count ∷ outcomes) prefix agree = (
-  full_longer prefix agree.0,
-  agree_longer terms journal longer entries outcomes prefix agree.1,
+agree_longer grown from (WasFull more entries open_count ∷ outcomes) agree = (
+  full_longer grown.prefix agree.0,
+  agree_longer grown entries outcomes agree.1,
 )
-agree_longer terms journal longer from (Offered at_slot note ∷ outcomes) prefix agree = (
-  offered_longer prefix agree.0,
-  agree_longer terms journal longer note.seen outcomes prefix agree.1,
+agree_longer grown from (Offered at_slot note ∷ outcomes) agree = (
+  offered_longer grown.prefix agree.0,
+  agree_longer grown note.seen outcomes agree.1,
 )
 
 -- and then further answers
-pub agree_then : {longer : List Entry} (terms : Terms) (journal : List Entry) (from : ℕ) (first more : List Outcome) → IsPrefix journal longer
-    → AgreeWith terms journal from first → AgreeWith terms longer (length journal) more → AgreeWith terms longer from (first ++ more)
-agree_then {longer} terms journal from [] more prefix agree later = agree_lower terms longer from (length journal) more agree later
-agree_then {longer} terms journal from (Unasked ∷ first) more prefix agree later = agree_then {longer = longer} terms journal from first more prefix agree later
-agree_then terms journal from (Entered placed ∷ first) more prefix agree later = (
-  stands_longer prefix agree.0,
-  agree_then terms journal (placed.place + 1) first more prefix agree.1 later,
+pub agree_then : (grown : LongerJournal) (from : ℕ) (first more : List Outcome) →
+    AgreeWith grown.terms grown.journal from first → AgreeWith grown.terms grown.longer (length grown.journal) more →
+    AgreeWith grown.terms grown.longer from (first ++ more)
+agree_then grown from [] more agree later = agree_lower (record {
+  terms = terms;
+  journal = longer;
+  low = from;
+  from = length journal;
+  below = agree;
+}) more later
+  where
+    open grown use {terms, journal, longer}
+agree_then grown from (Unasked ∷ first) more agree later = agree_then grown from first more agree later
+agree_then grown from (Entered placed ∷ first) more agree later = (
+  stands_longer grown.prefix agree.0,
+  agree_then grown (placed.place + 1) first more agree.1 later,
 )
-agree_then terms journal from (WasFull asked entries open_count ∷ first) more prefix agree later = (
-  full_longer prefix agree.0,
-  agree_then terms journal entries first more prefix agree.1 later,
+agree_then grown from (WasFull asked entries open_count ∷ first) more agree later = (
+  full_longer grown.prefix agree.0,
+  agree_then grown entries first more agree.1 later,
 )
-agree_then terms journal from (Offered at_slot note ∷ first) more prefix agree later = (
-  offered_longer prefix agree.0,
-  agree_then terms journal note.seen first more prefix agree.1 later,
+agree_then grown from (Offered at_slot note ∷ first) more agree later = (
+  offered_longer grown.prefix agree.0,
+  agree_then grown note.seen first more agree.1 later,
 )
 
 -- ---- a seat

@@ -15,8 +15,9 @@ kept_none seat connection quiet = record {
 }
 
 -- one call after another
-pub kept_on : (a b c : Sitting) (old mid new : Connection) → KeepsBusiness a b old mid → KeepsBusiness b c mid new → KeepsBusiness a c old new
-kept_on a b c old mid new first second = record {
+pub kept_on : {a b c : Sitting} {old mid new : Connection} → KeepsBusiness a b old mid → KeepsBusiness b c mid new →
+    KeepsBusiness a c old new
+kept_on {a} {b} {c} {old} {mid} {new} first second = record {
   seat = seat_on a b c first.seat second.seat;
   quiet = second.quiet;
   gone = gone_on (business a.mine old) (business b.mine mid) (business c.mine new) first.gone second.gone;

@@ -25,5 +25,6 @@ pub mod Telling
 pub mod Workers
 pub mod Journals
 pub mod Keeping
+pub mod Occasions
 mod Spent
 mod Drawn

@@ -28,13 +28,15 @@ use Rattle.conn.specs.Turns.{IsLookAnswered, IsPlayAnswered, Takes, TakesAll, af
 use Rattle.conn.specs.Turns.{due_parts, film_bytes, slot_parts}
 use Rattle.vod_base.specs.Links.{Doing, HeardBytes, HeardEnd, HeardSlot, Sent}
 use Rattle.session.specs.Hearings.{Hears}
-use Rattle.conn.specs.Rounds.{Comes, Round, Runs, RunsAll, round_outcomes, rounds_outcomes}
+use Rattle.conn.specs.Rounds.{Round, Runs, RunsAll, round_outcomes, rounds_outcomes}
 use Rattle.conn.specs.Rounds.{taking_outcomes, takings_outcomes}
 use Rattle.conn.specs.Films.{AreUnhalted, GoesOn, HasSent, HasSentOn, IsNoHalt as IsNoHaltMade}
 use Rattle.conn.specs.Films.{IsUnhalted, Stretch, rounds_film}
 use Rattle.session.specs.Laws.{IsNoHalt}
+use Rattle.session.proofs.Grounds.{HeardMessage}
 use Rattle.session.proofs.HearingLaws.{hears_plays}
 use Rattle.conn.proofs.Filming.{sent_slot as sent_by, sent_through, slot_film, slot_is, slot_pacing}
+use Rattle.conn.proofs.Occasions.{SlotPacings, PlayGoing, EventCome}
 
 -- a halt is an entry that halts
 no_halt : (old : Standing) (keep : ℕ) (outcome : Outcome) (new : Standing) → IsHalted old keep outcome new → IsUnhalted outcome → ⊥
@@ -72,14 +74,16 @@ abbrev pub with_pacer : Setup → Played → Pacing → State
 with_pacer setup play p = Playing setup (record play { pacer = p })
 
 -- a play's state after a slot, and the film's bytes in it
-state_cases : (waits between : Bool) (setup : Setup) (play : Played) (both one plain : Pacing) →
+state_cases : (waits between : Bool) (pacings : SlotPacings) →
     (if waits && between
-    then after_stop (if waits then (if between then with_pacer setup play both else with_pacer setup play one) else with_pacer setup play plain)
-    else (if waits then (if between then with_pacer setup play both else with_pacer setup play one) else with_pacer setup play plain))
-    ≡ with_pacer setup play (if waits then (if between then both else one) else plain)
-state_cases false between setup play both one plain = refl
-state_cases true false setup play both one plain = refl
-state_cases true true setup play both one plain = refl
+    then after_stop (if waits then (if between then with_pacer pacings.setup pacings.play pacings.both else with_pacer pacings.setup
+    pacings.play pacings.front) else with_pacer pacings.setup pacings.play pacings.plain)
+    else (if waits then (if between then with_pacer pacings.setup pacings.play pacings.both else with_pacer pacings.setup pacings.play
+    pacings.front) else with_pacer pacings.setup pacings.play pacings.plain))
+    ≡ with_pacer pacings.setup pacings.play (if waits then (if between then pacings.both else pacings.front) else pacings.plain)
+state_cases false between pacings = refl
+state_cases true false pacings = refl
+state_cases true true pacings = refl
 
 pub film_cases : (waits between : Bool) (one after plain text : List ℕ) →
     film_bytes (if waits then Film one ∷ (if between then Text text ∷ Film after ∷ [] else []) else Film plain ∷ [])
@@ -103,7 +107,14 @@ play_state : (waits : Bool) (setup : Setup) (play : Played) (slot : ℕ) →
     state_after waits (Playing setup play) slot ≡ with_pacer setup play (slot_pacing waits slot play.pacer)
 play_state waits setup play slot =
     let p = play.pacer in
-    state_cases waits (stands_at_boundary (after_step true slot p)) setup play (after_step false slot (after_step true slot p)) (after_step true slot p) (after_step false slot p)
+    state_cases waits (stands_at_boundary (after_step true slot p))
+    (record {
+      setup = setup;
+      play = play;
+      both = after_step false slot (after_step true slot p);
+      front = after_step true slot p;
+      plain = after_step false slot p;
+    })
 
 play_film : (waits : Bool) (setup : Setup) (play : Played) (text : List ℕ) (slot : ℕ) →
     film_bytes (parts_of waits (Playing setup play) text slot) ≡ slot_film waits slot play.pacer
@@ -169,15 +180,17 @@ pub later_slot : (old : Standing) (slot : ℕ) → is_taken old slot ≡ true �
 later_slot old slot taken = ltb-true old.heard slot (and_parts (nat_lt old.heard slot) (nat_le slot (2 ^ 62)) taken).0
 
 -- a play goes on by a slot
-pub play_slot : {new : Standing} {setup : Setup} {play : Played} {film : List ℕ} (old : Standing) (slot : ℕ)
-    (halt : Outcome) →
-    old.state ≡ Playing setup play → HasSent play old.heard film → IsFinished (awaited_answer (after_slot old slot)) (after_slot old slot) halt new → IsUnhalted halt →
+pub play_slot : {new : Standing} {setup : Setup} {play : Played} {film : List ℕ} {old : Standing} (slot : ℕ)
+    (halt : Outcome) → PlayGoing setup play film old →
+    IsFinished (awaited_answer (after_slot old slot)) (after_slot old slot) halt new → IsUnhalted halt →
     HasSentOn setup play new (film ++ film_bytes (slot_parts old slot))
-play_slot {new} {setup} {play} {film} old slot halt is has finishes free =
+play_slot {new} {setup} {play} {film} {old} slot halt going finishes free =
     subst (λ s. HasSentOn setup play s (film ++ film_bytes (slot_parts old slot))) (sym (finished_same (awaited_answer (after_slot old slot)) (after_slot old slot) halt new finishes free))
     (slot_cases (record old { heard = slot }) (due_parts old slot)
     (ap is_sending is) (as_it_was old setup play film is has)
     (λ taken. taken_slot old slot is has (later_slot old slot taken)))
+  where
+    open going use {state as is, sent as has}
 
 -- a play that goes on, and then goes on
 pub goes_on : {setup : Setup} {play : Played} {mid new : Standing} {film more : List ℕ}
@@ -219,33 +232,38 @@ look_left old placed (Overflow slot booked asked) new answered = absurd answered
 look_left old placed Halted new answered = absurd answered
 look_left old placed (Looked now at booked) new answered = subst (IsLeft old) (sym answered) (refl, refl)
 
-answer_left : {setup : Setup} {play : Played} (old : Standing) (ask : Ask) (outcome : Outcome) (new : Standing) → old.state ≡ Playing setup play →
-    IsAnswered old ask outcome new → IsUnhalted outcome → IsLeft old new
-answer_left old AskReply Unasked new is answered free = subst (IsLeft old) (sym answered) (refl, refl)
-answer_left old AskReply (Entered placed) new is answered free = absurd answered
-answer_left old AskReply (WasFull more entries live) new is answered free = absurd answered
-answer_left old AskReply (Offered at_slot note) new is answered free = absurd answered
-answer_left old (AskPlay plan) Unasked new is answered free = absurd answered
-answer_left old (AskPlay plan) (Entered placed) new is answered free = play_left old placed placed.entry.answer new is answered.1
-answer_left old (AskPlay plan) (WasFull more entries live) new is answered free = subst (IsLeft old) (sym answered.0) (refl, refl)
-answer_left old (AskPlay plan) (Offered at_slot note) new is answered free = absurd answered
-answer_left old (AskHalt keep) outcome new is answered free = absurd (no_halt old keep outcome new answered free)
-answer_left old (AskLook slot) Unasked new is answered free = absurd answered
-answer_left old (AskLook slot) (Entered placed) new is answered free = look_left old placed placed.entry.answer new answered.1
-answer_left old (AskLook slot) (WasFull more entries live) new is answered free = subst (IsLeft old) (sym answered.0) (refl, refl)
-answer_left old (AskLook slot) (Offered at_slot note) new is answered free = absurd answered
-answer_left old (AskOffer plan offers) Unasked new is answered free = absurd answered
-answer_left old (AskOffer plan offers) (Entered placed) new is answered free = absurd answered
-answer_left old (AskOffer plan offers) (WasFull more entries live) new is answered free = absurd answered
-answer_left old (AskOffer plan offers) (Offered at_slot note) new is answered free = subst (IsLeft old) (sym answered.2) (refl, refl)
+-- the station's answer to what a session asks, which halts no booking
+pub record UnhaltedAnswer (old : Standing) (ask : Ask) (outcome : Outcome) (new : Standing) : Type 0 where
+  pub answered : IsAnswered old ask outcome new
+  pub free : IsUnhalted outcome
+
+answer_left : {setup : Setup} {play : Played} {old new : Standing} (ask : Ask) (outcome : Outcome) →
+    old.state ≡ Playing setup play → UnhaltedAnswer old ask outcome new → IsLeft old new
+answer_left {old} AskReply Unasked is given = subst (IsLeft old) (sym given.answered) (refl, refl)
+answer_left AskReply (Entered placed) is given = absurd given.answered
+answer_left AskReply (WasFull more entries live) is given = absurd given.answered
+answer_left AskReply (Offered at_slot note) is given = absurd given.answered
+answer_left (AskPlay plan) Unasked is given = absurd given.answered
+answer_left {old} {new} (AskPlay plan) (Entered placed) is given = play_left old placed placed.entry.answer new is given.answered.1
+answer_left {old} (AskPlay plan) (WasFull more entries live) is given = subst (IsLeft old) (sym given.answered.0) (refl, refl)
+answer_left (AskPlay plan) (Offered at_slot note) is given = absurd given.answered
+answer_left {old} {new} (AskHalt keep) outcome is given = absurd (no_halt old keep outcome new given.answered given.free)
+answer_left (AskLook slot) Unasked is given = absurd given.answered
+answer_left {old} {new} (AskLook slot) (Entered placed) is given = look_left old placed placed.entry.answer new given.answered.1
+answer_left {old} (AskLook slot) (WasFull more entries live) is given = subst (IsLeft old) (sym given.answered.0) (refl, refl)
+answer_left (AskLook slot) (Offered at_slot note) is given = absurd given.answered
+answer_left (AskOffer plan offers) Unasked is given = absurd given.answered
+answer_left (AskOffer plan offers) (Entered placed) is given = absurd given.answered
+answer_left (AskOffer plan offers) (WasFull more entries live) is given = absurd given.answered
+answer_left {old} (AskOffer plan offers) (Offered at_slot note) is given = subst (IsLeft old) (sym given.answered.2) (refl, refl)
 
 left_on : (a b c : Standing) → IsLeft a b → IsLeft b c → IsLeft a c
 left_on a b c first second = (second.0 ∙ first.0, second.1 ∙ first.1)
 
-hears_left : {setup : Setup} {play : Played} (old : Standing) (message : List ℕ) (ask : Ask) (new : Standing) → Hears old message ask new →
-    old.state ≡ Playing setup play → IsNoHalt ask → IsLeft old new
-hears_left {setup} {play} old message ask new hears is free =
-    let plays = hears_plays (record { old = old; new = new; message = message; ask = ask; hears = hears }) setup play is free in (plays.state, plays.heard)
+hears_left : {setup : Setup} {play : Played} (heard : HeardMessage) → heard.old.state ≡ Playing setup play → IsNoHalt heard.ask →
+    IsLeft heard.old heard.new
+hears_left {setup} {play} heard is free =
+    let plays = hears_plays heard setup play is free in (plays.state, plays.heard)
 
 ask_free : (old : Standing) (ask : Ask) (outcome : Outcome) (new : Standing) → IsAnswered old ask outcome new → IsUnhalted outcome → IsNoHalt ask
 ask_free old AskReply outcome new answered free = tt
@@ -258,9 +276,9 @@ pub heard_left : {old : Standing} {message : List ℕ} {outcome : Outcome} {new 
     {play : Played} → HasHeard old message outcome new →
     IsUnhalted outcome → old.state ≡ Playing setup play → IsLeft old new
 heard_left {old} {message} {outcome} {new} heard free is =
-    let asking : IsLeft old heard.asking = hears_left old message heard.ask heard.asking heard.hears is
+    let asking : IsLeft old heard.asking = hears_left (record { old = old; new = heard.asking; message = message; ask = heard.ask; hears = heard.hears }) is
     (ask_free heard.asking heard.ask outcome new heard.answered free) in
-    left_on old heard.asking new asking (answer_left heard.asking heard.ask outcome new (asking.0 ∙ is) heard.answered free)
+    left_on old heard.asking new asking (answer_left heard.ask outcome (asking.0 ∙ is) (record { answered = heard.answered; free = free }))
 
 settled_play : (state : State) (setup : Setup) (play : Played) → state ≡ Playing setup play → after_stop state ≡ state
 settled_play state setup play is = subst (λ st. after_stop st ≡ st) (sym is) refl
@@ -310,39 +328,38 @@ on_left {new} {film} on left = record {
   sent = subst (λ n. HasSent on.now n film) (sym left.1) on.sent;
 }
 
-pub comes_on : {setup : Setup} {play : Played} {film : List ℕ} (old new : Stage) (event : Doing) (due : List Part)
-    (halt : Outcome) →
-    Comes old event due halt new → IsUnhalted halt → old.session.state ≡ Playing setup play → HasSent play old.session.heard film →
-    HasSentOn setup play new.session (film ++ film_bytes due)
-comes_on {setup} {play} {film} old new (HeardBytes bytes) due halt comes free is has =
-    subst (λ ps. HasSentOn setup play new.session (film ++ film_bytes ps)) (sym comes.0)
-    (subst (λ (s : Stage). HasSentOn setup play s.session (film ++ [])) (sym comes.3)
-    (subst (HasSentOn setup play old.session) (sym (append-nil film)) (as_it_was old.session setup play film is has)))
-comes_on {setup} {play} {film} old new (HeardSlot slot) due halt comes free is has =
-    subst (λ ps. HasSentOn setup play new.session (film ++ film_bytes ps)) (sym comes.1.parts_are)
-    (play_slot old.session slot halt is has comes.1.finished free)
-comes_on old new HeardEnd due halt comes free is has = absurd comes
-comes_on old new (Sent byte) due halt comes free is has = absurd comes
+pub comes_on : {setup : Setup} {play : Played} {film : List ℕ} {old new : Stage} {event : Doing}
+    (come : EventCome old event new) → IsUnhalted come.halt → PlayGoing setup play film old.session →
+    HasSentOn setup play new.session (film ++ film_bytes come.due)
+comes_on {setup} {play} {film} {old} {new} {event = HeardBytes bytes} come free going =
+    subst (λ ps. HasSentOn setup play new.session (film ++ film_bytes ps)) (sym come.comes.0)
+    (subst (λ (s : Stage). HasSentOn setup play s.session (film ++ [])) (sym come.comes.3)
+    (subst (HasSentOn setup play old.session) (sym (append-nil film)) (as_it_was old.session setup play film going.state going.sent)))
+comes_on {setup} {play} {film} {new} {event = HeardSlot slot} come free going =
+    subst (λ ps. HasSentOn setup play new.session (film ++ film_bytes ps)) (sym come.comes.1.parts_are)
+    (play_slot slot come.halt going come.comes.1.finished free)
+comes_on {event = HeardEnd} come free going = absurd come.comes
+comes_on {event = Sent byte} come free going = absurd come.comes
 
 pub round_on : {old new : Stage} {round : Round} {setup : Setup} {play : Played} {film : List ℕ} → Runs old round new → AreUnhalted (round_outcomes round) →
     old.session.state ≡ Playing setup play → HasSent play old.session.heard film → HasSentOn setup play new.session (film ++ film_bytes round.due)
 round_on {old} {new} {round} {setup} {play} {film} runs free is has =
     let opened = runs.opened in
     let on : HasSentOn setup play opened.session (film ++ film_bytes round.due) =
-    comes_on old opened round.event round.due round.halt runs.comes free.0 is has in
+    comes_on (record { due = round.due; halt = round.halt; comes = runs.comes }) free.0 (record { state = is; sent = has }) in
     on_left on (takes_left opened new round.takings runs.takes free.1 on.state)
 
 -- a play goes on by events, as long as it isn't halted
-pub rounds_on : {setup : Setup} {play : Played} {film : List ℕ} (old new : Stage) (rounds : List Round) → RunsAll old rounds new →
-    AreUnhalted (rounds_outcomes rounds) → old.session.state ≡ Playing setup play → HasSent play old.session.heard film →
+pub rounds_on : {setup : Setup} {play : Played} {film : List ℕ} (old new : Stage) (rounds : List Round) →
+    RunsAll old rounds new → AreUnhalted (rounds_outcomes rounds) → PlayGoing setup play film old.session →
     HasSentOn setup play new.session (film ++ rounds_film rounds)
-rounds_on {setup} {play} {film} old new [] runs free is has =
+rounds_on {setup} {play} {film} old new [] runs free going =
     subst (λ (s : Stage). HasSentOn setup play s.session (film ++ [])) (sym runs)
-    (subst (HasSentOn setup play old.session) (sym (append-nil film)) (as_it_was old.session setup play film is has))
-rounds_on {setup} {play} {film} old new (round ∷ rounds) runs free is has =
-    let first = round_on runs.1.0 (unhalted_front (round_outcomes round) (rounds_outcomes rounds) free) is has in
+    (subst (HasSentOn setup play old.session) (sym (append-nil film)) (as_it_was old.session setup play film going.state going.sent))
+rounds_on {setup} {play} {film} old new (round ∷ rounds) runs free going =
+    let first = round_on runs.1.0 (unhalted_front (round_outcomes round) (rounds_outcomes rounds) free) going.state going.sent in
     let rest = rounds_on {setup = setup} {play = first.now} {film = film ++ film_bytes round.due} runs.0 new rounds runs.1.2
-    (unhalted_rest (round_outcomes round) (rounds_outcomes rounds) free) first.state first.sent in
+    (unhalted_rest (round_outcomes round) (rounds_outcomes rounds) free) (record { state = first.state; sent = first.sent }) in
     subst (HasSentOn setup play new.session) (append_assoc film (film_bytes round.due) (rounds_film rounds))
     (goes_on first rest)
 
@@ -352,5 +369,7 @@ film_on s on =
     let front = unhalted_front (takings_outcomes s.takings) (rounds_outcomes s.rounds) on.unhalted in
     let rest = unhalted_rest (takings_outcomes s.takings) (rounds_outcomes s.rounds) on.unhalted in
     let left = takes_left s.old on.mid s.takings on.takes front on.state in
-    rounds_on on.mid s.new s.rounds on.runs rest (left.0 ∙ on.state)
-    (subst (λ h. HasSent s.play h s.film) (sym left.1) on.sent)
+    rounds_on on.mid s.new s.rounds on.runs rest (record {
+      state = left.0 ∙ on.state;
+      sent = subst (λ h. HasSent s.play h s.film) (sym left.1) on.sent;
+    })

@@ -58,9 +58,10 @@ one_served {duty} {old_seat} {mid_seat} {new_seat} {old} {mid} {new} {taken} {re
     let size : length reports + 1 ≡ length more = sym (rw items (length-append reports (report ∷ []))) in record {
       seat = seat_on old_seat mid_seat new_seat front.seat one.seat;
       entries = has_one report front.entries one.entries items;
-      each = are_more duty.seed duty.worker reports more report front.each one.worker one.words items;
-      served = subst (IsServed old.told new.told) size (served_one old.told mid.told (length reports) returned front.served given back);
-      connections = told_one mid.told old_seat reports front.connections given back items one.one;
+      each = are_more report front.each one.worker one.words items;
+      served = subst (IsServed old.told new.told) size (served_one old.told (length reports) front.served
+          (record { takes = given; returns = back }));
+      connections = told_one old_seat reports front.connections (record { takes = given; returns = back }) items one.one;
       count = omega (arith, front.count, count);
     }
 
@@ -87,7 +88,13 @@ ends_taken {duty} {old_seat} {new_seat} {old} {mid} {new} {result} front is last
   entries = front.entries;
   reports = front.each;
   served = served_last old.told mid.told (length result.reports.items) NoMore front.served last;
-  connections = told_end duty.films duty.settings mid.told old_seat new_seat result.reports.items NoMore front.connections last;
+  connections = told_end (record {
+    films = duty.films;
+    settings = duty.settings;
+    old = old_seat;
+    next = new_seat;
+    reports = result.reports.items;
+  }) mid.told NoMore front.connections last;
   count = omega (arith, front.count, count);
   all = λ same. told_last mid.told new.told NoMore last;
   fault = λ other. absurd (let no : ⊥ = cc (is, other) in no);
@@ -103,7 +110,13 @@ ends_failed {duty} {old_seat} {new_seat} {old} {mid} {new} {result} front is las
   entries = front.entries;
   reports = front.each;
   served = served_last old.told mid.told (length result.reports.items) Failed front.served last;
-  connections = told_end duty.films duty.settings mid.told old_seat new_seat result.reports.items Failed front.connections last;
+  connections = told_end (record {
+    films = duty.films;
+    settings = duty.settings;
+    old = old_seat;
+    next = new_seat;
+    reports = result.reports.items;
+  }) mid.told Failed front.connections last;
   count = omega (arith, front.count, count);
   all = λ other. absurd (let no : ⊥ = cc (is, other) in no);
   fault = λ same. risen_on old.faults mid.faults new.faults front.count risen;

@@ -22,7 +22,7 @@ use Rattle.session.specs.Sendings.{after_play, is_between, is_sending, is_taken,
 use Rattle.session.specs.Sendings.{sent_slot, after_slot, stepped_in}
 use Rattle.session.specs.Standings.{Standing, taken_up}
 use Rattle.conn.specs.Turns.{Outcome, Part, Stage, film_bytes, stage}
-use Rattle.conn.specs.Rounds.{Comes, Round}
+use Rattle.conn.specs.Rounds.{Round}
 use Rattle.conn.specs.Films.{HasSent, HasSentOn}
 use Rattle.conn.specs.Plays.{ArePlaysKept, IsKeptIn, IsSentBy, client_of, heard_by}
 use Rattle.conn.specs.Plays.{play_pieces}
@@ -43,6 +43,7 @@ use Rattle.admission.proofs.Within.{sound-after}
 use Rattle.slot_calendar.specs.Profiles.{capacity_at}
 use Rattle.station.specs.Seats.{IsSeat, Sitting}
 use Rattle.conn.proofs.Staying.{rounds_well, slot_play}
+use Rattle.conn.proofs.Occasions.{SlotStandings, EventCome}
 
 -- a session that heard nothing yet
 pub new_well : (films : List Stored) (settings : Settings) (words : List ℕ) → AreShown films → AreSettings settings →
@@ -54,16 +55,22 @@ reply_heard : (goes : Bool) (s : Standing) → (if goes then sent_reply s else s
 reply_heard true s = refl
 reply_heard false s = refl
 
-heard_cases : {slot : ℕ} (taken sending : Bool) (next still old : Standing) → next.heard ≡ slot → still.heard ≡ slot →
-    (if taken then (if sending then next else still) else old).heard ≡ (if taken then slot else old.heard)
-heard_cases {slot} false sending next still old one other = refl
-heard_cases {slot} true false next still old one other = other
-heard_cases {slot} true true next still old one other = one
+heard_cases : {slot : ℕ} (taken sending : Bool) (standings : SlotStandings) → standings.sending.heard ≡ slot →
+    standings.still.heard ≡ slot →
+    (if taken then (if sending then standings.sending else standings.still) else standings.before).heard ≡
+    (if taken then slot else standings.before.heard)
+heard_cases {slot} false sending standings one other = refl
+heard_cases {slot} true false standings one other = other
+heard_cases {slot} true true standings one other = one
 
 slot_heard : (old : Standing) (slot : ℕ) → (after_slot old slot).heard ≡ taken_up old.heard slot
 slot_heard old slot =
-    heard_cases (is_taken old slot) (is_sending old.state) (after_play (sent_slot old slot)) (record old { heard = slot }) old
-    (reply_heard (old.waits && is_between (stepped_in true slot old.state)) (sent_due old slot)) refl
+    heard_cases (is_taken old slot) (is_sending old.state) (record {
+      sending = after_play (sent_slot old slot);
+      still = record old { heard = slot };
+      before = old;
+    }) (reply_heard (old.waits && is_between (stepped_in true slot old.state))
+    (sent_due old slot)) refl
 
 -- what was sent of a play, by the play as it was and as it is now
 sent_by : {old : Standing} {setup : Setup} {play : Played} {film : List ℕ} {new : Standing} {heard : ℕ}
@@ -95,42 +102,42 @@ sent_by {old} {setup} {play} {new} {heard} {more} its on same =
             ∙ ap (λ ps. take (length more) (drop play.run.sent (framed_bytes ps))) pieces;
         between = λ slot at.
             let through : heard + 1 - play.start ≡ slot + 1 = omega (arith, at) in
-            planned_between sizes client play.run play.plan slot (length more) is_plan its.sending (count ∙ ap (first_slots play.plan) through);
+            planned_between is_plan its.sending (count ∙ ap (first_slots play.plan) through);
       },
     )
 
-kept_event : {setup : Setup} {play : Played} {film : List ℕ} (old new : Stage) (event : Doing) (due : List Part)
-    (halt : Outcome) →
+kept_event : {setup : Setup} {play : Played} {film : List ℕ} {old new : Stage} {event : Doing}
+    (come : EventCome old event new) →
     HasPlay old.session.films old.session.source old.session.settings old.session.counts old.session.heard film setup play →
-    old.session.state ≡ Playing setup play → Comes old event due halt new →
-    (stored : Stored) × IsSentBy old.session stored setup play (heard_by old.session.heard event) (film ++ film_bytes due)
-kept_event {setup} {play} {film} old new (HeardBytes bytes) due halt its is comes =
-    subst (λ ps. (stored : Stored) × IsSentBy old.session stored setup play old.session.heard (film ++ film_bytes ps)) (sym comes.0)
+    old.session.state ≡ Playing setup play →
+    (stored : Stored) × IsSentBy old.session stored setup play (heard_by old.session.heard event) (film ++ film_bytes come.due)
+kept_event {setup} {play} {film} {old} {event = HeardBytes bytes} come its is =
+    subst (λ ps. (stored : Stored) × IsSentBy old.session stored setup play old.session.heard (film ++ film_bytes ps)) (sym come.comes.0)
     (subst (λ bs. (stored : Stored) × IsSentBy old.session stored setup play old.session.heard bs) (sym (append-nil film))
     (sent_by its (as_it_was old.session setup play film is its.sent) refl))
-kept_event {setup} {play} {film} old new (HeardSlot slot) due halt its is comes =
-    subst (λ ps. (stored : Stored) × IsSentBy old.session stored setup play (taken_up old.session.heard slot) (film ++ film_bytes ps)) (sym comes.1.parts_are)
+kept_event {setup} {play} {film} {old} {event = HeardSlot slot} come its is =
+    subst (λ ps. (stored : Stored) × IsSentBy old.session stored setup play (taken_up old.session.heard slot) (film ++ film_bytes ps))
+    (sym come.comes.1.parts_are)
     (sent_by its
     (slot_play old.session slot is its.sent) (slot_heard old.session slot))
-kept_event old new HeardEnd due halt its is comes = absurd comes
-kept_event old new (Sent byte) due halt its is comes = absurd comes
+kept_event {event = HeardEnd} come its is = absurd come.comes
+kept_event {event = Sent byte} come its is = absurd come.comes
 
-kept_in : {state : State} {film : List ℕ} (old new : Stage) (event : Doing) (due : List Part) (halt : Outcome) → IsWell old.session film →
-    old.session.state ≡ state → Comes old event due halt new →
-    IsKeptIn state old.session (heard_by old.session.heard event) (film ++ film_bytes due)
-kept_in {state = Init} old new event due halt well is comes = tt
-kept_in {state = Ready setup paused} old new event due halt well is comes = tt
-kept_in {state = Playing setup play} {film} old new event due halt well is comes =
+kept_in : {state : State} {film : List ℕ} {old new : Stage} {event : Doing} (come : EventCome old event new) →
+    IsWell old.session film → old.session.state ≡ state →
+    IsKeptIn state old.session (heard_by old.session.heard event) (film ++ film_bytes come.due)
+kept_in {state = Init} come well is = tt
+kept_in {state = Ready setup paused} come well is = tt
+kept_in {state = Playing setup play} {film} {old} come well is =
     let s = old.session in
     let was = subst (IsStateOf s.films s.source s.settings s.counts s.heard film) is well.state in
-    kept_event old new event due halt was.1 is comes
-kept_in {state = Stopping setup stop} old new event due halt well is comes = tt
+    kept_event come was.1 is
+kept_in {state = Stopping setup stop} come well is = tt
 
 -- in each course from such a session on
 pub plays_kept : (first : Standing) (rounds : List Round) → IsWell first [] → ArePlaysKept first rounds
 plays_kept first rounds well = λ before round old at.
-    kept_in old at.opened round.event round.due round.halt
-    (rounds_well (stage first []) old before [] well at.runs) refl at.comes
+    kept_in (record { due = round.due; halt = round.halt; comes = at.comes }) (rounds_well (stage first []) old before [] well at.runs) refl
 
 -- no slot is booked above its capacity
 never_overbooked : (seat : Sitting) → IsSeat seat → (n slot : ℕ) → booked_after (take n seat.seen) slot ≤ capacity_at seat.steps slot
@@ -147,13 +154,18 @@ keeps_promise {session} {old_seat} {new_seat} {report} well none is served =
     let made : List Outcome = rounds_outcomes course.rounds ++ ending_outcomes course.ending in
     let parts : List Part = rounds_parts (course.rounds ++ ending_rounds course.ending) in
     let after = entries_in (served.closes.halt ∷ []) in
-    let told = course_tells (stage session []) course.mid course.rounds course.ending report.end served.ended.stage none course.runs course.ends in
+    let told = course_tells (stage session []) course.mid course.rounds none course.runs (record {
+      count = length course.rounds;
+      end = report.end;
+      new = served.ended.stage;
+      ends = course.ends;
+    }) in
     let mine : new_seat.mine ≡ (old_seat.mine ++ entries_in made) ++ after = served.closes.noted.mine ∙ ap (λ ps. ps ++ after) course.noted.mine in
     inl (record {
       served = served;
       booked = record { legal = is.legal; within = never_overbooked new_seat is };
       keeps = record {
         plays = plays_kept session (course.rounds ++ ending_rounds course.ending) well;
-        refusals = refusals_told old_seat.mine after made parts is mine told;
+        refusals = refusals_told made parts (record { before = old_seat.mine; after = after; seat_is = is; mine_is = mine }) told;
       };
     })

@@ -16,15 +16,16 @@ use Rattle.session.specs.declared.states.State.TheVariants.{Playing}
 use Rattle.session.specs.Sendings.{can_reply, is_between, is_sending, is_taken, step_bytes}
 use Rattle.session.specs.Sendings.{stepped_in}
 use Rattle.session.specs.Standings.{Standing}
-use Rattle.conn.specs.Turns.{Outcome, Part, Film, Text, Stage, Taking, Passed, Answered, TakesAll}
+use Rattle.conn.specs.Turns.{Part, Film, Text, Stage, Taking, Passed, Answered, TakesAll}
 use Rattle.conn.specs.Turns.{due_parts, film_bytes, reply_parts}
-use Rattle.conn.specs.Rounds.{Comes, Round, Runs, RunsAll, round_outcomes, rounds_outcomes}
+use Rattle.conn.specs.Rounds.{Round, Runs, RunsAll, round_outcomes, rounds_outcomes}
 use Rattle.conn.specs.Rounds.{takings_outcomes}
 use Rattle.conn.specs.Films.{AreUnhalted, GoesOn, HasSent, StandBetween, Stretch, round_parts}
 use Rattle.conn.specs.Films.{rounds_parts, takings_parts}
 use Rattle.conn.proofs.Filming.{few_slots, stopped_is}
 use Rattle.conn.proofs.Playing.{comes_on, heard_left, round_on, taking_left, takes_left}
 use Rattle.conn.proofs.Playing.{unhalted_front, unhalted_rest}
+use Rattle.conn.proofs.Occasions.{SlotBytes, EventCome, PlayGoing}
 
 -- as many bytes were sent as the plan has up to the heard slot
 pub film_count : (play : Played) (heard : ℕ) (film : List ℕ) → HasSent play heard film → length film ≡ first_slots play.pacer.plan (heard + 1 - play.start)
@@ -71,12 +72,13 @@ stand-append pieces place (Film bytes ∷ xs) ys first second =
 stand-append pieces place (Text text ∷ xs) ys first second = (first.0, stand-append pieces place xs ys first.1 second)
 
 -- a slot's parts
-slot_stands : {between : Bool} {pieces : List (List ℕ)} (waits : Bool) (place : ℕ) (one after plain text : List ℕ) →
-    (between ≡ true → IsBoundary pieces (place + length one)) →
-    StandBetween pieces place (if waits then Film one ∷ (if between then Text text ∷ Film after ∷ [] else []) else Film plain ∷ [])
-slot_stands {between} false place one after plain text stands = tt
-slot_stands {between = false} true place one after plain text stands = tt
-slot_stands {between = true} true place one after plain text stands = (stands refl, tt)
+slot_stands : {between : Bool} {pieces : List (List ℕ)} (waits : Bool) (place : ℕ) (bytes : SlotBytes)
+    (text : List ℕ) → (between ≡ true → IsBoundary pieces (place + length bytes.before)) →
+    StandBetween pieces place (if waits then Film bytes.before ∷ (if between then Text text ∷ Film bytes.rest ∷ [] else []) else Film
+    bytes.plain ∷ [])
+slot_stands {between} false place bytes text stands = tt
+slot_stands {between = false} true place bytes text stands = tt
+slot_stands {between = true} true place bytes text stands = (stands refl, tt)
 
 due_stand : {setup : Setup} {play : Played} {film : List ℕ} (session : Standing) (slot : ℕ) → session.state ≡ Playing setup play →
     HasSent play session.heard film → StandBetween play.pacer.pieces (play.pacer.before + length film) (due_parts session slot)
@@ -86,8 +88,11 @@ due_stand {setup} {play} {film} session slot is has =
     let stands : State' (Playing setup play) =
     λ between. subst (IsBoundary p.pieces) (omega (arith, sent_place play session.heard film has, stopped_place slot p has.pacing))
     (boundary_here (after_step true slot p) (stopped_is slot p has.pacing) between) in
-    slot_stands session.waits (p.before + length film) (step_bytes true slot session.state)
-    (step_bytes false slot (stepped_in true slot session.state)) (step_bytes false slot session.state) session.text
+    slot_stands session.waits (p.before + length film) (record {
+      before = step_bytes true slot session.state;
+      rest = step_bytes false slot (stepped_in true slot session.state);
+      plain = step_bytes false slot session.state;
+    }) session.text
     (subst State' (sym is) stands)
 
 none_stand : (goes : Bool) (pieces : List (List ℕ)) (place : ℕ) (parts : List Part) → (goes ≡ true → StandBetween pieces place parts) →
@@ -95,18 +100,17 @@ none_stand : (goes : Bool) (pieces : List (List ℕ)) (place : ℕ) (parts : Lis
 none_stand true pieces place parts stands = stands refl
 none_stand false pieces place parts stands = tt
 
-comes_stand : {setup : Setup} {play : Played} {film : List ℕ} (old new : Stage) (event : Doing) (due : List Part)
-    (halt : Outcome) →
-    Comes old event due halt new → old.session.state ≡ Playing setup play → HasSent play old.session.heard film →
-    StandBetween play.pacer.pieces (play.pacer.before + length film) due
-comes_stand {play} {film} old new (HeardBytes bytes) due halt comes is has =
-    subst (StandBetween play.pacer.pieces (play.pacer.before + length film)) (sym comes.0) tt
-comes_stand {play} {film} old new (HeardSlot slot) due halt comes is has =
-    subst (StandBetween play.pacer.pieces (play.pacer.before + length film)) (sym comes.1.parts_are)
+comes_stand : {setup : Setup} {play : Played} {film : List ℕ} {old new : Stage} {event : Doing}
+    (come : EventCome old event new) → PlayGoing setup play film old.session →
+    StandBetween play.pacer.pieces (play.pacer.before + length film) come.due
+comes_stand {play} {film} {event = HeardBytes bytes} come going =
+    subst (StandBetween play.pacer.pieces (play.pacer.before + length film)) (sym come.comes.0) tt
+comes_stand {play} {film} {old} {event = HeardSlot slot} come going =
+    subst (StandBetween play.pacer.pieces (play.pacer.before + length film)) (sym come.comes.1.parts_are)
     (none_stand (is_taken old.session slot && is_sending old.session.state) play.pacer.pieces (play.pacer.before + length film) (due_parts old.session slot)
-    (λ goes. due_stand old.session slot is has))
-comes_stand old new HeardEnd due halt comes is has = absurd comes
-comes_stand old new (Sent byte) due halt comes is has = absurd comes
+    (λ goes. due_stand old.session slot going.state going.sent))
+comes_stand {event = HeardEnd} come going = absurd come.comes
+comes_stand {event = Sent byte} come going = absurd come.comes
 
 -- a reply's part
 reply_stands : (session : Standing) (setup : Setup) (play : Played) (film : List ℕ) → session.state ≡ Playing setup play →
@@ -137,14 +141,17 @@ takings_film old new (Answered message outcome parts ∷ takings) takes =
     ∙ ap (λ bs. bs ++ film_bytes (takings_parts takings)) (ap film_bytes takes.1.0.parts_are ∙ no_film (can_reply takes.1.0.answered) takes.1.0.answered.text)
     ∙ takings_film takes.0 new takings takes.1.1
 
-takes_stand : {setup : Setup} {play : Played} {film : List ℕ} (old new : Stage) (takings : List Taking) → TakesAll old takings new →
-    AreUnhalted (takings_outcomes takings) → old.session.state ≡ Playing setup play → HasSent play old.session.heard film →
+takes_stand : {setup : Setup} {play : Played} {film : List ℕ} (old new : Stage) (takings : List Taking) →
+    TakesAll old takings new → AreUnhalted (takings_outcomes takings) → PlayGoing setup play film old.session →
     StandBetween play.pacer.pieces (play.pacer.before + length film) (takings_parts takings)
-takes_stand old new [] takes free is has = tt
-takes_stand {play} {film} old new (Passed n ∷ takings) takes free is has =
-    let left = taking_left old takes.0 (Passed n) takes.1.0 tt is in
-    takes_stand takes.0 new takings takes.1.1 free (left.0 ∙ is) (subst (λ h. HasSent play h film) (sym left.1) has)
-takes_stand {setup} {play} {film} old new (Answered message outcome parts ∷ takings) takes free is has =
+takes_stand old new [] takes free going = tt
+takes_stand {play} {film} old new (Passed n ∷ takings) takes free going =
+    let left = taking_left old takes.0 (Passed n) takes.1.0 tt going.state in
+    takes_stand takes.0 new takings takes.1.1 free (record {
+      state = left.0 ∙ going.state;
+      sent = subst (λ h. HasSent play h film) (sym left.1) going.sent;
+    })
+takes_stand {setup} {play} {film} old new (Answered message outcome parts ∷ takings) takes free going =
     let first : AreUnhalted (outcome ∷ []) = (free.0, tt) in
     let left = taking_left old takes.0 (Answered message outcome parts) takes.1.0 first is in
     let heard = heard_left takes.1.0.heard free.0 is in
@@ -155,35 +162,38 @@ takes_stand {setup} {play} {film} old new (Answered message outcome parts ∷ ta
     subst (StandBetween play.pacer.pieces place) (sym takes.1.0.parts_are)
     (reply_stands takes.1.0.answered setup play film (heard.0 ∙ is) (subst (λ h. HasSent play h film) (sym heard.1) has)) in
     let rest : StandBetween play.pacer.pieces place (takings_parts takings) =
-    takes_stand takes.0 new takings takes.1.1 free.1 (left.0 ∙ is) (subst (λ h. HasSent play h film) (sym left.1) has) in
+    takes_stand takes.0 new takings takes.1.1 free.1 (record { state = left.0 ∙ is; sent = subst (λ h. HasSent play h film) (sym left.1) has }) in
     stand-append play.pacer.pieces place parts (takings_parts takings) reply
     (subst (λ n. StandBetween play.pacer.pieces n (takings_parts takings)) (omega (arith, ap length none)) rest)
+  where
+    open going use {state as is, sent as has}
 
 round_stands : {old new : Stage} {round : Round} {setup : Setup} {play : Played} {film : List ℕ} → Runs old round new → AreUnhalted (round_outcomes round) →
     old.session.state ≡ Playing setup play → HasSent play old.session.heard film →
     StandBetween play.pacer.pieces (play.pacer.before + length film) (round_parts round)
 round_stands {old} {new} {round} {play} {film} runs free is has =
     let opened = runs.opened in
-    let on = comes_on old opened round.event round.due round.halt runs.comes free.0 is has in
+    let on = comes_on (record { due = round.due; halt = round.halt; comes = runs.comes }) free.0 (record { state = is; sent = has }) in
     let rest : StandBetween on.now.pacer.pieces (on.now.pacer.before + length (film ++ film_bytes round.due)) (takings_parts round.takings) =
-    takes_stand opened new round.takings runs.takes free.1 on.state on.sent in
+    takes_stand opened new round.takings runs.takes free.1 (record { state = on.state; sent = on.sent }) in
     let same : StandBetween play.pacer.pieces (on.now.pacer.before + length (film ++ film_bytes round.due)) (takings_parts round.takings) =
     subst (λ ps. StandBetween ps (on.now.pacer.before + length (film ++ film_bytes round.due)) (takings_parts round.takings)) on.pieces rest in
     stand-append play.pacer.pieces (play.pacer.before + length film) round.due (takings_parts round.takings)
-    (comes_stand old opened round.event round.due round.halt runs.comes is has)
+    (comes_stand (record { due = round.due; halt = round.halt; comes = runs.comes }) (record { state = is; sent = has }))
     (subst (λ n. StandBetween play.pacer.pieces n (takings_parts round.takings)) (omega (arith, on.before, length-append film (film_bytes round.due))) same)
 
 -- while a play goes on, each reply stands between frames and reports
-pub rounds_stand : {setup : Setup} {play : Played} {film : List ℕ} (old new : Stage) (rounds : List Round) → RunsAll old rounds new →
-    AreUnhalted (rounds_outcomes rounds) → old.session.state ≡ Playing setup play → HasSent play old.session.heard film →
+pub rounds_stand : {setup : Setup} {play : Played} {film : List ℕ} (old new : Stage) (rounds : List Round) →
+    RunsAll old rounds new → AreUnhalted (rounds_outcomes rounds) → PlayGoing setup play film old.session →
     StandBetween play.pacer.pieces (play.pacer.before + length film) (rounds_parts rounds)
-rounds_stand old new [] runs free is has = tt
-rounds_stand {setup} {play} {film} old new (round ∷ rounds) runs free is has =
+rounds_stand old new [] runs free going = tt
+rounds_stand {setup} {play} {film} old new (round ∷ rounds) runs free going =
     let first_free = unhalted_front (round_outcomes round) (rounds_outcomes rounds) free in
-    let on = round_on runs.1.0 first_free is has in
+    let on = round_on runs.1.0 first_free going.state going.sent in
     let more : List ℕ = film ++ film_bytes round.due in
     let rest : StandBetween on.now.pacer.pieces (on.now.pacer.before + length more) (rounds_parts rounds) =
-    rounds_stand {setup = setup} {play = on.now} {film = more} runs.0 new rounds runs.1.2 (unhalted_rest (round_outcomes round) (rounds_outcomes rounds) free) on.state on.sent in
+    rounds_stand {setup = setup} {play = on.now} {film = more} runs.0 new rounds runs.1.2
+    (unhalted_rest (round_outcomes round) (rounds_outcomes rounds) free) (record { state = on.state; sent = on.sent }) in
     let same : StandBetween play.pacer.pieces (on.now.pacer.before + length more) (rounds_parts rounds) =
     subst (λ ps. StandBetween ps (on.now.pacer.before + length more) (rounds_parts rounds)) on.pieces rest in
     let film_is : length (film_bytes (round_parts round)) ≡ length (film_bytes round.due) =
@@ -191,7 +201,7 @@ rounds_stand {setup} {play} {film} old new (round ∷ rounds) runs free is has =
     ∙ ap (λ bs. film_bytes round.due ++ bs) (takings_film runs.1.0.opened runs.0 round.takings runs.1.0.takes)
     ∙ append-nil (film_bytes round.due)) in
     stand-append play.pacer.pieces (play.pacer.before + length film) (round_parts round) (rounds_parts rounds)
-    (round_stands runs.1.0 first_free is has)
+    (round_stands runs.1.0 first_free going.state going.sent)
     (subst (λ n. StandBetween play.pacer.pieces n (rounds_parts rounds)) (omega (arith, on.before, film_is, length-append film (film_bytes round.due))) same)
 
 -- from a play's beginning on
@@ -204,8 +214,10 @@ replies_stand s on =
     let pieces = s.play.pacer.pieces in
     let place : ℕ = s.play.pacer.before + length s.film in
     let rest : StandBetween pieces place (rounds_parts s.rounds) =
-    rounds_stand on.mid s.new s.rounds on.runs after (left.0 ∙ on.state)
-    (subst (λ h. HasSent s.play h s.film) (sym left.1) on.sent) in
+    rounds_stand on.mid s.new s.rounds on.runs after (record {
+      state = left.0 ∙ on.state;
+      sent = subst (λ h. HasSent s.play h s.film) (sym left.1) on.sent;
+    }) in
     stand-append pieces place (takings_parts s.takings) (rounds_parts s.rounds)
-    (takes_stand s.old on.mid s.takings on.takes first on.state on.sent)
+    (takes_stand s.old on.mid s.takings on.takes first (record { state = on.state; sent = on.sent }))
     (subst (λ n. StandBetween pieces n (rounds_parts s.rounds)) (omega (arith, ap length (takings_film s.old on.mid s.takings on.takes))) rest)

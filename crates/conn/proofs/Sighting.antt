@@ -41,6 +41,7 @@ use Rattle.conn.specs.Rounds.{taking_outcomes, takings_bytes, takings_outcomes}
 use Rattle.conn.specs.Sights.{AreNoted, HasAsked, HasBroken, HasComeTo}
 use Rattle.conn.specs.Sights.{HasCourse, HasEnded, HasLost, HasPassed, HasRound, HasRun, HasTaken}
 use Rattle.conn.specs.Sights.{HasTakenUp, IsSent, Sight}
+use Rattle.conn.proofs.Occasions.{RequestInFront}
 
 -- what the link tells
 pub sent_none : (told : Option (List Doing)) → IsSent told [] told
@@ -62,19 +63,27 @@ noted_none seat = record { mine = sym (append-nil seat.mine); seat = seat_none s
 pub noted_unasked : (seat : Sitting) → AreNoted seat seat (Unasked ∷ [])
 noted_unasked seat = record { mine = sym (append-nil seat.mine); seat = seat_none seat; agree = omega arith }
 
-pub noted_on : (a b c : Sitting) (xs ys : List Outcome) → AreNoted a b xs → AreNoted b c ys → AreNoted a c (xs ++ ys)
-noted_on a b c xs ys first second = record {
+pub noted_on : {a b c : Sitting} {xs ys : List Outcome} → AreNoted a b xs → AreNoted b c ys → AreNoted a c (xs ++ ys)
+noted_on {a} {b} {c} {xs} {ys} first second = record {
   mine = second.mine ∙ ap (λ m. m ++ entries_in ys) first.mine ∙ append_assoc a.mine (entries_in xs) (entries_in ys)
       ∙ ap (λ es. a.mine ++ es) (sym (entries_in-append xs ys));
   seat = seat_on a b c first.seat second.seat;
-  agree = agree_then (terms_of a) b.seen (length a.seen) xs ys second.seat.longer first.agree
-      (subst (λ terms. AgreeWith terms c.seen (length b.seen) ys) (terms_same a b first.seat) second.agree);
+  agree = agree_then (record { terms = terms_of a; journal = b.seen; longer = c.seen; prefix = second.seat.longer }) (length a.seen) xs ys
+      first.agree (subst (λ terms. AgreeWith terms c.seen (length b.seen) ys) (terms_same a b first.seat) second.agree);
 }
 
+-- pieces that are taken up from a stage on
+pub record TakenLater : Type 0 where
+  pub old : Stage
+  pub new : Stage
+  pub takings : List Taking
+  pub takes : TakesAll old takings new
+
 -- pieces
-takes_on : (a b c : Stage) (xs ys : List Taking) → TakesAll a xs b → TakesAll b ys c → TakesAll a (xs ++ ys) c
-takes_on a b c [] ys first second = subst (λ s. TakesAll s ys c) first second
-takes_on a b c (x ∷ xs) ys first second = (first.0, (first.1.0, takes_on first.0 b c xs ys first.1.1 second))
+takes_on : (a : Stage) (later : TakenLater) (xs : List Taking) → TakesAll a xs later.old →
+    TakesAll a (xs ++ later.takings) later.new
+takes_on a later [] first = subst (λ s. TakesAll s later.takings later.new) first later.takes
+takes_on a later (x ∷ xs) first = (first.0, (first.1.0, takes_on first.0 later xs first.1.1))
 
 pub takings_bytes-append : (xs ys : List Taking) → takings_bytes (xs ++ ys) ≡ takings_bytes xs ++ takings_bytes ys
 takings_bytes-append [] ys = refl
@@ -101,11 +110,11 @@ taken_one a b taking takes sent noted = record {
 pub taken_on : (a b c : Sight) → HasTaken a b → HasTaken b c → HasTaken a c
 taken_on a b c first second = record {
   takings = first.takings ++ second.takings;
-  takes = takes_on a.stage b.stage c.stage first.takings second.takings first.takes second.takes;
+  takes = takes_on a.stage (record { old = b.stage; new = c.stage; takings = second.takings; takes = second.takes }) first.takings first.takes;
   sent = subst (λ bs. IsSent a.told bs c.told) (sym (takings_bytes-append first.takings second.takings))
       (sent_on a.told (takings_bytes first.takings) (takings_bytes second.takings) first.sent second.sent);
   noted = subst (λ os. AreNoted a.seat c.seat os) (sym (takings_outcomes-append first.takings second.takings))
-      (noted_on a.seat b.seat c.seat (takings_outcomes first.takings) (takings_outcomes second.takings) first.noted second.noted);
+      (noted_on first.noted second.noted);
 }
 
 lost_on : (a b c : Sight) → HasTaken a b → HasLost b c → HasLost a c
@@ -137,7 +146,7 @@ event_round {event} {halt} {a} {b} {c} due comes sent noted taken idle = record 
   runs = record { opened = b.stage; comes = comes; takes = taken.takes };
   idle = idle;
   sent = sent_on a.told (parts_bytes due) (takings_bytes taken.takings) sent taken.sent;
-  noted = noted_on a.seat b.seat c.seat (halt ∷ []) (takings_outcomes taken.takings) noted taken.noted;
+  noted = noted_on noted taken.noted;
 }
 
 event_stop : {event : Doing} {halt : Outcome} {end : ConnEnd} {count : ℕ} {a b c : Sight} (due : List Part) → Comes a.stage event due halt b.stage →
@@ -147,7 +156,7 @@ event_stop {event} {halt} {end} {a} {b} {c} due comes sent noted taken stopped =
   event_is = refl;
   ends = (record { opened = b.stage; comes = comes; takes = taken.takes }, stopped);
   sent = sent_on a.told (parts_bytes due) (takings_bytes taken.takings) sent taken.sent;
-  noted = noted_on a.seat b.seat c.seat (halt ∷ []) (takings_outcomes taken.takings) noted taken.noted;
+  noted = noted_on noted taken.noted;
 }
 
 event_lost : {event : Doing} {halt : Outcome} {end : ConnEnd} {count : ℕ} {a b c : Sight} (due : List Part) → Comes a.stage event due halt b.stage →
@@ -167,32 +176,52 @@ event_lost {event} {halt} {end} {a} {b} {c} due comes sent noted is lost =
       );
       sent = sent_on a.told (round_bytes round) lost.front
           (sent_on a.told (parts_bytes due) (takings_bytes lost.taken.takings) sent lost.taken.sent) lost.sent;
-      noted = noted_on a.seat mid.seat c.seat (round_outcomes round) (lost.outcome ∷ [])
-          (noted_on a.seat b.seat mid.seat (halt ∷ []) (takings_outcomes lost.taken.takings) noted lost.taken.noted) lost.noted;
+      noted = noted_on (noted_on noted lost.taken.noted) lost.noted;
     }
 
-event_up : {halt : Outcome} (result : Option ConnEnd) (event : Doing) (due : List Part) (a b c : Sight) → Comes a.stage event due halt b.stage →
-    IsSent a.told (parts_bytes due) b.told → AreNoted a.seat b.seat (halt ∷ []) → HasTakenUp result b c → HasComeTo result event a c
-event_up {halt} None event due a b c comes sent noted up = event_round due comes sent noted up.0 up.1
-event_up {halt} (Some end) event due a b c comes sent noted up =
+-- an event came: what was sent in its slot, and what was then answered is noted
+pub record EventSeen (event : Doing) (a b : Sight) : Type 0 where
+  pub due : List Part
+  pub halt : Outcome
+  pub comes : Comes a.stage event due halt b.stage
+  pub sent : IsSent a.told (parts_bytes due) b.told
+  pub noted : AreNoted a.seat b.seat (halt ∷ [])
+
+event_up : {event : Doing} {a b : Sight} → EventSeen event a b → (result : Option ConnEnd) (c : Sight) →
+    HasTakenUp result b c → HasComeTo result event a c
+event_up seen None c up = event_round seen.due seen.comes seen.sent seen.noted up.0 up.1
+event_up seen (Some end) c up =
     λ count.
     elim up [
       | inl lost ↦ event_lost due comes sent noted lost.0 lost.1
       | inr stopped ↦ event_stop due comes sent noted stopped.0 stopped.1
     ]
+  where
+    open seen use {due, comes, sent, noted}
+
+-- bytes came and wait, and nothing else was done
+pub record BytesSeen (bytes : List ℕ) (a b : Sight) : Type 0 where
+  pub few : length a.stage.input + length bytes ≤ 131072
+  pub waits : b.stage ≡ stage a.stage.session (a.stage.input ++ bytes)
+  pub told : b.told ≡ a.told
+  pub seat : b.seat ≡ a.seat
 
 -- bytes came
-pub bytes_up : {b : Sight} (result : Option ConnEnd) (bytes : List ℕ) (a c : Sight) → length a.stage.input + length bytes ≤ 131072 →
-    b.stage ≡ stage a.stage.session (a.stage.input ++ bytes) → b.told ≡ a.told → b.seat ≡ a.seat → HasTakenUp result b c →
-    HasComeTo result (HeardBytes bytes) a c
-bytes_up {b} result bytes a c few is told seat up =
-    event_up result (HeardBytes bytes) [] a b c (refl, refl, few, is) (told ∙ sent_none a.told)
-    (subst (λ s. AreNoted a.seat s (Unasked ∷ [])) (sym seat) (noted_unasked a.seat)) up
+pub bytes_up : {b : Sight} {bytes : List ℕ} {a : Sight} (result : Option ConnEnd) (c : Sight) → BytesSeen bytes a b →
+    HasTakenUp result b c → HasComeTo result (HeardBytes bytes) a c
+bytes_up {b} {a} result c seen up =
+    event_up (record {
+      due = [];
+      halt = Unasked;
+      comes = (refl, refl, seen.few, seen.waits);
+      sent = seen.told ∙ sent_none a.told;
+      noted = subst (λ s. AreNoted a.seat s (Unasked ∷ [])) (sym seen.seat) (noted_unasked a.seat);
+    }) result c up
 
 -- a slot began
 pub slot_up : {slot : ℕ} {a b : Sight} (result : Option ConnEnd) (c : Sight) → HasPassed a b slot → HasTakenUp result b c → HasComeTo result (HeardSlot slot) a c
 slot_up {slot} {a} {b} result c passed up =
-    event_up result (HeardSlot slot) passed.parts a b c (passed.input, passed.stepped) passed.sent passed.noted up
+    event_up (record { due = passed.parts; halt = passed.halt; comes = (passed.input, passed.stepped); sent = passed.sent; noted = passed.noted }) result c up
 
 pub slot_broken : (slot : ℕ) (a c : Sight) → HasBroken a c slot → HasComeTo (Some LinkFault) (HeardSlot slot) a c
 slot_broken slot a c broken =
@@ -271,8 +300,7 @@ run_on {a} {b} {heard} {c} run stage_is seat_is told_is next =
           ∙ ap (λ ds. told_more a.told (rounds_doings run.rounds ++ ds)) (sym last)
           ∙ ap (told_more a.told) (sym (rounds_doings-append run.rounds (round ∷ [])));
       noted = subst (λ os. AreNoted a.seat c.seat os) (sym (rounds_outcomes-append run.rounds (round ∷ []) ∙ ap (λ os. rounds_outcomes run.rounds ++ os) outcomes))
-          (noted_on a.seat b.seat c.seat (rounds_outcomes run.rounds) (round_outcomes round) run.noted
-          (subst (λ s. AreNoted s c.seat (round_outcomes round)) seat_is next.noted));
+          (noted_on run.noted (subst (λ s. AreNoted s c.seat (round_outcomes round)) seat_is next.noted));
     }
 
 -- and it was the last
@@ -290,8 +318,7 @@ run_end {count} {event} {end} {a} {b} {c} run stage_is seat_is told_is more last
       told = heard_sent b.told event (ending_bytes ending) told_is last.sent
           ∙ ap (λ es. told_more b.told (es ++ sends (ending_bytes ending))) (sym last.event_is)
           ∙ ap (λ t. told_more t (ending_doings ending)) run.told ∙ told_more-append a.told (rounds_doings run.rounds) (ending_doings ending);
-      noted = noted_on a.seat b.seat c.seat (rounds_outcomes run.rounds) (ending_outcomes ending) run.noted
-          (subst (λ s. AreNoted s c.seat (ending_outcomes ending)) seat_is last.noted);
+      noted = noted_on run.noted (subst (λ s. AreNoted s c.seat (ending_outcomes ending)) seat_is last.noted);
     }
 
 -- or no event was heard any more
@@ -383,19 +410,20 @@ taken_reply {a} {b} {asked} {n} first replied torn heard is told =
       new_is = is ∙ ap (λ k. stage (after_reply asked) (drop k a.stage.input)) (sym long);
     }) (reply_sent asked a.told b.told told) heard.noted
 
-pub lost_reply : {a b : Sight} {asked : Standing} {n : ℕ} → IsFirst a.stage.input (Ok (Request n)) → a.stage.session.waits ≡ false → a.stage.session.torn ≡ false →
+pub lost_reply : {a b : Sight} {asked : Standing} {n : ℕ} → RequestInFront a.stage n →
     HasAsked a.stage.session (take n a.stage.input) asked a.seat b.seat → can_reply asked ≡ true →
-    b.stage ≡ stage (record asked { lost = true }) (drop n a.stage.input) → IsFrontTold a.told b.told asked.text → HasLost a b
-lost_reply {a} {asked} {n} first replied torn heard can is told =
+    b.stage ≡ stage (record asked { lost = true }) (drop n a.stage.input) → IsFrontTold a.told b.told asked.text →
+    HasLost a b
+lost_reply {a} {asked} {n} in_front heard can is told =
     let message : List ℕ = take n a.stage.input in
-    let long : length message ≡ n = length-take-le n a.stage.input first.2 in record {
+    let long : length message ≡ n = length-take-le n a.stage.input in_front.first.2 in record {
       mid = a;
       taken = taken_none a;
       message = message;
       outcome = heard.outcome;
       front = take told.0 asked.text;
       fails = record {
-        next = next_is a.stage n first replied torn;
+        next = next_is a.stage n in_front.first in_front.replied in_front.torn;
         answered = asked;
         heard = heard.heard;
         can = can;

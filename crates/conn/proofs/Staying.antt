@@ -40,17 +40,18 @@ use Rattle.session.specs.Sendings.{after_slot, state_after, stepped_in}
 use Rattle.session.specs.Standings.{Awaits, NoAnswer, PlayAnswer, HaltAnswer, LookAnswer}
 use Rattle.session.specs.Standings.{OfferAnswer, Standing, awaited_answer}
 use Rattle.session.specs.Steps.{IsPlayIn, after_stop}
-use Rattle.conn.specs.Turns.{Outcome, Unasked, Entered, WasFull, Offered, Part, Text, Stage, Taking}
+use Rattle.conn.specs.Turns.{Outcome, Unasked, Entered, WasFull, Offered, Text, Stage, Taking}
 use Rattle.conn.specs.Turns.{Passed, Answered, HasHeard, IsAnswered, IsFinished, IsHalted}
 use Rattle.conn.specs.Turns.{IsLookAnswered, IsPlayAnswered, Takes, TakesAll, after_reply}
 use Rattle.conn.specs.Turns.{due_parts, film_bytes, slot_parts}
-use Rattle.conn.specs.Rounds.{Comes, Round, Runs, RunsAll}
+use Rattle.conn.specs.Rounds.{Round, Runs, RunsAll}
 use Rattle.conn.specs.Films.{HasSent, HasSentOn, IsReady}
 use Rattle.conn.specs.Plays.{film_in, film_since, film_taken}
 use Rattle.conn.proofs.Beginning.{play_begins}
 use Rattle.conn.proofs.Hearing.{AreShown, HasPlay, IsAskedWell, IsHalting, IsSetUpIn, IsStateOf}
 use Rattle.conn.proofs.Hearing.{IsWell, hears_well}
 use Rattle.conn.proofs.Playing.{as_it_was, later_slot, slot_cases, taken_slot}
+use Rattle.conn.proofs.Occasions.{EventCome}
 
 -- an admitted play is a sending of which nothing was sent
 admitted_well : {old : Standing} {start : ℕ} {new : Standing} {film : List ℕ} (placed : Placed) (plan : List Segment) → IsAskedWell (AskPlay plan) old film →
@@ -96,20 +97,40 @@ look_answered {new} placed Halted well answered = absurd answered
 look_answered {new} {film} placed (Looked now at booked) well answered =
     subst (λ s. IsWell s film) (sym answered) (record { films = well.films; settings = well.settings; state = well.state })
 
--- after a halt no play goes on
-next_values : {setup : Setup} (films : List Stored) (source : Source) (settings : Settings) (counts : Counts)
-    (heard : ℕ) (film : List ℕ) (play : Played) (next : Next) → IsSetup (length films) setup → IsStateOf films source settings counts heard film (state_after setup play next)
-next_values films source settings counts heard film play Done values = values
-next_values films source settings counts heard film play (Paused run) values = values
-next_values films source settings counts heard film play Torn values = values
+-- what a session's state is told by: its films, source, settings and counts, the heard slot, and
+-- the bytes that were sent of its film
+pub record Ground : Type 0 where
+  pub films : List Stored
+  pub source : Source
+  pub settings : Settings
+  pub counts : Counts
+  pub heard : ℕ
+  pub film : List ℕ
 
-halted_values : (films : List Stored) (source : Source) (settings : Settings) (counts : Counts) (heard : ℕ) (film : List ℕ) (state : State) (awaited : Awaited) →
-    IsSetUpIn (length films) state → IsStateOf films source settings counts heard film (halted_in state awaited)
-halted_values films source settings counts heard film Init awaited values = tt
-halted_values films source settings counts heard film (Ready setup paused) awaited values = values
-halted_values films source settings counts heard film (Playing setup play) awaited values =
-    next_values films source settings counts heard film play (next_of awaited) values
-halted_values films source settings counts heard film (Stopping setup stop) awaited values = values
+abbrev ground_of : Standing → List ℕ → Ground
+ground_of s film = record {
+  films = s.films;
+  source = s.source;
+  settings = s.settings;
+  counts = s.counts;
+  heard = s.heard;
+  film = film;
+}
+
+-- after a halt no play goes on
+next_values : {setup : Setup} (ground : Ground) (play : Played) (next : Next) → IsSetup (length ground.films) setup →
+    IsStateOf ground.films ground.source ground.settings ground.counts ground.heard ground.film (state_after setup play next)
+next_values ground play Done values = values
+next_values ground play (Paused run) values = values
+next_values ground play Torn values = values
+
+halted_values : (ground : Ground) (state : State) (awaited : Awaited) → IsSetUpIn (length ground.films) state →
+    IsStateOf ground.films ground.source ground.settings ground.counts ground.heard ground.film (halted_in state awaited)
+halted_values ground Init awaited values = tt
+halted_values ground (Ready setup paused) awaited values = values
+halted_values ground (Playing setup play) awaited values =
+    next_values ground play (next_of awaited) values
+halted_values ground (Stopping setup stop) awaited values = values
 
 halted_well : {old new : Standing} {film : List ℕ} (keep : ℕ) (outcome : Outcome) → IsHalting old → IsHalted old keep outcome new → IsWell new film
 halted_well {new} keep Unasked well halted = absurd halted
@@ -118,23 +139,24 @@ halted_well {old} {new} {film} keep (Entered placed) well halted =
     subst (λ s. IsWell s film) (sym halted.halts) (record {
       films = well.films;
       settings = well.settings;
-      state = halted_values made.films made.source made.settings made.counts made.heard film old.state old.awaited well.values;
+      state = halted_values (ground_of made film) old.state old.awaited well.values;
     })
 halted_well {new} keep (WasFull more entries live) well halted = absurd halted
 halted_well {new} keep (Offered at_slot note) well halted = absurd halted
 
-values_in : (films : List Stored) (source : Source) (settings : Settings) (counts : Counts) (heard : ℕ) (film : List ℕ) (state : State) →
-    IsStateOf films source settings counts heard film state → IsSetUpIn (length films) state
-values_in films source settings counts heard film Init is = tt
-values_in films source settings counts heard film (Ready setup paused) is = is
-values_in films source settings counts heard film (Playing setup play) is = is.0
-values_in films source settings counts heard film (Stopping setup stop) is = is
+values_in : (ground : Ground) (state : State) →
+    IsStateOf ground.films ground.source ground.settings ground.counts ground.heard ground.film state →
+    IsSetUpIn (length ground.films) state
+values_in ground Init is = tt
+values_in ground (Ready setup paused) is = is
+values_in ground (Playing setup play) is = is.0
+values_in ground (Stopping setup stop) is = is
 
 halting_of : (s : Standing) (film : List ℕ) → IsWell s film → IsHalting s
 halting_of s film well = record {
   films = well.films;
   settings = well.settings;
-  values = values_in s.films s.source s.settings s.counts s.heard film s.state well.state;
+  values = values_in (ground_of s film) s.state well.state;
 }
 
 -- the station's answers
@@ -167,19 +189,20 @@ heard_well {message} {outcome} {new} {film} well heard =
     answered_well heard.asking heard.ask outcome film (hears_well heard.asking message heard.ask well heard.hears) heard.answered
 
 -- a reply that was sent
-settled_well : (films : List Stored) (source : Source) (settings : Settings) (counts : Counts) (heard : ℕ) (film : List ℕ) (state : State) →
-    IsStateOf films source settings counts heard film state → IsStateOf films source settings counts heard film (after_stop state)
-settled_well films source settings counts heard film Init is = is
-settled_well films source settings counts heard film (Ready setup paused) is = is
-settled_well films source settings counts heard film (Playing setup play) is = is
-settled_well films source settings counts heard film (Stopping setup stop) is = is
+settled_well : (ground : Ground) (state : State) →
+    IsStateOf ground.films ground.source ground.settings ground.counts ground.heard ground.film state →
+    IsStateOf ground.films ground.source ground.settings ground.counts ground.heard ground.film (after_stop state)
+settled_well ground Init is = is
+settled_well ground (Ready setup paused) is = is
+settled_well ground (Playing setup play) is = is
+settled_well ground (Stopping setup stop) is = is
 
 reply_well : (goes : Bool) (s : Standing) (film : List ℕ) → IsWell s film → IsWell (if goes then sent_reply s else s) film
 reply_well false s film well = well
 reply_well true s film well = record {
   films = well.films;
   settings = well.settings;
-  state = settled_well s.films s.source s.settings s.counts s.heard film s.state well.state;
+  state = settled_well (ground_of s film) s.state well.state;
 }
 
 reply_film : (goes : Bool) (text : List ℕ) → film_bytes (if goes then Text text ∷ [] else []) ≡ []
@@ -246,19 +269,18 @@ IsOff films (Ready setup paused) = IsSetup films setup
 IsOff films (Playing setup play) = ⊥
 IsOff films (Stopping setup stop) = IsSetup films setup
 
-off_state : (films : List Stored) (source : Source) (settings : Settings) (counts : Counts) (heard : ℕ) (film : List ℕ) (state : State) → IsOff (length films) state →
-    IsStateOf films source settings counts heard film state
-off_state films source settings counts heard film Init off = tt
-off_state films source settings counts heard film (Ready setup paused) off = off
-off_state films source settings counts heard film (Playing setup play) off = absurd off
-off_state films source settings counts heard film (Stopping setup stop) off = off
+off_state : (ground : Ground) (state : State) → IsOff (length ground.films) state →
+    IsStateOf ground.films ground.source ground.settings ground.counts ground.heard ground.film state
+off_state ground Init off = tt
+off_state ground (Ready setup paused) off = off
+off_state ground (Playing setup play) off = absurd off
+off_state ground (Stopping setup stop) off = off
 
 off_well : {old new : Standing} {film more : List ℕ} → IsSameSession old new → IsWell old film → IsOff (length old.films) new.state → IsWell new more
 off_well {new} {more} same well off = record {
   films = subst AreShown (sym same.films) well.films;
   settings = subst AreSettings (sym same.settings) well.settings;
-  state = off_state new.films new.source new.settings new.counts new.heard more new.state
-      (subst (λ (f : List Stored). IsOff (length f) new.state) (sym same.films) off);
+  state = off_state (ground_of new more) new.state (subst (λ (f : List Stored). IsOff (length f) new.state) (sym same.films) off);
 }
 
 -- the rest of a play that was halted
@@ -351,24 +373,24 @@ finish_well {new} LookAnswer halt well is = absurd is
 finish_well {new} OfferAnswer halt well is = absurd is
 
 -- an event
-comes_well : {film : List ℕ} (old new : Stage) (event : Doing) (due : List Part) (halt : Outcome) → IsWell old.session film → Comes old event due halt new →
-    IsWell new.session (film ++ film_bytes due)
-comes_well {film} old new (HeardBytes bytes) due halt well comes =
-    subst (λ ps. IsWell new.session (film ++ film_bytes ps)) (sym comes.0)
-    (subst (λ (s : Stage). IsWell s.session (film ++ [])) (sym comes.3) (subst (IsWell old.session) (sym (append-nil film)) well))
-comes_well {film} old new (HeardSlot slot) due halt well comes =
-    subst (λ ps. IsWell new.session (film ++ film_bytes ps)) (sym comes.1.parts_are)
-    (finish_well (awaited_answer (after_slot old.session slot)) halt
-    (slot_state old.session.state old.session slot film refl well) comes.1.finished)
-comes_well old new HeardEnd due halt well comes = absurd comes
-comes_well old new (Sent byte) due halt well comes = absurd comes
+comes_well : {film : List ℕ} {old new : Stage} {event : Doing} (come : EventCome old event new) →
+    IsWell old.session film → IsWell new.session (film ++ film_bytes come.due)
+comes_well {film} {old} {new} {event = HeardBytes bytes} come well =
+    subst (λ ps. IsWell new.session (film ++ film_bytes ps)) (sym come.comes.0)
+    (subst (λ (s : Stage). IsWell s.session (film ++ [])) (sym come.comes.3) (subst (IsWell old.session) (sym (append-nil film)) well))
+comes_well {film} {old} {new} {event = HeardSlot slot} come well =
+    subst (λ ps. IsWell new.session (film ++ film_bytes ps)) (sym come.comes.1.parts_are)
+    (finish_well (awaited_answer (after_slot old.session slot)) come.halt
+    (slot_state old.session.state old.session slot film refl well) come.comes.1.finished)
+comes_well {event = HeardEnd} come well = absurd come.comes
+comes_well {event = Sent byte} come well = absurd come.comes
 
 -- a round, and rounds
 pub round_well : (old new : Stage) (round : Round) (film : List ℕ) → IsWell old.session film → Runs old round new →
     IsWell new.session (film_taken (film ++ film_bytes round.due) round.takings)
 round_well old new round film well runs =
     takes_well runs.opened new round.takings (film ++ film_bytes round.due) runs.takes
-    (comes_well old runs.opened round.event round.due round.halt well runs.comes)
+    (comes_well (record { due = round.due; halt = round.halt; comes = runs.comes }) well)
 
 pub rounds_well : (old new : Stage) (rounds : List Round) (film : List ℕ) → IsWell old.session film → RunsAll old rounds new →
     IsWell new.session (film_in film rounds)

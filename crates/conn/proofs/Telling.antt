@@ -1,6 +1,6 @@
 -- What the replies of a connection tell of the station's answers.
 use Rattle.std.proofs.Common.{◌≡◌, ℕ, ◌-◌, ◌++◌, ◌&&◌, Bool, true, false, if◌then◌else◌, Contains}
-use Rattle.std.proofs.Common.{List, [], ◌∷◌, Some, codes, decimal, get_or, length, take, refl, sym}
+use Rattle.std.proofs.Common.{List, [], ◌∷◌, Some, codes, decimal, get_or, take, refl, sym}
 use Rattle.std.proofs.Common.{ap, subst, ◌∙◌, arith}
 use Rattle.std.proofs.lemmas.List.{append-nil, append_assoc}
 use Rattle.std.proofs.lemmas.List.Elements.{All-contains, Contains-append_left}
@@ -48,6 +48,7 @@ use Rattle.conn.specs.declared.reports.ConnEnd.{ConnEnd}
 use Rattle.session.proofs.Refusing.{hears_text, ok_plain}
 use Rattle.conn.proofs.Sighting.{entries_in-append}
 use Rattle.conn.specs.Promises.{AreRefusalsTold, TellsFullOf, TellsOverflowOf}
+use Rattle.conn.proofs.Occasions.{SlotStandings, SlotBytes}
 
 -- three digits differ where the first does
 other : {a b c x y z : ℕ} → (a ≡ x → ⊥) → (a ∷ b ∷ c ∷ []) ≡ (x ∷ y ∷ z ∷ []) → ⊥
@@ -168,18 +169,24 @@ told_full made more entries live sequence = record {
   };
 }
 
-play_told : {answer : Answer} (made : List Outcome) (old : Standing) (placed : Placed) (new : Standing) → placed.entry.answer ≡ answer →
-    ((rest : List ℕ) → IsNoRefusal (old.text ++ rest)) → IsPlayAnswered old placed answer new → IsTold (made ++ Entered placed ∷ []) new.text
-play_told {answer = Admitted start} made old placed new same plain answered =
-    subst (IsTold (made ++ Entered placed ∷ [])) (sym (ap (λ (s : Standing). s.text) answered.1))
+-- the station's answer to a play is the one that the entry has
+pub record EntryAnswer (old : Standing) (placed : Placed) (answer : Answer) (new : Standing) : Type 0 where
+  pub answer_is : placed.entry.answer ≡ answer
+  pub answered : IsPlayAnswered old placed answer new
+
+play_told : {answer : Answer} {old : Standing} {placed : Placed} {new : Standing} (made : List Outcome) →
+    ((rest : List ℕ) → IsNoRefusal (old.text ++ rest)) → EntryAnswer old placed answer new →
+    IsTold (made ++ Entered placed ∷ []) new.text
+play_told {answer = Admitted start} {old} {placed} made plain given =
+    subst (IsTold (made ++ Entered placed ∷ [])) (sym (ap (λ (s : Standing). s.text) given.answered.1))
     (told_plain (made ++ Entered placed ∷ []) (started_text old.text (start - old.heard))
     (subst IsNoRefusal (sym (append_assoc old.text (field_line (field (codes "x-Start") (decimal (start - old.heard)))) (codes "\r\n")))
     (plain (field_line (field (codes "x-Start") (decimal (start - old.heard))) ++ codes "\r\n"))))
-play_told {answer = Overflow slot booked asked} made old placed new same plain answered =
-    subst (IsTold (made ++ Entered placed ∷ [])) (sym (ap (λ (s : Standing). s.text) answered))
-    (told_overflow made placed _ same)
-play_told {answer = Halted} made old placed new same plain answered = absurd answered
-play_told {answer = Looked now at booked} made old placed new same plain answered = absurd answered
+play_told {answer = Overflow slot booked asked} {placed} made plain given =
+    subst (IsTold (made ++ Entered placed ∷ [])) (sym (ap (λ (s : Standing). s.text) given.answered))
+    (told_overflow made placed _ given.answer_is)
+play_told {answer = Halted} made plain given = absurd given.answered
+play_told {answer = Looked now at booked} made plain given = absurd given.answered
 
 look_told : (made : List Outcome) (old : Standing) (placed : Placed) (answer : Answer) (new : Standing) → IsLookAnswered old placed answer new →
     IsTold (made ++ Entered placed ∷ []) new.text
@@ -202,33 +209,41 @@ halted_text old keep (Entered placed) new halted = ap (λ (s : Standing). s.text
 halted_text old keep (WasFull more entries live) new halted = absurd halted
 halted_text old keep (Offered at_slot note) new halted = absurd halted
 
-answered_told : (made : List Outcome) (old : Standing) (ask : Ask) (outcome : Outcome) (new : Standing) → RefusesNone ask old → IsAnswered old ask outcome new →
-    IsTold (made ++ outcome ∷ []) new.text
-answered_told made old AskReply Unasked new heard answered =
-    subst (IsTold (made ++ Unasked ∷ [])) (sym (ap (λ (s : Standing). s.text) answered)) (told_plain (made ++ Unasked ∷ []) old.text heard)
-answered_told made old AskReply (Entered placed) new heard answered = absurd answered
-answered_told made old AskReply (WasFull more entries live) new heard answered = absurd answered
-answered_told made old AskReply (Offered at_slot note) new heard answered = absurd answered
-answered_told made old (AskPlay plan) Unasked new heard answered = absurd answered
-answered_told made old (AskPlay plan) (Entered placed) new heard answered = play_told made old placed new refl heard answered.1
-answered_told made old (AskPlay plan) (WasFull more entries live) new heard answered = full_told made old more entries live answered.0
-answered_told made old (AskPlay plan) (Offered at_slot note) new heard answered = absurd answered
-answered_told made old (AskHalt keep) outcome new heard answered =
-    subst (IsTold (made ++ outcome ∷ [])) (sym (halted_text old keep outcome new answered)) (told_plain (made ++ outcome ∷ []) old.text heard)
-answered_told made old (AskLook slot) Unasked new heard answered = absurd answered
-answered_told made old (AskLook slot) (Entered placed) new heard answered = look_told made old placed placed.entry.answer new answered.1
-answered_told made old (AskLook slot) (WasFull more entries live) new heard answered = full_told made old more entries live answered.0
-answered_told made old (AskLook slot) (Offered at_slot note) new heard answered = absurd answered
-answered_told made old (AskOffer plan offers) Unasked new heard answered = absurd answered
-answered_told made old (AskOffer plan offers) (Entered placed) new heard answered = absurd answered
-answered_told made old (AskOffer plan offers) (WasFull more entries live) new heard answered = absurd answered
-answered_told made old (AskOffer plan offers) (Offered at_slot note) new heard answered =
-    subst (IsTold (made ++ Offered at_slot note ∷ [])) (sym (ap (λ (s : Standing). s.text) answered.2)) (told_plain (made ++ Offered at_slot note ∷ []) _ (ok_plain _ _ _))
+-- the station's answer to a session whose text tells of no refusal
+pub record PlainAnswer (old : Standing) (ask : Ask) (outcome : Outcome) (new : Standing) : Type 0 where
+  pub plain : RefusesNone ask old
+  pub answered : IsAnswered old ask outcome new
+
+answered_told : {old new : Standing} (made : List Outcome) (ask : Ask) (outcome : Outcome) →
+    PlainAnswer old ask outcome new → IsTold (made ++ outcome ∷ []) new.text
+answered_told {old} made AskReply Unasked given =
+    subst (IsTold (made ++ Unasked ∷ [])) (sym (ap (λ (s : Standing). s.text) given.answered))
+    (told_plain (made ++ Unasked ∷ []) old.text given.plain)
+answered_told made AskReply (Entered placed) given = absurd given.answered
+answered_told made AskReply (WasFull more entries live) given = absurd given.answered
+answered_told made AskReply (Offered at_slot note) given = absurd given.answered
+answered_told made (AskPlay plan) Unasked given = absurd given.answered
+answered_told {old} made (AskPlay plan) (Entered placed) given = play_told {old = old} made given.plain (record { answer_is = refl; answered = given.answered.1 })
+answered_told {old} made (AskPlay plan) (WasFull more entries live) given = full_told made old more entries live given.answered.0
+answered_told made (AskPlay plan) (Offered at_slot note) given = absurd given.answered
+answered_told {old} {new} made (AskHalt keep) outcome given =
+    subst (IsTold (made ++ outcome ∷ [])) (sym (halted_text old keep outcome new given.answered))
+    (told_plain (made ++ outcome ∷ []) old.text given.plain)
+answered_told made (AskLook slot) Unasked given = absurd given.answered
+answered_told {old} {new} made (AskLook slot) (Entered placed) given = look_told made old placed placed.entry.answer new given.answered.1
+answered_told {old} made (AskLook slot) (WasFull more entries live) given = full_told made old more entries live given.answered.0
+answered_told made (AskLook slot) (Offered at_slot note) given = absurd given.answered
+answered_told made (AskOffer plan offers) Unasked given = absurd given.answered
+answered_told made (AskOffer plan offers) (Entered placed) given = absurd given.answered
+answered_told made (AskOffer plan offers) (WasFull more entries live) given = absurd given.answered
+answered_told made (AskOffer plan offers) (Offered at_slot note) given =
+    subst (IsTold (made ++ Offered at_slot note ∷ [])) (sym (ap (λ (s : Standing). s.text) given.answered.2))
+    (told_plain (made ++ Offered at_slot note ∷ []) _ (ok_plain _ _ _))
 
 heard_told : (made : List Outcome) (old : Standing) (message : List ℕ) (outcome : Outcome) (new : Standing) → HasHeard old message outcome new →
     IsTold (made ++ outcome ∷ []) new.text
 heard_told made old message outcome new heard =
-    answered_told made heard.asking heard.ask outcome new (hears_text old heard.asking message heard.ask heard.hears) heard.answered
+    answered_told made heard.ask outcome (record { plain = hears_text old heard.asking message heard.ask heard.hears; answered = heard.answered })
 
 -- a reply that goes out
 reply_told : (made : List Outcome) (goes : Bool) (text : List ℕ) → IsTold made text → AreTold made (if goes then Text text ∷ [] else [])
@@ -278,27 +293,31 @@ takings_tell made old new (Answered message outcome parts ∷ takings) told take
     })
 
 -- a slot leaves the reply, and sends it or not
-slot_text_cases : (taken sending : Bool) (next still old : Standing) → next.text ≡ old.text → still.text ≡ old.text →
-    (if taken then (if sending then next else still) else old).text ≡ old.text
-slot_text_cases false sending next still old one other = refl
-slot_text_cases true false next still old one other = other
-slot_text_cases true true next still old one other = one
+slot_text_cases : (taken sending : Bool) (standings : SlotStandings) →
+    standings.sending.text ≡ standings.before.text → standings.still.text ≡ standings.before.text →
+    (if taken then (if sending then standings.sending else standings.still) else standings.before).text ≡ standings.before.text
+slot_text_cases false sending standings one other = refl
+slot_text_cases true false standings one other = other
+slot_text_cases true true standings one other = one
 
 slot_text : (old : Standing) (slot : ℕ) → (after_slot old slot).text ≡ old.text
 slot_text old slot =
-    slot_text_cases (is_taken old slot) (is_sending old.state) (after_play (sent_slot old slot)) (record old { heard = slot }) old
+    slot_text_cases (is_taken old slot) (is_sending old.state)
+    (record { sending = after_play (sent_slot old slot); still = record old { heard = slot }; before = old })
     (reply_text_is (old.waits && is_between (stepped_in true slot old.state)) (sent_due old slot)) refl
 
-due_told : {made : List Outcome} {text : List ℕ} (sends waits between : Bool) (one after plain : List ℕ) → IsTold made text →
-    AreTold made (if sends then (if waits then Film one ∷ (if between then Text text ∷ Film after ∷ [] else []) else Film plain ∷ []) else [])
-due_told {made} {text} false waits between one after plain told = tt
-due_told {made} {text} true false between one after plain told = tt
-due_told {made} {text} true true false one after plain told = tt
-due_told {made} {text} true true true one after plain told = (told, tt)
+due_told : {made : List Outcome} {text : List ℕ} (sends waits between : Bool) (bytes : SlotBytes) → IsTold made text →
+    AreTold made (if sends then (if waits then Film bytes.before ∷ (if between then Text text ∷ Film bytes.rest ∷ [] else []) else
+    Film bytes.plain ∷ []) else [])
+due_told {made} {text} false waits between bytes told = tt
+due_told {made} {text} true false between bytes told = tt
+due_told {made} {text} true true false bytes told = tt
+due_told {made} {text} true true true bytes told = (told, tt)
 
 slot_tells : (made : List Outcome) (old : Standing) (slot : ℕ) → IsTold made old.text → AreTold made (slot_parts old slot)
 slot_tells made old slot told =
-    due_told (is_taken old slot && is_sending old.state) old.waits (is_between (stepped_in true slot old.state)) _ _ _ told
+    due_told (is_taken old slot && is_sending old.state) old.waits (is_between (stepped_in true slot old.state))
+    (record { before = _; rest = _; plain = _ }) told
 
 finished_text : (asks : Awaits) (old : Standing) (halt : Outcome) (new : Standing) → IsFinished asks old halt new → new.text ≡ old.text
 finished_text NoAnswer old Unasked new is = ap (λ (s : Standing). s.text) is
@@ -359,17 +378,24 @@ rounds_tell made old new (round ∷ rounds) told runs =
           (are_more (made ++ round_outcomes round) (rounds_outcomes rounds) (round_parts round) first.sent) rest.sent;
     })
 
+-- how a connection ended, from a stage on and after so many events
+pub record CourseEnd (old : Stage) (ending : Ending) : Type 0 where
+  pub count : ℕ
+  pub end : ConnEnd
+  pub new : Stage
+  pub ends : Ends old count ending end new
+
 -- the last round
-ending_tells : {made : List Outcome} (old : Stage) (count : ℕ) (ending : Ending) (end : ConnEnd) (new : Stage) → IsTold made old.session.text →
-    Ends old count ending end new → AreTold (made ++ ending_outcomes ending) (rounds_parts (ending_rounds ending))
-ending_tells {made} old count Unheard end new told ends = tt
-ending_tells {made} old count PeerEnded end new told ends = tt
-ending_tells {made} old count (Overfull bytes) end new told ends = tt
-ending_tells {made} old count (AtPiece round) end new told ends =
-    are_both (made ++ round_outcomes round) (round_parts round) [] (round_tells made old new round told ends.0).sent tt
-ending_tells {made} old count (InSlot slot front) end new told ends = tt
-ending_tells {made} old count (InReply round message outcome front) end new told ends =
-    let first = round_tells made old ends.1.mid round told ends.1.runs in
+ending_tells : {made : List Outcome} {old : Stage} (ending : Ending) → IsTold made old.session.text →
+    CourseEnd old ending → AreTold (made ++ ending_outcomes ending) (rounds_parts (ending_rounds ending))
+ending_tells {made} Unheard told ended = tt
+ending_tells {made} PeerEnded told ended = tt
+ending_tells {made} (Overfull bytes) told ended = tt
+ending_tells {made} {old} (AtPiece round) told ended =
+    are_both (made ++ round_outcomes round) (round_parts round) [] (round_tells made old ended.new round told ended.ends.0).sent tt
+ending_tells {made} (InSlot slot front) told ended = tt
+ending_tells {made} {old} (InReply round message outcome front) told ended =
+    let first = round_tells made old ended.ends.1.mid round told ended.ends.1.runs in
     let all : (made ++ round_outcomes round) ++ outcome ∷ [] ≡ made ++ (round_outcomes round ++ outcome ∷ []) =
     append_assoc made (round_outcomes round) (outcome ∷ []) in
     subst (λ m. AreTold m (rounds_parts (round ∷ []))) all
@@ -388,13 +414,12 @@ unfolding digits
 nothing_told = record { overflow = λ is. absurd (no_digits 52 53 51 is); full = λ is. absurd (no_digits 53 48 51 is) }
 
 -- over a whole course
-pub course_tells : (old mid : Stage) (rounds : List Round) (ending : Ending) (end : ConnEnd) (new : Stage) → old.session.text ≡ [] → RunsAll old rounds mid →
-    Ends mid (length rounds) ending end new →
-    AreTold (rounds_outcomes rounds ++ ending_outcomes ending) (rounds_parts (rounds ++ ending_rounds ending))
-course_tells old mid rounds ending end new none runs ends =
+pub course_tells : {ending : Ending} (old mid : Stage) (rounds : List Round) → old.session.text ≡ [] → RunsAll old rounds mid →
+    CourseEnd mid ending → AreTold (rounds_outcomes rounds ++ ending_outcomes ending) (rounds_parts (rounds ++ ending_rounds ending))
+course_tells {ending} old mid rounds none runs ended =
     let made : List Outcome = rounds_outcomes rounds ++ ending_outcomes ending in
     let first = rounds_tell [] old mid rounds (subst (IsTold []) (sym none) nothing_told) runs in
-    let last = ending_tells mid (length rounds) ending end new first.waiting ends in
+    let last = ending_tells ending first.waiting ended in
     subst (AreTold made) (sym (parts-more rounds (ending_rounds ending)))
     (are_both made (rounds_parts rounds) (rounds_parts (ending_rounds ending)) (are_more (rounds_outcomes rounds) (ending_outcomes ending) (rounds_parts rounds) first.sent) last)
 
@@ -462,9 +487,18 @@ all_seen seat made (Film bytes ∷ parts) is told = all_seen seat made parts is 
 all_seen seat made (Text text ∷ parts) is told =
     (record { overflow = λ code. overflow_seen seat text is (told.0.overflow code); full = told.0.full }, all_seen seat made parts is told.1)
 
+-- a seat's own entries: those of these answers, with those before and after them
+pub record SeatEntries (seat : Sitting) (made : List Outcome) : Type 0 where
+  pub before : List Placed
+  pub after : List Placed
+  pub seat_is : IsSeat seat
+  pub mine_is : seat.mine ≡ (before ++ entries_in made) ++ after
+
 -- over a whole course, by the seat at its end
-pub refusals_told : {seat : Sitting} (before after : List Placed) (made : List Outcome) (parts : List Part) → IsSeat seat →
-    seat.mine ≡ (before ++ entries_in made) ++ after → AreTold made parts → AreRefusalsTold seat made parts
-refusals_told {seat} before after made parts is mine told =
+pub refusals_told : {seat : Sitting} (made : List Outcome) (parts : List Part) → SeatEntries seat made →
+    AreTold made parts → AreRefusalsTold seat made parts
+refusals_told {seat} made parts own told =
     all_seen seat made parts is (subst (λ ps. AreRepliesTold ps made parts) (sym mine)
     (mine_more (before ++ entries_in made) after made parts (mine_before before (entries_in made) made parts told)))
+  where
+    open own use {before, after, seat_is as is, mine_is as mine}

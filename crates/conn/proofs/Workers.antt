@@ -16,15 +16,25 @@ use Rattle.conn.specs.Keeping.{HasGone, Closed, at_rest, course_from, course_of,
 use Rattle.conn.specs.Keeping.{entry_receipts, receipt_for}
 use Rattle.conn.specs.Parts.{IsUntouched, IsServed, AreOf, entries_told, HasServed}
 use Rattle.conn.specs.Words.{words_of}
+use Rattle.conn.proofs.Occasions.{TakenBack}
+
+-- a connection with no booking open and nothing noted, and what it noted by the time that none is open again
+pub record RestedBusiness (booking next : Option Booking) (receipts told lists : List Receipt) : Type 0 where
+  pub closed : booking ≡ None
+  pub none : receipts ≡ []
+  pub open_none : next ≡ None
+  pub same : lists ≡ told
 
 -- a connection from beginning to end: no booking is open before and after
-pub gone_whole : {booking next : Option Booking} {receipts told lists : List Receipt} (mine new : List Placed) → booking ≡ None → receipts ≡ [] → next ≡ None → lists ≡ told →
-    HasGone (record { mine = mine; booking = booking; receipts = receipts }) (record { mine = new; booking = next; receipts = told }) → HasGone (at_rest mine []) (at_rest new lists)
-gone_whole {next} mine new closed none open_none same gone = record {
+pub gone_whole : {booking next : Option Booking} {receipts told lists : List Receipt} (mine new : List Placed) →
+    RestedBusiness booking next receipts told lists →
+    HasGone (record { mine = mine; booking = booking; receipts = receipts }) (record { mine = new; booking = next; receipts = told }) →
+    HasGone (at_rest mine []) (at_rest new lists)
+gone_whole {next} mine new rested gone = record {
   made = gone.made;
   mine_is = gone.mine_is;
-  receipts_are = ap entry_receipts same ∙ gone.receipts_are ∙ ap (λ rs. entry_receipts rs ++ map receipt_for gone.made) none;
-  course_is = ap (λ b. course_from (course_of b) gone.made) (sym closed) ∙ gone.course_is ∙ ap course_of open_none;
+  receipts_are = ap entry_receipts rested.same ∙ gone.receipts_are ∙ ap (λ rs. entry_receipts rs ++ map receipt_for gone.made) rested.none;
+  course_is = ap (λ b. course_from (course_of b) gone.made) (sym rested.closed) ∙ gone.course_is ∙ ap course_of rested.open_none;
 }
 
 pub served_none : (part : Option Content) → IfSome part IsUntouched → IsServed part part 0
@@ -44,12 +54,13 @@ served_out (Some old) None new count served is = absurd served
 served_out (Some old) (Some mid) new count served is =
     subst (λ c. IfSome c HasOut) (sym is) (omega (arith, served.given, served.back))
 
-pub served_one : {taken new : Option Content} (old mid : Option Content) (count : ℕ) (conn : Returned) → IsServed old mid count → taken ≡ option_map after_take mid →
-    new ≡ option_map (after_return conn) taken → IsServed old new (count + 1)
-served_one {taken} {new} None mid count conn served is back = back ∙ ap (option_map (after_return conn)) (is ∙ ap (option_map after_take) served)
-served_one {taken} {new} (Some old) None count conn served is back = absurd served
-served_one {taken} {new} (Some old) (Some mid) count conn served is back =
-    subst (λ c. IsServed (Some old) c (count + 1)) (sym (back ∙ ap (option_map (after_return conn)) is)) (record {
+pub served_one : {taken new mid : Option Content} {conn : Returned} (old : Option Content) (count : ℕ) →
+    IsServed old mid count → TakenBack mid taken new conn → IsServed old new (count + 1)
+served_one {taken} {new} {conn} None count served back = back.returns ∙ ap (option_map (after_return conn))
+    (back.takes ∙ ap (option_map after_take) served)
+served_one {taken} {new} {mid = None} (Some old) count served back = absurd served
+served_one {taken} {new} {mid = Some mid} {conn} (Some old) count served back =
+    subst (λ c. IsServed (Some old) c (count + 1)) (sym (back.returns ∙ ap (option_map (after_return conn)) back.takes)) (record {
       openings = served.openings;
       opening = served.opening;
       parts = served.parts;
@@ -106,20 +117,27 @@ has_one {mine} {new} {reports} {more} report served gone is = record {
   course_is = fold-append course_with Closed served.made gone.made ∙ ap (λ course. course_from course gone.made) served.course_is ∙ gone.course_is;
 }
 
-at_end : {report : ConnReport} (P : ConnReport → ℕ → Type 0) (reports : List ConnReport) → ((k : ℕ) (none : ConnReport) → k < length reports → P (get_or reports k none) k) →
-    P report (length reports) → (k : ℕ) (none : ConnReport) → k < length (reports ++ report ∷ []) → P (get_or (reports ++ report ∷ []) k none) k
-at_end {report} P reports each here k none within =
+-- something holds of each report of a list, and of one more
+pub record ReportsHold (P : ConnReport → ℕ → Type 0) (reports : List ConnReport) (report : ConnReport) : Type 0 where
+  pub each : ((k : ℕ) (none : ConnReport) → k < length reports → P (get_or reports k none) k)
+  pub last : P report (length reports)
+
+at_end : {report : ConnReport} (P : ConnReport → ℕ → Type 0) (reports : List ConnReport) →
+    ReportsHold P reports report → (k : ℕ) (none : ConnReport) → k < length (reports ++ report ∷ []) →
+    P (get_or (reports ++ report ∷ []) k none) k
+at_end {report} P reports hold k none within =
     elim (cases_lt k (length reports)) [
-      | inl before ↦ subst (λ r. P r k) (sym (get_or_append_left reports (report ∷ []) none k before)) (each k none before)
+      | inl before ↦ subst (λ r. P r k) (sym (get_or_append_left reports (report ∷ []) none k before)) (hold.each k none before)
       | inr after ↦
           let is : length reports ≡ k = omega (arith, after, within, length-append reports (report ∷ [])) in
           subst (λ n. P (get_or (reports ++ report ∷ []) n none) n) is
-          (subst (λ r. P r (length reports)) (sym (get_or-append_seam reports report [] none)) here)
+          (subst (λ r. P r (length reports)) (sym (get_or-append_seam reports report [] none)) hold.last)
     ]
 
-pub are_more : (seed : List ℕ) (worker : ℕ) (reports more : List ConnReport) (report : ConnReport) → AreOf seed worker reports → report.worker ≡ worker →
-    report.words ≡ words_of seed worker (length reports) → more ≡ reports ++ report ∷ [] → AreOf seed worker more
-are_more seed worker reports more report are number words is = subst (AreOf seed worker) (sym is) (record {
-  worker_is = at_end (λ r k. r.worker ≡ worker) reports are.worker_is number;
-  words_are = at_end (λ r k. r.words ≡ words_of seed worker k) reports are.words_are words;
+pub are_more : {seed : List ℕ} {worker : ℕ} {reports more : List ConnReport} (report : ConnReport) →
+    AreOf seed worker reports → report.worker ≡ worker → report.words ≡ words_of seed worker (length reports) →
+    more ≡ reports ++ report ∷ [] → AreOf seed worker more
+are_more {seed} {worker} {reports} report are number words is = subst (AreOf seed worker) (sym is) (record {
+  worker_is = at_end (λ r k. r.worker ≡ worker) reports (record { each = are.worker_is; last = number });
+  words_are = at_end (λ r k. r.words ≡ words_of seed worker k) reports (record { each = are.words_are; last = words });
 })

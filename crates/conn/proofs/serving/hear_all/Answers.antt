@@ -50,8 +50,7 @@ events-preserved g c =
     let after : Sight = sight c.hear.new.self (g.K.Link.told c.hear.new.link) c.hear.new.seat in
     let told : g.K.Link.told c.next.new.self ≡ told_more (g.K.Link.told c.events.link) (doing_of c.in-Ok.heard c.next.new.into ∷ []) = c.in-Ok.ensures.heard in
     let on = goes_on c.in-Ok.heard (length c.events.connection.input) c.hear.new.self c.in_default-hear.ensures.taken in (
-      kept_on c.args.seat.now c.events.seat c.hear.new.seat c.args.connection.now c.events.connection c.hear.new.self inv.0
-          c.hear.ensures.kept,
+      kept_on inv.0 c.hear.ensures.kept,
       on.0,
       on.1,
       run_on inv.3 refl refl told c.in_default-hear.ensures.comes,
@@ -83,5 +82,4 @@ returns-clause-counted g c =
 
 pub returns-in-Some-clause-kept : goal.returns-in-Some-clause-kept
 returns-in-Some-clause-kept g c =
-    kept_on c.args.seat.now c.events.seat c.hear.new.seat c.args.connection.now c.events.connection c.hear.new.self c.events.invariant.0
-    c.hear.ensures.kept
+    kept_on c.events.invariant.0 c.hear.ensures.kept

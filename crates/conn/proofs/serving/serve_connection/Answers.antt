@@ -10,9 +10,12 @@ pub returns-clause-entries : goal.returns-clause-entries
 returns-clause-entries g c =
     let both = gone_on (business c.args.seat.now.mine c.in-Ok.connection) (business c.hear_all-end.new.seat.mine c.hear_all-end.new.connection)
     (business c.close.new.seat.mine c.close.new.self) c.hear_all-end.ensures.kept.gone c.close.ensures.kept.gone in
-    gone_whole c.args.seat.now.mine c.close.new.seat.mine
-    c.in-Ok.ensures.booking c.in-Ok.ensures.receipts c.close.ensures.booking
-    (search rules) both
+    gone_whole c.args.seat.now.mine c.close.new.seat.mine (record {
+      closed = c.in-Ok.ensures.booking;
+      none = c.in-Ok.ensures.receipts;
+      open_none = c.close.ensures.booking;
+      same = search rules;
+    }) both
 
 pub returns-clause-headline : goal.returns-clause-headline
 returns-clause-headline g c =

@@ -9,9 +9,13 @@ returns-clause-kept g c = record {
   seat = search rules;
   quiet = search rules;
   gone =
-      gone_halt {old = business c.args.seat.now.mine c.args.self.now} {new = business c.halt-place.new.seat.mine (record { session = c.hear_halt.new.self; input = c.args.self.now.input; booking = c.replace.new.dest })} {made = c.in-Some.booking}
-      c.args.seat.now.number c.halt-place.result c.args.keep (search rules) (search rules) c.halt-place.ensures.made.mine
-      c.hear_halt.ensures.handed.receipts;
+      gone_halt {old = business c.args.seat.now.mine c.args.self.now}
+      {new = business c.halt-place.new.seat.mine (record {
+        session = c.hear_halt.new.self;
+        input = c.args.self.now.input;
+        booking = c.replace.new.dest;
+      })} {made = c.in-Some.booking} (search rules) (search rules)
+      (record { mine = c.halt-place.ensures.made.mine; receipts = c.hear_halt.ensures.handed.receipts });
 }
 
 pub returns-clause-answered : goal.returns-clause-answered

@@ -48,7 +48,12 @@ returns-else-is_err-clause-comes g c =
     (g.K.Link.told c.args.link.now) c.args.seat.now in
     let after : Sight = sight c.take_up.new.self (g.K.Link.told c.take_up.new.link) c.take_up.new.seat in
     subst (λ (h : Heard). HasComeTo c.take_up.result (doing_of h c.args.bytes.now) here after) (sym c.in-Bytes.is)
-    (bytes_up c.take_up.result bytes here after few (ap (stage c.args.self.now.session) input) refl refl c.take_up.ensures.up)
+    (bytes_up c.take_up.result after (record {
+      few = few;
+      waits = ap (stage c.args.self.now.session) input;
+      told = refl;
+      seat = refl;
+    }) c.take_up.ensures.up)
 
 pub returns-else-is_err-2-clause-comes : goal.returns-else-is_err-2-clause-comes
 returns-else-is_err-2-clause-comes g c =

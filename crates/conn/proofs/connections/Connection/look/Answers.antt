@@ -8,9 +8,7 @@ returns-in-Ok-clause-kept g c = record {
   seat = search rules;
   quiet = search (rules, held_at_look);
   gone =
-      gone_look
-      _ c.in-Ok.looked.place _ c.in-Ok.looked.now c.in-Ok.looked.at c.in-Ok.looked.booked refl c.in-Ok.ensures.made.mine
-      c.hear_look.ensures.handed.receipts;
+      gone_look refl (record { mine = c.in-Ok.ensures.made.mine; receipts = c.hear_look.ensures.handed.receipts });
 }
 
 pub returns-in-Err-clause-kept : goal.returns-in-Err-clause-kept

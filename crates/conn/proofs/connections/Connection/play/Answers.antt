@@ -13,10 +13,11 @@ returns-in-None-clause-kept g c = record {
   seat = search rules;
   quiet = search rules;
   gone =
-      gone_play
-      _ _ _
-      (held_none c.args.seat.now.mine c.args.self.now.booking (open_of c.args.self.now.session) c.requires.closed c.requires.held)
-      (search rules) c.in-Ok.ensures.made.mine c.hear_admission.ensures.handed.receipts;
+      gone_play (held_none c.args.seat.now.mine c.args.self.now.booking (open_of c.args.self.now.session) c.requires.closed
+      c.requires.held) (search rules) (record {
+        mine = c.in-Ok.ensures.made.mine;
+        receipts = c.hear_admission.ensures.handed.receipts;
+      });
 }
 
 pub returns-in-Err-Overflow-clause-kept : goal.returns-in-Err-Overflow-clause-kept
@@ -27,10 +28,14 @@ returns-in-Err-Overflow-clause-kept g c =
       seat = search rules;
       quiet = search rules;
       gone =
-          gone_overflow {old = business c.args.seat.now.mine c.args.self.now} {new = business c.play.new.seat.mine (record { session = c.hear_overflow.new.self; input = c.args.self.now.input; booking = c.args.self.now.booking })}
-          _ c.in-Err-Overflow.place _ _ c.in-Err-Overflow.slot c.in-Err-Overflow.booked c.in-Err-Overflow.asked
-          (held_none c.args.seat.now.mine c.args.self.now.booking (open_of c.args.self.now.session) c.requires.closed c.requires.held)
-          refl made.mine c.hear_overflow.ensures.handed.receipts;
+          gone_overflow {old = business c.args.seat.now.mine c.args.self.now}
+          {new = business c.play.new.seat.mine (record {
+            session = c.hear_overflow.new.self;
+            input = c.args.self.now.input;
+            booking = c.args.self.now.booking;
+          })} (held_none c.args.seat.now.mine c.args.self.now.booking
+          (open_of c.args.self.now.session) c.requires.closed c.requires.held) refl
+          (record { mine = made.mine; receipts = c.hear_overflow.ensures.handed.receipts });
     }
 
 pub returns-clause-kept : goal.returns-clause-kept

@@ -10,9 +10,16 @@ use Rattle.conn.proofs.connections.Connection.step.Goals as goal
 pub returns-in_err-slot-clause-broken : goal.returns-in_err-slot-clause-broken
 returns-in_err-slot-clause-broken g c =
     on_err c.from_residual.result
-    (broken_slot
-    c.in_err-slot.ensures.failed refl c.slot.ensures.heard c.in_err-slot.ensures.lost c.slot.ensures.receipts c.slot.ensures.plays
-    c.slot.ensures.offers refl)
+    (broken_slot (record {
+      failed = c.in_err-slot.ensures.failed;
+      input = refl;
+      heard = c.slot.ensures.heard;
+      rest = c.in_err-slot.ensures.lost;
+      receipts = c.slot.ensures.receipts;
+      plays = c.slot.ensures.plays;
+      offers = c.slot.ensures.offers;
+      seat = refl;
+    }))
 
 pub returns-in_err-slot-clause-kept : goal.returns-in_err-slot-clause-kept
 returns-in_err-slot-clause-kept g c = record {

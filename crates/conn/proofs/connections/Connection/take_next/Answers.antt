@@ -108,8 +108,12 @@ returns-then-is_err-clause-takes g c =
     inl (
       refl,
       lost_reply {a = sight c.args.self.now (g.K.Link.told c.args.link.now) c.args.seat.now} {b = sight (record { session = c.reply.new.self; input = c.take_request.new.self.input; booking = c.take_request.new.self.booking })
-          (g.K.Link.told c.reply.new.link) c.take_request.new.seat} {asked = c.take_request.new.self.session} {n = c.in-Ok-Request.length}
-          (subst (λ s. IsFirst c.args.self.now.input (Ok s)) is first) (search rules) (search rules) (search rules) (search rules) after (search rules),
+          (g.K.Link.told c.reply.new.link) c.take_request.new.seat} {asked = c.take_request.new.self.session}
+          {n = c.in-Ok-Request.length} (record {
+            first = subst (λ s. IsFirst c.args.self.now.input (Ok s)) is first;
+            replied = search rules;
+            torn = search rules;
+          }) (search rules) (search rules) after (search rules),
     )
 
 pub returns-else-is_err-clause-takes : goal.returns-else-is_err-clause-takes

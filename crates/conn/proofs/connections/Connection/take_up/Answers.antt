@@ -9,8 +9,7 @@ use Rattle.conn.proofs.connections.Connection.take_up.Goals as goal
 pub pieces-preserved : goal.pieces-preserved
 pieces-preserved g c =
     let inv = c.pieces.invariant in (
-      kept_on c.args.seat.now c.pieces.seat c.take_next.new.seat c.args.self.now c.pieces.self c.take_next.new.self inv.0
-          c.take_next.ensures.kept,
+      kept_on inv.0 c.take_next.ensures.kept,
       search rules,
       cuts_on c.args.self.now.input c.pieces.self.input c.take_next.new.self.input inv.2 c.take_next.ensures.cut,
       taken_on (sight c.args.self.now (g.K.Link.told c.args.link.now) c.args.seat.now) (sight c.pieces.self (g.K.Link.told c.pieces.link) c.pieces.seat)
@@ -20,13 +19,11 @@ pieces-preserved g c =
 
 pub returns-in-End-clause-kept : goal.returns-in-End-clause-kept
 returns-in-End-clause-kept g c =
-    kept_on c.args.seat.now c.pieces.seat c.take_next.new.seat c.args.self.now c.pieces.self c.take_next.new.self c.pieces.invariant.0
-    c.take_next.ensures.kept
+    kept_on c.pieces.invariant.0 c.take_next.ensures.kept
 
 pub returns-in-Waits-clause-kept : goal.returns-in-Waits-clause-kept
 returns-in-Waits-clause-kept g c =
-    kept_on c.args.seat.now c.pieces.seat c.take_next.new.seat c.args.self.now c.pieces.self c.take_next.new.self c.pieces.invariant.0
-    c.take_next.ensures.kept
+    kept_on c.pieces.invariant.0 c.take_next.ensures.kept
 
 pub returns-in-Waits-clause-up : goal.returns-in-Waits-clause-up
 returns-in-Waits-clause-up g c = (
