@@ -1,25 +1,18 @@
 -- What a connection did agrees with its journal, and with each longer one.
-use Rattle.std.proofs.Common.{◌≡◌, ℕ, ◌+◌, ◌<◌, ◌≤◌, ◌++◌, ◌==◌, if◌then◌else◌, Bool, true, false, List, [], ◌∷◌, Option, Some, None, length, get_or, refl, ap, sym, ◌∙◌, subst, arith, inl, inr}
-use Rattle.std.proofs.lemmas.Bool.{eqb-true}
-use Rattle.std.proofs.lemmas.List.{append_assoc, get_or_append_left, get_or_push, length-append}
+use Rattle.std.proofs.Common.{◌≡◌, ◌++◌, List, [], Option, Some, None, length, ap, sym, ◌∙◌, subst, arith, inl, inr}
 use mathlib.Core.List.{IsPrefix}
 use Rattle.vod_base.specs.Gates.{Returned}
 use Rattle.vod_base.specs.Links.{Doing}
-use Rattle.film_frames.specs.declared.stores.Stored.{Stored}
-use Rattle.slot_calendar.specs.declared.profiles.CapStep.{CapStep}
 use Rattle.admission.specs.declared.entries.Entry.{Entry}
 use Rattle.admission.specs.Histories.{IsLegal}
-use Rattle.admission.specs.Makers.{Placed, made_from}
 use Rattle.station.specs.Seats.{Sitting}
-use Rattle.station.proofs.Grown.{prefix-at}
-use Rattle.session.specs.declared.settings.Settings.{Settings}
 use Rattle.session.specs.Hearings.{new_standing}
 use Rattle.session.specs.Standings.{Standing}
 use Rattle.conn.specs.Parts.{HasServedOne, fresh_told}
 use Rattle.conn.specs.Promises.{KeepsPromise}
-use Rattle.conn.specs.Rounds.{ending_outcomes, entries_in, rounds_outcomes}
+use Rattle.conn.specs.Rounds.{ending_outcomes, rounds_outcomes}
 use Rattle.conn.specs.Served.{HasServedConnection, HasServedFrom}
-use Rattle.conn.specs.Turns.{Outcome, entry_in}
+use Rattle.conn.specs.Turns.{Outcome}
 use Rattle.conn.specs.declared.reports.ConnEnd.TheVariants.{NoMemory}
 use Rattle.conn.specs.declared.reports.ConnReport.{ConnReport}
 use Rattle.conn.specs.Journals.{AgreeWith, Terms, terms_of}
@@ -41,10 +34,11 @@ served_agrees visit old new served legal =
     let doings : Doings = record { rounds = course.rounds; ending = course.ending; halt = served.closes.halt } in
     let front : List Outcome = rounds_outcomes course.rounds ++ ending_outcomes course.ending in
     let noted : AreNoted old new (doings_outcomes doings) =
-    noted_on old served.ended.seat new front (served.closes.halt ∷ []) course.noted served.closes.noted in
+    noted_on course.noted served.closes.noted in
     let agree : AgreeWith (terms_of new) new.seen 0 (doings_outcomes doings) =
     subst (λ terms. AgreeWith terms new.seen 0 (doings_outcomes doings)) (sym (terms_same old new noted.seat))
-    (agree_lower (terms_of old) new.seen 0 (length old.seen) (doings_outcomes doings) (omega arith) noted.agree) in
+    (agree_lower (record { terms = terms_of old; journal = new.seen; low = 0; from = length old.seen; below = omega arith })
+    (doings_outcomes doings) noted.agree) in
     record {
       legal = legal;
       doings = doings;
@@ -75,20 +69,22 @@ legal_seen {new} (inl keeps) memory = keeps.booked.legal
 legal_seen {new} (inr nothing) memory = absurd (memory nothing.end)
 
 -- what was served agrees with the seat's journal
-pub returned_agrees : (visit : Visit) (returned : Returned) (old new : Sitting) → HasServedOne visit.films visit.settings returned visit.report old new
-    → returned.told ≡ Some visit.told → (visit.report.end ≡ NoMemory → ⊥) → Agrees visit (terms_of new) new.seen
-returned_agrees visit returned old new one tells memory =
+pub returned_agrees : {returned : Returned} {old new : Sitting} (visit : Visit) →
+    HasServedOne visit.films visit.settings returned visit.report old new → returned.told ≡ Some visit.told →
+    (visit.report.end ≡ NoMemory → ⊥) → Agrees visit (terms_of new) new.seen
+returned_agrees {old} {new} visit one tells memory =
     connection_agrees visit old new
     (subst (λ t. HasServedConnection (new_standing visit.films visit.settings visit.report.words) (fresh_told t) t old new visit.report) tells one.served)
     memory (legal_seen one.keeps memory)
 
 -- and with each longer legal journal
-pub agrees_longer : (visit : Visit) (terms : Terms) (journal longer : List Entry) → Agrees visit terms journal → IsPrefix journal longer
-    → IsLegal terms.steps longer → Agrees visit terms longer
-agrees_longer visit terms journal longer agrees prefix legal = record {
+pub agrees_longer : {visit : Visit} {terms : Terms} {journal longer : List Entry} → Agrees visit terms journal →
+    IsPrefix journal longer → IsLegal terms.steps longer → Agrees visit terms longer
+agrees_longer {terms} {journal} {longer} agrees prefix legal = record {
   legal = legal;
   doings = agrees.doings;
   told_is = agrees.told_is;
   done = agrees.done;
-  agree = agree_longer terms journal longer 0 (doings_outcomes agrees.doings) prefix agrees.agree;
+  agree = agree_longer (record { terms = terms; journal = journal; longer = longer; prefix = prefix }) 0
+      (doings_outcomes agrees.doings) agrees.agree;
 }

@@ -1,8 +1,7 @@
 -- The plan with which a session asks for a whole film is that of the client for whom it was set up.
-use Rattle.std.proofs.Common.{◌≡◌, ℕ, ◌≤◌, [], length, List, Option, refl, sym, ap, subst, ◌∙◌, arith}
+use Rattle.std.proofs.Common.{◌≡◌, ℕ, [], List, refl, ap, subst, ◌∙◌, arith}
 use Rattle.std.proofs.lemmas.List.{length-map}
 use Rattle.mpeg_scan.specs.Codes.{read}
-use Rattle.mpeg_scan.specs.Rates.{picture_time}
 use Rattle.mpeg_scan.proofs.BoundLemmas.{film-rate}
 use Rattle.film_frames.specs.declared.stores.Stored.{Stored}
 use Rattle.film_frames.specs.Pieces.{wire_size}
@@ -30,10 +29,11 @@ playback-same a b pictures slots buffer delay =
     ∙ (ap (λ x. record a { picture_units = b.picture_units; slot_units = b.slot_units; buffer = x }) buffer
     ∙ ap (λ x. record b { delay = x }) delay))
 
-pub asked-plan : (wish : Wish) (stored : Stored) (source : Source) (settings : Settings) (setup : Setup) (counts : Counts) (plan : List Segment)
-    → IsWish wish → IsSetUpFor wish settings setup → IsPlayable stored source settings setup counts (whole_run stored) plan
-    → IsSending (stored_sizes stored) (playback_of wish stored) (whole_run stored) plan
-asked-plan wish stored source settings setup counts plan wished set is =
+pub asked-plan : {wish : Wish} {stored : Stored} {source : Source} {settings : Settings} {setup : Setup}
+    {counts : Counts} {plan : List Segment} → IsWish wish → IsSetUpFor wish settings setup →
+    IsPlayable stored source settings setup counts (whole_run stored) plan →
+    IsSending (stored_sizes stored) (playback_of wish stored) (whole_run stored) plan
+asked-plan {wish} {stored} {settings} {setup} {plan} wished set is =
     let film = stored.film in
     let sizes = stored_sizes stored in
     let same : session_playback film settings setup ≡ playback_of wish stored =

@@ -70,19 +70,27 @@ frames-made {run} {unit} {make} f o (p ∷ packets) is =
 plain : (f : ℕ) → f + 0 ≡ f
 plain f = omega arith
 
-with-report : {run : Run} {unit : PictureUnit} {make : Packet → Part} (starts : Bool) (report : Part) (f o : ℕ)
-    (packets : List Packet)
-    → IsMaker run unit make → piece_bytes run f o report ≡ report_block run unit f o → count_of report ≡ 0
-    → blocks_from run f o (cond starts (report ∷ []) [] ++ map make packets) ≡ report_if starts run unit f o ++ frame_blocks run unit f packets
-with-report false report f o packets is bytes count = frames-made f o packets is
-with-report {run} {unit} {make} true report f o packets is bytes count =
+-- a part of a film's pieces that is the report before a unit's frames, and no packet
+record ReportPart (run : Run) (unit : PictureUnit) (f o : ℕ) : Type 0 where
+  report : Part
+  bytes : piece_bytes run f o report ≡ report_block run unit f o
+  count : count_of report ≡ 0
+
+with-report : {run : Run} {unit : PictureUnit} {make : Packet → Part} {f o : ℕ} (starts : Bool)
+    (part : ReportPart run unit f o) (packets : List Packet) → IsMaker run unit make →
+    blocks_from run f o (cond starts (part.report ∷ []) [] ++ map make packets) ≡ report_if starts run unit f o ++ frame_blocks run unit f packets
+with-report {f} {o} false part packets is = frames-made f o packets is
+with-report {run} {unit} {make} {f} {o} true part packets is =
     ap (λ b. b ∷ blocks_from run (f + count_of report) (o + octets_of report) (map make packets)) bytes
     ∙ (ap (λ n. report_block run unit f o ∷ blocks_from run n (o + octets_of report) (map make packets)) (ap (λ n. f + n) count ∙ plain f)
     ∙ ap (λ bs. report_block run unit f o ∷ bs) (frames-made f (o + octets_of report) packets is))
+  where
+    open part use {report, bytes, count}
 
 pub unit-made : (run : Run) (f o : ℕ) (starts : List ℕ) (unit : PictureUnit) → blocks_from run f o (unit_pieces starts unit) ≡ unit_blocks run starts unit f o
 unit-made run f o starts unit =
-    with-report {run = run} {unit = unit} {make = _} unit.starts_group _ f o (unit_packets starts unit) (record { bytes = λ p g n. refl; count = λ p. refl; among = λ p ps b bs. refl }) refl refl
+    with-report {run = run} {unit = unit} {make = _} unit.starts_group (record { report = _; bytes = refl; count = refl })
+    (unit_packets starts unit) (record { bytes = λ p g n. refl; count = λ p. refl; among = λ p ps b bs. refl })
 
 -- ---- the frames among them
 
@@ -94,20 +102,41 @@ frames-among-made {run} {unit} {make} f (p ∷ packets) ps bs is =
     is.among p (map make packets ++ ps) (frame_block run unit p f) (frame_blocks run unit (f + 1) packets ++ bs)
     ∙ ap (λ l. frame_block run unit p f ∷ l) (frames-among-made (f + 1) packets ps bs is)
 
-among-report : {run : Run} {unit : PictureUnit} {make : Packet → Part} (starts : Bool) (report : Part) (f o : ℕ)
-    (packets : List Packet) (ps : List Part) (bs : List (List ℕ)) → IsMaker run unit make
-    → ((qs : List Part) (b : List ℕ) (cs : List (List ℕ)) → frames_among (report ∷ qs) (b ∷ cs) ≡ frames_among qs cs)
-    → frames_among ((cond starts (report ∷ []) [] ++ map make packets) ++ ps) ((report_if starts run unit f o ++ frame_blocks run unit f packets) ++ bs)
-    ≡ frame_blocks run unit f packets ++ frames_among ps bs
-among-report false report f o packets ps bs is none = frames-among-made f packets ps bs is
-among-report {run} {unit} {make} true report f o packets ps bs is none =
-    none (map make packets ++ ps) (report_block run unit f o) (frame_blocks run unit f packets ++ bs) ∙ frames-among-made f packets ps bs is
+-- a part that is a report: it is no frame among the pieces
+record UncountedReport : Type 0 where
+  report : Part
+  none : ((qs : List Part) (b : List ℕ) (cs : List (List ℕ)) → frames_among (report ∷ qs) (b ∷ cs) ≡ frames_among qs cs)
 
-pub unit-among : (run : Run) (f o : ℕ) (starts : List ℕ) (unit : PictureUnit) (ps : List Part) (bs : List (List ℕ))
-    → frames_among (unit_pieces starts unit ++ ps) (unit_blocks run starts unit f o ++ bs) ≡ frame_blocks run unit f (unit_packets starts unit) ++ frames_among ps bs
-unit-among run f o starts unit ps bs =
-    among-report {run = run} {unit = unit} {make = _} unit.starts_group _ f o (unit_packets starts unit) ps bs
-    (record { bytes = λ p g n. refl; count = λ p. refl; among = λ p qs b cs. refl }) (λ qs b cs. refl)
+-- packets, with the frames and octets that a run sent before them
+record PacketsFrom : Type 0 where
+  frames : ℕ
+  octets : ℕ
+  packets : List Packet
+
+-- the parts and blocks after those of a unit
+pub record AfterUnit : Type 0 where
+  pub parts : List Part
+  pub blocks : List (List ℕ)
+
+among-report : {run : Run} {unit : PictureUnit} {make : Packet → Part} (starts : Bool) (uncounted : UncountedReport)
+    (from : PacketsFrom) (rest : AfterUnit) → IsMaker run unit make →
+    frames_among ((cond starts (uncounted.report ∷ []) [] ++ map make from.packets) ++ rest.parts)
+    ((report_if starts run unit from.frames from.octets ++ frame_blocks run unit from.frames from.packets) ++ rest.blocks)
+    ≡ frame_blocks run unit from.frames from.packets ++ frames_among rest.parts rest.blocks
+among-report false uncounted from rest is = frames-among-made from.frames from.packets rest.parts rest.blocks is
+among-report {run} {unit} {make} true uncounted from rest is =
+    uncounted.none (map make packets ++ rest.parts) (report_block run unit f o) (frame_blocks run unit f packets ++ rest.blocks) ∙
+    frames-among-made f packets rest.parts rest.blocks is
+  where
+    open from use {frames as f, octets as o, packets}
+
+pub unit-among : (run : Run) (f o : ℕ) (starts : List ℕ) (unit : PictureUnit) (rest : AfterUnit) →
+    frames_among (unit_pieces starts unit ++ rest.parts) (unit_blocks run starts unit f o ++ rest.blocks) ≡ frame_blocks run unit f
+    (unit_packets starts unit) ++ frames_among rest.parts rest.blocks
+unit-among run f o starts unit rest =
+    among-report {run = run} {unit = unit} {make = _} unit.starts_group (record { report = _; none = λ qs b cs. refl })
+    (record { frames = f; octets = o; packets = unit_packets starts unit }) rest
+    (record { bytes = λ p g n. refl; count = λ p. refl; among = λ p qs b cs. refl })
 
 -- ---- what a client reads of them
 
@@ -138,8 +167,18 @@ reports-one true run f o unit control =
     (record { moment = inr (report-moment run f o unit control); starts = refl; channel = c }, tt)
 reports-one false run f o unit control = tt
 
-pub unit-one : (run : Run) (f o : ℕ) (starts : List ℕ) (unit : PictureUnit) → run.identity.channel ≡ 0 → run.identity.control ≡ 1
-    → AreOneBlocks (unit_blocks run starts unit f o)
-unit-one run f o starts unit media control =
+-- a run on channels 0 and 1, with the frames and octets that it sent before
+pub record RunFrom : Type 0 where
+  pub run : Run
+  pub frames : ℕ
+  pub octets : ℕ
+  pub media : run.identity.channel ≡ 0
+  pub control : run.identity.control ≡ 1
+
+pub unit-one : (from : RunFrom) (starts : List ℕ) (unit : PictureUnit) →
+    AreOneBlocks (unit_blocks from.run starts unit from.frames from.octets)
+unit-one from starts unit =
     blocks-one-append (report_if unit.starts_group run unit f o) (frame_blocks run unit f (unit_packets starts unit))
     (reports-one unit.starts_group run f o unit control) (frames-one run f unit (unit_packets starts unit) media)
+  where
+    open from use {run, frames as f, octets as o, media, control}

@@ -16,11 +16,12 @@ use Rattle.session.specs.declared.states.Awaited.TheVariants.{Nothing, Play, Hal
 use Rattle.session.specs.Sendings.{after_slot}
 use Rattle.session.specs.Standings.{NoAnswer, Standing, awaited_answer_of}
 use Rattle.conn.specs.Rounds.{Comes, Round, entries_in, round_outcomes, rounds_outcomes, takings_outcomes}
-use Rattle.conn.specs.Turns.{Outcome, Unasked, Entered, WasFull, Offered, Part, Stage, Taking, Passed, Answered, IsFinished, IsHalted, TakesAll, entry_in, film_bytes}
+use Rattle.conn.specs.Turns.{Outcome, Unasked, Entered, WasFull, Offered, Part, Stage, Taking, Passed, Answered, IsFinished, TakesAll, entry_in, film_bytes}
 use Rattle.transcript.specs.Courses.{Follows, asked_by, askings_of, first_stage, round_askings, takings_askings}
 use Rattle.transcript.specs.Plays.{Asking, Asks, plays_admitted, plays_begun, booked_by, booked_plays, booking_of, kept_among, kept_in, kept_with, plays_of}
 use Rattle.transcript.proofs.Filming.{Stands, opened_stands, round_step, stands_by, taken_stands}
 use Rattle.transcript.proofs.Turning.{Ends, Starts, Stays, TurnsAs, told_by, turns_as}
+use Rattle.transcript.proofs.Occasions.{HaltGiven}
 
 -- the play that begins is the one that the entry tells, if any
 abbrev pub IsToldBy : Awaited → Outcome → Type 0
@@ -106,14 +107,15 @@ takes_outcomes old new (Passed n ∷ takings) takes = takes_outcomes takes.0 new
 takes_outcomes old new (Answered message outcome parts ∷ takings) takes = ap (λ os. outcome ∷ os) (takes_outcomes takes.0 new takings takes.1.1)
 
 -- the halt of a play that is done tells none
-halt_told : (asked : Awaited) (s : Standing) (keep : ℕ) (halt : Outcome) (new : Standing) → ((answer : _) (later : List Asking) → plays_admitted asked answer later ≡ [])
-    → IsHalted s keep halt new → IsToldBy asked halt
-halt_told asked s keep Unasked new none halted = absurd halted
-halt_told asked s keep (Entered placed) new none halted = λ askings made keeps.
+halt_told : {s : Standing} (asked : Awaited) (halt : Outcome) →
+    ((answer : _) (later : List Asking) → plays_admitted asked answer later ≡ []) → HaltGiven s halt →
+    IsToldBy asked halt
+halt_told asked Unasked none given = absurd given.halted
+halt_told asked (Entered placed) none given = λ askings made keeps.
     ap (map booking_of) (none placed.entry.answer askings)
-    ∙ sym (ap (λ c. booked_by (play_admitted c placed.entry.answer) made) halted.command)
-halt_told asked s keep (WasFull more entries live) new none halted = absurd halted
-halt_told asked s keep (Offered at_slot note) new none halted = absurd halted
+    ∙ sym (ap (λ c. booked_by (play_admitted c placed.entry.answer) made) given.halted.command)
+halt_told asked (WasFull more entries live) none given = absurd given.halted
+halt_told asked (Offered at_slot note) none given = absurd given.halted
 
 unasked_told : (asked : Awaited) (s : Standing) (halt : Outcome) (new : Standing) → IsFinished NoAnswer s halt new → IsToldBy asked halt
 unasked_told asked s Unasked new is = λ askings made keeps. refl
@@ -124,7 +126,8 @@ unasked_told asked s (Offered at_slot note) new is = absurd is
 finished_told : (asked : Awaited) (s : Standing) (halt : Outcome) (new : Standing) → IsFinished (awaited_answer_of asked) s halt new → IsToldBy asked halt
 finished_told Nothing s halt new is = unasked_told Nothing s halt new is
 finished_told (Play prepared) s halt new is = absurd is
-finished_told (Halt keep next) s halt new is = halt_told (Halt keep next) s keep halt new (λ answer later. refl) is
+finished_told (Halt keep next) s halt new is = halt_told (Halt keep next) halt (λ answer later. refl)
+    (record { keep = keep; new = new; halted = is })
 finished_told (Look sequence) s halt new is = absurd is
 finished_told (Offer sequence) s halt new is = absurd is
 

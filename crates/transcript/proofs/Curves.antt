@@ -22,36 +22,43 @@ used-snoc wish time slot unit (size ∷ sizes) x =
     let same = ap (λ n. cond (nat_lt (use_slot wish time n) slot) x 0) here in
     omega (arith, rest, same)
 
-used-range : (wish : Wish) (timing : Timing) (slot : ℕ) (sizes : List ℕ) (n : ℕ) → timing.slot_units ≡ wish.slot_units → timing.delay ≡ wish.startup → n ≤ length sizes
-    → used_before wish timing.picture_units slot 0 (take n sizes)
+-- a timing with the slots and the delay of a wish
+pub record WishedTiming (wish : Wish) (timing : Timing) : Type 0 where
+  pub units : timing.slot_units ≡ wish.slot_units
+  pub delay : timing.delay ≡ wish.startup
+
+used-range : {wish : Wish} {timing : Timing} (slot : ℕ) (sizes : List ℕ) (n : ℕ) → WishedTiming wish timing →
+    n ≤ length sizes →
+    used_before wish timing.picture_units slot 0 (take n sizes)
     ≡ sum_by (λ k. cond (nat_lt (due_slot timing k) slot) (get_or sizes k 0) 0) (range_with_len 0 n)
-used-range wish timing slot sizes zero units delay few = refl
-used-range wish timing slot sizes (suc n) units delay few =
+used-range slot sizes zero timed few = refl
+used-range {wish} {timing} slot sizes (suc n) timed few =
     let time = timing.picture_units in
     let f : ℕ → ℕ = λ k. cond (nat_lt (due_slot timing k) slot) (get_or sizes k 0) 0 in
     let next : suc n ≡ n + 1 = omega arith in
     let more : take (suc n) sizes ≡ take n sizes ++ get_or sizes n 0 ∷ [] = ap (λ m. take m sizes) next ∙ take_more sizes n 0 (omega (arith, few)) in
-    let rest = used-range wish timing slot sizes n units delay (omega (arith, few)) in
+    let rest = used-range slot sizes n timed (omega (arith, few)) in
     let front = used-snoc wish time slot 0 (take n sizes) (get_or sizes n 0) in
     let place : 0 + length (take n sizes) ≡ n = omega (arith, length-take-le n sizes (omega (arith, few))) in
     let used : use_slot wish time (0 + length (take n sizes)) ≡ due_slot timing n =
-    ap (use_slot wish time) place ∙ (ap (λ u. n * time / u + wish.startup) (sym units) ∙ ap (λ d. n * time / timing.slot_units + d) (sym delay)) in
+    ap (use_slot wish time) place ∙ (ap (λ u. n * time / u + wish.startup) (sym timed.units) ∙ ap
+    (λ d. n * time / timing.slot_units + d) (sym timed.delay)) in
     let last = ap (λ u. cond (nat_lt u slot) (get_or sizes n 0) 0) used in
     let sums = sum_by-range_more f n in
     let range = ap (λ m. sum_by f (range_with_len 0 m)) next in
     omega (arith, ap (used_before wish time slot 0) more, front, rest, last, sums, range)
 
-used-same : (wish : Wish) (timing : Timing) (slot : ℕ) (sizes : List ℕ) → timing.slot_units ≡ wish.slot_units → timing.delay ≡ wish.startup → timing.played ≡ 0
-    → used_before wish timing.picture_units slot 0 sizes ≡ wire_used sizes timing slot
-used-same wish timing slot sizes units delay none =
-    let all = used-range wish timing slot sizes (length sizes) units delay (omega arith) in
+used-same : {wish : Wish} {timing : Timing} (slot : ℕ) (sizes : List ℕ) → WishedTiming wish timing →
+    timing.played ≡ 0 → used_before wish timing.picture_units slot 0 sizes ≡ wire_used sizes timing slot
+used-same {wish} {timing} slot sizes timed none =
+    let all = used-range slot sizes (length sizes) timed (omega arith) in
     omega (arith, ap (used_before wish timing.picture_units slot 0) (take_all (length sizes) sizes (omega arith)), all, none)
 
 -- between the curves of a plan is between those of the meter
-pub curves-same : {wish : Wish} {sizes : List ℕ} {slot came : ℕ} (timing : Timing) → timing.slot_units ≡ wish.slot_units → timing.delay ≡ wish.startup
-    → timing.buffer ≡ wish.buffer → timing.played ≡ 0 → low_at sizes timing slot ≤ came → came ≤ up_at sizes timing slot
-    → IsBetween wish sizes timing.picture_units slot came
-curves-same {wish} {sizes} {slot} timing units delay buffer none above below =
-    let low = used-same wish timing (slot + 1) sizes units delay none in
-    let up = used-same wish timing slot sizes units delay none in
+pub curves-same : {wish : Wish} {sizes : List ℕ} {slot came : ℕ} {timing : Timing} → WishedTiming wish timing →
+    timing.buffer ≡ wish.buffer → timing.played ≡ 0 → low_at sizes timing slot ≤ came →
+    came ≤ up_at sizes timing slot → IsBetween wish sizes timing.picture_units slot came
+curves-same {wish} {sizes} {slot} timed buffer none above below =
+    let low = used-same (slot + 1) sizes timed none in
+    let up = used-same slot sizes timed none in
     record { low = omega (arith, low, above); up = omega (arith, up, below, buffer) }

@@ -1,21 +1,21 @@
 -- What was sent where a send failed is a front of what a longer course sends.
-use Rattle.std.proofs.Common.{◌≡◌, ℕ, ◌≤◌, ◌+◌, ◌++◌, ◌&&◌, if◌then◌else◌, Bool, true, false, List, [], ◌∷◌, Option, length, drop, take, arith, refl, sym, ap, subst, ◌∙◌}
+use Rattle.std.proofs.Common.{◌≡◌, ℕ, ◌+◌, ◌++◌, ◌&&◌, if◌then◌else◌, Bool, true, false, List, [], ◌∷◌, length, drop, arith, refl, sym, ap, subst, ◌∙◌}
 use Rattle.conn.proofs.Sighting.{takings_bytes-append}
 use Rattle.std.proofs.lemmas.Bool.{and_from, cond-true}
-use Rattle.std.proofs.lemmas.List.{append_assoc, append-nil, length-append, take_at, take_all}
+use Rattle.std.proofs.lemmas.List.{append_assoc, append-nil, length-append, take_at}
 use Rattle.std.proofs.Math.Seq.{take-append-add}
-use Rattle.vod_base.specs.Links.{Doing, HeardSlot}
+use Rattle.vod_base.specs.Links.{HeardSlot}
 use Rattle.admission.specs.declared.entries.Answer.TheVariants.{Halted}
 use Rattle.admission.specs.declared.entries.Command.TheVariants.{Halt as HaltCommand}
 use Rattle.admission.specs.Makers.{Placed}
 use Rattle.session.specs.declared.states.Awaited.{Awaited}
-use Rattle.session.specs.declared.states.Awaited.TheVariants.{Nothing, Play, Halt, Look, Offer}
+use Rattle.session.specs.declared.states.Awaited.TheVariants.{Nothing, Halt}
 use Rattle.session.specs.declared.states.Next.TheVariants.{Done}
 use Rattle.session.specs.Hearings.{after_halt}
-use Rattle.session.specs.Sendings.{can_reply, due_bytes, after_play, is_between, is_done_in, is_sending, is_taken, sent_due, sent_in, sent_reply, sent_slot, after_slot, step_bytes, stepped_in}
+use Rattle.session.specs.Sendings.{can_reply, due_bytes, after_play, is_between, is_done_in, is_sending, is_taken, sent_due, sent_in, sent_slot, step_bytes, stepped_in}
 use Rattle.session.specs.Standings.{Standing, awaited_answer, awaited_answer_of}
-use Rattle.conn.specs.Rounds.{EndsInReply, HasFailedInReply, HasFailedInSlot, IsFront, Round, Runs, round_bytes, takings_bytes}
-use Rattle.conn.specs.Turns.{Answered, Entered, Film, IsFinished, Outcome, Part, Passed, Stage, Taking, TakesAll, Text, Unasked, after_reply, due_parts, parts_bytes, reply_parts, slot_parts, stage}
+use Rattle.conn.specs.Rounds.{EndsInReply, HasFailedInSlot, IsFront, Round, Runs, round_bytes, takings_bytes}
+use Rattle.conn.specs.Turns.{Answered, Entered, Film, IsFinished, Outcome, Stage, Taking, TakesAll, Text, Unasked, after_reply, due_parts, parts_bytes, reply_parts, slot_parts, stage}
 use Rattle.transcript.specs.Courses.{Course, Follows, first_stage, rounds_bytes}
 use Rattle.transcript.specs.Failures.{IsCutShort}
 use Rattle.transcript.proofs.Filming.{Stands, course_step, stands_by, reply_awaited}
@@ -151,11 +151,11 @@ takes-more {new} old mid [] taking takes more =
     subst T takes more
 takes-more {new} old mid (first ∷ takings) taking takes more = (takes.0, (takes.1.0, takes-more {new = new} takes.0 mid takings taking takes.1.1 more))
 
-pub failed-reply : (course : Course) (round : Round) (message : List ℕ) (outcome : Outcome) (front : List ℕ) (new : Stage)
-    → (ends : EndsInReply course.last round message outcome front new)
-    → IsCutShort course round.event (round.takings ++ Answered message outcome (reply_parts ends.fails.answered) ∷ [])
+pub failed-reply : {round : Round} {message : List ℕ} {outcome : Outcome} {front : List ℕ} {new : Stage}
+    (course : Course) (ends : EndsInReply course.last round message outcome front new) →
+    IsCutShort course round.event (round.takings ++ Answered message outcome (reply_parts ends.fails.answered) ∷ [])
     (rounds_bytes course.rounds ++ (round_bytes round ++ front))
-failed-reply course round message outcome front new ends =
+failed-reply {round} {message} {outcome} {front} course ends =
     let failed = ends.fails in
     let answered = failed.answered in
     let parts = reply_parts answered in

@@ -55,16 +55,24 @@ come : (film : Film) (identity : Identity) (x : Stream) (d : ℕ) → IsFilmIn f
     → HasCome (film_sizes film) d (begun_sum x) (steps (begun_sum x) (moments_in (take (count_ended d x.blocks) x.blocks)))
 come film identity x d is =
     let P : List (List ℕ) → Type 0 = λ bs. HasCome (film_sizes film) d (begun_sum x) (steps (begun_sum x) (moments_in (take (count_ended d bs) bs))) in
-    subst P (sym is.blocks) (units-come (film_run film identity) 0 0 film.slice_starts.items film.units.items is.media is.control (laid-film film) refl refl refl)
+    subst P (sym is.blocks) (units-come (record {
+      run = film_run film identity;
+      frames = 0;
+      octets = 0;
+      media = is.media;
+      control = is.control;
+    }) film.slice_starts.items film.units.items (laid-film film)
+    (record { on = refl; none = refl; outside = refl }))
 
 -- ---- the time of a picture
 
-time-by : (film : Film) (identity : Identity) (x : Stream) (k : ℕ) (items : List PictureUnit) → items ≡ film.units.items → IsFilmIn film identity x
-    → let t : Sum = steps (begun_sum x) (moments_in (take k x.blocks)) in
-    0 < t.frames → begins_film (drop 20 t.first) ≡ true → time_in t.first ≡ picture_time film.rate
-time-by film identity x k [] items_are is =
+time-by : {film : Film} {identity : Identity} {x : Stream} (k : ℕ) (items : List PictureUnit) →
+    items ≡ film.units.items → IsFilmIn film identity x →
+    let t : Sum = steps (begun_sum x) (moments_in (take k x.blocks)) in 0 < t.frames →
+    begins_film (drop 20 t.first) ≡ true → time_in t.first ≡ picture_time film.rate
+time-by {film} k [] items_are is =
     λ some good. absurd (omega (arith, ap (λ (l : List PictureUnit). length l) items_are, film-some film.bytes.items film.rate film.units.items film.slice_starts.items film.grammar))
-time-by film identity x k (unit ∷ items) items_are is =
+time-by {film} {identity} {x} k (unit ∷ items) items_are is =
     let run = film_run film identity in
     let starts = film.slice_starts.items in
     let L : List PictureUnit → Type 0 = λ us. AreLaid (length film.bytes.items) starts us in
@@ -77,7 +85,13 @@ time-by film identity x k (unit ∷ items) items_are is =
     → time_in (steps (begun_sum x) (moments_in (take k bs))).first ≡ picture_time film.rate in
     subst P blocks (λ some good.
     time-is laid.0.1
-    (first-frame {run = run} {f = 0} {starts = starts} {unit = unit} 0 k items (begun_sum x) is.media is.control refl some) begins good)
+    (first-frame {starts = starts} {unit = unit} (record {
+      run = run;
+      frames = 0;
+      octets = 0;
+      media = is.media;
+      control = is.control;
+    }) k items (begun_sum x) refl some) begins good)
 
 -- the time of a picture and the number of units, by what was heard
 pub record IsTimed (film : Film) (x : Stream) (h : History) : Type 0 where
@@ -93,7 +107,7 @@ timed {film} {identity} {x} {h} k is gone sum_is =
     let end : end_ms h ≡ (begun_sum x).end_ms = ap (λ (s : Sum). s.end_ms) sum_is ∙ (blocks-same (take k x.blocks) (begun_sum x) (blocks-one-take k x.blocks x.blocks_are)).end_ms in
     let B : List ℕ → Type 0 = λ f. begins_film (drop 20 f) ≡ true in
     let frame_time : 0 < frames h → time_in (first_frame h) ≡ picture_time film.rate = λ some.
-    ap time_in first ∙ time-by film identity x k film.units.items refl is (omega (arith, count, some)) (subst B first (first-good h gone some)) in
+    ap time_in first ∙ time-by k film.units.items refl is (omega (arith, count, some)) (subst B first (first-good h gone some)) in
     record {
       time_is = λ some. cond-false (frames h == 0) 0 (time_in (first_frame h)) (ne_eqb (frames h) 0 (λ none. omega (arith, some, none))) ∙ frame_time some;
       units_are = λ some.
@@ -179,6 +193,6 @@ film-back {film} {identity} {x} {first} {last} h is sum_is at_first at_last =
     ∙ (steps-payloads (begun_sum x) (moments_in x.blocks)
     ∙ (ap (λ l. payloads_of (moments_in l)) is.blocks
     ∙ (payloads-are (moments_in bs)
-    ∙ (ap joined (units-told run 0 0 starts items is.media is.control)
+    ∙ (ap joined (units-told (record { run = run; frames = 0; octets = 0; media = is.media; control = is.control }) starts items)
     ∙ (ap (λ us. joined (frames_among (pieces_of starts us) (blocks_from run 0 0 (pieces_of starts us)))) (sym (units-all film))
     ∙ comes-back film 0 (length items) identity first last some at_first at_last)))))

@@ -15,9 +15,8 @@ use Rattle.session.specs.declared.states.Play.{Play as Played}
 use Rattle.session.specs.declared.states.Setup.{Setup}
 use Rattle.session.specs.declared.states.State.{State}
 use Rattle.session.specs.declared.states.State.TheVariants.{Init, Ready, Playing, Stopping}
-use Rattle.session.specs.Sendings.{can_reply, after_play, halted_in, is_between, is_done_in, is_sending, is_taken, sent_due, sent_in, sent_reply, sent_slot, after_slot, stepped_in}
+use Rattle.session.specs.Sendings.{can_reply, after_play, halted_in, is_between, is_done_in, is_sending, sent_due, sent_in, sent_reply, sent_slot, after_slot, stepped_in}
 use Rattle.session.specs.Standings.{NoAnswer, Standing, awaited_answer, awaited_answer_of}
-use Rattle.session.specs.Steps.{after_stop}
 use Rattle.conn.specs.Films.{rounds_film}
 use Rattle.conn.specs.Rounds.{Comes, Round, Runs}
 use Rattle.conn.specs.Turns.{Outcome, Unasked, Entered, WasFull, Offered, Part, Stage, Taking, Passed, Answered, IsFinished, IsHaltAnswered, IsHalted, IsReplied, Takes, TakesAll, after_reply, due_parts, film_bytes, slot_parts}
@@ -112,17 +111,22 @@ takes_step old new (Answered message outcome parts ∷ takings) takes stands =
 pub done_kept : (p : Pacing) → is_done p ≡ true → p.sent ≡ p.keep
 done_kept p done = eqb-true p.sent p.keep (and_parts (nat_lt 0 p.passed) (p.sent == p.keep) done).1
 
-done_rest : {p : Pacing} {slot : ℕ} {asked : Awaited} {number keep end : ℕ} (placed : Placed) (askings : List Asking)
-    (more : List ℕ)
-    → IsOnTime p slot → keep ≡ p.sent → placed.entry.command ≡ HaltCommand number keep → asked ≡ Halt keep Done → slot ≤ end
-    → IsFilm end (plays_of askings) more → IsRest (Going p) (Asks asked (Entered placed) ∷ askings) end more
-done_rest {p} {slot} {asked} {number} {keep} {end} placed askings more on sent command asks later is =
+-- a play that is done is halted, and keeps what was sent of it
+record DoneHalt (p : Pacing) (asked : Awaited) (number keep : ℕ) (placed : Placed) : Type 0 where
+  sent : keep ≡ p.sent
+  command : placed.entry.command ≡ HaltCommand number keep
+  asks : asked ≡ Halt keep Done
+
+done_rest : {p : Pacing} {slot : ℕ} {asked : Awaited} {number keep end : ℕ} {placed : Placed} (askings : List Asking)
+    (more : List ℕ) → IsOnTime p slot → DoneHalt p asked number keep placed → slot ≤ end →
+    IsFilm end (plays_of askings) more → IsRest (Going p) (Asks asked (Entered placed) ∷ askings) end more
+done_rest {p} {slot} {asked} {number} {keep} {end} {placed} askings more on halt later is =
     let kept : kept_with (Entered placed) (kept_in askings (total_bytes p.plan)) ≡ keep =
-    ap (λ c. kept_by c (kept_in askings (total_bytes p.plan))) command in
-    let none : plays_begun asked (Entered placed) askings ≡ [] = ap (λ a. plays_admitted a placed.entry.answer askings) asks in
+    ap (λ c. kept_by c (kept_in askings (total_bytes p.plan))) halt.command in
+    let none : plays_begun asked (Entered placed) askings ≡ [] = ap (λ a. plays_admitted a placed.entry.answer askings) halt.asks in
     subst (λ k. IsFilm end (play_with p k ∷ (plays_begun asked (Entered placed) askings ++ plays_of askings)) (take p.sent (film_in p) ++ more)) (sym kept)
     (subst (λ ps. IsFilm end (play_with p keep ∷ (ps ++ plays_of askings)) (take p.sent (film_in p) ++ more)) (sym none)
-    (film_over (plays_of askings) more on (sym sent) later is))
+    (film_over (plays_of askings) more on (sym halt.sent) later is))
 
 pub halt_state : {state : State} {awaited : Awaited} {setup : Setup} {play : Played} {keep : ℕ} → state ≡ Playing setup play → awaited ≡ Halt keep Done
     → sends_in (halted_in state awaited) ≡ Idle
@@ -141,7 +145,7 @@ done_step {s} {play} {placed} {new} is sound done sent asks halted =
     let goes : GoesOn (Going p) Idle s.heard s.heard new.waits (Asks s.awaited (Entered placed) ∷ []) [] = record {
       sound = tt;
       later = omega arith;
-      rest = λ askings end more later film. done_rest placed askings more on sent halted.command asks later film;
+      rest = λ askings end more later film. done_rest {placed = placed} askings more on (record { sent = sent; command = halted.command; asks = asks }) later film;
     } in
     record {
       rest = ap (λ (n : Standing). n.awaited) halted.halts;

@@ -133,9 +133,16 @@ through_time p heard slot on later = record {
   even = refl;
 }
 
-pub through_film : {p : Pacing} (slot end keep : ℕ) (plays : List FilmPlay) (more : List ℕ) → IsPacing p
-    → IsFilm end (play_with p keep ∷ plays) (take (due_by p slot) (film_in p) ++ more)
-    → IsFilm end (play_with p keep ∷ plays) (take p.sent (film_in p) ++ (plan_bytes p p.sent (due_by p slot) ++ more))
-through_film {p} slot end keep plays more is film =
-    subst (IsFilm end (play_with p keep ∷ plays))
-    (ap (λ bs. bs ++ more) (sym (through_sent p slot is)) ∙ append_assoc (take p.sent (film_in p)) (plan_bytes p p.sent (due_by p slot)) more) film
+-- what a play keeps, the plays after it, and what is sent of them
+pub record LaterFilm : Type 0 where
+  pub keep : ℕ
+  pub plays : List FilmPlay
+  pub more : List ℕ
+
+pub through_film : {p : Pacing} (slot end : ℕ) (later : LaterFilm) → IsPacing p →
+    IsFilm end (play_with p later.keep ∷ later.plays) (take (due_by p slot) (film_in p) ++ later.more) →
+    IsFilm end (play_with p later.keep ∷ later.plays) (take p.sent (film_in p) ++ (plan_bytes p p.sent (due_by p slot) ++ later.more))
+through_film {p} slot end later is film =
+    subst (IsFilm end (play_with p later.keep ∷ later.plays))
+    (ap (λ bs. bs ++ later.more) (sym (through_sent p slot is)) ∙ append_assoc (take p.sent (film_in p))
+    (plan_bytes p p.sent (due_by p slot)) later.more) film

@@ -31,24 +31,36 @@ block-reply b ys s n (inl frame) same =
 block-reply b ys s n (inr report) same =
     let P : List Moment → Type 0 = λ l. (steps s (l ++ moments_in ys)).replies ≡ s.replies in (step (Report b) s, subst P report same)
 
+-- a block of which the only moment is a reply, and the blocks after it
+record ReplyThen (m : List ℕ) : Type 0 where
+  block : List ℕ
+  rest : List (List ℕ)
+  reply : moments_of block ≡ Reply m ∷ []
+
+-- blocks none of which is a reply, read on from a sum
+record NoReply (ps : List (List ℕ)) : Type 0 where
+  sum : Sum
+  same : (steps sum (moments_in ps)).replies ≡ sum.replies
+
 -- pieces before a reply, and none of them a reply, are all the blocks
-all-blocks : {bs ps : List (List ℕ)} {m : List ℕ} (later : List (List ℕ)) (x : List ℕ) (tail : List (List ℕ))
-    (s : Sum) → AreOneBlocks bs → AreTexts later
-    → moments_of x ≡ Reply m ∷ [] → ps ++ x ∷ tail ≡ bs ++ later → (steps s (moments_in ps)).replies ≡ s.replies → ps ≡ bs
-all-blocks {bs = []} {ps = []} {m} later x tail s are texts reply all same = refl
-all-blocks {bs = []} {ps = y ∷ ys} {m} [] x tail s are texts reply all same = absurd (let no : ⊥ = cc in no)
-all-blocks {bs = []} {ps = y ∷ ys} {m} (z ∷ zs) x tail s are texts reply all same =
+all-blocks : {bs ps : List (List ℕ)} {m : List ℕ} (later : List (List ℕ)) (reply_then : ReplyThen m) → NoReply ps →
+    AreOneBlocks bs → AreTexts later → ps ++ reply_then.block ∷ reply_then.rest ≡ bs ++ later → ps ≡ bs
+all-blocks {bs = []} {ps = []} {m} later reply_then silent are texts all = refl
+all-blocks {bs = []} {ps = y ∷ ys} {m} [] reply_then silent are texts all = absurd (let no : ⊥ = cc in no)
+all-blocks {bs = []} {ps = y ∷ ys} {m} (z ∷ zs) reply_then silent are texts all =
     let first : z ≡ y = cc in
     let P : List ℕ → Type 0 = λ q. moments_of q ≡ Reply q ∷ [] in
-    absurd (omega (arith, same, more-reply y ys s (subst P first texts.0.moment)))
-all-blocks {bs = b ∷ bs} {ps = []} {m} later x tail s are texts reply all same =
-    let first : x ≡ b = cc in absurd (no-reply b x m are.0.moment reply first)
-all-blocks {bs = b ∷ bs} {ps = y ∷ ys} {m} later x tail s are texts reply all same =
+    absurd (omega (arith, silent.same, more-reply y ys silent.sum (subst P first texts.0.moment)))
+all-blocks {bs = b ∷ bs} {ps = []} {m} later reply_then silent are texts all =
+    let first : reply_then.block ≡ b = cc in absurd (no-reply b reply_then.block m are.0.moment reply_then.reply first)
+all-blocks {bs = b ∷ bs} {ps = y ∷ ys} {m} later reply_then silent are texts all =
     let first : y ≡ b = cc in
-    let rest : ys ++ x ∷ tail ≡ bs ++ later = cc in
+    let rest : ys ++ reply_then.block ∷ reply_then.rest ≡ bs ++ later = cc in
     let P : List ℕ → Type 0 = λ q. (steps s (moments_in (q ∷ ys))).replies ≡ s.replies in
     let next = block-reply b ys s 0 are.0.moment (subst P first same) in
-    ap (λ q. q ∷ ys) first ∙ ap (λ l. b ∷ l) (all-blocks later x tail next.0 are.1 texts reply rest next.1)
+    ap (λ q. q ∷ ys) first ∙ ap (λ l. b ∷ l) (all-blocks later reply_then (record { sum = next.0; same = next.1 }) are.1 texts rest)
+  where
+    open silent use {sum as s, same}
 
 -- with the two first replies before them
 all-pieces : {ps : List (List ℕ)} {m : List ℕ} (x : Stream) (p : List ℕ) (tail : List (List ℕ)) → moments_of p ≡ Reply m ∷ []
@@ -68,7 +80,8 @@ all-pieces {ps = a ∷ b ∷ ps} {m} x p tail reply all two =
     subst (λ r. P x.first r) (sym second) (subst (λ q. P q b) (sym first) two) in
     let same : (steps (begun_sum x) (moments_in ps)).replies ≡ 2 = sym (ap (λ (s : Sum). s.replies) (two-moments x ps)) ∙ there in
     ap (λ q. q ∷ b ∷ ps) (sym first) ∙ (ap (λ r. x.first ∷ r ∷ ps) (sym second)
-    ∙ ap (λ l. x.first ∷ x.second ∷ l) (all-blocks x.later p tail (begun_sum x) x.blocks_are x.later_are reply rest same))
+    ∙ ap (λ l. x.first ∷ x.second ∷ l) (all-blocks x.later (record { block = p; rest = tail; reply = reply })
+    (record { sum = begun_sum x; same = same }) x.blocks_are x.later_are rest))
 
 pub done-sum : {wish : Wish} {watched : Watched} {bytes out : List ℕ} (x : Stream) (c : ℕ)
     (done : IsDone wish watched bytes out)
@@ -77,7 +90,7 @@ done-sum {out} x c done is =
     let all = all_of x in
     let k = count_ended c all in
     let p = take done.length_ done.at.rest in
-    let front = cut-front all c done.heard.pieces x.alone is done.heard.cut done.whole in
+    let front = cut-front {ps = all} (record { count = c; alone = x.alone; front_is = is }) done.heard.pieces done.heard.cut done.whole in
     let tail = front.0 ++ drop k all in
     let whole : all ≡ done.heard.pieces ++ p ∷ tail =
     sym (take-append-drop k all)

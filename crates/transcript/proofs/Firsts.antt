@@ -1,5 +1,5 @@
 -- The first frame that a client hears of a film, and the time of a picture in it.
-use Rattle.std.proofs.Common.{◌≡◌, ℕ, zero, suc, ◌+◌, ◌-◌, ◌%◌, ◌<◌, ◌≤◌, ◌==◌, ◌&&◌, Bool, true, false, not, nat_le, cond, List, [], ◌∷◌, ◌++◌, length, take, drop, get_or, is_ok, refl, sym, ap, subst, ◌∙◌, append_assoc, min, arith, inl, inr}
+use Rattle.std.proofs.Common.{◌≡◌, ℕ, zero, suc, ◌+◌, ◌-◌, ◌%◌, ◌<◌, ◌≤◌, ◌==◌, ◌&&◌, Bool, true, false, not, nat_le, cond, List, [], ◌∷◌, ◌++◌, length, take, drop, get_or, is_ok, sym, ap, subst, ◌∙◌, append_assoc, min, arith, inl, inr}
 use Rattle.std.proofs.lemmas.Bool.{cases_eq, cond-true, cond-false, eq-eqb, ne_eqb, leb-true, and_parts}
 use Rattle.std.proofs.lemmas.List.{get_or-drop, get_or-take, length-take}
 use Rattle.mpeg_scan.specs.declared.units.Unit.{Unit as PictureUnit}
@@ -17,6 +17,7 @@ use Rattle.rtsp_client.specs.Moments.{History, Moment, Frame, Reply, Report, Slo
 use Rattle.transcript.proofs.Blocks.{frame_block, frame_blocks, frame-moment, frames-one, frames_after, octets_after, report_block, report_if, report-moment}
 use Rattle.transcript.proofs.Sums.{AreOneBlocks, Sum, blocks-first, blocks-one-append, blocks-one-take, step, steps}
 use Rattle.transcript.proofs.Units.{blocks-one, frame-sizes, more-blocks, packets-there, report-sizes}
+use Rattle.transcript.proofs.Blocks.{RunFrom}
 
 -- at each of its moments a watching went on
 abbrev pub HasGoneOn : History → Type 0
@@ -50,23 +51,44 @@ first-good (Frame b ∷ h) gone some =
 
 -- ---- the first frame of a run
 
-lead : (starts : Bool) (run : Run) (f o k : ℕ) (unit : PictureUnit) (p : Packet) (rest : List (List ℕ)) (s : Sum) → run.identity.channel ≡ 0
-    → run.identity.control ≡ 1 → AreOneBlocks rest → s.frames ≡ 0
-    → 0 < (steps s (moments_in (take k (report_if starts run unit f o ++ (frame_block run unit p f ∷ rest))))).frames
-    → (steps s (moments_in (take k (report_if starts run unit f o ++ (frame_block run unit p f ∷ rest))))).first ≡ frame_block run unit p f
-lead false run f o zero unit p rest s media control are none some = absurd (omega (arith, none, some))
-lead false run f o (suc k) unit p rest s media control are none some =
+-- the first packet of a unit, and the blocks after its frame
+record FirstFrame : Type 0 where
+  unit : PictureUnit
+  packet : Packet
+  rest : List (List ℕ)
+  are_blocks : AreOneBlocks rest
+
+-- a sum with no frames yet
+record FramelessSum : Type 0 where
+  sum : Sum
+  none : sum.frames ≡ 0
+
+lead : (starts : Bool) (from : RunFrom) (k : ℕ) (first : FirstFrame) (sum : FramelessSum) →
+    0 < (steps sum.sum (moments_in (take k (report_if starts from.run first.unit from.frames from.octets ++
+    (frame_block from.run first.unit first.packet from.frames ∷ first.rest))))).frames →
+    (steps sum.sum (moments_in (take k (report_if starts from.run first.unit from.frames from.octets ++
+    (frame_block from.run first.unit first.packet from.frames ∷ first.rest))))).first ≡ frame_block from.run first.unit
+    first.packet from.frames
+lead false from zero first sum some = absurd (omega (arith, sum.none, some))
+lead false from (suc k) first sum some =
     let b = frame_block run unit p f in
     frame-sizes b (take k rest) s (λ t. t.first ≡ b) (frame-moment run f unit p media)
     (blocks-first (take k rest) (step (Frame b) s) (blocks-one-take k rest are) (omega arith)
     ∙ cond-true (s.frames == 0) b s.first (eq-eqb s.frames 0 none))
-lead true run f o zero unit p rest s media control are none some = absurd (omega (arith, none, some))
-lead true run f o (suc k) unit p rest s media control are none some =
+  where
+    open from use {run, frames as f, media}
+    open first use {unit, packet as p, rest, are_blocks as are}
+    open sum use {sum as s, none}
+lead true from zero first sum some = absurd (omega (arith, sum.none, some))
+lead true from (suc k) first sum some =
     let r = report_block run unit f o in
     let b = frame_block run unit p f in
     let is = report-moment run f o unit control in
-    report-sizes r (take k (b ∷ rest)) s (λ t. 0 < t.frames → t.first ≡ b) is
-    (λ more. lead false run f o k unit p rest (step (Report r) s) media control are none more) some
+    report-sizes r (take k (b ∷ rest)) sum.sum (λ t. 0 < t.frames → t.first ≡ b) is
+    (λ more. lead false from k first (record { sum = step (Report r) sum.sum; none = sum.none }) more) some
+  where
+    open from use {run, frames as f, octets as o, control}
+    open first use {unit, packet as p, rest}
 
 pub record IsLed (run : Run) (starts : List ℕ) (unit : PictureUnit) (f : ℕ) (first : List ℕ) : Type 0 where
   pub packet : Packet
@@ -74,12 +96,11 @@ pub record IsLed (run : Run) (starts : List ℕ) (unit : PictureUnit) (f : ℕ) 
   pub are : unit_packets starts unit ≡ packet ∷ packets
   pub first_is : first ≡ frame_block run unit packet f
 
-pub first-frame : {run : Run} {f : ℕ} {starts : List ℕ} {unit : PictureUnit} (o k : ℕ) (units : List PictureUnit)
-    (s : Sum) → run.identity.channel ≡ 0
-    → run.identity.control ≡ 1 → s.frames ≡ 0
-    → let t : Sum = steps s (moments_in (take k (blocks_from run f o (pieces_of starts (unit ∷ units))))) in
-    0 < t.frames → IsLed run starts unit f t.first
-first-frame {run} {f} {starts} {unit} o k units s media control none some =
+pub first-frame : {starts : List ℕ} {unit : PictureUnit} (from : RunFrom) (k : ℕ) (units : List PictureUnit)
+    (s : Sum) → s.frames ≡ 0 →
+    let t : Sum = steps s (moments_in (take k (blocks_from from.run from.frames from.octets (pieces_of starts (unit ∷ units))))) in 0 < t.frames →
+    IsLed from.run starts unit from.frames t.first
+first-frame {starts} {unit} from k units s none some =
     let there = packets-there starts unit in
     let rest = blocks_from run (frames_after f (unit_pieces starts unit))
     (octets_after o (unit_pieces starts unit)) (pieces_of starts units) in
@@ -91,15 +112,24 @@ first-frame {run} {f} {starts} {unit} o k units s media control none some =
     ∙ append_assoc front (frame_block run unit there.packet f ∷ frames_rest) rest) in
     let are : AreOneBlocks (frames_rest ++ rest) =
     blocks-one-append frames_rest rest (frames-one run (f + 1) unit there.packets media)
-    (blocks-one run (frames_after f (unit_pieces starts unit))
-    (octets_after o (unit_pieces starts unit)) starts units media control) in
+    (blocks-one (record {
+      run = run;
+      frames = frames_after f (unit_pieces starts unit);
+      octets = octets_after o (unit_pieces starts unit);
+      media = media;
+      control = control;
+    }) starts units) in
     let P : List (List ℕ) → Type 0 = λ bs. 0 < (steps s (moments_in (take k bs))).frames → (steps s (moments_in (take k bs))).first ≡ frame_block run unit there.packet f in
     record {
       packet = there.packet;
       packets = there.packets;
       are = there.are;
-      first_is = (subst P (sym all) (λ more. lead unit.starts_group run f o k unit there.packet (frames_rest ++ rest) s media control are none more)) some;
+      first_is = (subst P (sym all) (λ more. lead unit.starts_group from k
+          (record { unit = unit; packet = there.packet; rest = frames_rest ++ rest; are_blocks = are })
+          (record { sum = s; none = none }) more)) some;
     }
+  where
+    open from use {run, frames as f, octets as o, media, control}
 
 -- ---- the time of a picture
 

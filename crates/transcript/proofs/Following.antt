@@ -10,11 +10,11 @@ follows_all old new [] runs = runs
 follows_all old new (round ∷ rounds) runs = (runs.0, (runs.1.0, follows_all runs.0 new rounds runs.1.2))
 
 -- and one more, up to a piece that ends a connection
-pub follows_last : (old mid new : Stage) (rounds : List Round) (round : Round) → RunsAll old rounds mid → Runs mid round new
-    → Follows old (rounds ++ round ∷ []) new
-follows_last old mid new [] round runs last = (new, (subst (λ s. Runs s round new) runs last, refl))
-follows_last old mid new (first ∷ rounds) round runs last =
-    (runs.0, (runs.1.0, follows_last runs.0 mid new rounds round runs.1.2 last))
+pub follows_last : {mid new : Stage} {round : Round} (old : Stage) (rounds : List Round) → RunsAll old rounds mid →
+    Runs mid round new → Follows old (rounds ++ round ∷ []) new
+follows_last {new} {round} old [] runs last = (new, (subst (λ s. Runs s round new) runs last, refl))
+follows_last {mid} {new} {round} old (first ∷ rounds) runs last =
+    (runs.0, (runs.1.0, follows_last runs.0 rounds runs.1.2 last))
 
 -- each front of a course is one
 pub parts_of : (old new : Stage) (first rest : List Round) → Follows old (first ++ rest) new → IsParted old first rest new

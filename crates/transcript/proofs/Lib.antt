@@ -1,3 +1,4 @@
+pub mod Occasions
 pub mod Turning
 pub mod Films
 pub mod Steps

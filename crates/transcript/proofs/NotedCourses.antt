@@ -1,33 +1,30 @@
 -- The notes of a connection's report, event by event.
-use Rattle.std.proofs.Common.{◌≡◌, ℕ, ◌<◌, ◌++◌, ◌&&◌, if◌then◌else◌, Bool, true, false, List, [], ◌∷◌, Option, Some, None, length, map, refl, sym, ap, subst, ◌∙◌, inl, inr}
-use Rattle.std.proofs.lemmas.List.{append_assoc, append-nil, map-append}
+use Rattle.std.proofs.Common.{◌≡◌, ℕ, ◌++◌, ◌&&◌, if◌then◌else◌, Bool, true, false, List, [], ◌∷◌, None, length, map, refl, sym, ap, subst, ◌∙◌}
+use Rattle.std.proofs.lemmas.List.{append-nil, map-append}
 use Rattle.vod_base.specs.Links.{Doing, HeardBytes, HeardEnd, HeardSlot, Sent}
 use Rattle.film_frames.specs.declared.stores.Stored.{Stored}
-use Rattle.admission.specs.Makers.{Placed}
-use Rattle.session.specs.declared.notes.PlayNote.{PlayNote}
 use Rattle.session.specs.declared.settings.Settings.{Settings}
 use Rattle.session.specs.declared.states.Awaited.{Awaited}
 use Rattle.session.specs.declared.states.Awaited.TheVariants.{Nothing, Play, Halt, Look, Offer}
 use Rattle.session.specs.declared.states.Next.{Next}
-use Rattle.session.specs.declared.states.Play.{Play as Played}
-use Rattle.session.specs.declared.states.Setup.{Setup}
 use Rattle.session.specs.declared.states.State.{State}
 use Rattle.session.specs.declared.states.State.TheVariants.{Init, Ready, Playing, Stopping}
 use Rattle.session.specs.Sendings.{can_reply, due_state, after_play, is_between, is_sending, is_taken, kept_of, sent_due, sent_reply, sent_slot, after_slot, stepped_in}
-use Rattle.session.specs.Standings.{NoAnswer, Open, Standing, awaited_answer, awaited_answer_of, open_in, open_of}
+use Rattle.session.specs.Standings.{NoAnswer, Standing, awaited_answer_of, open_in}
 use Rattle.session.specs.Steps.{IsCarried, after_stop}
-use Rattle.conn.specs.Rounds.{Comes, Ending, Unheard, PeerEnded, Overfull, AtPiece, InSlot, InReply, EndsInReply, Ends, Round, Runs, RunsAll, ending_outcomes, round_outcomes, rounds_outcomes, takings_outcomes}
+use Rattle.conn.specs.Rounds.{Comes, Ending, Unheard, PeerEnded, Overfull, AtPiece, InSlot, InReply, Ends, Round, Runs, RunsAll, ending_outcomes, round_outcomes, rounds_outcomes, takings_outcomes}
 use Rattle.conn.specs.Turns.{IsClosed, IsFinished, IsHalted, Outcome, Unasked, Entered, WasFull, Offered, Part, Stage, Taking, Passed, Answered, TakesAll, after_reply, film_bytes}
 use Rattle.conn.specs.declared.reports.ConnEnd.{ConnEnd}
 use Rattle.conn.specs.declared.reports.ConnReport.{ConnReport}
 use Rattle.transcript.specs.Agreement.{Doings, HasDone, doings_outcomes}
 use Rattle.conn.specs.Films.{rounds_film}
 use Rattle.transcript.specs.Courses.{askings_of, first_stage, round_askings}
-use Rattle.transcript.specs.Notes.{Turn, asking_at, ending_turns, notes_of_turns, noted_entry, notes_of, outcome_of, round_turns, rounds_turns, takings_turns, turn_of, turns_of}
+use Rattle.transcript.specs.Notes.{Turn, asking_at, ending_turns, notes_of_turns, notes_of, outcome_of, round_turns, rounds_turns, takings_turns, turn_of, turns_of}
 use Rattle.transcript.proofs.Filming.{Stands, course_step, round_step, stands_by, turn_after}
 use Rattle.transcript.proofs.Turning.{turns_as}
 use Rattle.transcript.proofs.Following.{follows_all}
 use Rattle.transcript.proofs.Noting.{Carries, IsKept, carries-as, carries-none, carries-then, halt-turn, halted-open, heard-on, no-halt-note, no-note, notes_until, open_note, unasked-turn}
+use Rattle.conn.proofs.Telling.{CourseEnd}
 
 abbrev CarriesOf : Standing → List Turn → Standing → Type 0
 CarriesOf old turns new = Carries old.plays old.state turns new.plays new.state
@@ -113,7 +110,7 @@ finished-turn : (s new : Standing) (awaited : Awaited) (halt : Outcome) → s.aw
 finished-turn s new Nothing halt asks is = unasked-finished s new halt is
 finished-turn s new (Play prepared) halt asks is = absurd is
 finished-turn s new (Halt keep next) halt asks is =
-    halt-turn s new s keep (kept-halt s.state s.awaited keep next asks) is (no-halt-note s.state asks)
+    halt-turn (record { keep = keep; new = new; halted = is }) s (kept-halt s.state s.awaited keep next asks) (no-halt-note s.state asks)
 finished-turn s new (Look sequence) halt asks is = absurd is
 finished-turn s new (Offer sequence) halt asks is = absurd is
 
@@ -226,14 +223,15 @@ at-rest (Halt keep next) rest = absurd (let never : ⊥ = cc rest in never)
 at-rest (Look sequence) rest = absurd (let never : ⊥ = cc rest in never)
 at-rest (Offer sequence) rest = absurd (let never : ⊥ = cc rest in never)
 
-ending-rest : (old new : Stage) (count : ℕ) (ending : Ending) (end : ConnEnd) → Ends old count ending end new → Stands old.session → new.session.awaited ≡ Nothing
-ending-rest old new count Unheard end ends stands = ap (λ (s : Stage). s.session.awaited) ends.1 ∙ stands.rest
-ending-rest old new count PeerEnded end ends stands = ap (λ (s : Stage). s.session.awaited) ends.1 ∙ stands.rest
-ending-rest old new count (Overfull bytes) end ends stands = ap (λ (s : Stage). s.session.awaited) ends.3 ∙ stands.rest
-ending-rest old new count (AtPiece round) end ends stands = (stands-round old new round ends.0 stands).rest
-ending-rest old new count (InSlot slot front) end ends stands = at-rest new.session.awaited ends.1.rest
-ending-rest old new count (InReply round message outcome front) end ends stands =
-    let e = ends.1 in
+ending-rest : {old : Stage} (ending : Ending) (ended : CourseEnd old ending) → Stands old.session →
+    ended.new.session.awaited ≡ Nothing
+ending-rest Unheard ended stands = ap (λ (s : Stage). s.session.awaited) ended.ends.1 ∙ stands.rest
+ending-rest PeerEnded ended stands = ap (λ (s : Stage). s.session.awaited) ended.ends.1 ∙ stands.rest
+ending-rest (Overfull bytes) ended stands = ap (λ (s : Stage). s.session.awaited) ended.ends.3 ∙ stands.rest
+ending-rest {old} (AtPiece round) ended stands = (stands-round old ended.new round ended.ends.0 stands).rest
+ending-rest (InSlot slot front) ended stands = at-rest ended.new.session.awaited ended.ends.1.rest
+ending-rest {old} (InReply round message outcome front) ended stands =
+    let e = ended.ends.1 in
     let failed = e.fails in
     let turns = turns_as e.mid.session message outcome failed.answered failed.heard (stands-round old e.mid round e.runs stands).rest in
     ap (λ (s : Stage). s.session.awaited) failed.new_is ∙ (turn_after e.mid.session failed.answered failed.heard.asking.awaited outcome turns).awaited
@@ -255,8 +253,9 @@ shut-halted : {last closed : Standing} {halt : Outcome} (keep : ℕ) → IsKept 
     → IsShut last closed halt
 shut-halted {last} {closed} {halt = Unasked} keep kept rest halted = absurd halted
 shut-halted {last} {closed} {halt = Entered placed} keep kept rest halted = record {
-  on = halt-turn last closed last keep kept halted
-      (λ made later. no-note last.state last.awaited made later (λ prepared asks. let no : Nothing ≡ Play prepared = sym rest ∙ asks in cc no));
+  on = halt-turn (record { keep = keep; new = closed; halted = halted }) last kept
+      (λ made later. no-note last.state last.awaited made later
+      (λ prepared asks. let no : Nothing ≡ Play prepared = sym rest ∙ asks in cc no));
   none = λ later. ap (λ (s : Standing). open_note s.state later) halted.halts ∙ halted-open last.state last.awaited later;
 }
 shut-halted {last} {closed} {halt = WasFull more entries live} keep kept rest halted = absurd halted
@@ -286,7 +285,7 @@ plays-noted films settings words doings report done =
     let count = length doings.rounds in
     let begun : Stands first.session = record { rest = refl; sound = tt } in
     let mid = stands-all first done.mid doings.rounds done.runs begun in
-    let rest = ending-rest done.mid done.last count doings.ending report.end done.ends mid in
+    let rest = ending-rest doings.ending (record { count = count; end = report.end; new = done.last; ends = done.ends }) mid in
     let shut = shut-in refl rest done.closes in
     let heard = rounds_turns first doings.rounds done.mid done.runs in
     let ended = ending_turns done.mid count doings.ending report.end done.last done.ends in

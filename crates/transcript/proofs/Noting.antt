@@ -1,24 +1,19 @@
 -- A report's notes are those of the plays that were admitted.
-use Rattle.std.proofs.Common.{◌≡◌, ℕ, ◌<◌, ◌++◌, ◌&&◌, if◌then◌else◌, Bool, true, false, List, [], ◌∷◌, Option, Some, None, length, map, refl, sym, ap, subst, ◌∙◌, inl, inr}
-use Rattle.std.proofs.lemmas.Bool.{true≢false}
-use Rattle.std.proofs.lemmas.List.{append_assoc, append-nil, map-append}
-use Rattle.vod_base.specs.Links.{Doing, HeardBytes, HeardEnd, HeardSlot, Sent}
+use Rattle.std.proofs.Common.{◌≡◌, ℕ, ◌++◌, List, [], ◌∷◌, Option, refl, sym, ap, subst, ◌∙◌}
+use Rattle.std.proofs.lemmas.List.{append_assoc, append-nil}
 use Rattle.plan_cert.specs.declared.Segment.{Segment}
 use Rattle.plan_cert.specs.Slots.{total_bytes}
 use Rattle.slot_calendar.specs.Plays.{whole_play}
-use Rattle.film_frames.specs.declared.stores.Stored.{Stored}
 use Rattle.film_run.specs.declared.runs.Run.{Run}
 use Rattle.early_start.specs.Offered.{Offers}
 use Rattle.admission.specs.Histories.{play_admitted}
 use Rattle.admission.specs.Makers.{Placed}
 use Rattle.admission.specs.declared.entries.Answer.{Answer}
 use Rattle.admission.specs.declared.entries.Answer.TheVariants.{Admitted, Halted, Looked, Overflow}
-use Rattle.admission.specs.declared.entries.Command.TheVariants.{Halt as HaltCommand}
 use Rattle.station.specs.Ledgers.{look_at, play_of}
 use Rattle.session.specs.declared.asks.Ask.{Ask}
-use Rattle.session.specs.declared.asks.Ask.TheVariants.{Reply as AskReply, Play as AskPlay, Halt as AskHalt, Look as AskLook, Offer as AskOffer}
+use Rattle.session.specs.declared.asks.Ask.TheVariants.{Reply as AskReply, Play as AskPlay, Look as AskLook, Offer as AskOffer}
 use Rattle.session.specs.declared.notes.PlayNote.{PlayNote}
-use Rattle.session.specs.declared.settings.Settings.{Settings}
 use Rattle.session.specs.declared.states.Awaited.{Awaited}
 use Rattle.session.specs.declared.states.Awaited.TheVariants.{Nothing, Play, Halt, Look, Offer}
 use Rattle.session.specs.declared.states.Next.{Next}
@@ -28,13 +23,14 @@ use Rattle.session.specs.declared.states.Prepared.{Prepared}
 use Rattle.session.specs.declared.states.Setup.{Setup}
 use Rattle.session.specs.declared.states.State.{State}
 use Rattle.session.specs.declared.states.State.TheVariants.{Init, Ready, Playing, Stopping}
-use Rattle.session.specs.Hearings.{after_admission, after_halt}
+use Rattle.session.specs.Hearings.{after_halt}
 use Rattle.session.specs.Sendings.{admitted_in, halted_in, halted_notes, kept_of, note_of, state_after}
 use Rattle.session.specs.Standings.{Standing}
 use Rattle.session.proofs.Shapes.{HearsAs, Replies, SetsUp, AsksPlay, Stops, AsksLook, AsksOffer, hears_as}
-use Rattle.conn.specs.Turns.{HasHeard, IsAnswered, IsHaltAnswered, IsHalted, IsLookAnswered, IsPlayAnswered, Outcome, Unasked, Entered, WasFull, Offered}
-use Rattle.transcript.specs.Notes.{Turn, kept_later, note_for, notes_of_turns, noted_entry, noted_for, notes_of, turn_of}
+use Rattle.conn.specs.Turns.{HasHeard, IsAnswered, IsHalted, IsLookAnswered, IsPlayAnswered, Outcome, Unasked, Entered, WasFull, Offered}
+use Rattle.transcript.specs.Notes.{Turn, kept_later, note_for, notes_of_turns, noted_entry, noted_for, turn_of}
 use Rattle.transcript.specs.Plays.{kept_by, kept_with}
+use Rattle.transcript.proofs.Occasions.{HaltGiven, PlayEntry, HaltAsked}
 
 -- the note of a play that is under way, by what comes later
 abbrev pub open_note : State → List Turn → List PlayNote
@@ -139,11 +135,12 @@ halted-as (Playing setup play) awaited turn later is kept =
     ap (λ k. note_of setup play k ∷ []) (kept (kept_later later (total_bytes play.plan)) ∙ sym is)
 halted-as (Stopping setup stop) awaited turn later is kept = refl
 
-pub halt-turn : {halt : Outcome} (s new asking : Standing) (keep : ℕ) → IsKept s.state s.awaited keep → IsHalted s keep halt new
-    → ((placed : Placed) (later : List Turn) → noted_entry asking.state asking.awaited placed later ≡ [])
-    → Carries s.plays s.state (turn_of asking halt ∷ []) new.plays new.state
-halt-turn {halt = Unasked} s new asking keep kept halted none = absurd halted
-halt-turn {halt = Entered placed} s new asking keep kept halted none =
+pub halt-turn : {halt : Outcome} {s : Standing} (given : HaltGiven s halt) (asking : Standing) →
+    IsKept s.state s.awaited given.keep →
+    ((placed : Placed) (later : List Turn) → noted_entry asking.state asking.awaited placed later ≡ []) →
+    Carries s.plays s.state (turn_of asking halt ∷ []) given.new.plays given.new.state
+halt-turn {halt = Unasked} given asking kept none = absurd given.halted
+halt-turn {halt = Entered placed} {s} given asking kept none =
     let turn = turn_of asking (Entered placed) in
     let is : new ≡ after_halt s placed.place = halted.halts in
     let plays : new.plays ≡ s.plays ++ halted_notes s.state s.awaited = ap (λ (n : Standing). n.plays) is in
@@ -157,8 +154,10 @@ halt-turn {halt = Entered placed} s new asking keep kept halted none =
           ∙ ap (λ ns. (s.plays ++ halted_notes s.state s.awaited) ++ ns) (sym (ap (λ x. open_note x later) state ∙ halted-open s.state s.awaited later))
           ∙ ap (λ ns. ns ++ open_note new.state later) (sym plays);
     }
-halt-turn {halt = WasFull more entries live} s new asking keep kept halted none = absurd halted
-halt-turn {halt = Offered at_slot note} s new asking keep kept halted none = absurd halted
+  where
+    open given use {new, halted}
+halt-turn {halt = WasFull more entries live} given asking kept none = absurd given.halted
+halt-turn {halt = Offered at_slot note} given asking kept none = absurd given.halted
 
 -- ---- a request
 abbrev CarriesOn : Standing → Standing → Outcome → Standing → Type 0
@@ -190,84 +189,99 @@ begun-state {awaited} {setup} {paused} place start later ready asks =
     ap (λ s. open_note (admitted_in s awaited place start) later) ready
     ∙ ap (λ a. open_note (admitted_in (Ready setup paused) a place start) later) asks
 
-begun-note : {setup : Setup} {paused : Option Run} {prepared : Prepared} {answer : Answer} (asking : Standing)
-    (placed : Placed) (later : List Turn)
-    → asking.state ≡ Ready setup paused → asking.awaited ≡ Play prepared → placed.entry.command ≡ play_of asking.heard prepared.plan → placed.entry.answer ≡ answer
-    → notes_of_turns asking (Entered placed) later ≡ noted_for setup prepared.run placed.place (play_admitted (play_of asking.heard prepared.plan) answer) later
-begun-note {setup} {paused} {prepared} asking placed later ready asks command is =
+begun-note : {setup : Setup} {paused : Option Run} {prepared : Prepared} {answer : Answer} {asking : Standing}
+    {placed : Placed} (later : List Turn) → asking.state ≡ Ready setup paused → asking.awaited ≡ Play prepared →
+    PlayEntry asking prepared placed answer →
+    notes_of_turns asking (Entered placed) later ≡ noted_for setup prepared.run placed.place
+    (play_admitted (play_of asking.heard prepared.plan) answer) later
+begun-note {setup} {paused} {prepared} {asking} {placed} later ready asks entry =
     ap (λ s. noted_entry s asking.awaited placed later) ready ∙ ap (λ a. noted_entry (Ready setup paused) a placed later) asks
-    ∙ ap (λ c. noted_for setup prepared.run placed.place (play_admitted c placed.entry.answer) later) command
-    ∙ ap (λ a. noted_for setup prepared.run placed.place (play_admitted (play_of asking.heard prepared.plan) a) later) is
+    ∙ ap (λ c. noted_for setup prepared.run placed.place (play_admitted c placed.entry.answer) later) entry.command
+    ∙ ap (λ a. noted_for setup prepared.run placed.place (play_admitted (play_of asking.heard prepared.plan) a) later) entry.answer_is
+
+-- a session that asks stands and has played as before
+record SameSession (old asking : Standing) : Type 0 where
+  state : asking.state ≡ old.state
+  plays : asking.plays ≡ old.plays
 
 play-on : {asking : Standing} {setup : Setup} {paused : Option Run} {prepared : Prepared} {placed : Placed}
-    {answer : Answer} (old new : Standing) → placed.entry.answer ≡ answer
-    → placed.entry.command ≡ play_of asking.heard prepared.plan → IsPlayAnswered asking placed answer new → old.state ≡ Ready setup paused → asking.state ≡ old.state
-    → asking.plays ≡ old.plays → asking.awaited ≡ Play prepared → CarriesOn old asking (Entered placed) new
-play-on {asking} {setup} {paused} {prepared} {placed} {answer = Admitted start} old new is command answered ready state plays awaited =
-    let there : asking.state ≡ Ready setup paused = state ∙ ready in
+    {answer : Answer} {old : Standing} (new : Standing) → PlayEntry asking prepared placed answer →
+    IsPlayAnswered asking placed answer new → old.state ≡ Ready setup paused → SameSession old asking →
+    asking.awaited ≡ Play prepared → CarriesOn old asking (Entered placed) new
+play-on {asking} {setup} {paused} {prepared} {placed} {answer = Admitted start} {old} new entry answered ready same awaited =
+    let there : asking.state ≡ Ready setup paused = same.state ∙ ready in
     let note : List Turn → PlayNote = λ later. note_for setup prepared.run placed.place (whole_play start prepared.plan) (kept_later later (total_bytes prepared.plan)) in
-    let new-plays : new.plays ≡ old.plays = ap (λ (s : Standing). s.plays) answered.1 ∙ plays in
+    let new-plays : new.plays ≡ old.plays = ap (λ (s : Standing). s.plays) answered.1 ∙ same.plays in
     let new-state : new.state ≡ admitted_in asking.state asking.awaited placed.place start = ap (λ (s : Standing). s.state) answered.1 in
     record {
       on = λ later.
           ap (λ s. (old.plays ++ open_note s (turn_of asking (Entered placed) ∷ later)) ++ (notes_of_turns asking (Entered placed) later ++ [])) ready
           ∙ ap (λ ns. ns ++ (notes_of_turns asking (Entered placed) later ++ [])) (append-nil old.plays)
           ∙ ap (λ ns. old.plays ++ ns) (append-nil (notes_of_turns asking (Entered placed) later)
-          ∙ begun-note asking placed later there awaited command is)
+          ∙ begun-note later there awaited entry)
           ∙ ap (λ ns. old.plays ++ ns) (sym (ap (λ s. open_note s later) new-state
           ∙ begun-state placed.place start later there awaited))
           ∙ ap (λ ns. ns ++ open_note new.state later) (sym new-plays);
     }
-play-on {asking} {placed} {answer = Overflow slot booked asks} old new is command answered ready state plays awaited =
-    stays-on old new (ap (λ (s : Standing). s.plays) answered ∙ plays) (ap (λ (s : Standing). s.state) answered ∙ state)
-    (λ later. begun-note asking placed later (state ∙ ready) awaited command is)
-    (λ k. ap (λ c. kept_by c k) command)
-play-on {answer = Halted} old new is command answered ready state plays awaited = absurd answered
-play-on {answer = Looked now at booked} old new is command answered ready state plays awaited = absurd answered
+play-on {asking} {placed} {answer = Overflow slot booked asks} {old} new entry answered ready same awaited =
+    stays-on old new (ap (λ (s : Standing). s.plays) answered ∙ same.plays) (ap (λ (s : Standing). s.state) answered ∙ same.state)
+    (λ later. begun-note later (same.state ∙ ready) awaited entry)
+    (λ k. ap (λ c. kept_by c k) entry.command)
+play-on {answer = Halted} new entry answered ready same awaited = absurd answered
+play-on {answer = Looked now at booked} new entry answered ready same awaited = absurd answered
 
 asks-play : {asking : Standing} {setup : Setup} {paused : Option Run} {prepared : Prepared} {outcome : Outcome}
-    (old new : Standing)
-    → IsAnswered asking (AskPlay prepared.plan) outcome new → old.state ≡ Ready setup paused → asking.state ≡ old.state
-    → asking.plays ≡ old.plays → asking.awaited ≡ Play prepared → CarriesOn old asking outcome new
-asks-play {outcome = Unasked} old new answered ready state plays awaited = absurd answered
-asks-play {outcome = Entered placed} old new answered ready state plays awaited =
-    play-on old new refl answered.0 answered.1 ready state plays awaited
-asks-play {outcome = WasFull more entries live} old new answered ready state plays awaited =
-    stays-on old new (ap (λ (s : Standing). s.plays) answered.0 ∙ plays) (ap (λ (s : Standing). s.state) answered.0 ∙ state)
+    {old : Standing} (new : Standing) → IsAnswered asking (AskPlay prepared.plan) outcome new →
+    old.state ≡ Ready setup paused → SameSession old asking → asking.awaited ≡ Play prepared →
+    CarriesOn old asking outcome new
+asks-play {outcome = Unasked} new answered ready same awaited = absurd answered
+asks-play {outcome = Entered placed} new answered ready same awaited =
+    play-on new (record { answer_is = refl; command = answered.0 }) answered.1 ready same awaited
+asks-play {outcome = WasFull more entries live} {old} new answered ready same awaited =
+    stays-on old new (ap (λ (s : Standing). s.plays) answered.0 ∙ same.plays) (ap (λ (s : Standing). s.state) answered.0 ∙ same.state)
     (λ later. refl) (λ k. refl)
-asks-play {outcome = Offered at_slot note} old new answered ready state plays awaited = absurd answered
+asks-play {outcome = Offered at_slot note} new answered ready same awaited = absurd answered
 
 -- a look
 no-play : (sequence : ℕ) (awaited : Awaited) → awaited ≡ Look sequence → (prepared : Prepared) → awaited ≡ Play prepared → ⊥
 no-play sequence awaited looks prepared asks = let no : Look sequence ≡ Play prepared = sym looks ∙ asks in cc no
 
-look-on : {asking : Standing} {placed : Placed} {sequence : ℕ} (old new : Standing) (answer : Answer) (slot : ℕ) → placed.entry.command ≡ look_at slot
-    → IsLookAnswered asking placed answer new → asking.state ≡ old.state → asking.plays ≡ old.plays → asking.awaited ≡ Look sequence
-    → CarriesOn old asking (Entered placed) new
-look-on {asking} {placed} {sequence} old new (Looked now at booked) slot command answered state plays awaited =
-    stays-on old new (ap (λ (s : Standing). s.plays) answered ∙ plays) (ap (λ (s : Standing). s.state) answered ∙ state)
-    (λ later. no-note asking.state asking.awaited placed later (no-play sequence asking.awaited awaited)) (λ k. ap (λ c. kept_by c k) command)
-look-on old new (Admitted start) slot command answered state plays awaited = absurd answered
-look-on old new (Overflow over booked asks) slot command answered state plays awaited = absurd answered
-look-on old new Halted slot command answered state plays awaited = absurd answered
+-- the look that a session asks for was entered, and so it was answered
+record LookEntered (asking : Standing) (placed : Placed) (answer : Answer) (new : Standing) : Type 0 where
+  slot : ℕ
+  command : placed.entry.command ≡ look_at slot
+  answered : IsLookAnswered asking placed answer new
 
-asks-look : {asking : Standing} {sequence : ℕ} {outcome : Outcome} (old new : Standing) (slot : ℕ) → IsAnswered asking (AskLook slot) outcome new → asking.state ≡ old.state
-    → asking.plays ≡ old.plays → asking.awaited ≡ Look sequence → CarriesOn old asking outcome new
-asks-look {outcome = Unasked} old new slot answered state plays awaited = absurd answered
-asks-look {outcome = Entered placed} old new slot answered state plays awaited =
-    look-on old new placed.entry.answer slot answered.0 answered.1 state plays awaited
-asks-look {outcome = WasFull more entries live} old new slot answered state plays awaited =
-    stays-on old new (ap (λ (s : Standing). s.plays) answered.0 ∙ plays) (ap (λ (s : Standing). s.state) answered.0 ∙ state)
+look-on : {asking : Standing} {placed : Placed} {sequence : ℕ} {old new : Standing} (answer : Answer) →
+    LookEntered asking placed answer new → SameSession old asking → asking.awaited ≡ Look sequence →
+    CarriesOn old asking (Entered placed) new
+look-on {asking} {placed} {sequence} {old} {new} (Looked now at booked) entered same awaited =
+    stays-on old new (ap (λ (s : Standing). s.plays) entered.answered ∙ same.plays) (ap (λ (s : Standing). s.state) entered.answered ∙ same.state)
+    (λ later. no-note asking.state asking.awaited placed later (no-play sequence asking.awaited awaited))
+    (λ k. ap (λ c. kept_by c k) entered.command)
+look-on (Admitted start) entered same awaited = absurd entered.answered
+look-on (Overflow over booked asks) entered same awaited = absurd entered.answered
+look-on Halted entered same awaited = absurd entered.answered
+
+asks-look : {asking : Standing} {sequence : ℕ} {outcome : Outcome} {old : Standing} (new : Standing) (slot : ℕ) →
+    IsAnswered asking (AskLook slot) outcome new → SameSession old asking → asking.awaited ≡ Look sequence →
+    CarriesOn old asking outcome new
+asks-look {outcome = Unasked} new slot answered same awaited = absurd answered
+asks-look {outcome = Entered placed} new slot answered same awaited =
+    look-on placed.entry.answer (record { slot = slot; command = answered.0; answered = answered.1 }) same awaited
+asks-look {outcome = WasFull more entries live} {old} new slot answered same awaited =
+    stays-on old new (ap (λ (s : Standing). s.plays) answered.0 ∙ same.plays) (ap (λ (s : Standing). s.state) answered.0 ∙ same.state)
     (λ later. refl) (λ k. refl)
-asks-look {outcome = Offered at_slot note} old new slot answered state plays awaited = absurd answered
+asks-look {outcome = Offered at_slot note} new slot answered same awaited = absurd answered
 
-asks-offer : {asking : Standing} {outcome : Outcome} (old new : Standing) (plan : List Segment) (offers : Offers) → IsAnswered asking (AskOffer plan offers) outcome new
-    → asking.state ≡ old.state → asking.plays ≡ old.plays → CarriesOn old asking outcome new
-asks-offer {outcome = Unasked} old new plan offers answered state plays = absurd answered
-asks-offer {outcome = Entered placed} old new plan offers answered state plays = absurd answered
-asks-offer {outcome = WasFull more entries live} old new plan offers answered state plays = absurd answered
-asks-offer {outcome = Offered at_slot note} old new plan offers answered state plays =
-    stays-on old new (ap (λ (s : Standing). s.plays) answered.2 ∙ plays) (ap (λ (s : Standing). s.state) answered.2 ∙ state)
+asks-offer : {asking : Standing} {outcome : Outcome} {old : Standing} (new : Standing) (plan : List Segment)
+    (offers : Offers) → IsAnswered asking (AskOffer plan offers) outcome new → SameSession old asking →
+    CarriesOn old asking outcome new
+asks-offer {outcome = Unasked} new plan offers answered same = absurd answered
+asks-offer {outcome = Entered placed} new plan offers answered same = absurd answered
+asks-offer {outcome = WasFull more entries live} new plan offers answered same = absurd answered
+asks-offer {outcome = Offered at_slot note} {old} new plan offers answered same =
+    stays-on old new (ap (λ (s : Standing). s.plays) answered.2 ∙ same.plays) (ap (λ (s : Standing). s.state) answered.2 ∙ same.state)
     (λ later. refl) (λ k. refl)
 
 -- a halt that a request asks for
@@ -277,17 +291,18 @@ no-halt-note {awaited} {keep} {next} state halts placed later =
     no-note state awaited placed later (λ prepared asks. let no : Halt keep next ≡ Play prepared = sym halts ∙ asks in cc no)
 
 asks-halt : {asking : Standing} {setup : Setup} {play : Played} {keep : ℕ} {next : Next} {outcome : Outcome}
-    (old new : Standing) → IsHalted asking keep outcome new
-    → old.state ≡ Playing setup play → asking.state ≡ Playing setup (record play { pacer = record play.pacer { keep = keep } }) → asking.plays ≡ old.plays
-    → asking.awaited ≡ Halt keep next → CarriesOn old asking outcome new
-asks-halt {asking} {setup} {play} {keep} {next} old new halted playing state plays awaited =
+    {old : Standing} (new : Standing) → IsHalted asking keep outcome new → asking.plays ≡ old.plays →
+    HaltAsked old asking setup play keep next → CarriesOn old asking outcome new
+asks-halt {asking} {setup} {play} {keep} {next} new halted plays asked =
     let stopped : Played = record play { pacer = record play.pacer { keep = keep } } in
     let K : State → Awaited → Type 0 = λ s a. IsKept s a keep in
     let kept : IsKept asking.state asking.awaited keep =
     subst (λ s. K s asking.awaited) (sym state) (subst (K (Playing setup stopped)) (sym awaited) refl) in
     carries-as (sym plays)
     (λ later. ap (λ s. open_note s later) playing ∙ sym (ap (λ s. open_note s later) state)) refl (λ later. refl)
-    (halt-turn asking new asking keep kept halted (no-halt-note asking.state awaited))
+    (halt-turn (record { keep = keep; new = new; halted = halted }) asking kept (no-halt-note asking.state awaited))
+  where
+    open asked use {playing, state, awaited}
 
 -- by what was asked
 answered-on : {old asking : Standing} {ask : Ask} {outcome : Outcome} (new : Standing) → IsAnswered asking ask outcome new → HearsAs old ask asking → CarriesOn old asking outcome new
@@ -298,17 +313,19 @@ answered-on {old} {asking} {ask} {outcome} new answered (SetsUp text setup init 
     replied-on old new (subst (λ a. IsAnswered asking a outcome new) ask_is answered) (ap (λ (s : Standing). s.plays) is)
     (λ later. ap (λ (s : Standing). open_note s.state later) is ∙ sym (ap (λ s. open_note s later) init))
 answered-on {old} {asking} {ask} {outcome} new answered (AsksPlay setup paused prepared text ready ask_is is) =
-    asks-play old new (subst (λ a. IsAnswered asking a outcome new) ask_is answered) ready
-    (ap (λ (s : Standing). s.state) is) (ap (λ (s : Standing). s.plays) is) (ap (λ (s : Standing). s.awaited) is)
+    asks-play {old = old} new (subst (λ a. IsAnswered asking a outcome new) ask_is answered) ready
+    (record { state = ap (λ (s : Standing). s.state) is; plays = ap (λ (s : Standing). s.plays) is })
+    (ap (λ (s : Standing). s.awaited) is)
 answered-on {old} {asking} {ask} {outcome} new answered (Stops setup play keep next text playing told keep_is ask_is is) =
-    asks-halt old new (subst (λ a. IsAnswered asking a outcome new) ask_is answered) playing
-    (ap (λ (s : Standing). s.state) is) (ap (λ (s : Standing). s.plays) is) (ap (λ (s : Standing). s.awaited) is)
+    asks-halt {old = old} new (subst (λ a. IsAnswered asking a outcome new) ask_is answered) (ap (λ (s : Standing). s.plays) is)
+    (record { playing = playing; state = ap (λ (s : Standing). s.state) is; awaited = ap (λ (s : Standing). s.awaited) is })
 answered-on {old} {asking} {ask} {outcome} new answered (AsksLook looks sequence ask_is is) =
-    asks-look old new old.heard (subst (λ a. IsAnswered asking a outcome new) ask_is answered)
-    (ap (λ (s : Standing). s.state) is) (ap (λ (s : Standing). s.plays) is) (ap (λ (s : Standing). s.awaited) is)
+    asks-look {old = old} new old.heard (subst (λ a. IsAnswered asking a outcome new) ask_is answered)
+    (record { state = ap (λ (s : Standing). s.state) is; plays = ap (λ (s : Standing). s.plays) is })
+    (ap (λ (s : Standing). s.awaited) is)
 answered-on {old} {asking} {ask} {outcome} new answered (AsksOffer plan offers sequence ask_is is) =
-    asks-offer old new plan offers (subst (λ a. IsAnswered asking a outcome new) ask_is answered)
-    (ap (λ (s : Standing). s.state) is) (ap (λ (s : Standing). s.plays) is)
+    asks-offer {old = old} new plan offers (subst (λ a. IsAnswered asking a outcome new) ask_is answered)
+    (record { state = ap (λ (s : Standing). s.state) is; plays = ap (λ (s : Standing). s.plays) is })
 
 pub heard-on : (old new : Standing) (message : List ℕ) (outcome : Outcome) (heard : HasHeard old message outcome new)
     → Carries old.plays old.state (turn_of heard.asking outcome ∷ []) new.plays new.state

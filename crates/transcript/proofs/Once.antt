@@ -152,13 +152,18 @@ answered_once {one} {other} old (AskOffer plan offers) (Entered placed) is also 
 answered_once {one} {other} old (AskOffer plan offers) (WasFull more entries live) is also = absurd is
 answered_once {one} {other} old (AskOffer plan offers) (Offered at_slot note) is also = also.2 ∙ sym is.2
 
+-- answers that begin with these two are the same
+pub record AnswersAlike (one other : Outcome) : Type 0 where
+  pub ones : List Outcome
+  pub others : List Outcome
+  pub same : AreSameAnswers (answer_in one ++ ones) (answer_in other ++ others)
+
 -- the same answer, and the same session after it
-pub answers_same : {new again : Standing} (old : Standing) (ask : Ask) (one other : Outcome)
-    (ones others : List Outcome) → IsAnswered old ask one new
-    → IsAnswered old ask other again → AreSameAnswers (answer_in one ++ ones) (answer_in other ++ others)
-    → (again ≡ new) × AreSameAnswers ones others
-answers_same {new} {again} old ask one other ones others is also same =
-    let both = outcomes_same ask ones others (outcome_of old ask one new is) (outcome_of old ask other again also) same in
+pub answers_same : {new again : Standing} {one other : Outcome} (old : Standing) (ask : Ask)
+    (alike : AnswersAlike one other) → IsAnswered old ask one new → IsAnswered old ask other again →
+    (again ≡ new) × AreSameAnswers alike.ones alike.others
+answers_same {new} {again} {one} {other} old ask alike is also =
+    let both = outcomes_same ask alike.ones alike.others (outcome_of old ask one new is) (outcome_of old ask other again also) alike.same in
     (answered_once old ask one is (subst (λ o. IsAnswered old ask o again) both.0 also), both.1)
 
 -- ---- a slot is taken up
@@ -169,30 +174,32 @@ unasked old (Entered placed) new is = absurd is
 unasked old (WasFull more entries live) new is = absurd is
 unasked old (Offered at_slot note) new is = absurd is
 
-finished_same : {new again : Standing} (asks : Awaits) (old : Standing) (one other : Outcome)
-    (ones others : List Outcome)
-    → IsFinished asks old one new → IsFinished asks old other again → AreSameAnswers (answer_in one ++ ones) (answer_in other ++ others)
-    → (again ≡ new) × AreSameAnswers ones others
-finished_same {new} {again} NoAnswer old one other ones others is also same =
+finished_same : {new again : Standing} {one other : Outcome} (asks : Awaits) (old : Standing)
+    (alike : AnswersAlike one other) → IsFinished asks old one new → IsFinished asks old other again →
+    (again ≡ new) × AreSameAnswers alike.ones alike.others
+finished_same {new} {again} {one} {other} NoAnswer old alike is also =
     let first = unasked old one new is in
     let second = unasked old other again also in (
       second.1 ∙ sym first.1,
       subst (λ o. AreSameAnswers (answer_in o ++ ones) others) first.0
           (subst (λ o. AreSameAnswers (answer_in one ++ ones) (answer_in o ++ others)) second.0 same),
     )
-finished_same {new} (PlayAnswer plan) old one other ones others is also same = absurd is
-finished_same {new} {again} (HaltAnswer keep) old one other ones others is also same =
-    let both = heads_same ones others (halted_answer old keep one new is) (halted_answer old keep other again also) same in
+  where
+    open alike use {ones, others, same}
+finished_same {new} (PlayAnswer plan) old alike is also = absurd is
+finished_same {new} {again} {one} {other} (HaltAnswer keep) old alike is also =
+    let both = heads_same alike.ones alike.others (halted_answer old keep one new is) (halted_answer old keep other again also) alike.same in
     (halted_once old keep one is (subst (λ o. IsHalted old keep o again) both.0 also), both.1)
-finished_same {new} LookAnswer old one other ones others is also same = absurd is
-finished_same {new} OfferAnswer old one other ones others is also same = absurd is
+finished_same {new} LookAnswer old alike is also = absurd is
+finished_same {new} OfferAnswer old alike is also = absurd is
 
 pub steps_same : {old : Standing} {slot : ℕ} {due sent : List Part} {one other : Outcome} {new again : Standing}
     (ones others : List Outcome)
     → HasStepped old slot due one new → HasStepped old slot sent other again → AreSameAnswers (answer_in one ++ ones) (answer_in other ++ others)
     → (sent ≡ due) × (again ≡ new) × AreSameAnswers ones others
 steps_same {old} {slot} {one} {other} {new} ones others is also same =
-    let both = finished_same (awaited_answer (after_slot old slot)) (after_slot old slot) one other ones others is.finished also.finished same in
+    let both = finished_same (awaited_answer (after_slot old slot)) (after_slot old slot)
+    (record { ones = ones; others = others; same = same }) is.finished also.finished in
     (also.parts_are ∙ sym is.parts_are, both.0, both.1)
 
 -- ---- the films stay

@@ -21,6 +21,7 @@ use Rattle.conn.specs.declared.reports.ConnEnd.{ConnEnd}
 use Rattle.conn.specs.declared.reports.ConnEnd.TheVariants.{Ended, TornDown, LinkFault, TooMuchInput, HeadTooLong, BodyTooLong, TurnsSpent, NoMemory}
 use Rattle.transcript.specs.Cuttings.{AllLackAlike, AreSameAnswers, Hearing, IsDone, LackAlike, answer_in, answers_in, takings_hearings}
 use Rattle.transcript.proofs.Once.{answered_films, answers_same, hearing, hears_same, replied_films}
+use Rattle.transcript.proofs.Once.{AnswersAlike}
 
 -- a request that was taken up, what was asked, and what came of it
 pub record Turn : Type 0 where
@@ -97,9 +98,17 @@ pieces_hearings (Taken turn ∷ pieces) = hearing turn.session turn.message turn
 
 -- ---- joined, and with more input
 
-pub join_goes : (a b c : Stage) (xs ys : List Piece) → GoesAll a xs b → GoesAll b ys c → GoesAll a (xs ++ ys) c
-join_goes a b c [] ys goes after = subst (λ s. GoesAll s ys c) goes after
-join_goes a b c (x ∷ xs) ys goes after = (goes.0, (goes.1.0, join_goes goes.0 b c xs ys goes.1.1 after))
+-- pieces that are taken up from a stage on
+pub record LaterPieces : Type 0 where
+  pub old : Stage
+  pub new : Stage
+  pub pieces : List Piece
+  pub leads : GoesAll old pieces new
+
+pub join_goes : (a : Stage) (later : LaterPieces) (xs : List Piece) → GoesAll a xs later.old →
+    GoesAll a (xs ++ later.pieces) later.new
+join_goes a later [] goes = subst (λ s. GoesAll s later.pieces later.new) goes later.leads
+join_goes a later (x ∷ xs) goes = (goes.0, (goes.1.0, join_goes goes.0 later xs goes.1.1))
 
 pub join_bytes : (xs ys : List Piece) → pieces_bytes (xs ++ ys) ≡ pieces_bytes xs ++ pieces_bytes ys
 join_bytes [] ys = refl
@@ -181,7 +190,7 @@ path_then : {a b c : Stage} {first second : List ℕ} {one two : List Outcome} {
     → Path b c second two later → Path a c (first ++ second) (one ++ two) (heard ++ later)
 path_then {a} {b} {c} {first} {second} {one} {heard} {later} path after = record {
   pieces = path.pieces ++ after.pieces;
-  goes = join_goes a b c path.pieces after.pieces path.goes after.goes;
+  goes = join_goes a (record { old = b; new = c; pieces = after.pieces; leads = after.goes }) path.pieces path.goes;
   bytes_are = join_bytes path.pieces after.pieces ∙ ap (λ bs. bs ++ pieces_bytes after.pieces) path.bytes_are ∙ ap (λ bs. first ++ bs) after.bytes_are;
   answers_are = join_answers path.pieces after.pieces ∙ ap (λ os. os ++ pieces_answers after.pieces) path.answers_are
       ∙ ap (λ os. one ++ os) after.answers_are;
@@ -301,32 +310,43 @@ message_same : (old : Stage) (one other : List ℕ) → IsNext old one → IsNex
 message_same old one other is also =
     also.message_is ∙ ap (λ n. take n old.input) (total_once old.input (length other) (length one) also.first.1 is.first.1) ∙ sym is.message_is
 
-lacks_same : {session s r : Standing} {message m k : List ℕ} (ask again : Ask) (asking other : Standing) → s ≡ session → r ≡ session → m ≡ message → k ≡ message
-    → LackAlike (hearing s m ask asking) (hearing r k again other) → LackAlike (hearing session message ask asking) (hearing session message again other)
-lacks_same {session} {s} {r} {message} {m} ask again asking other one two three four alike =
-    subst (λ z. LackAlike (hearing z message ask asking) (hearing session message again other)) one
-    (subst (λ z. LackAlike (hearing s message ask asking) (hearing z message again other)) two
-    (subst (λ z. LackAlike (hearing s z ask asking) (hearing r message again other)) three
-    (subst (λ z. LackAlike (hearing s m ask asking) (hearing r z again other)) four alike)))
+-- two hearings that are the one of a session and a message
+record SameHearing (session s r : Standing) (message m k : List ℕ) : Type 0 where
+  session_is : s ≡ session
+  also_session : r ≡ session
+  message_is : m ≡ message
+  also_message : k ≡ message
+
+lacks_same : {session s r : Standing} {message m k : List ℕ} (ask again : Ask) (asking other : Standing) →
+    SameHearing session s r message m k → LackAlike (hearing s m ask asking) (hearing r k again other) →
+    LackAlike (hearing session message ask asking) (hearing session message again other)
+lacks_same {session} {s} {r} {message} {m} ask again asking other same alike =
+    subst (λ z. LackAlike (hearing z message ask asking) (hearing session message again other)) same.session_is
+    (subst (λ z. LackAlike (hearing s message ask asking) (hearing z message again other)) same.also_session
+    (subst (λ z. LackAlike (hearing s z ask asking) (hearing r message again other)) same.message_is
+    (subst (λ z. LackAlike (hearing s m ask asking) (hearing r z again other)) same.also_message alike)))
 
 stages_same : (a b : Standing) (x y : List ℕ) → a ≡ b → x ≡ y → stage a x ≡ stage b y
 stages_same a b x y one two = ap (λ s. stage s x) one ∙ ap (λ input. stage b input) two
 
-turns_same : {old one other : Stage} {turn again : Turn} (ones others : List Outcome) → AreFilms old.session.films
-    → IsTaken old turn one → IsTaken old again other
-    → LackAlike (hearing turn.session turn.message turn.ask turn.asking) (hearing again.session again.message again.ask again.asking)
-    → AreSameAnswers (answer_in turn.outcome ++ ones) (answer_in again.outcome ++ others)
-    → (other ≡ one) × (parts_bytes (reply_parts again.answered) ≡ parts_bytes (reply_parts turn.answered)) × AreSameAnswers ones others
-turns_same {old} {one} {other} {turn} {again} ones others films taken also alike answers =
+turns_same : {old one other : Stage} {turn again : Turn} (given : AnswersAlike turn.outcome again.outcome) →
+    AreFilms old.session.films → IsTaken old turn one → IsTaken old again other →
+    LackAlike (hearing turn.session turn.message turn.ask turn.asking) (hearing again.session again.message again.ask again.asking) →
+    (other ≡ one) × (parts_bytes (reply_parts again.answered) ≡ parts_bytes (reply_parts turn.answered)) × AreSameAnswers given.ones given.others
+turns_same {old} {one} {other} {turn} {again} given films taken also alike =
     let message : again.message ≡ turn.message = message_same old turn.message again.message taken.next also.next in
     let heard = hears_same films taken.hears
     (subst (λ m. Hears old.session m again.ask again.asking) message also.hears)
-    (lacks_same turn.ask again.ask turn.asking again.asking
-    taken.session_is also.session_is refl message alike) in
+    (lacks_same turn.ask again.ask turn.asking again.asking (record {
+      session_is = taken.session_is;
+      also_session = also.session_is;
+      message_is = refl;
+      also_message = message;
+    }) alike) in
     let answered : IsAnswered turn.asking turn.ask again.outcome again.answered =
     subst (λ a. IsAnswered turn.asking a again.outcome again.answered) heard.0
     (subst (λ s. IsAnswered s again.ask again.outcome again.answered) heard.1 also.answered) in
-    let both = answers_same turn.asking turn.ask turn.outcome again.outcome ones others taken.answered answered answers in (
+    let both = answers_same turn.asking turn.ask given taken.answered answered in (
       also.new_is
           ∙ stages_same (after_reply again.answered) (after_reply turn.answered) (drop (length again.message) old.input) (drop (length turn.message) old.input)
           (ap after_reply both.0) (ap (λ (m : List ℕ). drop (length m) old.input) message)
@@ -335,39 +355,58 @@ turns_same {old} {one} {other} {turn} {again} ones others films taken also alike
       both.1,
     )
 
-pub ends_same : {one other : Stage} {ones others : List Outcome} {heard also : List Hearing} (old : Stage)
-    (xs ys : List Piece)
-    → AreFilms old.session.films → GoesAll old xs one → GoesAll old ys other → IsDone one → IsDone other
-    → AreSameAnswers (pieces_answers xs ++ ones) (pieces_answers ys ++ others)
-    → AllLackAlike (pieces_hearings xs ++ heard) (pieces_hearings ys ++ also)
-    → SameEnds one other (pieces_bytes xs) (pieces_bytes ys) ones others heard also
-ends_same {one} {other} old [] [] films goes too done stops answers memory =
-    record { last = too ∙ sym goes; bytes = refl; answers = answers; memory = memory }
-ends_same {one} {other} old [] (y ∷ ys) films goes too done stops answers memory =
-    absurd (done_goes old too.0 y (subst IsDone goes done) too.1.0)
-ends_same {one} {other} old (x ∷ xs) [] films goes too done stops answers memory =
-    absurd (done_goes old goes.0 x (subst IsDone too stops) goes.1.0)
-ends_same {one} {other} old (Over n ∷ xs) (Over m ∷ ys) films goes too done stops answers memory =
+-- these pieces lead from a stage to one at which nothing more can be taken up
+pub record PathDone (old : Stage) (xs : List Piece) (one : Stage) : Type 0 where
+  pub goes : GoesAll old xs one
+  pub done : IsDone one
+
+-- two paths that go on with the same answers, and that lack memory alike
+pub record PathsAlike (xs ys : List Piece) (ones others : List Outcome) (heard also : List Hearing) : Type 0 where
+  pub answers : AreSameAnswers (pieces_answers xs ++ ones) (pieces_answers ys ++ others)
+  pub memory : AllLackAlike (pieces_hearings xs ++ heard) (pieces_hearings ys ++ also)
+
+pub ends_same : {one other : Stage} {ones others : List Outcome} {heard also : List Hearing} {old : Stage}
+    (xs ys : List Piece) → AreFilms old.session.films → PathDone old xs one → PathDone old ys other →
+    PathsAlike xs ys ones others heard also →
+    SameEnds one other (pieces_bytes xs) (pieces_bytes ys) ones others heard also
+ends_same {one} {other} [] [] films way other_way alike =
+    record { last = other_way.goes ∙ sym way.goes; bytes = refl; answers = alike.answers; memory = alike.memory }
+ends_same {one} {other} {old} [] (y ∷ ys) films way other_way alike =
+    absurd (done_goes old other_way.goes.0 y (subst IsDone way.goes way.done) other_way.goes.1.0)
+ends_same {one} {other} {old} (x ∷ xs) [] films way other_way alike =
+    absurd (done_goes old way.goes.0 x (subst IsDone other_way.goes other_way.done) way.goes.1.0)
+ends_same {one} {other} {old} (Over n ∷ xs) (Over m ∷ ys) films way other_way alike =
     let mid : Stage = goes.0 in
     let size : m ≡ n = piece_once old.input m n (over_piece old.input m too.1.0.over) (over_piece old.input n goes.1.0.over) in
     let same : too.0 ≡ mid = too.1.0.new_is ∙ ap (λ k. stage old.session (drop k old.input)) size ∙ sym goes.1.0.new_is in
     let kept : AreFilms mid.session.films = subst AreFilms (sym (ap (λ (s : Stage). s.session.films) goes.1.0.new_is)) films in
-    ends_same mid xs ys kept goes.1.1 (subst (λ s. GoesAll s ys other) same too.1.1) done stops answers memory
-ends_same {one} {other} old (Over n ∷ xs) (Taken turn ∷ ys) films goes too done stops answers memory =
-    absurd (over_no_request old.input n goes.1.0.over too.1.0.next.first.0)
-ends_same {one} {other} old (Taken turn ∷ xs) (Over m ∷ ys) films goes too done stops answers memory =
-    absurd (over_no_request old.input m too.1.0.over goes.1.0.next.first.0)
-ends_same {one} {other} {ones} {others} old (Taken turn ∷ xs) (Taken again ∷ ys) films goes too done stops answers memory =
+    ends_same xs ys kept (record { goes = goes.1.1; done = done })
+    (record { goes = subst (λ s. GoesAll s ys other) same too.1.1; done = stops })
+    (record { answers = alike.answers; memory = alike.memory })
+  where
+    open way use {goes, done}
+    open other_way use {goes as too, done as stops}
+ends_same {one} {other} {old} (Over n ∷ xs) (Taken turn ∷ ys) films way other_way alike =
+    absurd (over_no_request old.input n way.goes.1.0.over other_way.goes.1.0.next.first.0)
+ends_same {one} {other} {old} (Taken turn ∷ xs) (Over m ∷ ys) films way other_way alike =
+    absurd (over_no_request old.input m other_way.goes.1.0.over way.goes.1.0.next.first.0)
+ends_same {one} {other} {ones} {others} {old} (Taken turn ∷ xs) (Taken again ∷ ys) films way other_way alike =
     let mid : Stage = goes.0 in
     let split : AreSameAnswers (answer_in turn.outcome ++ (pieces_answers xs ++ ones)) (answer_in again.outcome ++ (pieces_answers ys ++ others)) =
     subst (λ os. AreSameAnswers os (answer_in again.outcome ++ (pieces_answers ys ++ others))) (append_assoc (answer_in turn.outcome) (pieces_answers xs) ones)
     (subst (λ os. AreSameAnswers ((answer_in turn.outcome ++ pieces_answers xs) ++ ones) os) (append_assoc (answer_in again.outcome) (pieces_answers ys) others) answers) in
-    let both = turns_same (pieces_answers xs ++ ones) (pieces_answers ys ++ others) films goes.1.0 too.1.0 memory.0 split in
+    let both = turns_same (record { ones = pieces_answers xs ++ ones; others = pieces_answers ys ++ others; same = split }) films
+    goes.1.0 other_way.goes.1.0 memory.0 in
     let kept : AreFilms mid.session.films = subst AreFilms (sym (taken_films old mid turn goes.1.0)) films in
-    let rest = ends_same mid xs ys kept goes.1.1 (subst (λ s. GoesAll s ys other) both.0 too.1.1) done stops both.2 memory.1 in
+    let rest = ends_same xs ys kept (record { goes = goes.1.1; done = done })
+    (record { goes = subst (λ s. GoesAll s ys other) both.0 other_way.goes.1.1; done = other_way.done })
+    (record { answers = both.2; memory = memory.1 }) in
     record {
       last = rest.last;
       bytes = ap (λ bs. bs ++ pieces_bytes ys) both.1 ∙ ap (λ bs. parts_bytes (reply_parts turn.answered) ++ bs) rest.bytes;
       answers = rest.answers;
       memory = rest.memory;
     }
+  where
+    open way use {goes, done}
+    open alike use {answers, memory}

@@ -29,17 +29,33 @@ use Rattle.transcript.proofs.Waits.{Fits, GoesTo, IsHeld, Stand, after_slot, at_
 
 -- ---- a request is answered
 
-still_stand : {asked : Awaited} {outcome : Outcome} (sends : Sends) (pending : Option ℕ) (askings : List Asking)
-    (end : ℕ) (slots : List ℕ) (parts : List Part) → IsStill asked outcome → Stand sends pending askings end slots parts → Stand sends pending (Asks asked outcome ∷ askings) end slots parts
-still_stand Idle None askings end slots parts still stand =
+-- what is left of a course: what is asked, its last slot, its slots and what is sent
+record LaterCourse : Type 0 where
+  askings : List Asking
+  end : ℕ
+  slots : List ℕ
+  parts : List Part
+
+still_stand : {asked : Awaited} {outcome : Outcome} (sends : Sends) (pending : Option ℕ) (later : LaterCourse) →
+    IsStill asked outcome → Stand sends pending later.askings later.end later.slots later.parts →
+    Stand sends pending (Asks asked outcome ∷ later.askings) later.end later.slots later.parts
+still_stand Idle None later still stand =
     subst (λ ps. AreSentAt end (ps ++ plays_of askings) slots (placed_texts 0 parts)) (sym (still.none askings)) stand
-still_stand Idle (Some slot) askings end slots parts still stand =
+  where
+    open later use {askings, end, slots, parts}
+still_stand Idle (Some slot) later still stand =
     subst (λ ps. AreSentAt end (ps ++ plays_of askings) (slot ∷ slots) (placed_texts 0 parts)) (sym (still.none askings)) stand
-still_stand {outcome} (Going p) pending askings end slots parts still stand =
+  where
+    open later use {askings, end, slots, parts}
+still_stand {outcome} (Going p) pending later still stand =
     subst (λ ps. StandAt p (kept_with outcome (kept_in askings (total_bytes p.plan))) pending (ps ++ plays_of askings) end slots parts) (sym (still.none askings))
     (subst (λ k. StandAt p k pending (plays_of askings) end slots parts) (sym (still.kept (kept_in askings (total_bytes p.plan)))) stand)
-still_stand (Ending p) pending askings end slots parts still stand =
+  where
+    open later use {askings, end, slots, parts}
+still_stand (Ending p) pending later still stand =
     subst (λ ps. StandAt p p.keep pending (ps ++ plays_of askings) end slots parts) (sym (still.none askings)) stand
+  where
+    open later use {askings, end, slots, parts}
 
 pub still_fits : {sends : Sends} {heard : ℕ} {pending : Option ℕ} {asked : Awaited} {outcome : Outcome}
     {askings : List Asking} {end : ℕ} {slots : List ℕ} {parts : List Part} → IsStill asked outcome → Fits sends heard pending askings end slots parts
@@ -47,7 +63,7 @@ pub still_fits : {sends : Sends} {heard : ℕ} {pending : Option ℕ} {asked : A
 still_fits {sends} {heard} {pending} {askings} {end} {slots} {parts} still fits = record {
   from = fits.from;
   later = subst (λ ps. AreLater heard (ps ++ plays_of askings)) (sym (still.none askings)) fits.later;
-  stand = still_stand sends pending askings end slots parts still fits.stand;
+  stand = still_stand sends pending (record { askings = askings; end = end; slots = slots; parts = parts }) still fits.stand;
 }
 
 -- its reply is in hand
@@ -55,18 +71,19 @@ in_hand : {p : Pacing} {keep slot : ℕ} {plays : List FilmPlay} {end : ℕ} {sl
     → StandAt p keep (Some slot) plays end slots parts → StandAt p keep None plays end (slot ∷ slots) parts
 in_hand {p} {slot} {end} stand = record { holds = stand.holds; sent = stand.sent }
 
-in_hand_of : (sends : Sends) (slot : ℕ) (askings : List Asking) (end : ℕ) (slots : List ℕ) (parts : List Part)
-    → Stand sends (Some slot) askings end slots parts → Stand sends None askings end (slot ∷ slots) parts
-in_hand_of Idle slot askings end slots parts stand = stand
-in_hand_of (Going p) slot askings end slots parts stand = in_hand stand
-in_hand_of (Ending p) slot askings end slots parts stand = in_hand stand
+in_hand_of : (sends : Sends) (slot : ℕ) (later : LaterCourse) →
+    Stand sends (Some slot) later.askings later.end later.slots later.parts →
+    Stand sends None later.askings later.end (slot ∷ later.slots) later.parts
+in_hand_of Idle slot later stand = stand
+in_hand_of (Going p) slot later stand = in_hand stand
+in_hand_of (Ending p) slot later stand = in_hand stand
 
 taken_fits : {sends : Sends} {heard : ℕ} {askings : List Asking} {end : ℕ} {slots : List ℕ} {parts : List Part}
     → Fits sends heard (Some heard) askings end slots parts → Fits sends heard None askings end (heard ∷ slots) parts
 taken_fits {sends} {heard} {askings} {end} {slots} {parts} fits = record {
   from = (omega arith, fits.from);
   later = fits.later;
-  stand = in_hand_of sends heard askings end slots parts fits.stand;
+  stand = in_hand_of sends heard (record { askings = askings; end = end; slots = slots; parts = parts }) fits.stand;
 }
 
 abbrev play_for : Prepared → ℕ → List Segment → ℕ → FilmPlay
@@ -78,12 +95,15 @@ play_for prepared start plan keep = record {
   pieces = run_pieces prepared.frames;
 }
 
-begin_stand : {plan : List Segment} (prepared : Prepared) (start : ℕ) (askings : List Asking) (end : ℕ)
-    (slots : List ℕ) (parts : List Part)
-    → prepared.paced ≡ plan → AreSentAt end (play_for prepared start prepared.paced (kept_in askings (total_bytes prepared.paced)) ∷ plays_of askings) slots (placed_texts 0 parts)
-    → AreSentAt end (play_for prepared start plan (kept_in askings (total_bytes plan)) ∷ plays_of askings) slots (placed_texts 0 parts)
-begin_stand prepared start askings end slots parts same sent =
+begin_stand : {plan : List Segment} (prepared : Prepared) (start : ℕ) (later : LaterCourse) → prepared.paced ≡ plan →
+    AreSentAt later.end (play_for prepared start prepared.paced (kept_in later.askings (total_bytes prepared.paced)) ∷ plays_of
+    later.askings) later.slots (placed_texts 0 later.parts) →
+    AreSentAt later.end (play_for prepared start plan (kept_in later.askings (total_bytes plan)) ∷ plays_of later.askings) later.slots
+    (placed_texts 0 later.parts)
+begin_stand prepared start later same sent =
     subst (λ pl. AreSentAt end (play_for prepared start pl (kept_in askings (total_bytes pl)) ∷ plays_of askings) slots (placed_texts 0 parts)) same sent
+  where
+    open later use {askings, end, slots, parts}
 
 begun_is : (old new : Standing) (asked : Awaited) (outcome : Outcome) (begins : Begins old asked outcome new) (askings : List Asking)
     → plays_begun asked outcome askings ≡ play_for begins.prepared begins.start begins.prepared.plan (kept_in askings (total_bytes begins.prepared.plan)) ∷ []
@@ -105,7 +125,12 @@ begin_fits {old} {new} {asked} {outcome} {askings} {end} {slots} {parts} begins 
       later = subst (λ ps. AreLater old.heard (ps ++ plays_of askings)) (sym made)
           (record { starts = (begins.later, fits.later.starts); begins = inl (omega arith, starts) });
       stand = subst (λ ps. AreSentAt end (ps ++ plays_of askings) (old.heard ∷ slots) (placed_texts 0 parts)) (sym made)
-          (begin_stand begins.prepared begins.start askings end (old.heard ∷ slots) parts begins.paced fits.stand.sent);
+          (begin_stand begins.prepared begins.start (record {
+            askings = askings;
+            end = end;
+            slots = old.heard ∷ slots;
+            parts = parts;
+          }) begins.paced fits.stand.sent);
     }
 
 halt_fits : {old new : Standing} {asked : Awaited} {outcome : Outcome} {askings : List Asking} {end : ℕ}
@@ -256,8 +281,11 @@ going_slot {p} {heard} {slot} waits text sound later held = record {
   rest = λ askings end more rest on fits. record {
     from = from_lower heard slot more (omega (arith, later)) fits.from;
     later = later_lower heard slot (plays_of askings) (omega (arith, later)) fits.later;
-    stand = slot_at waits text
-        sound.0 later on refl held (λ taken less. due_going p taken (kept_in askings (total_bytes p.plan)) sound.0.pacing sound.1 less) fits.later fits.stand;
+    stand = slot_at waits text (record { on = sound.0; later = later; ends = on; stands = refl }) held
+        (record {
+          due = λ taken less. due_going p taken (kept_in askings (total_bytes p.plan)) sound.0.pacing sound.1 less;
+          later_plays = fits.later;
+        }) fits.stand;
   };
 }
 
@@ -336,8 +364,8 @@ ending_slot {p} {heard} {slot} {pending} text sound later held =
           record {
             from = from_lower heard slot more (omega (arith, later)) fits.from;
             later = later_lower heard slot (plays_of askings) (omega (arith, later)) fits.later;
-            stand = slot_at true text sound.0 later on refl (as_going p heard pending held)
-                (λ taken less. refl) fits.later whole.stand;
+            stand = slot_at true text (record { on = sound.0; later = later; ends = on; stands = refl })
+                (as_going p heard pending held) (record { due = λ taken less. refl; later_plays = fits.later }) whole.stand;
           };
     }
 
@@ -350,7 +378,13 @@ slot_moves {state = Playing setup play} {waits} {heard} {slot} {text} {pending} 
     let one : Pacing = after_step true slot p in
     let between : Bool = stands_at_boundary one in
     let sends : sends_in (state_after waits (Playing setup play) slot) ≡ Going (sent_through slot p) =
-    going_cases waits between setup play (after_step false slot one) one (after_step false slot p) ∙ ap Going (slot_is waits between slot p sound.0.pacing refl) in
+    going_cases waits between (record {
+      setup = setup;
+      play = play;
+      both = after_step false slot one;
+      front = one;
+      plain = after_step false slot p;
+    }) ∙ ap Going (slot_is waits between slot p sound.0.pacing refl) in
     record {
       after = after_slot between pending;
       held = subst (λ s. IsHeld (after_slot between pending) s (waits_after waits (Playing setup play) slot) slot) (sym sends)

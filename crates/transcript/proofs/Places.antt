@@ -124,62 +124,79 @@ past_due : (play : FilmPlay) (plays : List FilmPlay) (from slot : ℕ) → IsOve
     → all_due slot (play ∷ plays) ≡ play.keep + all_due slot plays
 past_due play plays from slot is later = let own = is.over slot later in due_cons slot play plays ∙ omega (arith, own)
 
-past_unsent : {play : FilmPlay} {from end slot place : ℕ} (plays : List FilmPlay) → IsOver play from → from ≤ slot → from ≤ end → IsBoundaryIn plays 0
-    → IsUnsentAt end plays slot → IsBoundaryIn (play ∷ plays) place → all_due slot (play ∷ plays) ≤ place → all_due end (play ∷ plays) < place
-past_unsent {play} {from} {end} {slot} {place} plays is later ends begins none (inl own) due =
-    let first = past_due play plays from slot is later in
+-- a play that is over, and plays after it that begin at a boundary
+record PlayOver (play : FilmPlay) (from : ℕ) (plays : List FilmPlay) : Type 0 where
+  is_over : IsOver play from
+  begins : IsBoundaryIn plays 0
+
+past_unsent : {play : FilmPlay} {from end slot place : ℕ} {plays : List FilmPlay} → from ≤ slot → from ≤ end →
+    PlayOver play from plays → IsUnsentAt end plays slot → IsBoundaryIn (play ∷ plays) place →
+    all_due slot (play ∷ plays) ≤ place → all_due end (play ∷ plays) < place
+past_unsent {play} {from} {end} {slot} {place} {plays} later ends over none (inl own) due =
+    let first = past_due play plays from slot over.is_over later in
     let nothing : all_due slot plays ≤ 0 = omega (arith, first, due, own.0) in
-    let bad = none 0 begins nothing in
+    let bad = none 0 over.begins nothing in
     absurd (omega (arith, bad))
-past_unsent {play} {from} {end} {slot} {place} plays is later ends begins none (inr past) due =
-    let first = past_due play plays from slot is later in
-    let last = past_due play plays from end is ends in
+past_unsent {play} {from} {end} {slot} {place} {plays} later ends over none (inr past) due =
+    let first = past_due play plays from slot over.is_over later in
+    let last = past_due play plays from end over.is_over ends in
     let less = none (place - play.keep) past.1 (omega (arith, first, due, past.0)) in
     omega (arith, last, less)
 
-past_least : {play : FilmPlay} {plays : List FilmPlay} {from at other : ℕ} (slot : ℕ) → IsOver play from → from ≤ slot → IsBoundaryIn plays 0
-    → IsNextIn plays (all_due slot plays) at → all_due slot (play ∷ plays) ≤ other → IsBoundaryIn (play ∷ plays) other → play.keep + at ≤ other
-past_least {play} {plays} {from} {at} {other} slot is later begins next due (inl own) =
-    let first = past_due play plays from slot is later in
-    let here = next.least 0 begins (omega (arith, first, due, own.0)) in
+past_least : {play : FilmPlay} {plays : List FilmPlay} {from at other : ℕ} (slot : ℕ) → from ≤ slot →
+    PlayOver play from plays → IsNextIn plays (all_due slot plays) at → all_due slot (play ∷ plays) ≤ other →
+    IsBoundaryIn (play ∷ plays) other → play.keep + at ≤ other
+past_least {play} {plays} {from} {at} {other} slot later over next due (inl own) =
+    let first = past_due play plays from slot over.is_over later in
+    let here = next.least 0 over.begins (omega (arith, first, due, own.0)) in
     omega (arith, here, first, due)
-past_least {play} {plays} {from} {at} {other} slot is later begins next due (inr past) =
-    let first = past_due play plays from slot is later in
+past_least {play} {plays} {from} {at} {other} slot later over next due (inr past) =
+    let first = past_due play plays from slot over.is_over later in
     let least = next.least (other - play.keep) past.1 (omega (arith, first, due, past.0)) in
     omega (arith, least, past.0)
 
-past_sent : {play : FilmPlay} {plays : List FilmPlay} {from end slot : ℕ} (at : ℕ) (text : List ℕ) → IsOver play from → from ≤ slot → from ≤ end → IsBoundaryIn plays 0
-    → IsSentAt end plays slot (placed_text at text) → IsSentAt end (play ∷ plays) slot (placed_text (play.keep + at) text)
-past_sent {play} {plays} {from} {end} {slot} at text is later ends begins sent =
-    let first = past_due play plays from slot is later in
-    let last = past_due play plays from end is ends in
+past_sent : {play : FilmPlay} {plays : List FilmPlay} {from end slot : ℕ} (at : ℕ) (text : List ℕ) → from ≤ slot →
+    from ≤ end → PlayOver play from plays → IsSentAt end plays slot (placed_text at text) →
+    IsSentAt end (play ∷ plays) slot (placed_text (play.keep + at) text)
+past_sent {play} {plays} {from} {end} {slot} at text later ends over sent =
+    let first = past_due play plays from slot over.is_over later in
+    let last = past_due play plays from end over.is_over ends in
     record {
       next = record {
         boundary = inr (omega arith, subst (IsBoundaryIn plays) (omega arith) sent.next.boundary);
         after = omega (arith, first, sent.next.after);
-        least = λ other boundary due. past_least slot is later begins sent.next due boundary;
+        least = λ other boundary due. past_least slot later over sent.next due boundary;
       };
       reached = omega (arith, last, sent.reached);
     }
 
-past_all : {play : FilmPlay} {from end : ℕ} (plays : List FilmPlay) (at : ℕ) (slots : List ℕ) (parts : List Part) → IsOver play from → from ≤ end
-    → AreFrom from slots → IsBoundaryIn plays 0 → AreSentAt end plays slots (placed_texts at parts)
-    → AreSentAt end (play ∷ plays) slots (placed_texts (play.keep + at) parts)
-past_all {from} {end} plays at [] [] is ends are begins sent = tt
-past_all {from} {end} plays at (slot ∷ slots) [] is ends are begins sent = (
-  λ place boundary due. past_unsent plays is are.0 ends begins sent.0 boundary due,
-  past_all plays at slots [] is ends are.1 begins sent.1,
+-- slots from one on that is no later than the end
+record SlotsWithin (from end : ℕ) (slots : List ℕ) : Type 0 where
+  ends : from ≤ end
+  from_on : AreFrom from slots
+
+past_all : {play : FilmPlay} {from end : ℕ} {plays : List FilmPlay} (at : ℕ) (slots : List ℕ) (parts : List Part) →
+    SlotsWithin from end slots → PlayOver play from plays → AreSentAt end plays slots (placed_texts at parts) →
+    AreSentAt end (play ∷ plays) slots (placed_texts (play.keep + at) parts)
+past_all {from} {end} at [] [] within over sent = tt
+past_all {from} {end} {plays} at (slot ∷ slots) [] within over sent = (
+  λ place boundary due. past_unsent are.0 ends over sent.0 boundary due,
+  past_all at slots [] (record { ends = ends; from_on = are.1 }) over sent.1,
 )
-past_all {play} {from} {end} plays at slots (Film bytes ∷ parts) is ends are begins sent =
+  where
+    open within use {ends, from_on as are}
+past_all {play} {from} {end} {plays} at slots (Film bytes ∷ parts) within over sent =
     let n : ℕ = length bytes in
     let same : play.keep + (at + n) ≡ play.keep + at + n = omega arith in
     subst (λ m. AreSentAt end (play ∷ plays) slots (placed_texts m parts)) same
-    (past_all plays (at + n) slots parts is ends are begins sent)
-past_all {from} {end} plays at [] (Text text ∷ parts) is ends are begins sent = absurd sent
-past_all {from} {end} plays at (slot ∷ slots) (Text text ∷ parts) is ends are begins sent = (
-  past_sent at text is are.0 ends begins sent.0,
-  past_all plays at slots parts is ends are.1 begins sent.1,
+    (past_all (at + n) slots parts within over sent)
+past_all {from} {end} at [] (Text text ∷ parts) within over sent = absurd sent
+past_all {from} {end} {plays} at (slot ∷ slots) (Text text ∷ parts) within over sent = (
+  past_sent at text are.0 ends over sent.0,
+  past_all at slots parts (record { ends = ends; from_on = are.1 }) over sent.1,
 )
+  where
+    open within use {ends, from_on as are}
 
 stays_due : {p : Pacing} {heard keep : ℕ} (slot : ℕ) → IsOnTime p heard → p.sent ≡ keep → heard ≤ slot → due_of slot (play_with p keep) ≡ keep
 stays_due {p} {heard} slot on sent from =
@@ -196,7 +213,7 @@ over_at {p} {heard} {keep} {plays} {end} {slots} {parts} on sent ends are later 
     let play : FilmPlay = play_with p keep in
     let over : IsOver play heard = record { over = λ slot from. stays_due slot on sent from } in
     let shifted : AreSentAt end (play ∷ plays) slots (placed_texts (keep + 0) parts) =
-    past_all plays 0 slots parts over ends are later.begins all in
+    past_all 0 slots parts (record { ends = ends; from_on = are }) (record { is_over = over; begins = later.begins }) all in
     record {
       holds = omega (arith, sent);
       sent = subst (λ n. AreSentAt end (play ∷ plays) slots (placed_texts n parts)) (omega (arith, sent)) shifted;

@@ -1,5 +1,5 @@
 -- The promise from a server to its client's meter.
-use Rattle.std.proofs.Common.{◌≡◌, ℕ, suc, ◌+◌, ◌-◌, ◌<◌, ◌≤◌, min, List, [], ◌∷◌, ◌++◌, length, take, drop, map, sum, refl, sym, ap, subst, ◌∙◌, append_assoc, arith, inl, inr}
+use Rattle.std.proofs.Common.{◌≡◌, ℕ, suc, ◌+◌, ◌-◌, ◌<◌, ◌≤◌, min, List, [], ◌∷◌, ◌++◌, length, take, drop, map, sum, refl, sym, ap, subst, ◌∙◌, arith, inl, inr}
 use Rattle.conn.proofs.Telling.{parts-more}
 use Rattle.std.proofs.lemmas.Bool.{cases_lt}
 use Rattle.std.proofs.lemmas.List.{length-map, length-take, take_all, take-take}
@@ -18,11 +18,11 @@ use Rattle.plan_cert.specs.Plan.{IsPlan}
 use Rattle.plan_cert.specs.Slots.{plan_slots, total_bytes}
 use Rattle.plan_cert.proofs.SlotSums.{sum-plan_slots}
 use Rattle.film_frames.specs.Pieces.{wire_size}
-use Rattle.film_run.specs.Plans.{rest_sizes, timing_of}
+use Rattle.film_run.specs.Plans.{rest_sizes}
 use Rattle.film_run.specs.Units.{stored_sizes}
 use Rattle.film_run.proofs.PlayLaws.{sending-keeps}
 use Rattle.pacer.specs.Pacings.{first_slots}
-use Rattle.conn.specs.Films.{round_parts, rounds_film, rounds_parts}
+use Rattle.conn.specs.Films.{rounds_film, rounds_parts}
 use Rattle.conn.specs.Rounds.{Comes, Round, rounds_doings}
 use Rattle.conn.specs.Turns.{Outcome, Part, Stage, film_bytes}
 use Rattle.conn.proofs.Between.{planned_between}
@@ -79,7 +79,13 @@ stream_of wish stored course played =
       later = map text_of played.later;
       first_is = setup;
       second_is = reply;
-      blocks_are = blocks-one run 0 0 run.slice_starts run.units played.whole.media played.whole.control;
+      blocks_are = blocks-one (record {
+        run = run;
+        frames = 0;
+        octets = 0;
+        media = played.whole.media;
+        control = played.whole.control;
+      }) run.slice_starts run.units;
       later_are = texts;
       alone = (setup.alone, (reply.alone, alone-append blocks (map text_of played.later) (alone-from blocks (are-blocks run 0 0 (pieces_in run))) (alone-texts (map text_of played.later) texts)));
     }
@@ -95,11 +101,16 @@ pub record IsSentThrough (play : FilmPlay) (rounds : List Round) : Type 0 where
   pub plan : IsPlan play.plan
   pub parts : film_bytes (rounds_parts rounds) ≡ rounds_film rounds
 
-sent-through : {first : List Round} {play : FilmPlay} (course : Course) (later : List Round) (j : ℕ)
-    → (follows : Follows (first_stage course.films course.settings course.words) (first ++ later) course.last)
-    → plays_of (askings_of (first_stage course.films course.settings course.words) (first ++ later) course.last follows) ≡ play ∷ []
-    → play.keep ≡ total_bytes play.plan → greatest_slot first ≡ play.start + j → IsSentThrough play first
-sent-through {first} {play} course later j follows one whole slot =
+-- the last slot of these rounds, counted from a play's start
+record LastSlot (play : FilmPlay) (first : List Round) : Type 0 where
+  place : ℕ
+  slot_is : greatest_slot first ≡ play.start + place
+
+sent-through : {first : List Round} {play : FilmPlay} (course : Course) (later : List Round) → LastSlot play first →
+    (follows : Follows (first_stage course.films course.settings course.words) (first ++ later) course.last) →
+    plays_of (askings_of (first_stage course.films course.settings course.words) (first ++ later) course.last follows) ≡ play ∷ [] →
+    play.keep ≡ total_bytes play.plan → IsSentThrough play first
+sent-through {first} {play} course later last follows one whole =
     let begin = first_stage course.films course.settings course.words in
     let stands = first-stands course in
     let parts = parted begin course.last first later follows in
@@ -115,7 +126,7 @@ sent-through {first} {play} course later j follows one whole slot =
       | inr after ↦
           let late = late-play parts.0.session.heard b play [] (course-late parts.0 course.last later parts.1.1 mid) after.1 in
           let heard = course_heard begin parts.0 first parts.1.0 stands in
-          absurd (omega (arith, late.late, heard, slot))
+          absurd (omega (arith, late.late, heard, last.slot_is))
     ] in
     record {
       film = written ∙ ap (film_written (greatest_slot first)) now;
@@ -171,14 +182,14 @@ sent-between {wish} {stored} {identity} {play} {x} {rounds} {j} whole is blocks 
     ap (λ (l : List ℕ). length l) film ∙ (length-take (due_of g play) (framed_bytes x.blocks) ∙ omega (arith, due, whole.keep, most, bytes)) in
     let run = whole_run stored in
     let playback = playback_of wish stored in
-    let curves = planned_between (stored_sizes stored) playback run play.plan j n sent.plan whole.sending refl in
+    let curves = planned_between sent.plan whole.sending refl in
     let came : 0 + n ≡ length (rounds_film rounds) = omega (arith, size) in
     let P : List ℕ → Type 0 = λ sizes. IsBetween wish sizes (picture_time stored.film.rate) j (0 + n) in
     let Q : ℕ → Type 0 = λ m. IsBetween wish (film_sizes stored.film) (picture_time stored.film.rate) j m in
     record {
       few = omega (arith, size, most, bytes);
       between = subst Q came (subst P (rest-all stored)
-          (curves-same (timing_of playback run) refl refl refl refl curves.above curves.below));
+          (curves-same (record { units = refl; delay = refl }) refl refl curves.above curves.below));
     }
 
 -- ---- what the client is fed
@@ -202,11 +213,12 @@ pub film-in : (wish : Wish) (stored : Stored) (course : Course) (played : IsPlay
 unfolding stream_of
 film-in wish stored course played = record { media = played.whole.media; control = played.whole.control; blocks = run-blocks stored.film played.identity }
 
-fed-by : (wish : Wish) (stored : Stored) (course : Course) (played : IsPlayed wish stored course) (first later : List Round) (j : ℕ)
-    → course.rounds ≡ first ++ later → greatest_slot first ≡ played.play.start + j
-    → IsFed wish stored.film (stream_of wish stored course played) (rounds_bytes first) j
+fed-by : {wish : Wish} {stored : Stored} {course : Course} (played : IsPlayed wish stored course)
+    (first later : List Round) (j : ℕ) → course.rounds ≡ first ++ later →
+    greatest_slot first ≡ played.play.start + j →
+    IsFed wish stored.film (stream_of wish stored course played) (rounds_bytes first) j
 unfolding stream_of
-fed-by wish stored course played first later j split slot =
+fed-by {wish} {stored} {course} played first later j split slot =
     let begin = first_stage course.films course.settings course.words in
     let play = played.play in
     let x = stream_of wish stored course played in
@@ -214,7 +226,7 @@ fed-by wish stored course played first later j split slot =
     let G : (rs : List Round) → Follows begin rs course.last → Type 0 = λ rs f. plays_of (askings_of begin rs course.last f) ≡ play ∷ [] in
     let H : List Round → Type 0 = λ rs. (f : Follows begin rs course.last) × G rs f in
     let there : H (first ++ later) = subst H split (course.follows, played.plays) in
-    let sent = sent-through course later j there.0 there.1 played.whole.keep slot in
+    let sent = sent-through course later (record { place = j; slot_is = slot }) there.0 there.1 played.whole.keep in
     let between = sent-between played.whole is refl sent slot in
     let one = rounds_parts first in
     let two = rounds_parts later in
@@ -230,8 +242,13 @@ fed-by wish stored course played first later j split slot =
     let next : (placed : PlacedText) (rest : List PlacedText) → placed_texts (0 + length (film_bytes one)) two ≡ placed ∷ rest → film ≤ placed.place = λ placed rest at.
     let T : List PlacedText → Type 0 = λ l. IsFromTo (0 + length (film_bytes one)) (0 + length (film_bytes one) + length (film_bytes two)) l in
     let its = subst T at (texts-within (0 + length (film_bytes one)) two) in omega (arith, its.0, same) in
-    let counted = counted-by played.setup played.played (placed_texts 0 one)
-    played.setup_is.starts.0 played.played_is.starts.0 texts played.after within next between.few in
+    let counted = counted-by (record {
+      setup = played.setup;
+      played = played.played;
+      some_setup = played.setup_is.starts.0;
+      some_played = played.played_is.starts.0;
+    }) (placed_texts 0 one) texts within next
+    (record { after = played.after; few = between.few }) in
     let C : ℕ → Type 0 = λ n. IsCounted (length x.first) (length x.second) film (length (framed_bytes x.blocks)) n in
     let here = subst C (sym bytes) counted in
     let P : ℕ → Type 0 = λ n. IsBetween wish (film_sizes stored.film) (picture_time stored.film.rate) j n in
@@ -249,7 +266,7 @@ fed {wish} {stored} {course} {bytes} {j} played written =
     sym (rounds-latest whole.first) ∙ (ap latest_slot (sym whole.front_is) ∙ written.slot_is) in
     let are : rounds_bytes whole.first ≡ bytes = sym (written.bytes_are ∙ (ap sent_bytes whole.front_is ∙ rounds-sent whole.first events)) in
     let F : List ℕ → Type 0 = λ b. IsFed wish stored.film (stream_of wish stored course played) b j in
-    subst F are (fed-by wish stored course played whole.first whole.later j whole.parts slot)
+    subst F are (fed-by played whole.first whole.later j whole.parts slot)
 
 -- ---- all that was sent is a front of the stream
 
@@ -274,7 +291,8 @@ all-sent wish stored course played =
     let all_within = subst T played.texts (texts-within 0 parts) in
     let F : ℕ → Type 0 = λ n. IsFromTo 0 n played.later in
     let within : IsFromTo 0 (length film) played.later = subst F (let e : 0 + length (film_bytes parts) ≡ length film = omega (arith, size) in e) all_within.1.1.1.1 in
-    let front = all-woven blocks played.setup played.played played.later (due_of g play) is played.after within in
+    let front = all-woven (record { blocks = blocks; count = due_of g play; front_is = is }) played.setup played.played played.later
+    played.after within in
     let events = events-are begin course.last course.rounds course.follows in
     let bytes : sent_bytes (rounds_doings course.rounds) ≡ with_texts 0 film (placed_text 0 played.setup ∷ placed_text 0 played.played ∷ played.later) =
     rounds-sent course.rounds events ∙ (woven_is ∙ ap (with_texts 0 film) played.texts) in

@@ -54,17 +54,23 @@ no-slot-in : (ps : List (List ℕ)) → HasNoSlot (moments_in ps)
 no-slot-in [] = tt
 no-slot-in (p ∷ ps) = no-slot-append (moments_of p) (moments_in ps) (no-slot-of (is_line_end (get_or p 0 0)) (get_or p 0 0 == 36) (get_or p 1 0 == 0) (get_or p 1 0 == 1) p) (no-slot-in ps)
 
-always-more : (wish : Wish) (all : List ℕ) (time : ℕ) (h : History) (ms : List Moment) → HasNoSlot ms → IsBetweenAlways wish all time h
-    → IsBetweenAlways wish all time (after h ms)
-always-more wish all time h [] none met = met
-always-more wish all time h (Reply m ∷ ms) none met = always-more wish all time (Reply m ∷ h) ms none met
-always-more wish all time h (Frame b ∷ ms) none met = always-more wish all time (Frame b ∷ h) ms none met
-always-more wish all time h (Report b ∷ ms) none met = always-more wish all time (Report b ∷ h) ms none met
-always-more wish all time h (Slot t cut ∷ ms) none met = absurd none
+-- a film's sizes and the time of its pictures, for a wish
+record WishedFilm : Type 0 where
+  wish : Wish
+  sizes : List ℕ
+  time : ℕ
+
+always-more : (film : WishedFilm) (h : History) (ms : List Moment) → HasNoSlot ms →
+    IsBetweenAlways film.wish film.sizes film.time h → IsBetweenAlways film.wish film.sizes film.time (after h ms)
+always-more film h [] none met = met
+always-more film h (Reply m ∷ ms) none met = always-more film (Reply m ∷ h) ms none met
+always-more film h (Frame b ∷ ms) none met = always-more film (Frame b ∷ h) ms none met
+always-more film h (Report b ∷ ms) none met = always-more film (Report b ∷ h) ms none met
+always-more film h (Slot t cut ∷ ms) none met = absurd none
 
 pub always-pieces : (wish : Wish) (all : List ℕ) (time : ℕ) (h : History) (ps : List (List ℕ)) → IsBetweenAlways wish all time h
     → IsBetweenAlways wish all time (after h (moments_in ps))
-always-pieces wish all time h ps met = always-more wish all time h (moments_in ps) (no-slot-in ps) met
+always-pieces wish all time h ps met = always-more (record { wish = wish; sizes = all; time = time }) h (moments_in ps) (no-slot-in ps) met
 
 -- ---- the film that came
 
@@ -94,79 +100,116 @@ AreFed wish film x begin bytes rounds =
 
 -- ---- a slot
 
+-- a stream's film, and as many units by its time as it has
+pub record FilmCounted (film : Film) (identity : Identity) (x : Stream) : Type 0 where
+  pub film_is : IsFilmIn film identity x
+  pub count : units_until (begun_sum x).end_ms (picture_time film.rate) ≡ length (film_sizes film)
+
+-- what was heard by a stage at which nothing more can be taken up is a front of a stream
+record HeardFront (x : Stream) (bytes : List ℕ) (at : Stage) : Type 0 where
+  heard : Heard bytes at
+  idle : IsFirst at.rest (Ok More)
+  front_is : bytes ≡ take (length bytes) (framed_bytes (all_of x))
+
+-- at most two replies came, and the second before a play's first slot
+record TwoReplies (at : Stage) (begin : ℕ) : Type 0 where
+  few : replies at.history ≤ 2
+  begins : (1 < replies at.history → first_slot at.history ≡ begin)
+
 slot-met : {wish : Wish} {film : Film} {identity : Identity} {x : Stream} {begin : ℕ} {bytes : List ℕ} {at : Stage}
-    (slot : ℕ) → IsFilmIn film identity x
-    → units_until (begun_sum x).end_ms (picture_time film.rate) ≡ length (film_sizes film) → Heard bytes at → IsFirst at.rest (Ok More)
-    → bytes ≡ take (length bytes) (framed_bytes (all_of x)) → replies at.history ≤ 2 → (1 < replies at.history → first_slot at.history ≡ begin)
-    → (begin ≤ slot → IsFed wish film x bytes (slot - begin)) → is_read at.history slot ≡ true
-    → IsHeardOf (film_sizes film) (picture_time film.rate) at.history (cut_bytes at.rest)
+    (slot : ℕ) → FilmCounted film identity x → HeardFront x bytes at → TwoReplies at begin →
+    (begin ≤ slot → IsFed wish film x bytes (slot - begin)) → is_read at.history slot ≡ true →
+    IsHeardOf (film_sizes film) (picture_time film.rate) at.history (cut_bytes at.rest)
     × IsBetween wish (film_sizes film) (picture_time film.rate) (place_in at.history slot) (bytes_received at.history + cut_bytes at.rest)
-slot-met {wish} {film} {begin} {at} slot is count heard idle front few begins fed read =
+slot-met {wish} {film} {begin} {at} slot counted front two fed read =
     let h = at.history in
     let playing : 1 < replies h = ltb-true 1 (replies h) (and_parts (is_playing h) (nat_le (first_slot h) slot && nat_lt (last_slot h) slot) read).0 in
     let there : first_slot h ≤ slot = leb-true (first_slot h) slot
     (and_parts (nat_le (first_slot h) slot) (nat_lt (last_slot h) slot) (and_parts (is_playing h) (nat_le (first_slot h) slot && nat_lt (last_slot h) slot) read).1).0 in
-    let first : first_slot h ≡ begin = begins playing in
-    let reading = reading-of heard (tells_none at.rest (Ok More) idle) front playing few in
-    let its = heard-of is heard.gone reading count in
+    let first : first_slot h ≡ begin = two.begins playing in
+    let reading = reading-of front.heard (tells_none at.rest (Ok More) front.idle) front.front_is playing two.few in
+    let its = heard-of counted.film_is front.heard.gone reading counted.count in
     let between = (fed (omega (arith, there, first))).between reading.past in
     let P : ℕ → ℕ → Type 0 = λ place came. IsBetween wish (film_sizes film) (picture_time film.rate) place came in
     (its.0, subst (λ n. P n (bytes_received h + cut_bytes at.rest)) (ap (λ n. slot - n) (sym first)) (subst (λ n. P (slot - begin) n) (sym its.1) between))
 
 -- ---- all events
 
+-- a round with this event
+record RoundHeard (event : Doing) (old : Stage) (round : Round) (new : Stage) : Type 0 where
+  event_is : round.event ≡ event
+  runs : Runs old round new
+
 always-round : {event : Doing} {wish : Wish} {film : Film} {identity : Identity} {x : Stream} {begin : ℕ}
-    {bytes : List ℕ} {old new : Stage} {round : Round}
-    → round.event ≡ event → Runs old round new → IsFilmIn film identity x → units_until (begun_sum x).end_ms (picture_time film.rate) ≡ length (film_sizes film)
-    → Heard bytes old → IsFirst old.rest (Ok More) → bytes ≡ take (length bytes) (framed_bytes (all_of x)) → replies new.history ≤ 2
-    → (1 < replies new.history → first_slot new.history ≡ begin)
-    → ((slot : ℕ) → event ≡ HeardSlot slot → begin ≤ slot → IsFed wish film x bytes (slot - begin))
-    → IsBetweenAlways wish (film_sizes film) (picture_time film.rate) old.history → IsBetweenAlways wish (film_sizes film) (picture_time film.rate) new.history
-always-round {event = HeardBytes more} {wish} {film} {old} {new} {round} event runs is count heard idle front few begins fed met =
+    {bytes : List ℕ} {old new : Stage} {round : Round} → RoundHeard event old round new →
+    FilmCounted film identity x → HeardFront x bytes old → TwoReplies new begin →
+    ((slot : ℕ) → event ≡ HeardSlot slot → begin ≤ slot → IsFed wish film x bytes (slot - begin)) →
+    IsBetweenAlways wish (film_sizes film) (picture_time film.rate) old.history →
+    IsBetweenAlways wish (film_sizes film) (picture_time film.rate) new.history
+always-round {event = HeardBytes more} {wish} {film} {old} {new} {round} round_heard counted front two fed met =
     let B : Doing → Type 0 = λ e. Brings e old.rest round.moments new.rest in
-    let brings = subst B event runs.brings in
+    let brings = subst B round_heard.event_is round_heard.runs.brings in
     let A : History → Type 0 = λ h. IsBetweenAlways wish (film_sizes film) (picture_time film.rate) h in
-    subst A (sym (runs.history_is ∙ ap (after old.history) brings.1.1))
+    subst A (sym (round_heard.runs.history_is ∙ ap (after old.history) brings.1.1))
     (always-pieces wish (film_sizes film) (picture_time film.rate) old.history brings.0 met)
-always-round {event = HeardSlot slot} {wish} {film} {begin} {old} {new} {round} event runs is count heard idle front few begins fed met =
+always-round {event = HeardSlot slot} {wish} {film} {begin} {old} {new} {round} round_heard counted front two fed met =
     let B : Doing → Type 0 = λ e. Brings e old.rest round.moments new.rest in
-    let brings = subst B event runs.brings in
+    let brings = subst B round_heard.event_is round_heard.runs.brings in
     let A : History → Type 0 = λ h. IsBetweenAlways wish (film_sizes film) (picture_time film.rate) h in
-    let history : new.history ≡ Slot slot (cut_bytes old.rest) ∷ old.history = runs.history_is ∙ ap (after old.history) brings.0 in
+    let history : new.history ≡ Slot slot (cut_bytes old.rest) ∷ old.history = round_heard.runs.history_is ∙ ap (after old.history) brings.0 in
     let same : replies new.history ≡ replies old.history = ap replies history in
     let begins_here : 1 < replies old.history → first_slot old.history ≡ begin = λ playing.
-    sym (ap first_slot history) ∙ begins (omega (arith, playing, same)) in
+    sym (ap first_slot history) ∙ two.begins (omega (arith, playing, same)) in
     subst A (sym history)
-    (met, λ read. slot-met slot is count heard idle front (omega (arith, few, same)) begins_here (fed slot refl) read)
-always-round {event = HeardEnd} {old} {new} {round} event runs is count heard idle front few begins fed met =
-    let B : Doing → Type 0 = λ e. Brings e old.rest round.moments new.rest in absurd (subst B event runs.brings)
-always-round {event = Sent byte} {old} {new} {round} event runs is count heard idle front few begins fed met =
-    let B : Doing → Type 0 = λ e. Brings e old.rest round.moments new.rest in absurd (subst B event runs.brings)
+    (met, λ read. slot-met slot counted front (record { few = omega (arith, two.few, same); begins = begins_here }) (fed slot refl) read)
+always-round {event = HeardEnd} {old} {new} {round} round_heard counted front two fed met =
+    let B : Doing → Type 0 = λ e. Brings e old.rest round.moments new.rest in absurd (subst B round_heard.event_is round_heard.runs.brings)
+always-round {event = Sent byte} {old} {new} {round} round_heard counted front two fed met =
+    let B : Doing → Type 0 = λ e. Brings e old.rest round.moments new.rest in absurd (subst B round_heard.event_is round_heard.runs.brings)
+
+-- what was heard by a stage, and what rounds bring after it, is a front of a stream
+pub record HeardThrough (x : Stream) (bytes : List ℕ) (rounds : List Round) (old : Stage) : Type 0 where
+  pub heard : Heard bytes old
+  pub idle : IsFirst old.rest (Ok More)
+  pub count : ℕ
+  pub front : bytes ++ rounds_heard rounds ≡ take count (framed_bytes (all_of x))
+
+-- at most two replies came, and the first slot after them is known
+pub record RepliesKnown (new : Stage) (begin : ℕ) : Type 0 where
+  pub few : replies new.history ≤ 2
+  pub begins : first_slot new.history ≡ begin
 
 pub always-all : {wish : Wish} {film : Film} {identity : Identity} {x : Stream} {begin : ℕ} {bytes : List ℕ}
-    {old : Stage} {rounds : List Round} (c : ℕ) (new : Stage)
-    → RunsAll old rounds new → IsFilmIn film identity x → units_until (begun_sum x).end_ms (picture_time film.rate) ≡ length (film_sizes film)
-    → Heard bytes old → IsFirst old.rest (Ok More) → bytes ++ rounds_heard rounds ≡ take c (framed_bytes (all_of x)) → replies new.history ≤ 2
-    → first_slot new.history ≡ begin → AreFed wish film x begin bytes rounds
-    → IsBetweenAlways wish (film_sizes film) (picture_time film.rate) old.history → IsBetweenAlways wish (film_sizes film) (picture_time film.rate) new.history
-always-all {wish} {film} {rounds = []} c new all is count heard idle front few begins fed met =
+    {old : Stage} {rounds : List Round} {new : Stage} → HeardThrough x bytes rounds old → RunsAll old rounds new →
+    FilmCounted film identity x → RepliesKnown new begin → AreFed wish film x begin bytes rounds →
+    IsBetweenAlways wish (film_sizes film) (picture_time film.rate) old.history →
+    IsBetweenAlways wish (film_sizes film) (picture_time film.rate) new.history
+always-all {wish} {film} {rounds = []} through all counted known fed met =
     let A : Stage → Type 0 = λ s. IsBetweenAlways wish (film_sizes film) (picture_time film.rate) s.history in subst A (sym all) met
-always-all {wish} {film} {identity} {x} {begin} {bytes} {old} {rounds = round ∷ rounds} c new all is count heard idle front few begins fed met =
+always-all {wish} {film} {identity} {x} {begin} {bytes} {old} {rounds = round ∷ rounds} {new} through all counted known fed met =
     let mid = all.0 in
     let later = history-later mid new rounds all.1.2 in
-    let few_here : replies mid.history ≤ 2 = omega (arith, few, replies-later mid.history (moments_of_rounds rounds), ap replies later) in
+    let few_here : replies mid.history ≤ 2 = omega (arith, known.few, replies-later mid.history (moments_of_rounds rounds), ap replies later) in
     let begins_here : 1 < replies mid.history → first_slot mid.history ≡ begin = λ playing.
-    sym (slot-stays mid.history (moments_of_rounds rounds) playing) ∙ (sym (ap first_slot later) ∙ begins) in
+    sym (slot-stays mid.history (moments_of_rounds rounds) playing) ∙ (sym (ap first_slot later) ∙ known.begins) in
     let fed_here : (slot : ℕ) → round.event ≡ HeardSlot slot → begin ≤ slot → IsFed wish film x bytes (slot - begin) = λ slot event after_begin.
     let F : List ℕ → Type 0 = λ b. IsFed wish film x b (slot - begin) in
     subst F (append-nil bytes) (fed [] rounds round slot refl event after_begin) in
     let mine : bytes ≡ take (length bytes) (framed_bytes (all_of x)) = front-of bytes (rounds_heard (round ∷ rounds)) (framed_bytes (all_of x)) c front in
-    let now = always-round refl all.1.0 is count heard idle mine few_here begins_here fed_here met in
+    let now = always-round (record { event_is = refl; runs = all.1.0 }) counted
+    (record { heard = heard; idle = idle; front_is = mine }) (record { few = few_here; begins = begins_here }) fed_here met in
     let next : (bytes ++ bytes_in round.event) ++ rounds_heard rounds ≡ take c (framed_bytes (all_of x)) =
     append_assoc bytes (bytes_in round.event) (rounds_heard rounds) ∙ front in
     let fed_next : AreFed wish film x begin (bytes ++ bytes_in round.event) rounds = λ before after_ r slot split event after_begin.
     let F : List ℕ → Type 0 = λ b. IsFed wish film x b (slot - begin) in
     subst F (sym (append_assoc bytes (bytes_in round.event) (rounds_heard before)))
     (fed (round ∷ before) after_ r slot (ap (λ l. round ∷ l) split) event after_begin) in
-    always-all {wish = wish} {film = film} {identity = identity} {x = x} {begin = begin} {bytes = bytes ++ bytes_in round.event} {old = mid} {rounds = rounds} c new all.1.2 is count (heard-round bytes old mid round heard all.1.0) all.1.1
-    next few begins fed_next now
+    always-all {wish = wish} {film = film} {identity = identity} {x = x} {begin = begin} {bytes = bytes ++ bytes_in round.event}
+    {old = mid} {rounds = rounds} (record {
+      heard = heard-round bytes old mid round heard all.1.0;
+      idle = all.1.1;
+      count = c;
+      front = next;
+    }) all.1.2 counted known fed_next now
+  where
+    open through use {heard, idle, count as c, front}

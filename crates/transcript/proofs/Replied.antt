@@ -18,7 +18,7 @@ use Rattle.session.specs.declared.states.Setup.{Setup}
 use Rattle.session.specs.declared.states.State.{State}
 use Rattle.session.specs.declared.states.State.TheVariants.{Init, Ready, Playing, Stopping}
 use Rattle.session.specs.Hearings.{is_answered}
-use Rattle.session.specs.Sendings.{can_reply, after_play, is_between, is_done_in, is_sending, is_taken, next_of, sent_due, sent_in, sent_reply, sent_slot, after_slot, stepped_in}
+use Rattle.session.specs.Sendings.{can_reply, after_play, is_between, is_done_in, is_sending, next_of, sent_due, sent_in, sent_reply, sent_slot, after_slot, stepped_in}
 use Rattle.session.specs.Standings.{NoAnswer, Standing, awaited_answer, awaited_answer_of}
 use Rattle.conn.specs.Films.{rounds_parts, takings_parts}
 use Rattle.conn.specs.Rounds.{Comes, Round, Runs}
@@ -180,11 +180,18 @@ done_fits {p} {heard} {asked} {placed} {number} {keep} {askings} {end} {slots} {
           (over_at on (sym sent) ends fits.from fits.later fits.stand));
     }
 
+-- a session's play is done, and its halt is asked for
+record DonePlay (s : Standing) (setup : Setup) (play : Played) (keep : ℕ) : Type 0 where
+  state_is : s.state ≡ Playing setup play
+  sound : IsSound (sends_in s.state) s.waits s.heard
+  done : is_done play.pacer ≡ true
+  sent : keep ≡ play.pacer.sent
+  asks : s.awaited ≡ Halt keep Done
+
 done_move : {s : Standing} {setup : Setup} {play : Played} {placed : Placed} {keep : ℕ} {new : Standing}
-    {pending : Option ℕ} → s.state ≡ Playing setup play
-    → IsSound (sends_in s.state) s.waits s.heard → is_done play.pacer ≡ true → keep ≡ play.pacer.sent → s.awaited ≡ Halt keep Done
-    → IsHaltAnswered s keep placed new → HeldIn pending s → Move s new pending (Asks s.awaited (Entered placed) ∷ []) [] []
-done_move {s} {play} {placed} {new} {pending} is sound done sent asks halted held =
+    {pending : Option ℕ} → DonePlay s setup play keep → IsHaltAnswered s keep placed new → HeldIn pending s →
+    Move s new pending (Asks s.awaited (Entered placed) ∷ []) [] []
+done_move {s} {play} {placed} {new} {pending} finished halted held =
     let p : Pacing = play.pacer in
     let on : IsOnTime p s.heard = (subst (λ st. IsSound (sends_in st) s.waits s.heard) is sound).0 in
     let here : IsHeld pending (Going p) s.waits s.heard = subst (λ st. IsHeld pending (sends_in st) s.waits s.heard) is held in
@@ -208,16 +215,17 @@ done_move {s} {play} {placed} {new} {pending} is sound done sent asks halted hel
           (subst (λ x. GoesTo (Going p) x s.heard new.heard None None (Asks s.awaited (Entered placed) ∷ []) [] []) (sym sends)
           (subst (λ h. GoesTo (Going p) Idle s.heard h None None (Asks s.awaited (Entered placed) ∷ []) [] []) (sym heard) goes)));
     }
+  where
+    open finished use {state_is as is, sound, done, sent, asks}
 
 halted_move : {s : Standing} {setup : Setup} {play : Played} {halt : Outcome} {keep : ℕ} {new : Standing}
-    {pending : Option ℕ} → s.state ≡ Playing setup play
-    → IsSound (sends_in s.state) s.waits s.heard → is_done play.pacer ≡ true → keep ≡ play.pacer.sent → s.awaited ≡ Halt keep Done
-    → IsHalted s keep halt new → HeldIn pending s → Move s new pending (Asks s.awaited halt ∷ []) [] []
-halted_move {s} {halt = Unasked} {new} is sound done sent asks halted held = absurd halted
-halted_move {s} {halt = Entered placed} {new} is sound done sent asks halted held =
-    done_move is sound done sent asks halted held
-halted_move {s} {halt = WasFull more entries live} {new} is sound done sent asks halted held = absurd halted
-halted_move {s} {halt = Offered at_slot note} {new} is sound done sent asks halted held = absurd halted
+    {pending : Option ℕ} → DonePlay s setup play keep → IsHalted s keep halt new → HeldIn pending s →
+    Move s new pending (Asks s.awaited halt ∷ []) [] []
+halted_move {s} {halt = Unasked} {new} finished halted held = absurd halted
+halted_move {s} {halt = Entered placed} {new} finished halted held =
+    done_move finished halted held
+halted_move {s} {halt = WasFull more entries live} {new} finished halted held = absurd halted
+halted_move {s} {halt = Offered at_slot note} {new} finished halted held = absurd halted
 
 finishes_move : {s : Standing} {state : State} {halt : Outcome} {new : Standing} {pending : Option ℕ} → s.state ≡ state
     → IsSound (sends_in s.state) s.waits s.heard → is_done_in state ≡ true → s.awaited ≡ Halt (sent_in state) Done → IsFinished (awaited_answer s) s halt new
@@ -225,7 +233,8 @@ finishes_move : {s : Standing} {state : State} {halt : Outcome} {new : Standing}
 finishes_move {s} {state = Init} {halt} {new} is sound done asks finishing held = absurd (true≢false (sym done))
 finishes_move {s} {state = Ready setup paused} {halt} {new} is sound done asks finishing held = absurd (true≢false (sym done))
 finishes_move {s} {state = Playing setup play} {halt} {new} is sound done asks finishing held =
-    halted_move is sound done refl asks (subst (λ a. IsFinished (awaited_answer_of a) s halt new) asks finishing) held
+    halted_move (record { state_is = is; sound = sound; done = done; sent = refl; asks = asks })
+    (subst (λ a. IsFinished (awaited_answer_of a) s halt new) asks finishing) held
 finishes_move {s} {state = Stopping setup stop} {halt} {new} is sound done asks finishing held = absurd (true≢false (sym done))
 
 finished_move : {s : Standing} {halt : Outcome} {new : Standing} {done : Bool} {pending : Option ℕ} → IsSound (sends_in s.state) s.waits s.heard
@@ -234,11 +243,18 @@ finished_move : {s : Standing} {halt : Outcome} {new : Standing} {done : Bool} {
 finished_move {s} {halt} {new} {done = true} sound is asks finishing held = finishes_move refl sound is asks finishing held
 finished_move {s} {halt} {new} {done = false} sound is asks finishing held = rest_move asks held finishing
 
-sent_move : {old : Standing} {halt : Outcome} {new : Standing} {pending : Option ℕ} (slot : ℕ) → Stands old → HeldIn pending old
-    → IsSound (sends_in (after_play (sent_slot old slot)).state) (after_play (sent_slot old slot)).waits (after_play (sent_slot old slot)).heard
-    → is_sending old.state ≡ true → old.heard < slot → IsFinished (awaited_answer (after_play (sent_slot old slot))) (after_play (sent_slot old slot)) halt new
-    → Move old new pending (Asks (after_play (sent_slot old slot)).awaited halt ∷ []) [] (due_parts old slot)
-sent_move {old} {halt} {new} {pending} slot stands held sound sending later finishing =
+-- a session that stands, with the slot in which a reply is held
+record StandingHeld (old : Standing) (pending : Option ℕ) : Type 0 where
+  stands : Stands old
+  held : HeldIn pending old
+
+sent_move : {old : Standing} {halt : Outcome} {new : Standing} {pending : Option ℕ} (slot : ℕ) →
+    StandingHeld old pending →
+    IsSound (sends_in (after_play (sent_slot old slot)).state) (after_play (sent_slot old slot)).waits (after_play (sent_slot old slot)).heard →
+    is_sending old.state ≡ true → old.heard < slot →
+    IsFinished (awaited_answer (after_play (sent_slot old slot))) (after_play (sent_slot old slot)) halt new →
+    Move old new pending (Asks (after_play (sent_slot old slot)).awaited halt ∷ []) [] (due_parts old slot)
+sent_move {old} {halt} {new} {pending} slot standing sound sending later finishing =
     let s : Standing = after_play (sent_slot old slot) in
     let goes : Bool = old.waits && is_between (stepped_in true slot old.state) in
     let due : Standing = sent_due old slot in
@@ -246,8 +262,8 @@ sent_move {old} {halt} {new} {pending} slot stands held sound sending later fini
     let heard : s.heard ≡ slot = reply_heard goes due in
     let waits : s.waits ≡ waits_after old.waits old.state slot = reply_waits goes due in
     let asks : s.awaited ≡ (if is_done_in s.state then Halt (sent_in s.state) Done else Nothing) =
-    ap (λ a. if is_done_in s.state then Halt (sent_in s.state) Done else a) (reply_awaited goes due ∙ stands.rest) in
-    let slots = slot_moves sending stands.sound later held in
+    ap (λ a. if is_done_in s.state then Halt (sent_in s.state) Done else a) (reply_awaited goes due ∙ standing.stands.rest) in
+    let slots = slot_moves sending standing.stands.sound later standing.held in
     let there : HeldIn slots.after s =
     subst (λ st. IsHeld slots.after (sends_in st) s.waits s.heard) (sym state)
     (subst (λ w. IsHeld slots.after (sends_in (state_after old.waits old.state slot)) w s.heard) (sym waits)
@@ -302,18 +318,19 @@ slot_sound {taken = false} slot stands later is = stands.sound
 slot_sound {old} {taken = true} {sending = true} slot stands later is = (sent_on old slot stands is (later refl)).sound
 slot_sound {old} {taken = true} {sending = false} slot stands later is = idle_sound old.state old.waits old.heard slot is stands.sound
 
-slot_move : {old : Standing} {halt : Outcome} {new : Standing} {pending : Option ℕ} {taken sending : Bool} (slot : ℕ) → Stands old → HeldIn pending old
-    → (taken ≡ true → old.heard < slot) → is_sending old.state ≡ sending
-    → let s : Standing = if taken then (if sending then after_play (sent_slot old slot) else record old { heard = slot }) else old in
-    IsSound (sends_in s.state) s.waits s.heard → IsFinished (awaited_answer s) s halt new
-    → Move old new pending (Asks s.awaited halt ∷ []) [] (if taken && sending then due_parts old slot else [])
-slot_move {halt} {new} {taken = false} slot stands held later is sound finishing = rest_move stands.rest held finishing
-slot_move {halt} {new} {taken = true} {sending = true} slot stands held later is sound finishing =
-    sent_move slot stands held sound is (later refl) finishing
-slot_move {old} {halt} {new} {pending} {taken = true} {sending = false} slot stands held later is sound finishing =
+slot_move : {old : Standing} {halt : Outcome} {new : Standing} {pending : Option ℕ} {taken sending : Bool}
+    (slot : ℕ) → StandingHeld old pending → (taken ≡ true → old.heard < slot) → is_sending old.state ≡ sending →
+    let s : Standing = if taken then (if sending then after_play (sent_slot old slot) else record old { heard = slot }) else old in
+    IsSound (sends_in s.state) s.waits s.heard →
+    IsFinished (awaited_answer s) s halt new →
+    Move old new pending (Asks s.awaited halt ∷ []) [] (if taken && sending then due_parts old slot else [])
+slot_move {halt} {new} {taken = false} slot standing later is sound finishing = rest_move standing.stands.rest standing.held finishing
+slot_move {halt} {new} {taken = true} {sending = true} slot standing later is sound finishing =
+    sent_move slot standing sound is (later refl) finishing
+slot_move {old} {halt} {new} {pending} {taken = true} {sending = false} slot standing later is sound finishing =
     let s : Standing = record old { heard = slot } in
-    let first = idle_move old slot pending held is (later refl) in
-    move_then first (rest_move stands.rest first.held finishing)
+    let first = idle_move old slot pending standing.held is (later refl) in
+    move_then first (rest_move standing.stands.rest first.held finishing)
 
 slotted_sound : (old : Standing) (slot : ℕ) → Stands old → IsSound (sends_in (after_slot old slot).state) (after_slot old slot).waits (after_slot old slot).heard
 slotted_sound old slot stands =
@@ -328,7 +345,7 @@ comes_move {halt} {pending} old opened (HeardBytes bytes) comes stands held =
     (still_move (ap (λ (s : Stage). s.session) comes.3) (unasked_still Nothing) held))
 comes_move {halt} {pending} old opened (HeardSlot slot) comes stands held =
     subst (λ ps. Move old.session opened.session pending (Asks (after_slot old.session slot).awaited halt ∷ []) [] ps) (sym comes.1.parts_are)
-    (slot_move slot stands held
+    (slot_move slot (record { stands = stands; held = held })
     (λ taken. ltb-true old.session.heard slot (and_parts (nat_lt old.session.heard slot) (nat_le slot (2 ^ 62)) taken).0) refl
     (slotted_sound old.session slot stands) comes.1.finished)
 comes_move {halt} old opened HeardEnd comes stands held = absurd comes
@@ -370,16 +387,21 @@ course_move {pending} old new (round ∷ rounds) follows stands held =
 
 -- ---- where a course ends
 
-unsent_last : {p : Pacing} {keep slot heard place : ℕ} → IsOnTime p heard → keep ≡ p.keep → IsHeldUp p slot heard
-    → due_of slot (play_with p keep) ≡ min (first_slots p.plan (slot + 1 - p.start)) p.keep → due_of heard (play_with p keep) ≡ p.sent
-    → IsBoundaryIn (play_with p keep ∷ []) place → all_due slot (play_with p keep ∷ []) ≤ place → all_due heard (play_with p keep ∷ []) < place
-unsent_last {p} {keep} {slot} {heard} {place} on same held then_due now_due (inl own) due =
-    let first = due_then p keep slot [] then_due tt in
-    let last = due_then p keep heard [] now_due tt in
+-- what is due of a play by two slots
+record PlayDue (p : Pacing) (keep slot heard : ℕ) : Type 0 where
+  then_due : due_of slot (play_with p keep) ≡ min (first_slots p.plan (slot + 1 - p.start)) p.keep
+  now_due : due_of heard (play_with p keep) ≡ p.sent
+
+unsent_last : {p : Pacing} {keep slot heard place : ℕ} → IsOnTime p heard → keep ≡ p.keep → IsHeldUp p slot heard →
+    PlayDue p keep slot heard → IsBoundaryIn (play_with p keep ∷ []) place →
+    all_due slot (play_with p keep ∷ []) ≤ place → all_due heard (play_with p keep ∷ []) < place
+unsent_last {p} {keep} {slot} {heard} {place} on same held due_are (inl own) due =
+    let first = due_then p keep slot [] due_are.then_due tt in
+    let last = due_then p keep heard [] due_are.now_due tt in
     let past = held.none (p.before + place) own.1 (omega (arith, first, due)) in
     omega (arith, past, last)
-unsent_last {p} {keep} {slot} {heard} {place} on same held then_due now_due (inr over) due =
-    let last = due_then p keep heard [] now_due tt in
+unsent_last {p} {keep} {slot} {heard} {place} on same held due_are (inr over) due =
+    let last = due_then p keep heard [] due_are.now_due tt in
     let past = held.none (p.before + p.keep) on.pacing.ends (omega arith) in
     omega (arith, past, last, over.0, same)
 
@@ -396,14 +418,14 @@ end_stand (Going p) waits heard (Some slot) sound held =
     let now_due : due_of heard (play_with p keep) ≡ p.sent = due_going p heard keep sound.0.pacing sound.1 (omega (arith, same)) ∙ here in
     record {
       holds = omega (arith, sound.0.pacing.sent, sound.0.pacing.due, sound.1);
-      sent = (λ place boundary due. unsent_last sound.0 same held.1 then_due now_due boundary due, tt);
+      sent = (λ place boundary due. unsent_last sound.0 same held.1 (record { then_due = then_due; now_due = now_due }) boundary due, tt);
     }
 end_stand (Ending p) waits heard None sound held = record { holds = omega (arith, sound.0.pacing.sent, sound.0.pacing.due); sent = tt }
 end_stand (Ending p) waits heard (Some slot) sound held =
     let here = due_here p heard sound.0 in
     record {
       holds = omega (arith, sound.0.pacing.sent, sound.0.pacing.due);
-      sent = (λ place boundary due. unsent_last sound.0 refl held.1 refl here boundary due, tt);
+      sent = (λ place boundary due. unsent_last sound.0 refl held.1 (record { then_due = refl; now_due = here }) boundary due, tt);
     }
 
 course_sound : (old new : Stage) (rounds : List Round) (follows : Follows old rounds new) → Stands old.session

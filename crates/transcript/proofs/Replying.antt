@@ -11,7 +11,7 @@ use Rattle.session.specs.Hearings.{is_answered}
 use Rattle.session.specs.Sendings.{can_reply, after_play, is_between, is_done_in, is_sending, is_taken, next_of, sent_due, sent_in, sent_reply, sent_slot, after_slot, step_bytes, stepped_in}
 use Rattle.session.specs.Standings.{Awaits, NoAnswer, PlayAnswer, HaltAnswer, LookAnswer, OfferAnswer, Standing, awaited_answer}
 use Rattle.conn.specs.Films.{round_parts, rounds_parts, takings_parts}
-use Rattle.conn.specs.Rounds.{Comes, Round}
+use Rattle.conn.specs.Rounds.{Round}
 use Rattle.conn.specs.Turns.{Answered, Entered, Film, IsFinished, IsHalted, IsReplied, Offered, Outcome, Part, Passed, Stage, Taking, TakesAll, Text, Unasked, WasFull, due_parts, film_bytes, slot_parts}
 use Rattle.transcript.specs.Courses.{Follows, askings_of, first_stage, greatest_slot, rounds_bytes, round_askings}
 use Rattle.transcript.specs.Plays.{film_written, plays_of}
@@ -20,6 +20,7 @@ use Rattle.transcript.proofs.Filming.{Stands, opened_stands, round_step, stands_
 use Rattle.transcript.proofs.Hearing.{film_written_is}
 use Rattle.transcript.proofs.Turning.{turns_as}
 use Rattle.transcript.proofs.Weaving.{course_film, parts_woven, rounds_sent}
+use Rattle.conn.proofs.Occasions.{EventCome}
 
 -- the texts among parts
 abbrev texts_in : List Part → List (List ℕ)
@@ -41,11 +42,21 @@ texts-append (Text text ∷ xs) ys = ap (λ ts. text ∷ ts) (texts-append xs ys
 abbrev Replies : Standing → List (List ℕ) → List (List ℕ) → Standing → Type 0
 Replies old sent replies new = sent ++ waiting_reply new ≡ waiting_reply old ++ replies
 
-replies_then : (a b c : Standing) (one two first second : List (List ℕ)) → Replies a one first b → Replies b two second c
-    → Replies a (one ++ two) (first ++ second) c
-replies_then a b c one two first second is later =
+-- replies that come from a session on
+record LaterReplies : Type 0 where
+  old : Standing
+  new : Standing
+  texts : List (List ℕ)
+  messages : List (List ℕ)
+  replied : Replies old texts messages new
+
+replies_then : (a : Standing) (next : LaterReplies) (one first : List (List ℕ)) → Replies a one first next.old →
+    Replies a (one ++ next.texts) (first ++ next.messages) next.new
+replies_then a next one first is =
     append_assoc one two (waiting_reply c) ∙ ap (λ ts. one ++ ts) later ∙ sym (append_assoc one (waiting_reply b) second)
     ∙ ap (λ ts. ts ++ second) is ∙ append_assoc (waiting_reply a) first second
+  where
+    open next use {old as b, new as c, texts as two, messages as second, replied as later}
 
 waiting_same : (a b : Standing) → b ≡ a → Replies a [] [] b
 waiting_same a b same = ap waiting_reply same ∙ sym (append-nil (waiting_reply a))
@@ -81,9 +92,15 @@ takes_replies old new (Answered message outcome parts ∷ takings) takes stands 
     let text : List ℕ = takes.1.0.answered.text in
     let rest : List (List ℕ) = takings_replies takes.0 takings new takes.1.1 in
     subst (λ ts. Replies old.session ts (text ∷ rest) new.session) (sym (texts-append parts (takings_parts takings)))
-    (replies_then old.session takes.0.session new.session (texts_in parts) (texts_in (takings_parts takings)) (text ∷ []) rest
-    (answered_replies takes.1.0 stands)
-    (takes_replies takes.0 new takings takes.1.1 (taken_stands old takes.0 (Answered message outcome parts) takes.1.0 stands)))
+    (replies_then old.session (record {
+      old = takes.0.session;
+      new = new.session;
+      texts = texts_in (takings_parts takings);
+      messages = rest;
+      replied = takes_replies takes.0 new takings takes.1.1
+          (taken_stands old takes.0 (Answered message outcome parts) takes.1.0 stands);
+    }) (texts_in parts) (text ∷ [])
+    (answered_replies takes.1.0 stands))
 
 -- a play that is done is halted without a reply
 halted_waiting : (s : Standing) (keep : ℕ) (halt : Outcome) (new : Standing) → next_of s.awaited ≡ Done → IsHalted s keep halt new → waiting_reply new ≡ waiting_reply s
@@ -142,16 +159,16 @@ slot_replies old slot halt new rest finishing =
     ap (λ ts. texts_in (slot_parts old slot) ++ ts) (finished_waiting (awaited_answer (after_slot old slot)) (after_slot old slot) halt new cases.1 finishing)
     ∙ cases.0 ∙ sym (append-nil (waiting_reply old))
 
-comes_replies : (old opened : Stage) (event : Doing) (due : List Part) (halt : Outcome) → Comes old event due halt opened → Stands old.session
-    → Replies old.session (texts_in due) [] opened.session
-comes_replies old opened (HeardBytes bytes) due halt comes stands =
-    subst (λ ps. Replies old.session (texts_in ps) [] opened.session) (sym comes.0)
-    (waiting_same old.session opened.session (ap (λ (s : Stage). s.session) comes.3))
-comes_replies old opened (HeardSlot slot) due halt comes stands =
-    subst (λ ps. Replies old.session (texts_in ps) [] opened.session) (sym comes.1.parts_are)
-    (slot_replies old.session slot halt opened.session stands.rest comes.1.finished)
-comes_replies old opened HeardEnd due halt comes stands = absurd comes
-comes_replies old opened (Sent byte) due halt comes stands = absurd comes
+comes_replies : {old opened : Stage} {event : Doing} (come : EventCome old event opened) → Stands old.session →
+    Replies old.session (texts_in come.due) [] opened.session
+comes_replies {old} {opened} {event = HeardBytes bytes} come stands =
+    subst (λ ps. Replies old.session (texts_in ps) [] opened.session) (sym come.comes.0)
+    (waiting_same old.session opened.session (ap (λ (s : Stage). s.session) come.comes.3))
+comes_replies {old} {opened} {event = HeardSlot slot} come stands =
+    subst (λ ps. Replies old.session (texts_in ps) [] opened.session) (sym come.comes.1.parts_are)
+    (slot_replies old.session slot come.halt opened.session stands.rest come.comes.1.finished)
+comes_replies {event = HeardEnd} come stands = absurd come.comes
+comes_replies {event = Sent byte} come stands = absurd come.comes
 
 course_replies : (old new : Stage) (rounds : List Round) (follows : Follows old rounds new) → Stands old.session
     → Replies old.session (texts_in (rounds_parts rounds)) (replies_of old rounds new follows) new.session
@@ -165,12 +182,23 @@ course_replies old new (round ∷ rounds) follows stands =
     let mid : Stands follows.0.session =
     stands_by old.session follows.0.session (round_askings old round follows.0 runs) (film_bytes round.due) (round_step old follows.0 round runs stands) in
     let first : Replies old.session (due ++ taken) ([] ++ replies) follows.0.session =
-    replies_then old.session opened.session follows.0.session due taken [] replies
-    (comes_replies old opened round.event round.due round.halt runs.comes stands)
-    (takes_replies opened follows.0 round.takings runs.takes (opened_stands old follows.0 round runs stands)) in
+    replies_then old.session (record {
+      old = opened.session;
+      new = follows.0.session;
+      texts = taken;
+      messages = replies;
+      replied = takes_replies opened follows.0 round.takings runs.takes (opened_stands old follows.0 round runs stands);
+    }) due []
+    (comes_replies (record { due = round.due; halt = round.halt; comes = runs.comes }) stands) in
     let all : Replies old.session ((due ++ taken) ++ texts_in (rounds_parts rounds)) (replies ++ replies_of follows.0 rounds new follows.1.1) new.session =
-    replies_then old.session follows.0.session new.session (due ++ taken) (texts_in (rounds_parts rounds)) replies (replies_of follows.0 rounds new follows.1.1)
-    first (course_replies follows.0 new rounds follows.1.1 mid) in
+    replies_then old.session (record {
+      old = follows.0.session;
+      new = new.session;
+      texts = texts_in (rounds_parts rounds);
+      messages = replies_of follows.0 rounds new follows.1.1;
+      replied = course_replies follows.0 new rounds follows.1.1 mid;
+    })
+    (due ++ taken) replies first in
     subst (λ ts. Replies old.session ts (replies ++ replies_of follows.0 rounds new follows.1.1) new.session)
     (sym (texts-append (round_parts round) (rounds_parts rounds)
     ∙ ap (λ ts. ts ++ texts_in (rounds_parts rounds)) (texts-append round.due (takings_parts round.takings)))) all

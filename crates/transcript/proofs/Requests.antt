@@ -84,9 +84,17 @@ goes_cut old new (Taken turn ∷ pieces) goes =
           ∙ ap (λ rs. take n old.input ∷ rs) rest.requests ∙ ap (λ m. m ∷ map message_of (pieces_hearings pieces)) (sym taken.next.message_is);
     }
 
-cut_then : (input : List ℕ) (ps qs : List (List ℕ)) (rest end : List ℕ) → AreCut input ps rest → AreCut rest qs end → AreCut input (ps ++ qs) end
-cut_then input [] qs rest end cut after = subst (λ w. AreCut w qs end) (sym cut) after
-cut_then input (p ∷ ps) qs rest end cut after = (cut.0, (cut.1.0, cut.1.1, cut_then (drop cut.0 input) ps qs rest end cut.1.2 after))
+-- bytes that wait are cut on
+record LaterCut : Type 0 where
+  input : List ℕ
+  pieces : List (List ℕ)
+  rest : List ℕ
+  cut : AreCut input pieces rest
+
+cut_then : (input : List ℕ) (ps : List (List ℕ)) (later : LaterCut) → AreCut input ps later.input →
+    AreCut input (ps ++ later.pieces) later.rest
+cut_then input [] later cut = subst (λ w. AreCut w later.pieces later.rest) (sym cut) later.cut
+cut_then input (p ∷ ps) later cut = (cut.0, (cut.1.0, cut.1.1, cut_then (drop cut.0 input) ps later cut.1.2))
 
 comes_input : (old opened : Stage) (event : Doing) (due : List Part) (halt : Outcome) → Comes old event due halt opened
     → opened.input ≡ old.input ++ bytes_in event
@@ -104,16 +112,24 @@ record CutsAll (heard : List ℕ) (new : Stage) (messages : List (List ℕ)) : T
   cut : AreCut heard pieces new.input
   requests : requests_in pieces ≡ messages
 
+-- what was heard by a stage is cut into pieces with these requests, and into what waits
+record HeardCut (old : Stage) (messages : List (List ℕ)) : Type 0 where
+  heard : List ℕ
+  pieces : List (List ℕ)
+  cut : AreCut heard pieces old.input
+  requests : requests_in pieces ≡ messages
+
 rounds_cut : {new : Stage} {messages : List (List ℕ)} (old : Stage) (rounds : List Round)
-    (takes : TakesUp old rounds new) (heard : List ℕ) (pieces : List (List ℕ))
-    → AreCut heard pieces old.input → requests_in pieces ≡ messages
-    → CutsAll (heard ++ rounds_input rounds) new (messages ++ map message_of (hearings_in old rounds new takes))
-rounds_cut {new} {messages} old [] takes heard pieces cut requests = record {
+    (takes : TakesUp old rounds new) (heard_cut : HeardCut old messages) →
+    CutsAll (heard_cut.heard ++ rounds_input rounds) new (messages ++ map message_of (hearings_in old rounds new takes))
+rounds_cut {new} {messages} old [] takes heard_cut = record {
   pieces = pieces;
   cut = subst (λ w. AreCut w pieces new.input) (sym (append-nil heard)) (subst (AreCut heard pieces) (ap (λ (s : Stage). s.input) (sym takes)) cut);
   requests = requests ∙ sym (append-nil messages);
 }
-rounds_cut {new} {messages} old (round ∷ rounds) takes heard pieces cut requests =
+  where
+    open heard_cut use {heard, pieces, cut, requests}
+rounds_cut {new} {messages} old (round ∷ rounds) takes heard_cut =
     let mid : Stage = takes.0 in
     let runs = takes.1.0 in
     let opened : Stage = runs.opened in
@@ -126,8 +142,18 @@ rounds_cut {new} {messages} old (round ∷ rounds) takes heard pieces cut reques
     let these : requests_in (pieces ++ cuts.pieces) ≡ messages ++ more =
     requests-append pieces cuts.pieces ∙ ap (λ rs. rs ++ requests_in cuts.pieces) requests
     ∙ ap (λ rs. messages ++ rs) (cuts.requests ∙ ap (λ hs. map message_of hs) path.hearings_are) in
-    let rest = rounds_cut {new = new} {messages = messages ++ more} mid rounds takes.1.2 (heard ++ bytes) (pieces ++ cuts.pieces)
-    (cut_then (heard ++ bytes) pieces cuts.pieces opened.input mid.input grown cuts.cut) these in
+    let rest = rounds_cut {new = new} {messages = messages ++ more} mid rounds takes.1.2
+    (record {
+      heard = heard ++ bytes;
+      pieces = pieces ++ cuts.pieces;
+      cut = cut_then (heard ++ bytes) pieces (record {
+        input = opened.input;
+        pieces = cuts.pieces;
+        rest = mid.input;
+        cut = cuts.cut;
+      }) grown;
+      requests = these;
+    }) in
     record {
       pieces = rest.pieces;
       cut = subst (λ w. AreCut w rest.pieces new.input) (append_assoc heard bytes (rounds_input rounds)) rest.cut;
@@ -135,6 +161,8 @@ rounds_cut {new} {messages} old (round ∷ rounds) takes heard pieces cut reques
           ∙ ap (λ rs. messages ++ rs)
           (sym (hearings_map (takings_hearings opened round.takings mid runs.takes) (hearings_in mid rounds new takes.1.2)));
     }
+  where
+    open heard_cut use {heard, pieces, cut, requests}
 
 -- what isn't taken up isn't whole, or waits for a reply
 abbrev IsRest : Stage → Type 0
@@ -166,7 +194,7 @@ last_done old new (round ∷ rounds) done takes = last_done takes.0 new rounds t
 pub requests_taken : (beginning : Beginning) (cutting : Cutting beginning) → AreTaken beginning cutting
 requests_taken beginning cutting =
     let first : Stage = first_stage beginning.films beginning.settings beginning.words in
-    let cuts = rounds_cut first cutting.rounds cutting.takes [] [] refl refl in
+    let cuts = rounds_cut first cutting.rounds cutting.takes (record { heard = []; pieces = []; cut = refl; requests = refl }) in
     let begins : IsDone first = inl (record { torn = refl; waits = inl (inl refl) }) in
     record {
       pieces = cuts.pieces;

@@ -15,12 +15,13 @@ use Rattle.session.specs.declared.states.Awaited.TheVariants.{Nothing, Play, Hal
 use Rattle.session.specs.declared.states.Prepared.{Prepared}
 use Rattle.session.specs.Sendings.{after_slot}
 use Rattle.session.specs.Standings.{Standing, awaited_answer_of}
-use Rattle.conn.specs.Rounds.{Comes, Round, Runs}
-use Rattle.conn.specs.Turns.{Outcome, Unasked, Entered, WasFull, Offered, Part, Stage, Taking, Passed, Answered, IsFinished, TakesAll, film_bytes}
+use Rattle.conn.specs.Rounds.{Round, Runs}
+use Rattle.conn.specs.Turns.{Outcome, Unasked, Entered, WasFull, Offered, Stage, Taking, Passed, Answered, IsFinished, TakesAll, film_bytes}
 use Rattle.transcript.specs.Courses.{Follows, IsParted, asked_by, askings_of, round_askings, takings_askings}
 use Rattle.transcript.specs.Plays.{Asking, Asks, FilmPlay, plays_admitted, plays_begun, kept_by, kept_in, kept_with, plays_of}
 use Rattle.transcript.proofs.Filming.{Stands, opened_stands, round_step, stands_by, taken_stands, takes_step}
 use Rattle.transcript.proofs.Turning.{Begins, Ends, Starts, Stays, TurnsAs, turns_as}
+use Rattle.conn.proofs.Occasions.{EventCome}
 
 -- ---- askings in two parts
 
@@ -243,13 +244,13 @@ halt-none (Halt keep next) (Offered slot note) s new is = λ askings. refl
 halt-none (Look sequence) halt s new is = absurd is
 halt-none (Offer sequence) halt s new is = absurd is
 
-comes-none : (old opened : Stage) (event : Doing) (due : List Part) (halt : Outcome) → Comes old event due halt opened
-    → (askings : List Asking) → plays_begun (asked_by old.session event) halt askings ≡ []
-comes-none old opened (HeardBytes bytes) due halt comes = λ askings. ap (λ h. plays_begun Nothing h askings) comes.1
-comes-none old opened (HeardSlot slot) due halt comes =
-    halt-none (after_slot old.session slot).awaited halt (after_slot old.session slot) opened.session comes.1.finished
-comes-none old opened HeardEnd due halt comes = absurd comes
-comes-none old opened (Sent byte) due halt comes = absurd comes
+comes-none : {old opened : Stage} {event : Doing} (come : EventCome old event opened) (askings : List Asking) →
+    plays_begun (asked_by old.session event) come.halt askings ≡ []
+comes-none {event = HeardBytes bytes} come = λ askings. ap (λ h. plays_begun Nothing h askings) come.comes.1
+comes-none {old} {opened} {event = HeardSlot slot} come =
+    halt-none (after_slot old.session slot).awaited come.halt (after_slot old.session slot) opened.session come.comes.1.finished
+comes-none {event = HeardEnd} come = absurd come.comes
+comes-none {event = Sent byte} come = absurd come.comes
 
 -- an event leaves the heard slot, or raises it
 opened-heard : (old new : Stage) (round : Round) (runs : Runs old round new) → Stands old.session → old.session.heard ≤ runs.opened.session.heard
@@ -267,7 +268,8 @@ course-late old new (round ∷ rounds) follows stands =
     let opened = opened_stands old follows.0 round runs stands in
     let grown : old.session.heard ≤ runs.opened.session.heard = opened-heard old follows.0 round runs stands in
     late-append old.session.heard (round_askings old round follows.0 runs) (askings_of follows.0 rounds new follows.1.1) (
-      none-late old.session.heard (asked_by old.session round.event) round.halt (comes-none old runs.opened round.event round.due round.halt runs.comes),
+      none-late old.session.heard (asked_by old.session round.event) round.halt
+          (comes-none (record { due = round.due; halt = round.halt; comes = runs.comes })),
       late-lower old.session.heard runs.opened.session.heard (takings_askings runs.opened round.takings follows.0 runs.takes) grown
           (takes-late runs.opened follows.0 round.takings runs.takes opened),
     )

@@ -1,11 +1,10 @@
 -- What a slot and a reply make of what is sent of films.
-use Rattle.std.proofs.Common.{◌≡◌, ℕ, ◌+◌, ◌<◌, ◌≤◌, ◌++◌, ◌&&◌, if◌then◌else◌, Bool, true, false, List, [], ◌∷◌, length, refl, ap, sym, ◌∙◌, subst, arith}
+use Rattle.std.proofs.Common.{◌≡◌, ℕ, ◌+◌, ◌<◌, ◌≤◌, ◌&&◌, if◌then◌else◌, Bool, true, false, List, [], ◌∷◌, length, refl, ap, sym, ◌∙◌, subst, arith}
 use Rattle.conn.proofs.Replying.{boundary_here}
 use Rattle.conn.proofs.Playing.{film_cases}
-use Rattle.std.proofs.lemmas.Bool.{eqb-true, true≢false}
-use Rattle.std.proofs.lemmas.List.{append-nil}
+use Rattle.std.proofs.lemmas.Bool.{true≢false}
 use Rattle.film_frames.specs.Tracks.{IsBoundary, framed_bytes}
-use Rattle.pacer.specs.Pacings.{IsPacing, Pacing, due_by, next_boundary, plan_bytes, at_slot, slots_by, stands_at_boundary, step_end, after_step}
+use Rattle.pacer.specs.Pacings.{IsPacing, Pacing, due_by, plan_bytes, at_slot, stands_at_boundary, step_end, after_step}
 use Rattle.pacer.proofs.PacingLemmas.{boundary-from}
 use Rattle.session.specs.declared.states.Play.{Play as Played}
 use Rattle.session.specs.declared.states.Stop.{Stop}
@@ -20,6 +19,7 @@ use Rattle.transcript.specs.Plays.{plays_of}
 use Rattle.transcript.proofs.Films.{IsAtLast, IsOnTime, IsSound, film_over, through_film, through_time}
 use Rattle.transcript.proofs.Steps.{GoesOn}
 use Rattle.transcript.proofs.Turning.{Ending, Going, Idle, Sends, sends_in}
+use Rattle.conn.proofs.Occasions.{SlotPacings}
 
 -- at a boundary the rest of a halted play was sent
 pub ended_at : {p : Pacing} {slot place : ℕ} → IsOnTime p slot → IsAtLast p → IsBoundary p.pieces place → place ≡ p.before + p.sent → p.sent ≡ p.keep
@@ -86,14 +86,16 @@ film_of waits p text slot is =
 abbrev pub going_with : Setup → Played → Pacing → State
 going_with setup play p = Playing setup (record play { pacer = p })
 
-pub going_cases : (waits between : Bool) (setup : Setup) (play : Played) (both one plain : Pacing) →
+pub going_cases : (waits between : Bool) (pacings : SlotPacings) →
     sends_in (if waits && between
-    then after_stop (if waits then (if between then going_with setup play both else going_with setup play one) else going_with setup play plain)
-    else (if waits then (if between then going_with setup play both else going_with setup play one) else going_with setup play plain))
-    ≡ Going (if waits then (if between then both else one) else plain)
-going_cases false between setup play both one plain = refl
-going_cases true false setup play both one plain = refl
-going_cases true true setup play both one plain = refl
+    then after_stop (if waits then (if between then going_with pacings.setup pacings.play pacings.both else going_with pacings.setup
+    pacings.play pacings.front) else going_with pacings.setup pacings.play pacings.plain)
+    else (if waits then (if between then going_with pacings.setup pacings.play pacings.both else going_with pacings.setup pacings.play
+    pacings.front) else going_with pacings.setup pacings.play pacings.plain))
+    ≡ Going (if waits then (if between then pacings.both else pacings.front) else pacings.plain)
+going_cases false between pacings = refl
+going_cases true false pacings = refl
+going_cases true true pacings = refl
 
 abbrev pub ending_with : Setup → Stop → Pacing → State
 ending_with setup stop p = Stopping setup (record stop { pacer = p })
@@ -111,7 +113,7 @@ going_on : (p : Pacing) (heard slot : ℕ) (waits : Bool) → IsSound (Going p) 
 going_on p heard slot waits sound later = record {
   sound = (through_time p heard slot sound.0 later, sound.1);
   later = omega (arith, later);
-  rest = λ askings end more on is. through_film slot end _ (plays_of askings) more sound.0.pacing is;
+  rest = λ askings end more on is. through_film slot end (record { keep = _; plays = plays_of askings; more = more }) sound.0.pacing is;
 }
 
 -- the rest of a halted play goes on, or is over
@@ -130,7 +132,7 @@ ending_over p heard slot sound later stands =
       sound = tt;
       later = omega (arith, later);
       rest = λ askings end more after is.
-          through_film slot end p.keep (plays_of askings) more on.pacing
+          through_film slot end (record { keep = p.keep; plays = plays_of askings; more = more }) on.pacing
           (film_over (plays_of askings) more through ended after is);
     }
 
@@ -143,7 +145,7 @@ ending_on p heard slot sound later = record {
     λ place boundary after. sound.2 place boundary (omega (arith, after, sound.0.pacing.sent)),
   );
   later = omega (arith, later);
-  rest = λ askings end more on is. through_film slot end p.keep (plays_of askings) more sound.0.pacing is;
+  rest = λ askings end more on is. through_film slot end (record { keep = p.keep; plays = plays_of askings; more = more }) sound.0.pacing is;
 }
 
 ending_either : {between : Bool} {p : Pacing} {heard slot : ℕ} → IsSound (Ending p) true heard → heard < slot → stands_at_boundary (after_step true slot p) ≡ between
@@ -166,7 +168,13 @@ slot_goes {heard} {slot} (Playing setup play) waits text sending sound later =
     let p : Pacing = play.pacer in
     let one : Pacing = after_step true slot p in
     let sends : sends_in (state_after waits (Playing setup play) slot) ≡ Going (sent_through slot p) =
-    going_cases waits (stands_at_boundary one) setup play (after_step false slot one) one (after_step false slot p)
+    going_cases waits (stands_at_boundary one) (record {
+      setup = setup;
+      play = play;
+      both = after_step false slot one;
+      front = one;
+      plain = after_step false slot p;
+    })
     ∙ ap Going (slot_is waits (stands_at_boundary one) slot p sound.0.pacing refl) in
     let last : Bool = waits_after waits (Playing setup play) slot in
     subst (λ s. GoesOn (Going p) s heard slot last [] (film_bytes (parts_of waits (Playing setup play) text slot))) (sym sends)

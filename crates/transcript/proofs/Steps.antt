@@ -55,10 +55,18 @@ sound_waits Idle old new slot is waits = tt
 sound_waits (Going p) old new slot is waits = is
 sound_waits (Ending p) old new slot is waits = (is.0, waits, is.2)
 
+-- a pacing by a whole plan, from its start on
+record WholePlay (p : Pacing) : Type 0 where
+  start : ℕ
+  pieces : List (List ℕ)
+  before : ℕ
+  plan : List Segment
+  pacing_is : p ≡ whole_pacing pieces before plan start
+
 -- a play begins
-begin_sound : {p : Pacing} {slot : ℕ} (start : ℕ) (pieces : List (List ℕ)) (before : ℕ) (plan : List Segment) → p ≡ whole_pacing pieces before plan start
-    → IsPacing p → slot < start → IsSound (Going p) true slot
-begin_sound {p} {slot} start pieces before plan is pacing later =
+begin_sound : {p : Pacing} {slot : ℕ} (whole_play : WholePlay p) → IsPacing p → slot < whole_play.start →
+    IsSound (Going p) true slot
+begin_sound {p} {slot} whole_play pacing later =
     let starts : p.start ≡ start = ap (λ (q : Pacing). q.start) is in
     let none : p.passed ≡ 0 = ap (λ (q : Pacing). q.passed) is in
     let sent : p.sent ≡ p.due = ap (λ (q : Pacing). q.sent) is ∙ sym (ap (λ (q : Pacing). q.due) is) in
@@ -66,6 +74,8 @@ begin_sound {p} {slot} start pieces before plan is pacing later =
       record { pacing = pacing; passed = omega (arith, starts, none, later); even = sent },
       whole,
     )
+  where
+    open whole_play use {start, pacing_is as is}
 
 begin_film : {plan : List Segment} {more : List ℕ} (prepared : Prepared) (start : ℕ) (askings : List Asking)
     (end : ℕ) → prepared.paced ≡ plan
@@ -136,7 +146,13 @@ turn_goes old new asked outcome sound (Stays same after still) = record {
 turn_goes old new asked outcome sound (Starts after begins) =
     let p : Pacing = pacing_for begins.prepared begins.start in
     let sounds : IsSound (Going p) true old.heard =
-    begin_sound begins.start (run_pieces begins.prepared.frames) begins.prepared.run.sent begins.prepared.paced refl begins.pacing begins.later in
+    begin_sound (record {
+      start = begins.start;
+      pieces = run_pieces begins.prepared.frames;
+      before = begins.prepared.run.sent;
+      plan = begins.prepared.paced;
+      pacing_is = refl;
+    }) begins.pacing begins.later in
     record {
       sound = subst (λ s. IsSound s true old.heard) (sym begins.sends) sounds;
       later = omega arith;

@@ -82,10 +82,17 @@ front-is : {rest : List ℕ} {all cut : List (List ℕ)} (end : List ℕ) (more 
 front-is {all} {cut} end [] is are none = ([], sym (append-nil cut ∙ is ∙ append-nil all))
 front-is {all} {cut} end (piece ∷ more) is are none = absurd (none are.0 are.1.0)
 
+-- bytes that are a front of framed pieces, each of which stands alone
+pub record FramedFront (bytes : List ℕ) (ps : List (List ℕ)) : Type 0 where
+  pub count : ℕ
+  pub alone : AreAlone ps
+  pub front_is : bytes ≡ take count (framed_bytes ps)
+
 -- whatever was cut is a front of the pieces
-pub cut-front : {bytes rest : List ℕ} {n : ℕ} (ps : List (List ℕ)) (c : ℕ) (cut : List (List ℕ)) → AreAlone ps → bytes ≡ take c (framed_bytes ps)
-    → AreCut bytes cut rest → IsPieceLength rest n → ((more : List (List ℕ)) × (take (count_ended c ps) ps ≡ (cut ++ take n rest ∷ []) ++ more))
-cut-front {bytes} {rest} {n} ps c cut alone is are next =
+pub cut-front : {bytes rest : List ℕ} {n : ℕ} {ps : List (List ℕ)} (front : FramedFront bytes ps)
+    (cut : List (List ℕ)) → AreCut bytes cut rest → IsPieceLength rest n →
+    ((more : List (List ℕ)) × (take (count_ended front.count ps) ps ≡ (cut ++ take n rest ∷ []) ++ more))
+cut-front {bytes} {rest} {n} {ps} front cut are next =
     let all = take (count_ended c ps) ps in
     let P : List ℕ → Type 0 = λ xs. IsStream xs all (rest_at c ps) in
     let stream : IsStream bytes all (rest_at c ps) = subst P (sym is) (cut-at ps c alone) in
@@ -95,3 +102,5 @@ cut-front {bytes} {rest} {n} ps c cut alone is are next =
       | inl more ↦ (more.0, more.1.0)
       | inr more ↦ front-is (drop n rest) more.0 more.1.0 more.1.1 stream.1
     ]
+  where
+    open front use {count as c, alone, front_is as is}

@@ -1,9 +1,8 @@
 -- What a client reads in the reply to PLAY that a server writes.
-use Rattle.std.proofs.Common.{◌≡◌, ◌≢◌, ℕ, zero, suc, ◌+◌, ◌-◌, ◌*◌, ◌/◌, ◌%◌, ◌^◌, ◌<◌, ◌≤◌, ◌&&◌, ◌==◌, Bool, true, false, cond, not, nat_lt, nat_le, nat_eq, List, [], ◌∷◌, ◌++◌, All, codes, decimal, length, get_or, take, drop, Option, Some, None, refl, sym, ap, subst, ◌∙◌, append_assoc, arith, inl, inr, rules}
+use Rattle.std.proofs.Common.{◌≡◌, ℕ, zero, suc, ◌+◌, ◌-◌, ◌*◌, ◌/◌, ◌%◌, ◌^◌, ◌<◌, ◌≤◌, ◌&&◌, ◌==◌, Bool, true, false, not, nat_lt, nat_le, List, [], ◌∷◌, ◌++◌, All, codes, decimal, length, get_or, take, drop, Some, None, refl, sym, ap, subst, ◌∙◌, append_assoc, arith, inl, inr, rules}
 use Rattle.std.specs.Prelude.{option_map, option_and_then}
-use Rattle.std.specs.Str.Parse.{digits_value}
 use Rattle.std.specs.Int.{div_ceil}
-use Rattle.std.proofs.lemmas.Bool.{cases_lt, cond-true, cond-false, eq-eqb, eqb-true, ltb-true, ne_eqb, le-leb, lt-ltb, le-ltb}
+use Rattle.std.proofs.lemmas.Bool.{cases_lt, cond-true, eq-eqb, eqb-true, ltb-true, le-leb}
 use Rattle.std.proofs.lemmas.Grind.{div_ceil_times}
 use Rattle.std.proofs.lemmas.Fmt.{decimal_digit, decimal_nonempty}
 use Rattle.std.proofs.lemmas.List.{append-nil, length-append, get_or_append_left, get_or-append_right, take_at, drop_at}
@@ -24,7 +23,7 @@ use Rattle.interleave.specs.Pieces.{IsRequestLength}
 use Rattle.rtsp_text.specs.Fields.{header_value}
 use Rattle.rtsp_text.specs.Replies.{Field, IsPlain, all_fields, reason, reply_front, reply_text, value_named}
 use Rattle.rtsp_text.proofs.ReadBack.{read_back}
-use Rattle.rtsp_client.specs.Replies.{IsAnswer, has_point, milliseconds, play_range, play_start, range_end, session_id, session_in, start_within, time_in}
+use Rattle.rtsp_client.specs.Replies.{has_point, milliseconds, range_end, session_id, start_within, time_in}
 
 -- as many pictures as a film has last until its end in whole milliseconds
 units-counted : (n time : ℕ) → 360 ≤ time → units_until (n * time / 360) time ≡ n
@@ -73,10 +72,21 @@ no-zero true true clash = absurd (clash refl refl)
 no-zero true false clash = refl
 no-zero false zero_ clash = refl
 
+-- the three digits after a point
+record ThreeDigits : Type 0 where
+  first : ℕ
+  second : ℕ
+  third : ℕ
+  first_is : first < 10
+  second_is : second < 10
+  third_is : third < 10
+
 -- seconds, a point and three digits are read
-point-read : {text s : List ℕ} (n a b c : ℕ) → text ≡ s ++ 46 ∷ (48 + a) ∷ (48 + b) ∷ (48 + c) ∷ [] → s ≡ decimal n → n < 2 ^ 64
-    → a < 10 → b < 10 → c < 10 → time_in text ≡ Some (n * 1000 + (a * 100 + b * 10 + c))
-point-read {text} {s} n a b c is s_is small la lb lc =
+point-read : {text s : List ℕ} (n : ℕ) (after_point : ThreeDigits) →
+    text ≡ s ++ 46 ∷ (48 + after_point.first) ∷ (48 + after_point.second) ∷ (48 + after_point.third) ∷ [] →
+    s ≡ decimal n → n < 2 ^ 64 →
+    time_in text ≡ Some (n * 1000 + (after_point.first * 100 + after_point.second * 10 + after_point.third))
+point-read {text} {s} n after_point is s_is small =
     let tail = 46 ∷ (48 + a) ∷ (48 + b) ∷ (48 + c) ∷ [] in
     let size : length text ≡ length s + 4 = ap (λ (l : List ℕ). length l) is ∙ length-append s tail in
     let some : 0 < length s = omega (arith, ap (λ (l : List ℕ). length l) s_is, decimal_nonempty n small) in
@@ -105,11 +115,19 @@ point-read {text} {s} n a b c is s_is small la lb lc =
     ∙ ap (λ o. option_map (λ f. n * 1000 + f) o) (three a b c la lb lc) in
     cond-true (has_point text) (milliseconds (take (length text - 4) text) (drop (length text - 3) text)) None point
     ∙ (ap (λ l. milliseconds l (drop (length text - 3) text)) seconds ∙ (ap (milliseconds (decimal n)) digits ∙ read))
+  where
+    open after_point use {first as a, second as b, third as c, first_is as la, second_is as lb, third_is as lc}
 
 time-read : (ms : ℕ) → ms < 2 ^ 64 → time_in (seconds_text ms) ≡ Some ms
 time-read ms small =
-    point-read (ms / 1000) (ms / 100 % 10) (ms / 10 % 10) (ms % 10) (seconds-is ms) refl
-    (omega (arith, small)) (omega arith) (omega arith) (omega arith)
+    point-read (ms / 1000) (record {
+      first = ms / 100 % 10;
+      second = ms / 10 % 10;
+      third = ms % 10;
+      first_is = omega arith;
+      second_is = omega arith;
+      third_is = omega arith;
+    }) (seconds-is ms) refl (omega (arith, small))
     ∙ ap Some (let e : ms / 1000 * 1000 + (ms / 100 % 10 * 100 + ms / 10 % 10 * 10 + ms % 10) ≡ ms = omega arith in e)
 
 -- the range from a film's beginning to its end
@@ -149,12 +167,23 @@ start-read slots some few =
     ap (λ o. option_and_then start_within o) (decimal_read slots (omega (arith, few)))
     ∙ cond-true (nat_le 1 slots && nat_le slots (2 ^ 62 + 1)) (Some slots) None (ap (λ b. b && nat_le slots (2 ^ 62 + 1)) (le-leb 1 slots some) ∙ le-leb slots (2 ^ 62 + 1) few)
 
-named-read : (message id info : List ℕ) (sequence end_ms slots : ℕ) → IsRequestLength message (length message)
-    → All IsPlain (all_fields (Some sequence) (play_named id (codes "npt=0.000-" ++ seconds_text end_ms) info slots))
-    → message ≡ reply_text 200 (Some sequence) (play_named id (codes "npt=0.000-" ++ seconds_text end_ms) info slots) []
-    → sequence < 2 ^ 64 → end_ms < 2 ^ 64 → 1 ≤ slots → slots ≤ 2 ^ 62 + 1 → IsPlayRead message id sequence end_ms slots
+-- the numbers of a PLAY's reply, in their ranges
+pub record PlayNumbers : Type 0 where
+  pub sequence : ℕ
+  pub end_ms : ℕ
+  pub slots : ℕ
+  pub small : sequence < 2 ^ 64
+  pub short : end_ms < 2 ^ 64
+  pub some : 1 ≤ slots
+  pub few : slots ≤ 2 ^ 62 + 1
+
+named-read : {message id : List ℕ} (info : List ℕ) (numbers : PlayNumbers) →
+    IsRequestLength message (length message) →
+    All IsPlain (all_fields (Some numbers.sequence) (play_named id (codes "npt=0.000-" ++ seconds_text numbers.end_ms) info numbers.slots)) →
+    message ≡ reply_text 200 (Some numbers.sequence) (play_named id (codes "npt=0.000-" ++ seconds_text numbers.end_ms) info numbers.slots) [] →
+    IsPlayRead message id numbers.sequence numbers.end_ms numbers.slots
 unfolding reply_text
-named-read message id info sequence end_ms slots size plain is small short some few =
+named-read {message} {id} info numbers size plain is =
     let range = codes "npt=0.000-" ++ seconds_text end_ms in
     let fields = play_named id range info slots in
     let head = reply_front 200 (Some sequence) fields ++ codes "\r\n" in
@@ -172,6 +201,8 @@ named-read message id info sequence end_ms slots size plain is small short some 
       range = ap (λ v. option_and_then range_end v) (value (codes "Range") ∙ named-range id range info sequence slots) ∙ range-read end_ms short;
       start = ap (λ v. option_and_then start_within (option_and_then number_of v)) (value (codes "x-Start") ∙ named-start id range info sequence slots) ∙ start-read slots some few;
     }
+  where
+    open numbers use {sequence, end_ms, slots, small, short, some, few}
 
 -- no time in front
 zero-text : seconds_text 0 ≡ codes "0.000"
@@ -182,15 +213,28 @@ range-text end_ms =
     ap (λ z. codes "npt=" ++ (z ++ (codes "-" ++ (seconds_text end_ms ++ [])))) zero-text
     ∙ ap (λ l. codes "npt=0.000-" ++ l) (append-nil (seconds_text end_ms))
 
-pub play-read : (message id authority name : List ℕ) (sequence end_ms number time slots : ℕ) → IsRequestLength message (length message)
-    → message ≡ play_text sequence (play_fields id 0 end_ms authority name number time) slots
-    → All IsPlain (all_fields (Some sequence) (play_fields id 0 end_ms authority name number time ++ field (codes "x-Start") (decimal slots) ∷ []))
-    → sequence < 2 ^ 64 → end_ms < 2 ^ 64 → 1 ≤ slots → slots ≤ 2 ^ 62 + 1 → IsPlayRead message id sequence end_ms slots
-play-read message id authority name sequence end_ms number time slots size is plain small short some few =
-    let info : List ℕ = joined_parts (codes "url=rtsp://" ∷ authority ∷ codes "/" ∷ name ∷ codes "/video;seq=" ∷ decimal number ∷ codes ";rtptime=" ∷ decimal time ∷ []) in
+-- what a reply tells of its stream: where it is asked for, and its first packet
+pub record StreamInfo : Type 0 where
+  pub authority : List ℕ
+  pub name : List ℕ
+  pub number : ℕ
+  pub time : ℕ
+
+pub play-read : {message id : List ℕ} (stream_info : StreamInfo) (numbers : PlayNumbers) →
+    IsRequestLength message (length message) →
+    message ≡ play_text numbers.sequence (play_fields id 0 numbers.end_ms stream_info.authority stream_info.name stream_info.number
+    stream_info.time) numbers.slots →
+    All IsPlain (all_fields (Some numbers.sequence) (play_fields id 0 numbers.end_ms stream_info.authority stream_info.name
+    stream_info.number stream_info.time ++ field (codes "x-Start") (decimal numbers.slots) ∷ [])) →
+    IsPlayRead message id numbers.sequence numbers.end_ms numbers.slots
+play-read {id} stream_info numbers size is plain =
+    let info : List ℕ = joined_parts (codes "url=rtsp://" ∷ stream_info.authority ∷ codes "/" ∷ stream_info.name ∷ codes "/video;seq="
+    ∷ decimal stream_info.number ∷ codes ";rtptime=" ∷ decimal stream_info.time ∷ []) in
     let P : List ℕ → Type 0 = λ r. All IsPlain (all_fields (Some sequence) (play_named id r info slots)) in
-    named-read message id info sequence end_ms slots size (subst P (range-text end_ms) plain)
-    (is ∙ ap (λ r. reply_text 200 (Some sequence) (play_named id r info slots) []) (range-text end_ms)) small short some few
+    named-read info numbers size (subst P (range-text end_ms) plain)
+    (is ∙ ap (λ r. reply_text 200 (Some sequence) (play_named id r info slots) []) (range-text end_ms))
+  where
+    open numbers use {sequence, end_ms, slots}
 
 -- ---- the number of a film's units
 

@@ -30,6 +30,7 @@ use Rattle.session.specs.Steps.{IsPlayIn}
 use Rattle.conn.specs.Turns.{HasHeard, IsAnswered, IsHaltAnswered, IsHalted, IsLookAnswered, IsPlayAnswered, Outcome, Unasked, Entered, WasFull, Offered}
 use Rattle.transcript.specs.Plays.{Asking, plays_admitted, plays_begun, booked_by, kept_by, kept_with}
 use Rattle.session.proofs.Shapes.{HearsAs, Replies, SetsUp, AsksPlay, Stops, AsksLook, AsksOffer, hears_as}
+use Rattle.transcript.proofs.Occasions.{PlayEntry, HaltAsked}
 
 -- what of a film is being sent: nothing, a play, or the rest of one that was halted
 pub data Sends : Type 0 where
@@ -100,16 +101,24 @@ pub data TurnsAs (old : Standing) (asked : Awaited) (outcome : Outcome) (new : S
 pub unasked_still : (asked : Awaited) → IsStill asked Unasked
 unasked_still asked = record { none = λ later. refl; kept = λ later. refl; untold = λ made. refl }
 
+-- a session with a reply that waits, and else as before
+record ReplyWaits (old asked : Standing) : Type 0 where
+  sends : sends_in asked.state ≡ sends_in old.state
+  heard : asked.heard ≡ old.heard
+  awaited : asked.awaited ≡ old.awaited
+  waits : asked.waits ≡ true
+
 -- a reply of the session's own
-reply_turns : {old : Standing} {outcome : Outcome} {new : Standing} (asked : Standing) → IsAnswered asked AskReply outcome new → old.awaited ≡ Nothing
-    → sends_in asked.state ≡ sends_in old.state → asked.heard ≡ old.heard → asked.awaited ≡ old.awaited → asked.waits ≡ true
-    → TurnsAs old asked.awaited outcome new
-reply_turns {old} {outcome = Unasked} {new} asked answered rest sends heard awaited waits =
+reply_turns : {old : Standing} {outcome : Outcome} {new asked : Standing} → IsAnswered asked AskReply outcome new →
+    old.awaited ≡ Nothing → ReplyWaits old asked → TurnsAs old asked.awaited outcome new
+reply_turns {old} {outcome = Unasked} {new} {asked} answered rest waiting =
     subst (λ (s : Standing). TurnsAs old asked.awaited Unasked s) (sym answered)
     (Stays sends (record { heard = heard; awaited = awaited ∙ rest; waits = waits }) (unasked_still asked.awaited))
-reply_turns {outcome = Entered placed} {new} asked answered rest sends heard awaited waits = absurd answered
-reply_turns {outcome = WasFull more entries live} {new} asked answered rest sends heard awaited waits = absurd answered
-reply_turns {outcome = Offered at_slot note} {new} asked answered rest sends heard awaited waits = absurd answered
+  where
+    open waiting use {sends, heard, awaited, waits}
+reply_turns {outcome = Entered placed} {new} answered rest waiting = absurd answered
+reply_turns {outcome = WasFull more entries live} {new} answered rest waiting = absurd answered
+reply_turns {outcome = Offered at_slot note} {new} answered rest waiting = absurd answered
 
 -- a play's answer
 idle_in : (state : State) (setup : Setup) (paused : Option Run) → state ≡ Ready setup paused → sends_in state ≡ Idle
@@ -133,12 +142,16 @@ play_in {setup} {paused} {prepared} {awaited} place start is asks plays =
     subst (At (Ready setup paused)) asks (subst (λ (s : State). At s awaited) is plays) in
     (there.pacing, there.plan)
 
+-- a session that asks stands as before, and has heard no more
+record SameHeard (old asked : Standing) : Type 0 where
+  state : asked.state ≡ old.state
+  heard : asked.heard ≡ old.heard
+
 play_turns : {old : Standing} {setup : Setup} {paused : Option Run} {prepared : Prepared} {placed : Placed}
-    {answer : Answer} {new : Standing} (asked : Standing)
-    → placed.entry.answer ≡ answer → placed.entry.command ≡ play_of asked.heard prepared.plan → IsPlayAnswered asked placed answer new
-    → old.state ≡ Ready setup paused → asked.state ≡ old.state → asked.heard ≡ old.heard → asked.awaited ≡ Play prepared
-    → TurnsAs old asked.awaited (Entered placed) new
-play_turns {prepared} {placed} {answer = Admitted start} {new} asked is command answered ready state heard awaited =
+    {answer : Answer} {new asked : Standing} → PlayEntry asked prepared placed answer →
+    IsPlayAnswered asked placed answer new → old.state ≡ Ready setup paused → SameHeard old asked →
+    asked.awaited ≡ Play prepared → TurnsAs old asked.awaited (Entered placed) new
+play_turns {prepared} {placed} {answer = Admitted start} {new} {asked} entry answered ready same awaited =
     let plays : IsPlayIn (admitted_in asked.state asked.awaited placed.place start) =
     subst IsPlayIn (ap (λ (s : Standing). s.state) answered.1) answered.2 in
     Starts (record {
@@ -152,27 +165,30 @@ play_turns {prepared} {placed} {answer = Admitted start} {new} asked is command 
       idle = ap sends_in ready;
       asked_is = awaited;
       outcome_is = refl;
-      answer = is;
-      command = command ∙ ap (λ h. play_of h prepared.plan) heard;
+      answer = entry.answer_is;
+      command = entry.command ∙ ap (λ h. play_of h prepared.plan) heard;
       later = subst (λ h. h < start) heard answered.0;
       paced = (play_in placed.place start (state ∙ ready) awaited plays).1;
       sends = ap (λ (s : Standing). sends_in s.state) answered.1
           ∙ admitted_sends placed.place start (state ∙ ready) awaited;
       pacing = (play_in placed.place start (state ∙ ready) awaited plays).0;
     })
-play_turns {prepared} {placed} {answer = Overflow slot booked asks} {new} asked is command answered ready state heard awaited =
-    Stays (ap (λ (s : Standing). sends_in s.state) answered ∙ ap sends_in state) (record {
-      heard = ap (λ (s : Standing). s.heard) answered ∙ heard;
+  where
+    open same use {state, heard}
+play_turns {prepared} {placed} {answer = Overflow slot booked asks} {new} {asked} entry answered ready same awaited =
+    Stays (ap (λ (s : Standing). sends_in s.state) answered ∙ ap sends_in same.state) (record {
+      heard = ap (λ (s : Standing). s.heard) answered ∙ same.heard;
       awaited = ap (λ (s : Standing). s.awaited) answered;
       waits = ap (λ (s : Standing). s.waits) answered;
     }) (record {
-      none = λ later. ap (λ a. plays_admitted a placed.entry.answer later) awaited ∙ ap (λ a. plays_admitted (Play prepared) a later) is;
-      kept = λ later. ap (λ c. kept_by c later) command;
-      untold = λ made. ap (λ c. booked_by (play_admitted c placed.entry.answer) made) command
-          ∙ ap (λ a. booked_by (play_admitted (play_of asked.heard prepared.plan) a) made) is;
+      none = λ later. ap (λ a. plays_admitted a placed.entry.answer later) awaited ∙ ap (λ a. plays_admitted (Play prepared) a later)
+          entry.answer_is;
+      kept = λ later. ap (λ c. kept_by c later) entry.command;
+      untold = λ made. ap (λ c. booked_by (play_admitted c placed.entry.answer) made) entry.command
+          ∙ ap (λ a. booked_by (play_admitted (play_of asked.heard prepared.plan) a) made) entry.answer_is;
     })
-play_turns {answer = Halted} {new} asked is command answered ready state heard awaited = absurd answered
-play_turns {answer = Looked now at booked} {new} asked is command answered ready state heard awaited = absurd answered
+play_turns {answer = Halted} {new} entry answered ready same awaited = absurd answered
+play_turns {answer = Looked now at booked} {new} entry answered ready same awaited = absurd answered
 
 asked_play : {old : Standing} {setup : Setup} {paused : Option Run} {prepared : Prepared} {outcome : Outcome}
     {new : Standing} (asked : Standing)
@@ -180,7 +196,7 @@ asked_play : {old : Standing} {setup : Setup} {paused : Option Run} {prepared : 
     → asked.awaited ≡ Play prepared → TurnsAs old asked.awaited outcome new
 asked_play {outcome = Unasked} {new} asked answered ready state heard awaited = absurd answered
 asked_play {outcome = Entered placed} {new} asked answered ready state heard awaited =
-    play_turns asked refl answered.0 answered.1 ready state heard awaited
+    play_turns {asked = asked} (record { answer_is = refl; command = answered.0 }) answered.1 ready (record { state = state; heard = heard }) awaited
 asked_play {outcome = WasFull more entries live} {new} asked answered ready state heard awaited =
     Stays (ap (λ (s : Standing). sends_in s.state) answered.0 ∙ ap sends_in state) (record {
       heard = ap (λ (s : Standing). s.heard) answered.0 ∙ heard;
@@ -205,11 +221,10 @@ halt_state {awaited} {setup} {play} {next} is asks =
     ap (λ (s : State). halted_in s awaited) is ∙ ap (λ (a : Awaited). halted_in (Playing setup play) a) asks
 
 halt_turns : {old : Standing} {setup : Setup} {play : Played} {keep : ℕ} {next : Next} {placed : Placed}
-    {asked new : Standing}
-    → IsHaltAnswered asked keep placed new → old.state ≡ Playing setup play → is_answered next ≡ true → keep ≡ next_boundary play.pacer
-    → asked.state ≡ Playing setup (record play { pacer = record play.pacer { keep = keep } }) → asked.awaited ≡ Halt keep next
-    → asked.heard ≡ old.heard → TurnsAs old asked.awaited (Entered placed) new
-halt_turns {setup} {play} {keep} {next} {placed} {asked} {new} halted playing told keep_is state awaited heard =
+    {asked new : Standing} → IsHaltAnswered asked keep placed new → is_answered next ≡ true →
+    keep ≡ next_boundary play.pacer → HaltAsked old asked setup play keep next → asked.heard ≡ old.heard →
+    TurnsAs old asked.awaited (Entered placed) new
+halt_turns {setup} {play} {keep} {next} {placed} {asked} {new} halted told keep_is halt heard =
     let stopped : Played = record play { pacer = record play.pacer { keep = keep } } in
     let is : new ≡ after_halt asked placed.place = halted.halts in
     Ends (record {
@@ -229,26 +244,26 @@ halt_turns {setup} {play} {keep} {next} {placed} {asked} {new} halted playing to
       sends = ap (λ (s : Standing). sends_in s.state) is ∙ ap sends_in (halt_state state awaited)
           ∙ stopped_sends setup stopped next told ∙ ap (λ k. Ending (record play.pacer { keep = k })) keep_is;
     })
+  where
+    open halt use {playing, state, awaited}
 
 asked_halt : {old : Standing} {setup : Setup} {play : Played} {keep : ℕ} {next : Next} {outcome : Outcome}
-    {new : Standing} (asked : Standing)
-    → IsHalted asked keep outcome new → old.state ≡ Playing setup play → is_answered next ≡ true → keep ≡ next_boundary play.pacer
-    → asked.state ≡ Playing setup (record play { pacer = record play.pacer { keep = keep } }) → asked.awaited ≡ Halt keep next
-    → asked.heard ≡ old.heard → TurnsAs old asked.awaited outcome new
-asked_halt {next} {outcome = Unasked} {new} asked halted playing told keep_is state awaited heard = absurd halted
-asked_halt {next} {outcome = Entered placed} {new} asked halted playing told keep_is state awaited heard =
-    halt_turns halted playing told keep_is state awaited heard
-asked_halt {next} {outcome = WasFull more entries live} {new} asked halted playing told keep_is state awaited heard = absurd halted
-asked_halt {next} {outcome = Offered at_slot note} {new} asked halted playing told keep_is state awaited heard = absurd halted
+    {new asked : Standing} → IsHalted asked keep outcome new → is_answered next ≡ true →
+    keep ≡ next_boundary play.pacer → HaltAsked old asked setup play keep next → asked.heard ≡ old.heard →
+    TurnsAs old asked.awaited outcome new
+asked_halt {next} {outcome = Unasked} {new} halted told keep_is halt heard = absurd halted
+asked_halt {next} {outcome = Entered placed} {new} halted told keep_is halt heard =
+    halt_turns halted told keep_is halt heard
+asked_halt {next} {outcome = WasFull more entries live} {new} halted told keep_is halt heard = absurd halted
+asked_halt {next} {outcome = Offered at_slot note} {new} halted told keep_is halt heard = absurd halted
 
 -- a look's answer, and an offer's
-look_answered : {old : Standing} {placed : Placed} {sequence : ℕ} {new : Standing} (answer : Answer)
-    (asked : Standing)
-    → placed.entry.command ≡ look_at asked.heard → IsLookAnswered asked placed answer new
-    → asked.state ≡ old.state → asked.heard ≡ old.heard → asked.awaited ≡ Look sequence → TurnsAs old asked.awaited (Entered placed) new
-look_answered {placed} {new} (Looked now at booked) asked command answered state heard awaited =
-    Stays (ap (λ (s : Standing). sends_in s.state) answered ∙ ap sends_in state) (record {
-      heard = ap (λ (s : Standing). s.heard) answered ∙ heard;
+look_answered : {old : Standing} {placed : Placed} {sequence : ℕ} {new asked : Standing} (answer : Answer) →
+    placed.entry.command ≡ look_at asked.heard → IsLookAnswered asked placed answer new → SameHeard old asked →
+    asked.awaited ≡ Look sequence → TurnsAs old asked.awaited (Entered placed) new
+look_answered {placed} {new} (Looked now at booked) command answered same awaited =
+    Stays (ap (λ (s : Standing). sends_in s.state) answered ∙ ap sends_in same.state) (record {
+      heard = ap (λ (s : Standing). s.heard) answered ∙ same.heard;
       awaited = ap (λ (s : Standing). s.awaited) answered;
       waits = ap (λ (s : Standing). s.waits) answered;
     }) (record {
@@ -256,16 +271,16 @@ look_answered {placed} {new} (Looked now at booked) asked command answered state
       kept = λ later. ap (λ c. kept_by c later) command;
       untold = λ made. ap (λ c. booked_by (play_admitted c placed.entry.answer) made) command;
     })
-look_answered {new} (Admitted start) asked command answered state heard awaited = absurd answered
-look_answered {new} (Overflow slot booked asks) asked command answered state heard awaited = absurd answered
-look_answered {new} Halted asked command answered state heard awaited = absurd answered
+look_answered {new} (Admitted start) command answered same awaited = absurd answered
+look_answered {new} (Overflow slot booked asks) command answered same awaited = absurd answered
+look_answered {new} Halted command answered same awaited = absurd answered
 
 asked_look : {old : Standing} {slot sequence : ℕ} {outcome : Outcome} {new : Standing} (asked : Standing) → IsAnswered asked (AskLook slot) outcome new
     → slot ≡ asked.heard → asked.state ≡ old.state → asked.heard ≡ old.heard → asked.awaited ≡ Look sequence
     → TurnsAs old asked.awaited outcome new
 asked_look {slot} {outcome = Unasked} {new} asked answered slot_is state heard awaited = absurd answered
 asked_look {slot} {outcome = Entered placed} {new} asked answered slot_is state heard awaited =
-    look_answered placed.entry.answer asked (answered.0 ∙ ap look_at slot_is) answered.1 state heard awaited
+    look_answered {asked = asked} placed.entry.answer (answered.0 ∙ ap look_at slot_is) answered.1 (record { state = state; heard = heard }) awaited
 asked_look {slot} {outcome = WasFull more entries live} {new} asked answered slot_is state heard awaited =
     Stays (ap (λ (s : Standing). sends_in s.state) answered.0 ∙ ap sends_in state) (record {
       heard = ap (λ (s : Standing). s.heard) answered.0 ∙ heard;
@@ -292,18 +307,28 @@ asked_offer {outcome = Offered at_slot note} {new} plan offers asked answered st
 answers_as : {old : Standing} {ask : Ask} {outcome : Outcome} {asked new : Standing} → old.awaited ≡ Nothing → IsAnswered asked ask outcome new
     → HearsAs old ask asked → TurnsAs old asked.awaited outcome new
 answers_as {ask} {outcome} {asked} {new} rest answered (Replies text tearing ask_is is) =
-    reply_turns asked (subst (λ a. IsAnswered asked a outcome new) ask_is answered) rest (ap (λ (s : Standing). sends_in s.state) is)
-    (ap (λ (s : Standing). s.heard) is) (ap (λ (s : Standing). s.awaited) is) (ap (λ (s : Standing). s.waits) is)
+    reply_turns (subst (λ a. IsAnswered asked a outcome new) ask_is answered) rest
+    (record {
+      sends = ap (λ (s : Standing). sends_in s.state) is;
+      heard = ap (λ (s : Standing). s.heard) is;
+      awaited = ap (λ (s : Standing). s.awaited) is;
+      waits = ap (λ (s : Standing). s.waits) is;
+    })
 answers_as {ask} {outcome} {asked} {new} rest answered (SetsUp text setup init ask_is is) =
-    reply_turns asked (subst (λ a. IsAnswered asked a outcome new) ask_is answered) rest
-    (ap (λ (s : Standing). sends_in s.state) is ∙ sym (ap sends_in init)) (ap (λ (s : Standing). s.heard) is) (ap (λ (s : Standing). s.awaited) is)
-    (ap (λ (s : Standing). s.waits) is)
+    reply_turns (subst (λ a. IsAnswered asked a outcome new) ask_is answered) rest
+    (record {
+      sends = ap (λ (s : Standing). sends_in s.state) is ∙ sym (ap sends_in init);
+      heard = ap (λ (s : Standing). s.heard) is;
+      awaited = ap (λ (s : Standing). s.awaited) is;
+      waits = ap (λ (s : Standing). s.waits) is;
+    })
 answers_as {ask} {outcome} {asked} {new} rest answered (AsksPlay setup paused prepared text ready ask_is is) =
     asked_play asked (subst (λ a. IsAnswered asked a outcome new) ask_is answered) ready
     (ap (λ (s : Standing). s.state) is) (ap (λ (s : Standing). s.heard) is) (ap (λ (s : Standing). s.awaited) is)
 answers_as {ask} {outcome} {asked} {new} rest answered (Stops setup play keep next text playing told keep_is ask_is is) =
-    asked_halt asked (subst (λ a. IsAnswered asked a outcome new) ask_is answered) playing told keep_is
-    (ap (λ (s : Standing). s.state) is) (ap (λ (s : Standing). s.awaited) is) (ap (λ (s : Standing). s.heard) is)
+    asked_halt (subst (λ a. IsAnswered asked a outcome new) ask_is answered) told keep_is
+    (record { playing = playing; state = ap (λ (s : Standing). s.state) is; awaited = ap (λ (s : Standing). s.awaited) is })
+    (ap (λ (s : Standing). s.heard) is)
 answers_as {ask} {outcome} {asked} {new} rest answered (AsksLook looks sequence ask_is is) =
     asked_look asked (subst (λ a. IsAnswered asked a outcome new) ask_is answered)
     (sym (ap (λ (s : Standing). s.heard) is)) (ap (λ (s : Standing). s.state) is) (ap (λ (s : Standing). s.heard) is)

@@ -4,13 +4,14 @@ use Rattle.std.proofs.lemmas.Bool.{true≢false}
 use Rattle.std.proofs.lemmas.List.{append-nil, append_assoc}
 use Rattle.vod_base.specs.Links.{Doing, HeardBytes, HeardEnd, HeardSlot, Sent}
 use Rattle.session.specs.Ranges.{AreFilms}
-use Rattle.conn.specs.Rounds.{Comes, Round, Runs, RunsAll, IsStopped, rounds_outcomes, takings_bytes, takings_outcomes}
+use Rattle.conn.specs.Rounds.{Round, Runs, RunsAll, IsStopped, rounds_outcomes, takings_bytes, takings_outcomes}
 use Rattle.conn.specs.Turns.{HasStepped, Outcome, Part, Stage, parts_bytes, stage}
 use Rattle.conn.specs.declared.reports.ConnEnd.{ConnEnd}
 use Rattle.transcript.specs.Courses.{first_stage, rounds_bytes}
 use Rattle.transcript.specs.Cuttings.{AllLackAlike, HearAlike, SendAlike, AreSameAnswers, Beginning, Cutting, Hearing, IsDone, TakesUp, all_heard, answer_in, answers_in, heard_in, hearings_in, takings_hearings}
 use Rattle.transcript.proofs.Once.{stepped_films, steps_same}
 use Rattle.transcript.proofs.Paths.{GoesAll, Path, Piece, ends_same, goes_films, goes_grow, join_answers, join_bytes, join_goes, join_hearings, longer, path_of, pieces_answers, pieces_bytes, pieces_hearings}
+use Rattle.conn.proofs.Occasions.{EventCome}
 
 -- a slot, and the bytes that came after it
 record Leg : Type 0 where
@@ -97,18 +98,25 @@ record Later (mid new : Stage) (heard : List Doing) (bytes : List ℕ) (answers 
   each : (base : Stage) (first : List ℕ) (pieces : List Piece) → GoesAll (longer base first) pieces mid
       → Split base new (bytes_heard first ++ heard) (pieces_bytes pieces ++ bytes) (pieces_answers pieces ++ answers) (pieces_hearings pieces ++ hearings)
 
+-- bytes that come first, and the pieces that lead with them from one stage to another
+record FrontTaken (base cur : Stage) : Type 0 where
+  bytes : List ℕ
+  pieces : List Piece
+  goes : GoesAll (longer base bytes) pieces cur
+
 -- bytes came
 bytes_split : {base opened mid new : Stage} {heard : List Doing} {sent taken : List ℕ} {answers more : List Outcome}
-    {hearings also : List Hearing} (cur : Stage) (first bytes : List ℕ) (pieces : List Piece) → GoesAll (longer base first) pieces cur → opened ≡ longer cur bytes
-    → Path opened mid taken more also → Later mid new heard sent answers hearings
-    → Split base new (bytes_heard first ++ (bytes_heard bytes ++ heard)) (pieces_bytes pieces ++ (taken ++ sent))
-    (pieces_answers pieces ++ (more ++ answers)) (pieces_hearings pieces ++ (also ++ hearings))
-bytes_split {base} {opened} {mid} {new} {heard} {sent} {taken} {answers} {more} {hearings} {also} cur first bytes pieces goes comes path later =
+    {hearings also : List Hearing} {cur : Stage} (taken_front : FrontTaken base cur) (bytes : List ℕ) →
+    opened ≡ longer cur bytes → Path opened mid taken more also → Later mid new heard sent answers hearings →
+    Split base new (bytes_heard taken_front.bytes ++ (bytes_heard bytes ++ heard)) (pieces_bytes taken_front.pieces ++ (taken ++ sent))
+    (pieces_answers taken_front.pieces ++ (more ++ answers)) (pieces_hearings taken_front.pieces ++ (also ++ hearings))
+bytes_split {base} {opened} {mid} {new} {heard} {sent} {taken} {answers} {more} {hearings} {also} {cur} taken_front bytes comes path later =
     let ps : List Piece = path.pieces in
     let front : GoesAll (longer base (first ++ bytes)) pieces opened =
     subst (λ s. GoesAll s pieces opened) (ap (λ input. stage base.session input) (append_assoc base.input first bytes))
     (subst (GoesAll (longer (longer base first) bytes) pieces) (sym comes) (goes_grow (longer base first) cur pieces bytes goes)) in
-    let all : GoesAll (longer base (first ++ bytes)) (pieces ++ ps) mid = join_goes (longer base (first ++ bytes)) opened mid pieces ps front path.goes in
+    let all : GoesAll (longer base (first ++ bytes)) (pieces ++ ps) mid =
+    join_goes (longer base (first ++ bytes)) (record { old = opened; new = mid; pieces = ps; leads = path.goes }) pieces front in
     split_as {base = base} {new = new} {heard = bytes_heard (first ++ bytes) ++ heard} {heard' = bytes_heard first ++ (bytes_heard bytes ++ heard)} {bytes = pieces_bytes (pieces ++ ps) ++ sent} {bytes' = pieces_bytes pieces ++ (taken ++ sent)} {answers = pieces_answers (pieces ++ ps) ++ answers} {answers' = pieces_answers pieces ++ (more ++ answers)} {hearings = pieces_hearings (pieces ++ ps) ++ hearings} {hearings' = pieces_hearings pieces ++ (also ++ hearings)}
     (sym (append_assoc (bytes_heard first) (bytes_heard bytes) heard) ∙ ap (λ ds. ds ++ heard) (sym (heard-append first bytes)))
     (sym (append_assoc (pieces_bytes pieces) taken sent) ∙ ap (λ bs. (pieces_bytes pieces ++ bs) ++ sent) (sym path.bytes_are)
@@ -118,16 +126,17 @@ bytes_split {base} {opened} {mid} {new} {heard} {sent} {taken} {answers} {more} 
     (sym (append_assoc (pieces_hearings pieces) also hearings) ∙ ap (λ hs. (pieces_hearings pieces ++ hs) ++ hearings) (sym path.hearings_are)
     ∙ ap (λ hs. hs ++ hearings) (sym (join_hearings pieces ps)))
     (later.each base (first ++ bytes) (pieces ++ ps) all)
+  where
+    open taken_front use {bytes as first, pieces, goes}
 
 -- a slot came
 slot_split : {base cur opened mid new : Stage} {slot : ℕ} {due : List Part} {halt : Outcome} {heard : List Doing}
-    {sent taken : List ℕ} {answers more : List Outcome} {hearings also : List Hearing} (first : List ℕ)
-    (pieces : List Piece) → GoesAll (longer base first) pieces cur → IsDone cur
-    → opened.input ≡ cur.input → HasStepped cur.session slot due halt opened.session → Path opened mid taken more also
-    → Later mid new heard sent answers hearings
-    → Split base new (bytes_heard first ++ (HeardSlot slot ∷ heard)) (pieces_bytes pieces ++ (parts_bytes due ++ (taken ++ sent)))
-    (pieces_answers pieces ++ (answer_in halt ++ (more ++ answers))) (pieces_hearings pieces ++ (also ++ hearings))
-slot_split {base} {cur} {opened} {mid} {new} {slot} {due} {halt} {sent} {taken} {answers} {more} {hearings} first pieces goes done input stepped path later =
+    {sent taken : List ℕ} {answers more : List Outcome} {hearings also : List Hearing} (front : FrontTaken base cur) →
+    IsDone cur → opened.input ≡ cur.input → HasStepped cur.session slot due halt opened.session →
+    Path opened mid taken more also → Later mid new heard sent answers hearings →
+    Split base new (bytes_heard front.bytes ++ (HeardSlot slot ∷ heard)) (pieces_bytes front.pieces ++ (parts_bytes due ++ (taken ++ sent)))
+    (pieces_answers front.pieces ++ (answer_in halt ++ (more ++ answers))) (pieces_hearings front.pieces ++ (also ++ hearings))
+slot_split {base} {cur} {opened} {mid} {new} {slot} {due} {halt} {sent} {taken} {answers} {more} {hearings} front done input stepped path later =
     let ps : List Piece = path.pieces in
     let there : GoesAll (longer opened []) ps mid =
     subst (λ s. GoesAll s ps mid) (ap (λ i. stage opened.session i) (sym (append-nil opened.input))) path.goes in
@@ -146,23 +155,28 @@ slot_split {base} {cur} {opened} {mid} {new} {slot} {due} {halt} {sent} {taken} 
       answers_are = ap (λ os. pieces_answers pieces ++ (answer_in halt ++ os)) (ap (λ os. os ++ answers) (sym path.answers_are) ∙ rest.answers_are);
       hearings_are = ap (λ hs. pieces_hearings pieces ++ hs) (ap (λ hs. hs ++ hearings) (sym path.hearings_are) ∙ rest.hearings_are);
     }
+  where
+    open front use {bytes as first, pieces, goes}
 
 event_split : {base cur opened mid new : Stage} {heard : List Doing} {sent taken : List ℕ}
-    {answers more : List Outcome} {hearings also : List Hearing} (first : List ℕ) (event : Doing) (due : List Part)
-    (halt : Outcome) (pieces : List Piece) → GoesAll (longer base first) pieces cur
-    → IsDone cur → Comes cur event due halt opened → Path opened mid taken more also → Later mid new heard sent answers hearings
-    → Split base new (bytes_heard first ++ (heard_in event ++ heard)) (pieces_bytes pieces ++ (parts_bytes due ++ (taken ++ sent)))
-    (pieces_answers pieces ++ (answer_in halt ++ (more ++ answers))) (pieces_hearings pieces ++ (also ++ hearings))
-event_split {base} {cur} {opened} {new} {heard} {sent} {taken} {answers} {more} {hearings} {also} first (HeardBytes bytes) due halt pieces goes done comes path later =
+    {answers more : List Outcome} {hearings also : List Hearing} {event : Doing} (front : FrontTaken base cur)
+    (come : EventCome cur event opened) → IsDone cur → Path opened mid taken more also →
+    Later mid new heard sent answers hearings →
+    Split base new (bytes_heard front.bytes ++ (heard_in event ++ heard)) (pieces_bytes front.pieces ++ (parts_bytes come.due ++ (taken ++ sent)))
+    (pieces_answers front.pieces ++ (answer_in come.halt ++ (more ++ answers))) (pieces_hearings front.pieces ++ (also ++ hearings))
+event_split {base} {cur} {opened} {new} {heard} {sent} {taken} {answers} {more} {hearings} {also} {event = HeardBytes bytes} front
+    come done path later =
     subst (λ ps. Split base new (bytes_heard first ++ (bytes_heard bytes ++ heard)) (pieces_bytes pieces ++ (parts_bytes ps ++ (taken ++ sent)))
-    (pieces_answers pieces ++ (answer_in halt ++ (more ++ answers))) (pieces_hearings pieces ++ (also ++ hearings))) (sym comes.0)
+    (pieces_answers pieces ++ (answer_in come.halt ++ (more ++ answers))) (pieces_hearings pieces ++ (also ++ hearings))) (sym come.comes.0)
     (subst (λ h. Split base new (bytes_heard first ++ (bytes_heard bytes ++ heard)) (pieces_bytes pieces ++ (taken ++ sent))
-    (pieces_answers pieces ++ (answer_in h ++ (more ++ answers))) (pieces_hearings pieces ++ (also ++ hearings))) (sym comes.1)
-    (bytes_split cur first bytes pieces goes comes.3 path later))
-event_split {base} {opened} {new} {taken} {answers} {more} first (HeardSlot slot) due halt pieces goes done comes path later =
-    slot_split first pieces goes done comes.0 comes.1 path later
-event_split {base} {opened} {new} {taken} {answers} {more} first HeardEnd due halt pieces goes done comes path later = absurd comes
-event_split {base} {opened} {new} {taken} {answers} {more} first (Sent byte) due halt pieces goes done comes path later = absurd comes
+    (pieces_answers pieces ++ (answer_in h ++ (more ++ answers))) (pieces_hearings pieces ++ (also ++ hearings))) (sym come.comes.1)
+    (bytes_split front bytes come.comes.3 path later))
+  where
+    open front use {bytes as first, pieces}
+event_split {base} {opened} {new} {taken} {answers} {more} {event = HeardSlot slot} front come done path later =
+    slot_split front done come.comes.0 come.comes.1 path later
+event_split {base} {opened} {new} {taken} {answers} {more} {event = HeardEnd} front come done path later = absurd come.comes
+event_split {base} {opened} {new} {taken} {answers} {more} {event = Sent byte} front come done path later = absurd come.comes
 
 -- event after event
 rounds_split : (cur new : Stage) (rounds : List Round) (takes : TakesUp cur rounds new) → IsDone cur
@@ -199,7 +213,8 @@ rounds_split cur new (round ∷ rounds) takes done =
           refl
           (ap (λ bs. pieces_bytes pieces ++ bs) (append_assoc (parts_bytes round.due) tb rb))
           (ap (λ os. pieces_answers pieces ++ (answer_in round.halt ++ os)) (answers-append (takings_outcomes round.takings) (rounds_outcomes rounds))) refl
-          (event_split first round.event round.due round.halt pieces goes done runs.comes path later);
+          (event_split (record { bytes = first; pieces = pieces; goes = goes })
+          (record { due = round.due; halt = round.halt; comes = runs.comes }) done path later);
     }
 
 -- ---- what was heard has one split
@@ -266,13 +281,18 @@ record SameLegs (one other : Stage) (sent again : List ℕ) : Type 0 where
 opened_same : (a b : Stage) → b.session ≡ a.session → b.input ≡ a.input → b ≡ a
 opened_same a b session input = ap (λ s. stage s b.input) session ∙ ap (λ i. stage a.session i) input
 
-legs_same : {one other : Stage} (old : Stage) (xs ys : List Leg) → AreFilms old.session.films → LegsAll old xs one → LegsAll old ys other
-    → legs_heard xs ≡ legs_heard ys → AreSameAnswers (legs_answers xs) (legs_answers ys) → AllLackAlike (legs_hearings xs) (legs_hearings ys)
-    → SameLegs one other (legs_bytes xs) (legs_bytes ys)
-legs_same {one} {other} old [] [] films legs too heard answers memory = record { last = too ∙ sym legs; bytes = refl }
-legs_same {one} {other} old [] (y ∷ ys) films legs too heard answers memory = absurd (true≢false (sym (ap is_some heard)))
-legs_same {one} {other} old (x ∷ xs) [] films legs too heard answers memory = absurd (true≢false (ap is_some heard))
-legs_same {one} {other} old (x ∷ xs) (y ∷ ys) films legs too heard answers memory =
+-- two courses of legs that heard the same, with the same answers, and that lack memory alike
+record LegsAlike (xs ys : List Leg) : Type 0 where
+  heard : legs_heard xs ≡ legs_heard ys
+  answers : AreSameAnswers (legs_answers xs) (legs_answers ys)
+  memory : AllLackAlike (legs_hearings xs) (legs_hearings ys)
+
+legs_same : {one other : Stage} {xs ys : List Leg} (old : Stage) → AreFilms old.session.films → LegsAll old xs one →
+    LegsAll old ys other → LegsAlike xs ys → SameLegs one other (legs_bytes xs) (legs_bytes ys)
+legs_same {one} {other} {xs = []} {ys = []} old films legs too alike = record { last = too ∙ sym legs; bytes = refl }
+legs_same {one} {other} {xs = []} {ys = y ∷ ys} old films legs too alike = absurd (true≢false (sym (ap is_some alike.heard)))
+legs_same {one} {other} {xs = x ∷ xs} {ys = []} old films legs too alike = absurd (true≢false (ap is_some alike.heard))
+legs_same {one} {other} {xs = x ∷ xs} {ys = y ∷ ys} old films legs too alike =
     let leg : IsLeg old x = legs.0 in
     let again : IsLeg old y = too.0 in
     let slots : y.slot ≡ x.slot = sym (ap slot_of heard) in
@@ -284,17 +304,21 @@ legs_same {one} {other} old (x ∷ xs) (y ∷ ys) films legs too heard answers m
     ap (λ s. longer s y.bytes) opened ∙ ap (λ bs. longer x.opened bs) (sym cut.0) in
     let kept : AreFilms x.opened.session.films =
     subst AreFilms (sym (stepped_films old.session x.slot x.due x.halt x.opened.session leg.stepped)) films in
-    let ends = ends_same (longer x.opened x.bytes) x.pieces y.pieces
-    kept leg.goes (subst (λ s. GoesAll s y.pieces y.until) place again.goes) leg.done again.done step.2 memory in
+    let ends = ends_same x.pieces y.pieces kept (record { goes = leg.goes; done = leg.done })
+    (record { goes = subst (λ s. GoesAll s y.pieces y.until) place again.goes; done = again.done })
+    (record { answers = step.2; memory = memory }) in
     let there : AreFilms x.until.session.films =
     subst AreFilms (sym (goes_films (longer x.opened x.bytes) x.until x.pieces leg.goes)) kept in
-    let rest = legs_same x.until xs ys there legs.1 (subst (λ s. LegsAll s ys other) ends.last too.1) cut.1 ends.answers ends.memory in
+    let rest = legs_same {xs = xs} x.until there legs.1 (subst (λ s. LegsAll s ys other) ends.last too.1)
+    (record { heard = cut.1; answers = ends.answers; memory = ends.memory }) in
     record {
       last = rest.last;
       bytes = ap (λ ps. parts_bytes ps ++ (pieces_bytes y.pieces ++ legs_bytes ys)) step.0
           ∙ ap (λ bs. parts_bytes x.due ++ (bs ++ legs_bytes ys)) ends.bytes
           ∙ ap (λ bs. parts_bytes x.due ++ (pieces_bytes x.pieces ++ bs)) rest.bytes;
     }
+  where
+    open alike use {heard, answers, memory}
 
 -- ---- from a connection's beginning on
 
@@ -304,13 +328,18 @@ splits_same : {base one other : Stage} {heard also : List Doing} {sent again : L
     → heard ≡ also → AreSameAnswers ones others → AllLackAlike hearings too → SameLegs one other sent again
 splits_same {base} {one} {other} {ones} {hearings} films x y same answers memory =
     let cut = heard_split x.first y.first x.legs y.legs (sym x.heard_is ∙ same ∙ y.heard_is) in
-    let ends = ends_same (longer base x.first) x.pieces y.pieces
-    films x.goes (subst (λ bs. GoesAll (longer base bs) y.pieces y.until) (sym cut.0) y.goes) x.done y.done
-    (subst (λ os. AreSameAnswers os (pieces_answers y.pieces ++ legs_answers y.legs)) x.answers_are (subst (AreSameAnswers ones) y.answers_are answers))
-    (subst (λ hs. AllLackAlike hs (pieces_hearings y.pieces ++ legs_hearings y.legs)) x.hearings_are (subst (AllLackAlike hearings) y.hearings_are memory)) in
+    let ends = ends_same x.pieces y.pieces films (record { goes = x.goes; done = x.done })
+    (record { goes = subst (λ bs. GoesAll (longer base bs) y.pieces y.until) (sym cut.0) y.goes; done = y.done })
+    (record {
+      answers = subst (λ os. AreSameAnswers os (pieces_answers y.pieces ++ legs_answers y.legs)) x.answers_are
+          (subst (AreSameAnswers ones) y.answers_are answers);
+      memory =
+          subst (λ hs. AllLackAlike hs (pieces_hearings y.pieces ++ legs_hearings y.legs)) x.hearings_are
+          (subst (AllLackAlike hearings) y.hearings_are memory);
+    }) in
     let there : AreFilms x.until.session.films = subst AreFilms (sym (goes_films (longer base x.first) x.until x.pieces x.goes)) films in
-    let rest = legs_same x.until x.legs y.legs there x.legs_are (subst (λ s. LegsAll s y.legs other) ends.last y.legs_are) cut.1
-    ends.answers ends.memory in
+    let rest = legs_same {xs = x.legs} x.until there x.legs_are (subst (λ s. LegsAll s y.legs other) ends.last y.legs_are)
+    (record { heard = cut.1; answers = ends.answers; memory = ends.memory }) in
     record {
       last = rest.last;
       bytes = y.bytes_are ∙ ap (λ bs. bs ++ legs_bytes y.legs) ends.bytes ∙ ap (λ bs. pieces_bytes x.pieces ++ bs) rest.bytes ∙ sym x.bytes_are;
@@ -340,11 +369,11 @@ pub takes_all : (old new : Stage) (rounds : List Round) → RunsAll old rounds n
 takes_all old new [] runs = runs
 takes_all old new (round ∷ rounds) runs = (runs.0, (runs.1.0, inl runs.1.1, takes_all runs.0 new rounds runs.1.2))
 
-pub takes_last : (old mid new : Stage) (rounds : List Round) (round : Round) (end : ConnEnd) → RunsAll old rounds mid → Runs mid round new
-    → IsStopped end new → TakesUp old (rounds ++ round ∷ []) new
-takes_last old mid new [] round end runs last stopped = (new, (subst (λ s. Runs s round new) runs last, inr (end, stopped), refl))
-takes_last old mid new (first ∷ rounds) round end runs last stopped =
-    (runs.0, (runs.1.0, inl runs.1.1, takes_last runs.0 mid new rounds round end runs.1.2 last stopped))
+pub takes_last : {mid new : Stage} {round : Round} (old : Stage) (rounds : List Round) (end : ConnEnd) →
+    RunsAll old rounds mid → Runs mid round new → IsStopped end new → TakesUp old (rounds ++ round ∷ []) new
+takes_last {new} {round} old [] end runs last stopped = (new, (subst (λ s. Runs s round new) runs last, inr (end, stopped), refl))
+takes_last {mid} {new} {round} old (first ∷ rounds) end runs last stopped =
+    (runs.0, (runs.1.0, inl runs.1.1, takes_last runs.0 rounds end runs.1.2 last stopped))
 
 pub takes_part : (old new : Stage) (first rest : List Round) → TakesUp old (first ++ rest) new → (mid : Stage) × (TakesUp old first mid × TakesUp mid rest new)
 takes_part old new [] rest takes = (old, (refl, takes))

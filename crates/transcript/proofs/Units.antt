@@ -26,6 +26,7 @@ use Rattle.rtsp_client.specs.Promises.{frames_of}
 use Rattle.transcript.proofs.Blocks.{blocks-append, frame_block, frame_blocks, frame-moment, frames_after, last-is, octets_after, report_block, report_if, report-moment, unit-among, unit_blocks, unit-made, unit-one}
 use Rattle.transcript.proofs.Counting.{count-past, count-within}
 use Rattle.transcript.proofs.Sums.{AreOneBlocks, Sum, blocks-one-append, blocks-same, plays, step, steps, steps-on}
+use Rattle.transcript.proofs.Blocks.{RunFrom}
 
 -- the moments of blocks, in two parts
 pub moments-parts : (xs ys : List (List ℕ)) → moments_in (xs ++ ys) ≡ moments_in xs ++ moments_in ys
@@ -43,17 +44,27 @@ pub report-sizes : (b : List ℕ) (bs : List (List ℕ)) (s : Sum) (P : Sum → 
     → P (steps (step (Report b) s) (moments_in bs)) → P (steps s (moments_in (b ∷ bs)))
 report-sizes b bs s P is met = let Q : List Moment → Type 0 = λ l. P (steps s (l ++ moments_in bs)) in subst Q (sym is) met
 
+-- a unit of a run on channel 0, with the frames that the run sent before
+record UnitOfRun : Type 0 where
+  run : Run
+  frames : ℕ
+  unit : PictureUnit
+  media : run.identity.channel ≡ 0
+
 -- before the last frame the sizes are as they were
-part-frames : (run : Run) (f k : ℕ) (unit : PictureUnit) (packets : List Packet) (s : Sum) → run.identity.channel ≡ 0 → IsLastMarked packets
-    → k < length (frame_blocks run unit f packets) → (steps s (moments_in (take k (frame_blocks run unit f packets)))).sizes ≡ s.sizes
-part-frames run f zero unit packets s media marked few = refl
-part-frames run f (suc k) unit [] s media marked few = absurd (omega (arith, few))
-part-frames run f (suc k) unit (p ∷ []) s media marked few = absurd (omega (arith, few))
-part-frames run f (suc k) unit (p ∷ (q ∷ packets)) s media marked few =
+part-frames : (of_run : UnitOfRun) (k : ℕ) (packets : List Packet) (s : Sum) → IsLastMarked packets →
+    k < length (frame_blocks of_run.run of_run.unit of_run.frames packets) →
+    (steps s (moments_in (take k (frame_blocks of_run.run of_run.unit of_run.frames packets)))).sizes ≡ s.sizes
+part-frames of_run zero packets s marked few = refl
+part-frames of_run (suc k) [] s marked few = absurd (omega (arith, few))
+part-frames of_run (suc k) (p ∷ []) s marked few = absurd (omega (arith, few))
+part-frames of_run (suc k) (p ∷ (q ∷ packets)) s marked few =
     let b = frame_block run unit p f in
     frame-sizes b (take k (frame_blocks run unit (f + 1) (q ∷ packets))) s (λ t. t.sizes ≡ s.sizes) (frame-moment run f unit p media)
-    (part-frames run (f + 1) k unit (q ∷ packets) (step (Frame b) s) media marked.1 (omega (arith, few))
+    (part-frames (record { run = run; frames = f + 1; unit = unit; media = media }) k (q ∷ packets) (step (Frame b) s) marked.1 (omega (arith, few))
     ∙ cond-false (is_last b) (s.sizes ++ (s.pending + length b) ∷ []) s.sizes (last-is run f unit p ∙ marked.0))
+  where
+    open of_run use {run, frames as f, unit, media}
 
 -- a unit is whole: its size is that of its frames and of what waited before them
 pub record IsUnitDone (s : Sum) (size : ℕ) (t : Sum) : Type 0 where
@@ -61,10 +72,11 @@ pub record IsUnitDone (s : Sum) (size : ℕ) (t : Sum) : Type 0 where
   pub pending : t.pending ≡ 0
   pub inside : t.inside ≡ false
 
-whole-frames : {s : Sum} (run : Run) (f : ℕ) (unit : PictureUnit) (packets : List Packet) → run.identity.channel ≡ 0 → IsLastMarked packets → 0 < length packets
-    → IsUnitDone s (s.pending + length (framed_bytes (frame_blocks run unit f packets))) (steps s (moments_in (frame_blocks run unit f packets)))
-whole-frames {s} run f unit [] media marked some = absurd (omega (arith, some))
-whole-frames {s} run f unit (p ∷ []) media marked some =
+whole-frames : {s : Sum} (of_run : UnitOfRun) (packets : List Packet) → IsLastMarked packets → 0 < length packets →
+    IsUnitDone s (s.pending + length (framed_bytes (frame_blocks of_run.run of_run.unit of_run.frames packets)))
+    (steps s (moments_in (frame_blocks of_run.run of_run.unit of_run.frames packets)))
+whole-frames {s} of_run [] marked some = absurd (omega (arith, some))
+whole-frames {s} of_run (p ∷ []) marked some =
     let b = frame_block run unit p f in
     let last : is_last b ≡ true = last-is run f unit p ∙ marked in
     let size : s.pending + length b ≡ s.pending + length (b ++ []) = ap (λ (l : List ℕ). s.pending + length l) (sym (append-nil b)) in
@@ -74,12 +86,14 @@ whole-frames {s} run f unit (p ∷ []) media marked some =
       pending = cond-true (is_last b) 0 (s.pending + length b) last;
       inside = ap not last;
     })
-whole-frames {s} run f unit (p ∷ (q ∷ packets)) media marked some =
+  where
+    open of_run use {run, frames as f, unit, media}
+whole-frames {s} of_run (p ∷ (q ∷ packets)) marked some =
     let b = frame_block run unit p f in
     let last : is_last b ≡ false = last-is run f unit p ∙ marked.0 in
     let blocks = frame_blocks run unit (f + 1) (q ∷ packets) in
     let t = step (Frame b) s in
-    let rest = whole-frames {s = t} run (f + 1) unit (q ∷ packets) media marked.1 (omega arith) in
+    let rest = whole-frames {s = t} (record { run = run; frames = f + 1; unit = unit; media = media }) (q ∷ packets) marked.1 (omega arith) in
     let sizes_same = cond-false (is_last b) (s.sizes ++ (s.pending + length b) ∷ []) s.sizes last in
     let pending_is = cond-false (is_last b) 0 (s.pending + length b) last in
     let size : t.pending + length (framed_bytes blocks) ≡ s.pending + length (b ++ framed_bytes blocks) = omega (arith, pending_is, length-append b (framed_bytes blocks)) in
@@ -89,44 +103,81 @@ whole-frames {s} run f unit (p ∷ (q ∷ packets)) media marked some =
       pending = rest.pending;
       inside = rest.inside;
     })
+  where
+    open of_run use {run, frames as f, unit, media}
 
 -- ---- a unit, its report before its frames
 
-part-unit : (starts : Bool) (run : Run) (f o k : ℕ) (unit : PictureUnit) (packets : List Packet) (s : Sum) → run.identity.channel ≡ 0 → run.identity.control ≡ 1
-    → IsLastMarked packets → k < length (report_if starts run unit f o ++ frame_blocks run unit f packets)
-    → (steps s (moments_in (take k (report_if starts run unit f o ++ frame_blocks run unit f packets)))).sizes ≡ s.sizes
-part-unit false run f o k unit packets s media control marked few = part-frames run f k unit packets s media marked few
-part-unit true run f o zero unit packets s media control marked few = refl
-part-unit true run f o (suc k) unit packets s media control marked few =
+-- a unit's packets, of which the last one is marked
+record MarkedUnit : Type 0 where
+  unit : PictureUnit
+  packets : List Packet
+  marked : IsLastMarked packets
+
+part-unit : (starts : Bool) (from : RunFrom) (k : ℕ) (marked_unit : MarkedUnit) (s : Sum) →
+    k < length (report_if starts from.run marked_unit.unit from.frames from.octets ++ frame_blocks from.run marked_unit.unit
+    from.frames marked_unit.packets) →
+    (steps s (moments_in (take k (report_if starts from.run marked_unit.unit from.frames from.octets ++ frame_blocks from.run
+    marked_unit.unit from.frames marked_unit.packets)))).sizes ≡ s.sizes
+part-unit false from k marked_unit s few = part-frames (record { run = run; frames = f; unit = marked_unit.unit; media = media }) k
+    marked_unit.packets s marked_unit.marked few
+  where
+    open from use {run, frames as f, media}
+part-unit true from zero marked_unit s few = refl
+part-unit true from (suc k) marked_unit s few =
     let b = report_block run unit f o in
     report-sizes b (take k (frame_blocks run unit f packets)) s (λ t. t.sizes ≡ s.sizes) (report-moment run f o unit control)
-    (part-frames run f k unit packets (step (Report b) s) media marked (omega (arith, few)))
+    (part-frames (record { run = run; frames = f; unit = unit; media = media }) k packets (step (Report b) s) marked (omega (arith, few)))
+  where
+    open from use {run, frames as f, octets as o, media, control}
+    open marked_unit use {unit, packets, marked}
 
-whole-unit : {s : Sum} (starts : Bool) (run : Run) (f o : ℕ) (unit : PictureUnit) (packets : List Packet) → run.identity.channel ≡ 0 → run.identity.control ≡ 1
-    → IsLastMarked packets → 0 < length packets → plays s ≡ true → s.pending ≡ 0 → s.inside ≡ false
-    → IsUnitDone s (length (framed_bytes (report_if starts run unit f o ++ frame_blocks run unit f packets)))
-    (steps s (moments_in (report_if starts run unit f o ++ frame_blocks run unit f packets)))
-whole-unit {s} false run f o unit packets media control marked some on none outside =
-    let done = whole-frames run f unit packets media marked some in
-    let size : s.pending + length (framed_bytes (frame_blocks run unit f packets)) ≡ length (framed_bytes (frame_blocks run unit f packets)) = omega (arith, none) in
+-- a sum that plays and stands between two units
+pub record AtUnit (s : Sum) : Type 0 where
+  pub on : plays s ≡ true
+  pub none : s.pending ≡ 0
+  pub outside : s.inside ≡ false
+
+whole-unit : {s : Sum} (starts : Bool) (from : RunFrom) (marked_unit : MarkedUnit) → 0 < length marked_unit.packets →
+    AtUnit s →
+    IsUnitDone s (length (framed_bytes (report_if starts from.run marked_unit.unit from.frames from.octets ++ frame_blocks from.run
+    marked_unit.unit from.frames marked_unit.packets)))
+    (steps s (moments_in (report_if starts from.run marked_unit.unit from.frames from.octets ++ frame_blocks from.run marked_unit.unit
+    from.frames marked_unit.packets)))
+whole-unit {s} false from marked_unit some between =
+    let done = whole-frames (record { run = run; frames = f; unit = unit; media = media }) packets marked some in
+    let size : s.pending + length (framed_bytes (frame_blocks run unit f packets)) ≡ length
+    (framed_bytes (frame_blocks run unit f packets)) = omega (arith, between.none) in
     record {
       sizes = done.sizes ∙ ap (λ n. s.sizes ++ n ∷ []) size;
       pending = done.pending;
       inside = done.inside;
     }
-whole-unit {s} true run f o unit packets media control marked some on none outside =
+  where
+    open from use {run, frames as f, media}
+    open marked_unit use {unit, packets, marked}
+whole-unit {s} true from marked_unit some between =
     let b = report_block run unit f o in
     let t = step (Report b) s in
     let blocks = frame_blocks run unit f packets in
-    let done = whole-frames run f unit packets media marked some in
-    let waits : t.pending ≡ s.pending + length b = cond-true (plays s && not s.inside) (s.pending + length b) s.pending (and_from (plays s) (not s.inside) on (ap not outside)) in
-    let size : t.pending + length (framed_bytes blocks) ≡ length (b ++ framed_bytes blocks) = omega (arith, waits, none, length-append b (framed_bytes blocks)) in
+    let done = whole-frames (record { run = run; frames = f; unit = unit; media = media }) packets marked some in
+    let waits : t.pending ≡ s.pending + length b = cond-true (plays s && not s.inside) (s.pending + length b) s.pending
+    (and_from (plays s) (not s.inside) between.on (ap not between.outside)) in
+    let size : t.pending + length (framed_bytes blocks) ≡ length (b ++ framed_bytes blocks) = omega (
+      arith,
+      waits,
+      between.none,
+      length-append b (framed_bytes blocks),
+    ) in
     report-sizes b blocks s (λ u. IsUnitDone s (length (b ++ framed_bytes blocks)) u) (report-moment run f o unit control)
     (record {
       sizes = done.sizes ∙ ap (λ n. s.sizes ++ n ∷ []) size;
       pending = done.pending;
       inside = done.inside;
     })
+  where
+    open from use {run, frames as f, octets as o, media, control}
+    open marked_unit use {unit, packets, marked}
 
 -- ---- units
 
@@ -184,24 +235,27 @@ more-blocks run f o starts unit units =
     ∙ (blocks-append run f o first rest
     ∙ ap (λ bs. bs ++ blocks_from run (frames_after f first) (octets_after o first) rest) (unit-made run f o starts unit))
 
-pub blocks-one : (run : Run) (f o : ℕ) (starts : List ℕ) (units : List PictureUnit) → run.identity.channel ≡ 0 → run.identity.control ≡ 1
-    → AreOneBlocks (blocks_from run f o (pieces_of starts units))
-blocks-one run f o starts [] media control = tt
-blocks-one run f o starts (unit ∷ units) media control =
+pub blocks-one : (from : RunFrom) (starts : List ℕ) (units : List PictureUnit) →
+    AreOneBlocks (blocks_from from.run from.frames from.octets (pieces_of starts units))
+blocks-one from starts [] = tt
+blocks-one from starts (unit ∷ units) =
     let f2 = frames_after f (unit_pieces starts unit) in
     let o2 = octets_after o (unit_pieces starts unit) in
     subst AreOneBlocks (sym (more-blocks run f o starts unit units))
-    (blocks-one-append (unit_blocks run starts unit f o) (blocks_from run f2 o2 (pieces_of starts units)) (unit-one run f o starts unit media control)
-    (blocks-one run f2 o2 starts units media control))
+    (blocks-one-append (unit_blocks run starts unit f o) (blocks_from run f2 o2 (pieces_of starts units)) (unit-one from starts unit)
+    (blocks-one (record from { frames = f2; octets = o2 }) starts units))
+  where
+    open from use {run, frames as f, octets as o}
 
 -- the sizes of the units that are whole
-pub units-come : {c : ℕ} {s : Sum} (run : Run) (f o : ℕ) (starts : List ℕ) (units : List PictureUnit) → run.identity.channel ≡ 0 → run.identity.control ≡ 1
-    → AreLaid (length run.film) starts units → plays s ≡ true → s.pending ≡ 0 → s.inside ≡ false
-    → HasCome (map (λ u. wire_size starts u) units) c s
-    (steps s (moments_in (take (count_ended c (blocks_from run f o (pieces_of starts units))) (blocks_from run f o (pieces_of starts units)))))
-units-come {c} {s} run f o starts [] media control laid on none outside =
+pub units-come : {c : ℕ} {s : Sum} (from : RunFrom) (starts : List ℕ) (units : List PictureUnit) →
+    AreLaid (length from.run.film) starts units → AtUnit s →
+    HasCome (map (λ u. wire_size starts u) units) c s
+    (steps s (moments_in (take (count_ended c (blocks_from from.run from.frames from.octets (pieces_of starts units)))
+    (blocks_from from.run from.frames from.octets (pieces_of starts units)))))
+units-come {c} {s} from starts [] laid between =
     record { count = 0; sizes_are = sym (append-nil s.sizes); among = omega arith; next = λ less. absurd (omega (arith, less)) }
-units-come {c} {s} run f o starts (unit ∷ units) media control laid on none outside =
+units-come {c} {s} from starts (unit ∷ units) laid between =
     let f2 = frames_after f (unit_pieces starts unit) in
     let o2 = octets_after o (unit_pieces starts unit) in
     let xs = unit_blocks run starts unit f o in
@@ -222,7 +276,11 @@ units-come {c} {s} run f o starts (unit ∷ units) media control laid on none ou
           subst R (sym within.0) (subst S (sym (take-append-le k xs ys (omega (arith, within.1))))
           (record {
             count = 0;
-            sizes_are = part-unit unit.starts_group run f o k unit (unit_packets starts unit) s media control marked within.1 ∙ sym (append-nil s.sizes);
+            sizes_are = part-unit unit.starts_group from k (record {
+              unit = unit;
+              packets = unit_packets starts unit;
+              marked = marked;
+            }) s within.1 ∙ sym (append-nil s.sizes);
             among = omega arith;
             next = λ l. omega (arith, less, sum_by-cons (λ (y : ℕ). y) w (take 0 sizes));
           }))
@@ -231,10 +289,13 @@ units-come {c} {s} run f o starts (unit ∷ units) media control laid on none ou
           let k = count_ended d ys in
           let past : count_ended c (xs ++ ys) ≡ length xs + k = count-past xs ys c (omega (arith, more, size)) in
           let t = steps s (moments_in xs) in
-          let done : IsUnitDone s (length (framed_bytes xs)) t = whole-unit {s = s} unit.starts_group run f o unit (unit_packets starts unit) media control marked some on none outside in
-          let same = blocks-same xs s (unit-one run f o starts unit media control) in
-          let still : plays t ≡ true = ap (λ n. nat_lt 1 n) same.replies ∙ on in
-          let come = units-come {c = d} {s = t} run f2 o2 starts units media control laid.1 still done.pending done.inside in
+          let done : IsUnitDone s (length (framed_bytes xs)) t =
+          whole-unit {s = s} unit.starts_group from (record { unit = unit; packets = unit_packets starts unit; marked = marked })
+          some between in
+          let same = blocks-same xs s (unit-one from starts unit) in
+          let still : plays t ≡ true = ap (λ n. nat_lt 1 n) same.replies ∙ between.on in
+          let come = units-come {c = d} {s = t} (record from { frames = f2; octets = o2 }) starts units laid.1
+          (record { on = still; none = done.pending; outside = done.inside }) in
           let u = steps t (moments_in (take k ys)) in
           let all : steps s (moments_in (xs ++ take k ys)) ≡ u =
           ap (steps s) (moments-parts xs (take k ys)) ∙ steps-on s (moments_in xs) (moments_in (take k ys)) in
@@ -251,6 +312,8 @@ units-come {c} {s} run f o starts (unit ∷ units) media control laid on none ou
                 omega (arith, later, same_count, sum_by-cons (λ (y : ℕ). y) w (take (come.count + 1) sizes), size, more);
           })))
     ])
+  where
+    open from use {run, frames as f, octets as o}
 
 -- ---- the frames that are handed on
 
@@ -268,16 +331,20 @@ frames-told run f unit (p ∷ packets) media =
     ap (λ l. frames_of (l ++ moments_in (frame_blocks run unit (f + 1) packets))) (frame-moment run f unit p media)
     ∙ ap (λ l. frame_block run unit p f ∷ l) (frames-told run (f + 1) unit packets media)
 
-unit-told : (starts : Bool) (run : Run) (f o : ℕ) (unit : PictureUnit) (packets : List Packet) → run.identity.channel ≡ 0 → run.identity.control ≡ 1
-    → frames_of (moments_in (report_if starts run unit f o ++ frame_blocks run unit f packets)) ≡ frame_blocks run unit f packets
-unit-told false run f o unit packets media control = frames-told run f unit packets media
-unit-told true run f o unit packets media control =
+unit-told : (starts : Bool) (from : RunFrom) (unit : PictureUnit) (packets : List Packet) →
+    frames_of (moments_in (report_if starts from.run unit from.frames from.octets ++ frame_blocks from.run unit from.frames packets))
+    ≡ frame_blocks from.run unit from.frames packets
+unit-told false from unit packets = frames-told from.run from.frames unit packets from.media
+unit-told true from unit packets =
     ap (λ l. frames_of (l ++ moments_in (frame_blocks run unit f packets))) (report-moment run f o unit control) ∙ frames-told run f unit packets media
+  where
+    open from use {run, frames as f, octets as o, media, control}
 
-pub units-told : (run : Run) (f o : ℕ) (starts : List ℕ) (units : List PictureUnit) → run.identity.channel ≡ 0 → run.identity.control ≡ 1
-    → frames_of (moments_in (blocks_from run f o (pieces_of starts units))) ≡ frames_among (pieces_of starts units) (blocks_from run f o (pieces_of starts units))
-units-told run f o starts [] media control = refl
-units-told run f o starts (unit ∷ units) media control =
+pub units-told : (from : RunFrom) (starts : List ℕ) (units : List PictureUnit) →
+    frames_of (moments_in (blocks_from from.run from.frames from.octets (pieces_of starts units))) ≡ frames_among
+    (pieces_of starts units) (blocks_from from.run from.frames from.octets (pieces_of starts units))
+units-told from starts [] = refl
+units-told from starts (unit ∷ units) =
     let f2 = frames_after f (unit_pieces starts unit) in
     let o2 = octets_after o (unit_pieces starts unit) in
     let xs = unit_blocks run starts unit f o in
@@ -285,8 +352,10 @@ units-told run f o starts (unit ∷ units) media control =
     let its = frame_blocks run unit f (unit_packets starts unit) in
     ap (λ bs. frames_of (moments_in bs)) (more-blocks run f o starts unit units)
     ∙ (ap frames_of (moments-parts xs ys) ∙ (frames-parts (moments_in xs) (moments_in ys)
-    ∙ (ap (λ l. l ++ frames_of (moments_in ys)) (unit-told unit.starts_group run f o unit (unit_packets starts unit) media control)
-    ∙ (ap (λ l. its ++ l) (units-told run f2 o2 starts units media control)
-    ∙ (sym (unit-among run f o starts unit (pieces_of starts units) ys)
+    ∙ (ap (λ l. l ++ frames_of (moments_in ys)) (unit-told unit.starts_group from unit (unit_packets starts unit))
+    ∙ (ap (λ l. its ++ l) (units-told (record from { frames = f2; octets = o2 }) starts units)
+    ∙ (sym (unit-among run f o starts unit (record { parts = pieces_of starts units; blocks = ys }))
     ∙ (ap (λ ps. frames_among ps (xs ++ ys)) (sym (pieces-cons starts unit units))
     ∙ ap (λ bs. frames_among (pieces_of starts (unit ∷ units)) bs) (sym (more-blocks run f o starts unit units))))))))
+  where
+    open from use {run, frames as f, octets as o}

@@ -190,24 +190,38 @@ still_held {p} {taken} {slot} is later held stands =
           ];
     }
 
+-- a play on time, a later slot that isn't past the end, and whether it stands at a boundary after it
+pub record SlotOn (p : Pacing) (heard slot end : ℕ) (between : Bool) : Type 0 where
+  pub on : IsOnTime p heard
+  pub later : heard < slot
+  pub ends : slot ≤ end
+  pub stands : stands_at_boundary (after_step true slot p) ≡ between
+
+-- what is due of a play up to a slot, and plays that come later
+pub record PlaysDue (p : Pacing) (keep slot : ℕ) (plays : List FilmPlay) : Type 0 where
+  pub due : ((taken : ℕ) → min (first_slots p.plan (taken + 1 - p.start)) p.keep ≤ keep → due_of taken (play_with p keep) ≡ min
+      (first_slots p.plan (taken + 1 - p.start)) p.keep)
+  pub later_plays : AreLater slot plays
+
 -- the bytes of a slot, with the reply that waits
 pub slot_at : {p : Pacing} {keep : ℕ} {pending : Option ℕ} {heard slot : ℕ} {between : Bool} {plays : List FilmPlay}
-    {end : ℕ} {slots : List ℕ} {parts : List Part} (waits : Bool) (text : List ℕ) → IsOnTime p heard → heard < slot → slot ≤ end → stands_at_boundary (after_step true slot p) ≡ between
-    → IsHeld pending (Going p) waits heard
-    → ((taken : ℕ) → min (first_slots p.plan (taken + 1 - p.start)) p.keep ≤ keep → due_of taken (play_with p keep) ≡ min (first_slots p.plan (taken + 1 - p.start)) p.keep)
-    → AreLater slot plays → StandAt (sent_through slot p) keep (after_slot between pending) plays end slots parts
-    → StandAt p keep pending plays end slots (parts_in waits between p slot text ++ parts)
-slot_at {p} {pending = None} {slot} {between} {end} true text on later ends stands held due are stand = absurd (true≢false held)
-slot_at {p} {pending = None} {slot} {between} {end} false text on later ends stands held due are stand =
+    {end : ℕ} {slots : List ℕ} {parts : List Part} (waits : Bool) (text : List ℕ) → SlotOn p heard slot end between →
+    IsHeld pending (Going p) waits heard → PlaysDue p keep slot plays →
+    StandAt (sent_through slot p) keep (after_slot between pending) plays end slots parts →
+    StandAt p keep pending plays end slots (parts_in waits between p slot text ++ parts)
+slot_at {p} {pending = None} {slot} {between} {end} true text slot_on held plays_due stand = absurd (true≢false held)
+slot_at {p} {pending = None} {slot} {between} {end} false text slot_on held plays_due stand =
     film_at refl
-    (size_to p (due_by p slot) on.pacing (omega (arith, on.pacing.sent)) (due_most p slot on.pacing)) stand
-slot_at {p} {pending = Some taken} {slot} {between} {end} false text on later ends stands held due are stand = absurd (true≢false (sym held.0))
-slot_at {p} {keep} {pending = Some taken} {slot} {between = false} {plays} {end} {slots} {parts} true text on later ends stands held due are stand =
+    (size_to p (due_by p slot) slot_on.on.pacing (omega (arith, slot_on.on.pacing.sent)) (due_most p slot slot_on.on.pacing)) stand
+slot_at {p} {pending = Some taken} {slot} {between} {end} false text slot_on held plays_due stand = absurd (true≢false (sym held.0))
+slot_at {p} {keep} {pending = Some taken} {slot} {between = false} {plays} {end} {slots} {parts} true text slot_on held plays_due stand =
     let all : step_end true (at_slot slot p) ≡ due_by p slot = ap (λ (r : Pacing). r.sent) (slot_is true false slot p on.pacing stands) in
     subst (λ to. StandAt p keep (Some taken) plays end slots (Film (plan_bytes p p.sent to) ∷ parts)) (sym all)
     (film_at refl
     (size_to p (due_by p slot) on.pacing (omega (arith, on.pacing.sent)) (due_most p slot on.pacing)) stand)
-slot_at {p} {keep} {pending = Some taken} {heard} {slot} {between = true} {plays} {end} {slots} {parts} true text on later ends stands held due are stand =
+  where
+    open slot_on use {on, stands}
+slot_at {p} {keep} {pending = Some taken} {heard} {slot} {between = true} {plays} {end} {slots} {parts} true text slot_on held plays_due stand =
     let q : Pacing = after_step true slot p in
     let is = on.pacing in
     let most : due_by p slot ≤ p.keep = due_most p slot is in
@@ -222,8 +236,10 @@ slot_at {p} {keep} {pending = Some taken} {heard} {slot} {between = true} {plays
     let at = next_reached slot is held.1 stands in
     let far : (sent_through slot p).sent ≤ first_slots p.plan (end + 1 - p.start) = due_far (sent_through slot p) slot end (through_time p heard slot on later) ends in
     let reply = text_at
-    at (due taken (omega (arith, at.after, rest.holds)))
-    (later_lower taken slot plays (omega (arith, held.1.before, later)) are).starts (omega (arith, to, far)) rest in
+    at (plays_due.due taken (omega (arith, at.after, rest.holds)))
+    (later_lower taken slot plays (omega (arith, held.1.before, later)) plays_due.later_plays).starts (omega (arith, to, far)) rest in
     film_at
     refl
     (size_to p q.sent is from (omega (arith, to, most))) reply
+  where
+    open slot_on use {on, later, ends, stands}

@@ -89,19 +89,26 @@ pub record IsPromise (wish : Wish) (film : Film) (watched : Watched) (out : List
   pub film_back : (first last : PictureUnit) → slice_get film.units.items 0 ≡ Some first
       → slice_get film.units.items (length film.units.items - 1) ≡ Some last → out ≡ take (last.to - first.from) (drop first.from film.bytes.items)
 
+-- a stream's film for a wish, with some time for its pictures
+pub record WishedStream (wish : Wish) (film : Film) (identity : Identity) (x : Stream) : Type 0 where
+  pub wished : IsWish wish
+  pub timed : 0 < picture_time film.rate
+  pub film_is : IsFilmIn film identity x
+
 pub kept-promise : {wish : Wish} {film : Film} {identity : Identity} {x : Stream} {watched : Watched}
-    {rounds : List Round} {mid : Stage} {bytes out : List ℕ} (c : ℕ)
-    → IsWish wish → 0 < picture_time film.rate → IsFilmIn film identity x → RunsAll (stage [] []) rounds mid → HasWatchedAll wish watched rounds mid bytes out
-    → rounds_heard rounds ++ bytes ≡ take c (framed_bytes (all_of x)) → AreFed wish film x (first_slot mid.history) [] rounds → IsPromise wish film watched out
-kept-promise {wish} {film} {x} {rounds} {mid} {bytes} {out} c wished timed is runs all front fed =
+    {rounds : List Round} {mid : Stage} {bytes out : List ℕ} (c : ℕ) → WishedStream wish film identity x →
+    RunsAll (stage [] []) rounds mid → HasWatchedAll wish watched rounds mid bytes out →
+    rounds_heard rounds ++ bytes ≡ take c (framed_bytes (all_of x)) →
+    AreFed wish film x (first_slot mid.history) [] rounds → IsPromise wish film watched out
+kept-promise {wish} {film} {x} {rounds} {mid} {bytes} {out} c wished_stream runs all front fed =
     let done = all.done in
     let h = done.at.history in
     let sum = done-sum x c done front in
     let whole = whole-of is done.heard.gone sum done.complete in
     let few : replies mid.history ≤ 2 = omega (arith, replies-later mid.history (moments_in all.pieces), ap replies all.history, done.replies_are) in
     let mine : rounds_heard rounds ≡ take (length (rounds_heard rounds)) (framed_bytes (all_of x)) = front-of (rounds_heard rounds) bytes (framed_bytes (all_of x)) c front in
-    let always = always-all (length (rounds_heard rounds)) mid runs is whole.count heard-none
-    (inl refl) mine few refl fed tt in
+    let always = always-all (record { heard = heard-none; idle = inl refl; count = length (rounds_heard rounds); front = mine }) runs
+    (record { film_is = is; count = whole.count }) (record { few = few; begins = refl }) fed tt in
     let A : History → Type 0 = λ g. IsBetweenAlways wish (film_sizes film) (picture_time film.rate) g in
     let last = subst A (sym all.history) (always-pieces wish (film_sizes film) (picture_time film.rate) mid.history all.pieces always) in
     let some = film-some film.bytes.items film.rate film.units.items film.slice_starts.items film.grammar in
@@ -113,6 +120,8 @@ kept-promise {wish} {film} {x} {rounds} {mid} {bytes} {out} c wished timed is ru
       most_fits = omega (arith, ap (λ (w : Watched). w.most) done.watched_is, quiet.most_fits);
       film_back = λ first last_ at_first at_last. done.out_is ∙ (sym (ap (λ (s : Sum). s.payloads) (sum-after [] done.moments) ∙ steps-payloads (sum_of []) done.moments) ∙ (ap payloads (sym done.history_is) ∙ film-back h is sum at_first at_last));
     }
+  where
+    open wished_stream use {wished, timed, film_is as is}
 
 -- ---- what the link told
 

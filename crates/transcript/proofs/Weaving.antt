@@ -1,14 +1,13 @@
 -- Parts that are sent are the film's bytes with the texts among them.
 use Rattle.std.specs.Prelude.{⊤}
 use Rattle.conn.proofs.Replying.{film_bytes-append, takings_film}
-use Rattle.std.proofs.Common.{◌≡◌, ℕ, ◌+◌, ◌-◌, ◌≤◌, ◌++◌, if◌then◌else◌, Bool, true, false, List, [], ◌∷◌, length, take, drop, refl, ap, sym, ◌∙◌, arith}
+use Rattle.std.proofs.Common.{◌≡◌, ℕ, ◌+◌, ◌-◌, ◌≤◌, ◌++◌, List, [], ◌∷◌, length, take, drop, refl, ap, sym, ◌∙◌, arith}
 use Rattle.std.proofs.lemmas.List.{append-nil, append_assoc}
 use Rattle.std.proofs.Math.Seq.{drop-append-add, take-append-add}
 use Rattle.conn.specs.Films.{round_parts, rounds_film, rounds_parts, takings_parts}
 use Rattle.conn.specs.Rounds.{Round, takings_bytes}
 use Rattle.transcript.specs.Courses.{rounds_bytes}
-use Rattle.conn.specs.Turns.{Answered, Film, Part, Passed, Stage, Taking, TakesAll, Text, film_bytes, part_bytes, parts_bytes}
-use Rattle.session.specs.Sendings.{can_reply}
+use Rattle.conn.specs.Turns.{Answered, Film, Part, Passed, Stage, Taking, Text, film_bytes, part_bytes, parts_bytes}
 use Rattle.transcript.specs.Courses.{Follows}
 use Rattle.transcript.specs.Replies.{PlacedText, placed_texts, with_texts}
 

@@ -54,34 +54,51 @@ texts-parts place (Text text ∷ xs) ys = ap (λ l. placed_text place text ∷ l
 pub record IsCounted (first second film total bytes : ℕ) : Type 0 where
   pub is : first + second ≤ bytes → min (bytes - first - second) total ≡ film
 
-pub counted-by : {later rest : List PlacedText} {film total : ℕ} (setup played : List ℕ) (front : List PlacedText) → 0 < length setup → 0 < length played
-    → front ++ rest ≡ placed_text 0 setup ∷ placed_text 0 played ∷ later → AreAfter total later → IsFromTo 0 film front
-    → ((placed : PlacedText) (texts : List PlacedText) → rest ≡ placed ∷ texts → film ≤ placed.place) → film ≤ total
-    → IsCounted (length setup) (length played) film total (film + texts_length front)
-counted-by {later} {film} setup played [] some_setup some_played all after within next few =
-    let none : film ≤ 0 = next (placed_text 0 setup) (placed_text 0 played ∷ later) all in
-    record { is = λ much. absurd (omega (arith, much, none, some_setup)) }
-counted-by {later} {rest} {film} setup played (a ∷ []) some_setup some_played all after within next few =
+-- the replies to SETUP and to PLAY, neither of them empty
+pub record FirstTexts : Type 0 where
+  pub setup : List ℕ
+  pub played : List ℕ
+  pub some_setup : 0 < length setup
+  pub some_played : 0 < length played
+
+-- texts after a film's last byte
+pub record LaterTexts (film total : ℕ) (later : List PlacedText) : Type 0 where
+  pub after : AreAfter total later
+  pub few : film ≤ total
+
+pub counted-by : {later rest : List PlacedText} {film total : ℕ} (texts_first : FirstTexts)
+    (front : List PlacedText) →
+    front ++ rest ≡ placed_text 0 texts_first.setup ∷ placed_text 0 texts_first.played ∷ later →
+    IsFromTo 0 film front →
+    ((placed : PlacedText) (texts : List PlacedText) → rest ≡ placed ∷ texts → film ≤ placed.place) →
+    LaterTexts film total later →
+    IsCounted (length texts_first.setup) (length texts_first.played) film total (film + texts_length front)
+counted-by {later} {film} texts_first [] all within next later_texts =
+    let none : film ≤ 0 = next (placed_text 0 texts_first.setup) (placed_text 0 texts_first.played ∷ later) all in
+    record { is = λ much. absurd (omega (arith, much, none, texts_first.some_setup)) }
+counted-by {later} {rest} {film} texts_first (a ∷ []) all within next later_texts =
     let first : a ≡ placed_text 0 setup = cc in
     let second : rest ≡ placed_text 0 played ∷ later = cc in
     let none : film ≤ 0 = next (placed_text 0 played) later second in
     let size : length a.text ≡ length setup = ap (λ (p : PlacedText). length p.text) first in
     record { is = λ much. absurd (omega (arith, much, none, size, some_played)) }
-counted-by {later} setup played (a ∷ b ∷ []) some_setup some_played all after within next few =
-    let first : a ≡ placed_text 0 setup = cc in
-    let second : b ≡ placed_text 0 played = cc in
-    let one : length a.text ≡ length setup = ap (λ (p : PlacedText). length p.text) first in
-    let two : length b.text ≡ length played = ap (λ (p : PlacedText). length p.text) second in
-    record { is = λ much. omega (arith, one, two, few) }
-counted-by {later} {rest} {total} setup played (a ∷ b ∷ c ∷ texts) some_setup some_played all after within next few =
-    let first : a ≡ placed_text 0 setup = cc in
-    let second : b ≡ placed_text 0 played = cc in
+  where
+    open texts_first use {setup, played, some_played}
+counted-by {later} texts_first (a ∷ b ∷ []) all within next later_texts =
+    let first : a ≡ placed_text 0 texts_first.setup = cc in
+    let second : b ≡ placed_text 0 texts_first.played = cc in
+    let one : length a.text ≡ length texts_first.setup = ap (λ (p : PlacedText). length p.text) first in
+    let two : length b.text ≡ length texts_first.played = ap (λ (p : PlacedText). length p.text) second in
+    record { is = λ much. omega (arith, one, two, later_texts.few) }
+counted-by {later} {rest} {total} texts_first (a ∷ b ∷ c ∷ texts) all within next later_texts =
+    let first : a ≡ placed_text 0 texts_first.setup = cc in
+    let second : b ≡ placed_text 0 texts_first.played = cc in
     let third : later ≡ c ∷ (texts ++ rest) = cc in
-    let one : length a.text ≡ length setup = ap (λ (p : PlacedText). length p.text) first in
-    let two : length b.text ≡ length played = ap (λ (p : PlacedText). length p.text) second in
+    let one : length a.text ≡ length texts_first.setup = ap (λ (p : PlacedText). length p.text) first in
+    let two : length b.text ≡ length texts_first.played = ap (λ (p : PlacedText). length p.text) second in
     let P : List PlacedText → Type 0 = λ l. AreAfter total l in
-    let past = subst P third after in
-    record { is = λ much. omega (arith, one, two, few, past.0, within.1.1.1.0) }
+    let past = subst P third later_texts.after in
+    record { is = λ much. omega (arith, one, two, later_texts.few, past.0, within.1.1.1.0) }
 
 -- ---- all of it, as a front of the stream
 
@@ -131,15 +148,24 @@ film-woven {film} blocks (placed ∷ texts) n is after within =
     ∙ ap (λ l. blocks ++ (placed.text ++ l)) (woven-texts placed.place (drop n0 film) texts (drop_all n0 film (omega (arith, after.0, ap (λ (l : List ℕ). length l) whole)))) in
     record { count = length (blocks ++ framed_bytes (map text_of (placed ∷ texts))); is = all ∙ sym (take_all (length (blocks ++ framed_bytes (map text_of (placed ∷ texts)))) (blocks ++ framed_bytes (map text_of (placed ∷ texts))) (omega arith)) }
 
-pub all-woven : {film : List ℕ} (blocks setup played : List ℕ) (later : List PlacedText) (n : ℕ) → film ≡ take n blocks → AreAfter (length blocks) later
-    → IsFromTo 0 (length film) later
-    → IsFrontOf (with_texts 0 film (placed_text 0 setup ∷ placed_text 0 played ∷ later)) (setup ++ (played ++ (blocks ++ framed_bytes (map text_of later))))
-all-woven blocks setup played later n is after within =
+-- bytes that are a front of these blocks
+pub record BlocksFront (film : List ℕ) : Type 0 where
+  pub blocks : List ℕ
+  pub count : ℕ
+  pub front_is : film ≡ take count blocks
+
+pub all-woven : {film : List ℕ} (front : BlocksFront film) (setup played : List ℕ) (later : List PlacedText) →
+    AreAfter (length front.blocks) later → IsFromTo 0 (length film) later →
+    IsFrontOf (with_texts 0 film (placed_text 0 setup ∷ placed_text 0 played ∷ later))
+    (setup ++ (played ++ (front.blocks ++ framed_bytes (map text_of later))))
+all-woven front setup played later after within =
     let rest = film-woven blocks later n is after within in
     let all = blocks ++ framed_bytes (map text_of later) in
     let both : setup ++ (played ++ take rest.count all) ≡ take (length setup + (length played + rest.count)) (setup ++ (played ++ all)) =
     ap (λ l. setup ++ l) (sym (take-append-add played all rest.count)) ∙ sym (take-append-add setup (played ++ all) (length played + rest.count)) in
     record { count = length setup + (length played + rest.count); is = ap (λ l. setup ++ (played ++ l)) rest.is ∙ both }
+  where
+    open front use {blocks, count as n, front_is as is}
 
 -- ---- what the link told of rounds
 

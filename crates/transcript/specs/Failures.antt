@@ -1,7 +1,7 @@
 -- What a connection has sent where a send failed.
 use Rattle.std.specs.Prelude.{ℕ, ◌≡◌, ◌++◌, List, [], ◌∷◌}
 use Rattle.vod_base.specs.Links.{Doing}
-use Rattle.conn.specs.Rounds.{IsFront, Round, round_bytes}
+use Rattle.conn.specs.Rounds.{IsFront, Round}
 use Rattle.conn.specs.Turns.{Taking}
 use Rattle.transcript.specs.Courses.{Course, rounds_bytes}
 

@@ -8,17 +8,17 @@ use Rattle.admission.specs.Histories.{play_admitted}
 use Rattle.admission.specs.Makers.{Placed}
 use Rattle.session.specs.declared.notes.PlayNote.{PlayNote}
 use Rattle.session.specs.declared.states.Awaited.{Awaited}
-use Rattle.session.specs.declared.states.Awaited.TheVariants.{Nothing, Play, Halt, Look, Offer}
+use Rattle.session.specs.declared.states.Awaited.TheVariants.{Play}
 use Rattle.session.specs.declared.states.Setup.{Setup}
 use Rattle.session.specs.declared.states.State.{State}
-use Rattle.session.specs.declared.states.State.TheVariants.{Init, Ready, Playing, Stopping}
+use Rattle.session.specs.declared.states.State.TheVariants.{Ready}
 use Rattle.session.specs.PlayLaws.{slots_missed}
 use Rattle.session.specs.Sendings.{is_sending, is_taken, after_slot, start_in}
 use Rattle.session.specs.Standings.{Standing}
 use Rattle.conn.specs.Rounds.{Ending, Unheard, PeerEnded, Overfull, AtPiece, InSlot, InReply, Ends}
 use Rattle.conn.specs.Rounds.{Round, Runs, RunsAll}
 use Rattle.conn.specs.Turns.{Outcome, Unasked, Entered, WasFull, Offered, Stage, Taking, Passed}
-use Rattle.conn.specs.Turns.{Answered, TakesAll, stage}
+use Rattle.conn.specs.Turns.{Answered, TakesAll}
 use Rattle.transcript.specs.Agreement.{Doings, HasDone}
 use Rattle.transcript.specs.Courses.{first_stage}
 use Rattle.transcript.specs.Plays.{kept_with}

@@ -5,7 +5,8 @@ pub returns-clause-all : goal.returns-clause-all
 returns-clause-all c = takes_all
 
 pub returns-clause-last : goal.returns-clause-last
-returns-clause-last c = takes_last
+returns-clause-last c = λ old mid new rounds round end runs last stopped.
+    takes_last old rounds end runs last stopped
 
 pub returns-clause-fronts : goal.returns-clause-fronts
 returns-clause-fronts c = takes_part

@@ -5,4 +5,5 @@ pub returns-clause-slot : goal.returns-clause-slot
 returns-clause-slot c = failed-slot
 
 pub returns-clause-reply : goal.returns-clause-reply
-returns-clause-reply c = failed-reply
+returns-clause-reply c = λ course round message outcome front new ends.
+    failed-reply course ends

@@ -22,6 +22,10 @@ returns c = λ wish stored course watched heard out wished played client carried
     subst (λ b. P b (slot - begin)) its.1.1.1
     (fed played
     (carried.each its.0 its.1.0 slot (its.1.1.0 ∙ ap (λ e. its.0 ++ e ∷ its.1.0) event) after_begin)) in
-    let kept = kept-promise front.count wished
-    played.whole.sending.can_play.playback_is.some_picture_units (film-in wish stored course played) client.runs told.all (sym told.heard_is ∙ front.is) feeds in
+    let kept = kept-promise front.count (record {
+      wished = wished;
+      timed = played.whole.sending.can_play.playback_is.some_picture_units;
+      film_is = film-in wish stored course played;
+    })
+    client.runs told.all (sym told.heard_is ∙ front.is) feeds in
     (kept.over_none, kept.under_none, kept.most_fits, λ first at_first last at_last. kept.film_back first last at_first at_last)

@@ -2,4 +2,5 @@ use Rattle.transcript.proofs.Asked.{asked-plan}
 use Rattle.transcript.proofs.watched.law_whole_asked.Goals as goal
 
 pub returns : goal.returns
-returns c = asked-plan
+returns c = λ wish stored source settings setup counts plan wished set is.
+    asked-plan wished set is
