@@ -51,18 +51,23 @@ video_trouble name file video NoMemory is h = tt
 video_trouble name file video GateFault is h = h
 video_trouble name file video LinkFault is h = h
 
--- what the bytes of a file come to is what the file comes to
-pub bytes_trouble : {told : Option (List File)} {file : List ℕ} (most : ℕ) (over : Fault) (faults faults' : ℕ)
-    (name : List ℕ) (t : Trouble) → IsBytesTrouble name file t →
-    ((held : List File) → told ≡ Some held → file_named held name ≡ Some file) → length file ≤ most → IsReadTrouble (IsNamed name) (IsRefusedAbove most over) told faults faults' t
-bytes_trouble most over faults faults' name Usage h found short = h
-bytes_trouble {file} most over faults faults' name (Refused other fault) h found short =
-    (h.0, λ held is. subst (λ (n : List ℕ). IsRefusedAbove most over held n fault) (sym h.0) (inr (file, (found held is, inr (short, h.1)))))
-bytes_trouble most over faults faults' name (StoreFault other) h found short = absurd h
-bytes_trouble most over faults faults' name SinkFault h found short = h
-bytes_trouble most over faults faults' name NoMemory h found short = tt
-bytes_trouble most over faults faults' name GateFault h found short = h
-bytes_trouble most over faults faults' name LinkFault h found short = h
+-- the bytes of the file of a name, where the library tells what it holds, and at most so many
+pub record WasRead (told : Option (List File)) (name file : List ℕ) (most : ℕ) : Type 0 where
+  pub found : (held : List File) → told ≡ Some held → file_named held name ≡ Some file
+  pub short : length file ≤ most
+
+-- what they come to is what the file comes to
+pub bytes_trouble : {told : Option (List File)} {name file : List ℕ} {most : ℕ} (over : Fault) (faults faults' : ℕ)
+    (t : Trouble) → WasRead told name file most → IsBytesTrouble name file t →
+    IsReadTrouble (IsNamed name) (IsRefusedAbove most over) told faults faults' t
+bytes_trouble over faults faults' Usage read h = h
+bytes_trouble {file} {most} over faults faults' (Refused other fault) read h =
+    (h.0, λ held is. subst (λ (n : List ℕ). IsRefusedAbove most over held n fault) (sym h.0) (inr (file, (read.found held is, inr (read.short, h.1)))))
+bytes_trouble over faults faults' (StoreFault other) read h = absurd h
+bytes_trouble over faults faults' SinkFault read h = h
+bytes_trouble over faults faults' NoMemory read h = tt
+bytes_trouble over faults faults' GateFault read h = h
+bytes_trouble over faults faults' LinkFault read h = h
 
 pub film_loaded : {held : List File} {name file video : List ℕ} → file_named held name ≡ Some file → length file ≤ 2 ^ 40 → IsVideo file video → refusal video ≡ None → HoldsVideo held name video
 film_loaded {name} {file} found short is accepted =

@@ -13,10 +13,10 @@ use Rattle.vod_base.specs.Outside.{File, file_named}
 use Rattle.inputs.specs.Files.{IsFront}
 use Rattle.inputs.specs.Scans.{IsOpened}
 use Rattle.inputs.proofs.ReadLemmas.{first_front, front_rest, one_file, whole_front}
-use Rattle.inputs.specs.Openings.{IsOpen, prefix_of}
+use Rattle.inputs.specs.Openings.{IsOpen}
 use Rattle.inputs.specs.Videos.{pack_in, pack_of}
-use Rattle.inputs.specs.declared.openings.Prefix.{Prefix}
-use Rattle.inputs.specs.declared.openings.Prefix.TheVariants.{Nothing, Zero, Zeros, Whole}
+use Rattle.mpeg_scan.specs.declared.codes.Prefix.{Prefix}
+use Rattle.mpeg_scan.specs.declared.codes.Prefix.TheVariants.{Nothing, Zero, Zeros, Whole}
 
 -- before the first byte
 pub open_none : IsOpen Nothing []
@@ -24,8 +24,8 @@ unfolding latest_prefix
 open_none = record { none = codes-none; prefix_is = refl }
 
 -- a byte that isn't the kind of a code
-pub open_more : {prefix next : Prefix} {seen : List ℕ} (byte : ℕ) → IsOpen prefix seen → is_whole (prefix_of prefix) ≡ false →
-    prefix_of next ≡ next_prefix (prefix_of prefix) byte → IsOpen next (seen ++ byte ∷ [])
+pub open_more : {prefix next : Prefix} {seen : List ℕ} (byte : ℕ) → IsOpen prefix seen → is_whole prefix ≡ false →
+    next ≡ next_prefix prefix byte → IsOpen next (seen ++ byte ∷ [])
 open_more {next} {seen} byte so_far part is =
     let joined : read [] (seen ++ byte ∷ []) ≡ byte ∷ read [] seen = read-append [] seen (byte ∷ []) in
     let plain : is_whole (latest_prefix (read [] seen)) ≡ false = ap is_whole (sym so_far.prefix_is) ∙ part in
@@ -72,7 +72,7 @@ pack-stays (x ∷ more) r pack has = pack-stays more (x ∷ r) pack (older-more 
 first_code : (prefix : Prefix) (seen : List ℕ) (byte : ℕ) → IsOpen prefix seen → prefix ≡ Whole →
     HasOlder (byte ∷ read [] seen) (cond (eqb byte 0xba) (Some (length seen - 3)) None)
 first_code prefix seen byte so_far whole =
-    let is : is_whole (latest_prefix (read [] seen)) ≡ true = ap is_whole (sym so_far.prefix_is ∙ ap prefix_of whole) in
+    let is : is_whole (latest_prefix (read [] seen)) ≡ true = ap is_whole (sym so_far.prefix_is ∙ whole) in
     let long : length (read [] seen) ≡ length seen = length-read seen [] ∙ omega arith in
     record {
       code = record { place = length (read [] seen) - 3; kind = byte; text = [] };
@@ -145,24 +145,31 @@ whole_looked {held} {name} {size} {place} {prefix} so_far end =
       within = tt;
     }
 
+-- the bytes before one of a piece, which stands at `at`, have no start code
+pub record IsOpenBefore (prefix : Prefix) (seen piece : List ℕ) (index at : ℕ) : Type 0 where
+  pub inside : index < length piece
+  pub long : length seen ≡ at
+  pub so_far : IsOpen prefix (seen ++ take index piece)
+
 -- one byte of a piece more
-pub open_step : {prefix next : Prefix} (seen piece : List ℕ) (index : ℕ) → index < length piece → IsOpen prefix (seen ++ take index piece) → is_whole (prefix_of prefix) ≡ false →
-    prefix_of next ≡ next_prefix (prefix_of prefix) (get_or piece index 0) → IsOpen next (seen ++ take (index + 1) piece)
-open_step {next} seen piece index inside so_far part is =
+pub open_step : {prefix next : Prefix} {seen piece : List ℕ} {index at : ℕ} → IsOpenBefore prefix seen piece index at → is_whole prefix ≡ false →
+    next ≡ next_prefix prefix (get_or piece index 0) → IsOpen next (seen ++ take (index + 1) piece)
+open_step {next} {seen} {piece} {index} before part is =
     let joined : (seen ++ take index piece) ++ get_or piece index 0 ∷ [] ≡ seen ++ take (index + 1) piece =
-    append_assoc seen (take index piece) (get_or piece index 0 ∷ []) ∙ ap (λ (l : List ℕ). seen ++ l) (sym (take_more piece index 0 inside)) in
-    subst (IsOpen next) joined (open_more (get_or piece index 0) so_far part is)
+    append_assoc seen (take index piece) (get_or piece index 0 ∷ []) ∙ ap (λ (l : List ℕ). seen ++ l) (sym (take_more piece index 0 before.inside)) in
+    subst (IsOpen next) joined (open_more (get_or piece index 0) before.so_far part is)
 
 -- the first code of a piece is found
-pub found_step : {prefix : Prefix} {at : ℕ} {pack : Option ℕ} (seen piece : List ℕ) (index : ℕ) → index < length piece → length seen ≡ at → IsOpen prefix (seen ++ take index piece) → prefix ≡ Whole →
+pub found_step : {prefix : Prefix} {seen piece : List ℕ} {index at : ℕ} {pack : Option ℕ} → IsOpenBefore prefix seen piece index at → prefix ≡ Whole →
     cond (eqb (get_or piece index 0) 0xba) (Some (at + index - 3)) None ≡ pack → (more : List ℕ) → pack_in ((seen ++ piece) ++ more) ≡ pack
-found_step {at} seen piece index inside long so_far whole is more =
-    let place : length (seen ++ take index piece) ≡ at + index = omega (arith, length-append seen (take index piece), long, length-take-le index piece (omega (arith, inside))) in
-    ap pack_in (at_byte seen piece more index inside)
-    ∙ first_found (get_or piece index 0) (drop (index + 1) piece ++ more) so_far whole
+found_step {seen} {piece} {index} {at} before whole is more =
+    let place : length (seen ++ take index piece) ≡ at + index =
+    omega (arith, length-append seen (take index piece), before.long, length-take-le index piece (omega (arith, before.inside))) in
+    ap pack_in (at_byte seen piece more index before.inside)
+    ∙ first_found (get_or piece index 0) (drop (index + 1) piece ++ more) before.so_far whole
     (ap (λ n. cond (eqb (get_or piece index 0) 0xba) (Some (n - 3)) None) place ∙ is)
 
-pub not_whole : (prefix : Prefix) → (prefix ≡ Whole → ⊥) → is_whole (prefix_of prefix) ≡ false
+pub not_whole : (prefix : Prefix) → (prefix ≡ Whole → ⊥) → is_whole prefix ≡ false
 not_whole Nothing other = refl
 not_whole Zero other = refl
 not_whole Zeros other = refl

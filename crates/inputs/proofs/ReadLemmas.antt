@@ -57,11 +57,11 @@ read_some {held} {name} {piece} so_far read some before =
     read.some some (omega (arith, so_far.sized, before, ap length whole))
 
 -- each read comes nearer the size, or is the last
-pub measure_falls : {more more' : Bool} (size len len' : ℕ) → more ≡ true → len < size → len ≤ len' → (more' ≡ true → len < len') →
+pub measure_falls : {more more' : Bool} {len len' : ℕ} (size : ℕ) → more ≡ true → len < size → len ≤ len' → (more' ≡ true → len < len') →
     size - len' + (if more' then 1 else 0) < size - len + (if more then 1 else 0)
-measure_falls {more = false} size len len' h before longer grows = let e : size ≡ len = cc in omega (arith, e, before)
-measure_falls {more = true} {more' = false} size len len' h before longer grows = omega (arith, before, longer)
-measure_falls {more = true} {more' = true} size len len' h before longer grows = omega (arith, before, grows refl)
+measure_falls {more = false} {len} {len'} size h before longer grows = let e : size ≡ len = cc in omega (arith, e, before)
+measure_falls {more = true} {more' = false} {len} {len'} size h before longer grows = omega (arith, before, longer)
+measure_falls {more = true} {more' = true} {len} {len'} size h before longer grows = omega (arith, before, grows refl)
 
 pub one_file : (held : List File) (name a b : List ℕ) → file_named held name ≡ Some a → file_named held name ≡ Some b → a ≡ b
 one_file held name a b p q = let e : Some a ≡ Some b = sym p ∙ q in cc

@@ -1,6 +1,6 @@
 -- A film that is scanned piece by piece.
 use Rattle.std.proofs.Common.{◌≡◌, ℕ, ◌+◌, ◌<◌, ◌≤◌, ◌^◌, Bool, true, List, [], ◌++◌, length, take, drop, Some, None, Option, Result, Ok, Err, inl, inr, refl, sym, ap, ◌∙◌, arith, subst, length-append}
-use Rattle.std.specs.Prelude.{option_map, IfErr, IfOk}
+use Rattle.std.specs.Prelude.{option_map, IfErr, IfOk, IsErrAnd}
 use Rattle.std.proofs.lemmas.List.{length-take-le}
 use Rattle.vod_base.specs.Outside.{File, file_named}
 use Rattle.mpeg_scan.specs.declared.faults.FilmFault.{FilmFault}
@@ -22,7 +22,7 @@ use Rattle.troubles.specs.declared.faults.Trouble.TheVariants.{Usage, Refused, S
 use Rattle.troubles.specs.Causes.{IsReadTrouble}
 use Rattle.troubles.proofs.CauseLemmas.{trouble_map}
 use Rattle.inputs.specs.Films.{IsFilmTrouble}
-use Rattle.inputs.specs.Files.{IsFront, IsMissing, IsNamed}
+use Rattle.inputs.specs.Files.{IsFront, IsMissing, IsNamed, IsNever}
 use Rattle.inputs.specs.Scans.{HasEnded, HasHeard, HasRefused, HasScanned, HasScannedAll, HasTold, IsFilmRefused, IsOpened, WasOpened}
 use Rattle.inputs.specs.Videos.{IsVideo, IsVideoFrom, pack_in}
 use Rattle.inputs.proofs.ReadLemmas.{first_front, front_rest, one_file, whole_front}
@@ -60,12 +60,12 @@ more_told {Heard} {Heard'} {scanner'} {video} more so_far kept tells =
     }
 
 pub more_scanned : {Heard Heard' : List Call → Type 0} {told' : Option (List File)} {name : List ℕ} {size place : ℕ}
-    {scanner scanner' : Scanner} (piece : List ℕ) (count : ℕ) →
+    {scanner scanner' : Scanner} {count : ℕ} (piece : List ℕ) →
     (so_far : HasScanned Heard told' name size place scanner) → ((held : List File) → told' ≡ Some held → IsFront held name size (so_far.bytes ++ take count piece)) → count ≤ length piece →
     ((r : List ℕ) → HasScannedBytes scanner r → HasScannedBytes scanner' (read r (take count piece))) →
     ((r : List ℕ) (calls : List Call) → HasScannedBytes scanner r → Heard (calls ++ calls_of (codes_of r)) → Heard' (calls ++ calls_of (codes_of (read r (take count piece))))) →
     HasScanned Heard' told' name size (place + count) scanner'
-more_scanned {Heard} {Heard'} {name} {place} piece count so_far front within kept tells = record {
+more_scanned {Heard} {Heard'} {name} {place} {count} piece so_far front within kept tells = record {
   bytes = so_far.bytes ++ take count piece;
   long = omega (arith, length-append so_far.bytes (take count piece), so_far.long, length-take-le count piece within);
   scanned = more_told (take count piece) so_far.scanned kept tells;
@@ -172,6 +172,10 @@ end_refused {Heard} {held} {name} short opened so_far is refused =
 
 -- ---- answers that are handed on
 
+pub handed_on : {T E : Type 0} {e : E} (P : E → Type 0) (r : Result T E) → IsErrAnd r (λ y. y ≡ e) → P e → IfErr r P
+handed_on P (Ok x) is p = tt
+handed_on P (Err y) is p = subst P (sym is) p
+
 pub ok_map : {T E : Type 0} (P Q : T → Type 0) (r : Result T E) → ((x : T) → P x → Q x) → IfOk r P → IfOk r Q
 ok_map P Q (Ok x) f h = f x h
 ok_map P Q (Err e) f h = tt
@@ -181,25 +185,30 @@ err_map P Q (Ok x) f h = tt
 err_map P Q (Err e) f h = f e h
 
 -- a trouble of the film's end, where the library tells what it holds
-pub end_trouble : {told' : Option (List File)} (name : List ℕ) (Refuses : FilmFault → Type 0) (faults faults' : ℕ)
+pub end_trouble : {told' : Option (List File)} {Refuses : FilmFault → Type 0} (name : List ℕ) (faults faults' : ℕ)
     (t : Trouble) →
     ((held : List File) (fault : FilmFault) → told' ≡ Some held → Refuses fault → IsFilmRefused held name (Film fault)) → IsFilmTrouble name Refuses t →
     IsReadTrouble (IsNamed name) IsFilmRefused told' faults faults' t
-end_trouble name Refuses faults faults' Usage refuses h = absurd h
-end_trouble name Refuses faults faults' (Refused other (Film fault)) refuses h =
+end_trouble name faults faults' Usage refuses h = absurd h
+end_trouble name faults faults' (Refused other (Film fault)) refuses h =
     (h.0, λ held is. subst (λ (n : List ℕ). IsFilmRefused held n (Film fault)) (sym h.0) (refuses held fault is h.1))
-end_trouble name Refuses faults faults' (Refused other fault) refuses h = absurd h
-end_trouble name Refuses faults faults' (StoreFault other) refuses h = absurd h
-end_trouble name Refuses faults faults' SinkFault refuses h = absurd h
-end_trouble name Refuses faults faults' NoMemory refuses h = tt
-end_trouble name Refuses faults faults' GateFault refuses h = absurd h
-end_trouble name Refuses faults faults' LinkFault refuses h = absurd h
+end_trouble name faults faults' (Refused other fault) refuses h = absurd h
+end_trouble name faults faults' (StoreFault other) refuses h = absurd h
+end_trouble name faults faults' SinkFault refuses h = absurd h
+end_trouble name faults faults' NoMemory refuses h = tt
+end_trouble name faults faults' GateFault refuses h = absurd h
+end_trouble name faults faults' LinkFault refuses h = absurd h
 
--- what was found out before is not less known after more of the library was read
-pub trouble_on : {told told' : Option (List File)} (name : List ℕ) (Refuses : List File → List ℕ → Fault → Type 0)
-    (a b c : ℕ) (t : Trouble) → told' ≡ told → a ≤ b →
+-- more of the library was read: it holds what it held, and counts no fewer faults
+pub record ReadOn (told told' : Option (List File)) (a b : ℕ) : Type 0 where
+  pub kept : told' ≡ told
+  pub count : a ≤ b
+
+-- what was found out before is not less known after that
+pub trouble_on : {told told' : Option (List File)} {a b : ℕ} (name : List ℕ) (Refuses : List File → List ℕ → Fault → Type 0)
+    (c : ℕ) (t : Trouble) → ReadOn told told' a b →
     IsReadTrouble (IsNamed name) Refuses told' b c t → IsReadTrouble (IsNamed name) Refuses told a c t
-trouble_on {told} {told'} name Refuses a b c t kept count h =
+trouble_on {told} {told'} {a} {b} name Refuses c t on h =
     trouble_map (record {
       Reads = IsNamed name;
       Refuses = Refuses;
@@ -218,17 +227,46 @@ trouble_on {told} {told'} name Refuses a b c t kept count h =
     (record {
       reads = λ n is. is;
       refuses = λ held n fault is named refused. refused;
-      keeps = λ held is. kept ∙ is;
-      low = count;
+      keeps = λ held is. on.kept ∙ is;
+      low = omega (arith, on.count);
       high = omega arith;
     })
     h
 
--- the same of a call's answer
-pub troubles_on : {told told' : Option (List File)} (name : List ℕ) (a b c : ℕ) (r : Result Ending Trouble) → told' ≡ told → a ≤ b →
+-- the same of a read that is never refused
+pub never_refused : {told told' : Option (List File)} {a b : ℕ} (name : List ℕ) (Refuses : List File → List ℕ → Fault → Type 0)
+    (c : ℕ) (t : Trouble) → ReadOn told told' a b →
+    IsReadTrouble (IsNamed name) IsNever told' b c t → IsReadTrouble (IsNamed name) Refuses told a c t
+never_refused {told} {told'} {a} {b} name Refuses c t on h =
+    trouble_map (record {
+      Reads = IsNamed name;
+      Refuses = IsNever;
+      told = told';
+      before = b;
+      after = c;
+    })
+    (record {
+      Reads = IsNamed name;
+      Refuses = Refuses;
+      told = told;
+      before = a;
+      after = c;
+    })
+    t
+    (record {
+      reads = λ n is. is;
+      refuses = λ held n fault is named never. absurd never;
+      keeps = λ held is. on.kept ∙ is;
+      low = omega (arith, on.count);
+      high = omega arith;
+    })
+    h
+
+-- and of a call's answer
+pub troubles_on : {told told' : Option (List File)} {a b : ℕ} (name : List ℕ) (c : ℕ) (r : Result Ending Trouble) → ReadOn told told' a b →
     IfErr r (IsReadTrouble (IsNamed name) IsFilmRefused told' b c) → IfErr r (IsReadTrouble (IsNamed name) IsFilmRefused told a c)
-troubles_on name a b c (Ok ending) kept count h = tt
-troubles_on name a b c (Err t) kept count h = trouble_on name IsFilmRefused a b c t kept count h
+troubles_on name c (Ok ending) on h = tt
+troubles_on name c (Err t) on h = trouble_on name IsFilmRefused c t on h
 
 -- a film that is heard where the library tells as much as before
 pub heard_on : {told told' : Option (List File)} (Heard : List Call → Type 0) (name : List ℕ)

@@ -1,8 +1,7 @@
 -- The sizes that are counted while a film's parts are told are those of its units.
-use Rattle.std.proofs.Common.{◌≡◌, ℕ, ◌+◌, ◌-◌, ◌*◌, ◌≤◌, Bool, true, false, cond, eqb, ltb, leb, ◌&&◌, List, [], ◌∷◌, ◌++◌, append_assoc, Some, None, IsSome, length, take, drop, map, sum, refl, sym, ap, ◌∙◌, arith, length-append}
+use Rattle.std.proofs.Common.{◌≡◌, ℕ, ◌+◌, ◌-◌, ◌*◌, ◌≤◌, false, cond, eqb, ltb, leb, ◌&&◌, List, [], ◌∷◌, ◌++◌, append_assoc, Some, None, IsSome, length, take, drop, map, sum, refl, sym, ap, ◌∙◌, arith, length-append}
 use Rattle.std.proofs.lemmas.List.{append-nil, length-map}
 use Rattle.std.proofs.lemmas.List.Sums.{sum_by-cons}
-use Rattle.std.proofs.Math.Seq.{drop-append_seam, take-append_seam}
 use Rattle.std.proofs.lemmas.Bool.{and_parts, false≢true, eqb-true}
 use Rattle.mpeg_scan.specs.declared.units.Unit.{Unit as PictureUnit}
 use Rattle.mpeg_scan.specs.Calls.{Call, head_call, slice_call, unit_call}
@@ -14,7 +13,7 @@ use Rattle.mpeg_scan.specs.Tiles.{Part, between, within, first_of, parts_after}
 use Rattle.mpeg_scan.specs.Words.{rate_of}
 use Rattle.mpeg_scan.proofs.BoundLemmas.{film-bytes, film-pictures, film-rate, film-units}
 use Rattle.mpeg_scan.proofs.CountLemmas.{film-numbered}
-use Rattle.mpeg_scan.proofs.LaidLemmas.{film-chained, film-laid, part-fits}
+use Rattle.mpeg_scan.proofs.LaidLemmas.{UnitFits, count-fits, film-chained, film-laid, own-slices, part-fits, unit-fits}
 use Rattle.mpeg_scan.proofs.TileLemmas.{film-tiles}
 use Rattle.rtp_pack.specs.Packets.{lengths_to, unit_lengths}
 use Rattle.rtp_pack.specs.Sizes.{Measure, measure_from_head, frames_of, measure_of, with_slice}
@@ -32,15 +31,6 @@ lengths-more [] at b = refl
 lengths-more (s ∷ []) at b = refl
 lengths-more (s ∷ (next ∷ cur)) at b = ap (λ (l : List ℕ). (next - s) ∷ l) (lengths-more (next ∷ cur) at b)
 
--- the slices of a unit, after those before it
-own-slices : {cur : List ℕ} {first n : ℕ} (before rest : List ℕ) → first ≡ length before → n ≡ length cur → take n (drop first ((before ++ cur) ++ rest)) ≡ cur
-own-slices {cur} {first} {n} before rest f m =
-    ap (λ (l : List ℕ). take n (drop first l)) (append_assoc before cur rest)
-    ∙ ap (λ i. take n (drop i (before ++ (cur ++ rest)))) f
-    ∙ ap (λ (l : List ℕ). take n l) (drop-append_seam before (cur ++ rest))
-    ∙ ap (λ i. take i (cur ++ rest)) m
-    ∙ take-append_seam cur rest
-
 -- what was measured of a unit whose slices so far are the last of `past`
 record IsMeasured (from head_end at n : ℕ) (past : List ℕ) (unit : Measure) : Type 0 where
   before : List ℕ
@@ -53,16 +43,10 @@ abbrev Measures : Part → List ℕ → Measure → Type 0
 Measures (between at) past unit = Unit {0}
 Measures (within from head_end at n) past unit = IsMeasured from head_end at n past unit
 
-count-fits : (b : Bool) (k : Count) (calls : List Call) → IsSome (counts_after (cond b (Some k) None) calls) → (b ≡ true) × IsSome (counts_after (Some k) calls)
-count-fits true k calls e = (refl, e)
-count-fits false k [] e = cc
-count-fits false k (call ∷ calls) e = cc
-
 -- a unit that has ended has its size
-unit-size : {from head_end at n : ℕ} {past : List ℕ} {m : Measure} (unit : PictureUnit) (rest : List ℕ) → unit.from ≡ from → unit.head_end ≡ head_end → unit.to ≡ at → unit.slices ≡ n →
-    unit.first_slice + unit.slices ≡ length past → IsMeasured from head_end at n past m →
-    cond unit.starts_group 52 0 + frames_of m ≡ wire_size (past ++ rest) unit
-unit-size {from} {head_end} {at} {past} {m} unit rest begin head end slices count so_far =
+unit-size : {unit : PictureUnit} {from head_end at n : ℕ} {past : List ℕ} {m : Measure} (rest : List ℕ) → UnitFits unit from head_end at n → unit.first_slice + unit.slices ≡ length past →
+    IsMeasured from head_end at n past m → cond unit.starts_group 52 0 + frames_of m ≡ wire_size (past ++ rest) unit
+unit-size {unit} {from} {head_end} {at} {past} {m} rest fits count so_far =
     let all : length past ≡ length so_far.before + length so_far.cur = ap length so_far.past_is ∙ length-append so_far.before so_far.cur in
     let cur : unit.slices ≡ length so_far.cur = slices ∙ so_far.count in
     let first : unit.first_slice ≡ length so_far.before = omega (arith, all, cur, count) in
@@ -73,58 +57,68 @@ unit-size {from} {head_end} {at} {past} {m} unit rest begin head end slices coun
     let head_is : head_end - from ≡ unit.head_end - unit.from = ap (λ h. h - from) (sym head) ∙ ap (λ f. unit.head_end - f) (sym begin) in
     ap (λ (u : Measure). cond unit.starts_group 52 0 + frames_of u)
     (so_far.unit_is ∙ ap (λ h. measure_of h (lengths_to at so_far.cur)) head_is ∙ ap (λ (l : List ℕ). measure_of (unit.head_end - unit.from) l) lengths)
+  where
+    open fits use {begin, head, end, slices}
 
-sizes-told : {to : ℕ} (calls : List Call) (part : Part) (k : Count) (past : List ℕ) (s : Sizing) → parts_after (Some part) calls ≡ Some (between to) →
-    IsSome (counts_after (Some k) calls) → k.slices ≡ length past → Measures part past s.unit →
+-- the places of all slices so far, and what was measured of the unit that the parts so far come to
+record MeasuredSoFar (part : Part) (k : Count) (past : List ℕ) (unit : Measure) : Type 0 where
+  slices : k.slices ≡ length past
+  measures : Measures part past unit
+
+sizes-told : (calls : List Call) (s : Sizing) {part : Part} {k : Count} {to : ℕ} {past : List ℕ} → parts_after (Some part) calls ≡ Some (between to) →
+    IsSome (counts_after (Some k) calls) → MeasuredSoFar part k past s.unit →
     (sizing_after s calls).sizes ≡ s.sizes ++ map (λ u. wire_size (past ++ slices_in calls) u) (units_in calls)
-sizes-told [] part k past s parts counts slices so_far = sym (append-nil s.sizes)
-sizes-told {to} (head_call a b ∷ calls) (between at) k past s parts counts slices so_far =
+sizes-told [] s parts counts so_far = sym (append-nil s.sizes)
+sizes-told (head_call a b ∷ calls) s {part = between at} {k} {to} {past} parts counts so_far =
     let fits = part-fits (eqb a at && (ltb a b && leb (b - a) 1380)) (within a b b 0) calls to parts in
-    sizes-told calls (within a b b 0) k past (sizing_after_call s (head_call a b)) fits.1 counts slices
-    (record { before = past; cur = []; past_is = sym (append-nil past); count = refl; unit_is = refl })
-sizes-told {to} (slice_call a b ∷ calls) (between at) k past s parts counts slices so_far = absurd (false≢true (part-fits false (between at) calls to parts).0)
-sizes-told {to} (unit_call unit ∷ calls) (between at) k past s parts counts slices so_far = absurd (false≢true (part-fits false (between at) calls to parts).0)
-sizes-told {to} (head_call a b ∷ calls) (within from head_end at n) k past s parts counts slices so_far = absurd (false≢true (part-fits false (between at) calls to parts).0)
-sizes-told {to} (slice_call a b ∷ calls) (within from head_end at n) k past s parts counts slices so_far =
+    let next : MeasuredSoFar (within a b b 0) k past (sizing_after_call s (head_call a b)).unit = record {
+      slices = so_far.slices;
+      measures = record { before = past; cur = []; past_is = sym (append-nil past); count = refl; unit_is = refl };
+    } in
+    sizes-told calls (sizing_after_call s (head_call a b)) fits.1 counts next
+sizes-told (slice_call a b ∷ calls) s {part = between at} {to} parts counts so_far = absurd (false≢true (part-fits false (between at) calls to parts).0)
+sizes-told (unit_call unit ∷ calls) s {part = between at} {to} parts counts so_far = absurd (false≢true (part-fits false (between at) calls to parts).0)
+sizes-told (head_call a b ∷ calls) s {part = within from head_end at n} {to} parts counts so_far = absurd (false≢true (part-fits false (between at) calls to parts).0)
+sizes-told (slice_call a b ∷ calls) s {part = within from head_end at n} {k} {to} {past} parts counts so_far =
     let fits = part-fits (eqb a at && leb (a + 4) b) (within from head_end b (n + 1)) calls to parts in
+    let its : IsMeasured from head_end at n past s.unit = so_far.measures in
     let same : a ≡ at = eqb-true a at (and_parts (eqb a at) (leb (a + 4) b) fits.0).0 in
-    let unit : with_slice s.unit (b - a) ≡ measure_of (head_end - from) (lengths_to b (so_far.cur ++ a ∷ [])) =
-    ap (λ (m : Measure). with_slice m (b - a)) (so_far.unit_is ∙ ap (λ t. measure_of (head_end - from) (lengths_to t so_far.cur)) (sym same))
-    ∙ sym (slices-append (lengths_to a so_far.cur) (measure_from_head (head_end - from)) (b - a))
-    ∙ ap (λ (l : List ℕ). measure_of (head_end - from) l) (sym (lengths-more so_far.cur a b)) in
-    sizes-told calls (within from head_end b (n + 1)) (record k { slices = k.slices + 1 }) (past ++ a ∷ []) (sizing_after_call s (slice_call a b)) fits.1 counts
-    (omega (arith, slices, length-append past (a ∷ [])))
-    (record {
-      before = so_far.before;
-      cur = so_far.cur ++ a ∷ [];
-      past_is = ap (λ (l : List ℕ). l ++ a ∷ []) so_far.past_is ∙ append_assoc so_far.before so_far.cur (a ∷ []);
-      count = omega (arith, so_far.count, length-append so_far.cur (a ∷ []));
-      unit_is = unit;
-    })
+    let unit : with_slice s.unit (b - a) ≡ measure_of (head_end - from) (lengths_to b (its.cur ++ a ∷ [])) =
+    ap (λ (m : Measure). with_slice m (b - a)) (its.unit_is ∙ ap (λ t. measure_of (head_end - from) (lengths_to t its.cur)) (sym same))
+    ∙ sym (slices-append (lengths_to a its.cur) (measure_from_head (head_end - from)) (b - a))
+    ∙ ap (λ (l : List ℕ). measure_of (head_end - from) l) (sym (lengths-more its.cur a b)) in
+    let next : MeasuredSoFar (within from head_end b (n + 1)) (record k { slices = k.slices + 1 }) (past ++ a ∷ []) (sizing_after_call s (slice_call a b)).unit = record {
+      slices = omega (arith, so_far.slices, length-append past (a ∷ []));
+      measures = record {
+        before = its.before;
+        cur = its.cur ++ a ∷ [];
+        past_is = ap (λ (l : List ℕ). l ++ a ∷ []) its.past_is ∙ append_assoc its.before its.cur (a ∷ []);
+        count = omega (arith, its.count, length-append its.cur (a ∷ []));
+        unit_is = unit;
+      };
+    } in
+    sizes-told calls (sizing_after_call s (slice_call a b)) fits.1 counts next
     ∙ ap (λ (starts : List ℕ). s.sizes ++ map (λ u. wire_size starts u) (units_in calls)) (append_assoc past (a ∷ []) (slices_in calls))
-sizes-told {to} (unit_call unit ∷ calls) (within from head_end at n) k past s parts counts slices so_far =
+sizes-told (unit_call unit ∷ calls) s {part = within from head_end at n} {k} {to} {past} parts counts so_far =
     let fits = part-fits ((eqb unit.from from && (eqb unit.head_end head_end && eqb unit.to at)) && (eqb unit.slices n && ltb 0 n)) (between at) calls to parts in
-    let both = and_parts (eqb unit.from from && (eqb unit.head_end head_end && eqb unit.to at)) (eqb unit.slices n && ltb 0 n) fits.0 in
-    let first = and_parts (eqb unit.from from) (eqb unit.head_end head_end && eqb unit.to at) both.0 in
-    let places = and_parts (eqb unit.head_end head_end) (eqb unit.to at) first.1 in
     let next : Count = record { units = k.units + 1; slices = k.slices; before_group = group_of k unit } in
     let counted = count-fits (eqb (unit.first_slice + unit.slices) k.slices && eqb unit.presentation (group_of k unit + unit.temporal)) next calls counts in
     let count : unit.first_slice + unit.slices ≡ k.slices =
     eqb-true (unit.first_slice + unit.slices) k.slices (and_parts (eqb (unit.first_slice + unit.slices) k.slices) (eqb unit.presentation (group_of k unit + unit.temporal)) counted.0).0 in
     let size : cond unit.starts_group 52 0 + frames_of s.unit ≡ wire_size (past ++ slices_in calls) unit =
-    unit-size unit (slices_in calls) (eqb-true unit.from from first.0) (eqb-true unit.head_end head_end places.0) (eqb-true unit.to at places.1)
-    (eqb-true unit.slices n (and_parts (eqb unit.slices n) (ltb 0 n) both.1).0) (count ∙ slices) so_far in
+    unit-size (slices_in calls) (unit-fits unit from head_end at n fits.0) (count ∙ so_far.slices) so_far.measures in
+    let later : MeasuredSoFar (between at) next past (sizing_after_call s (unit_call unit)).unit = record { slices = so_far.slices; measures = tt } in
     let rest : List ℕ = map (λ u. wire_size (past ++ slices_in calls) u) (units_in calls) in
-    sizes-told calls (between at) next past (sizing_after_call s (unit_call unit)) fits.1 counted.1 slices tt
+    sizes-told calls (sizing_after_call s (unit_call unit)) fits.1 counted.1 later
     ∙ append_assoc s.sizes ((cond unit.starts_group 52 0 + frames_of s.unit) ∷ []) rest
     ∙ ap (λ n. s.sizes ++ n ∷ rest) size
 
 -- the sizes counted of a whole film
 pub film-sizes : (film : List ℕ) (unit : Measure) (sizes : List ℕ) → refusal film ≡ None → IsSized unit sizes (told_of film) → sizes ≡ sizes_of film
 film-sizes film unit sizes accepted sized =
+    let start : MeasuredSoFar (between (first_of (codes_of (read [] film)))) no_count [] first_sizing.unit = record { slices = refl; measures = tt } in
     sized.sizes_are
-    ∙ sizes-told (told_of film) (between (first_of (codes_of (read [] film)))) no_count [] first_sizing (film-tiles (read [] film) accepted)
-    (film-numbered (read [] film) accepted) refl tt
+    ∙ sizes-told (told_of film) first_sizing (film-tiles (read [] film) accepted) (film-numbered (read [] film) accepted) start
 
 -- a part more
 pub sized-more : {calls : List Call} {unit unit' : Measure} {sizes sizes' : List ℕ} (call : Call) → IsSized unit sizes calls →
@@ -142,12 +136,18 @@ sized-more {calls} {unit} {sizes} call so_far unit_is sizes_are =
 
 -- ---- the limits of a film's sizes
 
-units-bound : (end : ℕ) (starts : List ℕ) (units : List PictureUnit) (from to : ℕ) → AreLaid end starts units → AreChained from units to →
+-- units that lie so, one after another, from a place to another
+record AreUnits (end : ℕ) (starts : List ℕ) (units : List PictureUnit) (from to : ℕ) : Type 0 where
+  laid : AreLaid end starts units
+  chained : AreChained from units to
+
+units-bound : {end : ℕ} {starts : List ℕ} {units : List PictureUnit} {from to : ℕ} → AreUnits end starts units from to →
     sum (map (λ u. wire_size starts u) units) + 2 * from ≤ 2 * to + 112 * length units
-units-bound end starts [] from to laid chained = omega (arith, chained)
-units-bound end starts (unit ∷ units) from to laid chained =
-    let rest = units-bound end starts units unit.to to laid.1 chained.1 in
-    omega (arith, rest, chained.0, unit-bound starts unit laid.0.1, unit-le starts unit laid.0.1, sum_by-cons (λ n. n) (wire_size starts unit) (map (λ u. wire_size starts u) units))
+units-bound {units = []} are = omega (arith, are.chained)
+units-bound {end} {starts} {units = unit ∷ units} {to} are =
+    let later : AreUnits end starts units unit.to to = record { laid = are.laid.1; chained = are.chained.1 } in
+    let rest = units-bound later in
+    omega (arith, rest, are.chained.0, unit-bound starts unit are.laid.0.1, unit-le starts unit are.laid.0.1, sum_by-cons (λ n. n) (wire_size starts unit) (map (λ u. wire_size starts u) units))
 
 pub film-limits : (film : List ℕ) (rate : ℕ) → refusal film ≡ None → rate ≡ rate_of (codes_of (read [] film)) → AreSizesWithin rate (sizes_of film)
 film-limits film rate accepted is =
@@ -155,6 +155,10 @@ film-limits film rate accepted is =
     let starts : List ℕ = slices_in (told_of film) in
     let grammar : IsFilm film rate units starts = record { accepted = accepted; rate = is; units = refl; slices = refl } in
     let its = film-rate (read [] film) accepted in
+    let are : AreUnits (length film) starts units (first_of (codes_of (read [] film))) (length film) = record {
+      laid = film-laid film rate units starts grammar;
+      chained = film-chained film rate units starts grammar;
+    } in
     let few : length units ≤ 4194304 = omega (arith, film-units film accepted, film-pictures (read [] film) accepted) in
     record {
       slowest = omega (arith, is, its.0);
@@ -164,6 +168,6 @@ film-limits film rate accepted is =
         arith,
         few,
         film-bytes film accepted,
-        units-bound (length film) starts units (first_of (codes_of (read [] film))) (length film) (film-laid film rate units starts grammar) (film-chained film rate units starts grammar),
+        units-bound are,
       );
     }

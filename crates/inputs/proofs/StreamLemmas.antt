@@ -128,10 +128,13 @@ stream_rest : (before rest whole : List ℕ) (from : ℕ) → before ++ rest ≡
 stream_rest before rest whole from is long =
     ap (drop from) (sym is) ∙ ap (λ (n : ℕ). drop n (before ++ rest)) (sym long) ∙ drop-append_seam before rest
 
+-- a fault of a stream that begins at a place, told of the file
+abbrev pub IsMovedFault : ℕ → SystemFault → SystemFault → Type 0
+IsMovedFault from own fault = (bytes : List ℕ) → IsRefused bytes own → from + length bytes ≤ 2 ^ 40 → fault ≡ fault_from from own
+
 -- the stream of a file, and one of its faults
 stream_fault : {held : List File} {name : List ℕ} {size from : ℕ} {whole stream : List ℕ} {own fault : SystemFault} → IsOpened held name size (Some from) → file_named held name ≡ Some whole →
-    size ≤ 2 ^ 40 → drop from whole ≡ stream → IsRefused stream own →
-    ((bytes : List ℕ) → IsRefused bytes own → from + length bytes ≤ 2 ^ 40 → fault ≡ fault_from from own) → IsFilmRefused held name (System fault)
+    size ≤ 2 ^ 40 → drop from whole ≡ stream → IsRefused stream own → IsMovedFault from own fault → IsFilmRefused held name (System fault)
 stream_fault {held} {name} {from} {whole} {stream} {own} {fault} opened found short is refused moves =
     let same : whole ≡ opened.file = one_file held name whole opened.file found opened.found in
     let pack : pack_in whole ≡ Some from = ap pack_in same ∙ opened.pack in
@@ -140,16 +143,23 @@ stream_fault {held} {name} {from} {whole} {stream} {own} {fault} opened found sh
     let its : IsStreamFaultFrom (Some from) whole fault = (own, (subst (λ (l : List ℕ). IsRefused l own) (sym is) refused, moves stream refused room)) in
     inr (whole, (found, inr (few, subst (λ (o : Option ℕ). IsStreamFaultFrom o whole fault) (sym pack) its)))
 
-pub piece_fault : {held : List File} {name : List ℕ} {size from : ℕ} {own fault : SystemFault} (seen piece : List ℕ) → (front : IsStreamFront size from (seen ++ piece) held name) →
-    IsOpened held name size (Some from) → size ≤ 2 ^ 40 → ((more : List ℕ) → IsRefused (seen ++ piece ++ more) own) →
-    ((bytes : List ℕ) → IsRefused bytes own → from + length bytes ≤ 2 ^ 40 → fault ≡ fault_from from own) → IsFilmRefused held name (System fault)
-piece_fault {held} {name} {size} {from} seen piece front opened short refused moves =
+-- what was read of a stream up to the end of a piece, in a file of at most 2^40 bytes
+pub record PieceRead (held : List File) (name : List ℕ) (size from : ℕ) (seen piece : List ℕ) : Type 0 where
+  pub front : IsStreamFront size from (seen ++ piece) held name
+  pub opened : IsOpened held name size (Some from)
+  pub short : size ≤ 2 ^ 40
+
+pub piece_fault : {held : List File} {name : List ℕ} {size from : ℕ} {seen piece : List ℕ} {own fault : SystemFault} → PieceRead held name size from seen piece →
+    ((more : List ℕ) → IsRefused (seen ++ piece ++ more) own) → IsMovedFault from own fault → IsFilmRefused held name (System fault)
+piece_fault {held} {name} {size} {from} {seen} {piece} read refused moves =
     let rest : List ℕ = drop (length (front.0 ++ (seen ++ piece))) front.1.1.whole in
     let whole : front.0 ++ (seen ++ piece ++ rest) ≡ front.1.1.whole =
     sym (append_assoc front.0 (seen ++ piece) rest)
     ∙ front_rest held name size (front.0 ++ (seen ++ piece)) front.1.1 in
     stream_fault opened front.1.1.found short
     (stream_rest front.0 (seen ++ piece ++ rest) front.1.1.whole from whole front.1.0) (refused rest) moves
+  where
+    open read use {front, opened, short}
 
 -- ---- the whole stream
 
@@ -171,7 +181,7 @@ all_streamed {Heard} {name} {size} {from} {place} so_far within end = record {
 pub end_fault : {Heard : List Call → Type 0} {told : Option (List File)} {held : List File} {name : List ℕ}
     {size from : ℕ} {unwrapper : Unwrapper} {scanner : Scanner} {own fault : SystemFault} →
     (so_far : HasStreamedAll Heard told name size from unwrapper scanner) → told ≡ Some held → WasOpened told name size (Some from) → size ≤ 2 ^ 40 → IsRefused so_far.seen own →
-    ((bytes : List ℕ) → IsRefused bytes own → from + length bytes ≤ 2 ^ 40 → fault ≡ fault_from from own) → IsFilmRefused held name (System fault)
+    IsMovedFault from own fault → IsFilmRefused held name (System fault)
 end_fault {Heard} {held} {name} {from} so_far is opened short refused moves =
     stream_fault (opened held is) (so_far.whole held is).1.0 short (so_far.whole held is).1.1 refused moves
 

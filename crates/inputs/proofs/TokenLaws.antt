@@ -3,7 +3,7 @@ use Rattle.std.proofs.Common.{◌≡◌, ℕ, ◌+◌, Bool, true, false, not, L
 use Rattle.std.proofs.lemmas.Bool.{and_from, and_parts, cases_Bool, false≢true, not_from_false}
 use Rattle.std.proofs.lemmas.List.{append-nil}
 use Rattle.std.specs.List.{list_all}
-use Rattle.inputs.specs.Traces.{AreSeparated, IsWord, Token, begins_token, is_blank, joined_tokens, tokens_from}
+use Rattle.inputs.specs.Traces.{AreSeparated, Token, begins_token, is_blank, joined_tokens, tokens_from}
 use Rattle.inputs.proofs.Tokens.{tokens-blanks, word_list}
 
 -- what is separated so is read so
@@ -39,12 +39,15 @@ blank_front at b rest (token ∷ tokens) blank h = (
   ),
 )
 
+-- a byte of a word, and whether a word begins the text after it
+record WordByte (b : ℕ) (rest : List ℕ) (begins : Bool) : Type 0 where
+  begins_is : begins_token rest ≡ begins
+  word : is_blank b ≡ false
+
 -- the first byte of a word, and the rest of it
-first_word : {rest : List ℕ} (at b : ℕ) (token : Token) (tokens : List Token) (front after : List ℕ) → begins_token rest ≡ true → is_blank b ≡ false →
-    (rest ≡ front ++ (token.bytes ++ after)) × (list_all is_blank front ≡ true) × IsWord token.bytes × (begins_token after ≡ false)
-    × (token.from ≡ at + 1 + length front) × AreSeparated (token.from + length token.bytes) after tokens →
+first_word : {b : ℕ} {rest : List ℕ} (at : ℕ) (token : Token) (tokens : List Token) → WordByte b rest true → AreSeparated (at + 1) rest (token ∷ tokens) →
     AreSeparated at (b ∷ rest) (joined_tokens at b true (token ∷ tokens))
-first_word at b token tokens [] after begins word h =
+first_word {b} at token tokens byte ([], (after, h)) =
     let next : token.from + length token.bytes ≡ at + length (b ∷ token.bytes) = omega (arith, h.4) in (
       [],
       (
@@ -52,27 +55,27 @@ first_word at b token tokens [] after begins word h =
         (
           ap (λ (l : List ℕ). b ∷ l) h.0,
           refl,
-          (omega arith, and_from (not (is_blank b)) (list_all (λ x. not (is_blank x)) token.bytes) (not_from_false (is_blank b) word) h.2.1),
+          (omega arith, and_from (not (is_blank b)) (list_all (λ x. not (is_blank x)) token.bytes) (not_from_false (is_blank b) byte.word) h.2.1),
           h.3,
           omega arith,
           subst (λ (n : ℕ). AreSeparated n after tokens) next h.5,
         ),
       ),
     )
-first_word at b token tokens (x ∷ front) after begins word h =
+first_word at token tokens byte (x ∷ front, (after, h)) =
     let blank : is_blank x ≡ true = (and_parts (is_blank x) (list_all is_blank front) h.1).0 in
-    absurd (false≢true (ap not (sym blank) ∙ ap begins_token (sym h.0) ∙ begins))
+    absurd (false≢true (ap not (sym blank) ∙ ap begins_token (sym h.0) ∙ byte.begins_is))
 
 -- a byte of a word more in front
-word_front : {begins : Bool} (at b : ℕ) (rest : List ℕ) (tokens : List Token) → begins_token rest ≡ begins → is_blank b ≡ false → AreSeparated (at + 1) rest tokens →
+word_front : {b : ℕ} {begins : Bool} (at : ℕ) (rest : List ℕ) (tokens : List Token) → WordByte b rest begins → AreSeparated (at + 1) rest tokens →
     AreSeparated at (b ∷ rest) (joined_tokens at b begins tokens)
-word_front {begins = false} at b rest tokens begins word h =
-    ([], (rest, (refl, refl, (omega arith, and_from (not (is_blank b)) true (not_from_false (is_blank b) word) refl), begins, omega arith, h)))
-word_front {begins = true} at b [] [] begins word h = absurd (false≢true begins)
-word_front {begins = true} at b (x ∷ rest) [] begins word h =
+word_front {b} {begins = false} at rest tokens byte h =
+    ([], (rest, (refl, refl, (omega arith, and_from (not (is_blank b)) true (not_from_false (is_blank b) byte.word) refl), byte.begins_is, omega arith, h)))
+word_front {begins = true} at [] [] byte h = absurd (false≢true byte.begins_is)
+word_front {begins = true} at (x ∷ rest) [] byte h =
     let blank : is_blank x ≡ true = (and_parts (is_blank x) (list_all is_blank rest) h).0 in
-    absurd (false≢true (ap not (sym blank) ∙ begins))
-word_front {begins = true} at b rest (token ∷ tokens) begins word h = first_word at b token tokens h.0 h.1.0 begins word h.1.1
+    absurd (false≢true (ap not (sym blank) ∙ byte.begins_is))
+word_front {begins = true} at rest (token ∷ tokens) byte h = first_word at token tokens byte h
 
 -- each text is separated so
 pub separated_are : (text : List ℕ) (at : ℕ) → AreSeparated at text (tokens_from at text)
@@ -82,5 +85,7 @@ separated_are (b ∷ rest) at =
     let reads : Bool → List Token = λ v. if v then tokens_from (at + 1) rest else joined_tokens at b (begins_token rest) (tokens_from (at + 1) rest) in
     elim (cases_Bool (is_blank b)) [
       | inl blank ↦ subst (AreSeparated at (b ∷ rest)) (sym (ap reads blank)) (blank_front at b rest (tokens_from (at + 1) rest) blank next)
-      | inr word ↦ subst (AreSeparated at (b ∷ rest)) (sym (ap reads word)) (word_front at b rest (tokens_from (at + 1) rest) refl word next)
+      | inr word ↦
+          let byte : WordByte b rest (begins_token rest) = record { begins_is = refl; word = word } in
+          subst (AreSeparated at (b ∷ rest)) (sym (ap reads word)) (word_front at rest (tokens_from (at + 1) rest) byte next)
     ]

@@ -18,27 +18,32 @@ tokens-blanks at (b ∷ blanks) rest h =
     ∙ tokens-blanks (at + 1) blanks rest (and_parts (is_blank b) (list_all is_blank blanks) h).1
     ∙ ap (λ (n : ℕ). tokens_from n rest) (omega arith)
 
--- the bytes up to a blank or the end are one token
-tokens-word : (at b : ℕ) (word rest : List ℕ) → is_blank b ≡ false → list_all (λ x. not (is_blank x)) word ≡ true → begins_token rest ≡ false →
-    tokens_from at (b ∷ (word ++ rest)) ≡ (record { from = at; bytes = b ∷ word }) ∷ tokens_from (at + length (b ∷ word)) rest
-tokens-word at b [] rest first others ends =
-    ap (λ (v : Bool). if v then tokens_from (at + 1) rest else joined_tokens at b (begins_token rest) (tokens_from (at + 1) rest)) first
-    ∙ ap (λ (v : Bool). joined_tokens at b v (tokens_from (at + 1) rest)) ends
-tokens-word at b (c ∷ word) rest first others ends =
-    let next : is_blank c ≡ false = not-true (is_blank c) (and_parts (not (is_blank c)) (list_all (λ x. not (is_blank x)) word) others).0 in
+-- a word of a byte and others, before text that begins none
+record IsWholeWord (b : ℕ) (word rest : List ℕ) : Type 0 where
+  first : is_blank b ≡ false
+  others : list_all (λ x. not (is_blank x)) word ≡ true
+  ends : begins_token rest ≡ false
+
+-- its bytes are one token
+tokens-word : (at b : ℕ) (word rest : List ℕ) → IsWholeWord b word rest → tokens_from at (b ∷ (word ++ rest)) ≡ (record { from = at; bytes = b ∷ word }) ∷ tokens_from (at + length (b ∷ word)) rest
+tokens-word at b [] rest is =
+    ap (λ (v : Bool). if v then tokens_from (at + 1) rest else joined_tokens at b (begins_token rest) (tokens_from (at + 1) rest)) is.first
+    ∙ ap (λ (v : Bool). joined_tokens at b v (tokens_from (at + 1) rest)) is.ends
+tokens-word at b (c ∷ word) rest is =
+    let others = and_parts (not (is_blank c)) (list_all (λ x. not (is_blank x)) word) is.others in
+    let next : IsWholeWord c word rest = record { first = not-true (is_blank c) others.0; others = others.1; ends = is.ends } in
     let rest_tokens : List Token = tokens_from (at + 1) (c ∷ (word ++ rest)) in
-    ap (λ (v : Bool). if v then rest_tokens else joined_tokens at b (not (is_blank c)) rest_tokens) first
-    ∙ ap (λ (v : Bool). joined_tokens at b (not v) rest_tokens) next
-    ∙ ap (λ (ts : List Token). joined_tokens at b true ts)
-    (tokens-word (at + 1) c word rest next (and_parts (not (is_blank c)) (list_all (λ x. not (is_blank x)) word) others).1 ends)
+    ap (λ (v : Bool). if v then rest_tokens else joined_tokens at b (not (is_blank c)) rest_tokens) is.first
+    ∙ ap (λ (v : Bool). joined_tokens at b (not v) rest_tokens) next.first
+    ∙ ap (λ (ts : List Token). joined_tokens at b true ts) (tokens-word (at + 1) c word rest next)
     ∙ ap (λ (n : ℕ). (record { from = at; bytes = b ∷ c ∷ word }) ∷ tokens_from n rest) (omega arith)
 
 pub word_list : (at : ℕ) (word rest : List ℕ) → 0 < length word → list_all (λ x. not (is_blank x)) word ≡ true → begins_token rest ≡ false →
     tokens_from at (word ++ rest) ≡ (record { from = at; bytes = word }) ∷ tokens_from (at + length word) rest
 word_list at [] rest some all ends = absurd (omega arith)
 word_list at (b ∷ word) rest some all ends =
-    tokens-word at b word rest (not-true (is_blank b) (and_parts (not (is_blank b)) (list_all (λ x. not (is_blank x)) word) all).0)
-    (and_parts (not (is_blank b)) (list_all (λ x. not (is_blank x)) word) all).1 ends
+    let bytes = and_parts (not (is_blank b)) (list_all (λ x. not (is_blank x)) word) all in
+    tokens-word at b word rest (record { first = not-true (is_blank b) bytes.0; others = bytes.1; ends = ends })
 
 -- the blanks at a place of a text are passed over
 blanks_at : (text : List ℕ) (at n : ℕ) → n ≤ length (drop at text) → list_all is_blank (take n (drop at text)) ≡ true →
@@ -54,10 +59,10 @@ pub blanks_step : {front : List ℕ} (text : List ℕ) (at n : ℕ) → front �
 blanks_step text at n are fits blank = blanks_at text at n (rw (← are) fits) (rw (← are) blank)
 
 -- the bytes up to a blank at a place of a text are a token
-pub word_at : (text : List ℕ) (from m : ℕ) → m ≤ length (drop from text) → 0 < m →
+pub word_at : {m : ℕ} (text : List ℕ) (from : ℕ) → m ≤ length (drop from text) → 0 < m →
     list_all (λ x. not (is_blank x)) (take m (drop from text)) ≡ true → begins_token (drop m (drop from text)) ≡ false →
     tokens_from from (drop from text) ≡ (record { from = from; bytes = slice_range text from (from + m) }) ∷ tokens_from (from + m) (drop (from + m) text)
-word_at text from m fits some word ends =
+word_at {m} text from fits some word ends =
     let len : length (take m (drop from text)) ≡ m = length-take-le m (drop from text) fits in
     let long : 0 < length (take m (drop from text)) = rw len some in
     let same : from + m - from ≡ m = omega arith in

@@ -34,18 +34,32 @@ video_not_refused file video (Film fault) is accepted refused =
 video_not_refused file video (System fault) is accepted refused = from_not_fault (pack_in file) file video fault is refused
 video_not_refused file video other is accepted refused = refused
 
--- a file of at most so many bytes, whose video is accepted, isn't refused
-pub file_not_refused : {file : List ℕ} (held : List File) (name video : List ℕ) (most : ℕ) (over fault : Fault) → file_named held name ≡ Some file → length file ≤ most → IsVideo file video → refusal video ≡ None →
-    IsRefusedAbove most over held name fault → ⊥
-file_not_refused {file} held name video most over fault found short is accepted (inl missing) = let both : Some file ≡ None = sym found ∙ missing.1 in cc
-file_not_refused {file} held name video most over fault found short is accepted (inr other) =
-    let same : file ≡ other.0 = one_file held name file other.0 found other.1.0 in
+-- a file of at most so many bytes, whose video is accepted
+pub record HoldsAccepted (held : List File) (name video : List ℕ) (most : ℕ) : Type 0 where
+  pub file : List ℕ
+  pub found : file_named held name ≡ Some file
+  pub short : length file ≤ most
+  pub is_video : IsVideo file video
+  pub accepted : refusal video ≡ None
+
+-- isn't refused
+pub file_not_refused : {held : List File} {name video : List ℕ} {most : ℕ} (over fault : Fault) → HoldsAccepted held name video most → IsRefusedAbove most over held name fault → ⊥
+file_not_refused over fault holds (inl missing) = let both : Some holds.file ≡ None = sym holds.found ∙ missing.1 in cc
+file_not_refused {held} {name} {video} over fault holds (inr other) =
+    let same : holds.file ≡ other.0 = one_file held name holds.file other.0 holds.found other.1.0 in
     elim other.1.1 [
-      | inl long ↦ omega (arith, ap length same, short, long.0)
-      | inr refused ↦ video_not_refused other.0 video fault (subst (λ (f : List ℕ). IsVideo f video) same is) accepted refused.1
+      | inl long ↦ omega (arith, ap length same, holds.short, long.0)
+      | inr refused ↦ video_not_refused other.0 video fault (subst (λ (f : List ℕ). IsVideo f video) same holds.is_video) holds.accepted refused.1
     ]
 
 -- what is accepted isn't refused
 pub held_not_refused : (held : List File) (name video : List ℕ) (fault : Fault) → HoldsVideo held name video → IsFilmRefused held name fault → ⊥
 held_not_refused held name video fault holds refused =
-    file_not_refused held name video (2 ^ 40) (Film TooLong) fault holds.found holds.short holds.is_video holds.accepted refused
+    let its : HoldsAccepted held name video (2 ^ 40) = record {
+      file = holds.file;
+      found = holds.found;
+      short = holds.short;
+      is_video = holds.is_video;
+      accepted = holds.accepted;
+    } in
+    file_not_refused (Film TooLong) fault its refused

@@ -60,46 +60,52 @@ no_digit rest k size inside other is =
     both_ways (is_ascii_digit (get_or rest k 0)) other
     (digit_at rest (word_length rest) k (prefix_len-le-length (λ b. not (is_blank b)) rest) read.1 inside)
 
+-- digits in front, and the number that they write
+pub record DigitsInFront (rest : List ℕ) (k value : ℕ) : Type 0 where
+  pub digits : list_all is_ascii_digit (take k rest) ≡ true
+  pub value_is : value ≡ digits_value 10 (take k rest)
+
+-- after them the number is too large, or another byte stands
+abbrev pub DoStop : List ℕ → ℕ → ℕ → Type 0
+DoStop rest k value = k < length rest → (2 ^ 32 < value) ⊎ (is_ascii_digit (get_or rest k 0) ≡ false)
+
 -- a word whose first digits are more than 2^32 writes more
-pub too_large : (rest : List ℕ) (k size : ℕ) → k ≤ length rest → list_all is_ascii_digit (take k rest) ≡ true → 2 ^ 32 < digits_value 10 (take k rest) → WritesSize rest size → ⊥
-too_large rest k size fits digits large is =
+pub too_large : {rest : List ℕ} {k value size : ℕ} → DigitsInFront rest k value → k ≤ length rest → 2 ^ 32 < value → WritesSize rest size → ⊥
+too_large {rest} {k} {value} {size} front fits large is =
     let read = number_read (first_word rest) size is.0 in
-    let within : k ≤ word_length rest = digits_within rest k fits digits in
+    let within : k ≤ word_length rest = digits_within rest k fits front.digits in
     let same : digits_value 10 (take k (first_word rest)) ≡ digits_value 10 (take k rest) = ap (digits_value 10) (take-take k (word_length rest) rest within) in
-    let front : digits_value 10 (take k (first_word rest)) ≤ digits_value 10 (first_word rest) = digits_value-take-le 10 (first_word rest) k (omega arith) in
-    omega (arith, same, front, read.2, is.1, large)
+    let few : digits_value 10 (take k (first_word rest)) ≤ digits_value 10 (first_word rest) = digits_value-take-le 10 (first_word rest) k (omega arith) in
+    omega (arith, same, few, front.value_is, read.2, is.1, large)
 
 -- where the digits in front end within the first word, it writes no number up to 2^32
-end_inside : {value : ℕ} (rest : List ℕ) (k size : ℕ) → k < word_length rest → list_all is_ascii_digit (take k rest) ≡ true → value ≡ digits_value 10 (take k rest)
-    → (k < length rest → (2 ^ 32 < value) ⊎ (is_ascii_digit (get_or rest k 0) ≡ false)) → WritesSize rest size → ⊥
-end_inside {value} rest k size inside digits is ends written =
+end_inside : {rest : List ℕ} {k value size : ℕ} → DigitsInFront rest k value → k < word_length rest → DoStop rest k value → WritesSize rest size → ⊥
+end_inside {rest} {k} {value} {size} front inside stops written =
     let long : word_length rest ≤ length rest = prefix_len-le-length (λ b. not (is_blank b)) rest in
-    elim (ends (omega (arith, inside, long))) [
-      | inl large ↦ too_large rest k size (omega (arith, inside, long)) digits (omega (arith, is, large)) written
+    elim (stops (omega (arith, inside, long))) [
+      | inl large ↦ too_large front (omega (arith, inside, long)) large written
       | inr other ↦ no_digit rest k size inside other written.0
     ]
 
 -- no digits in front
-pub no_digits : {k value : ℕ} (rest : List ℕ) (size : ℕ) → k ≡ 0 → list_all is_ascii_digit (take k rest) ≡ true → value ≡ digits_value 10 (take k rest)
-    → (k < length rest → (2 ^ 32 < value) ⊎ (is_ascii_digit (get_or rest k 0) ≡ false)) → WritesSize rest size → ⊥
-no_digits {k} {value} rest size none digits is ends written =
+pub no_digits : {rest : List ℕ} {k value size : ℕ} → DigitsInFront rest k value → k ≡ 0 → DoStop rest k value → WritesSize rest size → ⊥
+no_digits {rest} {k} {value} {size} front none stops written =
     let read = number_read (first_word rest) size written.0 in
     let long : length (first_word rest) ≡ word_length rest = length-take-le (word_length rest) rest (prefix_len-le-length (λ b. not (is_blank b)) rest) in
-    end_inside rest k size (omega (arith, none, read.0, long)) digits is ends written
+    end_inside front (omega (arith, none, read.0, long)) stops written
 
 -- another byte after them that is no blank
-pub not_whole : {value : ℕ} (rest : List ℕ) (k size : ℕ) → k < length rest → is_blank (get_or rest k 0) ≡ false → list_all is_ascii_digit (take k rest) ≡ true
-    → value ≡ digits_value 10 (take k rest) → (k < length rest → (2 ^ 32 < value) ⊎ (is_ascii_digit (get_or rest k 0) ≡ false)) → WritesSize rest size → ⊥
-not_whole {value} rest k size inside other digits is ends written =
-    end_inside rest k size (other_within rest k inside digits other) digits is ends written
+pub not_whole : {rest : List ℕ} {k value size : ℕ} → DigitsInFront rest k value → k < length rest → is_blank (get_or rest k 0) ≡ false → DoStop rest k value → WritesSize rest size → ⊥
+not_whole {rest} {k} front inside other stops written =
+    end_inside front (other_within rest k inside front.digits other) stops written
 
 -- digits that are the whole word write their number
-pub whole_word : {k value : ℕ} (rest : List ℕ) → 0 < k → k ≤ length rest → list_all is_ascii_digit (take k rest) ≡ true → value ≡ digits_value 10 (take k rest) → value ≤ 2 ^ 32
+pub whole_word : {rest : List ℕ} {k value : ℕ} → DigitsInFront rest k value → 0 < k → k ≤ length rest → value ≤ 2 ^ 32
     → (k < length rest → is_blank (get_or rest k 0) ≡ true) → (k ≡ word_length rest) × WritesSize rest value
-whole_word {k} {value} rest some fits digits is small ends =
-    let whole : k ≡ word_length rest = digits_are rest k fits digits ends in
+whole_word {rest} {k} {value} front some fits small ends =
+    let whole : k ≡ word_length rest = digits_are rest k fits front.digits ends in
     let long : 0 < length (take k rest) = omega (arith, some, length-take-le k rest fits) in
-    let number : number_of (take k rest) ≡ Some value = number_is (take k rest) value long digits is (omega (arith, small)) in
+    let number : number_of (take k rest) ≡ Some value = number_is (take k rest) value long front.digits front.value_is (omega (arith, small)) in
     (whole, (ap (λ n. number_of (take n rest)) (sym whole) ∙ number, small))
 
 -- a token's bytes, up to a blank or the end
@@ -135,5 +141,5 @@ word_ends rest = elim (cases_Bool (begins_token (drop (word_length rest) rest)))
 pub word_token : (text : List ℕ) (from : ℕ) → begins_token (drop from text) ≡ true →
     tokens_from from (drop from text) ≡ (record { from = from; bytes = slice_range text from (from + word_length (drop from text)) }) ∷ tokens_from (from + word_length (drop from text)) (drop (from + word_length (drop from text)) text)
 word_token text from begins =
-    word_at text from (word_length (drop from text)) (prefix_len-le-length (λ b. not (is_blank b)) (drop from text))
+    word_at {m = word_length (drop from text)} text from (prefix_len-le-length (λ b. not (is_blank b)) (drop from text))
     (some_word (drop from text) begins) (word_bytes (drop from text)) (word_ends (drop from text))

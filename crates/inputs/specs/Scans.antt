@@ -18,7 +18,9 @@ use Rattle.sys_demux.specs.Streams.{IsRefused}
 use Rattle.inputs.specs.declared.streams.StreamRefused.{StreamRefused}
 use Rattle.inputs.specs.declared.streams.StreamRefused.TheVariants.{Fault as StreamFault}
 use Rattle.inputs.specs.declared.streams.StreamRefused.TheVariants.{NoMemory as NoRoom}
-use Rattle.inputs.specs.Files.{IsFront}
+use Rattle.troubles.specs.declared.faults.Trouble.{Trouble}
+use Rattle.troubles.specs.Causes.{IsReadTrouble}
+use Rattle.inputs.specs.Files.{IsFront, IsNamed}
 use Rattle.inputs.specs.Sizes.{sizes_of}
 pub use Rattle.inputs.specs.Videos.{IsFilmRefused, IsVideo, pack_in}
 
@@ -47,6 +49,11 @@ pub record HoldsSizes (held : List File) (name : List ℕ) (rate : ℕ) (sizes :
   pub holds : HoldsVideo held name video
   pub rate_is : rate ≡ rate_of (codes_of (read [] video))
   pub sizes_are : sizes ≡ sizes_of video
+
+-- what keeps a film of that name from being scanned
+abbrev pub IsScanTrouble : List ℕ → Option (List File) → ℕ → ℕ → Trouble → Type 0
+IsScanTrouble name told faults faults' trouble =
+    IsReadTrouble (IsNamed name) IsFilmRefused told faults faults' trouble
 
 -- ---- what was scanned of it
 

@@ -3,21 +3,17 @@ ghost use Rattle.std.specs.Prelude.{◌≡◌, ◌≤◌, Some, List, IfErr, IfO
 ghost use Rattle.vod_base.specs.Outside.{File};
 ghost use Rattle.mpeg_scan.specs.Films.{units_in};
 ghost use Rattle.rtp_pack.specs.Sizes.{bytes_of};
-ghost use Rattle.troubles.specs.Causes.{IsReadOnly, IsReadTrouble};
-ghost use Rattle.inputs.specs.Files.{IsNamed};
-ghost use Rattle.inputs.specs.Scans.{HoldsFilm, HoldsSizes, IsFilmRefused};
+ghost use Rattle.troubles.specs.Causes.{IsReadOnly};
+ghost use Rattle.inputs.specs.Scans.{HoldsFilm, HoldsSizes, IsScanTrouble};
 ghost use Rattle.inputs.specs.Sizes.{AreSizesWithin, IsSized};
 
 use crate::scans::hear_film;
 use mpeg_scan::{Found, Unit};
-use rtp_pack::UnitSize;
+use rtp_pack::{REPORT_BYTES, UnitSize};
 use std::alloc::Global;
 use std::mem;
 use troubles::Trouble;
 use vod_base::{Library, NoMemory};
-
-/// The bytes of the report before a group.
-const REPORT: u64 = 52;
 
 /// A film that was scanned and accepted.
 #[derive(Drop)]
@@ -50,20 +46,18 @@ pub fn scan_film<'a, L: Library>(
     ensures film { (held : List File) → L.files library.old ≡ Some held
         → IfOk result (λ film.
         HoldsFilm held name.entry.now film.bytes film.rate film.units.items) }
-    ensures trouble { IfErr result (IsReadTrouble (IsNamed name.entry.now) IsFilmRefused
-        (L.files library.old) (L.faults library.old) (L.faults library.new)) }
+    ensures trouble { IfErr result (IsScanTrouble name.entry.now (L.files library.old)
+        (L.faults library.old) (L.faults library.new)) }
 {
     let mut found = UnitList {
         units: Vec::new(alloc),
     };
-    match hear_film(alloc, library, name, &mut found) {
-        Ok(ending) => Ok(ScannedFilm {
-            bytes: ending.bytes,
-            rate: ending.rate,
-            units: found.units,
-        }),
-        Err(trouble) => Err(trouble),
-    }
+    let ending = hear_film(alloc, library, name, &mut found)?;
+    Ok(ScannedFilm {
+        bytes: ending.bytes,
+        rate: ending.rate,
+        units: found.units,
+    })
 }
 
 /// Scans a film of the library and keeps only the sizes of its units on the wire.
@@ -77,20 +71,18 @@ pub fn size_film<'a, L: Library>(
     ensures film { (held : List File) → L.files library.old ≡ Some held
         → IfOk result (λ film. HoldsSizes held name.entry.now film.rate film.sizes.items) }
     ensures limits { IfOk result (λ film. AreSizesWithin film.rate film.sizes.items) }
-    ensures trouble { IfErr result (IsReadTrouble (IsNamed name.entry.now) IsFilmRefused
-        (L.files library.old) (L.faults library.old) (L.faults library.new)) }
+    ensures trouble { IfErr result (IsScanTrouble name.entry.now (L.files library.old)
+        (L.faults library.old) (L.faults library.new)) }
 {
     let mut found = SizeList {
         unit: UnitSize::begin(1),
         sizes: Vec::new(alloc),
     };
-    match hear_film(alloc, library, name, &mut found) {
-        Ok(ending) => Ok(SizedFilm {
-            rate: ending.rate,
-            sizes: found.sizes,
-        }),
-        Err(trouble) => Err(trouble),
-    }
+    let ending = hear_film(alloc, library, name, &mut found)?;
+    Ok(SizedFilm {
+        rate: ending.rate,
+        sizes: found.sizes,
+    })
 }
 
 /// Keeps a film's units.
@@ -142,7 +134,7 @@ impl Found for SizeList {
 
     fn unit(&mut self, unit: Unit) -> Result<(), NoMemory> {
         let ended = mem::replace(&mut self.unit, UnitSize::begin(1));
-        let report = if unit.starts_group { REPORT } else { 0 };
+        let report = if unit.starts_group { REPORT_BYTES } else { 0 };
         match self.sizes.push(report + ended.end()) {
             Ok(()) => Ok(()),
             Err(_) => Err(NoMemory),

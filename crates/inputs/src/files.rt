@@ -25,10 +25,7 @@ pub fn read_input<'a, L: Library>(
     ensures trouble { IfErr result (IsReadTrouble (IsNamed name.entry.now) IsMissing
         (L.files library.old) (L.faults library.old) (L.faults library.new)) }
 {
-    let size = match find_file(library, name) {
-        Ok(size) => size,
-        Err(trouble) => return Err(trouble),
-    };
+    let size = find_file(library, name)?;
     read_bytes(alloc, library, name, size)
 }
 
@@ -108,10 +105,7 @@ pub(crate) fn read_bytes<'a, L: Library>(
     };
     let mut more = true;
     while more && (bytes.len() as u64) < size {
-        more = match read_piece(library, name, size, &mut piece, &mut bytes) {
-            Ok(more) => more,
-            Err(trouble) => return Err(trouble),
-        };
+        more = read_piece(library, name, size, &mut piece, &mut bytes)?;
     }
     Ok(bytes)
 }
@@ -138,10 +132,7 @@ fn read_piece<'a, L: Library>(
         (L.files library.old) (L.faults library.old) (L.faults library.new)) }
 {
     let at = bytes.len() as u64;
-    let count = match read_at(library, name, size, at, piece) {
-        Ok(count) => count,
-        Err(trouble) => return Err(trouble),
-    };
+    let count = read_at(library, name, size, at, piece)?;
     if count == 0 {
         return Ok(false);
     }

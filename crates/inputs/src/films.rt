@@ -139,10 +139,8 @@ fn scan_file<'a>(alloc: Global, name: &'a str, file: Vec<u8>) -> Result<Film, Tr
     ensures film { IfOk result (λ film. IsVideo file.items film.bytes.items) }
     ensures trouble { IfErr result (IsBytesTrouble name.entry.now file.items) }
 {
-    match video_of(alloc, name, file) {
-        Ok(video) => scan_video(alloc, name, video),
-        Err(trouble) => Err(trouble),
-    }
+    let video = video_of(alloc, name, file)?;
+    scan_video(alloc, name, video)
 }
 
 /// Loads a film: reads it whole, takes the video out of a system stream, scans it and makes its
@@ -166,21 +164,12 @@ fn load_within<'a, L: Library>(
         (IsReadTrouble (IsNamed name.entry.now) (IsRefusedAbove most over)
         (L.files library.old) (L.faults library.old) (L.faults library.new)) }
 {
-    let size = match find_file(library, name) {
-        Ok(size) => size,
-        Err(trouble) => return Err(trouble),
-    };
+    let size = find_file(library, name)?;
     if most < size {
         return Err(Trouble::Refused(name, over));
     }
-    let file = match read_bytes(alloc, library, name, size) {
-        Ok(file) => file,
-        Err(trouble) => return Err(trouble),
-    };
-    let film = match scan_file(alloc, name, file) {
-        Ok(film) => film,
-        Err(trouble) => return Err(trouble),
-    };
+    let file = read_bytes(alloc, library, name, size)?;
+    let film = scan_file(alloc, name, file)?;
     match store(alloc, name, film) {
         Ok(stored) => Ok(stored),
         Err(NoMemory) => Err(Trouble::NoMemory),

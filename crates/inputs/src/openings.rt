@@ -2,14 +2,14 @@
 ghost use Rattle.std.specs.Prelude.{◌≡◌, ◌<◌, ◌≤◌, ◌+◌, ◌^◌, ◌++◌, Some, ℕ, List, length};
 ghost use Rattle.std.specs.Prelude.{option_map, IfErr, IfOk, IfSome};
 ghost use Rattle.vod_base.specs.Outside.{File, file_named};
-ghost use Rattle.mpeg_scan.specs.Codes.{next_prefix};
 ghost use Rattle.troubles.specs.Causes.{IsReadOnly, IsReadTrouble};
 ghost use Rattle.inputs.specs.Files.{IsNamed, IsNever};
-ghost use Rattle.inputs.specs.Openings.{IsOpen, IsOpening, IsWithin, prefix_of};
+ghost use Rattle.inputs.specs.Openings.{IsOpen, IsOpening, IsWithin};
 ghost use Rattle.inputs.specs.Scans.{IsOpened};
 ghost use Rattle.inputs.specs.Videos.{pack_in};
 
 use crate::files::read_at;
+use mpeg_scan::Prefix;
 use troubles::Trouble;
 use vod_base::Library;
 
@@ -51,10 +51,7 @@ pub(crate) fn find_pack<'a, L: Library>(
     let mut prefix = Prefix::Nothing;
     let mut at = 0;
     while at < size {
-        let count = match read_at(library, name, size, at, piece) {
-            Ok(count) => count,
-            Err(trouble) => return Err(trouble),
-        };
+        let count = read_at(library, name, size, at, piece)?;
         if count == 0 {
             return Ok(None);
         }
@@ -66,34 +63,6 @@ pub(crate) fn find_pack<'a, L: Library>(
         at += count as u64;
     }
     Ok(None)
-}
-
-/// How much of the prefix 00 00 01 of a start code the bytes so far end with.
-#[derive(Clone, Copy)]
-enum Prefix {
-    Nothing,
-    Zero,
-    Zeros,
-    Whole,
-}
-
-impl Prefix {
-    /// The same, once a byte more is read.
-    fn then(self, byte: u8) -> Prefix
-        ensures { prefix_of result ≡ next_prefix (prefix_of self) byte }
-    {
-        match byte {
-            1 => match self {
-                Prefix::Zeros => Prefix::Whole,
-                _ => Prefix::Nothing,
-            },
-            0 => match self {
-                Prefix::Zero | Prefix::Zeros => Prefix::Zeros,
-                Prefix::Nothing | Prefix::Whole => Prefix::Zero,
-            },
-            _ => Prefix::Nothing,
-        }
-    }
 }
 
 /// What the bytes of a file so far show of its first start code.

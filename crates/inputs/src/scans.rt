@@ -3,11 +3,10 @@ ghost use Rattle.std.specs.Prelude.{◌≡◌, ◌<◌, ◌≤◌, ◌+◌, ◌^
 ghost use Rattle.std.specs.Prelude.{IfErr, IfOk, OnOk};
 ghost use Rattle.vod_base.specs.Outside.{File};
 ghost use Rattle.mpeg_scan.specs.Scans.{IsReady, bytes_fed};
-ghost use Rattle.troubles.specs.Causes.{IsReadOnly, IsReadTrouble};
-ghost use Rattle.inputs.specs.Files.{IsNamed};
+ghost use Rattle.troubles.specs.Causes.{IsReadOnly};
 ghost use Rattle.inputs.specs.Films.{IsFilmTrouble};
 ghost use Rattle.inputs.specs.Scans.{HasEnded, HasHeard, HasScanned, HasScannedAll, HasTaken};
-ghost use Rattle.inputs.specs.Scans.{IsFilmRefused, IsRefusedAtEnd, WasOpened};
+ghost use Rattle.inputs.specs.Scans.{IsRefusedAtEnd, IsScanTrouble, WasOpened};
 
 use crate::files::{PIECE, find_file, read_at, zeros};
 use crate::openings::find_pack;
@@ -54,13 +53,10 @@ pub(crate) fn hear_film<'a, L: Library, F: Found>(
     ensures film { IfOk result (λ ending.
         HasHeard (F.heard found.new) (L.files library.old) name.entry.now ending.bytes
         ending.rate) }
-    ensures trouble { IfErr result (IsReadTrouble (IsNamed name.entry.now) IsFilmRefused
-        (L.files library.old) (L.faults library.old) (L.faults library.new)) }
+    ensures trouble { IfErr result (IsScanTrouble name.entry.now (L.files library.old)
+        (L.faults library.old) (L.faults library.new)) }
 {
-    let size = match find_file(library, name) {
-        Ok(size) => size,
-        Err(trouble) => return Err(trouble),
-    };
+    let size = find_file(library, name)?;
     if FILM < size {
         return Err(Trouble::Refused(name, Fault::Film(FilmFault::TooLong)));
     }
@@ -68,10 +64,10 @@ pub(crate) fn hear_film<'a, L: Library, F: Found>(
         Ok(piece) => piece,
         Err(_) => return Err(Trouble::NoMemory),
     };
-    match find_pack(library, name, size, &mut piece) {
-        Ok(None) => scan_plain(library, name, size, &mut piece, found),
-        Ok(Some(from)) => scan_stream(library, name, size, from, &mut piece, found),
-        Err(trouble) => Err(trouble),
+    let stream = find_pack(library, name, size, &mut piece)?;
+    match stream {
+        None => scan_plain(library, name, size, &mut piece, found),
+        Some(from) => scan_stream(library, name, size, from, &mut piece, found),
     }
 }
 
@@ -102,13 +98,10 @@ fn feed_piece<'a, L: Library, F: Found>(
         scanner.new) }
     ensures more { (held : List File) → L.files library.old ≡ Some held →
         IfOk result (λ count. 0 < count) }
-    ensures trouble { IfErr result (IsReadTrouble (IsNamed name.entry.now) IsFilmRefused
-        (L.files library.old) (L.faults library.old) (L.faults library.new)) }
+    ensures trouble { IfErr result (IsScanTrouble name.entry.now (L.files library.old)
+        (L.faults library.old) (L.faults library.new)) }
 {
-    let count = match read_at(library, name, size, at, piece) {
-        Ok(count) => count,
-        Err(trouble) => return Err(trouble),
-    };
+    let count = read_at(library, name, size, at, piece)?;
     match scanner.feed(&piece[..count], found) {
         Ok(()) => Ok(count as u64),
         Err(ScanRefused::Fault(fault)) => Err(Trouble::Refused(name, Fault::Film(fault))),
@@ -137,16 +130,13 @@ fn feed_film<'a, L: Library, F: Found>(
     ensures ready { IsReady (F.ready_at found.new) scanner.new }
     ensures scanned { OnOk result
         (HasScannedAll (F.heard found.new) (L.files library.old) name.entry.now size scanner.new) }
-    ensures trouble { IfErr result (IsReadTrouble (IsNamed name.entry.now) IsFilmRefused
-        (L.files library.old) (L.faults library.old) (L.faults library.new)) }
+    ensures trouble { IfErr result (IsScanTrouble name.entry.now (L.files library.old)
+        (L.faults library.old) (L.faults library.new)) }
 {
     let mut at = 0;
     let mut more = true;
     while more && at < size {
-        let count = match feed_piece(library, name, size, at, piece, scanner, found) {
-            Ok(count) => count,
-            Err(trouble) => return Err(trouble),
-        };
+        let count = feed_piece(library, name, size, at, piece, scanner, found)?;
         at += count;
         more = 0 < count;
     }
@@ -170,12 +160,10 @@ fn scan_plain<'a, L: Library, F: Found>(
     ensures film { IfOk result (λ ending.
         HasHeard (F.heard found.new) (L.files library.old) name.entry.now ending.bytes
         ending.rate) }
-    ensures trouble { IfErr result (IsReadTrouble (IsNamed name.entry.now) IsFilmRefused
-        (L.files library.old) (L.faults library.old) (L.faults library.new)) }
+    ensures trouble { IfErr result (IsScanTrouble name.entry.now (L.files library.old)
+        (L.faults library.old) (L.faults library.new)) }
 {
     let mut scanner = Scanner::new();
-    match feed_film(library, name, size, piece, &mut scanner, found) {
-        Ok(()) => end_film(name, scanner, found),
-        Err(trouble) => Err(trouble),
-    }
+    feed_film(library, name, size, piece, &mut scanner, found)?;
+    end_film(name, scanner, found)
 }

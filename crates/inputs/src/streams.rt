@@ -4,11 +4,10 @@ ghost use Rattle.std.specs.Prelude.{IfErr, IfOk, OnOk};
 ghost use Rattle.vod_base.specs.Outside.{File};
 ghost use Rattle.mpeg_scan.specs.Scans.{IsReady, bytes_fed};
 ghost use Rattle.sys_demux.specs.Streams.{IsRefused};
-ghost use Rattle.troubles.specs.Causes.{IsReadOnly, IsReadTrouble};
-ghost use Rattle.inputs.specs.Files.{IsNamed};
+ghost use Rattle.troubles.specs.Causes.{IsReadOnly};
 ghost use Rattle.inputs.specs.Videos.{fault_from};
 ghost use Rattle.inputs.specs.Scans.{HasHeard, HasStreamed, HasStreamedAll, HasTaken, HasUnwrapped};
-ghost use Rattle.inputs.specs.Scans.{IsFilmRefused, IsPieceRefused, WasOpened};
+ghost use Rattle.inputs.specs.Scans.{IsPieceRefused, IsScanTrouble, WasOpened};
 
 use crate::files::read_at;
 use crate::scans::end_film;
@@ -58,12 +57,12 @@ pub(crate) fn scan_stream<'a, L: Library, F: Found>(
     ensures film { IfOk result (λ ending.
         HasHeard (F.heard found.new) (L.files library.old) name.entry.now ending.bytes
         ending.rate) }
-    ensures trouble { IfErr result (IsReadTrouble (IsNamed name.entry.now) IsFilmRefused
-        (L.files library.old) (L.faults library.old) (L.faults library.new)) }
+    ensures trouble { IfErr result (IsScanTrouble name.entry.now (L.files library.old)
+        (L.faults library.old) (L.faults library.new)) }
 {
     let mut unwrapper = Unwrapper::new();
     let mut scanner = Scanner::new();
-    match feed_stream(
+    feed_stream(
         library,
         name,
         size,
@@ -72,10 +71,7 @@ pub(crate) fn scan_stream<'a, L: Library, F: Found>(
         &mut unwrapper,
         &mut scanner,
         found,
-    ) {
-        Ok(()) => {}
-        Err(trouble) => return Err(trouble),
-    }
+    )?;
     match unwrapper.finish() {
         Ok(()) => end_film(name, scanner, found),
         Err(fault) => Err(Trouble::Refused(name, Fault::System(move_fault(from, fault)))),
@@ -154,10 +150,8 @@ fn unwrap_piece<F: Found>(
 {
     let mut at = 0;
     while at < piece.len() {
-        match unwrap_part(unwrapper, &piece[at..], scanner, found) {
-            Ok(taken) => at += taken,
-            Err(refused) => return Err(refused),
-        }
+        let taken = unwrap_part(unwrapper, &piece[at..], scanner, found)?;
+        at += taken;
     }
     Ok(())
 }
@@ -193,13 +187,10 @@ fn feed_stream_piece<'a, L: Library, F: Found>(
         unwrapper.new scanner.new) }
     ensures more { (held : List File) → L.files library.old ≡ Some held →
         IfOk result (λ count. 0 < count) }
-    ensures trouble { IfErr result (IsReadTrouble (IsNamed name.entry.now) IsFilmRefused
-        (L.files library.old) (L.faults library.old) (L.faults library.new)) }
+    ensures trouble { IfErr result (IsScanTrouble name.entry.now (L.files library.old)
+        (L.faults library.old) (L.faults library.new)) }
 {
-    let count = match read_at(library, name, size, at, piece) {
-        Ok(count) => count,
-        Err(trouble) => return Err(trouble),
-    };
+    let count = read_at(library, name, size, at, piece)?;
     match unwrap_piece(unwrapper, &piece[..count], scanner, found) {
         Ok(()) => Ok(count as u64),
         Err(StreamRefused::Fault(fault)) => Err(Trouble::Refused(
@@ -235,18 +226,15 @@ fn feed_stream<'a, L: Library, F: Found>(
     ensures streamed { OnOk result
         (HasStreamedAll (F.heard found.new)
         (L.files library.old) name.entry.now size from unwrapper.new scanner.new) }
-    ensures trouble { IfErr result (IsReadTrouble (IsNamed name.entry.now) IsFilmRefused
-        (L.files library.old) (L.faults library.old) (L.faults library.new)) }
+    ensures trouble { IfErr result (IsScanTrouble name.entry.now (L.files library.old)
+        (L.faults library.old) (L.faults library.new)) }
 {
     let mut at = from;
     let mut more = true;
     while more && at < size {
-        let count = match feed_stream_piece(
+        let count = feed_stream_piece(
             library, name, size, from, at, piece, unwrapper, scanner, found,
-        ) {
-            Ok(count) => count,
-            Err(trouble) => return Err(trouble),
-        };
+        )?;
         at += count;
         more = 0 < count;
     }

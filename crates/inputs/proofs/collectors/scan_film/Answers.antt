@@ -1,10 +1,11 @@
 use Rattle.std.proofs.Common.{refl}
 use Rattle.mpeg_scan.specs.Films.{slices_in, told_of}
+use Rattle.inputs.proofs.ScanLemmas.{handed_on}
 use Rattle.inputs.proofs.collectors.scan_film.Goals as goal
 
-pub returns-in-Ok-clause-film : goal.returns-in-Ok-clause-film
-returns-in-Ok-clause-film g c = λ held told.
-    let heard = (c.in-Ok.ensures {u = tt}).film in
+pub returns-clause-film : goal.returns-clause-film
+returns-clause-film g c = λ held told.
+    let heard = (c.in_ok-ending.ensures {u = tt}).film in
     record {
       video = heard.video;
       holds = heard.holds held told;
@@ -12,3 +13,7 @@ returns-in-Ok-clause-film g c = λ held told.
       slices = slices_in (told_of heard.video);
       grammar = record { accepted = heard.ended.accepted; rate = heard.ended.rate_is; units = heard.ended.heard; slices = refl };
     }
+
+pub returns-in_err-ending-clause-trouble : goal.returns-in_err-ending-clause-trouble
+returns-in_err-ending-clause-trouble g c =
+    handed_on _ c.from_residual.result c.from_residual.ensures.1 ((c.in_err-ending.ensures {u = tt}).trouble)

@@ -1,11 +1,12 @@
 use Rattle.std.proofs.Common.{◌≡◌, ℕ, List, sym, subst}
 use Rattle.inputs.specs.Sizes.{AreSizesWithin, sizes_of}
+use Rattle.inputs.proofs.ScanLemmas.{handed_on}
 use Rattle.inputs.proofs.SizeLemmas.{film-limits, film-sizes}
 use Rattle.inputs.proofs.collectors.size_film.Goals as goal
 
-pub returns-in-Ok-clause-film : goal.returns-in-Ok-clause-film
-returns-in-Ok-clause-film g c = λ held told.
-    let heard = (c.in-Ok.ensures {u = tt}).film in
+pub returns-clause-film : goal.returns-clause-film
+returns-clause-film g c = λ held told.
+    let heard = (c.in_ok-ending.ensures {u = tt}).film in
     record {
       video = heard.video;
       holds = heard.holds held told;
@@ -13,9 +14,13 @@ returns-in-Ok-clause-film g c = λ held told.
       sizes_are = film-sizes heard.video c.hear_film.new.found.unit c.hear_film.new.found.sizes.items heard.ended.accepted heard.ended.heard;
     }
 
-pub returns-in-Ok-clause-limits : goal.returns-in-Ok-clause-limits
-returns-in-Ok-clause-limits g c =
-    let heard = (c.in-Ok.ensures {u = tt}).film in
+pub returns-clause-limits : goal.returns-clause-limits
+returns-clause-limits g c =
+    let heard = (c.in_ok-ending.ensures {u = tt}).film in
     let same : c.hear_film.new.found.sizes.items ≡ sizes_of heard.video =
     film-sizes heard.video c.hear_film.new.found.unit c.hear_film.new.found.sizes.items heard.ended.accepted heard.ended.heard in
-    subst (λ (l : List ℕ). AreSizesWithin c.in-Ok.ending.rate l) (sym same) (film-limits heard.video c.in-Ok.ending.rate heard.ended.accepted heard.ended.rate_is)
+    subst (λ (l : List ℕ). AreSizesWithin c.in_ok-ending.ending.rate l) (sym same) (film-limits heard.video c.in_ok-ending.ending.rate heard.ended.accepted heard.ended.rate_is)
+
+pub returns-in_err-ending-clause-trouble : goal.returns-in_err-ending-clause-trouble
+returns-in_err-ending-clause-trouble g c =
+    handed_on _ c.from_residual.result c.from_residual.ensures.1 ((c.in_err-ending.ensures {u = tt}).trouble)

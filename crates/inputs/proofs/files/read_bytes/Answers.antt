@@ -1,4 +1,6 @@
-use Rattle.std.proofs.Common.{◌≡◌, ◌≤◌, ◌∙◌, length, arith, refl, vec_len}
+use Rattle.std.proofs.Common.{◌≡◌, ◌≤◌, ◌∙◌, length, arith, refl}
+use Rattle.inputs.specs.Files.{IsNever}
+use Rattle.inputs.proofs.ScanLemmas.{handed_on, trouble_on}
 use Rattle.inputs.proofs.ReadLemmas.{first_front, whole_front, measure_falls}
 use Rattle.inputs.proofs.files.read_bytes.Goals as goal
 use Rattle.inputs.proofs.files.read_bytes.Goals.{else-loop-more-test, then-loop-more-test+else-len-size}
@@ -20,7 +22,7 @@ loop-more-preserved g c = (
     kept = c.read_piece.ensures.library.kept ∙ c.loop-more.invariant.0.kept;
     count = omega (arith, c.read_piece.ensures.library.count, c.loop-more.invariant.0.count);
     told = λ held told found.
-        (c.in-Ok-read_piece.ensures {u = tt}).told held (c.loop-more.invariant.0.kept ∙ told) (c.loop-more.invariant.0.told held told found).0;
+        (c.in_ok-more.ensures {u = tt}).told held (c.loop-more.invariant.0.kept ∙ told) (c.loop-more.invariant.0.told held told found).0;
   },
   c.loop-more.invariant.1,
   c.read_piece.ensures.within,
@@ -38,5 +40,11 @@ returns-clause-read g c = λ held told found.
 
 pub loop-more-smaller : goal.loop-more-smaller
 loop-more-smaller g c =
-    measure_falls c.args.size (vec_len c.loop-more.bytes) (vec_len c.read_piece.new.bytes) c.loop-more-test.true
-    (omega (arith, c.if-len-size.true, c.len.ensures)) (c.read_piece.ensures.longer) ((c.in-Ok-read_piece.ensures {u = tt}).grows)
+    measure_falls c.args.size c.loop-more-test.true
+    (omega (arith, c.if-len-size.true, c.len.ensures)) (c.read_piece.ensures.longer) ((c.in_ok-more.ensures {u = tt}).grows)
+
+pub returns-in_err-more-clause-trouble : goal.returns-in_err-more-clause-trouble
+returns-in_err-more-clause-trouble g c =
+    handed_on _ c.from_residual.result c.from_residual.ensures.1
+    (trouble_on c.args.name.now IsNever (g.L.Library.faults c.read_piece.new.library) c.in_err-more.field-0.0
+    (record { kept = c.loop-more.invariant.0.kept; count = c.loop-more.invariant.0.count }) ((c.in_err-more.ensures {u = tt}).trouble))

@@ -1,13 +1,18 @@
 use Rattle.std.proofs.Common.{◌≡◌, ◌++◌, length, take, arith, rules, refl}
+use Rattle.inputs.proofs.ScanLemmas.{handed_on}
 use Rattle.inputs.proofs.files.read_piece.Goals as goal
 
 pub returns-then-count-eq0-clause-told : goal.returns-then-count-eq0-clause-told
 returns-then-count-eq0-clause-told g c = λ held told front.
     let at : length c.args.bytes.now.items ≡ c.len-at.result = omega (arith, c.len-at.ensures, c.args.bytes.now.ok) in
-    absurd (omega (arith, (c.in-Ok.ensures {u = tt}).more held c.args.bytes.now.items told front at, c.if-count-eq0.true))
+    absurd (omega (arith, (c.in_ok-count.ensures {u = tt}).more held c.args.bytes.now.items told front at, c.if-count-eq0.true))
 
-pub returns-in-Ok-extend_from_slice-clause-told : goal.returns-in-Ok-extend_from_slice-clause-told
-returns-in-Ok-extend_from_slice-clause-told g c = λ held told front.
+pub returns-in-Ok-clause-told : goal.returns-in-Ok-clause-told
+returns-in-Ok-clause-told g c = λ held told front.
     let at : length c.args.bytes.now.items ≡ c.len-at.result = omega (arith, c.len-at.ensures, c.args.bytes.now.ok) in
-    let pushed : c.extend_from_slice.new.self.items ≡ c.args.bytes.now.items ++ take c.in-Ok.count c.read_at.new.piece = search rules in
-    (rw pushed ((c.in-Ok.ensures {u = tt}).told held c.args.bytes.now.items told front at), refl)
+    let pushed : c.extend_from_slice.new.self.items ≡ c.args.bytes.now.items ++ take c.in_ok-count.count c.read_at.new.piece = search rules in
+    (rw pushed ((c.in_ok-count.ensures {u = tt}).told held c.args.bytes.now.items told front at), refl)
+
+pub returns-in_err-count-clause-trouble : goal.returns-in_err-count-clause-trouble
+returns-in_err-count-clause-trouble g c =
+    handed_on _ c.from_residual.result c.from_residual.ensures.1 ((c.in_err-count.ensures {u = tt}).trouble)

@@ -3,13 +3,15 @@ use Rattle.mpeg_scan.specs.declared.films.Film.{Film}
 use Rattle.troubles.proofs.CauseLemmas.{trouble_map}
 use Rattle.inputs.specs.Files.{IsMissing, IsNamed}
 use Rattle.inputs.specs.Videos.{IsRefusedAbove, IsVideo}
-use Rattle.inputs.proofs.LoadLemmas.{bytes_trouble, film_loaded, size_above}
-use Rattle.inputs.proofs.VideoLemmas.{file_not_refused}
+use Rattle.inputs.proofs.LoadLemmas.{WasRead, bytes_trouble, film_loaded, size_above}
+use Rattle.inputs.proofs.ScanLemmas.{ReadOn, handed_on, never_refused}
+use Rattle.inputs.proofs.VideoLemmas.{HoldsAccepted, file_not_refused}
 use Rattle.inputs.proofs.films.load_within.Goals as goal
 
-pub returns-in-Err-clause-trouble : goal.returns-in-Err-clause-trouble
-returns-in-Err-clause-trouble g c =
-    trouble_map (record {
+pub returns-in_err-size-clause-trouble : goal.returns-in_err-size-clause-trouble
+returns-in_err-size-clause-trouble g c =
+    handed_on _ c.from_residual.result c.from_residual.ensures.1
+    (trouble_map (record {
       Reads = IsNamed c.args.name.now;
       Refuses = IsMissing;
       told = g.L.Library.files c.args.library.now;
@@ -23,7 +25,7 @@ returns-in-Err-clause-trouble g c =
       before = g.L.Library.faults c.args.library.now;
       after = g.L.Library.faults c.find_file.new.library;
     })
-    c.in-Err.trouble
+    c.in_err-size.field-0.0
     (record {
       reads = λ name is. is;
       refuses = λ held name fault told is missing. inl missing;
@@ -31,35 +33,49 @@ returns-in-Err-clause-trouble g c =
       low = omega arith;
       high = omega arith;
     })
-    ((c.in-Err.ensures {u = tt}).trouble)
+    ((c.in_err-size.ensures {u = tt}).trouble))
+
+pub returns-in_err-file-clause-trouble : goal.returns-in_err-file-clause-trouble
+returns-in_err-file-clause-trouble g c =
+    let Refuses = IsRefusedAbove c.args.most c.args.over in
+    let on : ReadOn (g.L.Library.files c.args.library.now) (g.L.Library.files c.find_file.new.library) (g.L.Library.faults c.args.library.now) (g.L.Library.faults c.find_file.new.library) =
+    record { kept = c.find_file.ensures.library.kept; count = c.find_file.ensures.library.count } in
+    handed_on _ c.from_residual-in_err-file.result c.from_residual-in_err-file.ensures.1
+    (never_refused c.args.name.now Refuses (g.L.Library.faults c.read_bytes.new.library) c.in_err-file.field-0.0 on ((c.in_err-file.ensures {u = tt}).trouble))
 
 pub returns-then-most-size-clause-trouble : goal.returns-then-most-size-clause-trouble
 returns-then-most-size-clause-trouble g c = (
   refl,
-  λ held told. size_above held c.args.name.now c.args.most c.args.over ((c.in-Ok.ensures {u = tt}).found held told) (omega (arith, c.if-most-size.true)),
+  λ held told. size_above held c.args.name.now c.args.most c.args.over ((c.in_ok-size.ensures {u = tt}).found held told) (omega (arith, c.if-most-size.true)),
 )
 
-pub returns-in-Err-scan_file-clause-trouble : goal.returns-in-Err-scan_file-clause-trouble
-returns-in-Err-scan_file-clause-trouble g c =
-    bytes_trouble c.args.most c.args.over (g.L.Library.faults c.args.library.now) (g.L.Library.faults c.read_bytes.new.library)
-    c.args.name.now c.in-Err-scan_file.trouble ((c.in-Err-scan_file.ensures {u = tt}).trouble)
-    (λ held is. (c.in-Ok-read_bytes.ensures {u = tt}).read held (c.find_file.ensures.library.kept ∙ is) ((c.in-Ok.ensures {u = tt}).found held is))
-    (omega (arith, (c.in-Ok-read_bytes.ensures {u = tt}).within, c.in-Ok-read_bytes.file.ok, c.if-most-size.false))
+pub returns-in_err-film-clause-trouble : goal.returns-in_err-film-clause-trouble
+returns-in_err-film-clause-trouble g c =
+    let read : WasRead (g.L.Library.files c.args.library.now) c.args.name.now c.in_ok-file.file.items c.args.most = record {
+      found = λ held is. (c.in_ok-file.ensures {u = tt}).read held (c.find_file.ensures.library.kept ∙ is) ((c.in_ok-size.ensures {u = tt}).found held is);
+      short = omega (arith, (c.in_ok-file.ensures {u = tt}).within, c.in_ok-file.file.ok, c.if-most-size.false);
+    } in
+    handed_on _ c.from_residual-in_err-film.result c.from_residual-in_err-film.ensures.1
+    (bytes_trouble c.args.over (g.L.Library.faults c.args.library.now) (g.L.Library.faults c.read_bytes.new.library)
+    c.in_err-film.field-0.0 read ((c.in_err-film.ensures {u = tt}).trouble))
 
-pub returns-in-Ok-store-clause-film : goal.returns-in-Ok-store-clause-film
-returns-in-Ok-store-clause-film g c = λ held is.
-    let same : c.in-Ok-store.stored.film ≡ c.in-Ok-scan_file.film = (c.in-Ok-store.ensures {u = tt}).film in
+pub returns-in-Ok-clause-film : goal.returns-in-Ok-clause-film
+returns-in-Ok-clause-film g c = λ held is.
+    let same : c.in-Ok.stored.film ≡ c.in_ok-film.film = (c.in-Ok.ensures {u = tt}).film in
     film_loaded
-    ((c.in-Ok-read_bytes.ensures {u = tt}).read held (c.find_file.ensures.library.kept ∙ is) ((c.in-Ok.ensures {u = tt}).found held is))
-    (omega (arith, (c.in-Ok-read_bytes.ensures {u = tt}).within, c.in-Ok-read_bytes.file.ok, c.if-most-size.false, c.requires))
-    (subst (λ (f : Film). IsVideo c.in-Ok-read_bytes.file.items f.bytes.items) (sym same) ((c.in-Ok-scan_file.ensures {u = tt}).film))
-    c.in-Ok-store.stored.film.grammar.accepted
+    ((c.in_ok-file.ensures {u = tt}).read held (c.find_file.ensures.library.kept ∙ is) ((c.in_ok-size.ensures {u = tt}).found held is))
+    (omega (arith, (c.in_ok-file.ensures {u = tt}).within, c.in_ok-file.file.ok, c.if-most-size.false, c.requires))
+    (subst (λ (f : Film). IsVideo c.in_ok-file.file.items f.bytes.items) (sym same) ((c.in_ok-film.ensures {u = tt}).film))
+    c.in-Ok.stored.film.grammar.accepted
 
-pub returns-in-Ok-store-clause-small : goal.returns-in-Ok-store-clause-small
-returns-in-Ok-store-clause-small g c = λ held is fault refused.
-    let same : c.in-Ok-store.stored.film ≡ c.in-Ok-scan_file.film = (c.in-Ok-store.ensures {u = tt}).film in
-    file_not_refused held c.args.name.now c.in-Ok-store.stored.film.bytes.items c.args.most c.args.over fault
-    ((c.in-Ok-read_bytes.ensures {u = tt}).read held (c.find_file.ensures.library.kept ∙ is) ((c.in-Ok.ensures {u = tt}).found held is))
-    (omega (arith, (c.in-Ok-read_bytes.ensures {u = tt}).within, c.in-Ok-read_bytes.file.ok, c.if-most-size.false))
-    (subst (λ (f : Film). IsVideo c.in-Ok-read_bytes.file.items f.bytes.items) (sym same) ((c.in-Ok-scan_file.ensures {u = tt}).film))
-    c.in-Ok-store.stored.film.grammar.accepted refused
+pub returns-in-Ok-clause-small : goal.returns-in-Ok-clause-small
+returns-in-Ok-clause-small g c = λ held is fault refused.
+    let same : c.in-Ok.stored.film ≡ c.in_ok-film.film = (c.in-Ok.ensures {u = tt}).film in
+    let holds : HoldsAccepted held c.args.name.now c.in-Ok.stored.film.bytes.items c.args.most = record {
+      file = c.in_ok-file.file.items;
+      found = (c.in_ok-file.ensures {u = tt}).read held (c.find_file.ensures.library.kept ∙ is) ((c.in_ok-size.ensures {u = tt}).found held is);
+      short = omega (arith, (c.in_ok-file.ensures {u = tt}).within, c.in_ok-file.file.ok, c.if-most-size.false);
+      is_video = subst (λ (f : Film). IsVideo c.in_ok-file.file.items f.bytes.items) (sym same) ((c.in_ok-film.ensures {u = tt}).film);
+      accepted = c.in-Ok.stored.film.grammar.accepted;
+    } in
+    file_not_refused c.args.over fault holds refused

@@ -4,15 +4,19 @@ use Rattle.mpeg_scan.specs.declared.films.Film.{Film}
 use Rattle.inputs.specs.Films.{IsBytesTrouble, IsFilmTrouble}
 use Rattle.inputs.specs.Videos.{IsVideo}
 use Rattle.inputs.proofs.LoadLemmas.{video_trouble}
-use Rattle.inputs.proofs.ScanLemmas.{err_map, ok_map}
+use Rattle.inputs.proofs.ScanLemmas.{err_map, handed_on, ok_map}
 use Rattle.inputs.proofs.films.scan_file.Goals as goal
 
-pub returns-in-Ok-clause-film : goal.returns-in-Ok-clause-film
-returns-in-Ok-clause-film c =
-    ok_map (λ (film : Film). film.bytes.items ≡ c.in-Ok.video.items) (λ (film : Film). IsVideo c.args.file.items film.bytes.items) c.scan_video.result
-    (λ film same. subst (IsVideo c.args.file.items) (sym same) ((c.in-Ok.ensures {u = tt}).video)) c.scan_video.ensures.film
+pub returns-clause-film : goal.returns-clause-film
+returns-clause-film c =
+    ok_map (λ (film : Film). film.bytes.items ≡ c.in_ok-video.video.items) (λ (film : Film). IsVideo c.args.file.items film.bytes.items) c.scan_video.result
+    (λ film same. subst (IsVideo c.args.file.items) (sym same) ((c.in_ok-video.ensures {u = tt}).video)) c.scan_video.ensures.film
 
-pub returns-in-Ok-clause-trouble : goal.returns-in-Ok-clause-trouble
-returns-in-Ok-clause-trouble c =
-    err_map (IsFilmTrouble c.args.name.now (λ fault. refusal c.in-Ok.video.items ≡ Some fault)) (IsBytesTrouble c.args.name.now c.args.file.items) c.scan_video.result
-    (λ t h. video_trouble c.args.name.now c.args.file.items c.in-Ok.video.items t ((c.in-Ok.ensures {u = tt}).video) h) c.scan_video.ensures.trouble
+pub returns-clause-trouble : goal.returns-clause-trouble
+returns-clause-trouble c =
+    err_map (IsFilmTrouble c.args.name.now (λ fault. refusal c.in_ok-video.video.items ≡ Some fault)) (IsBytesTrouble c.args.name.now c.args.file.items) c.scan_video.result
+    (λ t h. video_trouble c.args.name.now c.args.file.items c.in_ok-video.video.items t ((c.in_ok-video.ensures {u = tt}).video) h) c.scan_video.ensures.trouble
+
+pub returns-in_err-video-clause-trouble : goal.returns-in_err-video-clause-trouble
+returns-in_err-video-clause-trouble c =
+    handed_on _ c.from_residual.result c.from_residual.ensures.1 ((c.in_err-video.ensures {u = tt}).trouble)

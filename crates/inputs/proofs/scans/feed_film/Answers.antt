@@ -1,10 +1,8 @@
 use Rattle.std.proofs.Common.{◌∙◌, ◌+◌, Option, List, arith, refl, sym, subst}
 use Rattle.std.proofs.lemmas.Bool.{lt-ltb}
-use Rattle.troubles.proofs.CauseLemmas.{trouble_map}
 use Rattle.vod_base.specs.Outside.{File}
-use Rattle.inputs.specs.Files.{IsNamed}
 use Rattle.inputs.specs.Scans.{HasScanned, IsFilmRefused}
-use Rattle.inputs.proofs.ScanLemmas.{all_scanned}
+use Rattle.inputs.proofs.ScanLemmas.{all_scanned, handed_on, trouble_on}
 use Rattle.inputs.proofs.scans.feed_film.Goals as goal
 use Rattle.inputs.proofs.scans.feed_film.Goals.{else-loop-more-test, then-loop-more-test+else-at-size}
 
@@ -27,10 +25,10 @@ loop-more-preserved g c = (
   record {
     kept = c.feed_piece.ensures.library.kept ∙ c.loop-more.invariant.0.kept;
     count = omega (arith, c.feed_piece.ensures.library.count, c.loop-more.invariant.0.count);
-    within = (c.in-Ok.ensures {u = tt}).within;
-    scanned = subst (λ (t : Option (List File)). HasScanned (g.F.Found.heard c.feed_piece.new.found) t c.args.name.now c.args.size (c.loop-more.at + c.in-Ok.count) c.feed_piece.new.scanner)
-        c.loop-more.invariant.0.kept ((c.in-Ok.ensures {u = tt}).scanned);
-    more_is = λ held is. lt-ltb 0 c.in-Ok.count ((c.in-Ok.ensures {u = tt}).more held (c.loop-more.invariant.0.kept ∙ is));
+    within = (c.in_ok-count.ensures {u = tt}).within;
+    scanned = subst (λ (t : Option (List File)). HasScanned (g.F.Found.heard c.feed_piece.new.found) t c.args.name.now c.args.size (c.loop-more.at + c.in_ok-count.count) c.feed_piece.new.scanner)
+        c.loop-more.invariant.0.kept ((c.in_ok-count.ensures {u = tt}).scanned);
+    more_is = λ held is. lt-ltb 0 c.in_ok-count.count ((c.in_ok-count.ensures {u = tt}).more held (c.loop-more.invariant.0.kept ∙ is));
   },
   c.feed_piece.ensures.ready,
 )
@@ -44,28 +42,8 @@ returns-clause-scanned g c =
       | else-loop-more-test w ↦ absurd (cc (c.loop-more.invariant.0.more_is held is, w.loop-more-test.false))
     ])
 
-pub returns-in-Err-clause-trouble : goal.returns-in-Err-clause-trouble
-returns-in-Err-clause-trouble g c =
-    trouble_map (record {
-      Reads = IsNamed c.args.name.now;
-      Refuses = IsFilmRefused;
-      told = g.L.Library.files c.loop-more.library;
-      before = g.L.Library.faults c.loop-more.library;
-      after = g.L.Library.faults c.feed_piece.new.library;
-    })
-    (record {
-      Reads = IsNamed c.args.name.now;
-      Refuses = IsFilmRefused;
-      told = g.L.Library.files c.args.library.now;
-      before = g.L.Library.faults c.args.library.now;
-      after = g.L.Library.faults c.feed_piece.new.library;
-    })
-    c.in-Err.trouble
-    (record {
-      reads = λ name is. is;
-      refuses = λ held name fault told is refused. refused;
-      keeps = λ held told. c.loop-more.invariant.0.kept ∙ told;
-      low = omega (arith, c.loop-more.invariant.0.count);
-      high = omega arith;
-    })
-    ((c.in-Err.ensures {u = tt}).trouble)
+pub returns-in_err-count-clause-trouble : goal.returns-in_err-count-clause-trouble
+returns-in_err-count-clause-trouble g c =
+    handed_on _ c.from_residual.result c.from_residual.ensures.1
+    (trouble_on c.args.name.now IsFilmRefused (g.L.Library.faults c.feed_piece.new.library) c.in_err-count.field-0.0
+    (record { kept = c.loop-more.invariant.0.kept; count = c.loop-more.invariant.0.count }) ((c.in_err-count.ensures {u = tt}).trouble))

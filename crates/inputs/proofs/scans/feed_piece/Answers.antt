@@ -1,6 +1,7 @@
 use Rattle.std.proofs.Common.{take, arith, refl}
 use Rattle.std.proofs.lemmas.List.{length-take-le}
-use Rattle.inputs.proofs.ScanLemmas.{more_scanned, piece_refused, scanned_fed}
+use Rattle.inputs.specs.Scans.{IsFilmRefused}
+use Rattle.inputs.proofs.ScanLemmas.{ReadOn, handed_on, more_scanned, never_refused, piece_refused, scanned_fed}
 use Rattle.inputs.proofs.scans.feed_piece.Goals as goal
 
 pub feed-requires-clause-short : goal.feed-requires-clause-short
@@ -8,28 +9,35 @@ feed-requires-clause-short g c =
     omega (
       arith,
       scanned_fed c.requires.scanned,
-      length-take-le c.in-Ok.count c.read_at.new.piece ((c.in-Ok.ensures {u = tt}).within),
-      (c.in-Ok.ensures {u = tt}).fits,
+      length-take-le c.in_ok-count.count c.read_at.new.piece ((c.in_ok-count.ensures {u = tt}).within),
+      (c.in_ok-count.ensures {u = tt}).fits,
       c.requires.short,
     )
 
-pub returns-in-Ok-feed-clause-scanned : goal.returns-in-Ok-feed-clause-scanned
-returns-in-Ok-feed-clause-scanned g c =
+pub returns-in-Ok-clause-scanned : goal.returns-in-Ok-clause-scanned
+returns-in-Ok-clause-scanned g c =
     more_scanned
-    c.read_at.new.piece c.in-Ok.count c.requires.scanned
-    (λ held is. (c.in-Ok.ensures {u = tt}).told held c.requires.scanned.bytes is (c.requires.scanned.front held is) c.requires.scanned.long)
-    ((c.in-Ok.ensures {u = tt}).within) ((c.in-Ok-feed.ensures {u = tt}).kept) ((c.in-Ok-feed.ensures {u = tt}).told)
+    c.read_at.new.piece c.requires.scanned
+    (λ held is. (c.in_ok-count.ensures {u = tt}).told held c.requires.scanned.bytes is (c.requires.scanned.front held is) c.requires.scanned.long)
+    ((c.in_ok-count.ensures {u = tt}).within) ((c.in-Ok.ensures {u = tt}).kept) ((c.in-Ok.ensures {u = tt}).told)
 
-pub returns-in-Ok-feed-clause-more : goal.returns-in-Ok-feed-clause-more
-returns-in-Ok-feed-clause-more g c = λ held is.
-    (c.in-Ok.ensures {u = tt}).more held c.requires.scanned.bytes is (c.requires.scanned.front held is) c.requires.scanned.long
+pub returns-in-Ok-clause-more : goal.returns-in-Ok-clause-more
+returns-in-Ok-clause-more g c = λ held is.
+    (c.in_ok-count.ensures {u = tt}).more held c.requires.scanned.bytes is (c.requires.scanned.front held is) c.requires.scanned.long
 
 pub returns-in-Err-Fault-clause-trouble : goal.returns-in-Err-Fault-clause-trouble
 returns-in-Err-Fault-clause-trouble g c = (
   refl,
   λ held is.
       piece_refused
-      (take c.in-Ok.count c.read_at.new.piece) c.requires.scanned.scanned (c.requires.opened held is)
-      ((c.in-Ok.ensures {u = tt}).told held c.requires.scanned.bytes is (c.requires.scanned.front held is) c.requires.scanned.long) c.requires.short
+      (take c.in_ok-count.count c.read_at.new.piece) c.requires.scanned.scanned (c.requires.opened held is)
+      ((c.in_ok-count.ensures {u = tt}).told held c.requires.scanned.bytes is (c.requires.scanned.front held is) c.requires.scanned.long) c.requires.short
       (c.feed.ensures.fault c.in-Err-Fault.fault (cc)),
 )
+
+pub returns-in_err-count-clause-trouble : goal.returns-in_err-count-clause-trouble
+returns-in_err-count-clause-trouble g c =
+    let on : ReadOn (g.L.Library.files c.args.library.now) (g.L.Library.files c.args.library.now) (g.L.Library.faults c.args.library.now) (g.L.Library.faults c.args.library.now) =
+    record { kept = refl; count = omega arith } in
+    handed_on _ c.from_residual.result c.from_residual.ensures.1
+    (never_refused c.args.name.now IsFilmRefused (g.L.Library.faults c.read_at.new.library) c.in_err-count.field-0.0 on ((c.in_err-count.ensures {u = tt}).trouble))

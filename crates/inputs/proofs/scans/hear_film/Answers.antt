@@ -2,12 +2,14 @@ use Rattle.std.proofs.Common.{◌∙◌, refl, sym, subst, arith}
 use Rattle.troubles.proofs.CauseLemmas.{trouble_map}
 use Rattle.inputs.specs.Files.{IsNamed, IsMissing}
 use Rattle.inputs.specs.Scans.{IsFilmRefused, IsOpened}
-use Rattle.inputs.proofs.ScanLemmas.{heard_on, missing_refused, size_refused, troubles_on}
+use Rattle.inputs.proofs.ScanLemmas.{ReadOn, handed_on, heard_on, missing_refused, never_refused, size_refused}
+use Rattle.inputs.proofs.ScanLemmas.{troubles_on}
 use Rattle.inputs.proofs.scans.hear_film.Goals as goal
 
-pub returns-in-Err-clause-trouble : goal.returns-in-Err-clause-trouble
-returns-in-Err-clause-trouble g c =
-    trouble_map (record {
+pub returns-in_err-size-clause-trouble : goal.returns-in_err-size-clause-trouble
+returns-in_err-size-clause-trouble g c =
+    handed_on _ c.from_residual.result c.from_residual.ensures.1
+    (trouble_map (record {
       Reads = IsNamed c.args.name.now;
       Refuses = IsMissing;
       told = g.L.Library.files c.args.library.now;
@@ -21,7 +23,7 @@ returns-in-Err-clause-trouble g c =
       before = g.L.Library.faults c.args.library.now;
       after = g.L.Library.faults c.find_file.new.library;
     })
-    c.in-Err.trouble
+    c.in_err-size.field-0.0
     (record {
       reads = λ name is. is;
       refuses = λ held name fault told is missing. missing_refused held name fault missing;
@@ -29,44 +31,42 @@ returns-in-Err-clause-trouble g c =
       low = omega arith;
       high = omega arith;
     })
-    ((c.in-Err.ensures {u = tt}).trouble)
+    ((c.in_err-size.ensures {u = tt}).trouble))
+
+pub returns-in_err-stream-clause-trouble : goal.returns-in_err-stream-clause-trouble
+returns-in_err-stream-clause-trouble g c =
+    let on : ReadOn (g.L.Library.files c.args.library.now) (g.L.Library.files c.find_file.new.library) (g.L.Library.faults c.args.library.now) (g.L.Library.faults c.find_file.new.library) =
+    record { kept = c.find_file.ensures.library.kept; count = c.find_file.ensures.library.count } in
+    handed_on _ c.from_residual-in_err-stream.result c.from_residual-in_err-stream.ensures.1
+    (never_refused c.args.name.now IsFilmRefused (g.L.Library.faults c.find_pack.new.library) c.in_err-stream.field-0.0 on ((c.in_err-stream.ensures {u = tt}).trouble))
 
 pub returns-then-size-gt-FILM-clause-trouble : goal.returns-then-size-gt-FILM-clause-trouble
 returns-then-size-gt-FILM-clause-trouble g c = (
   refl,
-  λ held told. size_refused held c.args.name.now c.in-Ok.size ((c.in-Ok.ensures {u = tt}).found held told) (omega (arith, c.if-size-gt-FILM.true)),
+  λ held told. size_refused held c.args.name.now c.in_ok-size.size ((c.in_ok-size.ensures {u = tt}).found held told) (omega (arith, c.if-size-gt-FILM.true)),
 )
 
 pub scan_plain-requires-clause-opened : goal.scan_plain-requires-clause-opened
 scan_plain-requires-clause-opened g c = λ held is.
-    subst (IsOpened held c.args.name.now c.in-Ok.size) c.in-Ok-None.field-0-is
-    ((c.in-Ok-None.ensures {u = tt}).opened held (sym c.find_pack.ensures.library.kept ∙ is)
-    ((c.in-Ok.ensures {u = tt}).found held (sym c.find_file.ensures.library.kept ∙ sym c.find_pack.ensures.library.kept ∙ is)))
+    subst (IsOpened held c.args.name.now c.in_ok-size.size) c.in-None.is
+    ((c.in_ok-stream.ensures {u = tt}).opened held (sym c.find_pack.ensures.library.kept ∙ is)
+    ((c.in_ok-size.ensures {u = tt}).found held (sym c.find_file.ensures.library.kept ∙ sym c.find_pack.ensures.library.kept ∙ is)))
 
 pub scan_stream-requires-clause-opened : goal.scan_stream-requires-clause-opened
 scan_stream-requires-clause-opened g c = λ held is.
-    subst (IsOpened held c.args.name.now c.in-Ok.size) c.in-Ok-Some.field-0-is
-    ((c.in-Ok-Some.ensures {u = tt}).opened held (sym c.find_pack.ensures.library.kept ∙ is)
-    ((c.in-Ok.ensures {u = tt}).found held (sym c.find_file.ensures.library.kept ∙ sym c.find_pack.ensures.library.kept ∙ is)))
+    subst (IsOpened held c.args.name.now c.in_ok-size.size) c.in-Some.is
+    ((c.in_ok-stream.ensures {u = tt}).opened held (sym c.find_pack.ensures.library.kept ∙ is)
+    ((c.in_ok-size.ensures {u = tt}).found held (sym c.find_file.ensures.library.kept ∙ sym c.find_pack.ensures.library.kept ∙ is)))
 
-pub returns-in-Ok-None-clause-film : goal.returns-in-Ok-None-clause-film
-returns-in-Ok-None-clause-film g c =
+pub returns-in-None-clause-film : goal.returns-in-None-clause-film
+returns-in-None-clause-film g c =
     heard_on (g.F.Found.heard c.scan_plain.new.found) c.args.name.now c.scan_plain.result
     (c.find_pack.ensures.library.kept ∙ c.find_file.ensures.library.kept) c.scan_plain.ensures.film
 
-pub returns-in-Ok-None-clause-trouble : goal.returns-in-Ok-None-clause-trouble
-returns-in-Ok-None-clause-trouble g c =
-    troubles_on c.args.name.now
-    (g.L.Library.faults c.args.library.now) (g.L.Library.faults c.find_pack.new.library) (g.L.Library.faults c.scan_plain.new.library) c.scan_plain.result
-    (c.find_pack.ensures.library.kept ∙ c.find_file.ensures.library.kept) (omega (arith, c.find_file.ensures.library.count, c.find_pack.ensures.library.count)) c.scan_plain.ensures.trouble
-
-pub returns-in-Ok-Some-clause-film : goal.returns-in-Ok-Some-clause-film
-returns-in-Ok-Some-clause-film g c =
-    heard_on (g.F.Found.heard c.scan_stream.new.found) c.args.name.now c.scan_stream.result
-    (c.find_pack.ensures.library.kept ∙ c.find_file.ensures.library.kept) c.scan_stream.ensures.film
-
-pub returns-in-Ok-Some-clause-trouble : goal.returns-in-Ok-Some-clause-trouble
-returns-in-Ok-Some-clause-trouble g c =
-    troubles_on c.args.name.now
-    (g.L.Library.faults c.args.library.now) (g.L.Library.faults c.find_pack.new.library) (g.L.Library.faults c.scan_stream.new.library) c.scan_stream.result
-    (c.find_pack.ensures.library.kept ∙ c.find_file.ensures.library.kept) (omega (arith, c.find_file.ensures.library.count, c.find_pack.ensures.library.count)) c.scan_stream.ensures.trouble
+pub returns-in-None-clause-trouble : goal.returns-in-None-clause-trouble
+returns-in-None-clause-trouble g c =
+    let on : ReadOn (g.L.Library.files c.args.library.now) (g.L.Library.files c.find_pack.new.library) (g.L.Library.faults c.args.library.now) (g.L.Library.faults c.find_pack.new.library) = record {
+      kept = c.find_pack.ensures.library.kept ∙ c.find_file.ensures.library.kept;
+      count = omega (arith, c.find_file.ensures.library.count, c.find_pack.ensures.library.count);
+    } in
+    troubles_on c.args.name.now (g.L.Library.faults c.scan_plain.new.library) c.scan_plain.result on c.scan_plain.ensures.trouble

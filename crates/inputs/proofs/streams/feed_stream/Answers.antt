@@ -2,7 +2,7 @@ use Rattle.std.proofs.Common.{◌∙◌, ◌+◌, Option, List, arith, refl, sub
 use Rattle.std.proofs.lemmas.Bool.{lt-ltb}
 use Rattle.vod_base.specs.Outside.{File}
 use Rattle.inputs.specs.Scans.{HasStreamed, IsFilmRefused}
-use Rattle.inputs.proofs.ScanLemmas.{trouble_on}
+use Rattle.inputs.proofs.ScanLemmas.{handed_on, trouble_on}
 use Rattle.inputs.proofs.StreamLemmas.{all_streamed}
 use Rattle.inputs.proofs.streams.feed_stream.Goals as goal
 use Rattle.inputs.proofs.streams.feed_stream.Goals.{else-loop-more-test, then-loop-more-test+else-at-size}
@@ -22,12 +22,12 @@ pub loop-more-preserved : goal.loop-more-preserved
 loop-more-preserved g c = record {
   kept = c.feed_stream_piece.ensures.library.kept ∙ c.loop-more.invariant.kept;
   count = omega (arith, c.feed_stream_piece.ensures.library.count, c.loop-more.invariant.count);
-  within = (c.in-Ok.ensures {u = tt}).within;
-  few = (c.in-Ok.ensures {u = tt}).few;
+  within = (c.in_ok-count.ensures {u = tt}).within;
+  few = (c.in_ok-count.ensures {u = tt}).few;
   ready = c.feed_stream_piece.ensures.ready;
-  streamed = subst (λ (t : Option (List File)). HasStreamed (g.F.Found.heard c.feed_stream_piece.new.found) t c.args.name.now c.args.size c.args.from (c.loop-more.at + c.in-Ok.count) c.feed_stream_piece.new.unwrapper c.feed_stream_piece.new.scanner)
-      c.loop-more.invariant.kept ((c.in-Ok.ensures {u = tt}).streamed);
-  more_is = λ held is. lt-ltb 0 c.in-Ok.count ((c.in-Ok.ensures {u = tt}).more held (c.loop-more.invariant.kept ∙ is));
+  streamed = subst (λ (t : Option (List File)). HasStreamed (g.F.Found.heard c.feed_stream_piece.new.found) t c.args.name.now c.args.size c.args.from (c.loop-more.at + c.in_ok-count.count) c.feed_stream_piece.new.unwrapper c.feed_stream_piece.new.scanner)
+      c.loop-more.invariant.kept ((c.in_ok-count.ensures {u = tt}).streamed);
+  more_is = λ held is. lt-ltb 0 c.in_ok-count.count ((c.in_ok-count.ensures {u = tt}).more held (c.loop-more.invariant.kept ∙ is));
 }
 
 pub returns-clause-streamed : goal.returns-clause-streamed
@@ -39,8 +39,8 @@ returns-clause-streamed g c =
       | else-loop-more-test w ↦ absurd (cc (c.loop-more.invariant.more_is held is, w.loop-more-test.false))
     ])
 
-pub returns-in-Err-clause-trouble : goal.returns-in-Err-clause-trouble
-returns-in-Err-clause-trouble g c =
-    trouble_on c.args.name.now IsFilmRefused
-    (g.L.Library.faults c.args.library.now) (g.L.Library.faults c.loop-more.library) (g.L.Library.faults c.feed_stream_piece.new.library)
-    c.in-Err.trouble c.loop-more.invariant.kept c.loop-more.invariant.count ((c.in-Err.ensures {u = tt}).trouble)
+pub returns-in_err-count-clause-trouble : goal.returns-in_err-count-clause-trouble
+returns-in_err-count-clause-trouble g c =
+    handed_on _ c.from_residual.result c.from_residual.ensures.1
+    (trouble_on c.args.name.now IsFilmRefused (g.L.Library.faults c.feed_stream_piece.new.library) c.in_err-count.field-0.0
+    (record { kept = c.loop-more.invariant.kept; count = c.loop-more.invariant.count }) ((c.in_err-count.ensures {u = tt}).trouble))

@@ -4,7 +4,7 @@ use Rattle.troubles.specs.Causes.{IsReadTrouble}
 use Rattle.inputs.specs.Files.{IsNamed}
 use Rattle.inputs.specs.Films.{IsFilmTrouble}
 use Rattle.inputs.specs.Scans.{HasEnded, HasHeard, HasStreamedAll, IsFilmRefused, IsRefusedAtEnd}
-use Rattle.inputs.proofs.ScanLemmas.{end_trouble, err_map, ok_map}
+use Rattle.inputs.proofs.ScanLemmas.{end_trouble, err_map, handed_on, ok_map}
 use Rattle.inputs.proofs.StreamLemmas.{end_fault, first_streamed, stream_heard, video_refused, video_short}
 use Rattle.inputs.proofs.streams.scan_stream.Goals as goal
 
@@ -16,11 +16,11 @@ feed_stream-requires-clause-streamed g c =
 pub feed_stream-requires-clause-few : goal.feed_stream-requires-clause-few
 feed_stream-requires-clause-few g c = omega (arith, c.new-scanner.ensures.fed.progress.fed)
 
-pub returns-in-Ok-finish-clause-film : goal.returns-in-Ok-finish-clause-film
-returns-in-Ok-finish-clause-film g c =
+pub returns-in-Ok-clause-film : goal.returns-in-Ok-clause-film
+returns-in-Ok-clause-film g c =
     let all : HasStreamedAll (g.F.Found.heard c.feed_stream.new.found) (g.L.Library.files c.args.library.now) c.args.name.now c.args.size c.args.from c.feed_stream.new.unwrapper c.feed_stream.new.scanner =
-    (c.in-Ok.ensures {u = tt}).streamed in
-    let system : IsSystem all.seen all.unwrapped.video = (c.in-Ok-finish.ensures {u = tt}).end all.seen all.unwrapped.video all.unwrapped.fed in
+    (c.in_ok-feed_stream.ensures {u = tt}).streamed in
+    let system : IsSystem all.seen all.unwrapped.video = (c.in-Ok.ensures {u = tt}).end all.seen all.unwrapped.video all.unwrapped.fed in
     let short : length all.unwrapped.video ≤ 2 ^ 40 =
     video_short c.requires.short all in
     ok_map (λ e. HasEnded (g.F.Found.heard c.end_film.new.found) all.unwrapped.video e.bytes e.rate)
@@ -29,31 +29,32 @@ returns-in-Ok-finish-clause-film g c =
     c.requires.short c.requires.opened all system ended)
     (c.end_film.ensures.ended all.unwrapped.video short all.unwrapped.taken)
 
-pub returns-in-Ok-finish-clause-trouble : goal.returns-in-Ok-finish-clause-trouble
-returns-in-Ok-finish-clause-trouble g c =
+pub returns-in-Ok-clause-trouble : goal.returns-in-Ok-clause-trouble
+returns-in-Ok-clause-trouble g c =
     let all : HasStreamedAll (g.F.Found.heard c.feed_stream.new.found) (g.L.Library.files c.args.library.now) c.args.name.now c.args.size c.args.from c.feed_stream.new.unwrapper c.feed_stream.new.scanner =
-    (c.in-Ok.ensures {u = tt}).streamed in
-    let system : IsSystem all.seen all.unwrapped.video = (c.in-Ok-finish.ensures {u = tt}).end all.seen all.unwrapped.video all.unwrapped.fed in
+    (c.in_ok-feed_stream.ensures {u = tt}).streamed in
+    let system : IsSystem all.seen all.unwrapped.video = (c.in-Ok.ensures {u = tt}).end all.seen all.unwrapped.video all.unwrapped.fed in
     let short : length all.unwrapped.video ≤ 2 ^ 40 =
     video_short c.requires.short all in
     err_map (IsFilmTrouble c.args.name.now (IsRefusedAtEnd (g.F.Found.heard c.feed_stream.new.found) c.feed_stream.new.scanner))
     (IsReadTrouble (IsNamed c.args.name.now) IsFilmRefused (g.L.Library.files c.args.library.now) (g.L.Library.faults c.args.library.now) (g.L.Library.faults c.feed_stream.new.library)) c.end_film.result
-    (λ t h. end_trouble c.args.name.now (IsRefusedAtEnd (g.F.Found.heard c.feed_stream.new.found) c.feed_stream.new.scanner)
+    (λ t h. end_trouble {Refuses = IsRefusedAtEnd (g.F.Found.heard c.feed_stream.new.found) c.feed_stream.new.scanner} c.args.name.now
     (g.L.Library.faults c.args.library.now) (g.L.Library.faults c.feed_stream.new.library) t
     (λ held fault is refuses. video_refused
     c.requires.short c.requires.opened all is system (refuses all.unwrapped.video short all.unwrapped.taken)) h)
     c.end_film.ensures.trouble
 
-pub returns-in-Err-finish-clause-trouble : goal.returns-in-Err-finish-clause-trouble
-returns-in-Err-finish-clause-trouble g c = (
+pub returns-in-Err-clause-trouble : goal.returns-in-Err-clause-trouble
+returns-in-Err-clause-trouble g c = (
   refl,
   λ held is.
       let all : HasStreamedAll (g.F.Found.heard c.feed_stream.new.found) (g.L.Library.files c.args.library.now) c.args.name.now c.args.size c.args.from c.feed_stream.new.unwrapper c.feed_stream.new.scanner =
-      (c.in-Ok.ensures {u = tt}).streamed in
+      (c.in_ok-feed_stream.ensures {u = tt}).streamed in
       end_fault
       all is c.requires.opened c.requires.short
-      ((c.in-Err-finish.ensures {u = tt}).end all.seen all.unwrapped.video all.unwrapped.fed) c.move_fault.ensures,
+      ((c.in-Err.ensures {u = tt}).end all.seen all.unwrapped.video all.unwrapped.fed) c.move_fault.ensures,
 )
 
-pub returns-in-Err-clause-trouble : goal.returns-in-Err-clause-trouble
-returns-in-Err-clause-trouble g c = (c.in-Err.ensures {u = tt}).trouble
+pub returns-in_err-feed_stream-clause-trouble : goal.returns-in_err-feed_stream-clause-trouble
+returns-in_err-feed_stream-clause-trouble g c =
+    handed_on _ c.from_residual.result c.from_residual.ensures.1 ((c.in_err-feed_stream.ensures {u = tt}).trouble)

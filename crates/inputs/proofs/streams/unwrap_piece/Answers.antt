@@ -2,6 +2,7 @@ use Rattle.std.proofs.Common.{ℕ, List, ◌++◌, take, length, ap, arith, sym,
 use Rattle.std.proofs.lemmas.List.{append-nil, length-drop, take_all}
 use Rattle.inputs.specs.Scans.{HasUnwrapped}
 use Rattle.inputs.proofs.Tokens.{slice_from}
+use Rattle.inputs.proofs.ScanLemmas.{handed_on}
 use Rattle.inputs.proofs.StreamLemmas.{part_refused, parts_joined}
 use Rattle.inputs.proofs.streams.unwrap_piece.Goals as goal
 
@@ -19,24 +20,25 @@ pub loop-at-preserved : goal.loop-at-preserved
 loop-at-preserved g c = record {
   within = omega (
     arith,
-    (c.in-Ok.ensures {u = tt}).taken.1,
+    (c.in_ok-taken.ensures {u = tt}).taken.1,
     ap length (slice_from c.args.piece.now c.loop-at.at),
     length-drop c.loop-at.at c.args.piece.now,
     c.loop-at.invariant.within,
   );
-  count = omega (arith, c.loop-at.invariant.count, (c.in-Ok.ensures {u = tt}).count);
-  few = omega (arith, c.loop-at.invariant.few, (c.in-Ok.ensures {u = tt}).few, (c.in-Ok.ensures {u = tt}).count);
+  count = omega (arith, c.loop-at.invariant.count, (c.in_ok-taken.ensures {u = tt}).count);
+  few = omega (arith, c.loop-at.invariant.few, (c.in_ok-taken.ensures {u = tt}).few, (c.in_ok-taken.ensures {u = tt}).count);
   ready = c.unwrap_part.ensures.ready;
   next = λ seen so_far.
       subst (λ (l : List ℕ). HasUnwrapped (g.F.Found.heard c.unwrap_part.new.found) c.unwrap_part.new.unwrapper c.unwrap_part.new.scanner l)
-      (parts_joined seen c.args.piece.now c.loop-at.at c.in-Ok.taken)
-      ((c.in-Ok.ensures {u = tt}).next (seen ++ take c.loop-at.at c.args.piece.now) (c.loop-at.invariant.next seen so_far));
+      (parts_joined seen c.args.piece.now c.loop-at.at c.in_ok-taken.taken)
+      ((c.in_ok-taken.ensures {u = tt}).next (seen ++ take c.loop-at.at c.args.piece.now) (c.loop-at.invariant.next seen so_far));
 }
 
-pub returns-in-Err-clause-refused : goal.returns-in-Err-clause-refused
-returns-in-Err-clause-refused g c = λ seen so_far.
-    part_refused seen c.args.piece.now c.loop-at.at c.in-Err.refused
-    ((c.in-Err.ensures {u = tt}).refused (seen ++ take c.loop-at.at c.args.piece.now) (c.loop-at.invariant.next seen so_far))
+pub returns-in_err-taken-clause-refused : goal.returns-in_err-taken-clause-refused
+returns-in_err-taken-clause-refused g c = λ seen so_far.
+    handed_on _ c.from_residual.result c.from_residual.ensures.1
+    (part_refused seen c.args.piece.now c.loop-at.at c.in_err-taken.field-0.0
+    ((c.in_err-taken.ensures {u = tt}).refused (seen ++ take c.loop-at.at c.args.piece.now) (c.loop-at.invariant.next seen so_far)))
 
 pub returns-clause-next : goal.returns-clause-next
 returns-clause-next g c = λ seen so_far.

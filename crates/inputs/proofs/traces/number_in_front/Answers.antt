@@ -1,6 +1,6 @@
 use Rattle.std.proofs.Common.{◌≡◌, ◌<◌, length, arith, sym, ◌∙◌, true, get_or}
 use Rattle.inputs.specs.Traces.{is_blank}
-use Rattle.inputs.proofs.Words.{no_digits, not_whole, too_large, whole_word}
+use Rattle.inputs.proofs.Words.{DigitsInFront, no_digits, not_whole, too_large, whole_word}
 use Rattle.inputs.proofs.traces.number_in_front.Goals as goal
 use Rattle.inputs.proofs.traces.number_in_front.Goals.{then-number-eq0-via-then-number-eq0, then-number-eq0-via-else-number-eq0+then-number-gt-MOST_SIZE}
 use Rattle.inputs.proofs.traces.number_in_front.Goals.{else-number-rest-via-then-number-rest+else-not-is_blank, else-number-rest-via-else-number-rest}
@@ -9,26 +9,29 @@ pub returns-then-number-eq0 : goal.returns-then-number-eq0
 returns-then-number-eq0 c = λ size written.
     let number = c.digits_in_front-number.result in
     let read = c.digits_in_front-number.ensures in
+    let front : DigitsInFront c.args.rest.now number.len number.value = record { digits = read.digits; value_is = read.value } in
     elim c.then-number-eq0.branch [
       | then-number-eq0-via-then-number-eq0 w ↦
-          no_digits c.args.rest.now size (omega (arith, w.if-number-eq0.true)) read.digits read.value read.ends written
+          no_digits front (omega (arith, w.if-number-eq0.true)) read.ends written
       | then-number-eq0-via-else-number-eq0+then-number-gt-MOST_SIZE w ↦
-          too_large c.args.rest.now number.len size read.within read.digits (omega (arith, w.if-number-gt-MOST_SIZE.true, read.value)) written
+          too_large front read.within (omega (arith, w.if-number-gt-MOST_SIZE.true)) written
     ]
 
 pub returns-then-not-is_blank : goal.returns-then-not-is_blank
 returns-then-not-is_blank c = λ size written.
     let number = c.digits_in_front-number.result in
     let read = c.digits_in_front-number.ensures in
-    not_whole c.args.rest.now number.len size (omega (arith, c.if-number-rest.true)) (sym c.is_blank.ensures ∙ c.if-not-is_blank.true) read.digits read.value read.ends written
+    let front : DigitsInFront c.args.rest.now number.len number.value = record { digits = read.digits; value_is = read.value } in
+    not_whole front (omega (arith, c.if-number-rest.true)) (sym c.is_blank.ensures ∙ c.if-not-is_blank.true) read.ends written
 
 pub returns : goal.returns
 returns c =
     let number = c.digits_in_front-number.result in
     let read = c.digits_in_front-number.ensures in
+    let front : DigitsInFront c.args.rest.now number.len number.value = record { digits = read.digits; value_is = read.value } in
     let ends : number.len < length c.args.rest.now → is_blank (get_or c.args.rest.now number.len 0) ≡ true = λ inside.
     elim c.else-number-rest.branch [
       | else-number-rest-via-then-number-rest+else-not-is_blank w ↦ sym w.is_blank.ensures ∙ w.if-not-is_blank.false
       | else-number-rest-via-else-number-rest w ↦ absurd (omega (arith, w.if-number-rest.false, inside))
     ] in
-    whole_word c.args.rest.now (omega (arith, c.if-number-eq0.false)) read.within read.digits read.value (omega (arith, c.if-number-gt-MOST_SIZE.false)) ends
+    whole_word front (omega (arith, c.if-number-eq0.false)) read.within (omega (arith, c.if-number-gt-MOST_SIZE.false)) ends

@@ -1,6 +1,6 @@
 use Rattle.std.proofs.Common.{◌≡◌, length, arith, rules, ◌++◌, ◌∷◌, [], ◌-◌, take, drop}
 use Rattle.inputs.proofs.Tokens.{slice_from}
-use Rattle.inputs.proofs.TraceWords.{next_read, next_bad}
+use Rattle.inputs.proofs.TraceWords.{TokenBegins, next_read, next_bad}
 use Rattle.inputs.proofs.traces.read_trace.Goals as goal
 
 pub returns-in_default-next_size-clause-refused : goal.returns-in_default-next_size-clause-refused
@@ -9,8 +9,8 @@ returns-in_default-next_size-clause-refused c =
     let from = c.in-Some.from in
     let place = c.in-Some.ensures {u = tt} in
     let counted : c.len.result ≡ length c.loop-from.sizes.items = omega (arith, c.len.ensures, c.loop-from.sizes.ok) in
-    next_bad
-    c.loop-from.invariant counted place.3 place.2 (slice_from text from) (c.in_default-next_size.ensures {u = tt})
+    let token : TokenBegins text c.loop-from.at from (take (length text - from) (drop from text)) = record { same = place.3; begins = place.2; are = slice_from text from } in
+    next_bad c.loop-from.invariant counted token (c.in_default-next_size.ensures {u = tt})
 
 pub loop-from-preserved : goal.loop-from-preserved
 loop-from-preserved c =
@@ -19,7 +19,7 @@ loop-from-preserved c =
     let place = c.in-Some.ensures {u = tt} in
     let size = c.in-Some-next_size.ensures {u = tt} in
     let counted : c.len.result ≡ length c.loop-from.sizes.items = omega (arith, c.len.ensures, c.loop-from.sizes.ok) in
-    let read = next_read from
-    c.loop-from.invariant counted place.3 place.2 place.1 (slice_from text from) size.0 size.1 in
+    let token : TokenBegins text c.loop-from.at from (take (length text - from) (drop from text)) = record { same = place.3; begins = place.2; are = slice_from text from } in
+    let read = next_read c.loop-from.invariant counted token place.1 size.0 size.1 in
     let pushed : c.push.new.self.items ≡ c.loop-from.sizes.items ++ c.in-Some-next_size.size.value ∷ [] = search rules in
     rw pushed read
