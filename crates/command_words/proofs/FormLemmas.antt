@@ -307,7 +307,8 @@ apart [] e i j order inside = absurd (omega (arith, inside))
 apart (name ∷ names) e zero zero order inside = absurd (omega (arith, order))
 apart (name ∷ names) e zero (suc j) order inside = λ same.
     let parts = and_parts (not (list_any (bytes_eq name) names)) (are_distinct names) e in
-    let found : list_any (bytes_eq name) names ≡ true = any_at (bytes_eq name) names j (omega (arith, inside)) ((bytes_eq-Decides name (get_or names j [])).1 same) in
+    let found : list_any (bytes_eq name) names ≡ true = any_at (bytes_eq name) names j (omega (arith, inside))
+    ((bytes_eq-Decides name (get_or names j [])).1 same) in
     let bad : false ≡ true = sym (ap not found) ∙ parts.0 in cc
 apart (name ∷ names) e (suc i) zero order inside = absurd (omega (arith, order))
 apart (name ∷ names) e (suc i) (suc j) order inside =

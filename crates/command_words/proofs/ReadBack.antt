@@ -72,10 +72,12 @@ record PicksFilm (settings : List Setting) (name : List ℕ) (slot : ℕ) : Type
   film : picked (codes "film") settings ≡ name ∷ []
   slot_is : picked (codes "slot") settings ≡ decimal slot ∷ []
 
-film_read : {name : List ℕ} {slot : ℕ} (settings : List Setting) → are_plain settings ≡ true → PicksFilm settings name slot → is_good_name name ≡ true → IsWithin 360 360000 slot →
+film_read : {name : List ℕ} {slot : ℕ} (settings : List Setting) → are_plain settings ≡ true → PicksFilm settings name slot →
+    is_good_name name ≡ true → IsWithin 360 360000 slot →
     source_given (given settings) ≡ Some (film_source name slot)
 film_read {name} {slot} settings plain picks good within =
-    ap (λ (vs : List (List ℕ)). source_of vs (values_of (codes "film") (given settings)) (values_of (codes "slot") (given settings))) (values_read (codes "trace") settings plain ∙ picks.trace)
+    ap (λ (vs : List (List ℕ)). source_of vs (values_of (codes "film") (given settings)) (values_of (codes "slot") (given settings)))
+    (values_read (codes "trace") settings plain ∙ picks.trace)
     ∙ then_is (λ (n : List ℕ). option_map (λ (k : ℕ). film_source n k) (number_or 14400 360 360000 (values_of (codes "slot") (given settings)))) (one_name (values_of (codes "film") (given settings))) name (Some (film_source name slot))
     (name_back name (values_of (codes "film") (given settings)) (values_read (codes "film") settings plain ∙ picks.film) good)
     (ap (option_map (λ (k : ℕ). film_source name k)) (slot_read settings slot plain picks.slot_is within))
@@ -94,7 +96,8 @@ viewer_read viewer may = by viewer.source viewer.buffer viewer.startup may.sourc
         viewer_is (given settings) (trace_source name) buffer startup (trace_read settings refl refl refl refl good) (pace_read settings refl refl refl some few)
     by (film_source name slot) buffer startup good some few =
         let settings = viewer_settings (record { source = film_source name slot; buffer = buffer; startup = startup }) in
-        viewer_is (given settings) (film_source name slot) buffer startup (film_read settings refl (record { trace = refl; film = refl; slot_is = refl }) good.0 good.1) (pace_read settings refl refl refl some few)
+        viewer_is (given settings) (film_source name slot) buffer startup
+        (film_read settings refl (record { trace = refl; film = refl; slot_is = refl }) good.0 good.1) (pace_read settings refl refl refl some few)
 
 check_read : (viewer : Viewer) (cert : List ℕ) → MayBeViewer viewer → is_good_name cert ≡ true →
     check_given (given (settings_of (check_of viewer cert))) ≡ Some (check_of viewer cert)
@@ -111,7 +114,9 @@ check_read viewer cert may good = by viewer.source viewer.buffer viewer.startup 
     by (film_source name slot) buffer startup named some few =
         let viewer : Viewer = record { source = film_source name slot; buffer = buffer; startup = startup } in
         let settings = settings_of (check_of viewer cert) in
-        let found = viewer_is (given settings) (film_source name slot) buffer startup (film_read settings refl (record { trace = refl; film = refl; slot_is = refl }) named.0 named.1) (pace_read settings refl refl refl some few) in
+        let found = viewer_is (given settings) (film_source name slot) buffer startup
+        (film_read settings refl (record { trace = refl; film = refl; slot_is = refl }) named.0 named.1)
+        (pace_read settings refl refl refl some few) in
         then_is (λ (v : Viewer). option_map (λ (c : List ℕ). check_of v c) (cert_given (given settings))) (viewer_given (given settings)) viewer (Some (check_of viewer cert)) found
         (ap (option_map (λ (c : List ℕ). check_of viewer c)) (name_back cert (values_of (codes "cert") (given settings)) (values_read (codes "cert") settings refl) good))
 
@@ -174,7 +179,8 @@ record PicksListening (settings : List Setting) (listening : Listening) : Type 0
   workers : picked (codes "workers") settings ≡ decimal listening.workers ∷ []
   connections : picked (codes "connections") settings ≡ decimal listening.connections ∷ []
 
-listening_read : {listening : Listening} (settings : List Setting) → are_plain settings ≡ true → PicksListening settings listening → MayListen listening →
+listening_read : {listening : Listening} (settings : List Setting) → are_plain settings ≡ true → PicksListening settings listening →
+    MayListen listening →
     listening_given (given settings) ≡ Some listening
 listening_read {listening} settings plain picks may =
     let port = port_read settings listening.port plain picks.port may.port in

@@ -56,7 +56,8 @@ pub values_of_first : {key : List ℕ} {words : List (String Global)} {i : ℕ} 
     values_of key (texts (take (i + 1) words)) ≡ option_to_list (option_copied found')
 values_of_first {key} {words} {i} {word} {found} given none is =
     values_of_more key words i word given.at
-    ∙ ap (λ (vs : List (List ℕ)). vs ++ option_to_list (setting_value key (string_bytes word))) (given.before ∙ ap option_to_list (none_found found none))
+    ∙ ap (λ (vs : List (List ℕ)). vs ++ option_to_list (setting_value key (string_bytes word)))
+    (given.before ∙ ap option_to_list (none_found found none))
     ∙ ap option_to_list (sym given.says) ∙ ap (λ (o : Option (Bor (List ℕ))). option_to_list (option_copied o)) (sym is)
 
 -- a word that gives no value
@@ -74,7 +75,8 @@ pub values_of_again : {key : List ℕ} {words : List (String Global)} {i : ℕ} 
     IsSearch key words i word found answer → is_some found ≡ true → answer ≡ Some value → 2 ≤ length (values_of key (texts words))
 values_of_again {key} {words} {i} {word} {found} {answer} given some is =
     let grown : length (values_of key (texts (take (i + 1) words))) ≡ length (values_of key (texts (take i words)) ++ option_to_list (option_copied answer)) =
-    ap length (values_of_more key words i word given.at) ∙ ap (λ (o : Option (List ℕ)). length (values_of key (texts (take i words)) ++ option_to_list o)) (sym given.says) in
+    ap length (values_of_more key words i word given.at)
+    ∙ ap (λ (o : Option (List ℕ)). length (values_of key (texts (take i words)) ++ option_to_list o)) (sym given.says) in
     let last : length (option_to_list (option_copied answer)) ≡ 1 = ap (λ (o : Option (Bor (List ℕ))). length (option_to_list (option_copied o))) is in
     let first : length (values_of key (texts (take i words))) ≡ 1 = ap length given.before ∙ some_found found some in
     omega (arith, grown, length-append (values_of key (texts (take i words))) (option_to_list (option_copied answer)), last, first, values_of_front key words (i + 1))

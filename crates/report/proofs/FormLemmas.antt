@@ -43,7 +43,8 @@ grouped-spelled : (before first : List ℕ) (more : List Labelled) → before ++
 grouped-spelled before first [] = refl
 grouped-spelled before first (one ∷ more) =
     grouped-spelled before (first ++ (one.label ++ one.text)) more
-    ∙ ap (λ (l : List ℕ). spelled l more) (sym (append_assoc before first (one.label ++ one.text)) ∙ sym (append_assoc (before ++ first) one.label one.text))
+    ∙ ap (λ (l : List ℕ). spelled l more) (sym (append_assoc before first (one.label ++ one.text))
+    ∙ sym (append_assoc (before ++ first) one.label one.text))
 
 row_spelled : (before : List ℕ) (row : Row) → before ++ words_of row ≡ spelled_row before row
 row_spelled before row =
@@ -75,7 +76,8 @@ asked_play slot plan = record {
 pub has_form : (place seat : ℕ) (command : Command) (answer : Answer) → IsOfKind command answer →
     HasForm place seat (decimal place ++ field (codes " seat=") seat ++ command_words command ++ answer_words answer ++ codes "\n") command answer
 has_form place seat (Play slot plan) (Admitted start) kind =
-    line_spelled (decimal place) (labelled (codes " seat=") seat) (asked_play slot plan) (record { first = labelled (codes " admitted start=") start; more = [] })
+    line_spelled (decimal place) (labelled (codes " seat=") seat) (asked_play slot plan)
+    (record { first = labelled (codes " admitted start=") start; more = [] })
 has_form place seat (Play slot plan) (Overflow over booked asked) kind =
     line_spelled (decimal place) (labelled (codes " seat=") seat) (asked_play slot plan)
     (record { first = labelled (codes " overflow slot=") over; more = labelled (codes " booked=") booked ∷ labelled (codes " asked=") asked ∷ [] })

@@ -115,7 +115,8 @@ same_words {s} {b} {t} {c} small few small' few' e =
     let rest : decimal s ++ 32 ∷ (codes "booked=" ++ decimal b) ≡ decimal t ++ 32 ∷ (codes "booked=" ++ decimal c) =
     append_cancel_left (codes "at ") (decimal s ++ 32 ∷ (codes "booked=" ++ decimal b)) (decimal t ++ 32 ∷ (codes "booked=" ++ decimal c)) (sym (shape s b) ∙ e ∙ shape t c) in
     let no_space : (n : ℕ) → n < 2 ^ 64 → All (λ b. b ≢ 32) (decimal n) = λ (n : ℕ) small. not_in_decimal 32 n small (λ within. omega (arith, within.0)) in
-    let parts = same_cut {ws = codes "booked=" ++ decimal b} {bs = codes "booked=" ++ decimal c} 32 (decimal s) (decimal t) rest (no_space s small) (no_space t small') in
+    let parts = same_cut {ws = codes "booked=" ++ decimal b} {bs = codes "booked=" ++ decimal c} 32 (decimal s) (decimal t) rest
+    (no_space s small) (no_space t small') in
     (decimal_injective s t small small' parts.0, decimal_injective b c few few' (append_cancel_left (codes "booked=") (decimal b) (decimal c) parts.1))
 
 -- a line that tells of this slot tells its booked bytes, above 0, and the slot isn't before now

@@ -56,4 +56,5 @@ play_is wish session =
 
 pub teardown_is : (wish : Wish) (session : List ℕ) → teardown_text wish session ≡ request_text (teardown_parts wish session)
 teardown_is wish session =
-    put_in_row (codes "TEARDOWN ") (teardown_rest wish session) ∙ sym (request_spelled (codes "TEARDOWN") (film_url wish) (teardown_parts wish session).fields)
+    put_in_row (codes "TEARDOWN ") (teardown_rest wish session)
+    ∙ sym (request_spelled (codes "TEARDOWN") (film_url wish) (teardown_parts wish session).fields)

@@ -64,7 +64,8 @@ round-slot {wish} {h} {c} {slot} {s} waits later = record {
   keeps = record {
     replies_are = later.replies ∙ waits.keeps.replies_are;
     session_is = later.session ∙ waits.keeps.session_is;
-    state = subst (λ w. KeepsState wish (Slot slot (cut_bytes c.input) ∷ h) w) (sym (later.watching ∙ ap (after_slot wish c.watching slot) waits.cut_is))
+    state = subst (λ w. KeepsState wish (Slot slot (cut_bytes c.input) ∷ h) w)
+        (sym (later.watching ∙ ap (after_slot wish c.watching slot) waits.cut_is))
         (keeps-slot waits.keeps.state (record { slot_lasts = waits.slot_lasts; picture_lasts = timed-from c.watching.source waits.picture_lasts }));
   };
   idle = subst (λ i. IsFirst i (Ok More)) (sym later.input) waits.idle;

@@ -84,7 +84,8 @@ frame-taken : {wish : Wish} {h : History} {c mid : Client} {b : List ℕ} {next 
 frame-taken {b} taken = frame-good b taken.keeps taken.next_is
 
 -- the client after the frame
-keeps-taken : {wish : Wish} {h : History} {c mid : Client} {b : List ℕ} {next : Source} → TakenFrame wish h c mid b next → Keeps wish (Frame b ∷ h) mid
+keeps-taken : {wish : Wish} {h : History} {c mid : Client} {b : List ℕ} {next : Source} → TakenFrame wish h c mid b next
+    → Keeps wish (Frame b ∷ h) mid
 keeps-taken {wish} {h} {b} taken = record {
   replies_are = taken.replies ∙ taken.keeps.replies_are;
   session_is = taken.session ∙ taken.keeps.session_is;
@@ -102,10 +103,12 @@ frame-done {wish} {h} {mid} {b} {out} {new_out} told taken open_ handed =
     (sight-handed told out new_out (drop 20 b) handed
     ∙ ap (λ a. sight_more (sight told out) a (drop 20 b)) (sym (cond-false (is_complete (Frame b ∷ h)) (teardown_text wish (session h)) [] unmet)))
 
-request-last : {wish : Wish} {h : History} {c mid : Client} {b : List ℕ} {next : Source} → TakenFrame wish h c mid b next → has_all mid.watching ≡ true
+request-last : {wish : Wish} {h : History} {c mid : Client} {b : List ℕ} {next : Source} → TakenFrame wish h c mid b next
+    → has_all mid.watching ≡ true
     → request_after wish h (Frame b) ≡ teardown_text wish c.session.items
 request-last {wish} {h} {mid} {b} taken all =
-    cond-true (is_complete (Frame b ∷ h)) (teardown_text wish (session h)) [] (sym (complete-is wish (Frame b ∷ h) mid.watching (keeps-taken taken).state) ∙ all)
+    cond-true (is_complete (Frame b ∷ h)) (teardown_text wish (session h)) []
+    (sym (complete-is wish (Frame b ∷ h) mid.watching (keeps-taken taken).state) ∙ all)
     ∙ ap (teardown_text wish) (sym taken.keeps.session_is)
 
 -- all units are whole, and TEARDOWN was sent

@@ -141,7 +141,8 @@ some-unless false o = refl
 
 good-in : {wish : Wish} {h : History} {s : State} (play : Option Play) (b : List ℕ) → IsPlayOf play h → KeepsState wish h s
     → is_good_frame h b ≡ is_some (source_played play s b)
-good-in {h} None b is k = ap (λ c. c && (not (is_complete h) && (is_ok (head_of (drop 4 b)) && cond (frames h == 0) (is_first_good h b) (is_next_good h b)))) is
+good-in {h} None b is k = ap (λ c. c && (not (is_complete h) &&
+    (is_ok (head_of (drop 4 b)) && cond (frames h == 0) (is_first_good h b) (is_next_good h b)))) is
 good-in {wish} {h} {s} (Some play) b is k =
     let all : has_all s ≡ is_complete h = complete-is wish h s k in
     ap (λ c. c && (not (is_complete h) && (is_ok (head_of (drop 4 b)) && cond (frames h == 0) (is_first_good h b) (is_next_good h b)))) is.playing

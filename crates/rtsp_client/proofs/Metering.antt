@@ -54,12 +54,14 @@ used-sum {p} wish j unit (size ∷ sizes) lasts =
     elim (cases_lt unit c) [
       | inl few ↦
           let one : c - unit ≡ suc (c - (unit + 1)) = omega (arith, few) in
-          let used = cond-true (nat_lt (use_slot wish p unit) j) size 0 (lt-ltb (use_slot wish p unit) j (used-early wish.startup j unit lasts few)) in
+          let used = cond-true (nat_lt (use_slot wish p unit) j) size 0
+          (lt-ltb (use_slot wish p unit) j (used-early wish.startup j unit lasts few)) in
           omega (arith, used, rest, ap (λ n. sum (take n (size ∷ sizes))) one, sum-cons size (take (c - (unit + 1)) sizes))
       | inr many ↦
           let none : c - unit ≡ 0 = omega (arith, many) in
           let after : c - (unit + 1) ≡ 0 = omega (arith, many) in
-          let unused = cond-false (nat_lt (use_slot wish p unit) j) size 0 (le-ltb (use_slot wish p unit) j (used-late wish.startup j unit lasts many)) in
+          let unused = cond-false (nat_lt (use_slot wish p unit) j) size 0
+          (le-ltb (use_slot wish p unit) j (used-late wish.startup j unit lasts many)) in
           omega (arith, unused, rest, ap (λ n. sum (take n (size ∷ sizes))) none, ap (λ n. sum (take n sizes)) after)
     ]
 
@@ -107,7 +109,8 @@ pub record HasDurations (wish : Wish) (source : Option Source) : Type 0 where
   pub slot_lasts : 0 < wish.slot_units
   pub picture_lasts : (src : Source) → source ≡ Some src → 0 < src.picture_units
 
-played-in : {source : Option Source} {ends : List ℕ} (wish : Wish) (h : History) (j : ℕ) → HasDurations wish source → IsSourceOf source h → AreSumsOf ends (sizes h)
+played-in : {source : Option Source} {ends : List ℕ} (wish : Wish) (h : History) (j : ℕ) → HasDurations wish source → IsSourceOf source h
+    → AreSumsOf ends (sizes h)
     → played_of wish source ends j ≡ played_before wish h j
 played-in {source = None} wish h j lasts is are = sym (ap (used_before wish (time h) j 0) (no-units h is))
 played-in {source = Some source} {ends} wish h j lasts is are =
@@ -115,7 +118,8 @@ played-in {source = Some source} {ends} wish h j lasts is are =
     let t : time h ≡ p = cond-false (frames h == 0) 0 (time_in (first_frame h)) (ne_eqb (frames h) 0 (λ none. absurd (omega (arith, is.some, none)))) ∙ sym is.time_is in
     ends-sum ends (sizes h) (div_ceil ((j - wish.startup) * wish.slot_units) p) are
     ∙ (ap (λ n. sum (take n (sizes h))) (less-none (div_ceil ((j - wish.startup) * wish.slot_units) p))
-    ∙ (sym (used-sum wish j 0 (sizes h) (record { slot_lasts = lasts.slot_lasts; picture_lasts = lasts.picture_lasts source refl })) ∙ sym (ap (λ n. used_before wish n j 0 (sizes h)) t)))
+    ∙ (sym (used-sum wish j 0 (sizes h) (record { slot_lasts = lasts.slot_lasts; picture_lasts = lasts.picture_lasts source refl }))
+    ∙ sym (ap (λ n. used_before wish n j 0 (sizes h)) t)))
 
 time-in : (h : History) (source : Option Source) → IsSourceOf source h → time_of source ≡ time h
 time-in h None is = sym (cond-true (frames h == 0) 0 (time_in (first_frame h)) (eq-eqb (frames h) 0 is))
@@ -236,7 +240,8 @@ keeps-later {wish} {h} {s} {t} {cut} (Some play) k lasts later is =
           (slot-with k (omega (arith, later)) (read-at t cut k lasts reads)))
     ]
 
-pub keeps-slot : {wish : Wish} {h : History} {s : State} {t cut : ℕ} → KeepsState wish h s → HasDurations wish s.source → KeepsState wish (Slot t cut ∷ h) (after_slot wish s t cut)
+pub keeps-slot : {wish : Wish} {h : History} {s : State} {t cut : ℕ} → KeepsState wish h s → HasDurations wish s.source
+    → KeepsState wish (Slot t cut ∷ h) (after_slot wish s t cut)
 keeps-slot {wish} {h} {s} {t} {cut} k lasts =
     let P : State → Type 0 = λ x. KeepsState wish (Slot t cut ∷ h) x in
     elim (cases_lt (last_slot h) t) [

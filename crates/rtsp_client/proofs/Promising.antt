@@ -137,7 +137,13 @@ read-quiet {r = true} {wish} {all} {p} {h} {slot} {cut} lasts units_some quiet i
           ∙ (ap (λ b. cond (true && b) (count_over wish h + 1) (count_over wish h)) not_over ∙ quiet.over_none);
       under_none = ap (λ r. cond (r && lacks_picture wish h (place_in h slot)) (count_under wish h + 1) (count_under wish h)) is
           ∙ (ap (λ b. cond (true && b) (count_under wish h + 1) (count_under wish h)) not_under ∙ quiet.under_none);
-      most_fits = omega (arith, ap (λ r. cond r (max (most_waiting wish h) (bytes_waiting wish h slot cut)) (most_waiting wish h)) is, quiet.most_fits, holds);
+      most_fits = omega (
+        arith,
+        ap (λ r. cond r (max (most_waiting wish h) (bytes_waiting wish h slot cut))
+            (most_waiting wish h)) is,
+        quiet.most_fits,
+        holds,
+      );
     }
 
 pub quiet-always : {p : ℕ} (wish : Wish) (all : List ℕ) (h : History) → Durations wish.slot_units p → 0 < length all

@@ -177,8 +177,14 @@ play-done {wish} {h} {m} {s} reply two same state =
     let k = reply.keeps in
     let one : replies h ≡ 1 = sym k.replies_are ∙ reply.second in
     let later : (replies h == 0) ≡ false = ne_eqb (replies h) 0 (λ none. absurd (omega (arith, none, one))) in
-    passed-one
-    ((orderly k reply.awaited, fields-second h m one ∙ (ap (λ o. is_some o && is_some (play_start m)) reply.range_is ∙ ap is_some reply.start_is)), omega (arith, one))
+    passed-one (
+      (
+        orderly k reply.awaited,
+        fields-second h m one ∙ (ap (λ o. is_some o && is_some (play_start m)) reply.range_is
+            ∙ ap is_some reply.start_is),
+      ),
+      omega (arith, one),
+    )
     (record {
       replies_are = two ∙ ap (λ n. n + 1) (sym one);
       session_is = same ∙ (k.session_is ∙ sym (cond-false (replies h == 0) (unwrap_or (session_in m) []) (session h) later));

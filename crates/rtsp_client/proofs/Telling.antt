@@ -36,7 +36,8 @@ whole-received [] = omega arith
 whole-received (Reply m ∷ h) = whole-received h
 whole-received (Frame b ∷ h) = frame-received (is_last b) (sizes h) (bytes_pending h) (length b) (bytes_received h) (whole-received h)
 whole-received (Report b ∷ h) =
-    report-received (is_playing h) (not (is_inside h)) (record { whole = sum (sizes h); pending = bytes_pending h; came = bytes_received h }) (length b) (whole-received h)
+    report-received (is_playing h) (not (is_inside h)) (record { whole = sum (sizes h); pending = bytes_pending h; came = bytes_received h })
+    (length b) (whole-received h)
 whole-received (Slot slot cut ∷ h) = whole-received h
 
 -- what is used is among all
@@ -101,7 +102,8 @@ pub record HasNoCounts (wish : Wish) (h : History) : Type 0 where
   pub over : count_over wish h ≡ 0
   pub under : count_under wish h ≡ 0
 
-pub between-always : {p : ℕ} (wish : Wish) (all : List ℕ) (h : History) → Durations wish.slot_units p → IsHeardAlways wish all p h → HasNoCounts wish h
+pub between-always : {p : ℕ} (wish : Wish) (all : List ℕ) (h : History) → Durations wish.slot_units p → IsHeardAlways wish all p h
+    → HasNoCounts wish h
     → IsBetweenAlways wish all p h
 between-always wish all [] lasts heard none = tt
 between-always wish all (Reply m ∷ h) lasts heard none = between-always wish all h lasts heard (record { over = none.over; under = none.under })
@@ -137,4 +139,5 @@ most_waiting-tells wish [] = ((λ fits. refl), (λ none. omega arith))
 most_waiting-tells wish (Reply m ∷ h) = most_waiting-tells wish h
 most_waiting-tells wish (Frame b ∷ h) = most_waiting-tells wish h
 most_waiting-tells wish (Report b ∷ h) = most_waiting-tells wish h
-most_waiting-tells wish (Slot slot cut ∷ h) = most_waiting-step (is_read h slot) (most_waiting wish h) (bytes_waiting wish h slot cut) (count_over wish h) wish.buffer (most_waiting-tells wish h)
+most_waiting-tells wish (Slot slot cut ∷ h) = most_waiting-step (is_read h slot) (most_waiting wish h) (bytes_waiting wish h slot cut)
+    (count_over wish h) wish.buffer (most_waiting-tells wish h)

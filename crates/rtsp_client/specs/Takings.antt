@@ -28,7 +28,10 @@ sight told out = record { told = told; out = out }
 
 -- these bytes were sent, and these handed on
 abbrev pub sight_more : Sight → List ℕ → List ℕ → Sight
-sight_more old sent out = record { told = told_more old.told (sends sent); out = told_more old.out out }
+sight_more old sent out = record {
+  told = told_more old.told (sends sent);
+  out = told_more old.out out;
+}
 
 -- moments were taken up, and the watching goes on
 pub record HasPassed (wish : Wish) (h : History) (moments : List Moment) (new : Client)

@@ -53,7 +53,14 @@ rtsp_is_read url bytes u =
 read_is_rtsp : (url : List ℕ) (path : ℕ) → IsAbsoluteUrl url path → IsRtspUrl url
 read_is_rtsp url path u =
     let rest : length (drop 7 url) ≡ length url - 7 = length-drop 7 url in
-    rtsp_url url (take 7 url) (drop 7 url) (sym (take-append-drop 7 url)) (record { scheme_is = sym (take-map to_ascii_lowercase 7 url) ∙ u.scheme; some = omega (arith, rest, u.authority, u.end.within); no_slash = λ slash. u.end.none 7 (omega arith) u.authority (sym (get_or-drop 7 url 0 0) ∙ slash) })
+    rtsp_url url (take 7 url) (drop 7 url) (sym (take-append-drop 7 url))
+    (record {
+      scheme_is = sym (take-map to_ascii_lowercase 7 url)
+          ∙ u.scheme;
+      some = omega (arith, rest, u.authority, u.end.within);
+      no_slash = λ slash. u.end.none 7 (omega arith) u.authority
+          (sym (get_or-drop 7 url 0 0) ∙ slash);
+    })
 
 -- `*` is no absolute URL
 star_is_none : (url : List ℕ) (path : ℕ) → IsAbsoluteUrl url path → url ≢ codes "*"

@@ -79,8 +79,10 @@ clock_of {h} {m} {s} {a} {b} {c} digits =
     record {
       first = length h;
       second = length h + 1 + length m;
-      hours_end = subst (λ (n : ℕ). IsEnd 58 text 0 n) (let e : 0 + length h ≡ length h = omega arith in e) (digits_end [] h (m ++ 58 ∷ s) (digits_of 5 h a digits.hours));
-      minutes_end = subst (λ (n : ℕ). E text n) front_long (subst (λ (t : List ℕ). E t (length front)) split (digits_end front m s (digits_of 2 m b digits.minutes)));
+      hours_end = subst (λ (n : ℕ). IsEnd 58 text 0 n) (let e : 0 + length h ≡ length h = omega arith in e)
+          (digits_end [] h (m ++ 58 ∷ s) (digits_of 5 h a digits.hours));
+      minutes_end = subst (λ (n : ℕ). E text n) front_long
+          (subst (λ (t : List ℕ). E t (length front)) split (digits_end front m s (digits_of 2 m b digits.minutes)));
       inside = omega (arith, long);
       hours = a;
       minutes = b;

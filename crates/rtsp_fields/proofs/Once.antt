@@ -135,7 +135,8 @@ channels_once text a b (inr x) (inr y) =
 
 has_once : (text : List ℕ) (a b : Channels) → HasChannels text a → HasChannels text b → a ≡ b
 has_once text a b (inl x) (inl y) =
-    let same = first_once NamesChannels (record { piece = x.piece; holds = x.names; first = x.first }) (record { piece = y.piece; holds = y.names; first = y.first }) in
+    let same = first_once NamesChannels (record { piece = x.piece; holds = x.names; first = x.first })
+    (record { piece = y.piece; holds = y.names; first = y.first }) in
     let P : ℕ → Type 0 = λ n. AreChannels (after_name (without_blanks (slice_range text n x.to))) a in
     let Q : ℕ → Type 0 = λ n. AreChannels (after_name (without_blanks (slice_range text y.from n))) a in
     channels_once (after_name (without_blanks (slice_range text y.from y.to))) a b (subst Q same.1 (subst P same.0 x.are)) y.are
@@ -145,7 +146,8 @@ has_once text a b (inr x) (inr y) = same_channels a b (x.media ∙ sym y.media) 
 
 pub transport_once : (value : List ℕ) (a b : Channels) → IsTransport value a → IsTransport value b → a ≡ b
 transport_once value a b x y =
-    let same = first_once CanBeTaken (record { piece = x.piece; holds = (a, x.taken); first = x.first }) (record { piece = y.piece; holds = (b, y.taken); first = y.first }) in
+    let same = first_once CanBeTaken (record { piece = x.piece; holds = (a, x.taken); first = x.first })
+    (record { piece = y.piece; holds = (b, y.taken); first = y.first }) in
     let P : ℕ → Type 0 = λ n. IsTaken (slice_range value n x.to) a in
     let Q : ℕ → Type 0 = λ n. IsTaken (slice_range value y.from n) a in
     has_once (slice_range value y.from y.to) a b (subst Q same.1 (subst P same.0 x.taken)).has y.taken.has

@@ -48,7 +48,8 @@ pub named_channels : {text : List ℕ} {from to : ℕ} (o : Option Channels) →
     MatchOption o ((channels : Channels) → ¬ HasChannels text channels) (HasChannels text)
 named_channels {text} {from} {to} None piece names first h = λ channels has. elim has [
   | inl named ↦
-      let same = first_once NamesChannels (record { piece = named.piece; holds = named.names; first = named.first }) (record { piece = piece; holds = names; first = first }) in
+      let same = first_once NamesChannels (record { piece = named.piece; holds = named.names; first = named.first })
+      (record { piece = piece; holds = names; first = first }) in
       let P : ℕ → Type 0 = λ n. AreChannels (after_name (without_blanks (slice_range text n named.to))) channels in
       let Q : ℕ → Type 0 = λ n. AreChannels (after_name (without_blanks (slice_range text from n))) channels in
       h channels (subst Q same.1 (subst P same.0 named.are))

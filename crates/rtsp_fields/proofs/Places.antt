@@ -47,7 +47,8 @@ pub record IsFirstPiece (P : List ℕ → Type 0) (c : ℕ) (text : List ℕ) (a
   pub first : NoneBefore c text a P
 
 -- it is one piece
-pub first_once : {c : ℕ} {text : List ℕ} {a b a' b' : ℕ} (P : List ℕ → Type 0) → IsFirstPiece P c text a b → IsFirstPiece P c text a' b' → (a ≡ a') × (b ≡ b')
+pub first_once : {c : ℕ} {text : List ℕ} {a b a' b' : ℕ} (P : List ℕ → Type 0) → IsFirstPiece P c text a b → IsFirstPiece P c text a' b' →
+    (a ≡ a') × (b ≡ b')
 first_once {c} {text} {a} {b} {a'} {b'} P x y =
     let same : a ≡ a' = elim (cases_order a a') [
       | inl e ↦ e

@@ -79,12 +79,14 @@ seconds_free ms small =
     (number_free (ms % 10) (omega arith))
 
 pub from_read : (ms : ℕ) → ms < 10 ^ 12 → IsSpan (codes "npt=" ++ (seconds_text ms ++ codes "-")) (record { from = At (ms * 1000000); to = None })
-from_read ms small = span_read (seconds_text ms) [] (record { from = At (ms * 1000000); to = None }) (seconds_free ms (omega (arith, small))) (seconds_read ms small) refl
+from_read ms small = span_read (seconds_text ms) [] (record { from = At (ms * 1000000); to = None }) (seconds_free ms (omega (arith, small)))
+    (seconds_read ms small) refl
 
 pub between_read : (ms end_ms : ℕ) → ms < 10 ^ 12 → end_ms < 10 ^ 12 →
     IsSpan (codes "npt=" ++ (seconds_text ms ++ (codes "-" ++ seconds_text end_ms))) (record { from = At (ms * 1000000); to = Some (end_ms * 1000000) })
 between_read ms end_ms small fits =
-    span_read (seconds_text ms) (seconds_text end_ms) (record { from = At (ms * 1000000); to = Some (end_ms * 1000000) }) (seconds_free ms (omega (arith, small))) (seconds_read ms small) (seconds_read end_ms fits)
+    span_read (seconds_text ms) (seconds_text end_ms) (record { from = At (ms * 1000000); to = Some (end_ms * 1000000) })
+    (seconds_free ms (omega (arith, small))) (seconds_read ms small) (seconds_read end_ms fits)
 
 pub now_read : IsSpan (codes "npt=now-") (record { from = Now; to = None })
 unfolding other_than

@@ -45,7 +45,8 @@ none_of {part} P is_other [] one all = none_whole 59 part P one.no_semicolon one
 none_of P is_other (next ∷ more) one all =
     let other = All-head IsOtherParameter next more all in
     none_more P one.no_semicolon one.isnt
-    (none_of P is_other more (record { no_semicolon = no_semicolon next other; isnt = is_other next other }) (All-tail IsOtherParameter next more all))
+    (none_of P is_other more (record { no_semicolon = no_semicolon next other; isnt = is_other next other })
+    (All-tail IsOtherParameter next more all))
 
 first_of : (part : List ℕ) (parts : List (List ℕ)) → HasNone 59 part 0 (length part) → IsPiece 59 (joined part parts) 0 (length part)
 unfolding joined

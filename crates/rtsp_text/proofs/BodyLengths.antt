@@ -156,7 +156,8 @@ scan a (f ∷ fs) all ended none =
               | inl here ↦ other_text (map to_ascii_lowercase f.name) (map to_ascii_lowercase (codes "Content-Length")) (sym other)
                   (other_line a f.name f.value rest (token_without 58 refl f.name plain.name_is)
                   (subst (λ n. IsLengthLine (line_bytes a f.name f.value rest) n) here (subst (λ (v : List ℕ). IsLengthLine v k) (sym spelled) line_w)))
-              | inr past ↦ inner_line a (text_of f) rest (text_line f plain).one_line (record { after = omega (arith, from, past); below = omega (arith, below, size) })
+              | inr past ↦ inner_line a (text_of f) rest (text_line f plain).one_line
+                  (record { after = omega (arith, from, past); below = omega (arith, below, size) })
                   (subst (λ (v : List ℕ). IsLengthLine v k) (sym shape) line_w)
             ]
           ] in
@@ -186,5 +187,7 @@ body_length_of s fields one all =
     get_or-append_right s (codes "\r\n") (length s) (length a - 1) 0 refl (omega (arith, size))
     ∙ ap (λ k. get_or (codes "\r\n") k 0) (let k : length a - 1 - length s ≡ 1 = omega (arith, size) in k) in
     let none : (k : ℕ) → k < length a → ¬ IsLengthLine (a ++ rest) k = λ k below line.
-    inner_line [] s rest one.one_line (record { after = line.after; below = omega (arith, below, size) }) (subst (λ (v : List ℕ). IsLengthLine v k) (append_assoc s (codes "\r\n") rest) line) in
-    subst (λ (v : List ℕ). IsBodyLength v (length_given (value_named (codes "Content-Length") fields))) moved (scan a fields all (record { some = omega (arith, size); feed = last }) none)
+    inner_line [] s rest one.one_line (record { after = line.after; below = omega (arith, below, size) })
+    (subst (λ (v : List ℕ). IsLengthLine v k) (append_assoc s (codes "\r\n") rest) line) in
+    subst (λ (v : List ℕ). IsBodyLength v (length_given (value_named (codes "Content-Length") fields))) moved
+    (scan a fields all (record { some = omega (arith, size); feed = last }) none)

@@ -135,7 +135,8 @@ head_found {first} {headers} {last} later lines =
     let at = walk a headers rest lines.headers_are start in
     let n = length a + length fields in
     let size : n ≡ length (a ++ fields) = sym (length-append a fields) in
-    let no_text : length (a ++ fields) + length last.text ≡ length (a ++ fields) = ap (λ (t : List ℕ). length (a ++ fields) + length t) lines.last_is.none ∙ omega arith in
+    let no_text : length (a ++ fields) + length last.text ≡ length (a ++ fields) =
+    ap (λ (t : List ℕ). length (a ++ fields) + length t) lines.last_is.none ∙ omega arith in
     let there : IsLine ((a ++ fields) ++ rest) (length (a ++ fields)) (length (a ++ fields) + length last.text) (length (a ++ fields) + length (line_bytes last)) =
     here (a ++ fields) last later lines.last_is.is_ended in
     let line : IsLine w (length (a ++ fields)) (length (a ++ fields)) (length (a ++ fields) + length (line_bytes last)) =

@@ -100,7 +100,8 @@ first_unnamed texts number f = record {
 }
 
 -- what a fault says of the lines
-wrong : {first : List ℕ} {texts : List (List ℕ)} (message : List ℕ) (fault : RequestFault) → first_line message ≡ first → header_lines message ≡ texts → IsFault message fault → IsWrong first texts fault
+wrong : {first : List ℕ} {texts : List (List ℕ)} (message : List ℕ) (fault : RequestFault) → first_line message ≡ first →
+    header_lines message ≡ texts → IsFault message fault → IsWrong first texts fault
 wrong {first} {texts} message fault line_is texts_are is = go fault is
   where
     line : (version : List ℕ) → HasVersion message version → IsLineOf version first
@@ -133,12 +134,14 @@ pub fault_wrong : (message first : List ℕ) (texts : List (List ℕ)) (fault : 
 fault_wrong message first texts fault has is = wrong message fault (first_is message first texts has) (headers_are message first texts has) is
 
 -- the sequence number of a request, and its length
-pub sequence_written : {message first : List ℕ} {texts : List (List ℕ)} {method url : List ℕ} {sequence : ℕ} {head body : List ℕ} → HasLines message first texts → IsRequest message method url sequence head body →
+pub sequence_written : {message first : List ℕ} {texts : List (List ℕ)} {method url : List ℕ} {sequence : ℕ} {head body : List ℕ} →
+    HasLines message first texts → IsRequest message method url sequence head body →
     Writes (codes "CSeq") texts sequence
 sequence_written {message} {first} {texts} {sequence} has request =
     writes (codes "CSeq") texts sequence (ap (λ ls. option_and_then number_of (first_value (codes "CSeq") ls)) (sym (headers_are message first texts has)) ∙ request.sequence_is)
 
-pub length_digits : {message first : List ℕ} {texts : List (List ℕ)} {method url : List ℕ} {sequence : ℕ} {head body value : List ℕ} → HasLines message first texts → IsRequest message method url sequence head body →
+pub length_digits : {message first : List ℕ} {texts : List (List ℕ)} {method url : List ℕ} {sequence : ℕ} {head body value : List ℕ} →
+    HasLines message first texts → IsRequest message method url sequence head body →
     IsFirstField (codes "Content-Length") texts value → is_decimal value ≡ true
 length_digits {message} {first} {texts} {value} has request field =
     let found : header_value message (codes "Content-Length") ≡ Some value =

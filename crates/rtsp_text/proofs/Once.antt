@@ -60,7 +60,8 @@ fault_once message BadLength NoSequenceNumber a b = absurd (none-some a.2.0 (sym
 fault_once message BadLength BadLength a b = refl
 
 -- a request has no fault
-pub no_fault : {message method url : List ℕ} {sequence : ℕ} {head body : List ℕ} (f : RequestFault) → IsRequest message method url sequence head body → IsFault message f → ⊥
+pub no_fault : {message method url : List ℕ} {sequence : ℕ} {head body : List ℕ} (f : RequestFault) →
+    IsRequest message method url sequence head body → IsFault message f → ⊥
 no_fault {method} {url} BadLine r f = f (codes "RTSP/1.0") (method, (url, r.line))
 no_fault {message} {method} {url} BadVersion r f = f.1.1 (version_once message f.0 (codes "RTSP/1.0") f.1.0 (method, (url, r.line)))
 no_fault {message} (BadHeader n) r f = no_bad (header_lines message) n r.headers f.1
@@ -75,7 +76,8 @@ pub record AreSameParts (m u : List ℕ) (s : ℕ) (h b m' u' : List ℕ) (s' : 
   pub head_is : h ≡ h'
   pub body_is : b ≡ b'
 
-pub request_once : {message m u : List ℕ} {s : ℕ} {h b m' u' : List ℕ} {s' : ℕ} {h' b' : List ℕ} → IsRequest message m u s h b → IsRequest message m' u' s' h' b' →
+pub request_once : {message m u : List ℕ} {s : ℕ} {h b m' u' : List ℕ} {s' : ℕ} {h' b' : List ℕ} → IsRequest message m u s h b →
+    IsRequest message m' u' s' h' b' →
     AreSameParts m u s h b m' u' s' h' b'
 request_once {message} {s} {h} {b} {s'} {h'} {b'} x y =
     let line = line_once x.line y.line in

@@ -148,7 +148,8 @@ values_named name (f ∷ fs) all =
     let cut = field_cut f plain in
     elim (cases_Bool (str_eq_ignore_ascii_case f.name name)) [
       | inl same ↦
-          first_value_some name (text_of f) (map text_of (f ∷ fs)) (map text_of fs) refl (value_some name (text_of f) f.name (32 ∷ f.value) cut same ∙ ap Some plain.bare)
+          first_value_some name (text_of f) (map text_of (f ∷ fs)) (map text_of fs) refl
+          (value_some name (text_of f) f.name (32 ∷ f.value) cut same ∙ ap Some plain.bare)
           ∙ sym (cond-true (str_eq_ignore_ascii_case f.name name) (Some f.value) (value_named name fs) same)
       | inr other ↦
           first_value_more name (text_of f) (map text_of (f ∷ fs)) (map text_of fs) refl (value_other name (text_of f) f.name (32 ∷ f.value) cut other)
@@ -399,7 +400,8 @@ pub record ReplyParts : Type 0 where
   pub body : List ℕ
 
 -- a reply that was written is read back
-pub read_back : {message : List ℕ} (parts : ReplyParts) → IsRequestLength message (length message) → is_code parts.code ≡ true → All IsPlain (all_fields parts.sequence parts.fields) →
+pub read_back : {message : List ℕ} (parts : ReplyParts) → IsRequestLength message (length message) → is_code parts.code ≡ true →
+    All IsPlain (all_fields parts.sequence parts.fields) →
     message ≡ reply_text parts.code parts.sequence parts.fields parts.body → IsReadBack message parts.code parts.sequence parts.fields parts.body
 unfolding reply_text
 read_back {message} parts whole is plain text =

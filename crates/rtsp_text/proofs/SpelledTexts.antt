@@ -171,7 +171,8 @@ request_whole parts sequence request short =
     let long : List ℕ → Type 0 = λ f. length (f ++ codes "\r\n") ≤ 16384 in
     subst (λ (f : List ℕ). IsRequestLength ((f ++ codes "\r\n") ++ parts.body) (length ((f ++ codes "\r\n") ++ parts.body))) (sym (front_of parts))
     (whole_message parts.fields parts.body (line_text parts front) (plain_fields parts.fields front.fields_are)
-    (given_is (value_named (codes "Content-Length") parts.fields) parts.body request.length_is) (record { head_is = subst long (front_of parts) short.head_is; body_is = short.body_is }))
+    (given_is (value_named (codes "Content-Length") parts.fields) parts.body request.length_is)
+    (record { head_is = subst long (front_of parts) short.head_is; body_is = short.body_is }))
 
 -- a method begins a request
 byte_begins : (c : ℕ) → is_token_byte c ≡ true → (is_line_end c ≡ false) × ((c == 36) ≡ false)
@@ -243,7 +244,8 @@ body_refused parts later front long short =
 
 -- a reply whose Content-Length gives its body's length is whole by itself
 pub reply_whole : (parts : ReplyParts) → is_code parts.code ≡ true → All IsPlain (all_fields parts.sequence parts.fields) →
-    HasGivenLength (all_fields parts.sequence parts.fields) parts.body → length (reply_front parts.code parts.sequence parts.fields ++ codes "\r\n") ≤ 16384 →
+    HasGivenLength (all_fields parts.sequence parts.fields) parts.body →
+    length (reply_front parts.code parts.sequence parts.fields ++ codes "\r\n") ≤ 16384 →
     length parts.body ≤ 65536 → IsRequestLength (reply_text parts.code parts.sequence parts.fields parts.body) (length (reply_text parts.code parts.sequence parts.fields parts.body))
 unfolding reply_text
 reply_whole parts is plain given short small =
@@ -251,12 +253,14 @@ reply_whole parts is plain given short small =
     let long : List ℕ → Type 0 = λ f. length (f ++ codes "\r\n") ≤ 16384 in
     subst (λ (f : List ℕ). IsRequestLength ((f ++ codes "\r\n") ++ body) (length ((f ++ codes "\r\n") ++ body))) (sym lines_are)
     (whole_message (all_fields sequence fields) body (status_text-line code (status_of code is)) plain
-    (given_is (value_named (codes "Content-Length") (all_fields sequence fields)) body given) (record { head_is = subst long lines_are short; body_is = small }))
+    (given_is (value_named (codes "Content-Length") (all_fields sequence fields)) body given)
+    (record { head_is = subst long lines_are short; body_is = small }))
   where
     open parts use {code, sequence, fields, body}
 
 -- what is read as a request has a request's form
-pub form_of : {message method url : List ℕ} {sequence : ℕ} {head body : List ℕ} → IsRequest message method url sequence head body → HasForm message method url head body
+pub form_of : {message method url : List ℕ} {sequence : ℕ} {head body : List ℕ} → IsRequest message method url sequence head body →
+    HasForm message method url head body
 form_of {message} {method} {url} request =
     let line : first_line message ≡ method ++ codes " " ++ url ++ codes " RTSP/1.0" =
     request.line.parts ∙ sym (append_assoc (method ++ codes " ") url (codes " RTSP/1.0") ∙ append_assoc method (codes " ") (url ++ codes " RTSP/1.0")) in

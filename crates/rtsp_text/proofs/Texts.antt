@@ -13,7 +13,8 @@ pub front_start : (code : ℕ) (sequence : Option ℕ) (old new : List ℕ) → 
 unfolding reply_front
 front_start code sequence old new h none = h ∙ ap (λ t. t ++ (status_line code ++ sequence_line sequence)) none ∙ sym (append-nil (status_line code ++ sequence_line sequence))
 
-pub front_field : {old new : List ℕ} (code : ℕ) (sequence : Option ℕ) (fields : List Field) (field : Field) → new ≡ old ++ field_line field → old ≡ reply_front code sequence fields →
+pub front_field : {old new : List ℕ} (code : ℕ) (sequence : Option ℕ) (fields : List Field) (field : Field) → new ≡ old ++ field_line field →
+    old ≡ reply_front code sequence fields →
     new ≡ reply_front code sequence (fields ++ field ∷ [])
 unfolding reply_front
 front_field code sequence fields field h is =

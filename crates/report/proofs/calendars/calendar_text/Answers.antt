@@ -36,4 +36,5 @@ returns c =
     let slots = flat_map (slot_line (booked_at calendar)) (booked_slots calendar.first (booked_at calendar)) in
     let words = ap (λ n. first_words n ++ codes "\n" ++ slots ++ codes "end\n") c.now.ensures.value in
     let head = both _ first (codes "\n") c.in_ok-push_field.ensures.whole c.in_ok-push.ensures.whole in
-    appended_as words (then_appended (first ++ codes "\n" ++ slots) (both _ (first ++ codes "\n") slots head c.in_ok-push_slots.ensures.whole) c.push-2.ensures)
+    appended_as words (then_appended (first ++ codes "\n" ++ slots)
+    (both _ (first ++ codes "\n") slots head c.in_ok-push_slots.ensures.whole) c.push-2.ensures)

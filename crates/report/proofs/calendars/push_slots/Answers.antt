@@ -20,7 +20,8 @@ returns-in_err-push_slot c =
     let place : slot ≡ first + k = omega (arith, c.now-now.ensures.value, c.loop-slot.auto.slot) in
     let among : IsAmong first ring_slots k slot = record { is = place; inside = inside } in
     let some : 0 < booked_at calendar slot = omega (arith, c.booked_bytes-booked.ensures.value, c.if-is_booked.true) in
-    let words = ap (λ n. before ++ ((slot_words slot n ++ codes "\n") ++ after)) c.booked_bytes-booked.ensures.value ∙ lines-around (booked_at calendar) among some in
+    let words = ap (λ n. before ++ ((slot_words slot n ++ codes "\n") ++ after)) c.booked_bytes-booked.ensures.value
+    ∙ lines-around (booked_at calendar) among some in
     handed_on c.from_residual.result c.from_residual.ensures.0 (appended_as words (then_appended before c.loop-slot.invariant (cut_before after c.in_err-push_slot.ensures)))
 
 pub loop-slot-preserved : goal.loop-slot-preserved

@@ -14,7 +14,12 @@ returns-then-is_scheme c =
     let back = c.split_at.ensures.back in
     let parts : url ≡ scheme ++ rest = sym (take-append-drop 7 url) ∙ ap (λ l. l ++ drop 7 url) (sym front) ∙ ap (λ l. scheme ++ l) (sym back) in
     let P : List ℕ → Type 0 = λ l. get_or l 0 0 ≢ 47 in (
-      λ h. rtsp_url url scheme rest parts (record { scheme_is = c.is_scheme.ensures.0 c.if-is_scheme.true; some = omega (arith, ap length back, length-drop 7 url); no_slash = is_other (get_or rest 0 0) 47 h }),
+      λ h. rtsp_url url scheme rest parts (record {
+        scheme_is = c.is_scheme.ensures.0 c.if-is_scheme.true;
+        some = omega
+            (arith, ap length back, length-drop 7 url);
+        no_slash = is_other (get_or rest 0 0) 47 h;
+      }),
       λ u. other_is (get_or rest 0 0) 47 (subst P (sym back) (url_parts url u).no_slash),
     )
 

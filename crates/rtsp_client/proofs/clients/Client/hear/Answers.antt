@@ -15,7 +15,8 @@ use Rattle.rtsp_client.proofs.clients.Client.hear.Goals as goal
 
 pub returns-in-End-clause-ended : goal.returns-in-End-clause-ended
 returns-in-End-clause-ended g c = λ h k.
-    subst (λ (x : Heard). HasEnded c.args.wish.now h c.args.self.now.input (doing_of x c.args.bytes.now) (Fault (EndedEarly c.tally-units.result.units))
+    subst (λ (x : Heard). HasEnded c.args.wish.now h c.args.self.now.input (doing_of x c.args.bytes.now)
+    (Fault (EndedEarly c.tally-units.result.units))
     (sight (g.K.Link.told c.args.link.now) (g.O.Sink.written c.args.out.now)) (sight (g.K.Link.told c.args.link.now) (g.O.Sink.written c.args.out.now)))
     (sym c.in-End.is)
     (ended-peer

@@ -48,13 +48,17 @@ returns-then-not-is_complete-clause-passed g c = λ h k.
     let long : 20 ≤ length (take c.args.length c.waiting.result.now) = search rules in
     let state : c.add_frame.new.self ≡ after_frame c.args.self.now.watching c.in-Some.source c.args.length = search rules in
     let open_ : has_all c.add_frame.new.self ≡ false = search rules in
-    let handed : g.O.Sink.written c.write_all.new.self ≡ told_more (g.O.Sink.written c.args.out.now) (drop 20 (take c.args.length c.waiting.result.now)) =
+    let handed : g.O.Sink.written c.write_all.new.self ≡ told_more (g.O.Sink.written c.args.out.now)
+    (drop 20 (take c.args.length c.waiting.result.now)) =
     c.in_ok-write_all.ensures.whole
-    ∙ ap (λ b. told_more (g.O.Sink.written c.args.out.now) b) (take_all (length (take c.args.length c.waiting.result.now) - 20) (drop 20 (take c.args.length c.waiting.result.now)) (omega (arith, length-drop 20 (take c.args.length c.waiting.result.now)))) in
+    ∙ ap (λ b. told_more (g.O.Sink.written c.args.out.now) b)
+    (take_all (length (take c.args.length c.waiting.result.now) - 20) (drop 20 (take c.args.length c.waiting.result.now))
+    (omega (arith, length-drop 20 (take c.args.length c.waiting.result.now)))) in
     frame-done (g.K.Link.told c.args.link.now)
     (record {
       keeps = k;
-      next_is = ap (λ i. source_with c.args.self.now.watching (take c.args.length i)) (sym c.waiting.ensures) ∙ (sym c.source_with.ensures.source ∙ c.in-Some.is);
+      next_is = ap (λ i. source_with c.args.self.now.watching (take c.args.length i)) (sym c.waiting.ensures)
+          ∙ (sym c.source_with.ensures.source ∙ c.in-Some.is);
       long = subst (λ (i : List ℕ). 20 ≤ length (take c.args.length i)) c.waiting.ensures long;
       replies = refl;
       session = refl;
@@ -68,9 +72,12 @@ returns-in_err-request-clause-ended g c =
     let p = err_from_is_err_and c.from_residual-in_err-request.result c.from_residual-in_err-request.ensures.1 in
     rw (p.1, p.2)
     (λ h k.
-    let handed : g.O.Sink.written c.write_all.new.self ≡ told_more (g.O.Sink.written c.args.out.now) (drop 20 (take c.args.length c.waiting.result.now)) =
+    let handed : g.O.Sink.written c.write_all.new.self ≡ told_more (g.O.Sink.written c.args.out.now)
+    (drop 20 (take c.args.length c.waiting.result.now)) =
     c.in_ok-write_all.ensures.whole
-    ∙ ap (λ b. told_more (g.O.Sink.written c.args.out.now) b) (take_all (length (take c.args.length c.waiting.result.now) - 20) (drop 20 (take c.args.length c.waiting.result.now)) (omega (arith, length-drop 20 (take c.args.length c.waiting.result.now)))) in
+    ∙ ap (λ b. told_more (g.O.Sink.written c.args.out.now) b)
+    (take_all (length (take c.args.length c.waiting.result.now) - 20) (drop 20 (take c.args.length c.waiting.result.now))
+    (omega (arith, length-drop 20 (take c.args.length c.waiting.result.now)))) in
     teardown-starved
     (g.K.Link.told c.args.link.now) k
     (ap (λ i. source_with c.args.self.now.watching (take c.args.length i)) (sym c.waiting.ensures) ∙ (sym c.source_with.ensures.source ∙ c.in-Some.is)) refl
@@ -85,16 +92,20 @@ returns-in_err-send-clause-ended g c =
     let long : 20 ≤ length (take c.args.length c.waiting.result.now) = search rules in
     let state : c.add_frame.new.self ≡ after_frame c.args.self.now.watching c.in-Some.source c.args.length = search rules in
     let all : has_all c.add_frame.new.self ≡ true = search rules in
-    let handed : g.O.Sink.written c.write_all.new.self ≡ told_more (g.O.Sink.written c.args.out.now) (drop 20 (take c.args.length c.waiting.result.now)) =
+    let handed : g.O.Sink.written c.write_all.new.self ≡ told_more (g.O.Sink.written c.args.out.now)
+    (drop 20 (take c.args.length c.waiting.result.now)) =
     c.in_ok-write_all.ensures.whole
-    ∙ ap (λ b. told_more (g.O.Sink.written c.args.out.now) b) (take_all (length (take c.args.length c.waiting.result.now) - 20) (drop 20 (take c.args.length c.waiting.result.now)) (omega (arith, length-drop 20 (take c.args.length c.waiting.result.now)))) in
+    ∙ ap (λ b. told_more (g.O.Sink.written c.args.out.now) b)
+    (take_all (length (take c.args.length c.waiting.result.now) - 20) (drop 20 (take c.args.length c.waiting.result.now))
+    (omega (arith, length-drop 20 (take c.args.length c.waiting.result.now)))) in
     let text : c.as_slice-2.result.now ≡ teardown_text c.args.wish.now c.args.self.now.session.items = search rules in
     let front : IsFrontTold (g.K.Link.told c.args.link.now) (g.K.Link.told c.send.new.self) c.as_slice-2.result.now = c.in_err-send.ensures.front in
     let taken : TakenFrame c.args.wish.now h c.args.self.now
     (record { alloc = c.args.self.now.alloc; input = c.args.self.now.input; replies = c.args.self.now.replies; session = c.args.self.now.session; watching = c.add_frame.new.self })
     (take c.args.length c.args.self.now.input) c.in-Some.source = record {
       keeps = k;
-      next_is = ap (λ i. source_with c.args.self.now.watching (take c.args.length i)) (sym c.waiting.ensures) ∙ (sym c.source_with.ensures.source ∙ c.in-Some.is);
+      next_is = ap (λ i. source_with c.args.self.now.watching (take c.args.length i)) (sym c.waiting.ensures)
+          ∙ (sym c.source_with.ensures.source ∙ c.in-Some.is);
       long = subst (λ (i : List ℕ). 20 ≤ length (take c.args.length i)) c.waiting.ensures long;
       replies = refl;
       session = refl;
@@ -111,15 +122,19 @@ returns-clause-passed g c = λ h k.
     let long : 20 ≤ length (take c.args.length c.waiting.result.now) = search rules in
     let state : c.add_frame.new.self ≡ after_frame c.args.self.now.watching c.in-Some.source c.args.length = search rules in
     let all : has_all c.add_frame.new.self ≡ true = search rules in
-    let handed : g.O.Sink.written c.write_all.new.self ≡ told_more (g.O.Sink.written c.args.out.now) (drop 20 (take c.args.length c.waiting.result.now)) =
+    let handed : g.O.Sink.written c.write_all.new.self ≡ told_more (g.O.Sink.written c.args.out.now)
+    (drop 20 (take c.args.length c.waiting.result.now)) =
     c.in_ok-write_all.ensures.whole
-    ∙ ap (λ b. told_more (g.O.Sink.written c.args.out.now) b) (take_all (length (take c.args.length c.waiting.result.now) - 20) (drop 20 (take c.args.length c.waiting.result.now)) (omega (arith, length-drop 20 (take c.args.length c.waiting.result.now)))) in
+    ∙ ap (λ b. told_more (g.O.Sink.written c.args.out.now) b)
+    (take_all (length (take c.args.length c.waiting.result.now) - 20) (drop 20 (take c.args.length c.waiting.result.now))
+    (omega (arith, length-drop 20 (take c.args.length c.waiting.result.now)))) in
     let text : c.as_slice-2.result.now ≡ teardown_text c.args.wish.now c.args.self.now.session.items = search rules in
     let sent : g.K.Link.told c.send.new.self ≡ told_more (g.K.Link.told c.args.link.now) (sends c.as_slice-2.result.now) = c.in_ok-send.ensures.whole in
     last-done (g.K.Link.told c.args.link.now)
     (record {
       keeps = k;
-      next_is = ap (λ i. source_with c.args.self.now.watching (take c.args.length i)) (sym c.waiting.ensures) ∙ (sym c.source_with.ensures.source ∙ c.in-Some.is);
+      next_is = ap (λ i. source_with c.args.self.now.watching (take c.args.length i)) (sym c.waiting.ensures)
+          ∙ (sym c.source_with.ensures.source ∙ c.in-Some.is);
       long = subst (λ (i : List ℕ). 20 ≤ length (take c.args.length i)) c.waiting.ensures long;
       replies = refl;
       session = refl;

@@ -59,7 +59,8 @@ returns-in_ok-take_block-in-Ok-Block-clause-taken g c = λ h k.
     (sight (g.K.Link.told c.take_block.new.link) (g.O.Sink.written c.take_block.new.out))) c.look.ensures.waiting
     (taken-block
     (first_is first c.look.ensures.waiting is)
-    (c.in_ok-take_block-in-Ok-Block.ensures.passed h (keeps-moved k (record { replies = refl; session = refl; watching = refl }))) (record { replies = refl; session = refl; watching = refl })
+    (c.in_ok-take_block-in-Ok-Block.ensures.passed h (keeps-moved k (record { replies = refl; session = refl; watching = refl })))
+    (record { replies = refl; session = refl; watching = refl })
     (c.drop_front-in-Ok-Block.ensures ∙ ap (drop c.in-Ok-Block.length) c.take_block.ensures.input))
 
 pub returns-in_err-take_reply-in-Ok-Request-clause-stopped : goal.returns-in_err-take_reply-in-Ok-Request-clause-stopped
@@ -72,7 +73,8 @@ returns-in_err-take_reply-in-Ok-Request-clause-stopped g c =
     rw (← c.look.ensures.waiting)
     (stopped-reply
     (first_is first c.look.ensures.waiting is)
-    (c.in_err-take_reply-in-Ok-Request.ensures.ended h (g.O.Sink.written c.args.out.now) (keeps-moved k (record { replies = refl; session = refl; watching = refl })))))
+    (c.in_err-take_reply-in-Ok-Request.ensures.ended h (g.O.Sink.written c.args.out.now)
+    (keeps-moved k (record { replies = refl; session = refl; watching = refl })))))
 
 pub returns-in_ok-take_reply-in-Ok-Request-clause-taken : goal.returns-in_ok-take_reply-in-Ok-Request-clause-taken
 returns-in_ok-take_reply-in-Ok-Request-clause-taken g c = λ h k.
@@ -84,5 +86,6 @@ returns-in_ok-take_reply-in-Ok-Request-clause-taken g c = λ h k.
     (sight (g.K.Link.told c.take_reply.new.link) (g.O.Sink.written c.args.out.now))) c.look.ensures.waiting
     (taken-reply
     (first_is first c.look.ensures.waiting is)
-    (c.in_ok-take_reply-in-Ok-Request.ensures.passed h (g.O.Sink.written c.args.out.now) (keeps-moved k (record { replies = refl; session = refl; watching = refl }))) (record { replies = refl; session = refl; watching = refl })
+    (c.in_ok-take_reply-in-Ok-Request.ensures.passed h (g.O.Sink.written c.args.out.now)
+    (keeps-moved k (record { replies = refl; session = refl; watching = refl }))) (record { replies = refl; session = refl; watching = refl })
     (c.drop_front-in-Ok-Request.ensures ∙ ap (drop c.in-Ok-Request.length) c.take_reply.ensures.input))

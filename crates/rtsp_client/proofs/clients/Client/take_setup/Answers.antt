@@ -19,7 +19,13 @@ returns-in_err-request-clause-ended g c =
     rw (p.1, p.2)
     (λ h out k.
     let here : session_in (take c.args.length c.waiting.result.now) ≡ Some c.in-Some.session.now = search rules in
-    setup-starved (record { keeps = k; first = c.requires.first; awaited = c.requires.good; session_is = ap (λ i. session_in (take c.args.length i)) (sym c.waiting.ensures) ∙ here }) refl)
+    setup-starved (record {
+      keeps = k;
+      first = c.requires.first;
+      awaited = c.requires.good;
+      session_is = ap
+          (λ i. session_in (take c.args.length i)) (sym c.waiting.ensures) ∙ here;
+    }) refl)
 
 pub returns-in_err-kept-clause-ended : goal.returns-in_err-kept-clause-ended
 returns-in_err-kept-clause-ended g c =
@@ -27,7 +33,13 @@ returns-in_err-kept-clause-ended g c =
     rw (p.1, p.2)
     (λ h out k.
     let here : session_in (take c.args.length c.waiting.result.now) ≡ Some c.in-Some.session.now = search rules in
-    setup-starved (record { keeps = k; first = c.requires.first; awaited = c.requires.good; session_is = ap (λ i. session_in (take c.args.length i)) (sym c.waiting.ensures) ∙ here }) refl)
+    setup-starved (record {
+      keeps = k;
+      first = c.requires.first;
+      awaited = c.requires.good;
+      session_is = ap
+          (λ i. session_in (take c.args.length i)) (sym c.waiting.ensures) ∙ here;
+    }) refl)
 
 pub returns-in_err-send-clause-ended : goal.returns-in_err-send-clause-ended
 returns-in_err-send-clause-ended g c =
@@ -38,7 +50,13 @@ returns-in_err-send-clause-ended g c =
     let text : c.as_slice.result.now ≡ play_text c.args.wish.now c.in-Some.session.now = c.as_slice.ensures.value ∙ c.in_ok-request.ensures in
     let front : IsFrontTold (g.K.Link.told c.args.link.now) (g.K.Link.told c.send.new.self) c.as_slice.result.now = c.in_err-send.ensures.front in
     setup-cut out
-    (record { keeps = k; first = c.requires.first; awaited = c.requires.good; session_is = ap (λ i. session_in (take c.args.length i)) (sym c.waiting.ensures) ∙ here }) refl
+    (record {
+      keeps = k;
+      first = c.requires.first;
+      awaited = c.requires.good;
+      session_is = ap (λ i. session_in (take c.args.length i))
+          (sym c.waiting.ensures) ∙ here;
+    }) refl
     (subst (IsFrontTold (g.K.Link.told c.args.link.now) (g.K.Link.told c.send.new.self)) text front))
 
 pub returns-clause-passed : goal.returns-clause-passed
@@ -48,6 +66,12 @@ returns-clause-passed g c = λ h out k.
     let sent : g.K.Link.told c.send.new.self ≡ told_more (g.K.Link.told c.args.link.now) (sends c.as_slice.result.now) = c.in_ok-send.ensures.whole in
     setup-done
     (g.K.Link.told c.args.link.now) out
-    (record { keeps = k; first = c.requires.first; awaited = c.requires.good; session_is = ap (λ i. session_in (take c.args.length i)) (sym c.waiting.ensures) ∙ here })
+    (record {
+      keeps = k;
+      first = c.requires.first;
+      awaited = c.requires.good;
+      session_is = ap (λ i. session_in (take c.args.length i))
+          (sym c.waiting.ensures) ∙ here;
+    })
     (record { replies = refl; session = search rules; watching = refl })
     (sent ∙ ap (λ x. told_more (g.K.Link.told c.args.link.now) (sends x)) text)

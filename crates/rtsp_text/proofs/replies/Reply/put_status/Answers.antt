@@ -12,5 +12,6 @@ returns-clause-text c =
     let code = decimal c.args.code in
     let with_code = two_put old version code c.put.ensures.text (c.put-2.ensures.text ∙ ap (λ t. c.put.new.self ++ t) digits) in
     let with_reason = two_put old (version ++ code ++ codes " ") (reason c.args.code)
-    (two_put old (version ++ code) (codes " ") with_code c.put-3.ensures.text) (c.put-4.ensures.text ∙ ap (λ t. c.put-3.new.self ++ t) c.reason.ensures.text) in
+    (two_put old (version ++ code) (codes " ") with_code c.put-3.ensures.text)
+    (c.put-4.ensures.text ∙ ap (λ t. c.put-3.new.self ++ t) c.reason.ensures.text) in
     two_put old (version ++ code ++ codes " " ++ reason c.args.code) (codes "\r\n") with_reason c.put-5.ensures.text
