@@ -22,6 +22,7 @@ use Rattle.film_frames.specs.Runs.{pieces_in}
 use Rattle.film_frames.specs.Tracks.{framed_bytes}
 use Rattle.film_frames.proofs.TrackLemmas.{begin-all}
 use Rattle.film_frames.proofs.PieceLemmas.{AreSound, cover-le, pieces-cons, unit-le}
+use Rattle.film_frames.proofs.FilmLemmas.{AreUnits, later-units}
 use Rattle.film_frames.proofs.FilmLemmas.{film-from, film-in_order, laid-film, units-wire}
 use Rattle.film_frames.proofs.RunLemmas.{blocks_from-count}
 use Rattle.film_frames.proofs.SentLemmas.{IsRun, between, run-begin}
@@ -85,17 +86,17 @@ chained-le {from} end starts [] laid chained = omega (arith, chained)
 chained-le {from} {to} end starts (unit ∷ units) laid chained =
     omega (arith, chained.0, unit-le starts unit laid.0.1, chained-le {from = unit.to} {to = to} end starts units laid.1 chained.1)
 
-units-carry : (film starts : List ℕ) (end : ℕ) (units : List PictureUnit) (from to : ℕ) → AreLaid end starts units → AreChained from units to
-    → carried film (pieces_of starts units) ≡ take (to - from) (drop from film)
+units-carry : {end : ℕ} {starts : List ℕ} {units : List PictureUnit} {from to : ℕ} (film : List ℕ) → AreUnits end starts units from to → carried film (pieces_of starts units) ≡ take (to - from) (drop from film)
 unfolding carried
-units-carry film starts end [] from to laid chained = range-none film from to chained
-units-carry film starts end (unit ∷ units) from to laid chained =
+units-carry {units = []} {from} {to} film are = range-none film from to are.chained
+units-carry {end} {starts} {units = unit ∷ units} {from} {to} film are =
+    let later = later-units are in
     ap (λ (l : List Piece). carried film l) (pieces-cons starts unit units)
     ∙ carried-append film (unit_pieces starts unit) (pieces_of starts units)
-    ∙ ap (λ (l : List ℕ). l ++ carried film (pieces_of starts units)) (unit-carries film starts unit laid.0.1)
-    ∙ ap (λ (l : List ℕ). take (unit.to - unit.from) (drop unit.from film) ++ l) (units-carry film starts end units unit.to to laid.1 chained.1)
-    ∙ ap (λ n. take (unit.to - n) (drop n film) ++ take (to - unit.to) (drop unit.to film)) chained.0
-    ∙ ranges-join film from unit.to to (omega (arith, chained.0, unit-le starts unit laid.0.1)) (chained-le end starts units laid.1 chained.1)
+    ∙ ap (λ (l : List ℕ). l ++ carried film (pieces_of starts units)) (unit-carries film starts unit are.laid.0.1)
+    ∙ ap (λ (l : List ℕ). take (unit.to - unit.from) (drop unit.from film) ++ l) (units-carry {units = units} film later)
+    ∙ ap (λ n. take (unit.to - n) (drop n film) ++ take (to - unit.to) (drop unit.to film)) are.chained.0
+    ∙ ranges-join film from unit.to to (omega (arith, are.chained.0, unit-le starts unit are.laid.0.1)) (chained-le end starts units later.laid later.chained)
 
 -- ---- units among those of a film
 
@@ -127,10 +128,15 @@ get-drop units zero k = ap (λ m. slice_get units m) (let e : k ≡ 0 + k = omeg
 get-drop [] (suc n) k = refl
 get-drop (unit ∷ units) (suc n) k = get-drop units n k ∙ ap (λ m. slice_get (unit ∷ units) m) (let e : suc (n + k) ≡ suc n + k = omega arith in e)
 
-pub comes-back : (film : Film) (first_unit end_unit : ℕ) (identity : Identity) (first last : PictureUnit) → first_unit < end_unit
-    → slice_get film.units.items first_unit ≡ Some first → slice_get film.units.items (end_unit - 1) ≡ Some last
+-- the first and the last unit of some
+pub record FirstAndLast (film : Film) (first_unit end_unit : ℕ) (first last : PictureUnit) : Type 0 where
+  pub order : first_unit < end_unit
+  pub first_at : slice_get film.units.items first_unit ≡ Some first
+  pub last_at : slice_get film.units.items (end_unit - 1) ≡ Some last
+
+pub comes-back : {film : Film} {first_unit end_unit : ℕ} {first last : PictureUnit} (identity : Identity) → FirstAndLast film first_unit end_unit first last
     → payloads (run_frames (run_of film first_unit end_unit identity)) ≡ take (last.to - first.from) (drop first.from film.bytes.items)
-comes-back film first_unit end_unit identity first last order first_at last_at =
+comes-back {film} {first_unit} {end_unit} {first} {last} identity units_are =
     let run = run_of film first_unit end_unit identity in
     let units = film.units.items in
     let starts = film.slice_starts.items in
@@ -143,7 +149,10 @@ comes-back film first_unit end_unit identity first last order first_at last_at =
     let count : suc n ≡ end_unit - first_unit = omega (arith, order) in
     let P : ℕ → Type 0 = λ m. AreChained first.from (take m (drop first_unit units)) last.to in
     let laid = laid-take end starts (drop first_unit units) (end_unit - first_unit) (laid-drop end starts units first_unit (laid-film film)) in
-    frames-carry run 0 0 (pieces_in run) ∙ units-carry film.bytes.items starts end run.units first.from last.to laid (subst P count part)
+    let are : AreUnits end starts run.units first.from last.to = record { laid = laid; chained = subst P count part } in
+    frames-carry run 0 0 (pieces_in run) ∙ units-carry film.bytes.items are
+  where
+    open units_are use {order, first_at, last_at}
 
 -- ---- the bytes of a run
 
@@ -160,7 +169,7 @@ run-sum film first_unit end_unit identity order within =
     let laid = laid-take end starts (drop first_unit film.units.items) (end_unit - first_unit) (laid-drop end starts film.units.items first_unit (laid-film film)) in (
       (between film first_unit end_unit identity run is).sound,
       sym (begin-all (run_pieces run))
-          ∙ run-begin film first_unit end_unit identity run n is
+          ∙ run-begin n is
           ∙ ap (λ (l : List Piece). wire_in l) (take_all n (pieces_in run) (omega (arith, blocks_from-count run 0 0 (pieces_in run))))
           ∙ units-wire end starts run.units laid,
     )

@@ -48,12 +48,23 @@ units-wire end starts (unit ∷ units) laid =
     ap (λ l. wire_in l) (pieces-cons starts unit units) ∙ wire-append (unit_pieces starts unit) (pieces_of starts units) in
     omega (arith, all, one, rest, sum_by-cons (λ n. n) (wire_size starts unit) (map (λ u. wire_size starts u) units))
 
-units-bound : (end : ℕ) (starts : List ℕ) (units : List PictureUnit) (from to : ℕ) → AreLaid end starts units → AreChained from units to
+-- units that lie so, one after another, from a place to another
+pub record AreUnits (end : ℕ) (starts : List ℕ) (units : List PictureUnit) (from to : ℕ) : Type 0 where
+  pub laid : AreLaid end starts units
+  pub chained : AreChained from units to
+
+pub later-units : {end : ℕ} {starts : List ℕ} {unit : PictureUnit} {units : List PictureUnit} {from to : ℕ} → AreUnits end starts (unit ∷ units) from to → AreUnits end starts units unit.to to
+later-units are = record { laid = are.laid.1; chained = are.chained.1 }
+
+pub units-bound : {end : ℕ} {starts : List ℕ} {units : List PictureUnit} {from to : ℕ} → AreUnits end starts units from to
     → sum (map (λ u. wire_size starts u) units) + 2 * from ≤ 2 * to + 112 * length units
-units-bound end starts [] from to laid chained = omega (arith, chained)
-units-bound end starts (unit ∷ units) from to laid chained =
-    let rest = units-bound end starts units unit.to to laid.1 chained.1 in
-    omega (arith, rest, chained.0, unit-bound starts unit laid.0.1, unit-le starts unit laid.0.1, sum_by-cons (λ n. n) (wire_size starts unit) (map (λ u. wire_size starts u) units))
+units-bound {units = []} are = omega (arith, are.chained)
+units-bound {starts} {units = unit ∷ units} are =
+    let rest = units-bound {units = units} (later-units are) in
+    omega (arith, rest, are.chained.0, unit-bound starts unit are.laid.0.1, unit-le starts unit are.laid.0.1, sum_by-cons (λ n. n) (wire_size starts unit) (map (λ u. wire_size starts u) units))
+
+pub units-film : (film : Film) → AreUnits (length film.bytes.items) film.slice_starts.items film.units.items (film-from film) (length film.bytes.items)
+units-film film = record { laid = laid-film film; chained = film-in_order film }
 
 pub film-wire : (film : Film) → wire_in (film_pieces film) ≡ sum (map (λ u. wire_size film.slice_starts.items u) film.units.items)
 film-wire film = units-wire (length film.bytes.items) film.slice_starts.items film.units.items (laid-film film)
@@ -69,5 +80,5 @@ film-bound film =
       arith,
       film-few film,
       film-bytes film.bytes.items film.grammar.accepted,
-      units-bound (length film.bytes.items) film.slice_starts.items film.units.items (film-from film) (length film.bytes.items) (laid-film film) (film-in_order film),
+      units-bound (units-film film),
     )

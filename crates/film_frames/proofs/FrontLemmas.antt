@@ -61,9 +61,9 @@ before_packet film number unit packets i = (front_pieces film number ++ unit_rep
 pub packets-begun : (film : Film) (number : ℕ) (unit : PictureUnit) (packets : List Packet) → front_pieces film number ++ unit_reports unit ≡ before_packet film number unit packets 0
 packets-begun film number unit packets = sym (append-nil (front_pieces film number ++ unit_reports unit))
 
-pub packets-more : (film : Film) (number : ℕ) (unit : PictureUnit) (packets : List Packet) (i : ℕ) (some : Packet) → i < length packets
+pub packets-more : {i : ℕ} (film : Film) (number : ℕ) (unit : PictureUnit) (packets : List Packet) (some : Packet) → i < length packets
     → before_packet film number unit packets i ++ Frame unit (get_or packets i some) ∷ [] ≡ before_packet film number unit packets (i + 1)
-packets-more film number unit packets i some h =
+packets-more {i} film number unit packets some h =
     append_assoc (front_pieces film number ++ unit_reports unit) (map (λ p. Frame unit p) (take i packets)) (Frame unit (get_or packets i some) ∷ [])
     ∙ ap (λ l. (front_pieces film number ++ unit_reports unit) ++ l) (sym (map_more (λ p. Frame unit p) packets i some h))
 
@@ -86,9 +86,9 @@ packets-bound {unit} {packets} film number i at is =
     ap (λ l. wire_in l) (all ∙ packets-all film number (length packets) at is (omega arith)) in
     omega (arith, wire, wire-append (before_packet film number unit packets i) rest, front-bound film (number + 1))
 
-pub packet-sound : {unit : PictureUnit} {packets : List Packet} (film : Film) (number i : ℕ) (some : Packet) → slice_get film.units.items number ≡ Some unit
+pub packet-sound : {unit : PictureUnit} {packets : List Packet} {i : ℕ} (film : Film) (number : ℕ) (some : Packet) → slice_get film.units.items number ≡ Some unit
     → packets ≡ unit_packets film.slice_starts.items unit → i < length packets → IsSound film.bytes.items (Frame unit (get_or packets i some))
-packet-sound {unit} {packets} film number i some at is h =
+packet-sound {unit} {packets} {i} film number some at is h =
     let laid = laid-at (length film.bytes.items) film.slice_starts.items film.units.items number at (laid-film film) in
     let sound = sound-right film.bytes.items (unit_reports unit) (map (λ p. Frame unit p) (unit_packets film.slice_starts.items unit)) (unit-sound film.bytes.items film.slice_starts.items unit laid.1 laid.0) in
     let P : List Packet → Type 0 = λ l. AreSound film.bytes.items (map (λ p. Frame unit p) l) in

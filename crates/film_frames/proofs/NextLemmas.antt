@@ -55,17 +55,24 @@ rest-next {pieces} {at} {k} {bytes} have within are =
     let count : length (drop o piece) ≡ n = omega (arith, length-drop o piece, more, next, have.last) in
     let long : length bytes ≡ n = ap (λ (l : List ℕ). length l) are ∙ count in
     let whole : bytes ≡ take n (drop o piece) = are ∙ sym (take_all n (drop o piece) (omega (arith, count))) in
-    (next-found k n inside have.last (omega (arith, next)) (omega (arith, next)) whole, omega (arith, long, next))
+    (next-found n inside have.last (omega (arith, next)) (omega (arith, next)) whole, omega (arith, long, next))
 
 -- ---- the bytes of a report or a frame from a place on
 
 pub report-rest : (block : List ℕ) (o : ℕ) → length block ≡ 52 → o ≤ 52 → take (52 - o) (drop o block) ++ [] ≡ drop o block
 report-rest block o long within = append-nil (take (52 - o) (drop o block)) ∙ take_all (52 - o) (drop o block) (omega (arith, length-drop o block, long))
 
-frame-rest : (film block : List ℕ) (p : Packet) (o : ℕ) → length block ≡ 52 → p.from ≤ p.to → p.to ≤ length film → o ≤ 20 + (p.to - p.from)
+-- a place in a frame: in the heads that begin these bytes, or in the payload of a packet of the film
+pub record InFrame (film block : List ℕ) (p : Packet) (o : ℕ) : Type 0 where
+  pub long : length block ≡ 52
+  pub order : p.from ≤ p.to
+  pub within : p.to ≤ length film
+  pub inside : o ≤ 20 + (p.to - p.from)
+
+frame-rest : {film block : List ℕ} {p : Packet} {o : ℕ} → InFrame film block p o
     → take (20 - min o 20) (drop (min o 20) block) ++ take (p.to - (p.from + (max o 20 - 20))) (drop (p.from + (max o 20 - 20)) film) ≡ drop o (take 20 block ++ payload film p)
-frame-rest film block p o long order within inside =
-    let heads : length (take 20 block) ≡ 20 = length-take-le 20 block (omega (arith, long)) in
+frame-rest {film} {block} {p} {o} lies =
+    let heads : length (take 20 block) ≡ 20 = length-take-le 20 block (omega (arith, lies.long)) in
     elim (cases_lt 20 o) [
       | inr g ↦
           let least : min o 20 ≡ o = omega (arith, g) in
@@ -79,7 +86,7 @@ frame-rest film block p o long order within inside =
           let m = o - 20 in
           let least : min o 20 ≡ 20 = omega (arith, l) in
           let past : p.from + (max o 20 - 20) ≡ p.from + m = omega (arith, l) in
-          let left : p.to - p.from ≡ m + (p.to - (p.from + m)) = omega (arith, l, inside, order) in
+          let left : p.to - p.from ≡ m + (p.to - (p.from + m)) = omega (arith, l, lies.inside, lies.order) in
           let at : o ≡ length (take 20 block) + m = omega (arith, heads, l) in
           ap (λ n. take (20 - n) (drop n block) ++ take (p.to - (p.from + (max o 20 - 20))) (drop (p.from + (max o 20 - 20)) film)) least
           ∙ ap (λ n. take (p.to - n) (drop n film)) past
@@ -91,17 +98,17 @@ frame-rest film block p o long order within inside =
     ]
 
 -- the same where the range of the heads and the payload are known by equations
-pub frame-part : {bytes : List ℕ} {low high : ℕ} (film block : List ℕ) (p : Packet) (o : ℕ) → length block ≡ 52 → p.from ≤ p.to → p.to ≤ length film → o ≤ 20 + (p.to - p.from) → low ≡ min o 20 → high ≡ max o 20
+pub frame-part : {bytes film block : List ℕ} {low high o : ℕ} {p : Packet} → InFrame film block p o → low ≡ min o 20 → high ≡ max o 20
     → bytes ≡ take (p.to - (p.from + (high - 20))) (drop (p.from + (high - 20)) film)
     → (take (20 - low) (drop low block) ++ bytes ≡ drop o (take 20 block ++ payload film p)) × ((20 - low) + length bytes + o ≡ 20 + (p.to - p.from))
-frame-part {bytes} {low} {high} film block p o long order within inside low_is high_is are =
+frame-part {bytes} {film} {block} {low} {high} {o} {p} lies low_is high_is are =
     let at = p.from + (high - 20) in
-    let count : length bytes ≡ p.to - at = ap (λ (l : List ℕ). length l) are ∙ length-take-le (p.to - at) (drop at film) (omega (arith, length-drop at film, within)) in (
+    let count : length bytes ≡ p.to - at = ap (λ (l : List ℕ). length l) are ∙ length-take-le (p.to - at) (drop at film) (omega (arith, length-drop at film, lies.within)) in (
       ap (λ (l : List ℕ). take (20 - low) (drop low block) ++ l) are
           ∙ ap (λ n. take (20 - n) (drop n block) ++ take (p.to - (p.from + (high - 20))) (drop (p.from + (high - 20)) film)) low_is
           ∙ ap (λ n. take (20 - min o 20) (drop (min o 20) block) ++ take (p.to - (p.from + (n - 20))) (drop (p.from + (n - 20)) film)) high_is
-          ∙ frame-rest film block p o long order within inside,
-      omega (arith, count, low_is, high_is, order, inside),
+          ∙ frame-rest lies,
+      omega (arith, count, low_is, high_is, lies.order, lies.inside),
     )
 
 -- ---- the piece of a run in which a place lies

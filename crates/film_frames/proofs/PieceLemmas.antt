@@ -44,12 +44,19 @@ pub cover-le : (packets : List Packet) (from to : ℕ) → DoCover from packets 
 cover-le [] from to cover = omega (arith, cover)
 cover-le (p ∷ packets) from to cover = omega (arith, cover.1.0, cover-le packets p.to to cover.1.1.1)
 
-frames-sound : {to : ℕ} (film : List ℕ) (unit : PictureUnit) (starts cuts : List ℕ) (from : ℕ) → to ≤ length film → DoCover from (piece_packets unit starts from cuts) to
+-- the packets that end at these cuts cover a part of the film
+record DoPiecesCover (film : List ℕ) (unit : PictureUnit) (starts cuts : List ℕ) (from to : ℕ) : Type 0 where
+  short : to ≤ length film
+  cover : DoCover from (piece_packets unit starts from cuts) to
+
+frames-sound : {film : List ℕ} {unit : PictureUnit} {starts cuts : List ℕ} {from to : ℕ} → DoPiecesCover film unit starts cuts from to
     → AreSound film (map (λ p. Frame unit p) (piece_packets unit starts from cuts))
-frames-sound film unit starts [] from short cover = tt
-frames-sound {to} film unit starts (cut ∷ cuts) from short cover =
+frames-sound {cuts = []} pieces = tt
+frames-sound {film} {unit} {starts} {cuts = cut ∷ cuts} {to} pieces =
+    let cover = pieces.cover in
     let rest = cover-le (piece_packets unit starts cut cuts) cut to cover.1.1.1 in
-    (record { some = cover.1.0; short = cover.1.1.0; within = omega (arith, rest, short); formed = refl }, frames-sound film unit starts cuts cut short cover.1.1.1)
+    let later : DoPiecesCover film unit starts cuts cut to = record { short = pieces.short; cover = cover.1.1.1 } in
+    (record { some = cover.1.0; short = cover.1.1.0; within = omega (arith, rest, pieces.short); formed = refl }, frames-sound {cuts = cuts} later)
 
 reports-sound : (film : List ℕ) (unit : PictureUnit) (starts : Bool) → AreSound film (cond starts (Report unit ∷ []) [])
 reports-sound film unit true = (tt, tt)
@@ -60,7 +67,8 @@ unit-sound film starts unit laid short =
     let are = packets-are starts unit laid in
     let P : List Packet → Type 0 = λ l. AreSound film (map (λ p. Frame unit p) l) in
     let Q : List Packet → Type 0 = λ l. DoCover unit.from l unit.to in
-    let frames = frames-sound film unit (unit_starts starts unit) are.cuts unit.from short (subst Q are.pieces (packets-cover starts unit laid)) in
+    let pieces : DoPiecesCover film unit (unit_starts starts unit) are.cuts unit.from unit.to = record { short = short; cover = subst Q are.pieces (packets-cover starts unit laid) } in
+    let frames = frames-sound pieces in
     sound-append film (unit_reports unit) (map (λ p. Frame unit p) (unit_packets starts unit)) (reports-sound film unit unit.starts_group) (subst P (sym are.pieces) frames)
 
 -- ---- the bytes of a unit on the wire

@@ -16,6 +16,7 @@ use Rattle.film_frames.specs.Pieces.{count_of, film_pieces, frames_in, from_of, 
 use Rattle.film_frames.specs.Pieces.{unit_pieces, unit_reports, wire_in, wire_of}
 use Rattle.film_frames.proofs.PieceLemmas.{pieces-cons, unit-le}
 use Rattle.film_frames.proofs.ReportNumbers.{frames-few}
+use Rattle.film_frames.proofs.FilmLemmas.{AreUnits, later-units, units-film}
 use Rattle.film_frames.proofs.FilmLemmas.{film-bound, film-from, film-in_order, film-wire}
 use Rattle.film_frames.proofs.FilmLemmas.{laid-film}
 
@@ -29,9 +30,16 @@ abbrev AreFollowing : ℕ → List Piece → ℕ → Type 0
 AreFollowing from [] to = from ≡ to
 AreFollowing from (piece ∷ pieces) to = (from_of piece ≡ from) × ((from_of piece ≤ to_of piece) × AreFollowing (to_of piece) pieces to)
 
-following-append : (from mid to : ℕ) (xs ys : List Piece) → AreFollowing from xs mid → AreFollowing mid ys to → AreFollowing from (xs ++ ys) to
-following-append from mid to [] ys one other = subst (λ n. AreFollowing n ys to) (sym one) other
-following-append from mid to (x ∷ xs) ys one other = (one.0, (one.1.0, following-append (to_of x) mid to xs ys one.1.1 other))
+-- some that follow so, and others after them
+record DoBothFollow (from mid to : ℕ) (xs ys : List Piece) : Type 0 where
+  one : AreFollowing from xs mid
+  other : AreFollowing mid ys to
+
+following-append : {from mid to : ℕ} {xs ys : List Piece} → DoBothFollow from mid to xs ys → AreFollowing from (xs ++ ys) to
+following-append {to} {xs = []} {ys} both = subst (λ n. AreFollowing n ys to) (sym both.one) both.other
+following-append {mid} {to} {xs = x ∷ xs} {ys} both =
+    let later : DoBothFollow (to_of x) mid to xs ys = record { one = both.one.1.1; other = both.other } in
+    (both.one.0, (both.one.1.0, following-append {from = to_of x} {xs = xs} later))
 
 frames-following : (unit : PictureUnit) (from to : ℕ) (packets : List Packet) → DoCover from packets to → AreFollowing from (map (λ p. Frame unit p) packets) to
 frames-following unit from to [] cover = cover
@@ -43,32 +51,44 @@ reports-following unit false = refl
 
 unit-following : (starts : List ℕ) (unit : PictureUnit) → IsLaid starts unit → AreFollowing unit.from (unit_pieces starts unit) unit.to
 unit-following starts unit laid =
-    following-append unit.from unit.from unit.to (unit_reports unit) (map (λ p. Frame unit p) (unit_packets starts unit))
-    (reports-following unit unit.starts_group) (frames-following unit unit.from unit.to (unit_packets starts unit) (packets-cover starts unit laid))
+    let both : DoBothFollow unit.from unit.from unit.to (unit_reports unit) (map (λ p. Frame unit p) (unit_packets starts unit)) = record {
+      one = reports-following unit unit.starts_group;
+      other = frames-following unit unit.from unit.to (unit_packets starts unit) (packets-cover starts unit laid);
+    } in
+    following-append both
 
-units-following : (end : ℕ) (starts : List ℕ) (units : List PictureUnit) (from to : ℕ) → AreLaid end starts units → AreChained from units to → AreFollowing from (pieces_of starts units) to
-units-following end starts [] from to laid chained = chained
-units-following end starts (unit ∷ units) from to laid chained =
-    let rest = units-following end starts units unit.to to laid.1 chained.1 in
-    let both = following-append unit.from unit.to to (unit_pieces starts unit) (pieces_of starts units) (unit-following starts unit laid.0.1) rest in
-    subst (λ n. AreFollowing n (pieces_of starts (unit ∷ units)) to) chained.0 (subst (λ l. AreFollowing unit.from l to) (sym (pieces-cons starts unit units)) both)
+units-following : {end : ℕ} {starts : List ℕ} {units : List PictureUnit} {from to : ℕ} → AreUnits end starts units from to → AreFollowing from (pieces_of starts units) to
+units-following {units = []} are = are.chained
+units-following {starts} {units = unit ∷ units} {to} are =
+    let both : DoBothFollow unit.from unit.to to (unit_pieces starts unit) (pieces_of starts units) = record {
+      one = unit-following starts unit are.laid.0.1;
+      other = units-following {units = units} (later-units are);
+    } in
+    subst (λ n. AreFollowing n (pieces_of starts (unit ∷ units)) to) are.chained.0 (subst (λ l. AreFollowing unit.from l to) (sym (pieces-cons starts unit units)) (following-append both))
 
-from-at : {k : ℕ} {piece : Piece} (pieces : List Piece) (from to reports : ℕ) → AreFollowing from pieces to → slice_get pieces k ≡ Some piece → frames_in (take k pieces) + reports ≡ k
+-- a piece, and the number of reports before it
+record StandsAfter (pieces : List Piece) (k : ℕ) (piece : Piece) (reports : ℕ) : Type 0 where
+  at : slice_get pieces k ≡ Some piece
+  count : frames_in (take k pieces) + reports ≡ k
+
+from-at : {pieces : List Piece} {k : ℕ} {piece : Piece} {reports : ℕ} (from to : ℕ) → AreFollowing from pieces to → StandsAfter pieces k piece reports
     → from_of piece + 20 * frames_in (take k pieces) + 52 * reports ≡ from + wire_in (take k pieces)
-from-at {piece} [] from to reports are at count = cc
-from-at {k = zero} {piece} (first ∷ pieces) from to reports are at count =
-    let same : first ≡ piece = cc in
-    omega (arith, ap from_of same, are.0, count)
-from-at {k = suc k} {piece} (Report unit ∷ pieces) from to reports are at count =
+from-at {pieces = []} from to are stands = absurd (let none = stands.at in cc)
+from-at {pieces = first ∷ pieces} {k = zero} {piece} from to are stands =
+    let same : first ≡ piece = (let at = stands.at in cc) in
+    omega (arith, ap from_of same, are.0, stands.count)
+from-at {pieces = Report unit ∷ pieces} {k = suc k} {piece} {reports} from to are stands =
     let frames = sum_by-cons count_of (Report unit) (take k pieces) in
     let wire = sum_by-cons wire_of (Report unit) (take k pieces) in
     let few = frames-few pieces k in
-    let rest = from-at {k = k} {piece = piece} pieces unit.from to (reports - 1) are.1.1 at (omega (arith, count, frames, few)) in
-    omega (arith, rest, are.0, frames, wire, count, few)
-from-at {k = suc k} {piece} (Frame unit p ∷ pieces) from to reports are at count =
+    let later : StandsAfter pieces k piece (reports - 1) = record { at = stands.at; count = omega (arith, stands.count, frames, few) } in
+    let rest = from-at {pieces = pieces} {k = k} unit.from to are.1.1 later in
+    omega (arith, rest, are.0, frames, wire, stands.count, few)
+from-at {pieces = Frame unit p ∷ pieces} {k = suc k} {piece} {reports} from to are stands =
     let frames = sum_by-cons count_of (Frame unit p) (take k pieces) in
     let wire = sum_by-cons wire_of (Frame unit p) (take k pieces) in
-    let rest = from-at pieces p.to to reports are.1.1 at (omega (arith, count, frames)) in
+    let later : StandsAfter pieces k piece reports = record { at = stands.at; count = omega (arith, stands.count, frames) } in
+    let rest = from-at {pieces = pieces} {k = k} p.to to are.1.1 later in
     omega (arith, rest, are.0, are.1.0, frames, wire)
 
 -- ---- of a film
@@ -88,10 +108,9 @@ pub film-payload : {number : ℕ} {first : PictureUnit} {piece : Piece} (film : 
     → slice_get (film_pieces film) number ≡ Some piece → frames_in (take number (film_pieces film)) + reports ≡ number
     → from_of piece + 20 * frames_in (take number (film_pieces film)) + 52 * reports ≡ first.from + wire_in (take number (film_pieces film))
 film-payload {number} {first} {piece} film reports h is at count =
-    let chained = film-in_order film in
-    let from = first-from film.units.items (length film.bytes.items) chained (film-some film number h) is in
-    let are = units-following (length film.bytes.items) film.slice_starts.items film.units.items (film-from film) (length film.bytes.items) (laid-film film) chained in
-    from-at (film_pieces film) (film-from film) (length film.bytes.items) reports are at count ∙ ap (λ n. n + wire_in (take number (film_pieces film))) (sym from)
+    let from = first-from film.units.items (length film.bytes.items) (film-in_order film) (film-some film number h) is in
+    let stands : StandsAfter (film_pieces film) number piece reports = record { at = at; count = count } in
+    from-at (film-from film) (length film.bytes.items) (units-following (units-film film)) stands ∙ ap (λ n. n + wire_in (take number (film_pieces film))) (sym from)
 
 heads-le : (pieces : List Piece) (k reports : ℕ) → k ≤ length pieces → frames_in (take k pieces) + reports ≡ k
     → 20 * frames_in (take k pieces) + 52 * reports ≤ wire_in (take k pieces)

@@ -69,9 +69,9 @@ sum-next f (u ∷ units) (suc k) unit is =
     ap (λ n. sum (map f (take n (u ∷ units)))) next
     ∙ omega (arith, sum-next f units k unit is, sum_by-cons (λ n. n) (f u) (map f (take (k + 1) units)), sum_by-cons (λ n. n) (f u) (map f (take k units)))
 
-pub unit-blocks : {unit : PictureUnit} (film : Film) (first_unit number : ℕ) (identity : Identity) → first_unit ≤ number → number < length film.units.items → slice_get film.units.items number ≡ Some unit
+pub unit-blocks : {unit : PictureUnit} {first_unit number : ℕ} (film : Film) (identity : Identity) → first_unit ≤ number → number < length film.units.items → slice_get film.units.items number ≡ Some unit
     → length (framed_bytes (run_pieces (run_of film first_unit (number + 1) identity))) ≡ length (framed_bytes (run_pieces (run_of film first_unit number identity))) + wire_size film.slice_starts.items unit
-unit-blocks {unit} film first_unit number identity order within is =
+unit-blocks {unit} {first_unit} {number} film identity order within is =
     let units = drop first_unit film.units.items in
     let k = number - first_unit in
     let size : PictureUnit → ℕ = λ u. wire_size film.slice_starts.items u in
@@ -98,10 +98,10 @@ sum-range f (u ∷ units) (suc from) count =
 
 -- ---- heads
 
-head-by : (marker : Bool) (sequence timestamp ssrc video : ℕ) (rest : List ℕ) → sequence < 2 ^ 16 → timestamp < 2 ^ 32 → ssrc < 2 ^ 32
+head-by : {sequence timestamp ssrc : ℕ} (marker : Bool) (video : ℕ) (rest : List ℕ) → sequence < 2 ^ 16 → timestamp < 2 ^ 32 → ssrc < 2 ^ 32
     → head_of (head_bytes (record { marker = marker; sequence = sequence; timestamp = timestamp; ssrc = ssrc; video = video }) ++ rest) ≡ Ok (record { marker = marker; sequence = sequence; timestamp = timestamp; ssrc = ssrc; video = video % 2 ^ 32 })
-head-by true sequence timestamp ssrc video rest s t r = search rules
-head-by false sequence timestamp ssrc video rest s t r = search rules
+head-by {sequence} {timestamp} {ssrc} true video rest s t r = search rules
+head-by {sequence} {timestamp} {ssrc} false video rest s t r = search rules
 
 pub heads-back : (run : Run) → run.identity.ssrc < 2 ^ 32 → DoHeadsReadBack run
 heads-back run source = λ k unit packet is.
@@ -109,4 +109,4 @@ heads-back run source = λ k unit packet is.
     let head = packet_head run.identity (picture_time run.rate) unit packet frames in
     let none : 0 + frames ≡ frames = omega arith in
     ap (λ (l : List ℕ). head_of (drop 4 l)) (blocks_from-at run 0 0 (pieces_in run) k is ∙ ap (λ n. piece_bytes run n (0 + octets_in (take k (pieces_in run))) (Frame unit packet)) none)
-    ∙ head-by head.marker head.sequence head.timestamp head.ssrc head.video (payload run.film packet) (omega arith) (omega arith) source
+    ∙ head-by {sequence = head.sequence} {timestamp = head.timestamp} {ssrc = head.ssrc} head.marker head.video (payload run.film packet) (omega arith) (omega arith) source

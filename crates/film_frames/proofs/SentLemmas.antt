@@ -57,9 +57,14 @@ between film first_unit end_unit identity run is =
     subst P is.view (between-of film first_unit end_unit identity is.order)
 
 -- sums over the first pieces of the run and all before them
-sum-between : {all : List Piece} {n : ℕ} (f : Piece → ℕ) (before middle rest : List Piece) (k : ℕ) → all ≡ before ++ (middle ++ rest) → k ≤ length middle → n ≡ length before + k
+record IsAmong (all before middle rest : List Piece) (k n : ℕ) : Type 0 where
+  split : all ≡ before ++ (middle ++ rest)
+  short : k ≤ length middle
+  is : n ≡ length before + k
+
+sum-between : {all before middle rest : List Piece} {k n : ℕ} (f : Piece → ℕ) → IsAmong all before middle rest k n
     → sum_by f (take n all) ≡ sum_by f (take (length before) all) + sum_by f (take k middle)
-sum-between {all} f before middle rest k split short is =
+sum-between {all} {before} {middle} {rest} {k} f among =
     let front_is : take (length before) all ≡ before = ap (λ (l : List Piece). take (length before) l) split ∙ take_at before (middle ++ rest) (length before) refl in
     let first : take (length before + k) (before ++ (middle ++ rest)) ≡ before ++ take k middle =
     take-append-add before (middle ++ rest) k ∙ ap (λ (l : List Piece). before ++ l) (take-append-le k middle rest short) in
@@ -68,6 +73,8 @@ sum-between {all} f before middle rest k split short is =
     ∙ ap (λ (l : List Piece). sum_by f l) first
     ∙ sum_by-append f before (take k middle)
     ∙ ap (λ (l : List Piece). sum_by f l + sum_by f (take k middle)) (sym front_is)
+  where
+    open among use {split, short, is}
 
 get-after : (before after : List Piece) (k : ℕ) → slice_get (before ++ after) (length before + k) ≡ slice_get after k
 get-after [] after k = ap (λ n. slice_get after n) (let e : 0 + k ≡ k = omega arith in e)
@@ -92,21 +99,25 @@ run-count film first_unit end_unit identity run is =
     ap (λ (l : List Piece). length l) lies.all ∙ length-append (front_pieces film first_unit) (pieces_in run ++ lies.rest) ∙ ap (λ n. length (front_pieces film first_unit) + n) (length-append (pieces_in run) lies.rest) in
     (units, omega (arith, units, all))
 
+among-run : {film : Film} {first_unit end_unit k n : ℕ} {run : Run} (lies : IsBetween film first_unit end_unit run) → k ≤ length (pieces_in run) → n ≡ length (front_pieces film first_unit) + k
+    → IsAmong (film_pieces film) (front_pieces film first_unit) (pieces_in run) lies.rest k n
+among-run lies short at = record { split = lies.all; short = short; is = at }
+
 -- where a piece of the run begins
 pub run-wire : {film : Film} {first_unit end_unit : ℕ} {identity : Identity} {run : Run} {n : ℕ} (k : ℕ) → IsRun film first_unit end_unit identity run → k ≤ length (pieces_in run) → n ≡ length (front_pieces film first_unit) + k
     → wire_in (take n (film_pieces film)) ≡ wire_in (take (length (front_pieces film first_unit)) (film_pieces film)) + wire_in (take k (pieces_in run))
 run-wire {film} {first_unit} {end_unit} {identity} {run} k is short at =
     let lies = between film first_unit end_unit identity run is in
-    sum-between wire_of (front_pieces film first_unit) (pieces_in run) lies.rest k lies.all short at
+    sum-between wire_of (among-run lies short at)
 
 pub run-frames : {film : Film} {first_unit end_unit : ℕ} {identity : Identity} {run : Run} {n : ℕ} (k : ℕ) → IsRun film first_unit end_unit identity run → k ≤ length (pieces_in run) → n ≡ length (front_pieces film first_unit) + k
     → frames_in (take n (film_pieces film)) ≡ frames_in (take (length (front_pieces film first_unit)) (film_pieces film)) + frames_in (take k (pieces_in run))
 run-frames {film} {first_unit} {end_unit} {identity} {run} k is short at =
     let lies = between film first_unit end_unit identity run is in
-    sum-between count_of (front_pieces film first_unit) (pieces_in run) lies.rest k lies.all short at
+    sum-between count_of (among-run lies short at)
 
-pub run-begin : (film : Film) (first_unit end_unit : ℕ) (identity : Identity) (run : Run) (k : ℕ) → IsRun film first_unit end_unit identity run → begin_of (run_pieces run) k ≡ wire_in (take k (pieces_in run))
-run-begin film first_unit end_unit identity run k is = blocks_from-begin run 0 0 (pieces_in run) k (between film first_unit end_unit identity run is).sound
+pub run-begin : {film : Film} {first_unit end_unit : ℕ} {identity : Identity} {run : Run} (k : ℕ) → IsRun film first_unit end_unit identity run → begin_of (run_pieces run) k ≡ wire_in (take k (pieces_in run))
+run-begin {film} {first_unit} {end_unit} {identity} {run} k is = blocks_from-begin run 0 0 (pieces_in run) k (between film first_unit end_unit identity run is).sound
 
 pub run-piece : {film : Film} {first_unit end_unit : ℕ} {identity : Identity} {run : Run} {n : ℕ} (k : ℕ) → IsRun film first_unit end_unit identity run → k < length (pieces_in run) → n ≡ length (front_pieces film first_unit) + k
     → slice_get (film_pieces film) n ≡ slice_get (pieces_in run) k
@@ -131,7 +142,7 @@ run-ends {film} {first_unit} {end_unit} {identity} {run} {first} {end} {base} {e
           let short : k + 1 ≤ length (pieces_in run) = omega (arith, h, count, counts.0, first_is, end_is) in
           let sum = run-wire {film = film} {first_unit = first_unit} {end_unit = end_unit} {identity = identity} {run = run} {n = first + k + 1} (k + 1) is short (omega (arith, first_is)) in
           let from : base ≡ wire_in (take (length (front_pieces film first_unit)) (film_pieces film)) = base_is ∙ ap (λ n. wire_in (take n (film_pieces film))) first_is in
-          omega (arith, each k (omega (arith, h, count)), sum, from, run-begin film first_unit end_unit identity run (k + 1) is);
+          omega (arith, each k (omega (arith, h, count)), sum, from, run-begin (k + 1) is);
     }
 
 -- the bytes of the run and all before it
@@ -142,4 +153,4 @@ run-total film first_unit end_unit identity run is =
     let sum = run-wire n is (omega arith) refl in
     let some = sum_by-take-le wire_of (film_pieces film) (length (front_pieces film first_unit) + n) in
     let last : begin_of (run_pieces run) (length (run_pieces run)) ≡ begin_of (run_pieces run) n = ap (λ m. begin_of (run_pieces run) m) (blocks_from-count run 0 0 (pieces_in run)) in
-    omega (arith, sum, some, film-wire film, film-bound film, run-begin film first_unit end_unit identity run n is, last, begin-all (run_pieces run))
+    omega (arith, sum, some, film-wire film, film-bound film, run-begin n is, last, begin-all (run_pieces run))

@@ -20,19 +20,24 @@ use Rattle.film_frames.proofs.FilmLemmas.{laid-film}
 use Rattle.film_frames.proofs.BackLemmas.{laid-drop, laid-take}
 
 -- frames after a unit's first
-later-stand : {at : ℕ} (unit : PictureUnit) (packets : List Packet) (to : ℕ) (rest : List Piece) → DoCover at packets to → unit.from < at → DoReportsStand rest → DoReportsStand (map (λ p. Frame unit p) packets ++ rest)
-later-stand {at} unit [] to rest cover past stand = stand
-later-stand {at} unit (p ∷ packets) to rest cover past stand =
-    ((λ first. absurd (omega (arith, first, cover.0, past))), later-stand {at = p.to} unit packets to rest cover.1.1.1 (omega (arith, past, cover.1.0)) stand)
+later-stand : {at : ℕ} (unit : PictureUnit) (packets : List Packet) (rest : List Piece) → DoCover at packets unit.to → unit.from < at → DoReportsStand rest → DoReportsStand (map (λ p. Frame unit p) packets ++ rest)
+later-stand {at} unit [] rest cover past stand = stand
+later-stand {at} unit (p ∷ packets) rest cover past stand =
+    ((λ first. absurd (omega (arith, first, cover.0, past))), later-stand {at = p.to} unit packets rest cover.1.1.1 (omega (arith, past, cover.1.0)) stand)
+
+-- packets that cover a unit of some bytes
+record DoCoverUnit (unit : PictureUnit) (packets : List Packet) : Type 0 where
+  some : unit.from < unit.to
+  cover : DoCover unit.from packets unit.to
 
 -- a unit's report and frames
-frames-stand : {starts : Bool} (unit : PictureUnit) (packets : List Packet) (rest : List Piece) → unit.starts_group ≡ starts → unit.from < unit.to → DoCover unit.from packets unit.to → DoReportsStand rest →
+frames-stand : {unit : PictureUnit} {packets : List Packet} {starts : Bool} (rest : List Piece) → unit.starts_group ≡ starts → DoCoverUnit unit packets → DoReportsStand rest →
     DoReportsStand ((cond starts (Report unit ∷ []) [] ++ map (λ p. Frame unit p) packets) ++ rest)
-frames-stand {starts} unit [] rest is some cover stand = absurd (omega (arith, cover, some))
-frames-stand {starts = true} unit (p ∷ packets) rest is some cover stand =
-    ((refl, (cover.0, is)), later-stand unit packets unit.to rest cover.1.1.1 cover.1.0 stand)
-frames-stand {starts = false} unit (p ∷ packets) rest is some cover stand =
-    ((λ first. is), later-stand unit packets unit.to rest cover.1.1.1 cover.1.0 stand)
+frames-stand {packets = []} {starts} rest is all stand = absurd (omega (arith, all.cover, all.some))
+frames-stand {unit} {packets = p ∷ packets} {starts = true} rest is all stand =
+    ((refl, (all.cover.0, is)), later-stand unit packets rest all.cover.1.1.1 all.cover.1.0 stand)
+frames-stand {unit} {packets = p ∷ packets} {starts = false} rest is all stand =
+    ((λ first. is), later-stand unit packets rest all.cover.1.1.1 all.cover.1.0 stand)
 
 order-le : (starts : List ℕ) (at to : ℕ) → AreInOrder at starts to → at ≤ to
 order-le [] at to order = omega (arith, order)
@@ -44,8 +49,9 @@ unit-some starts unit laid = omega (arith, laid.head, order-le (unit_starts star
 units-stand : (starts : List ℕ) (end : ℕ) (units : List PictureUnit) → AreLaid end starts units → DoReportsStand (pieces_of starts units)
 units-stand starts end [] laid = tt
 units-stand starts end (unit ∷ units) laid =
+    let all : DoCoverUnit unit (unit_packets starts unit) = record { some = unit-some starts unit laid.0.1; cover = packets-cover starts unit laid.0.1 } in
     subst (λ (l : List Piece). DoReportsStand l) (sym (pieces-cons starts unit units))
-    (frames-stand unit (unit_packets starts unit) (pieces_of starts units) refl (unit-some starts unit laid.0.1) (packets-cover starts unit laid.0.1) (units-stand starts end units laid.1))
+    (frames-stand (pieces_of starts units) refl all (units-stand starts end units laid.1))
 
 pub reports-stand : (film : Film) (first end : ℕ) (identity : Identity) → DoReportsStand (pieces_in (run_of film first end identity))
 reports-stand film first end identity =

@@ -1,5 +1,5 @@
 -- The table of pieces, while it is built and when it is read.
-use Rattle.std.proofs.Common.{◌≡◌, ℕ, zero, suc, ◌+◌, ◌-◌, ◌^◌, ◌<◌, ◌≤◌, Bool, true, false, cond}
+use Rattle.std.proofs.Common.{◌≡◌, ℕ, zero, suc, ◌+◌, ◌^◌, ◌<◌, ◌≤◌}
 use Rattle.std.proofs.Common.{List, [], ◌∷◌, ◌++◌, map, length, take, drop, get_or, Some}
 use Rattle.std.proofs.Common.{slice_get, refl, sym, ap, subst, ◌∙◌, arith, inl, inr, length-append}
 use Rattle.std.specs.List.{sum_by}
@@ -12,13 +12,15 @@ use Rattle.mpeg_scan.specs.declared.units.Unit.{Unit as PictureUnit}
 use Rattle.film_frames.specs.declared.pieces.Piece.{Piece}
 use Rattle.film_frames.specs.declared.pieces.Piece.TheVariants.{Report, Frame}
 use Rattle.rtp_pack.specs.declared.payloads.Packet.{Packet}
-use Rattle.rtp_pack.specs.Packets.{packet, unit_packets}
+use Rattle.rtp_pack.specs.Packets.{unit_packets}
 use Rattle.mpeg_scan.proofs.BoundLemmas.{film-bytes}
+use Rattle.film_frames.specs.declared.rows.Kept.{Kept}
+use Rattle.film_frames.specs.declared.rows.Kept.TheVariants.{Report as KeptReport, Frame as KeptFrame}
 use Rattle.film_frames.specs.declared.rows.Row.{Row}
 use Rattle.film_frames.specs.declared.tables.FrameTable.{FrameTable}
 use Rattle.film_frames.specs.Pieces.{film_pieces, from_of, front_pieces, pieces_of, unit_of}
 use Rattle.film_frames.specs.Pieces.{unit_pieces, unit_reports, wire_in, wire_of, wire_size}
-use Rattle.film_frames.specs.Tables.{IsRow, IsSound, IsTable, IsTableOf, with_report}
+use Rattle.film_frames.specs.Tables.{IsFrameKept, IsFrameRow, IsRow, IsSound, IsTable, IsTableOf, kept_piece, with_report}
 use Rattle.film_frames.proofs.PieceLemmas.{length-le-wire, sound-at, unit-wire, wire-append}
 use Rattle.film_frames.proofs.FilmLemmas.{film-sound, unit-laid}
 use Rattle.film_frames.proofs.FrontLemmas.{front-back, front-bound, front-more}
@@ -61,10 +63,13 @@ push-last [] piece its (suc k) is h = cc
 push-last (first ∷ pieces) piece its zero is h = absurd (omega (arith, h))
 push-last (first ∷ pieces) piece its (suc k) is h = push-last pieces piece its k is (omega (arith, h))
 
-rows-push : {units : List PictureUnit} {piece : Piece} {row : Row} (pieces : List Piece) (rows : List Row) → length rows ≡ length pieces → IsRow units row piece
-    → ((k : ℕ) (some : Row) (its : Piece) → slice_get pieces k ≡ Some its → IsRow units (get_or rows k some) its)
-    → (k : ℕ) (some : Row) {its : Piece} → slice_get (pieces ++ piece ∷ []) k ≡ Some its → IsRow units (get_or (rows ++ row ∷ []) k some) its
-rows-push {units} {piece} {row} pieces rows count is each k some {its} at =
+-- a row for each piece
+abbrev AreRows : List PictureUnit → List Piece → List Row → Type 0
+AreRows units pieces rows = (k : ℕ) (some : Row) (its : Piece) → slice_get pieces k ≡ Some its → IsRow units (get_or rows k some) its
+
+rows-push : {units : List PictureUnit} {piece : Piece} {row : Row} (pieces : List Piece) (rows : List Row) → length rows ≡ length pieces → IsRow units row piece → AreRows units pieces rows
+    → AreRows units (pieces ++ piece ∷ []) (rows ++ row ∷ [])
+rows-push {units} {piece} {row} pieces rows count is each k some its at =
     elim (cases_lt k (length pieces)) [
       | inl l ↦
           let P : Row → Type 0 = λ r. IsRow units r its in
@@ -87,7 +92,7 @@ table-push {units} {pieces} {piece} {row} {old} {new} {end} is its places rows r
     let wires : AreSums wire_of pieces old.places.items = record { count = is.places_count; each = is.place } in
     let w = sums-push piece wires (omega (arith, end_is, place)) in
     let P : List ℕ → Type 0 = λ l. AreSums wire_of (pieces ++ piece ∷ []) l in
-    let R : List Row → Type 0 = λ l. (k : ℕ) (some : Row) (other : Piece) → slice_get (pieces ++ piece ∷ []) k ≡ Some other → IsRow units (get_or l k some) other in
+    let R : List Row → Type 0 = λ l. AreRows units (pieces ++ piece ∷ []) l in
     let w_new = subst P (sym places) w in
     record {
       places_count = w_new.count;
@@ -164,17 +169,14 @@ pub wire-least : (film : List ℕ) (piece : Piece) → IsSound film piece → 20
 wire-least film (Report unit) sound = omega arith
 wire-least film (Frame unit its) sound = omega arith
 
-frame-from : {report : Bool} {piece : Piece} (film : List ℕ) (unit : PictureUnit) (its : Packet) → cond report (Report unit) (Frame unit its) ≡ piece → report ≡ false → IsSound film piece → its.to ≤ length film
-frame-from {report = true} {piece} film unit its same frame sound = cc
-frame-from {report = false} {piece = Report other} film unit its same frame sound = cc
-frame-from {report = false} {piece = Frame other that} film unit its same frame sound =
-    let P : Packet → Type 0 = λ p. p.to ≤ length film in
-    let e : that ≡ its = cc in subst P e sound.within
+kept-within : (kept : Kept) (film : List ℕ) (piece : Piece) → kept_piece kept (unit_of piece) (from_of piece) (wire_of piece) ≡ piece → IsFrameKept kept → IsSound film piece →
+    from_of piece + wire_of piece ≤ length film + 20
+kept-within KeptReport film piece same frame sound = absurd frame
+kept-within (KeptFrame begin end) film (Report unit) same frame sound = cc
+kept-within (KeptFrame begin end) film (Frame unit its) same frame sound = omega (arith, sound.some, sound.within)
 
-pub row-within : (film : Film) (row : Row) (piece : Piece) → IsRow film.units.items row piece → IsSound film.bytes.items piece → row.report ≡ false → from_of piece + wire_of piece ≤ length film.bytes.items + 20
-row-within film row piece is sound frame =
-    let to = frame-from film.bytes.items (unit_of piece) (packet (unit_of piece) (from_of piece) (from_of piece + (wire_of piece - 20)) row.begin row.end) is.piece_is frame sound in
-    omega (arith, to, wire-least film.bytes.items piece sound)
+pub row-within : (film : Film) (row : Row) (piece : Piece) → IsRow film.units.items row piece → IsSound film.bytes.items piece → IsFrameRow row → from_of piece + wire_of piece ≤ length film.bytes.items + 20
+row-within film row piece is sound frame = kept-within row.kept film.bytes.items piece is.piece_is frame sound
 
 pub film-short : (film : Film) → length film.bytes.items ≤ 2 ^ 40
 film-short film = film-bytes film.bytes.items film.grammar.accepted

@@ -86,10 +86,19 @@ trace-last-now {kept} {ends} {sizes} now seen is some =
     let same : begin_of (zero_frames sizes) (last + 1) ≡ begin_of (zero_frames sizes) (length (zero_frames sizes)) = ap (λ n. begin_of (zero_frames sizes) n) (omega (arith, some, are.count)) in
     omega (arith, are.each last (omega (arith, some)), same, begin-all (zero_frames sizes))
 
--- zero bytes up to an end of a frame are next
-pub zeros-next : {ends : List ℕ} {at end : ℕ} {bytes : List ℕ} (sizes : List ℕ) (k n : ℕ) → AreEnds 0 (zero_frames sizes) ends → k < length ends → ((j : ℕ) → j < k → get_or ends j 0 < at + 1)
-    → end ≡ get_or ends k 0 → at < end → 1 ≤ n → at + n ≤ end → bytes ≡ replicate {A = ℕ} n 0 → IsNext (zero_frames sizes) at bytes
-zeros-next {ends} {at} {end} sizes k n are within below is later some fits zeros =
+-- n zero bytes from a place on, up to the end of its frame at most: frame k, whose end is the first after the place
+pub record ZerosTaken (ends : List ℕ) (k at end n : ℕ) (bytes : List ℕ) : Type 0 where
+  pub within : k < length ends
+  pub below : (j : ℕ) → j < k → get_or ends j 0 < at + 1
+  pub is : end ≡ get_or ends k 0
+  pub later : at < end
+  pub some : 1 ≤ n
+  pub fits : at + n ≤ end
+  pub zeros : bytes ≡ replicate {A = ℕ} n 0
+
+-- they are next
+pub zeros-next : {ends : List ℕ} {k at end n : ℕ} {bytes : List ℕ} (sizes : List ℕ) → AreEnds 0 (zero_frames sizes) ends → ZerosTaken ends k at end n bytes → IsNext (zero_frames sizes) at bytes
+zeros-next {k} {at} {n} sizes are taken =
     let pieces = zero_frames sizes in
     let inside : k < length pieces = omega (arith, within, are.count) in
     let begins = found-begins at k are within (λ j h. omega (arith, below j h)) in
@@ -102,7 +111,9 @@ zeros-next {ends} {at} {end} sizes k n are within below is later some fits zeros
     ap (λ (l : List ℕ). take n (drop o l)) piece
     ∙ ap (λ (l : List ℕ). take n l) (drop-replicate {X = ℕ} o (get_or sizes k 0) 0)
     ∙ take-replicate {X = ℕ} n (get_or sizes k 0 - o) 0 (omega (arith, begins, more, its, is, fits, count)) in
-    next-found k n inside begins some (omega (arith, its, is, fits)) (zeros ∙ sym same)
+    next-found n inside begins some (omega (arith, its, is, fits)) (zeros ∙ sym same)
+  where
+    open taken use {within, below, is, later, some, fits, zeros}
 
 -- one more sum
 pub sum-more : (sizes : List ℕ) (k : ℕ) → k < length sizes → sum (take (k + 1) sizes) ≡ sum (take k sizes) + get_or sizes k 0

@@ -42,9 +42,9 @@ ends-rise base pieces ends are = IsNonDecreasingBy-from_default (λ x. x) ends 0
     omega (arith, are.each i (omega (arith, h, l)), are.each j l, begin-le pieces (i + 1) (j + 1) (omega (arith, h))))
 
 -- a search's answer is a piece's number, where not all ends lie below the place
-pub found : {base : ℕ} {pieces : List (List ℕ)} {ends : List ℕ} (at k : ℕ) → AreEnds base pieces ends → 0 < at → at ≤ length (framed_bytes pieces)
+pub found : {base : ℕ} {pieces : List (List ℕ)} {ends : List ℕ} {k : ℕ} (at : ℕ) → AreEnds base pieces ends → 0 < at → at ≤ length (framed_bytes pieces)
     → k ≤ length ends → ((j : ℕ) → j < k → get_or ends j 0 < base + at) → k < length ends
-found {base} {pieces} {ends} at k are some within count below =
+found {base} {pieces} {ends} {k} at are some within count below =
     elim (cases_lt k (length ends)) [
       | inl l ↦ l
       | inr g ↦
@@ -117,9 +117,9 @@ bytes-within pieces k o n within fits =
     ∙ take-append-le n (drop o piece) rest (omega (arith, fits, length-drop o piece))
 
 -- bytes of the piece in which a place lies, from that place on, are next
-pub next-found : {pieces : List (List ℕ)} {at : ℕ} {bytes : List ℕ} (k n : ℕ) → k < length pieces → begin_of pieces k ≤ at → 1 ≤ n → at + n ≤ begin_of pieces (k + 1)
+pub next-found : {pieces : List (List ℕ)} {k at : ℕ} {bytes : List ℕ} (n : ℕ) → k < length pieces → begin_of pieces k ≤ at → 1 ≤ n → at + n ≤ begin_of pieces (k + 1)
     → bytes ≡ take n (drop (at - begin_of pieces k) (get_or pieces k [])) → IsNext pieces at bytes
-next-found {pieces} {at} {bytes} k n within begins some ends are =
+next-found {pieces} {k} {at} {bytes} n within begins some ends are =
     let o = at - begin_of pieces k in
     let more = begin-more pieces k within in
     let fits : o + n ≤ length (get_or pieces k []) = omega (arith, begins, ends, more) in

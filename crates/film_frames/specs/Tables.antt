@@ -1,5 +1,5 @@
 -- The table of a film's reports and frames.
-use Rattle.std.specs.Prelude.{ℕ, ◌+◌, ◌-◌, ◌^◌, ◌≤◌, ◌<◌, ◌≡◌, if◌then◌else◌, List, [], ◌∷◌, ◌++◌}
+use Rattle.std.specs.Prelude.{ℕ, ◌+◌, ◌-◌, ◌^◌, ◌≤◌, ◌<◌, ◌≡◌, List, [], ◌∷◌, ◌++◌}
 use Rattle.std.specs.Prelude.{length, take, get_or, slice_get, Some}
 use Rattle.mpeg_scan.specs.declared.units.Unit.{Unit as PictureUnit}
 use Rattle.mpeg_scan.specs.declared.films.Film.{Film}
@@ -7,15 +7,29 @@ use Rattle.rtp_pack.specs.declared.payloads.Packet.{Packet}
 use Rattle.rtp_pack.specs.Packets.{packet}
 use Rattle.film_frames.specs.declared.pieces.Piece.{Piece}
 use Rattle.film_frames.specs.declared.pieces.Piece.TheVariants.{Report, Frame}
+use Rattle.film_frames.specs.declared.rows.Kept.{Kept}
+use Rattle.film_frames.specs.declared.rows.Kept.TheVariants.{Report as KeptReport}
+use Rattle.film_frames.specs.declared.rows.Kept.TheVariants.{Frame as KeptFrame}
 use Rattle.film_frames.specs.declared.rows.Row.{Row}
 use Rattle.film_frames.specs.declared.tables.FrameTable.{FrameTable}
 use Rattle.film_frames.specs.Pieces.{film_pieces, pieces_of, from_of, unit_of, wire_of, wire_in}
 
--- the piece of a row, where its unit, the place of its payload and its bytes are known
+-- the piece of what a row keeps, where its unit, the place of its payload and its bytes are known
+abbrev pub kept_piece : Kept → PictureUnit → ℕ → ℕ → Piece
+kept_piece KeptReport unit from size = Report unit
+kept_piece (KeptFrame begin end) unit from size =
+    Frame unit (packet unit from (from + (size - 20)) begin end)
+
 abbrev pub row_piece : Row → PictureUnit → ℕ → ℕ → Piece
-row_piece row unit from size =
-    if row.report then Report unit
-    else Frame unit (packet unit from (from + (size - 20)) row.begin row.end)
+row_piece row unit from size = kept_piece row.kept unit from size
+
+-- a row is that of a frame
+abbrev pub IsFrameKept : Kept → Type 0
+IsFrameKept KeptReport = ⊥
+IsFrameKept (KeptFrame begin end) = Unit {0}
+
+abbrev pub IsFrameRow : Row → Type 0
+IsFrameRow row = IsFrameKept row.kept
 
 -- a frame's packet has 1 to 1,380 bytes of the film, and its flags are those of its place in the
 -- unit

@@ -1,8 +1,8 @@
 //! What the table keeps of a report or a frame.
-ghost use Rattle.std.specs.Prelude.{◌≡◌, ◌+◌, ◌^◌, ◌<◌, ◌≤◌, ℕ, List, false, slice_get, Some};
+ghost use Rattle.std.specs.Prelude.{◌≡◌, ◌+◌, ◌^◌, ◌<◌, ◌≤◌, ℕ, List, slice_get, Some};
 ghost use Rattle.mpeg_scan.specs.declared.units.Unit.{Unit as PictureUnit};
 ghost use Rattle.film_frames.specs.Pieces.{unit_of, wire_of};
-ghost use Rattle.film_frames.specs.Tables.{IsRow, IsSound, row_piece};
+ghost use Rattle.film_frames.specs.Tables.{IsFrameRow, IsRow, IsSound, row_piece};
 
 use crate::pieces::Piece;
 use mpeg_scan::Unit;
@@ -13,12 +13,22 @@ use rtp_pack::{FRAME_HEADS, Packet};
 pub(crate) struct Row {
     /// The number of its unit.
     unit: u32,
-    /// Whether it is a report.
-    report: bool,
-    /// Whether the payload begins with a slice, or with the unit's head and a slice after it.
-    begin: bool,
-    /// Whether the payload ends with a slice's last byte.
-    end: bool,
+    /// What it is.
+    kept: Kept,
+}
+
+/// A report, or a frame with what its payload shows.
+#[derive(Clone, Copy, Debug, PartialEq, Eq)]
+pub(crate) enum Kept {
+    /// A report.
+    Report,
+    /// A frame.
+    Frame {
+        /// Whether the payload begins with a slice, or with the unit's head and a slice after it.
+        begin: bool,
+        /// Whether the payload ends with a slice's last byte.
+        end: bool,
+    },
 }
 
 impl Row {
@@ -27,20 +37,14 @@ impl Row {
         ensures { (film : List ℕ) (units : List PictureUnit) → IsSound film piece.now
             → slice_get units unit ≡ Some (unit_of piece.now) → IsRow units result piece.now }
     {
-        match piece {
-            Piece::Report(_) => Row {
-                unit,
-                report: true,
-                begin: false,
-                end: false,
-            },
-            Piece::Frame(_, packet) => Row {
-                unit,
-                report: false,
+        let kept = match piece {
+            Piece::Report(_) => Kept::Report,
+            Piece::Frame(_, packet) => Kept::Frame {
                 begin: packet.begin,
                 end: packet.end,
             },
-        }
+        };
+        Row { unit, kept }
     }
 
     /// The number of its unit.
@@ -53,23 +57,25 @@ impl Row {
     /// The piece, by its unit, the place of its payload in the film and the number of its bytes.
     pub(crate) fn piece(&self, unit: &Unit, from: u64, size: u64) -> Piece
         requires least { 20 ≤ size }
-        requires most { self.now.report ≡ false → from + size < 2 ^ 64 }
+        requires most { IsFrameRow self.now → from + size < 2 ^ 64 }
         ensures { result ≡ row_piece self.now unit.now from size }
     {
-        if self.report {
-            return Piece::Report(*unit);
+        match self.kept {
+            Kept::Report => Piece::Report(*unit),
+            Kept::Frame { begin, end } => {
+                let to = from + (size - FRAME_HEADS);
+                Piece::Frame(
+                    *unit,
+                    Packet {
+                        from,
+                        to,
+                        marker: to == unit.to,
+                        begin,
+                        end,
+                        sequence_header: unit.has_sequence && from == unit.from,
+                    },
+                )
+            }
         }
-        let to = from + (size - FRAME_HEADS);
-        Piece::Frame(
-            *unit,
-            Packet {
-                from,
-                to,
-                marker: to == unit.to,
-                begin: self.begin,
-                end: self.end,
-                sequence_header: unit.has_sequence && from == unit.from,
-            },
-        )
     }
 }

@@ -41,6 +41,11 @@ fn tracks_traces(rt: HostRuntime) -> Result<(), Fail> {
         );
         assert!(rt; part.payload.iter().all(|byte| *byte == 0), "at {at}");
     }
+    Ok(())
+}
+
+#[test]
+fn tracks_no_frames(rt: HostRuntime) -> Result<(), Fail> {
     let Ok(none) = TraceTrack::new(Vec::new(rt.alloc())) else {
         return Err(Fail::from("no memory for a track"));
     };

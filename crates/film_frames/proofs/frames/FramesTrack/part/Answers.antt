@@ -5,7 +5,7 @@ use Rattle.film_frames.specs.Pieces.{octets_in}
 use Rattle.film_frames.specs.Runs.{payload, run_pieces, pieces_in}
 use Rattle.film_frames.specs.Tracks.{begin_of}
 use Rattle.film_frames.proofs.RunLemmas.{count_ended-is}
-use Rattle.film_frames.proofs.NextLemmas.{count-among, ends-boundary, frame-part, is-in}
+use Rattle.film_frames.proofs.NextLemmas.{InFrame, count-among, ends-boundary, frame-part, is-in}
 use Rattle.film_frames.proofs.NextLemmas.{report-rest, rest-next}
 use Rattle.film_frames.proofs.frames.FramesTrack.part.Goals as goal
 
@@ -67,8 +67,13 @@ returns-in-Frame-clause-bytes c =
     let cut = c.in-Frame.ensures.sound in
     let o = c.args.at - c.place.result in
     let block = c.put_heads.new.head in
-    let part = frame-part {bytes = c.payload.result.now} {low = c.min.result} {high = c.max.result} run.film block p o c.payload.array_long (omega (arith, cut.some)) cut.within (omega (arith, lies.inside, c.place.ensures.begin))
-    c.min.ensures c.max.ensures c.payload.ensures in
+    let in_frame : InFrame run.film block p o = record {
+      long = c.payload.array_long;
+      order = omega (arith, cut.some);
+      within = cut.within;
+      inside = omega (arith, lies.inside, c.place.ensures.begin);
+    } in
+    let part = frame-part {bytes = c.payload.result.now} {low = c.min.result} {high = c.max.result} in_frame c.min.ensures c.max.ensures c.payload.ensures in
     let whole = c.put_heads.ensures (octets_in (take k (pieces_in run))) in
     let same : drop o (take 20 block ++ payload run.film p) ≡ drop (c.args.at - begin_of (run_pieces run) k) (get_or (run_pieces run) k []) =
     ap (λ (l : List ℕ). drop o l) (whole ∙ sym lies.bytes) ∙ ap (λ n. drop (c.args.at - n) (get_or (run_pieces run) k [])) c.place.ensures.begin in
@@ -83,8 +88,13 @@ returns-in-Frame-clause-whole c =
     let cut = c.in-Frame.ensures.sound in
     let o = c.args.at - c.place.result in
     let block = c.put_heads.new.head in
-    let part = frame-part {bytes = c.payload.result.now} {low = c.min.result} {high = c.max.result} run.film block p o c.payload.array_long (omega (arith, cut.some)) cut.within (omega (arith, lies.inside, c.place.ensures.begin))
-    c.min.ensures c.max.ensures c.payload.ensures in
+    let in_frame : InFrame run.film block p o = record {
+      long = c.payload.array_long;
+      order = omega (arith, cut.some);
+      within = cut.within;
+      inside = omega (arith, lies.inside, c.place.ensures.begin);
+    } in
+    let part = frame-part {bytes = c.payload.result.now} {low = c.min.result} {high = c.max.result} in_frame c.min.ensures c.max.ensures c.payload.ensures in
     ends-boundary (run_pieces run) k _ lies.number (omega (arith, part.1, lies.inside, lies.ends, lies.begins, c.place.ensures.begin))
 
 pub returns-in-Frame-clause-report : goal.returns-in-Frame-clause-report

@@ -35,7 +35,7 @@ put-requires-clause-sound c =
     let film = c.args.film.now in
     let unit = c.index-unit.result.now in
     let at = slice_get_read film.units.items (length film.units.items) c.args.number unit refl c.requires.within c.index-unit.ensures in
-    (film.bytes.items, packet-sound film c.args.number c.loop-packet.packet-index none at (c.requires.packets unit at) c.loop-packet-test.true)
+    (film.bytes.items, packet-sound film c.args.number none at (c.requires.packets unit at) c.loop-packet-test.true)
 
 pub loop-packet-preserved : goal.loop-packet-preserved
 unfolding none
@@ -45,11 +45,11 @@ loop-packet-preserved c =
     let packets = c.args.packets.now in
     let i = c.loop-packet.packet-index in
     let at = slice_get_read film.units.items (length film.units.items) c.args.number unit refl c.requires.within c.index-unit.ensures in
-    let sound = packet-sound film c.args.number i none at (c.requires.packets unit at) c.loop-packet-test.true in
+    let sound = packet-sound film c.args.number none at (c.requires.packets unit at) c.loop-packet-test.true in
     let P : List Piece → Type 0 = λ l. IsTable film.units.items l c.put.new.self in
     let table = c.in_ok-put.ensures.table film.bytes.items film.units.items (before_packet film c.args.number unit packets i) sound at c.loop-packet.invariant.table in
     record {
-      table = subst P (packets-more film c.args.number unit packets i none c.loop-packet-test.true) table;
+      table = subst P (packets-more film c.args.number unit packets none c.loop-packet-test.true) table;
       firsts = c.in_ok-put.ensures.firsts ∙ c.loop-packet.invariant.firsts;
     }
 

@@ -11,13 +11,13 @@ ends_below-requires c =
 pub bounds-ends-ends_below : goal.bounds-ends-ends_below
 bounds-ends-ends_below c =
     let are = trace-track c.self.inside.ends.items c.deref-ends.result.now c.args.self.now c.deref-ends.ensures.value c.self.view_is c.self.invariant in
-    found c.args.at c.ends_below.result are (omega (arith, c.if-at-eq0.false)) c.requires c.ends_below.ensures.count
+    found c.args.at are (omega (arith, c.if-at-eq0.false)) c.requires c.ends_below.ensures.count
     (λ j h. omega (arith, c.ends_below.ensures.below j h))
 
 pub returns : goal.returns
 returns c =
     let are = trace-track c.self.inside.ends.items c.deref-ends.result.now c.args.self.now c.deref-ends.ensures.value c.self.view_is c.self.invariant in
-    let within = found c.args.at c.ends_below.result are (omega (arith, c.if-at-eq0.false)) c.requires c.ends_below.ensures.count (λ j h. omega (arith, c.ends_below.ensures.below j h)) in
+    let within = found c.args.at are (omega (arith, c.if-at-eq0.false)) c.requires c.ends_below.ensures.count (λ j h. omega (arith, c.ends_below.ensures.below j h)) in
     let end = get_or c.deref-ends.result.now c.ends_below.result 0 in
     let place : end - 0 ≡ end = omega arith in
     let P : ℕ → Type 0 = λ b. IsBoundaryAfter (zero_frames c.args.self.now) c.args.at b in
