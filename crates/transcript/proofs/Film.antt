@@ -14,7 +14,7 @@ use Rattle.film_frames.specs.Laws.{frames_among, payloads as joined}
 use Rattle.film_frames.specs.Pieces.{pieces_of, wire_size}
 use Rattle.film_frames.specs.Runs.{Run, blocks_from, count_ended, run_of, run_pieces}
 use Rattle.film_frames.specs.Tracks.{framed_bytes}
-use Rattle.film_frames.proofs.BackLemmas.{comes-back, run-sum}
+use Rattle.film_frames.proofs.BackLemmas.{FirstAndLast, comes-back, run-sum}
 use Rattle.film_frames.proofs.FilmLemmas.{laid-film}
 use Rattle.rtsp_client.specs.Answers.{cut_bytes, moments_in, payloads_of}
 use Rattle.rtsp_client.specs.Courses.{Stage}
@@ -188,11 +188,15 @@ film-back {film} {identity} {x} {first} {last} h is sum_is at_first at_last =
     let starts = film.slice_starts.items in
     let items = film.units.items in
     let bs = blocks_from run 0 0 (pieces_of starts items) in
-    let some = film-some film.bytes.items film.rate film.units.items film.slice_starts.items film.grammar in
+    let units : FirstAndLast film 0 (length items) first last = record {
+      order = film-some film.bytes.items film.rate items film.slice_starts.items film.grammar;
+      first_at = at_first;
+      last_at = at_last;
+    } in
     ap (λ (s : Sum). s.payloads) sum_is
     ∙ (steps-payloads (begun_sum x) (moments_in x.blocks)
     ∙ (ap (λ l. payloads_of (moments_in l)) is.blocks
     ∙ (payloads-are (moments_in bs)
     ∙ (ap joined (units-told (record { run = run; frames = 0; octets = 0; media = is.media; control = is.control }) starts items)
     ∙ (ap (λ us. joined (frames_among (pieces_of starts us) (blocks_from run 0 0 (pieces_of starts us)))) (sym (units-all film))
-    ∙ comes-back film 0 (length items) identity first last some at_first at_last)))))
+    ∙ comes-back identity units)))))
