@@ -5,7 +5,7 @@ use Rattle.rtp_pack.specs.declared.reports.Identity.{Identity}
 use Rattle.film_frames.specs.Tracks.{IsBoundary}
 use Rattle.film_frames.specs.Runs.{run_of, pieces_in, run_pieces}
 use Rattle.film_frames.proofs.RunLemmas.{blocks_from-count}
-use Rattle.film_frames.proofs.SentLemmas.{IsRun, run-begin}
+use Rattle.film_frames.proofs.SentLemmas.{run-begin}
 
 -- units of a film, from one on up to another
 pub record FilmPart : Type 0 where
@@ -21,10 +21,8 @@ pub same-boundaries : {place : ℕ} (part : FilmPart) (one other : Identity)
 same-boundaries {place} part one other b =
     let a_run = run_of film first end one in
     let b_run = run_of film first end other in
-    let a_is : IsRun film first end one a_run = record { view = refl; order = order; within = within } in
-    let b_is : IsRun film first end other b_run = record { view = refl; order = order; within = within } in
-    let a = run-begin b.number a_is in
-    let c = run-begin b.number b_is in
+    let a = run-begin film first end one a_run b.number (record { view = refl; order = order; within = within }) in
+    let c = run-begin film first end other b_run b.number (record { view = refl; order = order; within = within }) in
     record {
       number = b.number;
       among = omega (arith, b.among, blocks_from-count a_run 0 0 (pieces_in a_run), blocks_from-count b_run 0 0 (pieces_in b_run));
