@@ -169,7 +169,7 @@ run-sum film first_unit end_unit identity order within =
     let laid = laid-take end starts (drop first_unit film.units.items) (end_unit - first_unit) (laid-drop end starts film.units.items first_unit (laid-film film)) in (
       (between film first_unit end_unit identity run is).sound,
       sym (begin-all (run_pieces run))
-          ∙ run-begin film first_unit end_unit identity run n is
+          ∙ run-begin first_unit end_unit identity run n is
           ∙ ap (λ (l : List Piece). wire_in l) (take_all n (pieces_in run) (omega (arith, blocks_from-count run 0 0 (pieces_in run))))
           ∙ units-wire end starts run.units laid,
     )

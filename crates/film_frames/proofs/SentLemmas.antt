@@ -116,8 +116,9 @@ run-frames {film} {first_unit} {end_unit} {identity} {run} k is short at =
     let lies = between film first_unit end_unit identity run is in
     sum-between count_of (among-run lies short at)
 
-pub run-begin : (film : Film) (first_unit end_unit : ℕ) (identity : Identity) (run : Run) (k : ℕ) → IsRun film first_unit end_unit identity run → begin_of (run_pieces run) k ≡ wire_in (take k (pieces_in run))
-run-begin film first_unit end_unit identity run k is = blocks_from-begin run 0 0 (pieces_in run) k (between film first_unit end_unit identity run is).sound
+pub run-begin : {film : Film} (first_unit end_unit : ℕ) (identity : Identity) (run : Run) (k : ℕ) → IsRun film first_unit end_unit identity run
+    → begin_of (run_pieces run) k ≡ wire_in (take k (pieces_in run))
+run-begin {film} first_unit end_unit identity run k is = blocks_from-begin run 0 0 (pieces_in run) k (between film first_unit end_unit identity run is).sound
 
 pub run-piece : {film : Film} {first_unit end_unit : ℕ} {identity : Identity} {run : Run} {n : ℕ} (k : ℕ) → IsRun film first_unit end_unit identity run → k < length (pieces_in run) → n ≡ length (front_pieces film first_unit) + k
     → slice_get (film_pieces film) n ≡ slice_get (pieces_in run) k
@@ -142,7 +143,7 @@ run-ends {film} {first_unit} {end_unit} {identity} {run} {first} {end} {base} {e
           let short : k + 1 ≤ length (pieces_in run) = omega (arith, h, count, counts.0, first_is, end_is) in
           let sum = run-wire {film = film} {first_unit = first_unit} {end_unit = end_unit} {identity = identity} {run = run} {n = first + k + 1} (k + 1) is short (omega (arith, first_is)) in
           let from : base ≡ wire_in (take (length (front_pieces film first_unit)) (film_pieces film)) = base_is ∙ ap (λ n. wire_in (take n (film_pieces film))) first_is in
-          omega (arith, each k (omega (arith, h, count)), sum, from, run-begin film first_unit end_unit identity run (k + 1) is);
+          omega (arith, each k (omega (arith, h, count)), sum, from, run-begin first_unit end_unit identity run (k + 1) is);
     }
 
 -- the bytes of the run and all before it
@@ -153,4 +154,4 @@ run-total film first_unit end_unit identity run is =
     let sum = run-wire n is (omega arith) refl in
     let some = sum_by-take-le wire_of (film_pieces film) (length (front_pieces film first_unit) + n) in
     let last : begin_of (run_pieces run) (length (run_pieces run)) ≡ begin_of (run_pieces run) n = ap (λ m. begin_of (run_pieces run) m) (blocks_from-count run 0 0 (pieces_in run)) in
-    omega (arith, sum, some, film-wire film, film-bound film, run-begin film first_unit end_unit identity run n is, last, begin-all (run_pieces run))
+    omega (arith, sum, some, film-wire film, film-bound film, run-begin first_unit end_unit identity run n is, last, begin-all (run_pieces run))

@@ -32,4 +32,4 @@ pub returns-clause-begin : goal.returns-clause-begin
 returns-clause-begin c =
     let f = c.self.inside in
     let has = is-run-of c.self.inside c.args.self.now c.self.view_is c.self.invariant in
-    returns-clause-wire c ∙ sym (run-begin f.stored.now.film f.first_unit f.end_unit f.identity c.args.self.now c.args.piece has.is)
+    returns-clause-wire c ∙ sym (run-begin f.first_unit f.end_unit f.identity c.args.self.now c.args.piece has.is)
