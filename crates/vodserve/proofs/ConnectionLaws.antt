@@ -26,6 +26,7 @@ use Rattle.vodserve.specs.Run.{HasServed as HasServedFilms, World}
 use Rattle.vodserve.specs.declared.run.Ended.{Ended}
 use Rattle.vodserve.specs.Worked.{AllWorked, HasBack, HasWorked, IsOpenedOnce, all_reports, settings_of}
 use Rattle.vodserve.proofs.ServeLaws.{HasRunAll, ended_whole, given_back, run_all, worker_of}
+use Rattle.vodserve.proofs.ServeLemmas.{Working}
 
 all_left : {A : Type 0} (P : A → Type 0) (xs ys : List A) → All P (xs ++ ys) → All P xs
 all_left P [] ys all = All-nil P
@@ -93,17 +94,19 @@ part_told {by} {journal} {report} worked =
     subst (λ (n : ℕ). All (IsReceiptIn journal (n + 1)) (slice_index_or report.reports.items k none).receipts.items) (sym (worked.served.reports.worker_is k none inside))
     (all k none inside)
 
-parts_told : (films : List Stored) (serving : Serving) (seed : List ℕ) (journal : List Entry) (gate gate' : Outlet) (from : ℕ) (parts : List PartReport) →
-    AllWorked films serving seed journal gate gate' from parts → All (IsReportIn journal) (all_reports parts)
-parts_told films serving seed journal gate gate' from [] all = All-nil (IsReportIn journal)
-parts_told films serving seed journal gate gate' from (part ∷ parts) all =
-    All-append (IsReportIn journal) part.reports.items (all_reports parts) (part_told all.0)
-    (parts_told films serving seed journal gate gate' (from + 1) parts all.1)
+parts_told : (work : Working) (from : ℕ) (parts : List PartReport) →
+    AllWorked work.films work.serving work.seed work.journal work.gate work.gate_after from parts →
+    All (IsReportIn work.journal) (all_reports parts)
+parts_told work from [] all = All-nil (IsReportIn work.journal)
+parts_told work from (part ∷ parts) all =
+    All-append (IsReportIn work.journal) part.reports.items (all_reports parts) (part_told all.0)
+    (parts_told work (from + 1) parts all.1)
 
 -- the reports are those of the workers
-reports_whole : (before after : World) (seed : List ℕ) (serving : Serving) (ended : Ended) (served : HasServedFilms before after seed serving ended) →
-    served.end ≢ PartNoMemory → ended.reports.items ≡ all_reports served.worked.parts
-reports_whole before after seed serving ended served found = elim served.worked.left.whole [
+reports_whole : {before after : World} {seed : List ℕ} {serving : Serving} {ended : Ended}
+    (served : HasServedFilms before after seed serving ended) → served.end ≢ PartNoMemory →
+    ended.reports.items ≡ all_reports served.worked.parts
+reports_whole served found = elim served.worked.left.whole [
   | inl memory ↦ absurd (found memory)
   | inr whole ↦ whole
 ]
@@ -112,8 +115,15 @@ pub tells_its_journal : TellsItsJournal
 tells_its_journal before after seed serving ended (inl kept) status =
     subst (All (IsReportIn ended.journal.items)) (sym kept.1.2.1) (All-nil (IsReportIn ended.journal.items))
 tells_its_journal before after seed serving ended (inr served) status =
-    subst (All (IsReportIn ended.journal.items)) (sym (reports_whole before after seed serving ended served (ended_whole before after _ served.ends status)))
-    (parts_told served.films serving seed ended.journal.items before.gate after.gate 0 served.worked.parts served.worked.each)
+    subst (All (IsReportIn ended.journal.items)) (sym (reports_whole served (ended_whole before after _ served.ends status)))
+    (parts_told (record {
+      films = served.films;
+      serving = serving;
+      seed = seed;
+      journal = ended.journal.items;
+      gate = before.gate;
+      gate_after = after.gate;
+    }) 0 served.worked.parts served.worked.each)
 
 -- ---- connections
 
@@ -160,21 +170,26 @@ record IsOne (films : List Stored) (settings : Settings) (returned : Returned) (
   served : HasServedOne films settings returned report old new
   on : GoesOn new left
 
+-- a place among the connections that were given back
+record InsideBack (back : List Returned) (k : ℕ) : Type 0 where
+  none : Returned
+  no_report : ConnReport
+  inside : k < length back
+
 one_at : {films : List Stored} {settings : Settings} {old new : Sitting} (back : List Returned)
-    (reports : List ConnReport) →
-    AreServed films settings old back reports new → (k : ℕ) (none : Returned) (no_report : ConnReport) → k < length back →
-    IsOne films settings (slice_index_or back k none) (slice_index_or reports k no_report) old new
-one_at {new} [] reports served k none no_report inside = absurd (omega (arith, inside))
-one_at {new} (returned ∷ back) [] served k none no_report inside = absurd served
-one_at {films} {settings} {old} {new} (returned ∷ back) (report ∷ reports) served zero none no_report inside = record {
+    (reports : List ConnReport) → AreServed films settings old back reports new → (k : ℕ) (here : InsideBack back k) →
+    IsOne films settings (slice_index_or back k here.none) (slice_index_or reports k here.no_report) old new
+one_at {new} [] reports served k here = absurd (omega (arith, here.inside))
+one_at {new} (returned ∷ back) [] served k here = absurd served
+one_at {films} {settings} {old} {new} (returned ∷ back) (report ∷ reports) served zero here = record {
   old = old;
   new = served.0;
   terms = (one_on served.1.0).terms;
   served = served.1.0;
   on = all_on films settings back reports served.1.1;
 }
-one_at {old} {new} (returned ∷ back) (report ∷ reports) served (suc k) none no_report inside =
-    let rest = one_at back reports served.1.1 k none no_report (omega (arith, inside)) in
+one_at {old} {new} (returned ∷ back) (report ∷ reports) served (suc k) here =
+    let rest = one_at back reports served.1.1 k (record { none = none; no_report = no_report; inside = omega (arith, inside) }) in
     record {
       old = rest.old;
       new = rest.new;
@@ -182,6 +197,8 @@ one_at {old} {new} (returned ∷ back) (report ∷ reports) served (suc k) none 
       served = rest.served;
       on = rest.on;
     }
+  where
+    open here use {none, no_report, inside}
 
 part_served : {films : List Stored} {serving : Serving} {seed : List ℕ} {journal : List Entry} {gate gate' : Outlet}
     {content : Content} {worker : ℕ} {report : PartReport} →
@@ -201,7 +218,7 @@ part_served {films} {serving} {seed} {journal} {content} {worker} {report} worke
           count = sym long;
           each = λ k none no_report inside.
               let one : IsOne films settings (slice_index_or back.0.own.back k none) (slice_index_or reports k no_report) worked.seat worked.left =
-              one_at back.0.own.back reports served k none no_report inside in
+              one_at back.0.own.back reports served k (record { none = none; no_report = no_report; inside = inside }) in
               record {
                 worker_is = worked.served.reports.worker_is k no_report (omega (arith, inside, long));
                 words_are = worked.served.reports.words_are k no_report (omega (arith, inside, long));
@@ -228,8 +245,9 @@ serves_each before after seed serving ended gate serves told have_run =
       once = subst (λ (g : Option Content). IfSome g (IsOpenedOnce before.gate.told)) told run.served.once;
       parts = worked.parts;
       count = worked.count;
-      reports = reports_whole before after seed serving ended run.served run.found;
+      reports = reports_whole run.served run.found;
       each = λ worker none inside.
           part_served
-          (worker_of run.served.films seed worked.parts worked.each worker none (omega (arith, inside, worked.count))) told;
+          (worker_of (record { films = run.served.films; serving = _; seed = seed; journal = _; gate = _; gate_after = _ })
+          worked.parts worked.each worker none (omega (arith, inside, worked.count))) told;
     }

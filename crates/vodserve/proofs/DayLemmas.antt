@@ -47,17 +47,24 @@ sources_push sources after source e own are =
 pub record AreHeldFront (held : List File) (named : List Named) (sources : List Source) : Type 0 where
   pub each : (k : ℕ) (name : Named) (none : Source) → k < length sources → IsHeldAs held (get_or named k name) (get_or sources k none)
 
+-- the next of the names, after so many sources
+pub record NextNamed (named : List Named) (sources : List Source) (one : Named) (i : ℕ) : Type 0 where
+  pub long : length sources ≡ i
+  pub inside : i < length named
+  pub at : one ≡ get_or named i one
+
 pub held_push : {held : List File} {named : List Named} {sources after : List Source} {one : Named} {i : ℕ}
-    (source : Source) → after ≡ sources ++ source ∷ [] →
-    length sources ≡ i → i < length named → one ≡ get_or named i one → AreHeldFront held named sources → IsHeldAs held one source → AreHeldFront held named after
-held_push {held} {named} {sources} {one} {i} source e long inside at are own =
+    (source : Source) → after ≡ sources ++ source ∷ [] → NextNamed named sources one i →
+    AreHeldFront held named sources → IsHeldAs held one source → AreHeldFront held named after
+held_push {held} {named} {sources} {one} {i} source e next are own =
     subst (λ (l : List Source). AreHeldFront held named l) (sym e) (record {
       each = λ k name none short. elim (cases_lt k (length sources)) [
         | inl before ↦ subst (λ (s : Source). IsHeldAs held (get_or named k name) s) (sym (get_or_append_left sources (source ∷ []) none k before)) (are.each k name none before)
         | inr past ↦
-            let here : k ≡ i = omega (arith, past, short, long, length-append sources (source ∷ [])) in
-            let named_is : one ≡ get_or named k name = get_or_read_under named i (length named) one name at inside refl ∙ ap (λ (j : ℕ). get_or named j name) (sym here) in
-            let source_is : get_or (sources ++ source ∷ []) k none ≡ source = get_or_push sources source none k (long ∙ sym here) in
+            let here : k ≡ i = omega (arith, past, short, next.long, length-append sources (source ∷ [])) in
+            let named_is : one ≡ get_or named k name = get_or_read_under named i (length named) one name next.at next.inside refl ∙ ap
+            (λ (j : ℕ). get_or named j name) (sym here) in
+            let source_is : get_or (sources ++ source ∷ []) k none ≡ source = get_or_push sources source none k (next.long ∙ sym here) in
             subst (λ (s : Source). IsHeldAs held (get_or named k name) s) (sym source_is) (subst (λ (n : Named). IsHeldAs held n source) named_is own)
       ];
     })
@@ -73,12 +80,20 @@ first_of : {A : Type 0} (xs : List A) (k : ℕ) → k < length xs → A
 first_of [] k inside = absurd (omega (arith, inside))
 first_of (x ∷ xs) k inside = x
 
+-- a source that is refused under its name
+record RefusedSource (film : Bool) (held : List File) (name : List ℕ) : Type 0 where
+  fault : Fault
+  refused : IsRefusedAs film held name fault
+
 -- what the library holds isn't refused
-held_as_not_refused : (held : List File) (film : Bool) (name : List ℕ) (source : Source) (fault : Fault) → IsHeldUnder film held name source → IsRefusedAs film held name fault → ⊥
-held_as_not_refused held true name (Film stored) fault is refused = held_not_refused held name stored.film.bytes.items fault is.1 refused
-held_as_not_refused held true name (Trace sizes) fault is refused = true≢false is.0
-held_as_not_refused held false name (Film stored) fault is refused = true≢false (sym is.0)
-held_as_not_refused held false name (Trace sizes) fault is refused = trace_not_refused held name sizes.items fault is.1 refused
+held_as_not_refused : {held : List File} {name : List ℕ} (film : Bool) (source : Source) →
+    RefusedSource film held name → IsHeldUnder film held name source → ⊥
+held_as_not_refused {held} {name} true (Film stored) refused_source is =
+    held_not_refused held name stored.film.bytes.items refused_source.fault is.1 refused_source.refused
+held_as_not_refused true (Trace sizes) refused_source is = true≢false is.0
+held_as_not_refused false (Film stored) refused_source is = true≢false (sym is.0)
+held_as_not_refused {held} {name} false (Trace sizes) refused_source is =
+    trace_not_refused held name sizes.items refused_source.fault is.1 refused_source.refused
 
 -- those that were loaded so far aren't refused
 front_accepted : {held : List File} {named : List Named} {sources : List Source} {i : ℕ} → i ≤ length named → length sources ≡ i → AreHeldFront held named sources →
@@ -87,9 +102,10 @@ front_accepted {held} {named} {sources} {i} few long are = λ k d inside fault r
     let short : k < i = omega (arith, inside, length-take i named, few) in
     let same : get_or (take i named) k d ≡ get_or named k d = get_or-take i named k d short in
     let other : Named = get_or (take i named) k d in
-    held_as_not_refused held other.film (string_bytes other.name) (get_or sources k (first_of sources k (omega (arith, short, long)))) fault
-    (subst (λ (n : Named). IsHeldAs held n (get_or sources k (first_of sources k (omega (arith, short, long))))) (sym same)
-    (are.each k d (first_of sources k (omega (arith, short, long))) (omega (arith, short, long)))) refused
+    held_as_not_refused other.film (get_or sources k (first_of sources k (omega (arith, short, long))))
+    (record { fault = fault; refused = refused }) (subst (λ (n : Named). IsHeldAs held n
+    (get_or sources k (first_of sources k (omega (arith, short, long))))) (sym same)
+    (are.each k d (first_of sources k (omega (arith, short, long))) (omega (arith, short, long))))
 
 -- a film or trace that is refused after those before it were loaded is the first
 pub first_named_refused : {held : List File} {named : List Named} {sources : List Source} {i : ℕ} {one : Named}
@@ -109,35 +125,50 @@ first_named_refused {named} {i} {one} {name} inside at long are is refused = rec
 
 -- ---- what is read once
 
+-- a line, those after it, and how many of these are read
+record FirstLines : Type 0 where
+  line : List ℕ
+  lines : List (List ℕ)
+  count : ℕ
+
 -- a line is taken in, where it and lines after it are read
-line_fails_after : {mid whole : Reading} {o : Option Reading} (r : Reading) (line : List ℕ) (lines : List (List ℕ))
-    (k : ℕ) → line_read r line ≡ o →
-    ((next : Reading) → lines_read next (take k lines) ≡ Some mid → lines_read next lines ≡ Some whole → ⊥) →
-    lines_read r (line ∷ take k lines) ≡ Some mid → lines_read r (line ∷ lines) ≡ Some whole → ⊥
-line_fails_after {whole} {o = None} r line lines k is fails before all =
-    let bad : None ≡ Some whole = sym (ap (option_and_then (λ (next : Reading). lines_read next lines)) is) ∙ all in
+line_fails_after : {mid whole : Reading} {o : Option Reading} (r : Reading) (first : FirstLines) →
+    line_read r first.line ≡ o →
+    ((next : Reading) → lines_read next (take first.count first.lines) ≡ Some mid → lines_read next first.lines ≡ Some whole → ⊥) →
+    lines_read r (first.line ∷ take first.count first.lines) ≡ Some mid →
+    lines_read r (first.line ∷ first.lines) ≡ Some whole → ⊥
+line_fails_after {whole} {o = None} r first is fails before all =
+    let bad : None ≡ Some whole = sym (ap (option_and_then (λ (next : Reading). lines_read next first.lines)) is) ∙ all in
     cc
-line_fails_after {whole} {o = Some next} r line lines k is fails before all =
-    fails next (sym (ap (option_and_then (λ (n : Reading). lines_read n (take k lines))) is) ∙ before)
-    (sym (ap (option_and_then (λ (n : Reading). lines_read n lines)) is) ∙ all)
+line_fails_after {whole} {o = Some next} r first is fails before all =
+    fails next (sym (ap (option_and_then (λ (n : Reading). lines_read n (take first.count first.lines))) is) ∙ before)
+    (sym (ap (option_and_then (λ (n : Reading). lines_read n first.lines)) is) ∙ all)
+
+-- a line among these at which a reading of those before it fails
+record FailingLine (lines : List (List ℕ)) (k : ℕ) (mid : Reading) : Type 0 where
+  inside : k < length lines
+  here : line_read mid (slice_index_or lines k []) ≡ None
 
 -- one of the lines of a text that is read may not stand there
-line_fails : {mid whole : Reading} (r : Reading) (lines : List (List ℕ)) (k : ℕ) → k < length lines → lines_read r (take k lines) ≡ Some mid →
-    line_read mid (slice_index_or lines k []) ≡ None → lines_read r lines ≡ Some whole → ⊥
-line_fails {whole} r [] k inside before here all = omega (arith, inside)
-line_fails {mid} {whole} r (line ∷ lines) zero inside before here all =
+line_fails : {mid whole : Reading} (r : Reading) (lines : List (List ℕ)) (k : ℕ) →
+    lines_read r (take k lines) ≡ Some mid → FailingLine lines k mid → lines_read r lines ≡ Some whole → ⊥
+line_fails {whole} r [] k before failing all = omega (arith, failing.inside)
+line_fails {mid} {whole} r (line ∷ lines) zero before failing all =
     let same : r ≡ mid = cc in
-    let none : line_read r line ≡ None = ap (λ (s : Reading). line_read s line) same ∙ here in
+    let none : line_read r line ≡ None = ap (λ (s : Reading). line_read s line) same ∙ failing.here in
     let bad : None ≡ Some whole = sym (ap (option_and_then (λ (next : Reading). lines_read next lines)) none) ∙ all in
     cc
-line_fails {whole} r (line ∷ lines) (suc k) inside before here all =
-    line_fails_after r line lines k refl (λ next front rest. line_fails next lines k (omega (arith, inside)) front here rest) before all
+line_fails {whole} r (line ∷ lines) (suc k) before failing all =
+    line_fails_after r (record { line = line; lines = lines; count = k }) refl
+    (λ next front rest. line_fails next lines k front (record { inside = omega (arith, failing.inside); here = failing.here })
+    rest) before all
 
 -- a script's text has no bad line
 script_not_bad : (text : List ℕ) (script : Script) (line : ℕ) → IsScript text script → IsBadLine text line → ⊥
 script_not_bad text script line is bad = elim bad.here [
   | inl many ↦ omega (arith, many, bad.inside, is.few)
-  | inr here ↦ line_fails nothing_read (lines_of_script text) (line - 1) (omega (arith, bad.some, bad.inside)) bad.before here is.read
+  | inr here ↦ line_fails nothing_read (lines_of_script text) (line - 1) bad.before
+      (record { inside = omega (arith, bad.some, bad.inside); here = here }) is.read
 ]
 
 script_not_refused : (held : List File) (name : List ℕ) (script : Script) (fault : Fault) → HoldsScript held name script → IsScriptRefused held name fault → ⊥
@@ -180,6 +211,10 @@ day_not_refused {held} {script} {read} {sources} name fault holds are (inr named
     sym (get_or-map name_of read.named.items k first.one) ∙ ap (λ (ns : List Name). get_or ns k (name_of first.one)) (sym names)
     ∙ get_or-map name_of other.named.items k first.one ∙ ap name_of at in
     let none : Source = first_of sources k (omega (arith, short, are.count)) in
-    held_as_not_refused held first.one.film (string_bytes first.one.name) (get_or sources k none) fault
-    (same_name (get_or read.named.items k first.one) first.one alike held (get_or sources k none) (are.each k first.one none short))
-    (subst (λ (n : List ℕ). IsRefusedAs first.one.film held n fault) first.name_is first.refused)
+    held_as_not_refused first.one.film (get_or sources k none)
+    (record {
+      fault = fault;
+      refused = subst (λ (n : List ℕ). IsRefusedAs first.one.film held n fault) first.name_is
+          first.refused;
+    }) (same_name (get_or read.named.items k first.one) first.one alike held (get_or sources k none)
+    (are.each k first.one none short))

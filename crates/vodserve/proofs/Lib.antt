@@ -5,6 +5,7 @@ pub mod OneVerdict
 pub mod ScanTextLemmas
 pub mod RunLemmas
 pub mod WorkerLemmas
+pub mod GateLemmas
 pub mod ServeLemmas
 pub mod JournalLemmas
 pub mod ServeLaws
@@ -13,5 +14,6 @@ pub mod DayLemmas
 pub mod FieldLemmas
 pub mod TextReading
 pub mod LineReading
+pub mod ScanLines
 pub mod WatchLemmas
 pub mod HelpReading

@@ -92,9 +92,9 @@ curves_once held viewer a b p q =
     }
 
 -- the plan and its text are the only ones
-pub planned_once : (held : List File) (viewer : Viewer) (t t' : List ℕ) (plan plan' : Option (List Segment)) →
+pub planned_once : {held : List File} {viewer : Viewer} {t t' : List ℕ} {plan plan' : Option (List Segment)} →
     IsPlanned held viewer t plan → IsPlanned held viewer t' plan' → (t ≡ t') × (plan ≡ plan')
-planned_once held viewer t t' plan plan' p q =
+planned_once {held} {viewer} p q =
     let same : AreSame q.curves p.curves = curves_once held viewer q.curves p.curves q.has p.has in
     let taut : IsTaut p.curves.from p.curves.low.items p.curves.up.items q.segments =
     subst (λ (from : ℕ). IsTaut from p.curves.low.items p.curves.up.items q.segments) same.from

@@ -1,5 +1,5 @@
 -- A certificate of a trace or film that the library holds has one verdict, and none where one of the two is refused.
-use Rattle.std.proofs.Common.{◌≡◌, ℕ, ◌≤◌, ◌^◌, List, [], ◌∷◌, ◌++◌, Some, inl, inr, refl, sym, ap, ◌∙◌, subst, arith, get_or}
+use Rattle.std.proofs.Common.{◌≡◌, ℕ, List, [], ◌∷◌, ◌++◌, Some, inl, inr, refl, sym, ap, ◌∙◌, subst, get_or}
 use Rattle.std.specs.Prelude.{codes}
 use Rattle.std.proofs.lemmas.Bool.{cases_order}
 use Rattle.vod_base.specs.Outside.{File, file_named}
@@ -14,7 +14,7 @@ use Rattle.command_words.specs.Words.{Viewer, check_of}
 use Rattle.troubles.specs.declared.faults.Fault.{Fault}
 use Rattle.troubles.specs.declared.faults.Fault.TheVariants.{BadCert}
 use Rattle.vodserve.specs.Carrying.{IsInputRefused}
-use Rattle.vodserve.specs.Plans.{HasCurves, IsCertRefused, IsChecked, IsNoCert, IsVerdict}
+use Rattle.vodserve.specs.Plans.{IsChecked, IsNoCert, IsVerdict}
 use Rattle.vodserve.specs.Verdict.{cert_fault_text}
 use Rattle.vodserve.proofs.OneAnswer.{AreSame, curves_not_refused, curves_once, no_file}
 
@@ -72,9 +72,10 @@ verdict_once {text} from low up segments (inr p) (inr q) =
     let same : p.0 ≡ q.0 = first_once p.1.1 q.1.1 in
     (p.1.0 ∙ sym q.1.0, p.1.2 ∙ ap (λ (f : CertFault). codes "refused " ++ cert_fault_text f ++ codes "\n") same ∙ sym q.1.2)
 
-pub checked_once : (held : List File) (viewer : Viewer) (cert : List ℕ) (status status' : ℕ) (text text' : List ℕ) → IsChecked held viewer cert status text →
-    IsChecked held viewer cert status' text' → (status ≡ status') × (text ≡ text')
-checked_once held viewer cert status status' text text' p q =
+pub checked_once : {held : List File} {viewer : Viewer} {cert : List ℕ} {status status' : ℕ} {text text' : List ℕ} →
+    IsChecked held viewer cert status text → IsChecked held viewer cert status' text' →
+    (status ≡ status') × (text ≡ text')
+checked_once {held} {viewer} {cert} {status'} {text'} p q =
     let same : AreSame q.curves p.curves = curves_once held viewer q.curves p.curves q.has p.has in
     let one : q.written ≡ p.written = one_file held cert q.written p.written q.found p.found in
     let segments : q.segments ≡ p.segments = one_certificate
@@ -94,10 +95,11 @@ cert_not_refused {written} {slots} {bytes} {segments} held cert (BadCert line) f
     (subst (λ (t : List ℕ). IsBadLine t line) (one_file held cert refused.0 written refused.1.0 found) refused.1.1)
 cert_not_refused {written} held cert other found certificate refused = refused
 
-pub checked_not_refused : (held : List File) (viewer : Viewer) (cert : List ℕ) (status : ℕ) (text name : List ℕ) (fault : Fault) → IsChecked held viewer cert status text →
+pub checked_not_refused : {held : List File} {viewer : Viewer} {cert : List ℕ} {status : ℕ} {text : List ℕ}
+    (name : List ℕ) (fault : Fault) → IsChecked held viewer cert status text →
     IsInputRefused (check_of viewer cert) held name fault → ⊥
-checked_not_refused held viewer cert status text name fault p (inl refused) = curves_not_refused held viewer p.curves fault p.has refused.1
-checked_not_refused held viewer cert status text name fault p (inr refused) = elim refused.1.1 [
+checked_not_refused {held} {viewer} name fault p (inl refused) = curves_not_refused held viewer p.curves fault p.has refused.1
+checked_not_refused {held} {cert} name fault p (inr refused) = elim refused.1.1 [
   | inl missing ↦ no_file p.written (sym p.found ∙ missing.1)
   | inr bad ↦ cert_not_refused held cert fault p.found p.certificate bad
 ]

@@ -44,12 +44,16 @@ caused before after order NoMemory same cause = same
 caused before after order GateFault same cause = absurd cause
 caused before after order LinkFault same cause = absurd cause
 
-carried_out : (before after : World) (order : Order) (result : Result Done Trouble) (ended : Ended) →
-    IfOk result (λ done. IsDone before.store.told order done.status done.text.items done.plan) →
-    IfErr result (IsReadTrouble (IsRead order) (IsInputRefused order) before.store.told before.store.faults after.store.faults) →
-    Printed before.out after.out before.err after.err result ended → IsCarriedOut before after order ended
-carried_out before after order (Ok done) ended ok err is = written before after done ok is
-carried_out before after order (Err trouble) ended ok err is = inr (trouble, (caused before after order trouble is.0 err, is.1))
+-- an order's result: what it did, or the trouble that it met
+record OrderResult (before after : World) (order : Order) (result : Result Done Trouble) : Type 0 where
+  ok : IfOk result (λ done. IsDone before.store.told order done.status done.text.items done.plan)
+  err : IfErr result (IsReadTrouble (IsRead order) (IsInputRefused order) before.store.told before.store.faults after.store.faults)
+
+carried_out : {before after : World} {order : Order} (result : Result Done Trouble) (ended : Ended) →
+    OrderResult before after order result → Printed before.out after.out before.err after.err result ended →
+    IsCarriedOut before after order ended
+carried_out {before} {after} (Ok done) ended given is = written before after done given.ok is
+carried_out {before} {after} {order} (Err trouble) ended given is = inr (trouble, (caused before after order trouble is.0 given.err, is.1))
 
 -- a command was carried out, and its text printed
 pub printed : {before after : World} {order : Order} {ended : Ended} (result : Result Done Trouble) → after.gate ≡ before.gate → HasServedNothing ended →
@@ -57,24 +61,33 @@ pub printed : {before after : World} {order : Order} {ended : Ended} (result : R
     IfErr result (IsReadTrouble (IsRead order) (IsInputRefused order) before.store.told before.store.faults after.store.faults) →
     Printed before.out after.out before.err after.err result ended → Prints before after order ended
 printed {before} {after} {order} {ended} result gate nothing ok err is =
-    record { gate = gate; nothing = nothing; out = carried_out before after order result ended ok err is }
+    record { gate = gate; nothing = nothing; out = carried_out result ended (record { ok = ok; err = err }) is }
 
 -- what the words ask for was done
-pub ran_as : (before after : World) (seed : List ℕ) (asked : Option Order) (ended : Ended) {read order : OrderRead} → Some (order_of read) ≡ asked → read ≡ order →
-    IsReadOnly before.store.told after.store.told before.store.faults after.store.faults → before.out.faults ≤ after.out.faults → before.gate.faults ≤ after.gate.faults →
+pub ran_as : {before after : World} {seed : List ℕ} {asked : Option Order} {ended : Ended} {read order : OrderRead} →
+    Some (order_of read) ≡ asked → read ≡ order →
+    IsReadOnly before.store.told after.store.told before.store.faults after.store.faults →
+    before.out.faults ≤ after.out.faults → before.gate.faults ≤ after.gate.faults →
     Does before after seed (order_of order) ended → Ran before after seed asked ended
-ran_as before after seed asked ended {order = order} is same library output gate does = record {
+ran_as {order = order} is same library output gate does = record {
   library = library;
   output = output;
   gate = gate;
   does = inl (order_of order, (sym is ∙ ap (λ (o : OrderRead). Some (order_of o)) same, does));
 }
 
-pub made_done : {E : Type 0} (told : Option (List File)) (kind : Made) (seed pictures : ℕ) (made : Result (Vec ℕ Global) E) → IfOk made (λ text. text.items ≡ made_text kind seed pictures) →
-    (result : Result Done Trouble) → IfOk result (λ done. (done.status ≡ 0) × (made ≡ Ok done.text) × (done.plan ≡ None)) →
-    IfOk result (λ done. IsDone told (make_of kind seed pictures) done.status done.text.items done.plan)
-made_done told kind seed pictures made text (Err trouble) is = tt
-made_done told kind seed pictures made text (Ok done) is = (is.0, is.2, text_of (made_text kind seed pictures) made done.text text is.1)
+-- which film is made, with its seed and its pictures
+pub record MadeFilm : Type 0 where
+  pub kind : Made
+  pub seed : ℕ
+  pub pictures : ℕ
+
+pub made_done : {E : Type 0} (told : Option (List File)) (film : MadeFilm) (made : Result (Vec ℕ Global) E) →
+    IfOk made (λ text. text.items ≡ made_text film.kind film.seed film.pictures) → (result : Result Done Trouble) →
+    IfOk result (λ done. (done.status ≡ 0) × (made ≡ Ok done.text) × (done.plan ≡ None)) →
+    IfOk result (λ done. IsDone told (make_of film.kind film.seed film.pictures) done.status done.text.items done.plan)
+made_done told film made text (Err trouble) is = tt
+made_done told film made text (Ok done) is = (is.0, is.2, text_of (made_text film.kind film.seed film.pictures) made done.text text is.1)
 
 pub help_done : {E : Type 0} (told : Option (List File)) (made : Result (Vec ℕ Global) E) → IfOk made (λ text. text.items ≡ help_text) →
     (result : Result Done Trouble) → IfOk result (λ done. (done.status ≡ 0) × (made ≡ Ok done.text) × (done.plan ≡ None)) →

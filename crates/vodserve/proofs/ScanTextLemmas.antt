@@ -20,10 +20,20 @@ unit_lines-take units i unit within =
     ∙ unit_lines-more 0 (take i units) (get_or units i unit)
     ∙ ap (λ (n : ℕ). unit_lines 0 (take i units) ++ unit_line n (get_or units i unit)) (zero-add (length (take i units)) ∙ length-take-le i units (omega (arith, within)))
 
-pub text-more : {text text' : List ℕ} (head : List ℕ) (units : List PictureUnit) (i : ℕ) (unit : PictureUnit) → i < length units →
-    text ≡ head ++ unit_lines 0 (take i units) → text' ≡ text ++ unit_line i (get_or units i unit) → text' ≡ head ++ unit_lines 0 (take (i + 1) units)
-text-more {text} head units i unit within before pushed =
+-- the lines of the first units, written after a head
+pub record UnitsWritten (head : List ℕ) (units : List PictureUnit) (text : List ℕ) : Type 0 where
+  pub count : ℕ
+  pub within : count < length units
+  pub before : text ≡ head ++ unit_lines 0 (take count units)
+
+pub text-more : {text text' : List ℕ} (head : List ℕ) (units : List PictureUnit)
+    (written : UnitsWritten head units text) (unit : PictureUnit) →
+    text' ≡ text ++ unit_line written.count (get_or units written.count unit) →
+    text' ≡ head ++ unit_lines 0 (take (written.count + 1) units)
+text-more {text} head units written unit pushed =
     pushed
     ∙ ap (λ (t : List ℕ). t ++ unit_line i (get_or units i unit)) before
     ∙ append_assoc head (unit_lines 0 (take i units)) (unit_line i (get_or units i unit))
     ∙ ap (λ (t : List ℕ). head ++ t) (sym (unit_lines-take units i unit within))
+  where
+    open written use {count as i, within, before}

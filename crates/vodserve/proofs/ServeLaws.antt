@@ -1,5 +1,5 @@
 -- The laws over a server's run.
-use Rattle.std.proofs.Common.{◌≡◌, ◌≢◌, ◌⊎◌, ◌∙◌, ◌<◌, ℕ, List, [], ◌∷◌, length, Option, Some, None, inl, inr, sym, subst, refl, arith, zero-add}
+use Rattle.std.proofs.Common.{◌≡◌, ◌≢◌, ◌⊎◌, ◌∙◌, ◌<◌, ℕ, List, length, Option, Some, None, inl, inr, sym, subst, refl, arith, zero-add}
 use Rattle.std.specs.Prelude.{All, IfSome, slice_index_or}
 use Rattle.std.specs.List.{Contains}
 use Rattle.vod_base.specs.Outside.{File, HasRisen}
@@ -10,7 +10,6 @@ use Rattle.conn.specs.declared.reports.ConnReport.{ConnReport}
 use Rattle.conn.specs.declared.reports.PartReport.{PartReport}
 use Rattle.conn.specs.declared.reports.PartEnd.{PartEnd}
 use Rattle.conn.specs.declared.reports.PartEnd.TheVariants.{AllTaken, GateFault as PartFault, NoMemory as PartNoMemory}
-use Rattle.film_frames.specs.declared.stores.Stored.{Stored}
 use Rattle.command_words.specs.Words.{Serving}
 use Rattle.inputs.specs.Films.{IsHeldRefused}
 use Rattle.troubles.specs.Statuses.{status_of}
@@ -22,8 +21,8 @@ use Rattle.vodserve.specs.Run.{Ends, HasServed, Serves, World}
 use Rattle.vodserve.specs.Served.{IsPrinted, IsServeTrouble}
 use Rattle.vodserve.specs.declared.run.Ended.{Ended}
 use Rattle.vodserve.specs.Worked.{AllWorked, AreLeft, HasBack, HasTooFew, HasWorked, IsOpenAs, IsOpenedOnce, HasParts, MayBeServed, opening_of, settings_of}
-use Rattle.vodserve.proofs.WorkerLemmas.{risen_some}
-use Rattle.vodserve.proofs.ServeLemmas.{loaded_accepted, worker_worked}
+use Rattle.vodserve.proofs.GateLemmas.{risen_some}
+use Rattle.vodserve.proofs.ServeLemmas.{loaded_accepted, worker_worked, ServingRun, Working}
 
 -- what keeps from serving, where nothing is refused and nothing failed, is want of memory
 kept_by_memory : {before after : World} {serving : Serving} (trouble : Trouble) → IsServable serving before.store.told → HasNoFault before after →
@@ -65,52 +64,80 @@ not_none NoMemory is = omega (arith, is)
 not_none GateFault is = omega (arith, is)
 not_none LinkFault is = omega (arith, is)
 
+-- a film that is named, and whose input is refused
+record RefusedFilm (serving : Serving) (held : List File) : Type 0 where
+  name : List ℕ
+  fault : Fault
+  named : Contains serving.films name
+  refused : IsHeldRefused held name fault
+
 -- of films that may be served none is refused
-not_accepted : (serving : Serving) (held : List File) (name : List ℕ) (fault : Fault) → All (MayBeServed held) serving.films → Contains serving.films name →
-    IsHeldRefused held name fault → ⊥
-not_accepted serving held name fault may named refused = subst (MayBeServed held) named.2 (may named.0 name named.1) fault refused
+not_accepted : {serving : Serving} {held : List File} → RefusedFilm serving held →
+    All (MayBeServed held) serving.films → ⊥
+not_accepted {held} film may = subst (MayBeServed held) named.2 (may named.0 name named.1) fault refused
+  where
+    open film use {name, fault, named, refused}
 
 -- where a film is refused the gate is as it was
-same_gate : (serving : Serving) (told : Option (List File)) (faults faults' : ℕ) (gate gate' : Outlet) (trouble : Trouble) (held : List File) (name : List ℕ) (fault : Fault) →
-    IsServeTrouble serving told faults faults' gate gate' trouble → told ≡ Some held → Contains serving.films name → IsHeldRefused held name fault → gate' ≡ gate
-same_gate serving told faults faults' gate gate' Usage held name fault is tells named refused = absurd is
-same_gate serving told faults faults' gate gate' (Refused other cause) held name fault is tells named refused = is.1
-same_gate serving told faults faults' gate gate' (StoreFault other) held name fault is tells named refused = is.1
-same_gate serving told faults faults' gate gate' SinkFault held name fault is tells named refused = absurd is
-same_gate serving told faults faults' gate gate' NoMemory held name fault is tells named refused = elim is [
+same_gate : {held : List File} (served : ServingRun) (trouble : Trouble) → RefusedFilm served.serving held →
+    IsServeTrouble served.serving served.told served.faults served.faults_after served.gate served.gate_after trouble →
+    served.told ≡ Some held → served.gate_after ≡ served.gate
+same_gate served Usage film is tells = absurd is
+same_gate served (Refused other cause) film is tells = is.1
+same_gate served (StoreFault other) film is tells = is.1
+same_gate served SinkFault film is tells = absurd is
+same_gate {held} served NoMemory film is tells = elim is [
   | inl same ↦ same
-  | inr opened ↦ absurd (not_accepted serving held name fault (opened.accepted held tells) named refused)
+  | inr opened ↦ absurd (not_accepted film (opened.accepted held tells))
 ]
-same_gate serving told faults faults' gate gate' GateFault held name fault is tells named refused =
-    absurd (not_accepted serving held name fault (is.1.accepted held tells) named refused)
-same_gate serving told faults faults' gate gate' LinkFault held name fault is tells named refused = absurd is
+same_gate {held} served GateFault film is tells =
+    absurd (not_accepted film (is.1.accepted held tells))
+same_gate served LinkFault film is tells = absurd is
 
 -- a film that is refused is never served
 pub serves_no_refused : ServesNoRefused
 serves_no_refused before after seed serving ended held name fault (inl kept) told named refused = (
   λ zero. not_none kept.0 (sym kept.1.3.status ∙ zero),
   kept.1.1,
-  same_gate serving before.store.told before.store.faults after.store.faults before.gate after.gate kept.0 held name fault kept.1.0 told named refused,
+  same_gate (record {
+    serving = serving;
+    told = before.store.told;
+    faults = before.store.faults;
+    faults_after = after.store.faults;
+    gate = before.gate;
+    gate_after = after.gate;
+  }) kept.0 (record { name = name; fault = fault; named = named; refused = refused })
+      kept.1.0 told,
   kept.1.2,
 )
 serves_no_refused before after seed serving ended held name fault (inr served) told named refused =
-    absurd (not_accepted serving held name fault (loaded_accepted serving before.store.told served.films served.loaded held told) named refused)
+    absurd (not_accepted {serving = serving} (record { name = name; fault = fault; named = named; refused = refused })
+    (loaded_accepted serving before.store.told served.films served.loaded held told))
 
 -- ---- how a server's run ended
 
+-- what a printed text is told by: the faults before and after, and the output before and after it
+record Printing : Type 0 where
+  faults : ℕ
+  faults_after : ℕ
+  told : Option (List ℕ)
+  told_after : Option (List ℕ)
+  text : List ℕ
+
 -- want of memory in a worker is told by status 6
-not_memory : (faults faults' : ℕ) (told told' : Option (List ℕ)) (text : List ℕ) (trouble : Trouble) →
-    IsPrinted faults faults' told told' text PartNoMemory (Some trouble) → status_of trouble ≢ 6 → ⊥
-not_memory faults faults' told told' text Usage printed status = printed
-not_memory faults faults' told told' text (Refused name fault) printed status = printed
-not_memory faults faults' told told' text (StoreFault name) printed status = printed
-not_memory faults faults' told told' text SinkFault printed status = printed.2 refl
-not_memory faults faults' told told' text NoMemory printed status = status refl
-not_memory faults faults' told told' text GateFault printed status = apart printed.1
+not_memory : (printing : Printing) (trouble : Trouble) →
+    IsPrinted printing.faults printing.faults_after printing.told printing.told_after printing.text PartNoMemory (Some trouble) →
+    status_of trouble ≢ 6 → ⊥
+not_memory printing Usage printed status = printed
+not_memory printing (Refused name fault) printed status = printed
+not_memory printing (StoreFault name) printed status = printed
+not_memory printing SinkFault printed status = printed.2 refl
+not_memory printing NoMemory printed status = status refl
+not_memory printing GateFault printed status = apart printed.1
   where
     apart : PartNoMemory ≡ PartFault → ⊥
     apart e = cc
-not_memory faults faults' told told' text LinkFault printed status = printed
+not_memory printing LinkFault printed status = printed
 
 pub ended_whole : {end : PartEnd} {ended : Ended} (before after : World) (text : List ℕ) → Ends before.out after.out before.err after.err text end ended →
     ended.status ≢ 6 → end ≢ PartNoMemory
@@ -119,9 +146,15 @@ ended_whole {end} {ended} before after text (inl whole) status memory = apart (s
     apart : PartNoMemory ≡ AllTaken → ⊥
     apart e = cc
 ended_whole {end} {ended} before after text (inr wrong) status memory =
-    not_memory before.out.faults after.out.faults before.out.told after.out.told text wrong.0
-    (subst (λ (e : PartEnd). IsPrinted before.out.faults after.out.faults before.out.told after.out.told text e (Some wrong.0)) memory wrong.1.0)
-    (λ six. status (wrong.1.1.status ∙ six))
+    not_memory (record {
+      faults = before.out.faults;
+      faults_after = after.out.faults;
+      told = before.out.told;
+      told_after = after.out.told;
+      text = text;
+    }) wrong.0 (subst
+    (λ (e : PartEnd). IsPrinted before.out.faults after.out.faults before.out.told after.out.told text e (Some wrong.0)) memory
+    wrong.1.0) (λ six. status (wrong.1.1.status ∙ six))
 
 -- a status with which the workers ran
 abbrev IsOfRun : ℕ → Type 0 → Type 0
@@ -137,20 +170,24 @@ other_status status AllParts no_zero no_five no_seven of_run = elim of_run [
 ]
 
 -- what kept a server from its work is told by other statuses, or parts are wanting
-not_kept : {content : Content} (serving : Serving) (told : Option (List File)) (faults faults' : ℕ)
-    (gate gate' : Outlet) (trouble : Trouble) →
-    IsServeTrouble serving told faults faults' gate gate' trouble → gate'.told ≡ Some content →
-    IsOfRun (status_of trouble) (length content.parts ≡ serving.listening.workers) → ⊥
-not_kept serving told faults faults' gate gate' Usage is tells of_run = is
-not_kept {content} serving told faults faults' gate gate' (Refused name fault) is tells of_run =
-    other_status 3 (length content.parts ≡ serving.listening.workers) (λ e. omega (arith, e)) (λ e. omega (arith, e)) (λ e. omega (arith, e)) of_run
-not_kept {content} serving told faults faults' gate gate' (StoreFault name) is tells of_run =
-    other_status 4 (length content.parts ≡ serving.listening.workers) (λ e. omega (arith, e)) (λ e. omega (arith, e)) (λ e. omega (arith, e)) of_run
-not_kept serving told faults faults' gate gate' SinkFault is tells of_run = is
-not_kept {content} serving told faults faults' gate gate' NoMemory is tells of_run =
-    other_status 6 (length content.parts ≡ serving.listening.workers) (λ e. omega (arith, e)) (λ e. omega (arith, e)) (λ e. omega (arith, e)) of_run
-not_kept {content} serving told faults faults' gate gate' GateFault is tells of_run =
-    let few : HasTooFew serving.listening.workers content = subst (λ (g : Option Content). IfSome g (HasTooFew serving.listening.workers)) tells is.1.few in
+not_kept : {content : Content} (served : ServingRun) (trouble : Trouble) →
+    IsServeTrouble served.serving served.told served.faults served.faults_after served.gate served.gate_after trouble →
+    served.gate_after.told ≡ Some content →
+    IsOfRun (status_of trouble) (length content.parts ≡ served.serving.listening.workers) → ⊥
+not_kept served Usage is tells of_run = is
+not_kept {content} served (Refused name fault) is tells of_run =
+    other_status 3 (length content.parts ≡ served.serving.listening.workers) (λ e. omega (arith, e)) (λ e. omega (arith, e))
+    (λ e. omega (arith, e)) of_run
+not_kept {content} served (StoreFault name) is tells of_run =
+    other_status 4 (length content.parts ≡ served.serving.listening.workers) (λ e. omega (arith, e)) (λ e. omega (arith, e))
+    (λ e. omega (arith, e)) of_run
+not_kept served SinkFault is tells of_run = is
+not_kept {content} served NoMemory is tells of_run =
+    other_status 6 (length content.parts ≡ served.serving.listening.workers) (λ e. omega (arith, e)) (λ e. omega (arith, e))
+    (λ e. omega (arith, e)) of_run
+not_kept {content} served GateFault is tells of_run =
+    let few : HasTooFew served.serving.listening.workers content =
+    subst (λ (g : Option Content). IfSome g (HasTooFew served.serving.listening.workers)) tells is.1.few in
     elim of_run [
       | inl zero ↦ omega (arith, zero)
       | inr more ↦ elim more [
@@ -158,7 +195,7 @@ not_kept {content} serving told faults faults' gate gate' GateFault is tells of_
         | inr seven ↦ omega (arith, seven.1, few.fewer)
       ]
     ]
-not_kept serving told faults faults' gate gate' LinkFault is tells of_run = is
+not_kept served LinkFault is tells of_run = is
 
 -- a server whose workers ran, and none of them lacked memory
 pub record HasRunAll (before after : World) (seed : List ℕ) (serving : Serving) (ended : Ended) : Type 0 where
@@ -169,7 +206,14 @@ pub run_all : {before after : World} {seed : List ℕ} {serving : Serving} {ende
     HaveRun serving ended gate → HasRunAll before after seed serving ended
 run_all {before} {after} {seed} {serving} {ended} {gate} (inl kept) told have_run =
     let AllParts = length gate.parts ≡ serving.listening.workers in
-    absurd (not_kept serving before.store.told before.store.faults after.store.faults before.gate after.gate kept.0 kept.1.0 told
+    absurd (not_kept (record {
+      serving = serving;
+      told = before.store.told;
+      faults = before.store.faults;
+      faults_after = after.store.faults;
+      gate = before.gate;
+      gate_after = after.gate;
+    }) kept.0 kept.1.0 told
     (subst (λ (n : ℕ). IsOfRun n AllParts) kept.1.3.status have_run))
 run_all {before} {after} {seed} {serving} {ended} {gate} (inr served) told have_run =
     let AllParts = length gate.parts ≡ serving.listening.workers in
@@ -224,13 +268,17 @@ part_back {before} {after} {by} {content} {report} worked found told =
     )
 
 -- the worker of a number, from 0 on
-pub worker_of : {serving : Serving} {journal : List Entry} {gate gate' : Outlet} (films : List Stored)
-    (seed : List ℕ) (parts : List PartReport) →
-    AllWorked films serving seed journal gate gate' 0 parts → (worker : ℕ) (none : PartReport) → worker < length parts →
-    HasWorked serving (duty films (settings_of serving) seed worker) journal gate gate' (slice_index_or parts worker none)
-worker_of {serving} {journal} {gate} {gate'} films seed parts all worker none inside =
+pub worker_of : (work : Working) (parts : List PartReport) →
+    AllWorked work.films work.serving work.seed work.journal work.gate work.gate_after 0 parts → (worker : ℕ)
+    (none : PartReport) → worker < length parts →
+    HasWorked work.serving (duty work.films (settings_of work.serving) work.seed worker) work.journal work.gate work.gate_after
+    (slice_index_or parts worker none)
+worker_of work parts all worker none inside =
     subst (λ (n : ℕ). HasWorked serving (duty films (settings_of serving) seed n) journal gate gate' (slice_index_or parts worker none)) (zero-add worker)
-    (worker_worked films seed 0 parts all worker none inside)
+    (worker_worked work 0 parts all worker
+    (record { none = none; inside = inside }))
+  where
+    open work use {films, serving, seed, journal, gate, gate_after as gate'}
 
 -- each worker found memory
 pub each_found : (parts : List PartReport) (end : PartEnd) (reports : List ConnReport) → AreLeft parts end reports → end ≢ PartNoMemory →
@@ -252,7 +300,8 @@ gives_each_back before after seed serving ended gate serves told have_run =
       each = λ worker inside.
           let within : worker < length worked.parts = omega (arith, inside, worked.count) in
           part_back
-          (worker_of run.served.films seed worked.parts worked.each worker none within)
+          (worker_of (record { films = run.served.films; serving = _; seed = seed; journal = _; gate = _; gate_after = _ })
+          worked.parts worked.each worker none within)
           (each_found worked.parts run.served.end ended.reports.items worked.left run.found worker none within) told;
     }
 
@@ -281,6 +330,7 @@ leaves_none_out before after seed serving ended gate (inr served) status told =
       each = λ worker inside.
           let within : worker < length worked.parts = omega (arith, inside, worked.count) in
           part_taken
-          (worker_of served.films seed worked.parts worked.each worker none within)
+          (worker_of (record { films = served.films; serving = _; seed = seed; journal = _; gate = _; gate_after = _ }) worked.parts
+          worked.each worker none within)
           (worked.left.taken (all_taken before after _ served.ends status) worker none within) told;
     }

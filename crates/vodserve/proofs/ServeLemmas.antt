@@ -39,7 +39,8 @@ use Rattle.vodserve.specs.Worked.{AllWorked, AreLeft, AreLoaded, HasOne, HasTooF
 use Rattle.vodserve.specs.Workers.{AreJoined, AreWorkers, HasFinished, IsMakeTrouble, report_of}
 use Rattle.vodserve.specs.Served.{HasOnlyOpened, IsFirstRefused, IsJournal, IsNewlyOpen, IsServeTrouble, IsWordNamed}
 use Rattle.vodserve.specs.declared.workers.Worker.{Worker}
-use Rattle.vodserve.proofs.WorkerLemmas.{IsStationOf, all_worked, counted_parts, risen_since, risen_some}
+use Rattle.vodserve.proofs.WorkerLemmas.{IsStationOf, all_worked}
+use Rattle.vodserve.proofs.GateLemmas.{counted_parts, risen_since, risen_some}
 
 contains_seam : (xs ys zs : List (List ℕ)) (y : List ℕ) → zs ≡ xs ++ y ∷ ys → Contains zs y
 contains_seam xs ys zs y is = subst (λ (l : List (List ℕ)). Contains l y) (sym is)
@@ -53,40 +54,53 @@ values_rest key words i word h at =
     ∙ ap (λ (w : String Global). option_to_list (setting_value key (string_bytes w)) ++ values_of key (texts (drop (suc i) words))) (sym at)
     ∙ ap (λ (j : ℕ). option_to_list (setting_value key (string_bytes word)) ++ values_of key (texts (drop j words))) (sym (add-one i))
 
+-- a word at its place among these
+pub record WordAt (words : List (String Global)) (word : String Global) : Type 0 where
+  pub place : ℕ
+  pub inside : place < length words
+  pub at : word ≡ get_or words place word
+
 -- the films of the words, at the film of a word
-word_split : {word : String Global} (words : List (String Global)) (i : ℕ) (so_far : List (List ℕ)) (name : List ℕ) → i < length words → word ≡ get_or words i word →
-    values_of (codes "film") (texts words) ≡ so_far ++ values_of (codes "film") (texts (drop i words)) → IsWordNamed (string_bytes word) name →
-    values_of (codes "film") (texts words) ≡ so_far ++ name ∷ values_of (codes "film") (texts (drop (i + 1) words))
-word_split {word} words i so_far name h at whole named =
-    whole ∙ ap (λ (vs : List (List ℕ)). so_far ++ vs) (values_rest (codes "film") words i word h at
-    ∙ ap (λ (o : Option (List ℕ)). option_to_list o ++ values_of (codes "film") (texts (drop (i + 1) words))) named)
+word_split : {word : String Global} {words : List (String Global)} (word_at : WordAt words word)
+    (so_far : List (List ℕ)) (name : List ℕ) →
+    values_of (codes "film") (texts words) ≡ so_far ++ values_of (codes "film") (texts (drop word_at.place words)) →
+    IsWordNamed (string_bytes word) name →
+    values_of (codes "film") (texts words) ≡ so_far ++ name ∷ values_of (codes "film") (texts (drop (word_at.place + 1) words))
+word_split {word} {words} word_at so_far name whole named =
+    whole ∙ ap (λ (vs : List (List ℕ)). so_far ++ vs) (values_rest (codes "film") words word_at.place word word_at.inside word_at.at
+    ∙ ap (λ (o : Option (List ℕ)). option_to_list o ++ values_of (codes "film") (texts (drop (word_at.place + 1) words))) named)
 
 -- the film of a word is one of the films
-pub word_film : {word : String Global} (words : List (String Global)) (i : ℕ) (so_far : List (List ℕ))
-    (name : List ℕ) → i < length words → word ≡ get_or words i word →
-    values_of (codes "film") (texts words) ≡ so_far ++ values_of (codes "film") (texts (drop i words)) → IsWordNamed (string_bytes word) name →
-    Contains (values_of (codes "film") (texts words)) name
-word_film words i so_far name h at whole named =
-    contains_seam so_far (values_of (codes "film") (texts (drop (i + 1) words))) (values_of (codes "film") (texts words)) name
-    (word_split words i so_far name h at whole named)
+pub word_film : {word : String Global} {words : List (String Global)} (word_at : WordAt words word)
+    (so_far : List (List ℕ)) (name : List ℕ) →
+    values_of (codes "film") (texts words) ≡ so_far ++ values_of (codes "film") (texts (drop word_at.place words)) →
+    IsWordNamed (string_bytes word) name → Contains (values_of (codes "film") (texts words)) name
+word_film {words} word_at so_far name whole named =
+    contains_seam so_far (values_of (codes "film") (texts (drop (word_at.place + 1) words))) (values_of (codes "film") (texts words)) name
+    (word_split word_at so_far name whole named)
 
 -- films that are held may be served
 pub all_accepted : (told : Option (List File)) (held : List File) (films : List Stored) → told ≡ Some held → All (IsHeld told) films → All (MayBeServed held) (names_of films)
 all_accepted told held films told_is all =
     All-map (MayBeServed held) (λ (film : Stored). string_bytes film.name) films (λ i d inside. (all i d inside held told_is).1)
 
+-- a store that holds these files, in which a name's file is refused
+pub record RefusedHeld (told : Option (List File)) (held : List File) (name : List ℕ) (fault : Fault) : Type 0 where
+  pub tells : told ≡ Some held
+  pub refused : IsHeldRefused held name fault
+
 -- where a film of a word is refused, it is the first one
 pub first_refused : {told : Option (List File)} {held : List File} {word : String Global} {name : List ℕ}
-    {fault : Fault} (words : List (String Global)) (i : ℕ) (films : List Stored) →
-    i < length words → word ≡ get_or words i word →
-    values_of (codes "film") (texts words) ≡ names_of films ++ values_of (codes "film") (texts (drop i words)) → IsWordNamed (string_bytes word) name →
-    told ≡ Some held → All (IsHeld told) films → IsHeldRefused held name fault → IsFirstRefused (values_of (codes "film") (texts words)) held name fault
-first_refused {told} {held} {name} words i films h at whole named told_is all refused = record {
+    {fault : Fault} {words : List (String Global)} (word_at : WordAt words word) (films : List Stored) →
+    values_of (codes "film") (texts words) ≡ names_of films ++ values_of (codes "film") (texts (drop word_at.place words)) →
+    IsWordNamed (string_bytes word) name → All (IsHeld told) films → RefusedHeld told held name fault →
+    IsFirstRefused (values_of (codes "film") (texts words)) held name fault
+first_refused {told} {held} {name} {words} word_at films whole named all refused_held = record {
   before = names_of films;
-  rest = values_of (codes "film") (texts (drop (i + 1) words));
-  names_are = word_split words i (names_of films) name h at whole named;
-  accepted = all_accepted told held films told_is all;
-  refused = refused;
+  rest = values_of (codes "film") (texts (drop (word_at.place + 1) words));
+  names_are = word_split word_at (names_of films) name whole named;
+  accepted = all_accepted told held films refused_held.tells all;
+  refused = refused_held.refused;
 }
 
 bytes_same : (x : List ℕ) → bytes_eq x x ≡ true
@@ -133,16 +147,24 @@ held_film told film name named is may = λ held told_is. (
   subst (MayBeServed held) (sym named) (may held told_is),
 )
 
+-- a serving whose store was read
+pub record StoreRead : Type 0 where
+  pub serving : Serving
+  pub told : Option (List File)
+  pub faults : ℕ
+  pub faults_after : ℕ
+
 -- a trouble of reading keeps from serving, before the gate is opened
-pub read_serves : (serving : Serving) (told : Option (List File)) (faults faults' : ℕ) (gate : Outlet) (t : Trouble) →
-    IsReadTrouble (Contains serving.films) (IsFirstRefused serving.films) told faults faults' t → IsServeTrouble serving told faults faults' gate gate t
-read_serves serving told faults faults' gate Usage is = is
-read_serves serving told faults faults' gate (Refused name fault) is = (is, refl)
-read_serves serving told faults faults' gate (StoreFault name) is = (is, refl)
-read_serves serving told faults faults' gate SinkFault is = is
-read_serves serving told faults faults' gate NoMemory is = inl refl
-read_serves serving told faults faults' gate GateFault is = absurd is
-read_serves serving told faults faults' gate LinkFault is = absurd is
+pub read_serves : (store : StoreRead) (gate : Outlet) (t : Trouble) →
+    IsReadTrouble (Contains store.serving.films) (IsFirstRefused store.serving.films) store.told store.faults store.faults_after t →
+    IsServeTrouble store.serving store.told store.faults store.faults_after gate gate t
+read_serves store gate Usage is = is
+read_serves store gate (Refused name fault) is = (is, refl)
+read_serves store gate (StoreFault name) is = (is, refl)
+read_serves store gate SinkFault is = is
+read_serves store gate NoMemory is = inl refl
+read_serves store gate GateFault is = absurd is
+read_serves store gate LinkFault is = absurd is
 
 -- films that were loaded may be served
 pub loaded_accepted : (serving : Serving) (told : Option (List File)) (films : List Stored) → AreLoaded told serving.films films →
@@ -151,20 +173,31 @@ loaded_accepted serving told films loaded held is =
     subst (All (MayBeServed held)) loaded.names_are (all_accepted told held films is loaded.held)
 
 -- the gate was opened, and no worker ran
-pub only_opened : (serving : Serving) (told : Option (List File)) (films : List Stored) (gate gate' : Option Content) → AreLoaded told serving.films films →
-    IfSome gate' (IsOpenedOnce gate) → IfSome gate' (HasTooFew serving.listening.workers) → HasOnlyOpened serving told gate gate'
-only_opened serving told films gate gate' loaded once few = record { accepted = loaded_accepted serving told films loaded; once = once; few = few }
+pub only_opened : {serving : Serving} {told : Option (List File)} {gate gate' : Option Content}
+    (films : List Stored) → AreLoaded told serving.films films → IfSome gate' (IsOpenedOnce gate) →
+    IfSome gate' (HasTooFew serving.listening.workers) → HasOnlyOpened serving told gate gate'
+only_opened {serving} {told} films loaded once few = record { accepted = loaded_accepted serving told films loaded; once = once; few = few }
+
+-- a serving with its store's files, and its store and gate before and after
+pub record ServingRun : Type 0 where
+  pub serving : Serving
+  pub told : Option (List File)
+  pub faults : ℕ
+  pub faults_after : ℕ
+  pub gate : Outlet
+  pub gate_after : Outlet
 
 -- and so does a trouble of making workers
-pub make_serves : (serving : Serving) (told : Option (List File)) (faults faults' gate' : ℕ) (gate gate'' : Outlet) (t : Trouble) → IsMakeTrouble gate' gate''.faults t →
-    gate.faults ≤ gate' → HasOnlyOpened serving told gate.told gate''.told → IsServeTrouble serving told faults faults' gate gate'' t
-make_serves serving told faults faults' gate' gate gate'' Usage is low opened = is
-make_serves serving told faults faults' gate' gate gate'' (Refused name fault) is low opened = absurd is
-make_serves serving told faults faults' gate' gate gate'' (StoreFault name) is low opened = absurd is
-make_serves serving told faults faults' gate' gate gate'' SinkFault is low opened = is
-make_serves serving told faults faults' gate' gate gate'' NoMemory is low opened = inr opened
-make_serves serving told faults faults' gate' gate gate'' GateFault is low opened = (λ end. omega (arith, is end, low), opened)
-make_serves serving told faults faults' gate' gate gate'' LinkFault is low opened = absurd is
+pub make_serves : (served : ServingRun) (gate' : ℕ) (t : Trouble) → IsMakeTrouble gate' served.gate_after.faults t →
+    served.gate.faults ≤ gate' → HasOnlyOpened served.serving served.told served.gate.told served.gate_after.told →
+    IsServeTrouble served.serving served.told served.faults served.faults_after served.gate served.gate_after t
+make_serves served gate' Usage is low opened = is
+make_serves served gate' (Refused name fault) is low opened = absurd is
+make_serves served gate' (StoreFault name) is low opened = absurd is
+make_serves served gate' SinkFault is low opened = is
+make_serves served gate' NoMemory is low opened = inr opened
+make_serves served gate' GateFault is low opened = (λ end. omega (arith, is end, low), opened)
+make_serves served gate' LinkFault is low opened = absurd is
 
 -- what is told of a gate that was opened
 pub newly_open : (how : Opening) (gate gate' : Option Content) → gate' ≡ option_map (after_open (Some how)) gate → IsNewlyOpen how gate'
@@ -186,29 +219,55 @@ closed_journal {entries} back whole steps count = record {
   others = λ maker high. whole.others maker (omega (arith, back.splits, count, high));
 }
 
+-- the workers that were made have finished, and are joined
+pub record DoneWorkers (G : Type 0) (told : G → Option Content) (faults : G → ℕ) (hall : Hall)
+    (films : List Stored) (serving : Serving) (seed : List ℕ) (workers : List (Worker G)) (seat : Sitting)
+    (gate gate' : Outlet) : Type 0 where
+  pub all : AreWorkers told faults hall 0 workers
+  pub finished : All (HasFinished told faults films (settings_of serving) seed) workers
+  pub back : AreJoined told hall (length workers) workers seat gate'.told
+  pub counted : All (λ worker. 0 < faults worker.part → HasRisen gate.faults gate'.faults) workers
+
 -- what the workers of a closed station did
 pub have_worked : {G : Type 0} {told : G → Option Content} {faults : G → ℕ} {films : List Stored} {seed : List ℕ}
     {serving : Serving} {hall : Hall} {workers : List (Worker G)} {seat : Sitting} {entries : List Entry}
     {gate gate' : Outlet} {end : PartEnd} {reports : List ConnReport} →
-    AreWorkers told faults hall 0 workers → All (HasFinished told faults films (settings_of serving) seed) workers →
-    AreJoined told hall (length workers) workers seat gate'.told → All (λ worker. 0 < faults worker.part → HasRisen gate.faults gate'.faults) workers →
-    IsJournalOf seat entries → IsStationOf serving hall → length workers ≡ serving.listening.workers → IsOpenAs (opening_of serving) gate'.told → AreLeft (map report_of workers) end reports →
-    HaveWorked films seed serving entries gate gate' end reports
-have_worked {seed} {serving} {workers} {seat} {entries} {gate} {gate'} {end} all finished back counted whole of_words count open_as left = record {
+    DoneWorkers G told faults hall films serving seed workers seat gate gate' → IsJournalOf seat entries →
+    IsStationOf serving hall → length workers ≡ serving.listening.workers → IsOpenAs (opening_of serving) gate'.told →
+    AreLeft (map report_of workers) end reports → HaveWorked films seed serving entries gate gate' end reports
+have_worked {seed} {serving} {workers} {seat} {entries} {gate} {gate'} {end} done whole of_words count open_as left = record {
   parts = map report_of workers;
   count = length-map workers report_of ∙ count;
-  each = all_worked entries seat.seen gate gate' 0 workers of_words all finished back.seen whole.seen back.back counted
-      (subst (All (λ (joined : Joined). joined.mine ≡ made_by joined.number entries)) back.joined whole.joined);
+  each = all_worked workers of_words all finished (record { back = back.back; counted = counted })
+      (record {
+        seen = seat.seen;
+        front = back.seen;
+        whole = whole.seen;
+        made = subst (All (λ (joined : Joined). joined.mine ≡ made_by joined.number entries)) back.joined whole.joined;
+      });
   open_as = open_as;
   split = counted_parts (length workers) (length workers) serving.listening.workers gate'.told back.out count;
   left = left;
 }
+  where
+    open done use {all, finished, back, counted}
+
+-- what workers serve: films, by a serving and its seed, with the journal and the gate before and after
+pub record Working : Type 0 where
+  pub films : List Stored
+  pub serving : Serving
+  pub seed : List ℕ
+  pub journal : List Entry
+  pub gate : Outlet
+  pub gate_after : Outlet
 
 -- the same from an earlier count of the gate's faults on
-worked_since : (films : List Stored) (serving : Serving) (seed : List ℕ) (entries : List Entry) (before gate gate' : Outlet) (from : ℕ) (parts : List PartReport) →
-    AllWorked films serving seed entries gate gate' from parts → before.faults ≤ gate.faults → AllWorked films serving seed entries before gate' from parts
-worked_since films serving seed entries before gate gate' from [] all low = tt
-worked_since films serving seed entries before gate gate' from (part ∷ parts) all low = (
+worked_since : (work : Working) (before : Outlet) (from : ℕ) (parts : List PartReport) →
+    AllWorked work.films work.serving work.seed work.journal work.gate work.gate_after from parts →
+    before.faults ≤ work.gate.faults →
+    AllWorked work.films work.serving work.seed work.journal before work.gate_after from parts
+worked_since work before from [] all low = tt
+worked_since work before from (part ∷ parts) all low = (
   record {
     seat = all.0.seat;
     left = all.0.left;
@@ -221,9 +280,9 @@ worked_since films serving seed entries before gate gate' from (part ∷ parts) 
     seen = all.0.seen;
     made = all.0.made;
     back = all.0.back;
-    counted = λ some. risen_since before.faults gate.faults gate'.faults (all.0.counted some) low;
+    counted = λ some. risen_since before.faults work.gate.faults work.gate_after.faults (all.0.counted some) low;
   },
-  worked_since films serving seed entries before gate gate' (from + 1) parts all.1 low,
+  worked_since work before (from + 1) parts all.1 low,
 )
 
 pub have_worked_since : {films : List Stored} {seed : List ℕ} {serving : Serving} {entries : List Entry}
@@ -233,36 +292,58 @@ have_worked_since {films} {seed} {serving} {entries} {before} {gate} {gate'} {en
     record {
       parts = worked.parts;
       count = worked.count;
-      each = worked_since films serving seed entries before gate gate' 0 worked.parts worked.each low;
+      each = worked_since (record {
+        films = films;
+        serving = serving;
+        seed = seed;
+        journal = entries;
+        gate = gate;
+        gate_after = gate';
+      }) before 0 worked.parts worked.each low;
       open_as = worked.open_as;
       split = worked.split;
       left = worked.left;
     }
 
+-- a place among parts
+pub record InsideParts (parts : List PartReport) (k : ℕ) : Type 0 where
+  pub none : PartReport
+  pub inside : k < length parts
+
 -- the worker of a number
-pub worker_worked : {serving : Serving} {entries : List Entry} {gate gate' : Outlet} (films : List Stored)
-    (seed : List ℕ) (from : ℕ) (parts : List PartReport) →
-    AllWorked films serving seed entries gate gate' from parts → (k : ℕ) (none : PartReport) → k < length parts →
-    HasWorked serving (duty films (settings_of serving) seed (from + k)) entries gate gate' (slice_index_or parts k none)
-worker_worked films seed from [] all k none inside = absurd (omega (arith, inside))
-worker_worked {serving} {entries} {gate} {gate'} films seed from (part ∷ parts) all zero none inside =
+pub worker_worked : (work : Working) (from : ℕ) (parts : List PartReport) →
+    AllWorked work.films work.serving work.seed work.journal work.gate work.gate_after from parts → (k : ℕ)
+    (here : InsideParts parts k) →
+    HasWorked work.serving (duty work.films (settings_of work.serving) work.seed (from + k)) work.journal work.gate work.gate_after
+    (slice_index_or parts k here.none)
+worker_worked work from [] all k here = absurd (omega (arith, here.inside))
+worker_worked work from (part ∷ parts) all zero here =
     subst (λ (n : ℕ). HasWorked serving (duty films (settings_of serving) seed n) entries gate gate' part) (sym (add-zero from)) all.0
-worker_worked {serving} {entries} {gate} {gate'} films seed from (part ∷ parts) all (suc k) none inside =
+  where
+    open work use {films, serving, seed, journal as entries, gate, gate_after as gate'}
+worker_worked work from (part ∷ parts) all (suc k) here =
     let on : from + 1 + k ≡ from + suc k = omega arith in
     subst (λ (n : ℕ). HasWorked serving (duty films (settings_of serving) seed n) entries gate gate' (slice_index_or parts k none)) on
-    (worker_worked films seed (from + 1) parts all.1 k none (omega (arith, inside)))
+    (worker_worked work (from + 1) parts all.1 k (record { none = none; inside = omega (arith, inside) }))
+  where
+    open work use {films, serving, seed, journal as entries, gate, gate_after as gate'}
+    open here use {none, inside}
 
 -- a part that failed was counted
-fault_counted : {parts : List PartReport} (films : List Stored) (serving : Serving) (seed : List ℕ)
-    (entries : List Entry) (gate gate' : Outlet) →
-    AllWorked films serving seed entries gate gate' 0 parts → HasOne PartFault parts → HasRisen gate.faults gate'.faults
-fault_counted {parts = []} films serving seed entries gate gate' all one = absurd (omega (arith, one.inside))
-fault_counted {parts = part ∷ parts} films serving seed entries gate gate' all one =
-    let worked = worker_worked films seed 0 (part ∷ parts) all one.worker part one.inside in
+fault_counted : {parts : List PartReport} (work : Working) →
+    AllWorked work.films work.serving work.seed work.journal work.gate work.gate_after 0 parts →
+    HasOne PartFault parts → HasRisen work.gate.faults work.gate_after.faults
+fault_counted {parts = []} work all one = absurd (omega (arith, one.inside))
+fault_counted {parts = part ∷ parts} work all one =
+    let worked = worker_worked work 0
+    (part ∷ parts) all one.worker (record { none = part; inside = one.inside }) in
     worked.counted (risen_some 0 worked.after.faults (worked.served.fault (one.ended part)))
+  where
+    open work use {films, serving, seed, gate}
 
 pub fault_risen : {films : List Stored} {seed : List ℕ} {serving : Serving} {entries : List Entry}
     {gate gate' : Outlet} {end : PartEnd} {reports : List ConnReport} →
     HaveWorked films seed serving entries gate gate' end reports → end ≡ PartFault → HasRisen gate.faults gate'.faults
 fault_risen {films} {seed} {serving} {entries} {gate} {gate'} {end} worked is =
-    fault_counted films serving seed entries gate gate' worked.each (worked.left.failed is)
+    fault_counted (record { films = films; serving = serving; seed = seed; journal = entries; gate = gate; gate_after = gate' })
+    worked.each (worked.left.failed is)

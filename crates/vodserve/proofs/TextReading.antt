@@ -1,8 +1,6 @@
 -- The texts of a scan, a verdict, a server and a client are read back.
-use Rattle.std.proofs.Common.{◌≡◌, ◌≢◌, ◌∙◌, ℕ, suc, zero, ◌+◌, ◌<◌, ◌≤◌, ◌^◌, ◌==◌, ◌&&◌, not, if◌then◌else◌, Bool, true, false, List, [], ◌∷◌, ◌++◌, All, length, map, flat_map, get_or, Option, Some, None, codes, decimal, refl, sym, ap, subst, arith}
-use Rattle.std.specs.Prelude.{IfSome}
-use Rattle.std.specs.List.{AllZip, list_all, slice_split}
-use Rattle.std.specs.Int.{IsInRange}
+use Rattle.std.proofs.Common.{◌≡◌, ◌≢◌, ◌∙◌, ℕ, ◌+◌, ◌<◌, ◌^◌, ◌==◌, ◌&&◌, if◌then◌else◌, Bool, true, false, List, [], ◌∷◌, ◌++◌, All, length, map, flat_map, get_or, codes, decimal, refl, sym, ap, arith}
+use Rattle.std.specs.List.{AllZip}
 use Rattle.std.specs.Str.{bytes_eq}
 use Rattle.std.proofs.lemmas.Fmt.{decimal_injective}
 use Rattle.std.proofs.lemmas.List.{append-nil, append_assoc, append_cancel_left, append_cancel_right}
@@ -13,19 +11,19 @@ use Rattle.mpeg_scan.specs.declared.units.Unit.{Unit as PictureUnit}
 use Rattle.admission.specs.declared.entries.Entry.{Entry}
 use Rattle.admission.specs.Machine.{booked_in}
 use Rattle.admission.specs.Histories.{state_after}
-use Rattle.report.specs.CalendarTexts.{booked_slots, calendar_text, first_words, slot_line}
+use Rattle.report.specs.CalendarTexts.{booked_slots, first_words, slot_line}
 use Rattle.cert_check.specs.declared.CertFault.{CertFault}
 use Rattle.cert_check.specs.declared.CertFault.TheVariants.{EmptySegment, WrongLength, WrongTotal, BelowLow, AboveUp, EqualSlopes, RiseOffUpper, FallOffLower}
 use Rattle.plan_cert.proofs.Decimals.{not_in_decimal}
 use Rattle.troubles.specs.Said.{number_text}
 use Rattle.troubles.proofs.WordLemmas.{AreShort, HasNo, none_by, numbers_back, numbers_of, split, split_words}
-use Rattle.vodserve.specs.ScanText.{film_line, kind_text, mark, scan_text, unit_line, unit_lines, unit_marks, unit_name, unit_places}
+use Rattle.vodserve.specs.ScanText.{film_line, kind_text, mark, scan_text, unit_line, unit_lines, unit_marks, unit_places}
 use Rattle.report.specs.JournalTexts.{journal_text}
-use Rattle.vodserve.specs.Served.{last_line, served_text}
+use Rattle.vodserve.specs.Served.{served_text}
 use Rattle.vodserve.specs.TextLaws.{AreAlike, IsSameScan, IsShortFault, IsShortUnit}
 use Rattle.vodserve.specs.Verdict.{refused_line}
-use Rattle.vodserve.specs.Verdict.{cert_fault_text, fault_name, fault_number}
-use Rattle.vodserve.proofs.FieldLemmas.{AreCut, AreSame, field_cut, last_cut, line_cut, two_cut}
+use Rattle.vodserve.specs.Verdict.{cert_fault_text, fault_name}
+use Rattle.vodserve.proofs.FieldLemmas.{field_cut, last_cut, line_cut, two_cut}
 
 -- ---- a scan
 
@@ -155,9 +153,15 @@ tail_of : List ℕ → List ℕ
 tail_of [] = []
 tail_of (b ∷ text) = text
 
-unit_told : (unit other : PictureUnit) (xs ys : List ℕ) → IsShortUnit unit → IsShortUnit other → after_number unit xs ≡ after_number other ys → AreTold unit other xs ys
+-- two units, neither of them long
+record ShortUnits (unit other : PictureUnit) : Type 0 where
+  short : IsShortUnit unit
+  also_short : IsShortUnit other
+
+unit_told : {unit other : PictureUnit} (xs ys : List ℕ) → ShortUnits unit other →
+    after_number unit xs ≡ after_number other ys → AreTold unit other xs ys
 unfolding after_number tail_of
-unit_told unit other xs ys short short' e =
+unit_told {unit} {other} xs ys shorts e =
     let kind : unit.kind ≡ other.kind = sym (kind_back unit.kind) ∙ ap (λ (l : List ℕ). kind_from (get_or l 0 0)) e ∙ kind_back other.kind in
     let show = field_cut (codes "from=") short.presentation short'.presentation
     (append_cancel_left (codes " show=") _ _ (ap tail_of e)) in
@@ -178,33 +182,63 @@ unit_told unit other xs ys short short' e =
       };
       rest = end.marked.rest;
     }
+  where
+    open shorts use {short, also_short as short'}
+
+-- as many units as others, none of them long, with numbers in their range
+record ShortLists (number : ℕ) (units others : List PictureUnit) : Type 0 where
+  long : length units ≡ length others
+  few : number + length units < 2 ^ 64
+  short : All IsShortUnit units
+  also_short : All IsShortUnit others
 
 -- the lines of as many units, with what follows
-units_told : (number : ℕ) (units others : List PictureUnit) (xs : List ℕ) → length units ≡ length others → number + length units < 2 ^ 64 → All IsShortUnit units → All IsShortUnit others →
+units_told : (number : ℕ) (units others : List PictureUnit) (xs : List ℕ) → ShortLists number units others →
     unit_lines number units ++ xs ≡ unit_lines number others ++ xs → AllZip AreAlike units others
 unfolding tail_of
-units_told number [] [] xs long few short short' e = tt
-units_told number [] (other ∷ others) xs long few short short' e = absurd (omega (arith, long))
-units_told number (unit ∷ units) [] xs long few short short' e = absurd (omega (arith, long))
-units_told number (unit ∷ units) (other ∷ others) xs long few short short' e =
+units_told number [] [] xs lists e = tt
+units_told number [] (other ∷ others) xs lists e = absurd (omega (arith, lists.long))
+units_told number (unit ∷ units) [] xs lists e = absurd (omega (arith, lists.long))
+units_told number (unit ∷ units) (other ∷ others) xs lists e =
     let more = unit_lines (number + 1) units ++ xs in
     let more' = unit_lines (number + 1) others ++ xs in
     let line : decimal number ++ 32 ∷ after_number unit more ≡ decimal number ++ 32 ∷ after_number other more' =
     sym (append_assoc (unit_line number unit) (unit_lines (number + 1) units) xs ∙ unit_shape number unit more) ∙ e
     ∙ append_assoc (unit_line number other) (unit_lines (number + 1) others) xs ∙ unit_shape number other more' in
-    let told = unit_told unit other more more' (All-head IsShortUnit unit units short) (All-head IsShortUnit other others short')
+    let told = unit_told more more' (record {
+      short = All-head IsShortUnit unit units short;
+      also_short = All-head IsShortUnit other others short';
+    })
     (ap tail_of (append_cancel_left (decimal number) (32 ∷ after_number unit more) (32 ∷ after_number other more') line)) in (
       told.alike,
-      units_told (number + 1) units others xs (omega (arith, long)) (omega (arith, few)) (All-tail IsShortUnit unit units short) (All-tail IsShortUnit other others short') told.rest,
+      units_told (number + 1) units others xs (record {
+        long = omega (arith, long);
+        few = omega (arith, few);
+        short = All-tail IsShortUnit unit units short;
+        also_short = All-tail IsShortUnit other others short';
+      }) told.rest,
     )
+  where
+    open lists use {long, few, short, also_short as short'}
 
 film_shape : (bytes rate pictures : ℕ) (rest : List ℕ) →
     film_line bytes rate pictures ++ rest ≡ codes "film bytes=" ++ (decimal bytes ++ 32 ∷ (codes "rate=" ++ (decimal rate ++ 32 ∷ (codes "pictures=" ++ (decimal pictures ++ 10 ∷ rest)))))
 film_shape bytes rate pictures rest = simp append_assoc
 
-pub scan_told : (bytes bytes' rate rate' : ℕ) (units units' : List PictureUnit) → bytes < 2 ^ 64 → bytes' < 2 ^ 64 → rate < 2 ^ 64 → rate' < 2 ^ 64 → length units < 2 ^ 64 →
-    length units' < 2 ^ 64 → All IsShortUnit units → All IsShortUnit units' → scan_text bytes rate units ≡ scan_text bytes' rate' units' → IsSameScan bytes bytes' rate rate' units units'
-scan_told bytes bytes' rate rate' units units' b b' r r' n n' short short' e =
+-- what a scan tells of a film, in its ranges
+pub record ScannedFilm : Type 0 where
+  pub bytes : ℕ
+  pub rate : ℕ
+  pub units : List PictureUnit
+  pub bytes_fit : bytes < 2 ^ 64
+  pub rate_fits : rate < 2 ^ 64
+  pub units_fit : length units < 2 ^ 64
+  pub short : All IsShortUnit units
+
+pub scan_told : (scanned other : ScannedFilm) →
+    scan_text scanned.bytes scanned.rate scanned.units ≡ scan_text other.bytes other.rate other.units →
+    IsSameScan scanned.bytes other.bytes scanned.rate other.rate scanned.units other.units
+scan_told scanned other e =
     let more = unit_lines 0 units ++ codes "end\n" in
     let more' = unit_lines 0 units' ++ codes "end\n" in
     let shape = append_assoc (film_line bytes rate (length units)) (unit_lines 0 units) (codes "end\n") ∙ film_shape bytes rate (length units) more in
@@ -215,8 +249,16 @@ scan_told bytes bytes' rate rate' units units' b b' r r' n n' short short' e =
     record {
       bytes_are = first.number;
       rate_is = second.number;
-      units_are = units_told 0 units units' (codes "end\n") third.number (omega (arith, n)) short short' third.rest;
+      units_are = units_told 0 units units' (codes "end\n") (record {
+        long = third.number;
+        few = omega (arith, n);
+        short = short;
+        also_short = short';
+      }) third.rest;
     }
+  where
+    open scanned use {bytes, rate, units, bytes_fit as b, rate_fits as r, units_fit as n, short}
+    open other use {bytes as bytes', rate as rate', units as units', bytes_fit as b', rate_fits as r', units_fit as n', short as short'}
 
 -- ---- a verdict
 numbers_after : CertFault → List ℕ
@@ -313,14 +355,22 @@ last_clean connections entries small small' =
     (All-append (λ b. b ≢ 10) (decimal connections) (32 ∷ (codes "entries=" ++ decimal entries)) (digits connections small)
     (All-append (λ b. b ≢ 10) (codes " entries=") (decimal entries) (none_by 10 (codes " entries=") refl) (digits entries small')))
 
-pub counts_told : {connections connections' : ℕ} (entries entries' : List Entry) → connections < 2 ^ 64 → connections' < 2 ^ 64 → length entries < 2 ^ 64 → length entries' < 2 ^ 64 →
-    served_text entries connections ≡ served_text entries' connections' → (connections ≡ connections') × (length entries ≡ length entries')
-counts_told {connections} {connections'} entries entries' c c' n n' e =
+-- the counts of a served line, in their range
+pub record ServedFit (connections : ℕ) (entries : List Entry) : Type 0 where
+  pub connections_fit : connections < 2 ^ 64
+  pub entries_fit : length entries < 2 ^ 64
+
+pub counts_told : {connections connections' : ℕ} {entries entries' : List Entry} → ServedFit connections entries →
+    ServedFit connections' entries' → served_text entries connections ≡ served_text entries' connections' →
+    (connections ≡ connections') × (length entries ≡ length entries')
+counts_told {connections} {connections'} {entries} {entries'} counts others e =
     let one = last_line_of entries connections in
     let other = last_line_of entries' connections' in
     let line = codes "served connections=" ++ (decimal connections ++ 32 ∷ (codes "entries=" ++ decimal (length entries))) in
     let line' = codes "served connections=" ++ (decimal connections' ++ 32 ∷ (codes "entries=" ++ decimal (length entries'))) in
     let whole = append_cancel_right (one.front ++ 10 ∷ line) (other.front ++ 10 ∷ line') (codes "\n") (sym one.shape ∙ e ∙ other.shape) in
-    let last = last_cut 10 one.front other.front whole (last_clean connections (length entries) c n) (last_clean connections' (length entries') c' n') in
-    let first = field_cut (codes "entries=") c c' (append_cancel_left (codes "served connections=") _ _ last) in
-    (first.number, decimal_injective (length entries) (length entries') n n' first.rest)
+    let last = last_cut 10 one.front other.front whole (last_clean connections (length entries) counts.connections_fit
+    counts.entries_fit) (last_clean connections' (length entries') others.connections_fit others.entries_fit) in
+    let first = field_cut (codes "entries=") counts.connections_fit others.connections_fit
+    (append_cancel_left (codes "served connections=") _ _ last) in
+    (first.number, decimal_injective (length entries) (length entries') counts.entries_fit others.entries_fit first.rest)

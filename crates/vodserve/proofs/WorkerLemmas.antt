@@ -1,6 +1,6 @@
 -- Workers that are made, run and joined.
-use Rattle.std.proofs.Common.{◌≡◌, ◌≢◌, ◌⊎◌, ◌∙◌, ◌+◌, ◌<◌, ◌≤◌, ◌-◌, ◌^◌, ℕ, List, [], ◌∷◌, ◌++◌, length, Option, Some, None, inl, inr, sym, ap, subst, refl, suc, zero, arith, add-zero, zero-add, length-append}
-use Rattle.std.specs.Prelude.{IfSome, IsSome, All, map, option_map, slice_index_or, slice_set}
+use Rattle.std.proofs.Common.{◌≡◌, ◌≢◌, ◌⊎◌, ◌∙◌, ◌+◌, ◌<◌, ◌≤◌, ℕ, List, [], ◌∷◌, ◌++◌, length, Option, Some, None, inl, inr, sym, ap, subst, refl, suc, zero, arith, add-zero, zero-add, length-append}
+use Rattle.std.specs.Prelude.{IfSome, All, map, slice_index_or, slice_set}
 use Rattle.std.specs.List.{remove}
 use mathlib.Core.List.{IsPrefix}
 use Rattle.std.proofs.Math.ListN.{length-set, get_or-append}
@@ -9,8 +9,7 @@ use Rattle.std.proofs.lemmas.Bool.{cases_lt}
 use Rattle.std.proofs.lemmas.List.{append-nil, append_assoc, get_or-set_other, get_or-set_same, map-append}
 use Rattle.std.proofs.lemmas.List.Elements.{All-append, All-cons, All-head, All-nil, All-tail}
 use Rattle.vod_base.specs.Outside.{HasRisen}
-use Rattle.vod_base.specs.Gates.{Content, Failed, Part, IsOpen, IsOut, new_part, after_empty_take, after_open, after_rejoin, split_off, told_rejoined}
-use Rattle.vod_base.specs.declared.gates.Opening.{Opening}
+use Rattle.vod_base.specs.Gates.{Content, Part, IsOut, after_rejoin, split_off, told_rejoined}
 use Rattle.film_frames.specs.declared.stores.Stored.{Stored}
 use Rattle.admission.specs.declared.entries.Entry.{Entry}
 use Rattle.admission.specs.Makers.{made_by}
@@ -20,14 +19,14 @@ use Rattle.turnstile.specs.declared.view.Joined.{Joined}
 use Rattle.turnstile.proofs.Prefixes.{prefix_trans}
 use Rattle.conn.specs.Journals.{Terms, terms_of}
 use Rattle.station.specs.Seats.{Hall, IsSameSeat, Sitting, after_join}
-use Rattle.conn.specs.Parts.{IsServed, IsUntouched, Outlet, duty, outlet}
+use Rattle.conn.specs.Parts.{Outlet, duty, outlet}
 use Rattle.conn.specs.declared.reports.ConnReport.{ConnReport}
 use Rattle.conn.specs.declared.reports.PartReport.{PartReport}
 use Rattle.conn.specs.declared.reports.PartEnd.{PartEnd}
 use Rattle.command_words.specs.Words.{Serving}
 use Rattle.conn.specs.declared.reports.PartEnd.TheVariants.{AllTaken, GateFault as PartFault, NoMemory}
-use Rattle.vodserve.specs.Worked.{AllWorked, AreLeft, HasBack, HasOne, HasParts, HasTooFew, HasWorked, IsIdle, IsOpenAs, IsOpenedOnce, IsWorse, all_reports, settings_of, terms_for}
-use Rattle.vodserve.specs.Workers.{AreBack, AreJoined, AreOut, AreWorkers, HasFinished, IsFresh, IsNotOpened, IsWorker, joined_of, report_of}
+use Rattle.vodserve.specs.Worked.{AllWorked, AreLeft, HasBack, HasOne, HasWorked, IsWorse, all_reports, settings_of, terms_for}
+use Rattle.vodserve.specs.Workers.{AreBack, AreJoined, AreOut, AreWorkers, HasFinished, IsWorker, joined_of, report_of}
 use Rattle.vodserve.specs.declared.workers.Worker.{Worker}
 
 -- a worker more
@@ -49,10 +48,17 @@ first_worker {told} {faults} {hall} {from} {worker} (first ∷ workers) all some
     let same : worker ≡ first = is in
     (ap (λ (w : Worker _). w.number) same ∙ all.0, subst (IsWorker told faults hall) (sym same) all.1)
 
-pub rest_workers : {G : Type 0} (told : G → Option Content) (faults : G → ℕ) (hall : Hall) (from : ℕ) (workers : List (Worker G)) →
-    AreWorkers told faults hall from workers → 0 < length workers → AreWorkers told faults hall (from + 1) (remove workers 0)
-rest_workers told faults hall from [] all some = absurd (omega (arith, some))
-rest_workers told faults hall from (first ∷ workers) all some = all.2
+-- how the parts of workers are told and their faults counted, and in which hall they sit
+pub record WorkersOf (G : Type 0) : Type 0 where
+  pub told : G → Option Content
+  pub faults : G → ℕ
+  pub hall : Hall
+
+pub rest_workers : {G : Type 0} (of_workers : WorkersOf G) (from : ℕ) (workers : List (Worker G)) →
+    AreWorkers of_workers.told of_workers.faults of_workers.hall from workers → 0 < length workers →
+    AreWorkers of_workers.told of_workers.faults of_workers.hall (from + 1) (remove workers 0)
+rest_workers of_workers from [] all some = absurd (omega (arith, some))
+rest_workers of_workers from (first ∷ workers) all some = all.2
 
 worker_at : {G : Type 0} {told : G → Option Content} {faults : G → ℕ} {hall : Hall} (from : ℕ)
     (workers : List (Worker G)) → AreWorkers told faults hall from workers →
@@ -65,22 +71,29 @@ pub all_workers : {G : Type 0} (told : G → Option Content) (faults : G → ℕ
     AreWorkers told faults hall from workers → All (IsWorker told faults hall) workers
 all_workers told faults hall from workers all = λ i d inside. worker_at from workers all i d inside
 
+-- as many workers, with the same numbers
+pub record SameNumbers (G : Type 0) (workers after : List (Worker G)) : Type 0 where
+  pub long : length after ≡ length workers
+  pub numbers : ((i : ℕ) (d : Worker G) → i < length workers → (slice_index_or after i d).number ≡ (slice_index_or workers i d).number)
+
 -- workers with the numbers of others
 pub same_workers : {G : Type 0} {told : G → Option Content} {faults : G → ℕ} {hall : Hall} (from : ℕ)
-    (workers after : List (Worker G)) →
-    AreWorkers told faults hall from workers → length after ≡ length workers →
-    ((i : ℕ) (d : Worker G) → i < length workers → (slice_index_or after i d).number ≡ (slice_index_or workers i d).number) →
+    (workers after : List (Worker G)) → AreWorkers told faults hall from workers → SameNumbers G workers after →
     ((i : ℕ) (d : Worker G) → i < length workers → IsWorker told faults hall (slice_index_or after i d)) →
     AreWorkers told faults hall from after
-same_workers from [] [] all long numbers each = tt
-same_workers from [] (other ∷ after) all long numbers each = absurd (omega (arith, long))
-same_workers from (first ∷ workers) [] all long numbers each = absurd (omega (arith, long))
-same_workers from (first ∷ workers) (other ∷ after) all long numbers each = (
+same_workers from [] [] all same each = tt
+same_workers from [] (other ∷ after) all same each = absurd (omega (arith, same.long))
+same_workers from (first ∷ workers) [] all same each = absurd (omega (arith, same.long))
+same_workers from (first ∷ workers) (other ∷ after) all same each = (
   numbers 0 other (omega arith) ∙ all.0,
   each 0 other (omega arith),
-  same_workers (from + 1) workers after all.2 (omega (arith, long))
-      (λ i d h. numbers (suc i) d (omega (arith, h))) (λ i d h. each (suc i) d (omega (arith, h))),
+  same_workers (from + 1) workers after all.2 (record {
+    long = omega (arith, long);
+    numbers = λ i d h. numbers (suc i) d (omega (arith, h));
+  }) (λ i d h. each (suc i) d (omega (arith, h))),
 )
+  where
+    open same use {long, numbers}
 
 length_removed : {G : Type 0} (workers : List (Worker G)) → 0 < length workers → length (remove workers 0) + 1 ≡ length workers
 length_removed [] some = absurd (omega (arith, some))
@@ -120,12 +133,20 @@ told_less from count None (Some c) number are = tt
 told_less from count (Some p) None number are = tt
 told_less from count (Some p) (Some c) number are = out_less from count p c number are
 
-pub may_rejoin : (from count : ℕ) (part gate : Option Content) → from < count → IfSome part (λ content. content.own.number ≡ from) → IfSome gate (AreOut from count) →
+-- a part with its number, and a gate from which parts are out
+pub record PartOut (from count : ℕ) (part gate : Option Content) : Type 0 where
+  pub inside : from < count
+  pub number : IfSome part (λ content. content.own.number ≡ from)
+  pub out : IfSome gate (AreOut from count)
+
+pub may_rejoin : {from count : ℕ} (part gate : Option Content) → PartOut from count part gate →
     IfSome gate (λ c. IfSome part (λ p. IsOut p.own.number c))
-may_rejoin from count part None short number are = tt
-may_rejoin from count None (Some c) short number are = tt
-may_rejoin from count (Some p) (Some c) short number are =
+may_rejoin part None out_part = tt
+may_rejoin None (Some c) out_part = tt
+may_rejoin {from} (Some p) (Some c) out_part =
     (omega (arith, number, short, are.counted), ap (λ (k : ℕ). slice_index_or c.parts k None) number ∙ are.out from (omega arith) short)
+  where
+    open out_part use {inside as short, number, out as are}
 
 -- one more of which something holds
 pub all_push : {A : Type 0} (P : A → Type 0) (items : List A) (item : A) → All P items → P item → All P (items ++ item ∷ [])
@@ -139,17 +160,17 @@ kept_one k told (Some p) None is apart = tt
 kept_one k told (Some p) (Some c) is apart =
     (is.0, (is.1.0, set_other c.parts p.own.number k (Some p.own) None (omega (arith, apart)) ∙ is.1.1))
 
-own_back : (k count : ℕ) (part gate : Option Content) → IfSome part (λ p. p.own.number ≡ k) → IfSome gate (AreOut k count) → k < count →
+own_back : {k count : ℕ} (part gate : Option Content) → PartOut k count part gate →
     IfSome (told_rejoined part gate) (HasBack k part)
-own_back k count None None number out inside = tt
-own_back k count None (Some c) number out inside = tt
-own_back k count (Some p) None number out inside = tt
-own_back k count (Some p) (Some c) number out inside = (
+own_back None None out_part = tt
+own_back None (Some c) out_part = tt
+own_back (Some p) None out_part = tt
+own_back {k} (Some p) (Some c) out_part = (
   p,
   (
     refl,
-    ap (λ (j : ℕ). slice_index_or (slice_set c.parts j (Some p.own)) k None) number
-        ∙ get_or-set_same c.parts k (Some p.own) None (omega (arith, inside, out.counted)),
+    ap (λ (j : ℕ). slice_index_or (slice_set c.parts j (Some p.own)) k None) out_part.number
+        ∙ get_or-set_same c.parts k (Some p.own) None (omega (arith, out_part.inside, out_part.out.counted)),
   ),
 )
 
@@ -157,30 +178,54 @@ later : (part : Option Content) (k n : ℕ) → IfSome part (λ p. p.own.number 
 later None k n number before = tt
 later (Some p) k n number before = omega (arith, number, before)
 
-kept_back : {G : Type 0} (told : G → Option Content) (from n : ℕ) (workers : List (Worker G)) (part gate : Option Content) → AreBack told gate from workers →
-    IfSome part (λ p. p.own.number ≡ n) → from + length workers ≤ n → AreBack told (told_rejoined part gate) from workers
-kept_back told from n [] part gate all number before = tt
-kept_back told from n (worker ∷ workers) part gate all number before = (
+-- a part with a number after those of workers
+record LaterPart (G : Type 0) (part : Option Content) (from : ℕ) (workers : List (Worker G)) : Type 0 where
+  place : ℕ
+  number : IfSome part (λ p. p.own.number ≡ place)
+  before : from + length workers ≤ place
+
+kept_back : {G : Type 0} {part : Option Content} (told : G → Option Content) (from : ℕ) (workers : List (Worker G))
+    (gate : Option Content) → AreBack told gate from workers → LaterPart G part from workers →
+    AreBack told (told_rejoined part gate) from workers
+kept_back told from [] gate all later_part = tt
+kept_back {part} told from (worker ∷ workers) gate all later_part = (
   kept_one from (told worker.part) part gate all.0 (later part from n number (omega (arith, before))),
-  kept_back told (from + 1) n workers part gate all.1 number (omega (arith, before)),
+  kept_back told (from + 1) workers gate all.1 (record { place = n; number = number; before = omega (arith, before) }),
+)
+  where
+    open later_part use {place as n, number, before}
+
+-- how the parts of workers are told, and what the gate tells
+record PartsTold (G : Type 0) : Type 0 where
+  told : G → Option Content
+  gate : Option Content
+
+back_push : {G : Type 0} (parts : PartsTold G) (from : ℕ) (workers : List (Worker G)) (worker : Worker G) →
+    AreBack parts.told parts.gate from workers →
+    IfSome parts.gate (HasBack (from + length workers) (parts.told worker.part)) →
+    AreBack parts.told parts.gate from (workers ++ worker ∷ [])
+back_push parts from [] worker all last = (subst (λ (k : ℕ). IfSome parts.gate (HasBack k (parts.told worker.part))) (add-zero from) last, tt)
+back_push parts from (first ∷ workers) worker all last = (
+  all.0,
+  back_push parts (from + 1) workers worker all.1 (let on : from + length (first ∷ workers) ≡ from + 1 + length workers = omega arith in
+      subst (λ (k : ℕ). IfSome parts.gate (HasBack k (parts.told worker.part))) on last),
 )
 
-back_push : {G : Type 0} (told : G → Option Content) (from : ℕ) (workers : List (Worker G)) (worker : Worker G) (gate : Option Content) → AreBack told gate from workers →
-    IfSome gate (HasBack (from + length workers) (told worker.part)) → AreBack told gate from (workers ++ worker ∷ [])
-back_push told from [] worker gate all last = (subst (λ (k : ℕ). IfSome gate (HasBack k (told worker.part))) (add-zero from) last, tt)
-back_push told from (first ∷ workers) worker gate all last = (
-  all.0,
-  back_push told (from + 1) workers worker gate all.1
-      (let on : from + length (first ∷ workers) ≡ from + 1 + length workers = omega arith in
-      subst (λ (k : ℕ). IfSome gate (HasBack k (told worker.part))) on last),
-)
+-- a worker is joined: its seat and its part of the gate go back
+pub record WorkerJoins (G : Type 0) (told : G → Option Content) (worker : Worker G) (seat seat' : Sitting)
+    (gate gate' : Option Content) : Type 0 where
+  pub seated : seat' ≡ after_join seat worker.seat
+  pub rejoins : gate' ≡ told_rejoined (told worker.part) gate
+  pub longer : IsPrefix seat.seen seat'.seen
+  pub seen : IsPrefix worker.seat.seen seat'.seen
 
 -- a worker more is joined
 pub join_one : {G : Type 0} {told : G → Option Content} {faults : G → ℕ} {hall : Hall} {count : ℕ}
-    {workers : List (Worker G)} {worker : Worker G} {seat seat' : Sitting} {gate gate' : Option Content} → AreJoined told hall count workers seat gate → IsWorker told faults hall worker →
-    worker.number ≡ length workers → length workers < count → seat' ≡ after_join seat worker.seat → gate' ≡ told_rejoined (told worker.part) gate →
-    IsPrefix seat.seen seat'.seen → IsPrefix worker.seat.seen seat'.seen → AreJoined told hall count (workers ++ worker ∷ []) seat' gate'
-join_one {told} {count} {workers} {worker} {seat} {seat'} {gate} so_far is number inside seated rejoins longer seen =
+    {workers : List (Worker G)} {worker : Worker G} {seat seat' : Sitting} {gate gate' : Option Content} →
+    AreJoined told hall count workers seat gate → IsWorker told faults hall worker → worker.number ≡ length workers →
+    length workers < count → WorkerJoins G told worker seat seat' gate gate' →
+    AreJoined told hall count (workers ++ worker ∷ []) seat' gate'
+join_one {told} {count} {workers} {worker} {seat} {seat'} {gate} so_far is number inside joins =
     let own : IfSome (told worker.part) (λ content. content.own.number ≡ length workers) = number_of (told worker.part) worker.number (length workers) is.part number in
     let one_more : length workers + 1 ≡ length (workers ++ worker ∷ []) = sym (length-append workers (worker ∷ [])) in
     record {
@@ -200,19 +245,22 @@ join_one {told} {count} {workers} {worker} {seat} {seat'} {gate} so_far is numbe
           (subst (λ (k : ℕ). IfSome (told_rejoined (told worker.part) gate) (AreOut k count)) one_more
           (told_less (length workers) count (told worker.part) gate own so_far.out));
       back = subst (λ (c : Option Content). AreBack told c 0 (workers ++ worker ∷ [])) (sym rejoins)
-          (back_push told 0 workers worker (told_rejoined (told worker.part) gate)
-          (kept_back told 0 (length workers) workers (told worker.part) gate so_far.back own (omega arith))
-          (subst (λ (k : ℕ). IfSome (told_rejoined (told worker.part) gate) (HasBack k (told worker.part))) (sym (zero-add (length workers)))
-          (own_back (length workers) count (told worker.part) gate own so_far.out inside)));
+          (back_push (record { told = told; gate = told_rejoined (told worker.part) gate }) 0 workers worker
+          (kept_back told 0 workers gate so_far.back (record { place = length workers; number = own; before = omega arith }))
+          (subst (λ (k : ℕ). IfSome (told_rejoined (told worker.part) gate) (HasBack k (told worker.part)))
+          (sym (zero-add (length workers)))
+          (own_back (told worker.part) gate (record { inside = inside; number = own; out = so_far.out }))));
     }
+  where
+    open joins use {seated, rejoins, longer, seen}
 
 -- every seat that was split is joined
-joined_at : {G : Type 0} (told : G → Option Content) (faults : G → ℕ) (hall : Hall) (from : ℕ)
-    (workers : List (Worker G)) → AreWorkers told faults hall from workers →
-    {k : ℕ} → from < k → k ≤ from + length workers → IsJoined (map joined_of workers) k
-joined_at told faults hall from [] all low high = absurd (omega (arith, low, high))
-joined_at told faults hall from (worker ∷ workers) all {k} low high = elim (cases_lt (from + 1) k) [
-  | inl after ↦ inr (joined_at told faults hall (from + 1) workers all.2 after (omega (arith, high)))
+joined_at : {G : Type 0} {k : ℕ} (of_workers : WorkersOf G) (from : ℕ) (workers : List (Worker G)) →
+    AreWorkers of_workers.told of_workers.faults of_workers.hall from workers → from < k → k ≤ from + length workers →
+    IsJoined (map joined_of workers) k
+joined_at of_workers from [] all low high = absurd (omega (arith, low, high))
+joined_at {k} of_workers from (worker ∷ workers) all low high = elim (cases_lt (from + 1) k) [
+  | inl after ↦ inr (joined_at of_workers (from + 1) workers all.2 after (omega (arith, high)))
   | inr here ↦ inl (omega (arith, all.1.seat, all.0, here, low))
 ]
 
@@ -221,7 +269,7 @@ pub all_joined : {G : Type 0} {told : G → Option Content} {hall : Hall} {worke
     AreWorkers told faults hall 0 workers → AreJoined told hall (length workers) workers seat gate → AllJoined seat.splits seat.joined
 all_joined {told} {hall} {workers} faults all back = record {
   each = λ k low high. subst (λ (js : List Joined). IsJoined js k) (sym back.joined)
-      (joined_at told faults hall 0 workers all low (omega (arith, high, back.splits)));
+      (joined_at (record { told = told; faults = faults; hall = hall }) 0 workers all low (omega (arith, high, back.splits)));
 }
 
 -- how the workers ended, and their reports
@@ -303,12 +351,22 @@ seat_terms {serving} {seat} {left} worker is same steps limit number =
     ∙ ap (λ (l : ℕ). terms_with serving.capacity l seat.number) (sym same.limit ∙ limit ∙ is.limit)
     ∙ ap (λ (n : ℕ). terms_with serving.capacity serving.journal n) (sym same.number ∙ number)
 
+-- what a worker has seen of a journal, and its own entries of it
+record WorkerJournal (G : Type 0) (worker : Worker G) (journal : List Entry) : Type 0 where
+  seen : List Entry
+  front : IsPrefix worker.seat.seen seen
+  whole : IsPrefix seen journal
+  made : worker.seat.mine ≡ made_by worker.seat.number journal
+
 -- a worker that served, as the closed journal and the gate tell of it
 one_worked : {G : Type 0} {told : G → Option Content} {faults : G → ℕ} {films : List Stored} {serving : Serving}
-    {seed : List ℕ} {journal : List Entry} {gate gate' : Outlet} {hall : Hall} {worker : Worker G} (seen : List Entry) → IsStationOf serving hall → IsWorker told faults hall worker → HasFinished told faults films (settings_of serving) seed worker → IsPrefix worker.seat.seen seen → IsPrefix seen journal →
-    IfSome gate'.told (HasBack worker.number (told worker.part)) → (0 < faults worker.part → HasRisen gate.faults gate'.faults) →
-    worker.seat.mine ≡ made_by worker.seat.number journal → HasWorked serving (duty films (settings_of serving) seed worker.number) journal gate gate' worker.report
-one_worked {told} {faults} {seed} {journal} {worker} seen of_words is finished front whole back counted made = record {
+    {seed : List ℕ} {journal : List Entry} {gate gate' : Outlet} {hall : Hall} {worker : Worker G} →
+    WorkerJournal G worker journal → IsStationOf serving hall → IsWorker told faults hall worker →
+    HasFinished told faults films (settings_of serving) seed worker →
+    IfSome gate'.told (HasBack worker.number (told worker.part)) →
+    (0 < faults worker.part → HasRisen gate.faults gate'.faults) →
+    HasWorked serving (duty films (settings_of serving) seed worker.number) journal gate gate' worker.report
+one_worked {told} {faults} {seed} {journal} {worker} own of_words is finished back counted = record {
   seat = finished.seat;
   left = worker.seat;
   part = finished.part;
@@ -322,182 +380,52 @@ one_worked {told} {faults} {seed} {journal} {worker} seen of_words is finished f
   back = back;
   counted = counted;
 }
+  where
+    open own use {seen, front, whole, made}
+
+-- what workers have seen of a journal, and their own entries of it
+pub record WorkersJournal (G : Type 0) (workers : List (Worker G)) (journal : List Entry) : Type 0 where
+  pub seen : List Entry
+  pub front : All (λ worker. IsPrefix worker.seat.seen seen) workers
+  pub whole : IsPrefix seen journal
+  pub made : All (λ joined. joined.mine ≡ made_by joined.number journal) (map joined_of workers)
+
+-- the parts of workers are back, and their faults counted
+pub record WorkersBack (G : Type 0) (told : G → Option Content) (faults : G → ℕ) (gate gate' : Outlet)
+    (from : ℕ) (workers : List (Worker G)) : Type 0 where
+  pub back : AreBack told gate'.told from workers
+  pub counted : All (λ worker. 0 < faults worker.part → HasRisen gate.faults gate'.faults) workers
 
 pub all_worked : {G : Type 0} {told : G → Option Content} {faults : G → ℕ} {films : List Stored} {serving : Serving}
-    {seed : List ℕ} {hall : Hall} (journal seen : List Entry) (gate gate' : Outlet) (from : ℕ)
+    {seed : List ℕ} {hall : Hall} {journal : List Entry} {gate gate' : Outlet} {from : ℕ}
     (workers : List (Worker G)) → IsStationOf serving hall → AreWorkers told faults hall from workers →
     All (HasFinished told faults films (settings_of serving) seed) workers →
-    All (λ worker. IsPrefix worker.seat.seen seen) workers → IsPrefix seen journal → AreBack told gate'.told from workers →
-    All (λ worker. 0 < faults worker.part → HasRisen gate.faults gate'.faults) workers → All (λ joined. joined.mine ≡ made_by joined.number journal) (map joined_of workers) →
+    WorkersBack G told faults gate gate' from workers → WorkersJournal G workers journal →
     AllWorked films serving seed journal gate gate' from (map report_of workers)
-all_worked {seed} journal seen gate gate' from [] of_words all finished front whole back counted made = tt
-all_worked {told} {faults} {films} {serving} {seed} {hall} journal seen gate gate' from (worker ∷ workers) of_words all finished front whole back counted made =
+all_worked {seed} [] of_words all finished backs own = tt
+all_worked {told} {faults} {films} {serving} {seed} {hall} {journal} {gate} {gate'} {from} (worker ∷ workers) of_words all finished backs own =
     let Ends : Worker _ → Type 0 = HasFinished told faults films (settings_of serving) seed in
     let Saw : Worker _ → Type 0 = λ worker. IsPrefix worker.seat.seen seen in
     let Counts : Worker _ → Type 0 = λ worker. 0 < faults worker.part → HasRisen gate.faults gate'.faults in
     let Made : Joined → Type 0 = λ joined. joined.mine ≡ made_by joined.number journal in (
       subst (λ (n : ℕ). HasWorked serving (duty films (settings_of serving) seed n) journal gate gate' worker.report) all.0
-          (one_worked seen of_words all.1 (All-head Ends worker workers finished) (All-head Saw worker workers front) whole
-          (subst (λ (n : ℕ). IfSome gate'.told (HasBack n (told worker.part))) (sym all.0) back.0) (All-head Counts worker workers counted)
-          (All-head Made (joined_of worker) (map joined_of workers) made)),
-      all_worked {told = told} {faults = faults} {films = films} {serving = serving} {seed = seed} {hall = hall} journal seen gate gate' (from + 1) workers of_words all.2 (All-tail Ends worker workers finished) (All-tail Saw worker workers front) whole back.1
-          (All-tail Counts worker workers counted) (All-tail Made (joined_of worker) (map joined_of workers) made),
+          (one_worked (record {
+            seen = seen;
+            front = All-head Saw worker workers front;
+            whole = whole;
+            made = All-head Made (joined_of worker) (map joined_of workers) made;
+          }) of_words all.1
+          (All-head Ends worker workers finished) (subst (λ (n : ℕ). IfSome gate'.told (HasBack n (told worker.part))) (sym all.0)
+          back.0) (All-head Counts worker workers counted)),
+      all_worked {told = told} {faults = faults} {films = films} {serving = serving} {seed = seed} {hall = hall} {from = from + 1} workers of_words
+          all.2 (All-tail Ends worker workers finished) (record { back = back.1; counted = All-tail Counts worker workers counted })
+          (record {
+            seen = seen;
+            front = All-tail Saw worker workers front;
+            whole = whole;
+            made = All-tail Made (joined_of worker) (map joined_of workers) made;
+          }),
     )
-
--- the first of the workers that are left
-pub first_split : {A : Type 0} (xs : List A) (x : A) → 0 < length xs → x ≡ slice_index_or xs 0 x → xs ≡ x ∷ remove xs 0
-first_split [] x some is = absurd (omega (arith, some))
-first_split (y ∷ ys) x some is = ap (λ (z : _). z ∷ ys) (sym is)
-
-pub one_done : {A : Type 0} (all done rest : List A) (x : A) → all ≡ done ++ rest → rest ≡ x ∷ remove rest 0 → all ≡ (done ++ x ∷ []) ++ remove rest 0
-one_done all done rest x whole split = whole ∙ ap (λ (r : List _). done ++ r) split ∙ sym (append_assoc done (x ∷ []) (remove rest 0))
-
-pub all_done : {A : Type 0} (all done rest : List A) → all ≡ done ++ rest → length rest ≡ 0 → done ≡ all
-all_done all done [] whole none = sym (whole ∙ append-nil done)
-all_done all done (x ∷ rest) whole none = absurd (omega (arith, none))
-
--- so many parts are in the gate
-pub counted_parts : (from count workers : ℕ) (gate : Option Content) → IfSome gate (AreOut from count) → count ≡ workers → HasParts workers gate
-counted_parts from count workers None out same = tt
-counted_parts from count workers (Some c) out same = out.counted ∙ same
-
-pub risen_on : (f g h : ℕ) → HasRisen f g → g ≤ h → HasRisen f h
-risen_on f g h risen high = λ end. omega (arith, risen (omega (arith, high, end)), high)
-
-pub risen_since : (f g h : ℕ) → HasRisen g h → f ≤ g → HasRisen f h
-risen_since f g h risen low = λ end. omega (arith, risen end, low)
-
-pub told_out_more : (count : ℕ) (gate gate' : Option Content) → IfSome gate (AreOut 0 count) → gate' ≡ option_map split_off gate → IfSome gate' (AreOut 0 (count + 1))
-told_out_more count None gate' are is = subst (λ (c : Option Content). IfSome c (AreOut 0 (count + 1))) (sym is) tt
-told_out_more count (Some c) gate' are is = subst (λ (c' : Option Content). IfSome c' (AreOut 0 (count + 1))) (sym is) (out_more count c are)
-
--- a gate that is open stays so as parts are split from it and come back
-pub split_still_open : (opening : Opening) (gate gate' : Option Content) → IsOpenAs opening gate → gate' ≡ option_map split_off gate → IsOpenAs opening gate'
-split_still_open opening None gate' are is = subst (IsOpenAs opening) (sym is) tt
-split_still_open opening (Some c) gate' are is = subst (IsOpenAs opening) (sym is) are
-
-pub split_open : (gate gate' : Option Content) → IfSome gate (λ content. IsOpen content) → gate' ≡ option_map split_off gate → IfSome gate' (λ content. IsOpen content)
-split_open None gate' are is = subst (λ (c : Option Content). IfSome c (λ content. IsOpen content)) (sym is) tt
-split_open (Some c) gate' are is = subst (λ (c' : Option Content). IfSome c' (λ content. IsOpen content)) (sym is) are
-
-open_back : (opening : Opening) (part gate : Option Content) → IsOpenAs opening gate → IsOpenAs opening (told_rejoined part gate)
-open_back opening None None is = tt
-open_back opening None (Some c) is = tt
-open_back opening (Some p) None is = tt
-open_back opening (Some p) (Some c) is = is
-
-pub back_still_open : (opening : Opening) (part gate gate' : Option Content) → IsOpenAs opening gate → gate' ≡ told_rejoined part gate → IsOpenAs opening gate'
-back_still_open opening part gate gate' is rejoins = subst (IsOpenAs opening) (sym rejoins) (open_back opening part gate is)
-
-pub is_open : (opening : Opening) (gate : Option Content) → IsOpenAs opening gate → IfSome gate (λ content. IsOpen content)
-is_open opening None is = tt
-is_open opening (Some c) is = subst IsSome (sym is) refl
-
-pub new_number : (count : ℕ) (gate part : Option Content) → IfSome gate (AreOut 0 count) → part ≡ option_map new_part gate → IfSome part (λ content. content.own.number ≡ count)
-new_number count None part are is = subst (λ (c : Option Content). IfSome c (λ content. content.own.number ≡ count)) (sym is) tt
-new_number count (Some c) part are is = subst (λ (c' : Option Content). IfSome c' (λ content. content.own.number ≡ count)) (sym is) are.counted
-
-pub new_untouched : (gate part : Option Content) → part ≡ option_map new_part gate → IfSome part IsUntouched
-new_untouched None part is = subst (λ (c : Option Content). IfSome c IsUntouched) (sym is) tt
-new_untouched (Some c) part is = subst (λ (c' : Option Content). IfSome c' IsUntouched) (sym is) (record { given = refl; back = refl })
-
--- a part that was served keeps its number
-pub served_number : (old new : Option Content) (count number : ℕ) → IsServed old new count → IfSome old (λ content. content.own.number ≡ number) →
-    IfSome new (λ content. content.own.number ≡ number)
-served_number None new count number served is = subst (λ (c : Option Content). IfSome c (λ content. content.own.number ≡ number)) (sym served) tt
-served_number (Some old) None count number served is = absurd served
-served_number (Some old) (Some new) count number served is = served.number ∙ is
-
-pub risen_some : (old new : ℕ) → HasRisen old new → 0 < new
-risen_some old new risen = elim (cases_lt new (2 ^ 64 - 1)) [
-  | inl below ↦ omega (arith, risen below)
-  | inr end ↦ omega (arith, end)
-]
-
--- ---- how often a gate was opened
-
-pub not_opened_here : (gate : Option Content) → IfSome gate (IsNotOpened gate)
-not_opened_here None = tt
-not_opened_here (Some c) = record { told = c; told_is = refl; openings = refl; own = refl }
-
--- nothing is told of a gate from which nothing was told
-none_told : (P : Content → Type 0) (gate : Option Content) → gate ≡ None → IfSome gate P
-none_told P gate is = subst (λ (g : Option Content). IfSome g P) (sym is) tt
-
-pub not_opened_split : (before gate gate' : Option Content) → IfSome gate (IsNotOpened before) → gate' ≡ option_map split_off gate → IfSome gate' (IsNotOpened before)
-not_opened_split before None gate' since is = none_told (IsNotOpened before) gate' is
-not_opened_split before (Some c) gate' since is = subst (λ (g : Option Content). IfSome g (IsNotOpened before)) (sym is)
-    (record { told = since.told; told_is = since.told_is; openings = since.openings; own = since.own })
-
-pub not_opened_back : (before part gate gate' : Option Content) → IfSome gate (IsNotOpened before) → gate' ≡ told_rejoined part gate → IfSome gate' (IsNotOpened before)
-not_opened_back before None None gate' since is = none_told (IsNotOpened before) gate' is
-not_opened_back before (Some p) None gate' since is = none_told (IsNotOpened before) gate' is
-not_opened_back before None (Some c) gate' since is = none_told (IsNotOpened before) gate' is
-not_opened_back before (Some p) (Some c) gate' since is = subst (λ (g : Option Content). IfSome g (IsNotOpened before)) (sym is)
-    (record { told = since.told; told_is = since.told_is; openings = since.openings; own = since.own })
-
-pub not_opened_on : (before mid gate : Option Content) → IfSome mid (IsNotOpened before) → IfSome gate (IsNotOpened mid) → IfSome gate (IsNotOpened before)
-not_opened_on before mid None first since = tt
-not_opened_on before mid (Some c) first since =
-    let middle : IsNotOpened before since.told = subst (λ (g : Option Content). IfSome g (IsNotOpened before)) since.told_is first in
-    record { told = middle.told; told_is = middle.told_is; openings = since.openings ∙ middle.openings; own = since.own ∙ middle.own }
-
-pub opened_once : (how : Option Opening) (before gate : Option Content) → gate ≡ option_map (after_open how) before → IfSome gate (IsOpenedOnce before)
-opened_once how None gate is = none_told (IsOpenedOnce None) gate is
-opened_once how (Some c) gate is = subst (λ (g : Option Content). IfSome g (IsOpenedOnce (Some c))) (sym is)
-    (record { told = c; told_is = refl; openings = refl; own = refl })
-
-pub once_since : (before mid gate : Option Content) → IfSome mid (IsOpenedOnce before) → IfSome gate (IsNotOpened mid) → IfSome gate (IsOpenedOnce before)
-once_since before mid None once since = tt
-once_since before mid (Some c) once since =
-    let middle : IsOpenedOnce before since.told = subst (λ (g : Option Content). IfSome g (IsOpenedOnce before)) since.told_is once in
-    record { told = middle.told; told_is = middle.told_is; openings = since.openings ∙ middle.openings; own = since.own ∙ middle.own }
-
--- ---- parts that gave no connection
-
--- a gate that was opened just now has no parts
-pub opened_few : (count : ℕ) (how : Option Opening) (before gate : Option Content) → gate ≡ option_map (after_open how) before → 1 ≤ count → IfSome gate (HasTooFew count)
-opened_few count how None gate is some = none_told (HasTooFew count) gate is
-opened_few count how (Some c) gate is some = subst (λ (g : Option Content). IfSome g (HasTooFew count)) (sym is)
-    (record { fewer = omega (arith, some); idle = λ k inside. absurd (omega (arith, inside)) })
-
--- workers that did nothing gave back parts of which no connection was taken
-idle_back : {G : Type 0} (told : G → Option Content) (faults : G → ℕ) (from : ℕ) (workers : List (Worker G)) (gate : Content) → AreBack told (Some gate) from workers →
-    All (IsFresh told faults) workers → (k : ℕ) → from ≤ k → k < from + length workers → (part : Part) × ((slice_index_or gate.parts k None ≡ Some part) × IsIdle part)
-idle_back told faults from [] gate back fresh k low high = absurd (omega (arith, low, high))
-idle_back told faults from (worker ∷ workers) gate back fresh k low high =
-    elim (cases_lt from k) [
-      | inl after ↦ idle_back told faults (from + 1) workers gate back.1 (All-tail (IsFresh told faults) worker workers fresh) k (omega (arith, after)) (omega (arith, high))
-      | inr here ↦
-          let is : from ≡ k = omega (arith, here, low) in
-          let first : IsFresh told faults worker = All-head (IsFresh told faults) worker workers fresh in
-          let untouched : IsUntouched back.0.0 = subst (λ (p : Option Content). IfSome p IsUntouched) back.0.1.0 first.part in
-          (back.0.0.own, (subst (λ (n : ℕ). slice_index_or gate.parts n None ≡ Some back.0.0.own) is back.0.1.1, record { given = untouched.given; back = untouched.back }))
-    ]
-
-pub joined_few : {G : Type 0} (told : G → Option Content) (faults : G → ℕ) (hall : Hall) (count : ℕ) (workers : List (Worker G)) (seat : Sitting) (gate : Option Content) →
-    AreJoined told hall (length workers) workers seat gate → All (IsFresh told faults) workers → length workers < count → IfSome gate (HasTooFew count)
-joined_few told faults hall count workers seat None joined fresh fewer = tt
-joined_few told faults hall count workers seat (Some c) joined fresh fewer = record {
-  fewer = omega (arith, joined.out.counted, fewer);
-  idle = λ k inside. idle_back told faults 0 workers c joined.back fresh k (omega arith) (omega (arith, inside, joined.out.counted));
-}
-
--- a part that failed at once gave no connection
-pub failed_few : (how : Option Opening) (before door part split failed gate : Option Content) → door ≡ option_map (after_open how) before → part ≡ option_map new_part door →
-    split ≡ option_map split_off door → failed ≡ option_map (after_empty_take Failed) part → gate ≡ told_rejoined failed split → IfSome gate (HasTooFew 2)
-failed_few how before door part split failed gate opens parts splits fails rejoins =
-    subst (λ (g : Option Content). IfSome g (HasTooFew 2))
-    (ap (λ (o : Option Content). told_rejoined (option_map (after_empty_take Failed) (option_map new_part o)) (option_map split_off o)) (sym opens)
-    ∙ ap (λ (p : Option Content). told_rejoined (option_map (after_empty_take Failed) p) (option_map split_off door)) (sym parts)
-    ∙ ap (λ (s : Option Content). told_rejoined (option_map (after_empty_take Failed) part) s) (sym splits)
-    ∙ ap (λ (f : Option Content). told_rejoined f split) (sym fails) ∙ sym rejoins)
-    (here how before)
   where
-    here : (how : Option Opening) (before : Option Content) → IfSome (told_rejoined (option_map (after_empty_take Failed) (option_map new_part (option_map (after_open how) before)))
-        (option_map split_off (option_map (after_open how) before))) (HasTooFew 2)
-    here how None = tt
-    here how (Some c) = record {
-      fewer = omega arith;
-      idle = λ k inside. let first : 0 ≡ k = omega (arith, inside) in subst (λ (n : ℕ). (part : Part) × ((slice_index_or (after_rejoin (after_empty_take Failed (new_part (after_open how c))).own (split_off (after_open how c))).parts n None ≡ Some part) × IsIdle part)) first (_, (refl, record { given = refl; back = refl }));
-    }
+    open backs use {back, counted}
+    open own use {seen, front, whole, made}

@@ -1,5 +1,5 @@
 -- Plans of traces and films, and verdicts on certificates of them.
-use Rattle.std.specs.Prelude.{◌≡◌, ◌⊎◌, ◌++◌, ℕ, List, Option, Some, codes}
+use Rattle.std.specs.Prelude.{◌≡◌, ◌⊎◌, ℕ, List, Option, Some, codes}
 use Rattle.vod_base.specs.Outside.{File, file_named}
 use Rattle.wire_curve.specs.declared.film.Timing.{Timing}
 use Rattle.wire_curve.specs.declared.curves.Curves.{Curves as CurvePair}

@@ -83,7 +83,7 @@ pub record Finishes (before after : World) (order : Order) (ended : Ended) : Typ
   pub quiet : after.err ≡ before.err
 
 -- all was done, but a fault left only a front of its text written
-pub record IsCut (before after : World) (order : Order) : Type 0 where
+pub record LeavesFront (before after : World) (order : Order) : Type 0 where
   pub status : ℕ
   pub text : List ℕ
   pub plan : Option (List Segment)
@@ -119,7 +119,7 @@ IsCause before after order (StoreFault name) =
     (IsInputRefused order) before.store.told before.store.faults after.store.faults
     (StoreFault name)
     × (after.out ≡ before.out)
-IsCause before after order SinkFault = IsCut before after order
+IsCause before after order SinkFault = LeavesFront before after order
 IsCause before after order NoMemory = after.out ≡ before.out
 IsCause before after order _ = ⊥
 

@@ -3,8 +3,19 @@
 use crate::scenes::passes;
 use std::test::Fail;
 
+/// What a scan of `a.mpg` prints.
+const SCAN_OF_A: &str = "\
+0 film bytes=34 rate=3 pictures=1|0 I show=0 from=0 head=28 to=34 slices=1 sequence group|end|
+";
+
+/// The best plan of `b.mpg` for a startup of two slots.
+const PLAN_OF_B: &str = "\
+0 smooth 1|slots 4|bytes 141|segment 3 106|segment 1 35|end|
+";
+
 /// Films of one picture and of two, their plans, and streams that carry them.
-const FILMS: &str = "\
+const FILMS: &[&str] = &[
+    "\
 bytes sequence 000001b316012013ffffe0a0
 bytes group 000001b800080040
 bytes intra 00000100000ffff8 000001011234
@@ -12,13 +23,17 @@ bytes second 000001000057fff880 000001011234
 bytes a.mpg sequence group intra
 bytes b.mpg a.mpg second
 > scan film=a.mpg
-0 film bytes=34 rate=3 pictures=1|0 I show=0 from=0 head=28 to=34 slices=1 sequence group|end|
+",
+    SCAN_OF_A,
+    "\
 > scan film=b.mpg
 out film bytes=49 rate=3 pictures=2|0 I show=0 from=0 head=28 to=34 slices=1 sequence group|\
 1 P show=1 from=34 head=43 to=49 slices=1|end|
 ends 0
 > plan film=b.mpg startup=2
-0 smooth 1|slots 4|bytes 141|segment 3 106|segment 1 35|end|
+",
+    PLAN_OF_B,
+    "\
 > plan film=b.mpg startup=0 slot=7200
 0 smooth 1|slots 3|bytes 141|segment 1 106|segment 2 35|end|
 file c smooth 1|slots 4|bytes 141|segment 3 106|segment 1 35|end|
@@ -31,19 +46,28 @@ bytes pack 000001ba2100010001800003
 bytes ends 000001b9
 bytes stream pack 000001e000230f a.mpg ends
 > scan film=stream
-0 film bytes=34 rate=3 pictures=1|0 I show=0 from=0 head=28 to=34 slices=1 sequence group|end|
+",
+    SCAN_OF_A,
+    "\
 bytes stuffed pack 000001e0002bffff60002100010001 a.mpg ends
 > scan film=stuffed
-0 film bytes=34 rate=3 pictures=1|0 I show=0 from=0 head=28 to=34 slices=1 sequence group|end|
+",
+    SCAN_OF_A,
+    "\
 bytes later 123400 pack 000001e000230f a.mpg
 > scan film=later
-0 film bytes=34 rate=3 pictures=1|0 I show=0 from=0 head=28 to=34 slices=1 sequence group|end|
+",
+    SCAN_OF_A,
+    "\
 bytes two pack 000001e000320f b.mpg ends
 > plan film=two startup=2
-0 smooth 1|slots 4|bytes 141|segment 3 106|segment 1 35|end|
+",
+    PLAN_OF_B,
+    "\
 > check film=two startup=2 cert=c
 0 least|
-";
+",
+];
 
 /// Films and system streams that are refused, each with its fault.
 const REFUSED: &str = "\
@@ -108,7 +132,11 @@ bytes 17.mpg 000001ba2100010001800003 000001e00034ffffffffffffffffffffffffffffff
 
 #[test]
 fn scans_and_plans_films(rt: HostRuntime) -> Result<(), Fail> {
-    passes(&rt, rt.alloc(), FILMS)
+    let mut script = String::new(rt.alloc());
+    for piece in FILMS {
+        script.push_str(piece)?;
+    }
+    passes(&rt, rt.alloc(), script.as_str())
 }
 
 #[test]

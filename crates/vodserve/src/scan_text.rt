@@ -1,43 +1,31 @@
 //! The text that `scan` prints: a line for the film, and one for each of its units.
 
-ghost use Rattle.std.specs.Prelude.{◌≡◌, ◌++◌, List, ℕ, codes, decimal, IfOk, OnOk};
+ghost use Rattle.std.specs.Prelude.{◌≡◌, ◌++◌, IfOk, OnOk};
 ghost use Rattle.vodserve.specs.ScanText.{kind_text, mark, unit_name, unit_places, unit_marks};
 ghost use Rattle.vodserve.specs.ScanText.{unit_line, unit_lines, film_line, scan_text};
 
-use itoa::Buffer;
 use mpeg_scan::{Kind, Unit};
-use std::alloc::{AllocError, Global};
+use report::{push, push_field, push_number};
+use std::alloc::Global;
+use vod_base::NoMemory;
 
 /// The text of a film with that number of bytes, that rate code and those units.
-pub fn scan_text(alloc: Global, bytes: u64, rate: u8, units: &[Unit]) -> Result<Vec<u8>, AllocError>
+pub fn scan_text(alloc: Global, bytes: u64, rate: u8, units: &[Unit]) -> Result<Vec<u8>, NoMemory>
     ensures { IfOk result (λ text. text.items ≡ scan_text bytes rate units.now) }
 {
     let mut text = film_text(alloc, bytes, rate, units.len() as u64)?;
     for (number, unit) in units.iter().enumerate() {
         push_unit(&mut text, number as u64, unit)?;
     }
-    text.extend_from_slice(b"end\n")?;
+    push(&mut text, b"end\n")?;
     Ok(text)
 }
 
-/// Appends a label and a number.
-fn push_field(text: &mut Vec<u8>, label: &[u8], number: u64) -> Result<(), AllocError>
-    ensures { OnOk result (text.new.items ≡ text.old.items ++ label.now ++ decimal number) }
-{
-    let mut buffer = Buffer::new();
-    text.extend_from_slice(label)?;
-    text.extend_from_slice(buffer.format(number).as_bytes())
-}
-
 /// Appends a word where something is so.
-fn push_mark(text: &mut Vec<u8>, is: bool, word: &[u8]) -> Result<(), AllocError>
+fn push_mark(text: &mut Vec<u8>, is: bool, word: &[u8]) -> Result<(), NoMemory>
     ensures { OnOk result (text.new.items ≡ text.old.items ++ mark is word.now) }
 {
-    if is {
-        text.extend_from_slice(word)
-    } else {
-        Ok(())
-    }
+    if is { push(text, word) } else { Ok(()) }
 }
 
 /// The letter of a picture's kind.
@@ -53,18 +41,17 @@ fn kind_text(kind: Kind) -> &'static [u8]
 }
 
 /// Appends a unit's number, kind and place in presentation order.
-fn push_name(text: &mut Vec<u8>, number: u64, unit: &Unit) -> Result<(), AllocError>
+fn push_name(text: &mut Vec<u8>, number: u64, unit: &Unit) -> Result<(), NoMemory>
     ensures { OnOk result (text.new.items ≡ text.old.items ++ unit_name number unit.now) }
 {
-    let mut buffer = Buffer::new();
-    text.extend_from_slice(buffer.format(number).as_bytes())?;
-    text.extend_from_slice(b" ")?;
-    text.extend_from_slice(kind_text(unit.kind))?;
+    push_number(text, number)?;
+    push(text, b" ")?;
+    push(text, kind_text(unit.kind))?;
     push_field(text, b" show=", unit.presentation)
 }
 
 /// Appends a unit's places and its number of slices.
-fn push_places(text: &mut Vec<u8>, unit: &Unit) -> Result<(), AllocError>
+fn push_places(text: &mut Vec<u8>, unit: &Unit) -> Result<(), NoMemory>
     ensures { OnOk result (text.new.items ≡ text.old.items ++ unit_places unit.now) }
 {
     push_field(text, b" from=", unit.from)?;
@@ -74,16 +61,16 @@ fn push_places(text: &mut Vec<u8>, unit: &Unit) -> Result<(), AllocError>
 }
 
 /// Appends what stands in a unit's head, and the line's end.
-fn push_marks(text: &mut Vec<u8>, unit: &Unit) -> Result<(), AllocError>
+fn push_marks(text: &mut Vec<u8>, unit: &Unit) -> Result<(), NoMemory>
     ensures { OnOk result (text.new.items ≡ text.old.items ++ unit_marks unit.now) }
 {
     push_mark(text, unit.has_sequence, b" sequence")?;
     push_mark(text, unit.starts_group, b" group")?;
-    text.extend_from_slice(b"\n")
+    push(text, b"\n")
 }
 
 /// Appends the line of a unit.
-fn push_unit(text: &mut Vec<u8>, number: u64, unit: &Unit) -> Result<(), AllocError>
+fn push_unit(text: &mut Vec<u8>, number: u64, unit: &Unit) -> Result<(), NoMemory>
     ensures { OnOk result (text.new.items ≡ text.old.items ++ unit_line number unit.now) }
 {
     push_name(text, number, unit)?;
@@ -92,13 +79,13 @@ fn push_unit(text: &mut Vec<u8>, number: u64, unit: &Unit) -> Result<(), AllocEr
 }
 
 /// The line of the film itself.
-fn film_text(alloc: Global, bytes: u64, rate: u8, pictures: u64) -> Result<Vec<u8>, AllocError>
+fn film_text(alloc: Global, bytes: u64, rate: u8, pictures: u64) -> Result<Vec<u8>, NoMemory>
     ensures { IfOk result (λ text. text.items ≡ film_line bytes rate pictures) }
 {
     let mut text = Vec::new(alloc);
     push_field(&mut text, b"film bytes=", bytes)?;
     push_field(&mut text, b" rate=", u64::from(rate))?;
     push_field(&mut text, b" pictures=", pictures)?;
-    text.extend_from_slice(b"\n")?;
+    push(&mut text, b"\n")?;
     Ok(text)
 }

@@ -92,10 +92,7 @@ pub(crate) fn prepare<'a, L: Library, G: Gate>(
         (outlet (G.faults gate.old) (G.told gate.old))
         (outlet (G.faults gate.new) (G.told gate.new))) }
 {
-    let films = match load_films(alloc, library, serving.words) {
-        Ok(films) => films,
-        Err(trouble) => return Err(trouble),
-    };
+    let films = load_films(alloc, library, serving.words)?;
     let opening = Opening {
         port: serving.listening.port,
         all: serving.listening.all,
@@ -204,10 +201,7 @@ fn add_film<'a, L: Library>(
     let Some(name) = film_named(word) else {
         return Ok(());
     };
-    let film = match load_film(alloc, library, name) {
-        Ok(film) => film,
-        Err(trouble) => return Err(trouble),
-    };
+    let film = load_film(alloc, library, name)?;
     match films.push(film) {
         Ok(()) => Ok(()),
         Err(_) => Err(Trouble::NoMemory),
@@ -233,10 +227,7 @@ fn load_films<'a, L: Library>(
 {
     let mut films = Vec::new(alloc);
     for word in words {
-        match add_film(alloc, library, &mut films, word.as_str()) {
-            Ok(()) => {}
-            Err(trouble) => return Err(trouble),
-        }
+        add_film(alloc, library, &mut films, word.as_str())?;
     }
     Ok(films)
 }
@@ -250,9 +241,6 @@ fn make_station(alloc: Global, steps: &[CapStep], limit: u64) -> Result<(Station
     ensures limit { IfOk result (λ made. made.0.limit ≡ limit) }
     ensures seat { IfOk result (λ made. made.1 ≡ first_seat made.0) }
 {
-    let profile = match profile_of(alloc, steps) {
-        Ok(profile) => profile,
-        Err(NoMemory) => return Err(NoMemory),
-    };
+    let profile = profile_of(alloc, steps)?;
     Station::new(alloc, profile, limit)
 }

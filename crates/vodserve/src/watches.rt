@@ -120,10 +120,8 @@ fn watch_part<O: Sink, G: Gate>(
     ensures heard { IfOk result (HearsPart wish.entry.now (G.told part.old) (G.told part.new)
         (O.faults out.old) (O.faults out.new) (O.written out.old) (O.written out.new)) }
 {
-    let mut link = match part.take() {
-        Ok(Some(link)) => link,
-        Ok(None) => return Ok(None),
-        Err(fault) => return Err(fault),
+    let Some(mut link) = part.take()? else {
+        return Ok(None);
     };
     let end = watch(alloc, wish, &mut link, out);
     part.give_back(link);
@@ -157,14 +155,8 @@ fn watch_gate<O: Sink, G: Gate + Drop>(
         connections: 1,
         slot_units: wish.slot_units,
     };
-    match gate.open(&opening) {
-        Ok(()) => {}
-        Err(fault) => return Err(fault),
-    }
-    let mut part = match gate.split() {
-        Ok(part) => part,
-        Err(fault) => return Err(fault),
-    };
+    gate.open(&opening)?;
+    let mut part = gate.split()?;
     let heard = watch_part(alloc, out, &mut part, wish);
     gate.rejoin(part);
     heard

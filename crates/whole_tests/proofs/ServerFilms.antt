@@ -17,12 +17,18 @@ one_film a good = record {
   differ = one_apart (string_bytes a.name);
 }
 
-two_apart : (x y : List ℕ) → x ≢ y → (i j : ℕ) → i < j → j < 2 → slice_index_or (x ∷ y ∷ []) i [] ≢ slice_index_or (x ∷ y ∷ []) j []
-two_apart x y other zero zero before inside = absurd (omega (arith, before))
-two_apart x y other zero (suc zero) before inside = other
-two_apart x y other zero (suc (suc j)) before inside = absurd (omega (arith, inside))
-two_apart x y other (suc i) zero before inside = absurd (omega (arith, before))
-two_apart x y other (suc i) (suc j) before inside = absurd (omega (arith, before, inside))
+-- two places of two, one before the other
+record TwoPlaces (i j : ℕ) : Type 0 where
+  before : i < j
+  inside : j < 2
+
+two_apart : (x y : List ℕ) → x ≢ y → (i j : ℕ) → TwoPlaces i j →
+    slice_index_or (x ∷ y ∷ []) i [] ≢ slice_index_or (x ∷ y ∷ []) j []
+two_apart x y other zero zero places = absurd (omega (arith, places.before))
+two_apart x y other zero (suc zero) places = other
+two_apart x y other zero (suc (suc j)) places = absurd (omega (arith, places.inside))
+two_apart x y other (suc i) zero places = absurd (omega (arith, places.before))
+two_apart x y other (suc i) (suc j) places = absurd (omega (arith, places.before, places.inside))
 
 pub two_films : (a b : Stored) → is_good_name (string_bytes a.name) ≡ true → is_good_name (string_bytes b.name) ≡ true
     → length (string_bytes a.name) < length (string_bytes b.name) → AreFilms (a ∷ b ∷ [])
@@ -31,5 +37,7 @@ two_films a b good_a good_b shorter = record {
   good = All-cons (λ (film : Stored). is_good_name (string_bytes film.name) ≡ true) a (b ∷ []) good_a
       (All-cons (λ (film : Stored). is_good_name (string_bytes film.name) ≡ true) b [] good_b
       (All-nil (λ (film : Stored). is_good_name (string_bytes film.name) ≡ true)));
-  differ = two_apart (string_bytes a.name) (string_bytes b.name) (λ same. absurd (omega (arith, shorter, ap length same)));
+  differ = λ i j before inside.
+      two_apart (string_bytes a.name) (string_bytes b.name) (λ same. absurd (omega (arith, shorter, ap length same))) i j
+      (record { before = before; inside = inside });
 }

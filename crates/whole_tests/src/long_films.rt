@@ -78,10 +78,10 @@ fn sizes_in_pieces(alloc: Global, film: &[u8]) -> Result<Vec<u64>, NoMemory> {
         Vec::from_slice(alloc, film)?,
     ))?;
     let mut library = MemoryLibrary::new(files, Vec::new(alloc));
-    match size_film(alloc, &mut library, "film.mpg") {
-        Ok(sized) => Ok(sized.sizes),
-        Err(_) => Err(NoMemory),
-    }
+    let Ok(sized) = size_film(alloc, &mut library, "film.mpg") else {
+        return Err(NoMemory);
+    };
+    Ok(sized.sizes)
 }
 
 /// The sizes of the units of a film that is held.

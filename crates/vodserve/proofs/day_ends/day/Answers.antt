@@ -1,4 +1,4 @@
-use Rattle.std.proofs.Common.{◌≡◌, ◌∙◌, ◌≤◌, List, ℕ, Vec, Global, inl, inr, refl, sym, subst, arith}
+use Rattle.std.proofs.Common.{◌∙◌, Vec, Global, inl, inr, refl, sym, subst, arith}
 use Rattle.day_run.specs.Days.{IsDay, link_of}
 use Rattle.admission.specs.Histories.{IsLegal}
 use Rattle.admission.specs.declared.entries.Entry.{Entry}

@@ -1,4 +1,4 @@
-use Rattle.std.proofs.Common.{◌≡◌, List, ℕ, Vec, Global, inr, sym, subst}
+use Rattle.std.proofs.Common.{Vec, Global, inr, sym, subst}
 use Rattle.admission.specs.Histories.{IsLegal}
 use Rattle.admission.specs.declared.entries.Entry.{Entry}
 use Rattle.day_run.specs.FairDays.{IsFair}

@@ -1,4 +1,4 @@
-use Rattle.std.proofs.Common.{◌≡◌, ◌∙◌, Bool, List, ℕ, sym, subst, arith}
+use Rattle.std.proofs.Common.{◌∙◌, Bool, List, ℕ, sym, subst, arith}
 use Rattle.inputs.specs.Files.{IsNamed}
 use Rattle.inputs.specs.Scans.{HoldsVideo, IsFilmRefused}
 use Rattle.troubles.proofs.CauseLemmas.{trouble_map}

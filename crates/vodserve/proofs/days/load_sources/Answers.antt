@@ -1,9 +1,9 @@
-use Rattle.std.proofs.Common.{rules, ◌≡◌, ◌∙◌, ◌+◌, ◌++◌, ◌∷◌, [], sym, arith, length, length-append, string_bytes}
+use Rattle.std.proofs.Common.{rules, ◌∙◌, arith}
 use Rattle.std.specs.List.{Contains}
 use Rattle.troubles.proofs.CauseLemmas.{trouble_map}
 use Rattle.vodserve.specs.Days.{IsFirstNamedRefused, IsNameOf, IsNamedRefused, names_in}
 use Rattle.vodserve.proofs.CommandLemmas.{handed_on}
-use Rattle.vodserve.proofs.DayLemmas.{first_named_refused, held_none, held_push, held_whole, named_contains, sources_push}
+use Rattle.vodserve.proofs.DayLemmas.{first_named_refused, held_push, held_whole, named_contains, sources_push}
 use Rattle.vodserve.proofs.days.load_sources.Goals as goal
 
 pub returns-in_err-source-clause-trouble : goal.returns-in_err-source-clause-trouble
@@ -39,8 +39,11 @@ loop-one-preserved g c = record {
   count = search rules;
   sources = sources_push c.loop-one.sources.items c.push.new.self.items c.in_ok-source.source (search rules) ((c.in_ok-source.ensures {u = tt}).source) c.loop-one.invariant.sources;
   held = λ held told.
-      held_push c.in_ok-source.source (search rules)
-      c.loop-one.invariant.count c.loop-one-test.true c.one-item.is (c.loop-one.invariant.held held told)
+      held_push c.in_ok-source.source (search rules) (record {
+        long = c.loop-one.invariant.count;
+        inside = c.loop-one-test.true;
+        at = c.one-item.is;
+      }) (c.loop-one.invariant.held held told)
       ((c.in_ok-source.ensures {u = tt}).held held (c.loop-one.invariant.library.kept ∙ told));
   library = search rules;
 }

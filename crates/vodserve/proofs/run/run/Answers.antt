@@ -1,33 +1,32 @@
-use Rattle.std.proofs.Common.{◌∙◌, Some, None, refl, sym, ap, arith}
-use Rattle.command_words.specs.Words.{help, version, plan_of, check_of, make_of, scan_of, day_of, fair_of, watch_of}
-use Rattle.command_words.specs.Orders.{fair_run_of, made_of, order_of, script_run_of, viewer_of, watching_of}
+use Rattle.std.proofs.Common.{None, refl, arith}
+use Rattle.command_words.specs.Words.{help, version, make_of}
+use Rattle.command_words.specs.Orders.{made_of}
 use Rattle.vodserve.proofs.RunLemmas.{help_done, made_done, no_memory, printed, ran_as, version_done}
 use Rattle.vodserve.proofs.run.run.Goals as goal
 
 pub returns-in-Plan : goal.returns-in-Plan
 returns-in-Plan g c = record {
-  ran = ran_as _ _ _ _ _ ((c.in-Some.ensures {u = tt}).order) c.in-Plan.is
-      c.plan_viewer-done.ensures.library c.print-in-Plan.ensures.count (omega arith)
-      (printed c.plan_viewer-done.result refl c.print-in-Plan.ensures.nothing
+  ran = ran_as ((c.in-Some.ensures {u = tt}).order) c.in-Plan.is c.plan_viewer-done.ensures.library c.print-in-Plan.ensures.count
+      (omega arith) (printed c.plan_viewer-done.result refl c.print-in-Plan.ensures.nothing
       c.plan_viewer-done.ensures.done c.plan_viewer-done.ensures.trouble c.print-in-Plan.ensures.printed);
 }
 
 pub returns-in-Check : goal.returns-in-Check
 returns-in-Check g c = record {
-  ran = ran_as _ _ _ _ _ ((c.in-Some.ensures {u = tt}).order) c.in-Check.is
-      c.check_viewer-done.ensures.library c.print-in-Check.ensures.count (omega arith)
-      (printed c.check_viewer-done.result refl
+  ran = ran_as ((c.in-Some.ensures {u = tt}).order) c.in-Check.is c.check_viewer-done.ensures.library c.print-in-Check.ensures.count
+      (omega arith) (printed c.check_viewer-done.result refl
       c.print-in-Check.ensures.nothing c.check_viewer-done.ensures.done c.check_viewer-done.ensures.trouble c.print-in-Check.ensures.printed);
 }
 
 pub returns-in-Make : goal.returns-in-Make
 returns-in-Make g c = record {
-  ran = ran_as _ _ _ _ _ ((c.in-Some.ensures {u = tt}).order) c.in-Make.is
-      (record { kept = refl; count = omega arith }) c.print-in-Make.ensures.count (omega arith) (
+  ran = ran_as ((c.in-Some.ensures {u = tt}).order) c.in-Make.is (record { kept = refl; count = omega arith })
+      c.print-in-Make.ensures.count (omega arith) (
         refl,
         printed c.finish-in-Make.result refl
             c.print-in-Make.ensures.nothing
-            (made_done None (made_of c.in-Make.kind) c.in-Make.seed c.in-Make.pictures c.make.result c.make.ensures c.finish-in-Make.result c.finish-in-Make.ensures.done)
+            (made_done None (record { kind = made_of c.in-Make.kind; seed = c.in-Make.seed; pictures = c.in-Make.pictures })
+            c.make.result c.make.ensures c.finish-in-Make.result c.finish-in-Make.ensures.done)
             (no_memory _ _ _ (make_of (made_of c.in-Make.kind) c.in-Make.seed c.in-Make.pictures) c.finish-in-Make.result c.finish-in-Make.ensures.trouble)
             c.print-in-Make.ensures.printed,
       );
@@ -35,27 +34,25 @@ returns-in-Make g c = record {
 
 pub returns-in-Scan : goal.returns-in-Scan
 returns-in-Scan g c = record {
-  ran = ran_as _ _ _ _ _ ((c.in-Some.ensures {u = tt}).order) c.in-Scan.is
-      c.print_scan-done.ensures.library c.print-in-Scan.ensures.count (omega arith)
-      (printed c.print_scan-done.result refl c.print-in-Scan.ensures.nothing
+  ran = ran_as ((c.in-Some.ensures {u = tt}).order) c.in-Scan.is c.print_scan-done.ensures.library c.print-in-Scan.ensures.count
+      (omega arith) (printed c.print_scan-done.result refl c.print-in-Scan.ensures.nothing
       c.print_scan-done.ensures.done c.print_scan-done.ensures.trouble c.print-in-Scan.ensures.printed);
 }
 
 pub returns-in-Help : goal.returns-in-Help
 returns-in-Help g c = record {
-  ran = ran_as _ _ _ _ _ ((c.in-Some.ensures {u = tt}).order) c.in-Help.is
-      (record { kept = refl; count = omega arith }) c.print.ensures.count (omega arith) (
-        refl,
-        printed c.finish.result refl c.print.ensures.nothing
-            (help_done None c.help.result c.help.ensures c.finish.result c.finish.ensures.done)
-            (no_memory _ _ _ help c.finish.result c.finish.ensures.trouble) c.print.ensures.printed,
-      );
+  ran = ran_as ((c.in-Some.ensures {u = tt}).order) c.in-Help.is (record { kept = refl; count = omega arith }) c.print.ensures.count (omega arith) (
+    refl,
+    printed c.finish.result refl c.print.ensures.nothing
+        (help_done None c.help.result c.help.ensures c.finish.result c.finish.ensures.done)
+        (no_memory _ _ _ help c.finish.result c.finish.ensures.trouble) c.print.ensures.printed,
+  );
 }
 
 pub returns-in-Version : goal.returns-in-Version
 returns-in-Version g c = record {
-  ran = ran_as _ _ _ _ _ ((c.in-Some.ensures {u = tt}).order) c.in-Version.is
-      (record { kept = refl; count = omega arith }) c.print-in-Version.ensures.count (omega arith) (
+  ran = ran_as ((c.in-Some.ensures {u = tt}).order) c.in-Version.is (record { kept = refl; count = omega arith })
+      c.print-in-Version.ensures.count (omega arith) (
         refl,
         printed c.finish-in-Version.result refl c.print-in-Version.ensures.nothing
             (version_done None c.version.result c.version.ensures c.finish-in-Version.result c.finish-in-Version.ensures.done)
@@ -65,18 +62,17 @@ returns-in-Version g c = record {
 
 pub returns-in-Day : goal.returns-in-Day
 returns-in-Day g c = record {
-  ran = ran_as _ _ _ _ _ ((c.in-Some.ensures {u = tt}).order) c.in-Day.is
-      c.day.ensures.library c.day.ensures.count (omega arith) (refl, c.day.ensures.runs);
+  ran = ran_as ((c.in-Some.ensures {u = tt}).order) c.in-Day.is c.day.ensures.library c.day.ensures.count (omega arith) (refl, c.day.ensures.runs);
 }
 
 pub returns-in-Fair : goal.returns-in-Fair
 returns-in-Fair g c = record {
-  ran = ran_as _ _ _ _ _ ((c.in-Some.ensures {u = tt}).order) c.in-Fair.is
-      (record { kept = refl; count = omega arith }) c.fair.ensures.count (omega arith) (refl, refl, c.fair.ensures.runs);
+  ran = ran_as ((c.in-Some.ensures {u = tt}).order) c.in-Fair.is (record { kept = refl; count = omega arith }) c.fair.ensures.count
+      (omega arith) (refl, refl, c.fair.ensures.runs);
 }
 
 pub returns-in-Watch : goal.returns-in-Watch
 returns-in-Watch g c = record {
-  ran = ran_as _ _ _ _ _ ((c.in-Some.ensures {u = tt}).order) c.in-Watch.is
-      (record { kept = refl; count = omega arith }) c.watch_film.ensures.output c.watch_film.ensures.gate (refl, c.watch_film.ensures.watches);
+  ran = ran_as ((c.in-Some.ensures {u = tt}).order) c.in-Watch.is (record { kept = refl; count = omega arith })
+      c.watch_film.ensures.output c.watch_film.ensures.gate (refl, c.watch_film.ensures.watches);
 }

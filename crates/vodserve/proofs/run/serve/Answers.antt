@@ -8,7 +8,7 @@ use Rattle.vodserve.specs.Served.{IsJournal, served_text}
 use Rattle.vodserve.specs.Worked.{HaveWorked}
 use Rattle.vodserve.specs.Run.{Ends, Seen, gate_seen, sight_of}
 use Rattle.vodserve.proofs.ServeLemmas.{fault_risen, have_worked_since, make_serves, only_opened}
-use Rattle.vodserve.proofs.WorkerLemmas.{once_since}
+use Rattle.vodserve.proofs.GateLemmas.{once_since}
 use Rattle.vodserve.proofs.run.serve.Goals as goal
 
 pub returns-in-Ok-run_server-clause-serves : goal.returns-in-Ok-run_server-clause-serves
@@ -54,10 +54,17 @@ returns-in-Err-run_server-clause-serves g c =
     inl (
       c.in-Err-run_server.trouble,
       (
-        make_serves serving (g.L.Library.files c.args.library.now) (g.L.Library.faults c.args.library.now) (g.L.Library.faults c.prepare.new.library) opened.faults before after
-            c.in-Err-run_server.trouble ((c.in-Err-run_server.ensures {u = tt}).trouble) c.prepare.ensures.count
-            (only_opened serving (g.L.Library.files c.args.library.now) c.in-Ok.prepared.films.items before.told after.told ((c.in-Ok.ensures {u = tt}).loaded)
-            (once_since before.told opened.told after.told ((c.in-Ok.ensures {u = tt}).once) c.run_server.ensures.since) ((c.in-Err-run_server.ensures {u = tt}).few)),
+        make_serves (record {
+          serving = serving;
+          told = g.L.Library.files c.args.library.now;
+          faults = g.L.Library.faults c.args.library.now;
+          faults_after = g.L.Library.faults c.prepare.new.library;
+          gate = before;
+          gate_after = after;
+        }) opened.faults c.in-Err-run_server.trouble ((c.in-Err-run_server.ensures {u = tt}).trouble)
+            c.prepare.ensures.count (only_opened c.in-Ok.prepared.films.items ((c.in-Ok.ensures {u = tt}).loaded)
+            (once_since before.told opened.told after.told ((c.in-Ok.ensures {u = tt}).once) c.run_server.ensures.since)
+            ((c.in-Err-run_server.ensures {u = tt}).few)),
         refl,
         c.end_with-in-Err-run_server.ensures.nothing,
         c.end_with-in-Err-run_server.ensures.fails,

@@ -5,5 +5,6 @@ use Rattle.vodserve.proofs.scan_text.scan_text.Goals as goal
 
 pub loop-number-preserved : goal.loop-number-preserved
 loop-number-preserved c =
-    text-more (film_line c.args.bytes c.args.rate (length c.args.units.now)) c.args.units.now c.loop-number.number
-    _ c.loop-number-test.true c.loop-number.invariant c.in_ok-push_unit.ensures
+    text-more (film_line c.args.bytes c.args.rate (length c.args.units.now)) c.args.units.now
+    (record { count = c.loop-number.number; within = c.loop-number-test.true; before = c.loop-number.invariant }) _
+    c.in_ok-push_unit.ensures

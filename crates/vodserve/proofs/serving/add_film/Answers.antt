@@ -5,16 +5,16 @@ use Rattle.vodserve.specs.Worked.{IsHeld}
 use Rattle.vodserve.proofs.ServeLemmas.{held_film}
 use Rattle.vodserve.proofs.WorkerLemmas.{all_push}
 use Rattle.vodserve.proofs.serving.add_film.Goals as goal
-use Rattle.vodserve.proofs.serving.add_film.Goals.{in-Ok-push, in-Err-push}
+use Rattle.vodserve.proofs.serving.add_film.Goals.{in-Ok, in-Err}
 
 pub returns-clause-held : goal.returns-clause-held
 returns-clause-held g c =
     let Held : Stored → Type 0 = IsHeld (g.L.Library.files c.args.library.now) in
-    let film : Held c.in-Ok.film =
-    held_film (g.L.Library.files c.args.library.now) c.in-Ok.film c.in-Some.name.now ((c.in-Ok.ensures {u = tt}).name) (λ held told. (c.in-Ok.ensures {u = tt}).film held told)
-    (λ held told. (c.in-Ok.ensures {u = tt}).small held told) in
+    let film : Held c.in_ok-film.film =
+    held_film (g.L.Library.files c.args.library.now) c.in_ok-film.film c.in-Some.name.now ((c.in_ok-film.ensures {u = tt}).name) (λ held told. (c.in_ok-film.ensures {u = tt}).film held told)
+    (λ held told. (c.in_ok-film.ensures {u = tt}).small held told) in
     λ all. elim c.match-push.branch [
-      | in-Ok-push w ↦ subst (λ r. OnOk r (All Held c.push.new.self.items)) (sym w.result-is)
-          (subst (All Held) (sym ((w.in-Ok-push.ensures {u = tt}).items)) (all_push Held c.args.films.now.items c.in-Ok.film all film))
-      | in-Err-push w ↦ subst (λ r. OnOk r (All Held c.push.new.self.items)) (sym w.result-is) tt
+      | in-Ok w ↦ subst (λ r. OnOk r (All Held c.push.new.self.items)) (sym w.result-is)
+          (subst (All Held) (sym ((w.in-Ok.ensures {u = tt}).items)) (all_push Held c.args.films.now.items c.in_ok-film.film all film))
+      | in-Err w ↦ subst (λ r. OnOk r (All Held c.push.new.self.items)) (sym w.result-is) tt
     ]

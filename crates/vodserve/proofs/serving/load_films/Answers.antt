@@ -10,12 +10,14 @@ use Rattle.command_words.specs.Settings.{setting_value, texts, values_of}
 use Rattle.troubles.proofs.CauseLemmas.{trouble_map}
 use Rattle.inputs.specs.Films.{IsHeldRefused}
 use Rattle.vodserve.specs.Served.{IsFirstRefused, IsWordNamed}
+use Rattle.vodserve.proofs.CommandLemmas.{handed_on}
 use Rattle.vodserve.proofs.ServeLemmas.{films_are, first_refused, values_rest, word_film}
 use Rattle.vodserve.proofs.serving.load_films.Goals as goal
 
-pub returns-in-Err-clause-trouble : goal.returns-in-Err-clause-trouble
-returns-in-Err-clause-trouble g c =
-    trouble_map (record {
+pub returns-in_err-add_film-clause-trouble : goal.returns-in_err-add_film-clause-trouble
+returns-in_err-add_film-clause-trouble g c =
+    handed_on _ c.from_residual.result c.from_residual.ensures.1
+    (trouble_map (record {
       Reads = IsWordNamed c.as_str.result.now;
       Refuses = IsHeldRefused;
       told = g.L.Library.files c.loop-word.library;
@@ -29,18 +31,24 @@ returns-in-Err-clause-trouble g c =
       before = g.L.Library.faults c.args.library.now;
       after = g.L.Library.faults c.add_film.new.library;
     })
-    c.in-Err.trouble
+    c.in_err-add_film.field-0.0
     (record {
-      reads = λ name named. word_film c.args.words.now c.loop-word.word-index (names_of c.loop-word.films.items) name c.loop-word-test.true c.word-item.is
-          c.loop-word.invariant.names (rw c.as_str.ensures.value at named);
-      refuses = λ held name fault told named refused. first_refused c.args.words.now c.loop-word.word-index
-          c.loop-word.films.items c.loop-word-test.true c.word-item.is c.loop-word.invariant.names (rw c.as_str.ensures.value at named) told
-          c.loop-word.invariant.held refused;
+      reads = λ name named. word_film (record {
+        place = c.loop-word.word-index;
+        inside = c.loop-word-test.true;
+        at = c.word-item.is;
+      }) (names_of c.loop-word.films.items) name c.loop-word.invariant.names (rw c.as_str.ensures.value at named);
+      refuses = λ held name fault told named refused. first_refused (record {
+        place = c.loop-word.word-index;
+        inside = c.loop-word-test.true;
+        at = c.word-item.is;
+      }) c.loop-word.films.items c.loop-word.invariant.names (rw c.as_str.ensures.value at named)
+          c.loop-word.invariant.held (record { tells = told; refused = refused });
       keeps = λ held told. c.loop-word.invariant.library.kept ∙ told;
       low = omega (arith, c.loop-word.invariant.library.count);
       high = omega arith;
     })
-    ((c.in-Err.ensures {u = tt}).trouble)
+    ((c.in_err-add_film.ensures {u = tt}).trouble))
 
 pub returns-clause-films : goal.returns-clause-films
 returns-clause-films g c =
@@ -66,11 +74,11 @@ loop-word-preserved g c =
     record {
       library = search rules;
       held = subst (λ (t : Option (List File)). All (IsHeld t) c.add_film.new.films.items) c.loop-word.invariant.library.kept
-          ((c.in-Ok.ensures {u = tt}).held
+          ((c.in_ok-add_film.ensures {u = tt}).held
           (subst (λ (t : Option (List File)). All (IsHeld t) c.loop-word.films.items) (sym c.loop-word.invariant.library.kept) c.loop-word.invariant.held));
       names = c.loop-word.invariant.names
           ∙ ap (λ (vs : List (List ℕ)). so_far ++ vs) (values_rest key c.args.words.now c.loop-word.word-index c.word-item.result c.loop-word-test.true c.word-item.is)
           ∙ ap (λ (w : List ℕ). so_far ++ (option_to_list (setting_value key w) ++ rest)) (sym c.as_str.ensures.value)
           ∙ sym (append_assoc so_far (option_to_list (setting_value key c.as_str.result.now)) rest)
-          ∙ ap (λ (ns : List (List ℕ)). ns ++ rest) (sym ((c.in-Ok.ensures {u = tt}).added));
+          ∙ ap (λ (ns : List (List ℕ)). ns ++ rest) (sym ((c.in_ok-add_film.ensures {u = tt}).added));
     }

@@ -1,13 +1,13 @@
 use Rattle.std.proofs.Common.{◌∙◌, ℕ, List, subst}
 use Rattle.std.specs.Prelude.{All}
 use Rattle.film_frames.specs.declared.stores.Stored.{Stored}
-use Rattle.conn.specs.Parts.{outlet}
 use Rattle.command_words.specs.Words.{Serving}
 use Rattle.command_words.specs.Orders.{serving_of}
 use Rattle.vodserve.specs.Worked.{opening_of, settings_of}
 use Rattle.vodserve.specs.Workers.{HasFinished}
 use Rattle.vodserve.proofs.ServeLemmas.{closed_journal, have_worked, newly_open_as}
-use Rattle.vodserve.proofs.WorkerLemmas.{all_joined, all_workers, joined_few, not_opened_on, risen_since}
+use Rattle.vodserve.proofs.WorkerLemmas.{all_joined, all_workers}
+use Rattle.vodserve.proofs.GateLemmas.{joined_few, not_opened_on, risen_since}
 use Rattle.vodserve.proofs.serving.run_server.Goals as goal
 
 pub make_workers-requires-clause-opened : goal.make_workers-requires-clause-opened
@@ -29,8 +29,8 @@ returns-clause-since g c =
 
 pub returns-in-Err-clause-few : goal.returns-in-Err-clause-few
 returns-in-Err-clause-few g c =
-    joined_few g.G.Gate.told g.G.Gate.faults c.args.prepared.station c.args.serving.now.listening.workers c.make_workers.new.workers.items c.join_workers.new.seat
-    (g.G.Gate.told c.join_workers.new.gate) c.join_workers.ensures.joined c.make_workers.ensures.fresh ((c.in-Err.ensures {u = tt}).fewer)
+    joined_few c.args.serving.now.listening.workers (g.G.Gate.told c.join_workers.new.gate)
+    (record { joined = c.join_workers.ensures.joined; fresh = c.make_workers.ensures.fresh }) ((c.in-Err.ensures {u = tt}).fewer)
 
 pub returns-clause-closed : goal.returns-clause-closed
 returns-clause-closed g c =
@@ -43,13 +43,16 @@ returns-clause-worked g c =
     let serving : Serving = serving_of c.args.serving.now in
     let before : ℕ = g.G.Gate.faults c.args.gate.now in
     let after : ℕ = g.G.Gate.faults c.join_workers-end.new.gate in
-    have_worked
-    c.run_workers.ensures.workers
-    (subst (λ (films : List Stored). All (HasFinished g.G.Gate.told g.G.Gate.faults films (settings_of serving) c.args.seed) c.run_workers.new.workers.items)
-    c.as_slice.ensures.value c.run_workers.ensures.finished)
-    c.join_workers-end.ensures.joined
-    (λ i d h some. risen_since before (g.G.Gate.faults c.make_workers.new.gate) after (c.join_workers-end.ensures.counted i d h some) c.make_workers.ensures.count)
-    c.close-book.ensures.whole (record { steps = c.requires.steps; limit = c.requires.limit }) (c.run_workers.ensures.count ∙ (c.in-Ok.ensures {u = tt}).made)
-    (c.join_workers-end.ensures.opened (opening_of serving)
-    (c.make_workers.ensures.opened (opening_of serving) (newly_open_as (opening_of serving) (g.G.Gate.told c.args.gate.now) c.requires.opened)))
-    c.join_workers-end.ensures.left
+    have_worked (record {
+      all = c.run_workers.ensures.workers;
+      finished = subst (λ (films : List Stored). All (HasFinished g.G.Gate.told g.G.Gate.faults films (settings_of serving)
+          c.args.seed) c.run_workers.new.workers.items)
+          c.as_slice.ensures.value c.run_workers.ensures.finished;
+      back = c.join_workers-end.ensures.joined;
+      counted = λ i d h some. risen_since before (g.G.Gate.faults c.make_workers.new.gate) after
+          (c.join_workers-end.ensures.counted i d h some) c.make_workers.ensures.count;
+    }) c.close-book.ensures.whole
+    (record { steps = c.requires.steps; limit = c.requires.limit })
+    (c.run_workers.ensures.count ∙ (c.in-Ok.ensures {u = tt}).made) (c.join_workers-end.ensures.opened (opening_of serving)
+    (c.make_workers.ensures.opened (opening_of serving) (newly_open_as (opening_of serving) (g.G.Gate.told c.args.gate.now)
+    c.requires.opened))) c.join_workers-end.ensures.left

@@ -1,4 +1,4 @@
-use Rattle.std.proofs.Common.{List, ℕ, []}
+use Rattle.std.proofs.Common.{ℕ, []}
 use Rattle.troubles.proofs.SaidLemmas.{said_nothing}
 use Rattle.vodserve.proofs.watches.say_watched.Goals as goal
 

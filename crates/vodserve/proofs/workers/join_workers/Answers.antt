@@ -9,7 +9,8 @@ use Rattle.conn.specs.declared.reports.PartReport.{PartReport}
 use Rattle.vodserve.specs.Worked.{AreLeft}
 use Rattle.vodserve.specs.Workers.{AreWorkers, IsWorker, report_of}
 use Rattle.vodserve.specs.declared.workers.Worker.{Worker}
-use Rattle.vodserve.proofs.WorkerLemmas.{all_push, first_split, first_worker, join_one, not_opened_back, not_opened_here, one_done, rest_workers, risen_on, risen_since, back_still_open}
+use Rattle.vodserve.proofs.WorkerLemmas.{all_push, first_worker, join_one, rest_workers}
+use Rattle.vodserve.proofs.GateLemmas.{first_split, not_opened_back, not_opened_here, one_done, risen_on, risen_since, back_still_open}
 use Rattle.vodserve.proofs.workers.join_workers.Goals as goal
 
 pub loop-workers-init : goal.loop-workers-init
@@ -60,10 +61,13 @@ loop-workers-preserved g c =
             (one_done c.args.workers.items done rest worker inv.whole (first_split rest worker some c.remove-other.ensures.value));
         rest = subst (λ (ws : List (Worker _)). AreWorkers g.G.Gate.told g.G.Gate.faults c.args.station.now (length (done ++ worker ∷ [])) ws) (sym c.remove-other.ensures.items)
             (subst (λ (n : ℕ). AreWorkers g.G.Gate.told g.G.Gate.faults c.args.station.now n (remove rest 0)) one_more
-            (rest_workers g.G.Gate.told g.G.Gate.faults c.args.station.now (length done) rest inv.rest some));
-        joined = join_one
-            inv.joined first.1 first.0 inside c.join.ensures.same c.rejoin.ensures.joined
-            c.join.ensures.longer c.join.ensures.told;
+            (rest_workers (record { told = g.G.Gate.told; faults = g.G.Gate.faults; hall = c.args.station.now }) (length done) rest inv.rest some));
+        joined = join_one inv.joined first.1 first.0 inside (record {
+          seated = c.join.ensures.same;
+          rejoins = c.rejoin.ensures.joined;
+          longer = c.join.ensures.longer;
+          seen = c.join.ensures.told;
+        });
         left = subst (λ (ps : List PartReport). AreLeft ps c.add_reports-end.result c.add_reports-end.new.reports.items) (sym (map-append report_of done (worker ∷ [])))
             (c.add_reports-end.ensures.left (map report_of done) inv.left);
         opened = λ opening is. back_still_open opening (g.G.Gate.told worker.part) (g.G.Gate.told c.loop-workers.gate) (g.G.Gate.told c.rejoin.new.self) (inv.opened opening is)

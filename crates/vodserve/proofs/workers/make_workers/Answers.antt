@@ -4,7 +4,8 @@ use Rattle.station.specs.Seats.{Sitting, after_split}
 use Rattle.conn.specs.declared.reports.PartEnd.TheVariants.{AllTaken}
 use Rattle.vodserve.specs.Workers.{AreWorkers, IsFresh, IsWorker}
 use Rattle.vodserve.specs.declared.workers.Worker.{Worker}
-use Rattle.vodserve.proofs.WorkerLemmas.{all_push, new_untouched, not_opened_split, workers_push, told_out_more, split_open, split_still_open, new_number}
+use Rattle.vodserve.proofs.WorkerLemmas.{all_push, workers_push}
+use Rattle.vodserve.proofs.GateLemmas.{new_untouched, not_opened_split, told_out_more, split_open, split_still_open, new_number}
 use Rattle.vodserve.proofs.workers.make_workers.Goals as goal
 
 pub loop-number-preserved : goal.loop-number-preserved

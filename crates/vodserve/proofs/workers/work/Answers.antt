@@ -1,6 +1,6 @@
 use Rattle.std.proofs.Common.{◌∙◌, ℕ, subst, length}
 use Rattle.conn.specs.Parts.{HasServedPart, duty, outlet}
-use Rattle.vodserve.proofs.WorkerLemmas.{risen_some, served_number}
+use Rattle.vodserve.proofs.GateLemmas.{risen_some, served_number}
 use Rattle.vodserve.proofs.workers.work.Goals as goal
 
 pub returns-clause-worker : goal.returns-clause-worker
