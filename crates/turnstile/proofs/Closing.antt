@@ -1,5 +1,5 @@
 -- What the last state tells the first pass.
-use Rattle.std.proofs.Common.{◌≡◌, ◌≢◌, ℕ, zero, suc, ◌<◌, ◌≤◌, List, [], ◌∷◌, length, get_or, Option, Some, false, refl, ap, sym, ◌∙◌, subst, ⊎_elim, inl, inr, arith}
+use Rattle.std.proofs.Common.{◌≡◌, ◌≢◌, ℕ, zero, suc, ◌<◌, List, [], ◌∷◌, length, get_or, Option, Some, false, refl, ap, sym, ◌∙◌, subst, ⊎_elim, inl, inr, arith}
 use mathlib.Core.Logic.{dite}
 use mathlib.Core.List.{IsPrefix}
 use mathlib.Core.Option.{some}
@@ -14,7 +14,7 @@ use Rattle.turnstile.specs.declared.view.Terms.{Terms}
 use Rattle.turnstile.specs.declared.view.View.{View}
 use Rattle.admission.specs.Makers.{made_by}
 use Rattle.turnstile.specs.Turns.{IsLive, IsAway, IsHome, IsRuled}
-use Rattle.turnstile.specs.Passes.{IsJoined, IsWholeList}
+use Rattle.turnstile.specs.Passes.{AllJoined, IsJoined, IsWholeList}
 use Rattle.turnstile.specs.Taken.{stands_as}
 use Rattle.turnstile.proofs.Turning.{idle_free, one_at}
 
@@ -28,23 +28,34 @@ at_index [] i d h = absurd (omega arith)
 at_index (j ∷ rest) zero d h = refl
 at_index (j ∷ rest) (suc i) d h = at_index rest i d (omega arith)
 
+-- the first pass, which has no ticket and to which all others were joined
+pub record HasAll (v : View) : Type 0 where
+  pub left : v.spent ≡ false
+  pub idle : v.stage ≡ Idle
+  pub first : v.number ≡ 0
+  pub all : AllJoined v.splits v.joined
+
 module _ {B : Type 0} (entries : B → List Entry) (terms_of : B → Terms) (terms : Terms) where
   abbrev Rule : State (Option B) View → Type 0
   Rule = IsRuled entries terms_of terms
 
   -- who has joined all others finds the value at home
-  all_home : (s : State (Option B) View) (r : Rule s) (id : ℕ) (v : View) → IsLive s.views id v → v.stage ≡ Idle → v.number ≡ 0
-      → ((n : ℕ) → 0 < n → n ≤ v.splits → IsJoined v.joined n) → IsHome entries terms_of terms r.log s
-  all_home s r id v live idle head all = ⊎_elim (λ (h : IsHome entries terms_of terms r.log s). h)
+  all_home : (s : State (Option B) View) (r : Rule s) (id : ℕ) (v : View) → get_elem? s.views id ≡ some v → HasAll v → IsHome entries terms_of terms r.log s
+  all_home s r id v at it = ⊎_elim (λ (h : IsHome entries terms_of terms r.log s). h)
       (λ (a : IsAway r.log s).
       let other : id ≢ a.place = λ e. idle_free v.stage idle a.ticket (ap (λ (u : View). u.stage) (one_at s.views live.0 a.live.0 (sym e)) ∙ a.holds) in
       let apart = r.apart id a.place v a.holder other live a.live in
       let few = (r.each a.place a.holder a.live).few in
       let count = (r.each id v live).first head in
       let some_one : 0 < a.holder.number = dite (ℕ_discrete a.holder.number 0) (λ e. absurd (apart.numbers (head ∙ sym e))) (λ (ne : a.holder.number ≢ 0). omega arith) in
-      let j = at_joined v.joined a.holder.number (all a.holder.number some_one (omega arith)) in
+      let j = at_joined v.joined a.holder.number (all.each a.holder.number some_one (omega arith)) in
       absurd (apart.past j.0 j.1 j.2 j.3))
       r.where_is
+    where
+      open it use {left, idle, first as head, all}
+
+      live : IsLive s.views id v
+      live = (at, left)
 
   -- what the value in the last slot is
   pub record IsLast (id : TableId) (v : View) (xs : List (Option B)) : Type 0 where
@@ -53,12 +64,11 @@ module _ {B : Type 0} (entries : B → List Entry) (terms_of : B → Terms) (ter
     pub terms_are : terms_of value ≡ v.terms
     pub whole : IsWholeList (stands_as id v) (entries value)
 
-  pub closes : (table : TableId) (id : ℕ) (v : View) → v.spent ≡ false → v.stage ≡ Idle → v.number ≡ 0
-      → ((n : ℕ) → 0 < n → n ≤ v.splits → IsJoined v.joined n)
+  pub closes : (table : TableId) (id : ℕ) {v : View} → HasAll v
       → (ws : List ℕ) (xs : List (Option B)) → Final (Seen Rule id v) ws xs → IsLast table v xs
-  closes table id v left idle head all ws xs last =
+  closes table id {v} it ws xs last =
       let s = last.0 in let r = last.1.0 in let live : IsLive s.views id v = (last.1.1, left) in
-      let h = all_home s r id v live idle head all in let f = r.each id v live in let count = f.first head in record {
+      let h = all_home s r id v last.1.1 it in let f = r.each id v live in let count = f.first head in record {
         value = h.value;
         slot = last.4 0 (Some h.value) (ap (λ hs. get_elem? hs 0) h.home);
         terms_are = h.terms_are ∙ sym f.terms_are;
@@ -69,3 +79,5 @@ module _ {B : Type 0} (entries : B → List Entry) (terms_of : B → Terms) (ter
           others = λ m more. ap (made_by m) h.log_is ∙ r.makers m (omega arith);
         };
       }
+    where
+      open it use {left, first as head}

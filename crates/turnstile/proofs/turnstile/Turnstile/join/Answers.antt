@@ -11,5 +11,5 @@ join_seat-requires g c =
       theirs.empty,
       omega arith,
       joins g.B.Kept.entries g.B.Kept.terms (g.B.Kept.terms c.self.inside.table.shared.key.value) c.rise-place.result.id c.rise-place.result.me.0
-          c.rise-theirs.result.id c.rise-theirs.result.me.0 free.left theirs.left free.idle theirs.idle,
+          c.rise-theirs.result.id c.rise-theirs.result.me.0 record { left = free.left; idle = free.idle } record { left = theirs.left; idle = theirs.idle },
     )

@@ -9,5 +9,5 @@ split_seat-other-requires g c =
       sym (ap (λ p. p.id) old) ∙ (c.requires.own ∙ sym (ap (λ x. x.id) c.self.view_is)),
       omega arith,
       splits g.B.Kept.entries g.B.Kept.terms (g.B.Kept.terms c.self.inside.table.shared.key.value) c.rise-place.result.id c.rise-place.result.me.0
-          free.left free.idle (view.number_is ∙ c.requires.first) (omega arith),
+          record { left = free.left; idle = free.idle } (view.number_is ∙ c.requires.first) (omega arith),
     )
