@@ -16,7 +16,7 @@ use Rattle.admission.specs.Makers.{made_by}
 use Rattle.turnstile.specs.Turns.{IsLive, IsAway, IsHome, IsRuled}
 use Rattle.turnstile.specs.Passes.{AllJoined, IsJoined, IsWholeList}
 use Rattle.turnstile.specs.Taken.{stands_as}
-use Rattle.turnstile.proofs.Turning.{idle_free, one_at}
+use Rattle.turnstile.proofs.Live.{idle_free, one_at}
 
 at_joined : (joined : List Joined) (number : ℕ) → IsJoined joined number → (k : ℕ) × (j : Joined) × (get_elem? joined k ≡ some j) × (j.number ≡ number)
 at_joined [] number h = absurd h

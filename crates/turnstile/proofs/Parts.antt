@@ -19,7 +19,8 @@ use Rattle.turnstile.specs.Passes.{longer_list}
 use Rattle.turnstile.specs.Steps.{shorter_list, first_view, view_after_split, split_view, past_of, view_after_join, spent_view}
 use Rattle.turnstile.proofs.Prefixes.{prefix_shorter, made_nothing, made_between}
 use Rattle.turnstile.proofs.Sums.{total_set, total_push}
-use Rattle.turnstile.proofs.Turning.{lives, waits_in, idle_free, Free, one_at, at_inside, EachLive, live_set, place_other}
+use Rattle.turnstile.proofs.Live.{lives, waits_in, idle_free, Free, one_at, EachLive, live_set}
+use Rattle.turnstile.proofs.Turning.{place_other}
 use Rattle.turnstile.proofs.Turning as step
 
 at_snoc : {A : Type 0} (l : List A) (a b : A) (j : ℕ) → get_elem? (l ++ a ∷ []) j ≡ some b → (get_elem? l j ≡ some b) ⊎ ((j ≡ length l) × (a ≡ b))
