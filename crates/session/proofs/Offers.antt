@@ -42,14 +42,24 @@ wait_in : (head : List ℕ) (value : Option (List ℕ)) (wait : ℕ) → header_
 wait_in head None wait same is = absurd is
 wait_in head (Some text) wait same is = record { text = text; named = same; number_is = is.is_number; fits = omega (arith, is.below) }
 
+-- a request for an offer, with the wait that it names, which is heard in Ready
+record OfferHeard (old : Standing) (message : List ℕ) : Type 0 where
+  request : Request
+  setup : Setup
+  paused : Option Run
+  wait : ℕ
+  asked_by : IsOfferRequest old message request
+  ready : old.state ≡ Ready setup paused
+  has_wait : HasWait request.head.now wait
+
 module _ (old : Standing) (message : List ℕ) (plan : List Segment) (offers : Offers) (new : Standing) where
   abbrev Asked : Type 0
   Asked = IsOfferAsked old message plan offers new
 
-  asks_offer : (request : Request) (setup : Setup) (paused : Option Run) (wait : ℕ) (planned : Result Planned Refusal)
-      → IsOfferRequest old message request → old.state ≡ Ready setup paused → HasWait request.head.now wait
-      → IsPlanned old setup paused None planned → AsksOfferOr old request.sequence wait planned (AskOffer plan offers) new → Asked
-  asks_offer request setup paused wait (Ok planned) by ready has is (inl asks) =
+  asks_offer : (heard : OfferHeard old message) (planned : Result Planned Refusal)
+      → IsPlanned old heard.setup heard.paused None planned
+      → AsksOfferOr old heard.request.sequence heard.wait planned (AskOffer plan offers) new → Asked
+  asks_offer heard (Ok planned) is (inl asks) =
       let same : offers ≡ asks.offers = cc (asks.command) in
       let its = wait_in request.head.now (header_value request.head.now (codes "x-Wait")) wait refl has in
       record {
@@ -67,15 +77,25 @@ module _ (old : Standing) (message : List ℕ) (plan : List Segment) (offers : O
         not_tried = ap (λ (o : Offers). o.tried) same ∙ asks.tried_is;
         leaves = asks.state;
       }
-  asks_offer request setup paused wait (Ok planned) by ready has is (inr refused) = absurd (let no : ⊥ = cc (refused.0) in no)
-  asks_offer request setup paused wait (Err refusal) by ready has is refused = absurd (let no : ⊥ = cc (refused.0) in no)
+    where
+      open heard use {request, setup, paused, wait, asked_by as by, ready, has_wait as has}
+  asks_offer heard (Ok planned) is (inr refused) = absurd (let no : ⊥ = cc (refused.0) in no)
+  asks_offer heard (Err refusal) is refused = absurd (let no : ⊥ = cc (refused.0) in no)
 
   gets_offer : (state : State) (request : Request) → IsOfferRequest old message request → old.state ≡ state
       → GetsOffer state old request (AskOffer plan offers) new → Asked
   gets_offer Init request by same is = absurd (let no : ⊥ = cc (is.0) in no)
   gets_offer (Ready setup paused) request by same (inl short) = absurd (let no : ⊥ = cc (short.refused.0) in no)
   gets_offer (Ready setup paused) request by same (inr is) =
-      asks_offer request setup paused is.wait is.offers.planned by same is.has_wait is.offers.is_planned is.offers.asks
+      asks_offer (record {
+        request = request;
+        setup = setup;
+        paused = paused;
+        wait = is.wait;
+        asked_by = by;
+        ready = same;
+        has_wait = is.has_wait;
+      }) is.offers.planned is.offers.is_planned is.offers.asks
   gets_offer (Playing setup play) request by same is = absurd (let no : ⊥ = cc (is.0) in no)
   gets_offer (Stopping setup stop) request by same is = absurd (let no : ⊥ = cc (is.0) in no)
 

@@ -214,9 +214,9 @@ module _ (old : Standing) (message : List ℕ) (ask again : Ask) (one other : St
   set_up_once sequence (Ok setup) is its = same (its.0 ∙ sym is.0) (its.1 ∙ sym is.1)
   set_up_once sequence (Err refusal) is its = replied_once _ _ refl is its
 
-  halts_once : (sequence : ℕ) (setup : Setup) (play : Played) (next next' : Next) → next' ≡ next
+  halts_once : {sequence : ℕ} {setup : Setup} {play : Played} {next next' : Next} → next' ≡ next
       → AsksHalt old sequence setup play next ask one → AsksHalt old sequence setup play next' again other → Agree
-  halts_once sequence setup play next next' alike is that =
+  halts_once {sequence} {setup} {play} {next} alike is that =
       let its = subst (λ n. AsksHalt old sequence setup play n again other) alike that in
       let keep = its.keep_is ∙ sym is.keep_is in
       same (its.command ∙ ap (λ n. AskHalt n) keep ∙ sym is.command)
@@ -229,7 +229,7 @@ module _ (old : Standing) (message : List ℕ) (ask again : Ask) (one other : St
   tears_once : (state : State) (sequence : ℕ) → TearsDown state old sequence ask one → TearsDown state old sequence again other → Agree
   tears_once Init sequence is its = same (its.0 ∙ sym is.0) (its.1 ∙ sym is.1)
   tears_once (Ready setup paused) sequence is its = same (its.0 ∙ sym is.0) (its.1 ∙ sym is.1)
-  tears_once (Playing setup play) sequence is its = halts_once sequence setup play Torn Torn refl is its
+  tears_once (Playing setup play) sequence is its = halts_once {next = Torn} {next' = Torn} refl is its
   tears_once (Stopping setup stop) sequence is its = same (its.0 ∙ sym is.0) (its.1 ∙ sym is.1)
 
   pauses_play_once : (sequence : ℕ) (setup : Setup) (play : Played) → PausesPlay old sequence setup play ask one
@@ -242,7 +242,7 @@ module _ (old : Standing) (message : List ℕ) (ask again : Ask) (one other : St
       let left = subst (λ (l : Option ℕ). IsLeft (stored_sizes is.stored) (playback_of is.stored.film old.settings setup) play.run play.plan l
       (next_boundary play.pacer) its.left) last of_film in
       let runs = left-one is.left_is left in
-      halts_once sequence setup play (Paused is.left) (Paused its.left) (ap (λ r. Paused r) runs) is.asks its.asks
+      halts_once {next = Paused is.left} {next' = Paused its.left} (ap (λ r. Paused r) runs) is.asks its.asks
 
   pauses_once : (state : State) (sequence : ℕ) → Pauses state old sequence ask one → Pauses state old sequence again other → Agree
   pauses_once Init sequence is its = absurd is
@@ -260,22 +260,22 @@ module _ (old : Standing) (message : List ℕ) (ask again : Ask) (one other : St
         text = play_front old s setup planned sequence authority;
       }) film ∙ sym is.state)
 
-  play_or_once : (sequence : ℕ) (authority : List ℕ) (setup : Setup) (planned : Result Planned Refusal)
+  play_or_once : {sequence : ℕ} (authority : List ℕ) (setup : Setup) (planned : Result Planned Refusal)
       → first_sequence message ≡ Some sequence → AsksPlayOr old sequence authority setup planned ask one
       → AsksPlayOr old sequence authority setup planned again other → Agree
-  play_or_once sequence authority setup (Ok planned) number (inl is) (inl its) = asks_play_once sequence authority setup planned is its
-  play_or_once sequence authority setup (Ok planned) number (inl is) (inr its) = second_wants sequence number its
-  play_or_once sequence authority setup (Ok planned) number (inr is) its = first_wants sequence number is
-  play_or_once sequence authority setup (Err refusal) number is its = replied_once _ _ refl is its
+  play_or_once {sequence} authority setup (Ok planned) number (inl is) (inl its) = asks_play_once sequence authority setup planned is its
+  play_or_once {sequence} authority setup (Ok planned) number (inl is) (inr its) = second_wants sequence number its
+  play_or_once {sequence} authority setup (Ok planned) number (inr is) its = first_wants sequence number is
+  play_or_once authority setup (Err refusal) number is its = replied_once _ _ refl is its
 
-  plays_ready_once : (sequence : ℕ) (authority : List ℕ) (setup : Setup) (a b : Result Planned Refusal)
+  plays_ready_once : {sequence : ℕ} {a b : Result Planned Refusal} (authority : List ℕ) (setup : Setup)
       → first_sequence message ≡ Some sequence → (b ≡ a) ⊎ ((a ≡ Err Memory) ⊎ (b ≡ Err Memory))
       → AsksPlayOr old sequence authority setup a ask one → AsksPlayOr old sequence authority setup b again other → Agree
-  plays_ready_once sequence authority setup a b number (inl alike) is its =
-      play_or_once sequence authority setup a number is (subst (λ p. AsksPlayOr old sequence authority setup p again other) alike its)
-  plays_ready_once sequence authority setup a b number (inr (inl lacks)) is its =
+  plays_ready_once {sequence} {a} authority setup number (inl alike) is its =
+      play_or_once authority setup a number is (subst (λ p. AsksPlayOr old sequence authority setup p again other) alike its)
+  plays_ready_once {sequence} authority setup number (inr (inl lacks)) is its =
       first_wants sequence number (subst (λ p. AsksPlayOr old sequence authority setup p ask one) lacks is)
-  plays_ready_once sequence authority setup a b number (inr (inr lacks)) is its =
+  plays_ready_once {sequence} authority setup number (inr (inr lacks)) is its =
       second_wants sequence number (subst (λ p. AsksPlayOr old sequence authority setup p again other) lacks its)
 
   looks_once : (sequence : ℕ) → first_sequence message ≡ Some sequence → Looks old sequence ask one → Looks old sequence again other → Agree
@@ -297,20 +297,20 @@ module _ (old : Standing) (message : List ℕ) (ask again : Ask) (one other : St
   offer_or_once sequence wait (Ok planned) number (inr is) its = first_wants sequence number is
   offer_or_once sequence wait (Err refusal) number is its = replied_once _ _ refl is its
 
-  offers_ready_once : (sequence wait : ℕ) (a b : Result Planned Refusal) → first_sequence message ≡ Some sequence
+  offers_ready_once : {sequence : ℕ} {a b : Result Planned Refusal} (wait : ℕ) → first_sequence message ≡ Some sequence
       → (b ≡ a) ⊎ ((a ≡ Err Memory) ⊎ (b ≡ Err Memory)) → AsksOfferOr old sequence wait a ask one
       → AsksOfferOr old sequence wait b again other → Agree
-  offers_ready_once sequence wait a b number (inl alike) is its =
+  offers_ready_once {sequence} {a} wait number (inl alike) is its =
       offer_or_once sequence wait a number is (subst (λ p. AsksOfferOr old sequence wait p again other) alike its)
-  offers_ready_once sequence wait a b number (inr (inl lacks)) is its =
+  offers_ready_once {sequence} wait number (inr (inl lacks)) is its =
       first_wants sequence number (subst (λ p. AsksOfferOr old sequence wait p ask one) lacks is)
-  offers_ready_once sequence wait a b number (inr (inr lacks)) is its =
+  offers_ready_once {sequence} wait number (inr (inr lacks)) is its =
       second_wants sequence number (subst (λ p. AsksOfferOr old sequence wait p again other) lacks its)
 
-  offers_in_once : (sequence wait : ℕ) (setup : Setup) (paused : Option Run) → first_sequence message ≡ Some sequence
+  offers_in_once : {sequence wait : ℕ} {setup : Setup} {paused : Option Run} → first_sequence message ≡ Some sequence
       → OffersReady old sequence wait setup paused ask one → OffersReady old sequence wait setup paused again other → Agree
-  offers_in_once sequence wait setup paused number is its =
-      offers_ready_once sequence wait is.planned its.planned number
+  offers_in_once {sequence} {wait} {setup} {paused} number is its =
+      offers_ready_once {a = is.planned} {b = its.planned} wait number
       (planned_once old setup paused None is.planned its.planned is.is_planned its.is_planned) is.asks its.asks
 
 -- what is done by a method
@@ -342,6 +342,12 @@ wait_once : (value : Option (List ℕ)) (one other : ℕ) → IsWaitOf value one
 wait_once None one other is its = absurd is
 wait_once (Some value) one other is its = within_once its is
 
+-- what a session with films judges of a request, and again
+record JudgedTwice (old : Standing) (request request' : Request) (a b : Result Task Refusal) : Type 0 where
+  films : AreFilms old.films
+  judged : IsJudged old.films old.id (place_of old.state) request a
+  judged_again : IsJudged old.films old.id (place_of old.state) request' b
+
 module _ (old : Standing) (message : List ℕ) (ask again : Ask) (one other : Standing) (request request' : Request)
     (alike : AreAlike request request') (number : first_sequence message ≡ Some request.sequence) where
   abbrev Agreed : Type 0
@@ -360,7 +366,7 @@ module _ (old : Standing) (message : List ℕ) (ask again : Ask) (one other : St
   plays_once Init authority is its = absurd is
   plays_once (Ready setup paused) authority is its =
       let planned = subst (λ h. IsPlanned old setup paused (header_value h (codes "Range")) its.planned) alike.head its.is_planned in
-      plays_ready_once old message ask again one other request.sequence authority setup is.planned its.planned number
+      plays_ready_once old message ask again one other {a = is.planned} {b = its.planned} authority setup number
       (planned_once old setup paused (header_value request.head.now (codes "Range")) is.planned its.planned is.is_planned planned) is.asks
       (subst (λ s. AsksPlayOr old s authority setup its.planned again other) alike.sequence its.asks)
   plays_once (Playing setup play) authority is its = replied_once old message ask again one other _ _ (ap (λ s. session_text s old.id) alike.sequence) is its
@@ -380,7 +386,7 @@ module _ (old : Standing) (message : List ℕ) (ask again : Ask) (one other : St
   gets_offer_once (Ready setup paused) (inr is) (inr its) =
       let wait = wait_once (header_value request.head.now (codes "x-Wait")) is.wait its.wait is.has_wait
       (subst (λ h. HasWait h its.wait) alike.head its.has_wait) in
-      offers_in_once old message ask again one other request.sequence is.wait setup paused number is.offers
+      offers_in_once old message ask again one other number is.offers
       (subst (λ w. OffersReady old request.sequence w setup paused again other) wait
       (subst (λ s. OffersReady old s its.wait setup paused again other) alike.sequence its.offers))
   gets_offer_once (Playing setup play) is its = refused_alike NotNow is its
@@ -420,21 +426,23 @@ module _ (old : Standing) (message : List ℕ) (ask again : Ask) (one other : St
       (subst (λ b. IsTopic b its.topic) alike.body its.is_topic) in
       gets_once is.topic is.gets (subst (λ t. Gets old request' t again other) topic its.gets)
 
-  takes_once : AreFilms old.films → (a b : Result Task Refusal) → IsJudged old.films old.id (place_of old.state) request a
-      → IsJudged old.films old.id (place_of old.state) request' b → Takes old request a ask one → Takes old request' b again other → Agreed
-  takes_once films (Ok a) (Ok b) judged judged' is its =
+  takes_once : (a b : Result Task Refusal) → JudgedTwice old request request' a b
+      → Takes old request a ask one → Takes old request' b again other → Agreed
+  takes_once (Ok a) (Ok b) twice is its =
       let method : method_of b ≡ method_of a =
       method_once request.method.now (method_of b) (method_of a) (sym alike.method ∙ judged'.talk.spoken.named) judged.talk.spoken.named in
       let first : TakenRequest = record { old = old; new = one; request = request; ask = ask } in
       let second : TakenRequest = record { old = old; new = other; request = request'; ask = again } in
       by_once films (method_of a) (by_method first (place_of old.state) a judged.film is)
       (subst (λ m. By old m request' again other) method (by_method second (place_of old.state) b judged'.film its))
-  takes_once films (Ok a) (Err b) judged judged' is its =
-      absurd (not_both b alike judged judged')
-  takes_once films (Err a) (Ok b) judged judged' is its =
-      absurd (not_both a (turned request request' alike) judged' judged)
-  takes_once films (Err a) (Err b) judged judged' is its =
-      let refusal = refusal_once old.films old.id (place_of old.state) alike judged judged' in
+    where
+      open twice use {films, judged, judged_again as judged'}
+  takes_once (Ok a) (Err b) twice is its =
+      absurd (not_both b alike twice.judged twice.judged_again)
+  takes_once (Err a) (Ok b) twice is its =
+      absurd (not_both a (turned request request' alike) twice.judged_again twice.judged)
+  takes_once (Err a) (Err b) twice is its =
+      let refusal = refusal_once old.films old.id (place_of old.state) alike twice.judged twice.judged_again in
       replied_once old message ask again one other _ _
       (ap (λ s. refusal_text (Some s) b (option_of request'.head.now)) alike.sequence
       ∙ ap (λ r. refusal_text (Some request.sequence) r (option_of request'.head.now)) refusal
@@ -452,7 +460,8 @@ whole_once {old} {one} {other} {message} {ask} {again} films is its =
       sequence = parts.sequence_is;
       head = parts.head_is;
       body = parts.body_is;
-    }) (first_is message a.sequence is.is_request.sequence_is) films is.hears.judgement its.hears.judgement is.hears.judged its.hears.judged
+    }) (first_is message a.sequence is.is_request.sequence_is) is.hears.judgement its.hears.judgement
+    (record { films = films; judged = is.hears.judged; judged_again = its.hears.judged })
     is.hears.takes its.hears.takes
 
 hears_on_once : {one other : Standing} {ask again : Ask} (lost : Bool) (old : Standing) (message : List ℕ) → AreFilms old.films

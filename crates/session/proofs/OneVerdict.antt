@@ -116,8 +116,16 @@ module _ (films : List Stored) (id : List ℕ) (place : Place) (name url head : 
   before_4 : Passes 0 → Passes 1 → Passes 2 → Passes 3 → (k : ℕ) → k < 4 → Passes k
   before_4 method free own film = below_more Passes 3 (before_3 method free own) film
 
-  before_5 : Passes 0 → Passes 1 → Passes 2 → Passes 3 → Passes 4 → (k : ℕ) → k < 5 → Passes k
-  before_5 method free own film time = below_more Passes 4 (before_4 method free own film) time
+  -- a request that passes the five judgements: its method, options, session, film and time
+  record PassesAll : Type 0 where
+    method : Passes 0
+    free : Passes 1
+    own : Passes 2
+    film : Passes 3
+    time : Passes 4
+
+  before_5 : PassesAll → (k : ℕ) → k < 5 → Passes k
+  before_5 passed = below_more Passes 4 (before_4 passed.method passed.free passed.own passed.film) passed.time
 
 film_of : (films : List Stored) (place : Place) (url : List ℕ) (task : Task) → IsTaskOf films place url task
     → (method_of task ≡ Options) ⊎ HasFilm films place url (method_of task)
@@ -137,9 +145,13 @@ stops films id place request (Ok task) is =
     let m = method_of task in
     let spoken = is.talk.spoken in
     record {
-      before = before_5 films id place request.method.now request.url.now request.head.now (m, spoken.named) spoken.free
-          (m, (spoken.named, is.talk.session)) (m, (spoken.named, film_of films place request.url.now task is.film))
-          (m, (spoken.named, is.state));
+      before = before_5 films id place request.method.now request.url.now request.head.now (record {
+        method = (m, spoken.named);
+        free = spoken.free;
+        own = (m, (spoken.named, is.talk.session));
+        film = (m, (spoken.named, film_of films place request.url.now task is.film));
+        time = (m, (spoken.named, is.state));
+      });
       at = λ no. no;
     }
 stops films id place request (Err BadRequest) is = absurd is

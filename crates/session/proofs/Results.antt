@@ -1,10 +1,10 @@
 -- What a message comes to: the one analysis of it by cases, above which the laws stand.
 use Rattle.std.specs.Prelude.{is_none}
-use Rattle.std.proofs.Common.{◌≡◌, ◌≢◌, ℕ, ◌<◌, ◌≤◌, ◌⊎◌, Bool, true, false, List, [], length, Option, Some, None, Result, Ok, Err, refl, sym, subst, inl, inr, arith}
+use Rattle.std.proofs.Common.{◌≡◌, ◌≢◌, ℕ, ◌<◌, ◌≤◌, ◌⊎◌, Bool, true, false, List, [], length, Option, Some, None, Result, Ok, Err, codes, refl, sym, subst, inl, inr, arith}
 use Rattle.std.proofs.lemmas.Option.{slice_get_within}
 use Rattle.film_frames.specs.declared.stores.Stored.{Stored}
 use Rattle.film_run.specs.declared.runs.Run.{Run}
-use Rattle.rtsp_text.specs.Fields.{first_sequence}
+use Rattle.rtsp_text.specs.Fields.{first_sequence, header_value}
 use Rattle.rtsp_text.specs.Replies.{Field, reply_text}
 use Rattle.rtsp_text.specs.declared.requests.Request.{Request}
 use Rattle.rtsp_text.specs.declared.requests.RequestFault.{RequestFault}
@@ -114,6 +114,22 @@ init_of (Ready setup paused) none = absurd (let no : ⊥ = cc in no)
 init_of (Playing setup play) none = absurd (let no : ⊥ = cc in no)
 init_of (Stopping setup stop) none = absurd (let no : ⊥ = cc in no)
 
+-- a SETUP of a film that the session has, which is heard in Init
+record SetupHeard (old : Standing) (message : List ℕ) (request : Request) (film : ℕ) : Type 0 where
+  number : first_sequence message ≡ Some request.sequence
+  init : old.state ≡ Init
+  within : film < length old.films
+
+-- a PLAY that is heard in Ready
+record PlayHeard (old : Standing) (message : List ℕ) : Type 0 where
+  sequence : ℕ
+  authority : List ℕ
+  setup : Setup
+  paused : Option Run
+  range : Option (List ℕ)
+  number : first_sequence message ≡ Some sequence
+  ready : old.state ≡ Ready setup paused
+
 module _ (old : Standing) (message : List ℕ) (ask : Ask) (new : Standing) where
   abbrev Comes : Type 0
   Comes = ComesTo old message ask new
@@ -158,28 +174,37 @@ module _ (old : Standing) (message : List ℕ) (ask : Ask) (new : Standing) wher
   gets_to request OfferTopic number is = gets_offer_to old.state request number is
   gets_to request Unknown number is = refuses request.sequence Parameter number is
 
-  set_up_to : (request : Request) (film : ℕ) (read : Result Setup Refusal) → first_sequence message ≡ Some request.sequence
-      → old.state ≡ Init → film < length old.films → IsSetupRead old.settings request.head.now film read
-      → IsSetUp old request.sequence read ask new → Comes
-  set_up_to request film (Ok setup) number init within read is =
-      SettlesSetup request.sequence setup init (setup_ranges read within) is.0 is.1
-  set_up_to request film (Err refusal) number init within read is = refuses request.sequence refusal number is
+  set_up_to : (request : Request) (film : ℕ) (read : Result Setup Refusal) → SetupHeard old message request film
+      → IsSetupRead old.settings request.head.now film read → IsSetUp old request.sequence read ask new → Comes
+  set_up_to request film (Ok setup) heard read is =
+      SettlesSetup request.sequence setup heard.init (setup_ranges read heard.within) is.0 is.1
+  set_up_to request film (Err refusal) heard read is = refuses request.sequence refusal heard.number is
 
-  asks_play_to : (sequence : ℕ) (authority : List ℕ) (setup : Setup) (paused : Option Run) (range : Option (List ℕ))
-      (planned : Result Planned Refusal) → first_sequence message ≡ Some sequence → old.state ≡ Ready setup paused
-      → IsPlanned old setup paused range planned → AsksPlayOr old sequence authority setup planned ask new → Comes
-  asks_play_to sequence authority setup paused range (Ok planned) number ready is (inl asks) =
+  asks_play_to : (heard : PlayHeard old message) (planned : Result Planned Refusal)
+      → IsPlanned old heard.setup heard.paused heard.range planned
+      → AsksPlayOr old heard.sequence heard.authority heard.setup planned ask new → Comes
+  asks_play_to heard (Ok planned) is (inl asks) =
       AsksForPlay asks.stored setup paused range planned sequence authority ready
       (of_film old.films setup.film is.0 (λ s. IsPlannedRun old s setup paused range planned) is.1.at is.1 asks.stored asks.at)
       asks.command asks.state
-  asks_play_to sequence authority setup paused range (Ok planned) number ready is (inr refused) = lacks sequence number refused
-  asks_play_to sequence authority setup paused range (Err refusal) number ready is refused = refuses sequence refusal number refused
+    where
+      open heard use {sequence, authority, setup, paused, range, ready}
+  asks_play_to heard (Ok planned) is (inr refused) = lacks heard.sequence heard.number refused
+  asks_play_to heard (Err refusal) is refused = refuses heard.sequence refusal heard.number refused
 
   plays_to : (state : State) (request : Request) (authority : List ℕ) → first_sequence message ≡ Some request.sequence
       → old.state ≡ state → Plays state old request authority ask new → Comes
   plays_to Init request authority number same is = absurd is
   plays_to (Ready setup paused) request authority number same is =
-      asks_play_to request.sequence authority setup paused _ is.planned number same is.is_planned is.asks
+      asks_play_to (record {
+        sequence = request.sequence;
+        authority = authority;
+        setup = setup;
+        paused = paused;
+        range = header_value request.head.now (codes "Range");
+        number = number;
+        ready = same;
+      }) is.planned is.is_planned is.asks
   plays_to (Playing setup play) request authority number same is = says request.sequence _ [] is
   plays_to (Stopping setup stop) request authority number same is = says request.sequence _ [] is
 
@@ -201,8 +226,11 @@ module _ (old : Standing) (message : List ℕ) (ask : Ask) (new : Standing) wher
   takes_to request (Ok (ToDescribe asked)) read number judged takes = says request.sequence _ _ takes.reply
   takes_to request (Ok (ToSetup film)) read number judged takes =
       let named = judged.film.1.named.film in
-      set_up_to request film takes.read number (init_of old.state judged.state) (slice_get_within old.films film named.stored named.at)
-      takes.is_read takes.done
+      set_up_to request film takes.read (record {
+        number = number;
+        init = init_of old.state judged.state;
+        within = slice_get_within old.films film named.stored named.at;
+      }) takes.is_read takes.done
   takes_to request (Ok (ToPlay asked)) read number judged takes = plays_to old.state request asked.authority.now number refl takes
   takes_to request (Ok ToPause) read number judged takes = pauses_to old.state request.sequence refl takes
   takes_to request (Ok ToTeardown) read number judged takes = tears_to old.state request.sequence
