@@ -1,8 +1,3 @@
-pub mod CommandLemmas
-pub mod PictureLemmas
-pub mod OneAnswer
-pub mod OneVerdict
-pub mod ScanTextLemmas
 pub mod RunLemmas
 pub mod WorkerLemmas
 pub mod GateLemmas
@@ -10,10 +5,6 @@ pub mod ServeLemmas
 pub mod JournalLemmas
 pub mod ServeLaws
 pub mod ConnectionLaws
-pub mod DayLemmas
-pub mod FieldLemmas
 pub mod TextReading
 pub mod LineReading
-pub mod ScanLines
 pub mod WatchLemmas
-pub mod HelpReading

@@ -10,11 +10,11 @@ use Rattle.troubles.specs.Causes.{IsReadOnly, IsReadTrouble}
 use Rattle.troubles.specs.declared.faults.Trouble.{Trouble}
 use Rattle.troubles.specs.declared.faults.Trouble.TheVariants.{Usage, Refused, StoreFault, SinkFault, NoMemory, GateFault, LinkFault}
 use Rattle.vod_base.specs.Outside.{File}
-use Rattle.vodserve.specs.Carrying.{IsDone, IsInputRefused, IsRead, made_text}
-use Rattle.vodserve.specs.Texts.{help_text, version_text}
-use Rattle.vodserve.proofs.CommandLemmas.{text_of}
+use Rattle.local_commands.specs.Carrying.{IsDone, IsInputRefused, IsRead, made_text}
+use Rattle.local_commands.specs.Texts.{help_text, version_text}
+use Rattle.local_commands.proofs.CommandLemmas.{text_of}
 use Rattle.vodserve.specs.Run.{World, Does, HasServedNothing, IsCarriedOut, IsCause, IsWritten, Printed, Prints, Ran}
-use Rattle.vodserve.specs.declared.done.Done.{Done}
+use Rattle.local_commands.specs.declared.done.Done.{Done}
 use Rattle.vodserve.specs.declared.run.Ended.{Ended}
 
 written : {order : Order} {ended : Ended} (before after : World) (done : Done) → IsDone before.store.told order done.status done.text.items done.plan →

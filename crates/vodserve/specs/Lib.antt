@@ -1,15 +1,7 @@
-pub mod Plans
-pub mod Pictures
-pub mod Carrying
 pub mod Run
 pub mod Watches
-pub mod ScanText
-pub mod Texts
-pub mod Verdict
 pub mod Worked
 pub mod Workers
 pub mod Served
 pub mod Laws
-pub mod Days
 pub mod TextLaws
-pub mod HelpLaws

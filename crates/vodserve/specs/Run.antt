@@ -11,7 +11,7 @@ use Rattle.day_run.specs.declared.reels.Source.{Source}
 use Rattle.day_run.specs.declared.scripts.Script.{Script}
 use Rattle.day_run.specs.Days.{IsDay, link_of}
 use Rattle.day_run.specs.FairDays.{IsFair}
-use Rattle.vodserve.specs.Days.{AreHeldAs, HoldsScript, IsDayInput, IsDayRefused}
+use Rattle.local_commands.specs.Days.{AreHeldAs, HoldsScript, IsDayInput, IsDayRefused}
 use Rattle.rtsp_client.specs.declared.wishes.Wish.{Wish}
 use Rattle.rtsp_client.specs.declared.wishes.Watched.{Watched}
 use Rattle.rtsp_client.specs.declared.wishes.WatchEnd.{WatchEnd}
@@ -42,8 +42,8 @@ use Rattle.conn.specs.declared.reports.PartEnd.{PartEnd}
 use Rattle.conn.specs.declared.reports.PartEnd.TheVariants.{GateFault as PartFault}
 use Rattle.vodserve.specs.Worked.{AreLoaded, HasTooFew, HaveWorked, IsOpenAs, IsOpenedOnce}
 use Rattle.vodserve.specs.Served.{IsJournal, IsPrinted, IsServeTrouble, served_text}
-use Rattle.vodserve.specs.Carrying.{IfTold, IsDone, IsRead, IsInputRefused}
-use Rattle.vodserve.specs.declared.done.Done.{Done}
+use Rattle.local_commands.specs.Carrying.{IfTold, IsDone, IsRead, IsInputRefused}
+use Rattle.local_commands.specs.declared.done.Done.{Done}
 use Rattle.vodserve.specs.declared.run.Ended.{Ended}
 
 -- a library or a stream: how many faults it counted, and what it told of its content

@@ -6,10 +6,10 @@ ghost use Rattle.command_words.specs.Ranges.{IsFairRunInRange, IsScriptRunInRang
 ghost use Rattle.troubles.specs.Causes.{IsReadOnly};
 ghost use Rattle.vodserve.specs.Run.{IsTextWritten, RunsDay, RunsFair, sight_of};
 
-use crate::days::{load_script, load_sources, run_day, run_fair};
 use crate::run::{Ended, end_with};
 use command_words::{FairRun, ScriptRun};
 use day_run::Day;
+use local_commands::{load_script, load_sources, run_day, run_fair};
 use std::alloc::Global;
 use troubles::Trouble;
 use vod_base::{Library, NoMemory, Sink};

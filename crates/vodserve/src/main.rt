@@ -2,24 +2,16 @@
 //! plan.
 #![tactic(auto)]
 
-mod checks;
-mod curves;
 mod day_ends;
 #[cfg(test)]
 mod day_tests;
-mod days;
-mod done;
 #[cfg(test)]
 mod film_tests;
 #[cfg(test)]
 mod loopback_tests;
-mod makes;
 #[cfg(test)]
 mod meeting_tests;
-mod plans;
 mod run;
-mod scan_text;
-mod scans;
 #[cfg(test)]
 mod scenes;
 #[cfg(test)]
@@ -31,8 +23,6 @@ mod test_inputs;
 #[cfg(test)]
 mod tests;
 mod text_laws;
-mod texts;
-mod traces;
 #[cfg(test)]
 mod watch_tests;
 mod watches;

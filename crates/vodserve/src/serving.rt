@@ -27,6 +27,7 @@ use command_words::{Serving, film_named};
 use conn::{ConnReport, PartEnd};
 use film_frames::Stored;
 use inputs::load_film;
+use local_commands::profile_of;
 use session::Settings;
 use slot_calendar::{CapStep, Profile};
 use station::{Seat, Station};
@@ -51,17 +52,6 @@ pub(crate) struct Closed {
     pub(crate) book: Book,
     pub(crate) reports: Vec<ConnReport>,
     pub(crate) end: PartEnd,
-}
-
-/// The capacity of these steps.
-pub(crate) fn profile_of(alloc: Global, steps: &[CapStep]) -> Result<Profile, NoMemory>
-    requires { IsProfile steps.now }
-    ensures { IfOk result (λ profile. profile ≡ steps.now) }
-{
-    match Vec::from_slice(alloc, steps) {
-        Ok(steps) => Ok(Profile::new(steps)),
-        Err(_) => Err(NoMemory),
-    }
 }
 
 /// Loads the films, opens the gate and makes the station, in this order.

@@ -1,49 +1,14 @@
-//! What a reader of the output can tell from it: laws over the texts that are printed.
+//! What a reader of the output can tell from it: laws over the texts of a server and a client.
 
-ghost use Rattle.std.specs.Prelude.{◌≡◌, ◌≢◌, ◌<◌, ◌^◌, ℕ, true, List, All, codes, length};
-ghost use Rattle.std.specs.List.{list_all};
-ghost use Rattle.mpeg_scan.specs.declared.units.Unit.{Unit};
-ghost use Rattle.cert_check.specs.declared.CertFault.{CertFault};
+ghost use Rattle.std.specs.Prelude.{◌≡◌, ◌<◌, ◌^◌, ℕ, List, length};
 ghost use Rattle.admission.specs.declared.entries.Entry.{Entry};
-ghost use Rattle.command_words.specs.Commands.{keys_of};
-ghost use Rattle.command_words.specs.Forms.{defaults};
-ghost use Rattle.command_words.specs.Spelling.{name_of};
-ghost use Rattle.command_words.specs.Words.{Order};
-ghost use Rattle.command_words.specs.declared.commands.Command.{Command};
-ghost use Rattle.vodserve.specs.HelpLaws.{fits_into, shows_command, shows_default, shows_key};
-ghost use Rattle.vodserve.specs.Texts.{help_text};
-ghost use Rattle.vodserve.specs.ScanText.{film_line, scan_text, unit_line};
 ghost use Rattle.vodserve.specs.Served.{served_text};
 ghost use Rattle.rtsp_client.specs.Meters.{watched_in};
 ghost use Rattle.rtsp_client.specs.Moments.{History};
 ghost use Rattle.rtsp_client.specs.declared.wishes.Wish.{Wish};
-ghost use Rattle.vodserve.specs.TextLaws.{IsSameScan, IsShortFault, IsShortUnit, IsShortWatched};
-ghost use Rattle.vodserve.specs.TextLaws.{TellsFilm, TellsPlay, TellsServed, TellsUnit};
-ghost use Rattle.vodserve.specs.Verdict.{refused_line};
+ghost use Rattle.vodserve.specs.TextLaws.{IsShortWatched};
+ghost use Rattle.vodserve.specs.TextLaws.{TellsPlay, TellsServed};
 ghost use Rattle.vodserve.specs.Watches.{watched_text};
-
-/// A law: the text of a scan tells the film's size, its rate code and its units, one for each line
-/// between the first and the last: scans with the same text tell the same of each, and in a line
-/// each number stands by its key.
-pub fn law_scan_tells_units()
-    ensures same { (bytes bytes' rate rate' : ℕ) (units units' : List Unit) → bytes < 2 ^ 64 →
-        bytes' < 2 ^ 64 → rate < 2 ^ 64 → rate' < 2 ^ 64 → length units < 2 ^ 64 →
-        length units' < 2 ^ 64 → All IsShortUnit units → All IsShortUnit units' →
-        scan_text bytes rate units ≡ scan_text bytes' rate' units' →
-        IsSameScan bytes bytes' rate rate' units units' }
-    ensures film { (bytes rate pictures : ℕ) → bytes < 2 ^ 64 → rate < 2 ^ 64 →
-        pictures < 2 ^ 64 → TellsFilm bytes rate pictures (film_line bytes rate pictures) }
-    ensures unit { (number : ℕ) (unit : Unit) → number < 2 ^ 64 → IsShortUnit unit →
-        TellsUnit number unit (unit_line number unit) }
-{}
-
-/// A law: the line of a refused certificate tells its fault, with its number, and is another than
-/// that of the best plan.
-pub fn law_verdict_tells_fault()
-    ensures tells { (fault fault' : CertFault) → IsShortFault fault → IsShortFault fault' →
-        refused_line fault ≡ refused_line fault' → fault ≡ fault' }
-    ensures not_least { (fault : CertFault) → refused_line fault ≢ codes "least\n" }
-{}
 
 /// A law: the text of a server tells, in its last line, how many connections were served and how
 /// many entries its journal has.
@@ -68,14 +33,4 @@ pub fn law_served_tells_counts()
 pub fn law_line_tells_play()
     ensures { (wish : Wish) (history : History) → IsShortWatched (watched_in wish history) →
         TellsPlay wish history (watched_text (watched_in wish history)) }
-{}
-
-/// A law: `--help` names each command in a line of its own and each key that a command takes, says
-/// in the row of a key what holds where it is left out, and fits into 79 columns.
-pub fn law_help()
-    ensures commands { (order : Order) → shows_command help_text (name_of order) ≡ true }
-    ensures keys { (command : Command) →
-        list_all (shows_key help_text) (keys_of command) ≡ true }
-    ensures defaults { list_all (shows_default help_text) defaults ≡ true }
-    ensures columns { fits_into 79 help_text ≡ true }
 {}

@@ -5,7 +5,7 @@ use Rattle.admission.specs.declared.entries.Entry.{Entry}
 use Rattle.std.specs.List.{Contains}
 use Rattle.inputs.specs.Files.{IsNamed}
 use Rattle.troubles.proofs.CauseLemmas.{trouble_map}
-use Rattle.vodserve.specs.Days.{IsDayInput, IsDayRefused, IsFirstNamedRefused, IsScriptRefused, names_in}
+use Rattle.local_commands.specs.Days.{IsDayInput, IsDayRefused, IsFirstNamedRefused, IsScriptRefused, names_in}
 use Rattle.vodserve.proofs.day_ends.day.Goals as goal
 
 pub returns-in-Err-clause-runs : goal.returns-in-Err-clause-runs

@@ -1,4 +1,4 @@
-use Rattle.vodserve.proofs.OneAnswer.{planned_once, curves_not_refused}
+use Rattle.local_commands.proofs.OneAnswer.{planned_once, curves_not_refused}
 use Rattle.vodserve.proofs.run.law_one_plan.Goals as goal
 
 pub returns-clause-once : goal.returns-clause-once

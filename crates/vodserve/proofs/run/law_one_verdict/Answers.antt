@@ -1,4 +1,4 @@
-use Rattle.vodserve.proofs.OneVerdict.{checked_not_refused, checked_once}
+use Rattle.local_commands.proofs.OneVerdict.{checked_not_refused, checked_once}
 use Rattle.vodserve.proofs.run.law_one_verdict.Goals as goal
 
 pub returns-clause-once : goal.returns-clause-once

@@ -1,0 +1,80 @@
+-- What the commands' answers mean, in terms of the definitions that the run cites.
+use Rattle.std.proofs.Common.{◌≡◌, ℕ, List, ◌++◌, Some, None, Result, Ok, Err, Vec, Global, subst, sym, inl, inr}
+use Rattle.std.specs.Prelude.{IfErr, IfOk, IsErrAnd, codes}
+use Rattle.vod_base.specs.Outside.{File, file_named}
+use Rattle.wire_curve.specs.declared.curves.Curves.{Curves}
+use Rattle.plan_cert.specs.declared.Segment.{Segment}
+use Rattle.plan_cert.specs.Reading.{IsCertificate}
+use Rattle.cert_check.specs.Best.{IsBestPlan}
+use Rattle.cert_check.specs.Fault.{IsFirstFault}
+use Rattle.cert_check.specs.declared.CertFault.{CertFault}
+use Rattle.mpeg_scan.specs.declared.units.Unit.{Unit as PictureUnit}
+use Rattle.troubles.specs.declared.faults.Trouble.{Trouble}
+use Rattle.inputs.specs.Scans.{HoldsFilm}
+use Rattle.local_commands.specs.ScanText.{scan_text}
+use Rattle.command_words.specs.Words.{Viewer}
+use Rattle.local_commands.specs.Carrying.{IsScanned}
+use Rattle.local_commands.specs.Plans.{HasCurves, IsChecked, IsVerdict}
+use Rattle.local_commands.specs.Verdict.{cert_fault_text}
+use Rattle.local_commands.specs.declared.done.Done.{Done}
+
+pub ok_map : {T E : Type 0} (P Q : T → Type 0) (r : Result T E) → ((x : T) → P x → Q x) → IfOk r P → IfOk r Q
+ok_map P Q (Ok x) f h = f x h
+ok_map P Q (Err e) f h = tt
+
+-- a trouble is handed on
+pub handed_on : {T : Type 0} {t : Trouble} (P : Trouble → Type 0) (r : Result T Trouble) → IsErrAnd r (λ y. y ≡ t) → P t → IfErr r P
+handed_on P (Ok x) is p = tt
+handed_on P (Err y) is p = subst P (sym is) p
+
+pub text_of : {E : Type 0} (text : List ℕ) (r : Result (Vec ℕ Global) E) (made : Vec ℕ Global) → IfOk r (λ v. v.items ≡ text) → r ≡ Ok made → made.items ≡ text
+text_of {E = E} text r made h e = subst (λ (x : Result (Vec ℕ Global) E). IfOk x (λ v. v.items ≡ text)) e h
+
+-- what `check` reads before its verdict
+pub record HasCertificate (held : List File) (viewer : Viewer) (cert : List ℕ) (curves : Curves) (segments : List Segment) : Type 0 where
+  pub has : HasCurves held viewer curves
+  pub written : List ℕ
+  pub found : file_named held cert ≡ Some written
+  pub slots : ℕ
+  pub bytes : ℕ
+  pub certificate : IsCertificate written slots bytes segments
+
+-- with the verdict on that
+checked : {held : List File} {viewer : Viewer} {cert : List ℕ} {curves : Curves} {segments : List Segment} → HasCertificate held viewer cert curves segments →
+    {status : ℕ} {text : List ℕ} → IsVerdict curves.from curves.low.items curves.up.items segments status text → IsChecked held viewer cert status text
+checked {curves} {segments} read {text} verdict = record {
+  curves = curves;
+  has = read.has;
+  written = read.written;
+  found = read.found;
+  slots = read.slots;
+  bytes = read.bytes;
+  segments = segments;
+  certificate = read.certificate;
+  verdict = verdict;
+}
+
+pub least_checked : {E : Type 0} {held : List File} {viewer : Viewer} {cert : List ℕ} {curves : Curves}
+    {segments : List Segment} → HasCertificate held viewer cert curves segments →
+    IsBestPlan curves.from curves.low.items curves.up.items segments →
+    {r : Result (Vec ℕ Global) E} → IfOk r (λ v. v.items ≡ codes "least\n") →
+    (done : Done) → (done.status ≡ 0) × (r ≡ Ok done.text) × (done.plan ≡ None) →
+    IsChecked held viewer cert done.status done.text.items
+least_checked read best {r} text done is =
+    checked read (inl (is.0, best, text_of (codes "least\n") r done.text text is.1))
+
+pub fault_checked : {E : Type 0} {held : List File} {viewer : Viewer} {cert : List ℕ} {curves : Curves}
+    {segments : List Segment} → HasCertificate held viewer cert curves segments →
+    {fault : CertFault} → IsFirstFault curves.from curves.low.items curves.up.items segments fault →
+    {r : Result (Vec ℕ Global) E} → IfOk r (λ v. v.items ≡ codes "refused " ++ cert_fault_text fault ++ codes "\n") →
+    (done : Done) → (done.status ≡ 1) × (r ≡ Ok done.text) × (done.plan ≡ None) →
+    IsChecked held viewer cert done.status done.text.items
+fault_checked read {fault} first {r} text done is =
+    checked read
+    (inr (fault, (is.0, first, text_of (codes "refused " ++ cert_fault_text fault ++ codes "\n") r done.text text is.1)))
+
+pub film_done : {E : Type 0} {held : List File} {film : List ℕ} {size rate : ℕ} {units : List PictureUnit} → HoldsFilm held film size rate units →
+    {r : Result (Vec ℕ Global) E} → IfOk r (λ v. v.items ≡ scan_text size rate units) →
+    (done : Done) → r ≡ Ok done.text → IsScanned held film done.text.items
+film_done {size} {rate} {units} holds {r} text done is =
+    record { size = size; rate = rate; units = units; holds = holds; printed = text_of (scan_text size rate units) r done.text text is }

@@ -1,0 +1,11 @@
+pub mod CommandLemmas
+pub mod PictureLemmas
+pub mod OneAnswer
+pub mod OneVerdict
+pub mod ScanTextLemmas
+pub mod DayLemmas
+pub mod FieldLemmas
+pub mod TextReading
+pub mod LineWords
+pub mod ScanLines
+pub mod HelpReading

@@ -1,0 +1,74 @@
+-- Pictures that were read are within the limits of their curves.
+use Rattle.std.proofs.Common.{◌≡◌, ℕ, zero, suc, ◌≤◌, ◌^◌, List, sym, subst, arith}
+use Rattle.mpeg_scan.specs.Rates.{picture_time}
+use Rattle.wire_curve.specs.FilmCurves.{IsWithinLimits}
+use Rattle.inputs.specs.Sizes.{AreSizesWithin}
+use Rattle.inputs.specs.Traces.{IsTraceText}
+use Rattle.command_words.specs.Words.{Viewer}
+use Rattle.local_commands.specs.Pictures.{AreWithinLimits}
+use Rattle.local_commands.specs.Plans.{Pictures, timing_of}
+
+record HasBounds (time : ℕ) : Type 0 where
+  some : 1 ≤ time
+  fits : time ≤ 360000
+
+-- the time of a picture of each rate code
+time_bounds : (rate : ℕ) → 1 ≤ rate → rate ≤ 8 → HasBounds (picture_time rate)
+time_bounds zero low high = absurd (omega (arith, low))
+time_bounds (suc zero) low high =
+    let e : suc zero ≡ 1 = omega arith in subst (λ n. HasBounds (picture_time n)) (sym e) (record { some = omega arith; fits = omega arith })
+time_bounds (suc (suc zero)) low high =
+    let e : suc (suc zero) ≡ 2 = omega arith in subst (λ n. HasBounds (picture_time n)) (sym e) (record { some = omega arith; fits = omega arith })
+time_bounds (suc (suc (suc zero))) low high =
+    let e : suc (suc (suc zero)) ≡ 3 = omega arith in subst (λ n. HasBounds (picture_time n)) (sym e) (record { some = omega arith; fits = omega arith })
+time_bounds (suc (suc (suc (suc zero)))) low high =
+    let e : suc (suc (suc (suc zero))) ≡ 4 = omega arith in subst (λ n. HasBounds (picture_time n)) (sym e) (record { some = omega arith; fits = omega arith })
+time_bounds (suc (suc (suc (suc (suc zero))))) low high =
+    let e : suc (suc (suc (suc (suc zero)))) ≡ 5 = omega arith in subst (λ n. HasBounds (picture_time n)) (sym e) (record { some = omega arith; fits = omega arith })
+time_bounds (suc (suc (suc (suc (suc (suc zero)))))) low high =
+    let e : suc (suc (suc (suc (suc (suc zero))))) ≡ 6 = omega arith in subst (λ n. HasBounds (picture_time n)) (sym e) (record { some = omega arith; fits = omega arith })
+time_bounds (suc (suc (suc (suc (suc (suc (suc zero))))))) low high =
+    let e : suc (suc (suc (suc (suc (suc (suc zero)))))) ≡ 7 = omega arith in subst (λ n. HasBounds (picture_time n)) (sym e) (record { some = omega arith; fits = omega arith })
+time_bounds (suc (suc (suc (suc (suc (suc (suc (suc zero)))))))) low high =
+    let e : suc (suc (suc (suc (suc (suc (suc (suc zero))))))) ≡ 8 = omega arith in subst (λ n. HasBounds (picture_time n)) (sym e) (record { some = omega arith; fits = omega arith })
+time_bounds (suc (suc (suc (suc (suc (suc (suc (suc (suc n))))))))) low high = absurd (omega (arith, high))
+
+pub film_limits : (rate slot : ℕ) (sizes : List ℕ) → AreSizesWithin rate sizes → 360 ≤ slot → slot ≤ 360000 →
+    AreWithinLimits (record { sizes = sizes; picture = picture_time rate; slot = slot })
+film_limits rate slot sizes within some fits =
+    let time : HasBounds (picture_time rate) = time_bounds rate within.slowest within.fastest in
+    record {
+      few = within.few;
+      few_bytes = within.few_bytes;
+      some_picture = time.some;
+      picture_fits = time.fits;
+      some_slot = omega (arith, some);
+      slot_fits = fits;
+    }
+
+pub trace_limits : (text sizes : List ℕ) → IsTraceText text sizes → AreWithinLimits (record { sizes = sizes; picture = 1; slot = 1 })
+trace_limits text sizes trace = record {
+  few = omega (arith, trace.few);
+  few_bytes = omega (arith, trace.few_bytes);
+  some_picture = omega arith;
+  picture_fits = omega arith;
+  some_slot = omega arith;
+  slot_fits = omega arith;
+}
+
+pub limits_of : (viewer : Viewer) (pictures : Pictures) → AreWithinLimits pictures → 1 ≤ viewer.buffer → viewer.buffer ≤ 2 ^ 42 → viewer.startup ≤ 10000 →
+    IsWithinLimits pictures.sizes (timing_of viewer pictures)
+limits_of viewer pictures within some fits delay = record {
+  some_picture_units = within.some_picture;
+  picture_units_fit = within.picture_fits;
+  some_slot_units = within.some_slot;
+  slot_units_fit = within.slot_fits;
+  few_pictures = within.few;
+  delay_fits = delay;
+  some_buffer = some;
+  buffer_fits = fits;
+  total_fits = omega (arith, within.few_bytes);
+  played_was_sent = omega arith;
+  sent_of_total = omega arith;
+  sent_fits_buffer = omega arith;
+}

@@ -1,0 +1,126 @@
+use Rattle.std.proofs.Common.{◌≡◌, ◌∙◌, List, ℕ, Some, None, Ok, refl, sym, ap, subst, arith, inl, inr}
+use Rattle.vod_base.specs.Outside.{File, file_named}
+use Rattle.command_words.specs.Words.{check_of}
+use Rattle.command_words.specs.Orders.{source_name, source_read, viewer_of}
+use Rattle.troubles.proofs.CauseLemmas.{trouble_map}
+use Rattle.inputs.specs.Files.{IsMissing, IsNamed}
+use Rattle.local_commands.specs.Carrying.{IsDone, IsInputRefused, IsRead}
+use Rattle.std.specs.Prelude.{codes}
+use Rattle.local_commands.specs.Plans.{IsViewerTrouble}
+use Rattle.local_commands.specs.Verdict.{refused_line}
+use Rattle.local_commands.proofs.CommandLemmas.{handed_on, ok_map, text_of, HasCertificate, least_checked, fault_checked}
+use Rattle.local_commands.proofs.checks.check_viewer.Goals as goal
+
+pub returns-in_err-curves-clause-trouble : goal.returns-in_err-curves-clause-trouble
+returns-in_err-curves-clause-trouble g c =
+    handed_on _ c.from_residual.result c.from_residual.ensures.1
+    (trouble_map (record {
+      Reads = IsNamed (source_name (source_read c.args.viewer.source));
+      Refuses = IsViewerTrouble (viewer_of c.args.viewer);
+      told = g.L.Library.files c.args.library.now;
+      before = g.L.Library.faults c.args.library.now;
+      after = g.L.Library.faults c.viewer_curves.new.library;
+    })
+    (record {
+      Reads = IsRead (check_of (viewer_of c.args.viewer) c.args.cert.now);
+      Refuses = IsInputRefused (check_of (viewer_of c.args.viewer) c.args.cert.now);
+      told = g.L.Library.files c.args.library.now;
+      before = g.L.Library.faults c.args.library.now;
+      after = g.L.Library.faults c.viewer_curves.new.library;
+    })
+    c.in_err-curves.field-0.0
+    (record {
+      reads = λ name is. inl is;
+      refuses = λ held name fault told is refused. inl (is, refused);
+      keeps = λ held told. told;
+      low = omega arith;
+      high = omega arith;
+    })
+    ((c.in_err-curves.ensures {u = tt}).trouble))
+
+pub returns-in_err-written-clause-trouble : goal.returns-in_err-written-clause-trouble
+returns-in_err-written-clause-trouble g c =
+    handed_on _ c.from_residual-in_err-written.result c.from_residual-in_err-written.ensures.1
+    (trouble_map (record {
+      Reads = IsNamed c.args.cert.now;
+      Refuses = IsMissing;
+      told = g.L.Library.files c.viewer_curves.new.library;
+      before = g.L.Library.faults c.viewer_curves.new.library;
+      after = g.L.Library.faults c.read_input.new.library;
+    })
+    (record {
+      Reads = IsRead (check_of (viewer_of c.args.viewer) c.args.cert.now);
+      Refuses = IsInputRefused (check_of (viewer_of c.args.viewer) c.args.cert.now);
+      told = g.L.Library.files c.args.library.now;
+      before = g.L.Library.faults c.args.library.now;
+      after = g.L.Library.faults c.read_input.new.library;
+    })
+    c.in_err-written.field-0.0
+    (record {
+      reads = λ name is. inr is;
+      refuses = λ held name fault told is missing. inr (
+        is,
+        ((c.in_ok-curves.curves, (c.in_ok-curves.ensures {u = tt}).curves held told), inl (subst (λ (n : List ℕ). IsMissing held n fault) is missing)),
+      );
+      keeps = λ held told. c.viewer_curves.ensures.library.kept ∙ told;
+      low = omega (arith, c.viewer_curves.ensures.library.count);
+      high = omega arith;
+    })
+    ((c.in_err-written.ensures {u = tt}).trouble))
+
+pub returns-in-Err-BadCert-clause-trouble : goal.returns-in-Err-BadCert-clause-trouble
+returns-in-Err-BadCert-clause-trouble g c = (
+  inr refl,
+  λ held told.
+      let found : file_named held c.args.cert.now ≡ Some c.deref.result.now =
+      (c.in_ok-written.ensures {u = tt}).found held (c.viewer_curves.ensures.library.kept ∙ told) ∙ ap (λ (t : List ℕ). Some t) (sym c.deref.ensures.value) in
+      inr (
+        refl,
+        (
+          (c.in_ok-curves.curves, (c.in_ok-curves.ensures {u = tt}).curves held told),
+          inr (c.deref.result.now, (found, rw c.in-Err-BadCert.field-0-is (rw c.in-Err-BadCert.field-0-is at c.in-Err-BadCert.ensures.refused))),
+        ),
+      ),
+)
+
+pub returns-in-Ok-check-clause-done : goal.returns-in-Ok-check-clause-done
+returns-in-Ok-check-clause-done g c =
+    let read : (held : List File) → g.L.Library.files c.args.library.now ≡ Some held →
+    HasCertificate held (viewer_of c.args.viewer) c.args.cert.now c.in_ok-curves.curves c.deref-2.result.now = λ held told. record {
+      has = (c.in_ok-curves.ensures {u = tt}).curves held told;
+      written = c.deref.result.now;
+      found = (c.in_ok-written.ensures {u = tt}).found held (c.viewer_curves.ensures.library.kept ∙ told) ∙ ap (λ (t : List ℕ). Some t) (sym c.deref.ensures.value);
+      slots = c.in-Ok.certificate.slots;
+      bytes = c.in-Ok.certificate.bytes;
+      certificate = rw c.deref-2.ensures.value ((c.in-Ok.ensures {u = tt}).read);
+    } in
+    ok_map (λ done. (done.status ≡ 0) × (c.from_slice.result ≡ Ok done.text) × (done.plan ≡ None))
+    (λ done. IsDone (g.L.Library.files c.args.library.now) (check_of (viewer_of c.args.viewer) c.args.cert.now) done.status done.text.items done.plan) c.finish.result
+    (λ done is. (
+      inl (is.0, text_of (codes "least\n") c.from_slice.result done.text c.from_slice.ensures.items is.1),
+      is.2,
+      λ held told.
+          least_checked (read held told) (c.in-Ok-check.ensures {u = tt}).best c.from_slice.ensures.items done is,
+    ))
+    c.finish.ensures.done
+
+pub returns-clause-done : goal.returns-clause-done
+returns-clause-done g c =
+    let read : (held : List File) → g.L.Library.files c.args.library.now ≡ Some held →
+    HasCertificate held (viewer_of c.args.viewer) c.args.cert.now c.in_ok-curves.curves c.deref-2.result.now = λ held told. record {
+      has = (c.in_ok-curves.ensures {u = tt}).curves held told;
+      written = c.deref.result.now;
+      found = (c.in_ok-written.ensures {u = tt}).found held (c.viewer_curves.ensures.library.kept ∙ told) ∙ ap (λ (t : List ℕ). Some t) (sym c.deref.ensures.value);
+      slots = c.in-Ok.certificate.slots;
+      bytes = c.in-Ok.certificate.bytes;
+      certificate = rw c.deref-2.ensures.value ((c.in-Ok.ensures {u = tt}).read);
+    } in
+    ok_map (λ done. (done.status ≡ 1) × (c.refusal_text.result ≡ Ok done.text) × (done.plan ≡ None))
+    (λ done. IsDone (g.L.Library.files c.args.library.now) (check_of (viewer_of c.args.viewer) c.args.cert.now) done.status done.text.items done.plan) c.finish-in-Err.result
+    (λ done is. (
+      inr (c.in-Err.fault, (is.0, text_of (refused_line c.in-Err.fault) c.refusal_text.result done.text c.refusal_text.ensures is.1)),
+      is.2,
+      λ held told.
+          fault_checked (read held told) (c.in-Err.ensures {u = tt}).verdict c.refusal_text.ensures done is,
+    ))
+    c.finish-in-Err.ensures.done

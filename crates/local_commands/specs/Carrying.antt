@@ -1,0 +1,105 @@
+-- What carrying out the words gives, as a library holds its files.
+use Rattle.std.specs.List.{Contains}
+use Rattle.std.specs.Prelude.{◌≡◌, ◌⊎◌, ℕ, List, Option, Some, None, codes}
+use Rattle.vod_base.specs.Outside.{File}
+use Rattle.plan_cert.specs.declared.Segment.{Segment}
+use Rattle.plan_cert.specs.Text.{cert_text}
+use Rattle.cert_check.specs.declared.CertFault.{CertFault}
+use Rattle.film_make.specs.Generator.{words_of}
+use Rattle.film_make.specs.Trace.{trace_of}
+use Rattle.film_make.specs.Film.{film_of}
+use Rattle.film_make.specs.System.{system_of}
+use Rattle.command_words.specs.Keys.{Made, made_film, made_trace, made_system}
+use Rattle.command_words.specs.Words.{Order, help, version, plan_of, check_of, scan_of, make_of}
+use Rattle.command_words.specs.Words.{day_of, fair_of, serve_of, watch_of}
+use Rattle.command_words.specs.Orders.{source_name}
+use Rattle.inputs.specs.Films.{IsHeldRefused}
+use Rattle.inputs.specs.Scans.{HoldsFilm, IsFilmRefused}
+use Rattle.mpeg_scan.specs.declared.units.Unit.{Unit as PictureUnit}
+use Rattle.troubles.specs.declared.faults.Fault.{Fault}
+pub use Rattle.local_commands.specs.Plans.{IsCertRefused, IsChecked, IsPlanned, IsViewerRefused}
+use Rattle.local_commands.specs.ScanText.{scan_text}
+use Rattle.local_commands.specs.Texts.{help_text, version_text}
+use Rattle.local_commands.specs.Verdict.{refused_line}
+
+-- the film that the library holds is accepted, and its size, rate and units are printed
+pub record IsScanned (held : List File) (film text : List ℕ) : Type 0 where
+  pub size : ℕ
+  pub rate : ℕ
+  pub units : List PictureUnit
+  pub holds : HoldsFilm held film size rate units
+  pub printed : text ≡ scan_text size rate units
+
+-- the text of a number
+abbrev pub made_text : Made → ℕ → ℕ → List ℕ
+made_text made_film seed pictures = film_of (words_of seed) pictures
+made_text made_trace seed pictures = trace_of (words_of seed) pictures
+made_text made_system seed pictures = system_of (film_of (words_of seed) pictures)
+
+-- what holds of the files that a library tells, if it tells them
+abbrev pub IfTold : Option (List File) → (List File → Type 0) → Type 0
+IfTold told P = (held : List File) → told ≡ Some held → P held
+
+-- the text is the certificate of the plan
+abbrev pub IsCertificateOf : List ℕ → Option (List Segment) → Type 0
+IsCertificateOf text plan =
+    (segments : List Segment) × ((plan ≡ Some segments) × (text ≡ cert_text segments))
+
+-- the line of a verdict: with status 0 that of the best plan, with status 1 that of a fault
+abbrev pub IsVerdictLine : ℕ → List ℕ → Type 0
+IsVerdictLine status text = ((status ≡ 0) × (text ≡ codes "least\n"))
+    ⊎ ((fault : CertFault) × ((status ≡ 1) × (text ≡ refused_line fault)))
+
+-- the text is that of some film's scan
+pub record IsSomeScan (text : List ℕ) : Type 0 where
+  pub size : ℕ
+  pub rate : ℕ
+  pub units : List PictureUnit
+  pub printed : text ≡ scan_text size rate units
+
+-- the status, the text for the output and the plan of what is asked for. What `--help`, `--version`
+-- and `make` give is the same over every library, also one that tells nothing; over each library a
+-- plan is given with its certificate, and status 1 is that of `check` alone
+abbrev pub IsDone : Option (List File) → Order → ℕ → List ℕ → Option (List Segment) → Type 0
+IsDone told help status text plan = (status ≡ 0) × (plan ≡ None) × (text ≡ help_text)
+IsDone told version status text plan = (status ≡ 0) × (plan ≡ None) × (text ≡ version_text)
+IsDone told (plan_of viewer) status text plan = (status ≡ 0)
+    × IsCertificateOf text plan × IfTold told (λ held. IsPlanned held viewer text plan)
+IsDone told (check_of viewer cert) status text plan = IsVerdictLine status text × (plan ≡ None)
+    × IfTold told (λ held. IsChecked held viewer cert status text)
+IsDone told (day_of run) status text plan = ⊥
+IsDone told (fair_of run) status text plan = ⊥
+IsDone told (watch_of watching) status text plan = ⊥
+IsDone told (make_of kind seed pictures) status text plan = (status ≡ 0) × (plan ≡ None)
+    × (text ≡ made_text kind seed pictures)
+IsDone told (scan_of film) status text plan = (status ≡ 0) × (plan ≡ None)
+    × IsSomeScan text × IfTold told (λ held. IsScanned held film text)
+IsDone told (serve_of serving) status text plan = ⊥
+
+-- the inputs that are read
+abbrev pub IsRead : Order → List ℕ → Type 0
+IsRead help name = ⊥
+IsRead version name = ⊥
+IsRead (plan_of viewer) name = name ≡ source_name viewer.source
+IsRead (check_of viewer cert) name = (name ≡ source_name viewer.source) ⊎ (name ≡ cert)
+IsRead (day_of run) name = ⊥
+IsRead (fair_of run) name = ⊥
+IsRead (watch_of watching) name = ⊥
+IsRead (make_of kind seed pictures) name = ⊥
+IsRead (scan_of film) name = name ≡ film
+IsRead (serve_of serving) name = Contains serving.films name
+
+-- the input that is refused, and why
+abbrev pub IsInputRefused : Order → List File → List ℕ → Fault → Type 0
+IsInputRefused help held name fault = ⊥
+IsInputRefused version held name fault = ⊥
+IsInputRefused (plan_of viewer) held name fault = IsViewerRefused held viewer fault
+IsInputRefused (check_of viewer cert) held name fault =
+    ((name ≡ source_name viewer.source) × IsViewerRefused held viewer fault)
+    ⊎ ((name ≡ cert) × IsCertRefused held viewer cert fault)
+IsInputRefused (day_of run) held name fault = ⊥
+IsInputRefused (fair_of run) held name fault = ⊥
+IsInputRefused (watch_of watching) held name fault = ⊥
+IsInputRefused (make_of kind seed pictures) held name fault = ⊥
+IsInputRefused (scan_of film) held name fault = IsFilmRefused held name fault
+IsInputRefused (serve_of serving) held name fault = IsHeldRefused held name fault

@@ -1,0 +1,85 @@
+//! The command `check`: the verdict on a certificate.
+
+ghost use Rattle.std.specs.Prelude.{◌≡◌, ◌++◌, codes, IfOk, IfErr};
+ghost use Rattle.command_words.specs.Words.{check_of};
+ghost use Rattle.command_words.specs.Orders.{viewer_of};
+ghost use Rattle.command_words.specs.Ranges.{IsViewerInRange};
+ghost use Rattle.troubles.specs.Causes.{IsReadOnly, IsReadTrouble};
+ghost use Rattle.local_commands.specs.Carrying.{IsDone, IsInputRefused, IsRead};
+ghost use Rattle.local_commands.specs.Verdict.{AreFaultWords, cert_fault_text};
+
+use crate::curves::viewer_curves;
+use crate::done::{Done, finish};
+use cert_check::{CertFault, check};
+use command_words::Viewer;
+use inputs::read_input;
+use plan_cert::{CertRead, read_cert};
+use std::alloc::{AllocError, Global};
+use troubles::{Fault, Trouble};
+use vod_base::Library;
+
+/// The verdict on a certificate of a trace or film.
+pub fn check_viewer<'a, L: Library>(
+    alloc: Global,
+    library: &mut L,
+    viewer: Viewer<'a>,
+    cert: &'a str,
+) -> Result<Done, Trouble<'a>>
+    requires { IsViewerInRange viewer }
+    ensures library { IsReadOnly (L.files library.old) (L.files library.new) (L.faults library.old)
+        (L.faults library.new) }
+    ensures done { IfOk result (λ done.
+        IsDone (L.files library.old) (check_of (viewer_of viewer.entry) cert.entry.now)
+        done.status done.text.items done.plan) }
+    ensures trouble { IfErr result
+        (IsReadTrouble (IsRead (check_of (viewer_of viewer.entry) cert.entry.now))
+        (IsInputRefused (check_of (viewer_of viewer.entry) cert.entry.now))
+        (L.files library.old) (L.faults library.old) (L.faults library.new)) }
+{
+    let curves = viewer_curves(alloc, library, viewer)?;
+    let written = read_input(alloc, library, cert)?;
+    let certificate = match read_cert(alloc, &written) {
+        Ok(certificate) => certificate,
+        Err(CertRead::BadCert { line }) => {
+            return Err(Trouble::Refused(cert, Fault::BadCert(line)));
+        }
+        Err(CertRead::NoMemory) => return Err(Trouble::NoMemory),
+    };
+    match check(&curves, &certificate.segments) {
+        Ok(()) => finish(0, Vec::from_slice(alloc, b"least\n")),
+        Err(fault) => finish(1, refusal_text(alloc, &fault)),
+    }
+}
+
+/// The name of a fault and the number that goes with it.
+fn cert_fault_words(fault: &CertFault) -> (&'static str, Option<u64>)
+    ensures { AreFaultWords fault.now result.0.now result.1 }
+{
+    match fault {
+        CertFault::EmptySegment(segment) => ("EmptySegment", Some(*segment)),
+        CertFault::WrongLength => ("WrongLength", None),
+        CertFault::WrongTotal => ("WrongTotal", None),
+        CertFault::BelowLow(slot) => ("BelowLow", Some(*slot)),
+        CertFault::AboveUp(slot) => ("AboveUp", Some(*slot)),
+        CertFault::EqualSlopes(segment) => ("EqualSlopes", Some(*segment)),
+        CertFault::RiseOffUpper(segment) => ("RiseOffUpper", Some(*segment)),
+        CertFault::FallOffLower(segment) => ("FallOffLower", Some(*segment)),
+    }
+}
+
+/// The line that names the fault of a certificate.
+fn refusal_text(alloc: Global, fault: &CertFault) -> Result<Vec<u8>, AllocError>
+    ensures { IfOk result (λ text. text.items ≡
+        codes "refused " ++ cert_fault_text fault.now ++ codes "\n") }
+{
+    let mut text = Vec::from_slice(alloc, b"refused ")?;
+    let (name, number) = cert_fault_words(fault);
+    text.extend_from_slice(name.as_bytes())?;
+    if let Some(number) = number {
+        let mut buffer = itoa::Buffer::new();
+        text.extend_from_slice(b" ")?;
+        text.extend_from_slice(buffer.format(number).as_bytes())?;
+    }
+    text.extend_from_slice(b"\n")?;
+    Ok(text)
+}

@@ -1,0 +1,139 @@
+//! The two curves between which a client's plan runs, from a trace or film of the library.
+
+ghost use Rattle.std.specs.Prelude.{◌≡◌, ◌≤◌, Some, List, IfOk, IfErr};
+ghost use Rattle.vod_base.specs.Outside.{File};
+ghost use Rattle.wire_curve.specs.Sound.{IsSound};
+ghost use Rattle.command_words.specs.Orders.{source_name, source_read, viewer_of};
+ghost use Rattle.command_words.specs.Ranges.{IsSourceInRange, IsViewerInRange};
+ghost use Rattle.troubles.specs.Causes.{IsReadOnly, IsReadTrouble};
+ghost use Rattle.inputs.specs.Files.{IsNamed};
+ghost use Rattle.inputs.specs.Scans.{IsFilmRefused};
+ghost use Rattle.local_commands.specs.Plans.{AreOfFilm, AreOfTrace, ArePictures, HasCurves};
+ghost use Rattle.local_commands.specs.Plans.{IsSourceTrouble, IsTraceRefused, IsViewerTrouble};
+ghost use Rattle.local_commands.specs.Pictures.{AreWithinLimits, pictures_of};
+
+use crate::traces::load_trace;
+use command_words::{Source, Viewer};
+use inputs::size_film;
+use mpeg_scan::picture_units;
+use std::alloc::Global;
+use troubles::{Fault, Trouble};
+use vod_base::Library;
+use wire_curve::{CurveRefused, Curves, Timing, film_curves};
+
+/// Reads a trace or film and makes the curves of its viewer.
+pub fn viewer_curves<'a, L: Library>(
+    alloc: Global,
+    library: &mut L,
+    viewer: Viewer<'a>,
+) -> Result<Curves, Trouble<'a>>
+    requires { IsViewerInRange viewer }
+    ensures library { IsReadOnly (L.files library.old) (L.files library.new) (L.faults library.old)
+        (L.faults library.new) }
+    ensures sound { IfOk result (λ curves. IsSound curves.from curves.low.items curves.up.items) }
+    ensures curves { (held : List File) → L.files library.old ≡ Some held →
+        IfOk result (HasCurves held (viewer_of viewer.entry)) }
+    ensures trouble { IfErr result
+        (IsReadTrouble (IsNamed (source_name (viewer_of viewer.entry).source))
+        (IsViewerTrouble (viewer_of viewer.entry))
+        (L.files library.old) (L.faults library.old) (L.faults library.new)) }
+{
+    let pictures = source_pictures(alloc, library, viewer.source)?;
+    let timing = Timing {
+        picture_units: pictures.picture,
+        slot_units: pictures.slot,
+        buffer: viewer.buffer,
+        delay: viewer.startup,
+        played: 0,
+        sent: 0,
+    };
+    match film_curves(alloc, &pictures.sizes, &timing) {
+        Ok(curves) => Ok(curves),
+        Err(CurveRefused::Fault(fault)) => Err(Trouble::Refused(
+            viewer.source.name(),
+            Fault::Curves(fault),
+        )),
+        Err(CurveRefused::NoMemory) => Err(Trouble::NoMemory),
+    }
+}
+
+/// The pictures of a trace or film.
+#[derive(Drop)]
+struct Pictures {
+    /// Their sizes on the wire, in bytes.
+    sizes: Vec<u64>,
+    /// The time of one picture.
+    picture: u32,
+    /// The time of one slot, in the same unit.
+    slot: u32,
+}
+
+/// Reads a trace, which has one picture a slot.
+fn trace_pictures<'a, L: Library>(
+    alloc: Global,
+    library: &mut L,
+    name: &'a str,
+) -> Result<Pictures, Trouble<'a>>
+    ensures library { IsReadOnly (L.files library.old) (L.files library.new) (L.faults library.old)
+        (L.faults library.new) }
+    ensures limits { IfOk result (λ pictures. AreWithinLimits (pictures_of pictures)) }
+    ensures pictures { (held : List File) → L.files library.old ≡ Some held
+        → IfOk result (λ pictures. AreOfTrace held name.entry.now (pictures_of pictures)) }
+    ensures trouble { IfErr result (IsReadTrouble (IsNamed name.entry.now) IsTraceRefused
+        (L.files library.old) (L.faults library.old) (L.faults library.new)) }
+{
+    let sizes = load_trace(alloc, library, name)?;
+    Ok(Pictures {
+        sizes,
+        picture: 1,
+        slot: 1,
+    })
+}
+
+/// Scans a film, whose pictures have the wire sizes of its units and the time of its rate.
+fn film_pictures<'a, L: Library>(
+    alloc: Global,
+    library: &mut L,
+    name: &'a str,
+    slot: u32,
+) -> Result<Pictures, Trouble<'a>>
+    requires some_slot { 360 ≤ slot }
+    requires slot_fits { slot ≤ 360000 }
+    ensures library { IsReadOnly (L.files library.old) (L.files library.new) (L.faults library.old)
+        (L.faults library.new) }
+    ensures limits { IfOk result (λ pictures. AreWithinLimits (pictures_of pictures)) }
+    ensures pictures { (held : List File) → L.files library.old ≡ Some held
+        → IfOk result (λ pictures. AreOfFilm held name.entry.now slot (pictures_of pictures)) }
+    ensures trouble { IfErr result (IsReadTrouble (IsNamed name.entry.now) IsFilmRefused
+        (L.files library.old) (L.faults library.old) (L.faults library.new)) }
+{
+    let film = size_film(alloc, library, name)?;
+    Ok(Pictures {
+        picture: picture_units(film.rate),
+        sizes: film.sizes,
+        slot,
+    })
+}
+
+/// The pictures of a trace or film of the library.
+fn source_pictures<'a, L: Library>(
+    alloc: Global,
+    library: &mut L,
+    source: Source<'a>,
+) -> Result<Pictures, Trouble<'a>>
+    requires { IsSourceInRange source }
+    ensures library { IsReadOnly (L.files library.old) (L.files library.new) (L.faults library.old)
+        (L.faults library.new) }
+    ensures limits { IfOk result (λ pictures. AreWithinLimits (pictures_of pictures)) }
+    ensures pictures { (held : List File) → L.files library.old ≡ Some held
+        → IfOk result (λ pictures.
+        ArePictures held (source_read source.entry) (pictures_of pictures)) }
+    ensures trouble { IfErr result (IsReadTrouble (IsNamed (source_name (source_read source.entry)))
+        (IsSourceTrouble (source_read source.entry))
+        (L.files library.old) (L.faults library.old) (L.faults library.new)) }
+{
+    match source {
+        Source::Trace(name) => trace_pictures(alloc, library, name),
+        Source::Film(name, slot) => film_pictures(alloc, library, name, slot),
+    }
+}

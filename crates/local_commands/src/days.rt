@@ -1,0 +1,144 @@
+//! What `day` and `fair` read and run.
+
+ghost use Rattle.std.specs.Prelude.{◌≡◌, ◌≤◌, Some, List, ℕ, length, IfOk, IfErr};
+ghost use Rattle.std.specs.List.{Contains};
+ghost use Rattle.vod_base.specs.Outside.{File};
+ghost use Rattle.admission.specs.Histories.{IsLegal};
+ghost use Rattle.command_words.specs.Ranges.{IsFairRunInRange, IsScriptRunInRange};
+ghost use Rattle.day_run.specs.Days.{IsDay, link_of};
+ghost use Rattle.day_run.specs.FairDays.{IsFair};
+ghost use Rattle.day_run.specs.Scripts.{AreLines};
+ghost use Rattle.day_run.specs.Sources.{AreSources, IsSource};
+ghost use Rattle.troubles.specs.Causes.{IsReadOnly, IsReadTrouble};
+ghost use Rattle.day_run.specs.declared.reels.Source.{Source};
+ghost use Rattle.day_run.specs.declared.scripts.Script.{Script};
+ghost use Rattle.troubles.specs.declared.faults.Fault.{Fault};
+ghost use Rattle.inputs.specs.Files.{IsNamed};
+ghost use Rattle.local_commands.specs.Days.{AreHeldAs, HoldsScript, IsDayRefused, IsFirstNamedRefused};
+ghost use Rattle.local_commands.specs.Days.{IsHeldAs, IsNameOf};
+ghost use Rattle.local_commands.specs.Days.{IsNamedRefused, IsScriptRefused, names_in};
+
+use crate::profiles::profile_of;
+use crate::traces::load_trace;
+use command_words::{FairRun, ScriptRun};
+use day_run::{Day, Named, Script, ScriptRefused, Source, fair, read_script, run_script};
+use inputs::{load_script_film, read_input};
+use std::alloc::Global;
+use troubles::{Fault, Trouble};
+use vod_base::{Library, NoMemory};
+
+/// The script of that name.
+pub fn load_script<'a, L: Library>(
+    alloc: Global,
+    library: &mut L,
+    name: &'a str,
+) -> Result<Script, Trouble<'a>>
+    ensures library { IsReadOnly (L.files library.old) (L.files library.new) (L.faults library.old)
+        (L.faults library.new) }
+    ensures lines { IfOk result (λ script.
+        AreLines (length script.named.items) script.lines.items) }
+    ensures held { (held : List File) → L.files library.old ≡ Some held →
+        IfOk result (HoldsScript held name.entry.now) }
+    ensures trouble { IfErr result (IsReadTrouble (IsNamed name.entry.now) IsScriptRefused
+        (L.files library.old) (L.faults library.old) (L.faults library.new)) }
+{
+    let text = read_input(alloc, library, name)?;
+    match read_script(alloc, &text) {
+        Ok(script) => Ok(script),
+        Err(ScriptRefused::BadScript { line }) => Err(Trouble::Refused(
+            name,
+            Fault::BadScript(line),
+        )),
+        Err(ScriptRefused::NoMemory) => Err(Trouble::NoMemory),
+    }
+}
+
+/// The films and traces that a script names, read and judged one by one in the order of its lines.
+pub fn load_sources<'a, L: Library>(
+    alloc: Global,
+    library: &mut L,
+    named: &'a [Named],
+) -> Result<Vec<Source>, Trouble<'a>>
+    ensures library { IsReadOnly (L.files library.old) (L.files library.new)
+        (L.faults library.old) (L.faults library.new) }
+    ensures count { IfOk result (λ sources. length sources.items ≡ length named.entry.now) }
+    ensures sources { IfOk result (λ sources. AreSources sources.items) }
+    ensures held { (held : List File) → L.files library.old ≡ Some held →
+        IfOk result (λ sources. AreHeldAs held named.entry.now sources.items) }
+    ensures trouble { IfErr result (IsReadTrouble (Contains (names_in named.entry.now))
+        (IsFirstNamedRefused named.entry.now)
+        (L.files library.old) (L.faults library.old) (L.faults library.new)) }
+{
+    let mut sources = Vec::new(alloc);
+    for one in named {
+        let source = load_source(alloc, library, one)?;
+        match sources.push(source) {
+            Ok(()) => {}
+            Err(_) => return Err(Trouble::NoMemory),
+        }
+    }
+    Ok(sources)
+}
+
+/// Runs a script.
+pub fn run_day(
+    alloc: Global,
+    run: &ScriptRun<'_>,
+    script: &Script,
+    sources: &[Source],
+) -> Result<Day, NoMemory>
+    requires run { IsScriptRunInRange run.now }
+    requires sources { AreSources sources.now }
+    requires lines { AreLines (length sources.now) script.now.lines.items }
+    ensures day { IfOk result (λ day.
+        IsDay (link_of run.now.capacity run.now.journal run.now.slot sources.now)
+        script.now.lines.items day.text.items day.journal.items) }
+    ensures legal { IfOk result (λ day. IsLegal run.now.capacity day.journal.items) }
+{
+    let profile = profile_of(alloc, run.capacity.as_slice())?;
+    run_script(alloc, script, sources, profile, run.journal, run.slot)
+}
+
+/// Runs drawn plays.
+pub fn run_fair(alloc: Global, run: &FairRun) -> Result<Day, NoMemory>
+    requires { IsFairRunInRange run.now }
+    ensures fair { IfOk result (λ day.
+        IsFair run.now.capacity run.now.seed run.now.plays day.text.items day.journal.items) }
+    ensures legal { IfOk result (λ day. IsLegal run.now.capacity day.journal.items) }
+{
+    let profile = profile_of(alloc, run.capacity.as_slice())?;
+    fair(alloc, run.seed, run.plays, profile)
+}
+
+/// A law: a script that a library holds, with each film and trace that it names, isn't refused
+/// besides. So status 3 comes only where there is no day to run.
+pub fn law_day_not_refused()
+    ensures { (held : List File) (name : List ℕ) (script : Script) (sources : List Source)
+        (input : List ℕ) (fault : Fault) → HoldsScript held name script →
+        AreHeldAs held script.named.items sources → IsDayRefused name held input fault → ⊥ }
+{}
+
+/// A film or trace that a script names.
+fn load_source<'a, L: Library>(
+    alloc: Global,
+    library: &mut L,
+    named: &'a Named,
+) -> Result<Source, Trouble<'a>>
+    ensures library { IsReadOnly (L.files library.old) (L.files library.new)
+        (L.faults library.old) (L.faults library.new) }
+    ensures source { IfOk result IsSource }
+    ensures held { (held : List File) → L.files library.old ≡ Some held →
+        IfOk result (IsHeldAs held named.entry.now) }
+    ensures trouble { IfErr result (IsReadTrouble (IsNameOf named.entry.now)
+        (IsNamedRefused named.entry.now)
+        (L.files library.old) (L.faults library.old) (L.faults library.new)) }
+{
+    let name = named.name.as_str();
+    if named.film {
+        let film = load_script_film(alloc, library, name)?;
+        Ok(Source::Film(film))
+    } else {
+        let sizes = load_trace(alloc, library, name)?;
+        Ok(Source::Trace(sizes))
+    }
+}

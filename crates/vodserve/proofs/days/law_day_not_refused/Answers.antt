@@ -1,5 +1,0 @@
-use Rattle.vodserve.proofs.DayLemmas.{day_not_refused}
-use Rattle.vodserve.proofs.days.law_day_not_refused.Goals as goal
-
-pub returns : goal.returns
-returns c = λ held name script sources input fault holds are refused. day_not_refused input fault holds are refused

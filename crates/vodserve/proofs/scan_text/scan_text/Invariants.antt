@@ -1,6 +1,0 @@
-use Rattle.std.proofs.Common.{◌≡◌, ◌++◌, take, length}
-use Rattle.vodserve.specs.ScanText.{film_line, unit_lines}
-use Rattle.vodserve.proofs.scan_text.scan_text.Given as goal
-
-abbrev pub invariant-loop-number : goal.invariant-loop-number
-invariant-loop-number l = l.text.items ≡ film_line l.bytes l.rate (length l.units) ++ unit_lines 0 (take l.number l.units)
