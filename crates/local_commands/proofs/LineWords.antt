@@ -1,8 +1,8 @@
 -- The words of a printed line, and what it gives to a key.
-use Rattle.std.proofs.Common.{◌≡◌, ◌≢◌, ◌∙◌, ℕ, ◌<◌, ◌^◌, ◌==◌, ◌||◌, Bool, true, false, List, [], ◌∷◌, ◌++◌, All, map, Option, None, codes, decimal, length, refl, sym, ap, arith}
+use Rattle.std.proofs.Common.{◌≡◌, ◌≢◌, ◌∙◌, ℕ, ◌<◌, ◌^◌, ◌==◌, ◌||◌, Bool, true, false, List, [], ◌∷◌, ◌++◌, All, map, Option, None, codes, decimal, refl, ap, arith}
 use Rattle.std.specs.Prelude.{⊤}
 use Rattle.std.proofs.lemmas.Bool.{ne_eqb}
-use Rattle.std.proofs.lemmas.List.{append-nil, append_assoc}
+use Rattle.std.proofs.lemmas.List.{append-nil}
 use Rattle.std.proofs.lemmas.List.Elements.{All-append, All-cons, All-head, All-nil, All-tail}
 use Rattle.std.specs.Option.{option_to_list}
 use Rattle.std.proofs.lemmas.List.Splits.{slice_split_at, slice_split_none}
@@ -11,9 +11,8 @@ use Rattle.command_words.specs.Settings.{setting_value, values_of}
 use Rattle.command_words.specs.Spelling.{Setting, number_setting, word_of}
 use Rattle.command_words.proofs.SettingLemmas.{are_plain, picked, values_read}
 use Rattle.command_words.proofs.WordLemmas.{values_of-append}
-use Rattle.troubles.specs.Said.{with_label}
 use Rattle.troubles.proofs.WordLemmas.{HasNo, none_by}
-use Rattle.local_commands.specs.TextLaws.{GivesOnce, words_in}
+use Rattle.local_commands.specs.TextLaws.{words_in}
 
 -- bytes of a word: no blank and no line's end
 abbrev pub gap : ℕ → Bool

@@ -4,7 +4,7 @@ use Rattle.std.specs.List.{AllZip}
 use Rattle.std.specs.Str.{bytes_eq}
 use Rattle.std.proofs.lemmas.Fmt.{decimal_injective}
 use Rattle.std.proofs.lemmas.List.{append-nil, append_assoc, append_cancel_left, append_cancel_right}
-use Rattle.std.proofs.lemmas.List.Elements.{All-append, All-cons, All-head, All-nil, All-tail}
+use Rattle.std.proofs.lemmas.List.Elements.{All-cons, All-head, All-nil, All-tail}
 use Rattle.mpeg_scan.specs.declared.units.Kind.{Kind}
 use Rattle.mpeg_scan.specs.declared.units.Kind.TheVariants.{I, P, B, D}
 use Rattle.mpeg_scan.specs.declared.units.Unit.{Unit as PictureUnit}
@@ -17,7 +17,7 @@ use Rattle.local_commands.specs.ScanText.{film_line, kind_text, mark, scan_text,
 use Rattle.local_commands.specs.TextLaws.{AreAlike, IsSameScan, IsShortFault, IsShortUnit}
 use Rattle.local_commands.specs.Verdict.{refused_line}
 use Rattle.local_commands.specs.Verdict.{cert_fault_text, fault_name}
-use Rattle.local_commands.proofs.FieldLemmas.{field_cut, last_cut, line_cut, two_cut}
+use Rattle.local_commands.proofs.FieldLemmas.{field_cut, line_cut, two_cut}
 
 -- ---- a scan
 

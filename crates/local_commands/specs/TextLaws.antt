@@ -1,6 +1,6 @@
 -- What a reader of the texts of a scan, a verdict and `--help` can tell from them.
-use Rattle.std.specs.Prelude.{ℕ, ◌≡◌, ◌≢◌, ◌<◌, ◌^◌, ◌==◌, ◌||◌, List, [], ◌∷◌, ◌++◌, All, IfSome}
-use Rattle.std.specs.Prelude.{codes, decimal, length, slice_index_or}
+use Rattle.std.specs.Prelude.{ℕ, ◌≡◌, ◌<◌, ◌^◌, ◌==◌, ◌||◌, List, [], ◌∷◌, IfSome}
+use Rattle.std.specs.Prelude.{codes, decimal, slice_index_or}
 use Rattle.std.specs.List.{AllZip, list_any, slice_split}
 use Rattle.std.specs.Str.{bytes_eq}
 use Rattle.mpeg_scan.specs.declared.units.Unit.{Unit as PictureUnit}
