@@ -1,6 +1,6 @@
 -- What a link in memory notes, and the bytes among it that were sent.
-use Rattle.std.proofs.Common.{◌≡◌, ℕ, List, [], ◌∷◌, ◌++◌, map, refl, ap, ◌∙◌}
-use Rattle.std.proofs.lemmas.List.{map-append, append-nil}
+use Rattle.std.proofs.Common.{◌≡◌, ℕ, ◌+◌, ◌<◌, List, [], ◌∷◌, ◌++◌, length, take, get_or, map, refl, sym, ap, ◌∙◌}
+use Rattle.std.proofs.lemmas.List.{append_assoc, map-append, append-nil, take_more}
 use Rattle.vod_base.specs.declared.links.Heard.{Heard}
 use Rattle.vod_base.specs.declared.links.Heard.TheVariants.{Bytes, Slot, End}
 use Rattle.vod_base.specs.declared.memory_links.Event.{Event}
@@ -50,3 +50,11 @@ sent_more events old new bytes are =
     let told = ap (map (doing_noted events)) are ∙ map-append (doing_noted events) old (map Gone bytes)
     ∙ ap (λ d. map (doing_noted events) old ++ d) (noted_bytes events bytes) in
     (told, rw told (sent_of-append (map (doing_noted events) old) (sends bytes) ∙ ap (λ b. sent_of (map (doing_noted events) old) ++ b) (sent_of-sends bytes)))
+
+-- one byte more is noted as sent
+pub noted_more : (old now new : List Noted) (bytes : List ℕ) (i : ℕ) → i < length bytes → now ≡ old ++ map Gone (take i bytes) →
+    new ≡ now ++ Gone (get_or bytes i 0) ∷ [] → new ≡ old ++ map Gone (take (i + 1) bytes)
+noted_more old now new bytes i h was is =
+    let one : List Noted = Gone (get_or bytes i 0) ∷ [] in
+    is ∙ ap (λ (l : List Noted). l ++ one) was ∙ append_assoc old (map Gone (take i bytes)) one
+    ∙ ap (λ (l : List Noted). old ++ l) (sym (ap (map Gone) (take_more bytes i 0 h) ∙ map-append Gone (take i bytes) (get_or bytes i 0 ∷ [])))

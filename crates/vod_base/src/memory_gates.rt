@@ -1,8 +1,8 @@
 //! A gate in memory.
 
-ghost use Rattle.std.specs.Prelude.{◌≡◌, ◌-◌, ◌↔◌, ◌||◌, false, Some, None, [], if◌then◌else◌};
+ghost use Rattle.std.specs.Prelude.{◌≡◌, ◌-◌, ◌↔◌, ◌||◌, true, false, Some, None, [], if◌then◌else◌};
 ghost use Rattle.std.specs.Prelude.{nat_lt, map, IfSome, IfOk, IsNone, OnOk, OnErr, is_err};
-ghost use Rattle.std.specs.Prelude.{vec_len};
+ghost use Rattle.std.specs.Prelude.{◌<◌, remove, slice_index_or, vec_len};
 ghost use Rattle.vod_base.specs.Outside.{one_more};
 ghost use Rattle.vod_base.specs.Gates.{NoMore, Failed, MaySplit, IsOut, HasOut, after_open};
 ghost use Rattle.vod_base.specs.Gates.{split_off};
@@ -14,7 +14,7 @@ ghost use Rattle.vod_base.specs.MemoryGates.{gate_called};
 ghost use Rattle.vod_base.specs.MemoryGates.{gate_failed};
 
 use crate::gates::{Gate, Opening};
-use crate::memory_libraries::is_listed;
+use crate::memory_libraries::counted_call;
 use crate::memory_links::MemoryLink;
 use crate::outside::{GateFault, NoMemory};
 use crate::shares::{Last, Share};
@@ -23,7 +23,7 @@ use std::marker::Model;
 
 /// What one part of a gate in memory gives: links, which are begun anew when they are given. Its
 /// calls of `take` fail at the given numbers, from 1.
-#[derive(Debug, Drop)]
+#[derive(Drop)]
 pub struct MemoryPart {
     /// The links, in order.
     pub links: Vec<MemoryLink>,
@@ -38,7 +38,7 @@ const MAX_PARTS: usize = 256;
 ///
 /// A gate's calls of `open` and `split` fail at given numbers, a part's calls of `take` at its own.
 /// Only the gate that `new` makes can be opened; at a part `open` fails.
-#[derive(Debug, Drop)]
+#[derive(Drop)]
 pub struct MemoryGate {
     alloc: Global,
     /// How often `open` was called.
@@ -115,6 +115,31 @@ impl MemoryGate {
         })
     }
 
+    /// A part, which gives what its script says.
+    fn part(alloc: Global, number: usize, script: MemoryPart) -> MemoryGate
+        ensures { result ≡ record {
+          content = record { openings = 0; opening = None; parts = []; own = fresh_part number };
+          waiting = vec_len script.links;
+          is_part = true;
+          failing = script.failing.items;
+          calls = 0;
+          faults = 0;
+        } }
+    {
+        MemoryGate {
+            alloc,
+            openings: 0,
+            opening: None,
+            is_part: true,
+            parts: Vec::new(alloc),
+            own: share_of(number, script.links),
+            scripts: Vec::new(alloc),
+            failing: script.failing,
+            calls: 0,
+            faults: 0,
+        }
+    }
+
     /// The links that the part of that number, from 0, got back, in order; none while it is out.
     pub fn returned_links(&self, part: usize) -> &[MemoryLink]
         ensures { map returned_of result.now ≡ back_of self.now.content part }
@@ -131,9 +156,7 @@ impl MemoryGate {
         ensures called { self.new ≡
             (if result then gate_failed self.old else gate_called self.old) }
     {
-        self.calls = self.calls.saturating_add(1);
-        let number = self.calls;
-        let failed = is_listed(&self.failing, number);
+        let failed = counted_call(&mut self.calls, &self.failing);
         if failed {
             self.faults = self.faults.saturating_add(1);
         }
@@ -190,26 +213,8 @@ impl Gate for MemoryGate {
             Ok(()) => {}
             Err(_) => unreachable!(),
         }
-        let script = if self.scripts.is_empty() {
-            MemoryPart {
-                links: Vec::new(self.alloc),
-                failing: Vec::new(self.alloc),
-            }
-        } else {
-            self.scripts.remove(0)
-        };
-        Ok(MemoryGate {
-            alloc: self.alloc,
-            openings: 0,
-            opening: None,
-            is_part: true,
-            parts: Vec::new(self.alloc),
-            own: share_of(number, script.links),
-            scripts: Vec::new(self.alloc),
-            failing: script.failing,
-            calls: 0,
-            faults: 0,
-        })
+        let script = next_script(self.alloc, &mut self.scripts);
+        Ok(MemoryGate::part(self.alloc, number, script))
     }
 
     #[tactic(auto, using(crate::proofs::Giving::back_stays))]
@@ -270,6 +275,23 @@ impl Gate for MemoryGate {
         self.faults = count_with(self.faults, faults);
         let number = own.number;
         self.parts[number] = Some(own);
+    }
+}
+
+/// What the next part is to give: the first script that is left, or no link.
+fn next_script(alloc: Global, scripts: &mut Vec<MemoryPart>) -> MemoryPart
+    ensures first { 0 < vec_len scripts.old → (result ≡ slice_index_or scripts.old.items 0 result)
+        × (scripts.new.items ≡ remove scripts.old.items 0) }
+    ensures none { vec_len scripts.old ≡ 0 →
+        (result.links.items ≡ []) × (result.failing.items ≡ []) }
+{
+    if scripts.is_empty() {
+        MemoryPart {
+            links: Vec::new(alloc),
+            failing: Vec::new(alloc),
+        }
+    } else {
+        scripts.remove(0)
     }
 }
 

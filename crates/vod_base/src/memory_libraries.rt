@@ -2,16 +2,15 @@
 
 ghost use Rattle.std.specs.Prelude.{◌≡◌, ◌≤◌, ℕ, List, Option, Some, length, map, option_map};
 ghost use Rattle.std.specs.Prelude.{string_bytes, if◌then◌else◌, IfOk, OnOk, OnErr, is_err};
-ghost use Rattle.vod_base.specs.Outside.{File, HasRisen, file_named, bytes_named, IsRead};
+ghost use Rattle.vod_base.specs.Outside.{File, HasRisen, file_named, bytes_named, IsRead, one_more};
 ghost use Rattle.vod_base.specs.Memory.{LibraryState, library_called, call_fails};
-ghost use Rattle.vod_base.specs.Memory.{fails};
 
 use crate::files::Library;
 use crate::outside::StoreFault;
 use std::marker::Model;
 
 /// A library in memory, whose calls of `find` and `read` fail at given numbers.
-#[derive(Debug, Drop)]
+#[derive(Drop)]
 pub struct MemoryLibrary {
     files: Vec<(String, Vec<u8>)>,
     failing: Vec<u64>,
@@ -60,9 +59,7 @@ impl MemoryLibrary {
         ensures fails { result ≡ call_fails self.old.failing self.old.calls }
         ensures called { self.new ≡ library_called self.old }
     {
-        self.calls = self.calls.saturating_add(1);
-        let number = self.calls;
-        let failed = is_listed(&self.failing, number);
+        let failed = counted_call(&mut self.calls, &self.failing);
         if failed {
             self.faults = self.faults.saturating_add(1);
         }
@@ -118,15 +115,17 @@ impl Library for MemoryLibrary {
     }
 }
 
-/// Whether the numbers of the calls that are to fail have this one.
-pub(crate) fn is_listed(failing: &[u64], number: u64) -> bool
-    ensures { result ≡ fails failing.now number }
+/// Counts a call, and tells whether its number is among those of the calls that are to fail.
+pub(crate) fn counted_call(calls: &mut u64, failing: &[u64]) -> bool
+    ensures counted { calls.new ≡ one_more calls.old }
+    ensures fails { result ≡ call_fails failing.now calls.old }
 {
-    failing.iter().any(|n| *n == number)
+    *calls = calls.saturating_add(1);
+    failing.contains(calls)
 }
 
 /// Copies what stands at `at` to the front of `into`, as much as fits, and answers how much.
-fn copy_from(bytes: &[u8], at: u64, into: &mut [u8]) -> usize
+pub(crate) fn copy_from(bytes: &[u8], at: u64, into: &mut [u8]) -> usize
     ensures { IsRead bytes.now at result into.new }
 {
     if at >= bytes.len() as u64 {

@@ -9,13 +9,13 @@ ghost use Rattle.vod_base.specs.declared.memory_links.Noted.TheVariants.{Gone};
 ghost use Rattle.vod_base.specs.MemoryLinks.{sent_of, doing_noted, next_fails};
 
 use crate::links::{Heard, Link};
-use crate::memory_libraries::is_listed;
+use crate::memory_libraries::{copy_from, counted_call};
 use crate::outside::{LinkFault, NoMemory};
 use std::alloc::Global;
 use std::marker::Model;
 
 /// An event that a link in memory is to hand out.
-#[derive(Debug, Drop)]
+#[derive(Drop)]
 pub enum Event {
     /// Bytes come. Those that are longer than a call can take come in several calls; no bytes are
     /// no event.
@@ -28,7 +28,7 @@ pub enum Event {
 
 /// What a link noted: bytes of the event at a place came, a slot began, the peer ended, or a byte
 /// was sent.
-#[derive(Clone, Copy, Debug)]
+#[derive(Clone, Copy)]
 pub(crate) enum Noted {
     Came(usize, usize, usize),
     Began(u64),
@@ -40,7 +40,7 @@ pub(crate) enum Noted {
 ///
 /// Calls of `send` and of `next` fail at given numbers, from 1, and where the room would be passed.
 /// After the last event it answers that the peer ended.
-#[derive(Debug, Drop)]
+#[derive(Drop)]
 pub struct MemoryLink {
     events: Vec<Event>,
     front: Front,
@@ -175,9 +175,7 @@ impl Link for MemoryLink {
               faults = one_more self.old.faults;
             }) }
     {
-        self.nexts = self.nexts.saturating_add(1);
-        let number = self.nexts;
-        let failed = is_listed(&self.failing_nexts, number);
+        let failed = counted_call(&mut self.nexts, &self.failing_nexts);
         if failed || self.handed_out >= self.room {
             self.faults = self.faults.saturating_add(1);
             return Err(LinkFault);
@@ -205,9 +203,7 @@ impl Link for MemoryLink {
               faults = one_more self.old.faults;
             }) }
     {
-        self.sends = self.sends.saturating_add(1);
-        let number = self.sends;
-        let failed = is_listed(&self.failing_sends, number);
+        let failed = counted_call(&mut self.sends, &self.failing_sends);
         if failed || bytes.len() > self.room - self.sent.len() {
             self.faults = self.faults.saturating_add(1);
             return Err(LinkFault);
@@ -221,7 +217,7 @@ impl Link for MemoryLink {
 }
 
 /// The next event's place, and how many of its bytes were handed out.
-#[derive(Clone, Copy, Debug)]
+#[derive(Clone, Copy)]
 struct Front {
     event: usize,
     offset: usize,
@@ -260,9 +256,7 @@ fn hand_out(events: &[Event], front: &mut Front, into: &mut [u8]) -> (Noted, Hea
     match events.get(event) {
         Some(Event::Bytes(bytes)) => {
             let from = front.offset;
-            let rest = &bytes[from..];
-            let count = rest.len().min(into.len());
-            into[..count].copy_from_slice(&rest[..count]);
+            let count = copy_from(bytes, from as u64, into);
             front.offset = from + count;
             (Noted::Came(event, from, from + count), Heard::Bytes(count))
         }

@@ -5,14 +5,14 @@ ghost use Rattle.std.specs.Prelude.{IfOk, is_err};
 ghost use Rattle.vod_base.specs.Memory.{SinkState, call_fails};
 ghost use Rattle.vod_base.specs.Outside.{one_more};
 
-use crate::memory_libraries::is_listed;
+use crate::memory_libraries::counted_call;
 use crate::output::Sink;
 use crate::outside::{NoMemory, SinkFault};
 use std::alloc::Global;
 use std::marker::Model;
 
 /// A sink in memory, whose calls fail at given numbers and where its room would be passed.
-#[derive(Debug, Drop)]
+#[derive(Drop)]
 pub struct MemorySink {
     kept: Vec<u8>,
     room: usize,
@@ -86,9 +86,7 @@ impl Sink for MemorySink {
               bytes = self.old.bytes ++ bytes.now;
             }) }
     {
-        self.calls = self.calls.saturating_add(1);
-        let number = self.calls;
-        let failed = is_listed(&self.failing, number);
+        let failed = counted_call(&mut self.calls, &self.failing);
         if failed || bytes.len() > self.room - self.kept.len() {
             self.faults = self.faults.saturating_add(1);
             return Err(SinkFault);

@@ -25,9 +25,9 @@ pub enum NumberFault {
 impl fmt::Display for NumberFault {
     fn fmt<W: fmt::Write>(&self, f: &mut fmt::Formatter<W>) -> fmt::Result {
         match self {
-            NumberFault::Empty => write!(f, "the number has no digit"),
+            NumberFault::Empty => f.write_str("the number has no digit"),
             NumberFault::NotDigit(place) => write!(f, "byte {place} of the number is no digit"),
-            NumberFault::TooLarge => write!(f, "the number is 2^64 or more"),
+            NumberFault::TooLarge => f.write_str("the number is 2^64 or more"),
         }
     }
 }

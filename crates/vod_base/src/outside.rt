@@ -11,7 +11,7 @@ pub struct NoMemory;
 
 impl fmt::Display for NoMemory {
     fn fmt<W: fmt::Write>(&self, f: &mut fmt::Formatter<W>) -> fmt::Result {
-        write!(f, "out of memory")
+        f.write_str("out of memory")
     }
 }
 
@@ -39,7 +39,7 @@ pub struct StoreFault;
 
 impl fmt::Display for StoreFault {
     fn fmt<W: fmt::Write>(&self, f: &mut fmt::Formatter<W>) -> fmt::Result {
-        write!(f, "the library could not be read")
+        f.write_str("the library could not be read")
     }
 }
 
@@ -51,7 +51,7 @@ pub struct SinkFault;
 
 impl fmt::Display for SinkFault {
     fn fmt<W: fmt::Write>(&self, f: &mut fmt::Formatter<W>) -> fmt::Result {
-        write!(f, "the output could not be written")
+        f.write_str("the output could not be written")
     }
 }
 
@@ -63,7 +63,7 @@ pub struct LinkFault;
 
 impl fmt::Display for LinkFault {
     fn fmt<W: fmt::Write>(&self, f: &mut fmt::Formatter<W>) -> fmt::Result {
-        write!(f, "the connection could not be read or written")
+        f.write_str("the connection could not be read or written")
     }
 }
 
@@ -75,7 +75,7 @@ pub struct GateFault;
 
 impl fmt::Display for GateFault {
     fn fmt<W: fmt::Write>(&self, f: &mut fmt::Formatter<W>) -> fmt::Result {
-        write!(f, "no connection could be made")
+        f.write_str("no connection could be made")
     }
 }
 

@@ -5,7 +5,7 @@ ghost use Rattle.std.specs.Prelude.{◌≤◌, vec_len};
 use crate::memory_links::MemoryLink;
 
 /// What the last `take` answered.
-#[derive(Clone, Copy, Debug, PartialEq, Eq)]
+#[derive(Clone, Copy)]
 pub(crate) enum Last {
     Nothing,
     Link,
@@ -14,7 +14,7 @@ pub(crate) enum Last {
 }
 
 /// What a part gave: first the links that are still to give, then those that came back.
-#[derive(Debug, Drop)]
+#[derive(Drop)]
 pub(crate) struct Share {
     pub(crate) number: usize,
     pub(crate) links: Vec<MemoryLink>,

@@ -1,0 +1,9 @@
+use Rattle.std.proofs.Common.{rules}
+use Rattle.vod_base.specs.MemoryGates.{returned_of}
+use Rattle.vod_base.proofs.Giving.{back_grows}
+use Rattle.vod_base.proofs.memory_gates.MemoryGateGate.give_back.Goals as goal
+
+pub returns : goal.returns
+returns c =
+    let back = back_grows returned_of c.self.inside.own.links.items c.push.new.self.items c.self.inside.own.waiting c.args.conn c.in-Ok.ensures.items (search (rules, c.self.invariant.2)) in
+    search (rules, back)
