@@ -24,24 +24,16 @@ pub enum Command {
 pub fn command_named(word: &str) -> Option<Command>
     ensures { result ≡ command_named word.now }
 {
-    if word == "plan" {
-        Some(Command::Plan)
-    } else if word == "check" {
-        Some(Command::Check)
-    } else if word == "scan" {
-        Some(Command::Scan)
-    } else if word == "make" {
-        Some(Command::Make)
-    } else if word == "day" {
-        Some(Command::Day)
-    } else if word == "fair" {
-        Some(Command::Fair)
-    } else if word == "serve" {
-        Some(Command::Serve)
-    } else if word == "watch" {
-        Some(Command::Watch)
-    } else {
-        None
+    match word {
+        "plan" => Some(Command::Plan),
+        "check" => Some(Command::Check),
+        "scan" => Some(Command::Scan),
+        "make" => Some(Command::Make),
+        "day" => Some(Command::Day),
+        "fair" => Some(Command::Fair),
+        "serve" => Some(Command::Serve),
+        "watch" => Some(Command::Watch),
+        _ => None,
     }
 }
 

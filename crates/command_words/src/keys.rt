@@ -146,12 +146,10 @@ pub(crate) fn one_bind(words: &[String], key: &str) -> Option<bool>
 {
     match find_given(words, key) {
         Given::Absent => Some(false),
-        Given::Once(text) => if text == "local" {
-            Some(false)
-        } else if text == "all" {
-            Some(true)
-        } else {
-            None
+        Given::Once(text) => match text {
+            "local" => Some(false),
+            "all" => Some(true),
+            _ => None,
         },
         Given::Again => None,
     }
@@ -161,13 +159,10 @@ pub(crate) fn one_bind(words: &[String], key: &str) -> Option<bool>
 fn kind_named(text: &str) -> Option<Made>
     ensures { option_map made_of result ≡ one_kind (text.now ∷ []) }
 {
-    if text == "film" {
-        Some(Made::Film)
-    } else if text == "trace" {
-        Some(Made::Trace)
-    } else if text == "system" {
-        Some(Made::System)
-    } else {
-        None
+    match text {
+        "film" => Some(Made::Film),
+        "trace" => Some(Made::Trace),
+        "system" => Some(Made::System),
+        _ => None,
     }
 }

@@ -11,7 +11,7 @@ ghost use Rattle.command_words.specs.Given.{IsGiven};
 use vod_base::{good_name, read_number};
 
 /// How often words give a value to a key.
-#[derive(Clone, Copy, Debug)]
+#[derive(Clone, Copy)]
 pub(crate) enum Given<'a> {
     Absent,
     Once(&'a str),
