@@ -1,3 +1,4 @@
+use Rattle.std.proofs.lemmas.Grind.{common_steps}
 use Rattle.std.proofs.Common.{◌<◌, arith, length, ◌∙◌}
 use Rattle.std.proofs.lemmas.List.{length-set, get_or_default}
 use Rattle.std.proofs.lemmas.List.Sums.{sum_by_more, sum_by_more_le}
@@ -38,3 +39,12 @@ loop-picture-preserved c =
       };
       total = omega (arith, more);
     }
+
+pub loop-picture-init : goal.loop-picture-init
+loop-picture-init c = grind (arith, common_steps)
+
+pub overflow_add-total : goal.overflow_add-total
+overflow_add-total c = grind (arith, common_steps)
+
+pub returns-clause-total : goal.returns-clause-total
+returns-clause-total c = grind (arith, common_steps)
