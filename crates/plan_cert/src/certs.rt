@@ -1,6 +1,6 @@
 //! The text of a certificate.
 
-ghost use Rattle.std.specs.Prelude.{◌≡◌, ◌++◌, IfOk, OnOk};
+ghost use Rattle.std.specs.Prelude.{◌≡◌, ◌++◌, IfOk, OnOk, decimal};
 ghost use Rattle.plan_cert.specs.Text.{cert_text, cert_head, segment_line};
 
 use crate::{Plan, Segment};
@@ -27,11 +27,9 @@ pub fn write_cert(alloc: Global, plan: &Plan) -> Result<Vec<u8>, NoMemory>
 fn head_bytes(alloc: Global, slots: u64, bytes: u64) -> Result<Vec<u8>, AllocError>
     ensures { IfOk result (λ text. text.items ≡ cert_head slots bytes) }
 {
-    let mut buffer = Buffer::new();
-    let mut text = Vec::from_slice(alloc, b"smooth 1\nslots ")?;
-    text.extend_from_slice(buffer.format(slots).as_bytes())?;
-    text.extend_from_slice(b"\nbytes ")?;
-    text.extend_from_slice(buffer.format(bytes).as_bytes())?;
+    let mut text = Vec::from_slice(alloc, b"smooth 1")?;
+    push_number(&mut text, b"\nslots ", slots)?;
+    push_number(&mut text, b"\nbytes ", bytes)?;
     text.extend_from_slice(b"\n")?;
     Ok(text)
 }
@@ -40,11 +38,17 @@ fn head_bytes(alloc: Global, slots: u64, bytes: u64) -> Result<Vec<u8>, AllocErr
 fn push_segment(text: &mut Vec<u8>, segment: Segment) -> Result<(), AllocError>
     ensures { OnOk result (text.new.items ≡ text.old.items ++ segment_line segment) }
 {
-    let mut buffer = Buffer::new();
-    text.extend_from_slice(b"segment ")?;
-    text.extend_from_slice(buffer.format(segment.slots).as_bytes())?;
-    text.extend_from_slice(b" ")?;
-    text.extend_from_slice(buffer.format(segment.bytes).as_bytes())?;
+    push_number(text, b"segment ", segment.slots)?;
+    push_number(text, b" ", segment.bytes)?;
     text.extend_from_slice(b"\n")?;
+    Ok(())
+}
+
+/// Appends a word and a number.
+fn push_number(text: &mut Vec<u8>, word: &[u8], number: u64) -> Result<(), AllocError>
+    ensures { OnOk result (text.new.items ≡ text.old.items ++ word.now ++ decimal number) }
+{
+    text.extend_from_slice(word)?;
+    text.extend_from_slice(Buffer::new().format(number).as_bytes())?;
     Ok(())
 }

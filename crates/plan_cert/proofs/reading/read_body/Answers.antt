@@ -1,3 +1,4 @@
+use Rattle.std.proofs.lemmas.Grind.{common_steps}
 use Rattle.std.proofs.Common.{◌≡◌, ◌≢◌, ◌<◌, ◌≤◌, ◌+◌, ◌^◌, ◌++◌, true, not, [], ◌∷◌, length, is_ok, arith, ap, subst, ◌∙◌, inl, inr, eq-eqb}
 use Rattle.std.proofs.lemmas.Bool.{both_ways, cond-true}
 use Rattle.std.proofs.lemmas.List.{length_push}
@@ -58,3 +59,6 @@ loop-count-preserved c =
           let place : 3 + c.loop-count.count + 1 ≡ 3 + (c.loop-count.count + 1) = omega arith in
           subst (λ n. HasRead whole n c.in-Some.after.now) place next;
     }
+
+pub returns-then-is_empty-clause-read : goal.returns-then-is_empty-clause-read
+returns-then-is_empty-clause-read c = grind (arith, common_steps)

@@ -1,4 +1,5 @@
-use Rattle.std.proofs.Common.{◌≡◌, ◌≢◌, ◌+◌, ℕ, ◌⊎◌, List, refl, sym, ap, ◌∙◌, inl, inr}
+use Rattle.std.proofs.lemmas.Grind.{common_steps}
+use Rattle.std.proofs.Common.{◌≡◌, ◌≢◌, ◌+◌, ℕ, ◌⊎◌, List, refl, sym, ap, ◌∙◌, inl, inr, arith}
 use Rattle.std.proofs.lemmas.Bool.{both_ways}
 use Rattle.plan_cert.specs.declared.Segment.{Segment}
 use Rattle.plan_cert.specs.Slots.{total_slots, total_bytes}
@@ -39,3 +40,6 @@ returns-then-not-has_bytes-clause-refused c =
     both_ways c.has_bytes.result c.if-not-has_bytes.true (c.has_bytes.ensures.1 (ap total_bytes c.as_slice-2.ensures.value ∙ e)) in
     wrong_sum
     c.in-Ok.ensures c.in_ok-segments.ensures.read (inr (refl, same, wrong))
+
+pub returns-clause-read : goal.returns-clause-read
+returns-clause-read c = grind (arith, common_steps)

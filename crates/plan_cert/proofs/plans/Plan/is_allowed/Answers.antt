@@ -1,3 +1,4 @@
+use Rattle.std.proofs.lemmas.Grind.{common_steps}
 use Rattle.std.proofs.Common.{◌≤◌, arith, rules}
 use Rattle.std.proofs.lemmas.List.Elements.{All-more}
 use Rattle.std.proofs.lemmas.List.Sums.{sum_by_more}
@@ -14,3 +15,9 @@ loop-segment-preserved c =
       few_slots = omega arith;
       few_bytes = omega arith;
     }
+
+pub returns-then-segment-eq0 : goal.returns-then-segment-eq0
+returns-then-segment-eq0 c = grind (arith, common_steps)
+
+pub returns : goal.returns
+returns c = grind (arith, common_steps)
