@@ -3,7 +3,7 @@ ghost use Rattle.std.specs.Prelude.{◌≡◌, ◌+◌, ◌*◌, ◌<◌, ◌≤
 ghost use Rattle.rtp_pack.specs.Cutting.{full_before, goes_in, holds_after};
 
 /// What stands in the piece of a unit that is being filled.
-#[derive(Clone, Copy, Debug, PartialEq, Eq)]
+#[derive(Clone, Copy)]
 pub(crate) enum Holds {
     /// The unit's head alone.
     HeadAlone,
@@ -14,7 +14,7 @@ pub(crate) enum Holds {
 }
 
 /// The piece of a unit that is being filled: its bytes so far, and what they are.
-#[derive(Clone, Copy, Debug, PartialEq, Eq)]
+#[derive(Clone, Copy)]
 pub(crate) struct Filling {
     /// The place of its first byte.
     pub from: u64,

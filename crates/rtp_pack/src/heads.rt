@@ -39,11 +39,11 @@ pub enum HeadFault {
 
 impl fmt::Display for HeadFault {
     fn fmt<W: fmt::Write>(&self, f: &mut fmt::Formatter<W>) -> fmt::Result {
-        match self {
-            HeadFault::Short => write!(f, "the packet is shorter than its headers"),
-            HeadFault::NotRtp => write!(f, "the packet isn't of RTP version 2"),
-            HeadFault::NotVideo => write!(f, "the packet isn't MPEG video"),
-        }
+        f.write_str(match self {
+            HeadFault::Short => "the packet is shorter than its headers",
+            HeadFault::NotRtp => "the packet isn't of RTP version 2",
+            HeadFault::NotVideo => "the packet isn't MPEG video",
+        })
     }
 }
 

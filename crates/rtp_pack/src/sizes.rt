@@ -11,7 +11,7 @@ use std::marker::Model;
 /// no memory.
 ///
 /// Contracts see how many pieces ended so far, and the one that is being filled.
-#[derive(Debug, Drop)]
+#[derive(Drop)]
 pub struct UnitSize {
     pieces: u64,
     filling: Filling,

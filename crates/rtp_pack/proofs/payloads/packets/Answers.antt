@@ -1,4 +1,5 @@
-use Rattle.std.proofs.Common.{List, ℕ, Some, ap, subst, sym, ◌∙◌, length}
+use Rattle.std.proofs.lemmas.Grind.{elements}
+use Rattle.std.proofs.Common.{List, ℕ, Some, ap, subst, sym, ◌∙◌, length, arith}
 use Rattle.std.proofs.lemmas.Option.{slice_get-get_or}
 use Rattle.mpeg_scan.specs.declared.units.Unit.{Unit as PictureUnit}
 use Rattle.rtp_pack.specs.Packets.{IsLaid}
@@ -12,3 +13,18 @@ pack-requires c =
     let laid = film-laid film.bytes.items film.rate film.units.items film.slice_starts.items film.grammar in
     let here = slice_get-get_or film.units.items c.args.unit unit c.requires ∙ ap (λ (u : PictureUnit). Some u) (sym c.index.ensures) in
     subst (λ (l : List ℕ). IsLaid l unit) (sym c.deref.ensures.value) (laid-at (length film.bytes.items) film.slice_starts.items film.units.items c.args.unit here laid).1
+
+pub returns-clause-list : goal.returns-clause-list
+returns-clause-list c = grind (arith, elements)
+
+pub returns-clause-rules : goal.returns-clause-rules
+returns-clause-rules c = grind (arith, elements)
+
+pub returns-clause-cover : goal.returns-clause-cover
+returns-clause-cover c = grind (arith, elements)
+
+pub returns-clause-size : goal.returns-clause-size
+returns-clause-size c = grind (arith, elements)
+
+pub returns-clause-bound : goal.returns-clause-bound
+returns-clause-bound c = grind (arith, elements)
