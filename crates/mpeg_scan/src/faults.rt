@@ -2,7 +2,7 @@
 ghost use Rattle.std.specs.Prelude.{◌≡◌};
 ghost use Rattle.mpeg_scan.specs.Faults.{header_fault, kind_fault, second_fault, first_slice_fault};
 ghost use Rattle.mpeg_scan.specs.Faults.{count_fault, code_fault, last_fault, picture_fault};
-ghost use Rattle.mpeg_scan.specs.Faults.{rate_fault};
+ghost use Rattle.mpeg_scan.specs.Faults.{place_of, rate_fault};
 
 use crate::codes::Code;
 use crate::tallies::{
@@ -42,6 +42,26 @@ pub enum FilmFault {
     HeadWithoutPicture(u64),
 }
 
+impl FilmFault {
+    /// The place that it speaks of.
+    fn place(&self) -> Option<u64>
+        ensures { result ≡ place_of self.now }
+    {
+        match *self {
+            FilmFault::Empty | FilmFault::NoSequence | FilmFault::TooLong => None,
+            FilmFault::SystemCode(place)
+            | FilmFault::Mpeg2(place)
+            | FilmFault::ShortHeader(place)
+            | FilmFault::BadRate(place, _)
+            | FilmFault::BadType(place)
+            | FilmFault::PictureWithoutSlices(place)
+            | FilmFault::HeadTooLong(place)
+            | FilmFault::GroupTooLong(place)
+            | FilmFault::HeadWithoutPicture(place) => Some(place),
+        }
+    }
+}
+
 /// Why a film isn't scanned.
 #[derive(Clone, Copy, Debug, PartialEq, Eq)]
 pub enum ScanRefused {
@@ -53,31 +73,26 @@ pub enum ScanRefused {
 
 impl fmt::Display for FilmFault {
     fn fmt<W: fmt::Write>(&self, f: &mut fmt::Formatter<W>) -> fmt::Result {
-        match self {
-            FilmFault::Empty => write!(f, "the film has no byte"),
-            FilmFault::NoSequence => write!(f, "no sequence header is first"),
-            FilmFault::SystemCode(place) => write!(f, "a system code at byte {place}"),
-            FilmFault::Mpeg2(place) => write!(f, "an extension at byte {place}"),
-            FilmFault::ShortHeader(place) => write!(f, "a header cut short at byte {place}"),
-            FilmFault::BadRate(place, code) => write!(
-                f,
-                "picture rate code {code} at byte {place}"
-            ),
-            FilmFault::BadType(place) => write!(f, "no type of a picture at byte {place}"),
-            FilmFault::PictureWithoutSlices(place) => write!(
-                f,
-                "no slice of the picture at byte {place}"
-            ),
-            FilmFault::HeadTooLong(place) => write!(f, "a head too long at byte {place}"),
-            FilmFault::GroupTooLong(place) => write!(
-                f,
-                "too many pictures of a group at byte {place}"
-            ),
-            FilmFault::TooLong => write!(f, "the film is too long"),
-            FilmFault::HeadWithoutPicture(place) => write!(
-                f,
-                "a head without a picture at byte {place}"
-            ),
+        let what = match self {
+            FilmFault::Empty => "the film has no byte",
+            FilmFault::NoSequence => "no sequence header is first",
+            FilmFault::SystemCode(_) => "a system code",
+            FilmFault::Mpeg2(_) => "an extension",
+            FilmFault::ShortHeader(_) => "a header cut short",
+            FilmFault::BadRate(..) => "picture rate code",
+            FilmFault::BadType(_) => "no type of a picture",
+            FilmFault::PictureWithoutSlices(_) => "no slice of the picture",
+            FilmFault::HeadTooLong(_) => "a head too long",
+            FilmFault::GroupTooLong(_) => "too many pictures of a group",
+            FilmFault::TooLong => "the film is too long",
+            FilmFault::HeadWithoutPicture(_) => "a head without a picture",
+        };
+        match (self, self.place()) {
+            (FilmFault::BadRate(_, code), Some(place)) => {
+                write!(f, "{what} {code} at byte {place}")
+            }
+            (_, Some(place)) => write!(f, "{what} at byte {place}"),
+            (_, None) => f.write_str(what),
         }
     }
 }
@@ -87,8 +102,8 @@ impl Error for FilmFault {}
 impl fmt::Display for ScanRefused {
     fn fmt<W: fmt::Write>(&self, f: &mut fmt::Formatter<W>) -> fmt::Result {
         match self {
-            ScanRefused::Fault(fault) => write!(f, "{fault}"),
-            ScanRefused::NoMemory => write!(f, "{NoMemory}"),
+            ScanRefused::Fault(fault) => fmt::Display::fmt(fault, f),
+            ScanRefused::NoMemory => fmt::Display::fmt(&NoMemory, f),
         }
     }
 }

@@ -1,3 +1,8 @@
+use Rattle.std.proofs.Common.{Err, option_map, refl, sym, ap, ◌∙◌}
+use Rattle.std.proofs.lemmas.Option.{none-some, same_Some}
+use Rattle.std.specs.Result.{result_ok}
+use Rattle.mpeg_scan.specs.declared.scanner.Ending.{Ending}
+use Rattle.mpeg_scan.specs.declared.tallies.Tally.{Tally}
 use Rattle.mpeg_scan.proofs.CountLemmas.{film-numbered}
 use Rattle.mpeg_scan.proofs.GrammarLemmas.{film-grammatical}
 use Rattle.mpeg_scan.proofs.RoomLemmas.{end-least, end-ready}
@@ -26,3 +31,25 @@ tell_unit-requires-clause-within g c = c.in_ok-tally.ensures.short
 pub tell_unit-requires-clause-ready : goal.tell_unit-requires-clause-ready
 tell_unit-requires-clause-ready g c =
     end-ready (g.F.Found.ready_at c.args.found.now) c.args.self.progress c.in_ok-tally.tally c.in_ok-tally.ensures.tally c.in_ok-tally.ensures.sliced (c.requires c.in_default.is)
+
+pub returns-in-Some : goal.returns-in-Some
+returns-in-Some g c = record {
+  ended = tt;
+  tiled = tt;
+  grammatical = tt;
+  numbered = tt;
+  told = tt;
+  fault = λ f e r k. absurd (none-some c.in-Some.refused (sym k.unrefused ∙ c.in-Some.is));
+  untold = λ f e. refl;
+  again = λ e is. (ap Err (same_Some c.in-Some.refused e (sym c.in-Some.is ∙ is)), refl);
+}
+
+pub returns-clause-ended : goal.returns-clause-ended
+returns-clause-ended g c =
+    λ r kept. let h = c.in_ok-tally.ensures.accepted r kept.progress in (h.0, ap (λ (t : Tally). t.rate) h.1, kept.progress.fed)
+
+pub returns-clause-fault : goal.returns-clause-fault
+returns-clause-fault g c = λ f e r kept. absurd (none-some c.in_ok-tally.tally.rate (sym (ap (λ r. option_map (λ (e : Ending). e.rate) (result_ok r)) e)))
+
+pub returns-clause-again : goal.returns-clause-again
+returns-clause-again g c = λ e is. absurd (none-some e (sym c.in_default.is ∙ is))
