@@ -19,21 +19,13 @@ pub enum SystemFault {
 
 impl fmt::Display for SystemFault {
     fn fmt<W: fmt::Write>(&self, f: &mut fmt::Formatter<W>) -> fmt::Result {
-        match self {
-            SystemFault::NotPack(place) => write!(
-                f,
-                "the pack header at byte {place} has another form"
-            ),
-            SystemFault::BadCode(place) => write!(f, "no pack or packet stands at byte {place}"),
-            SystemFault::BadPacket(place) => write!(
-                f,
-                "the packet at byte {place} has no whole header"
-            ),
-            SystemFault::Truncated(place) => write!(
-                f,
-                "the stream ends inside the item at byte {place}"
-            ),
-        }
+        let (before, place, after) = match *self {
+            SystemFault::NotPack(place) => ("the pack header", place, " has another form"),
+            SystemFault::BadCode(place) => ("no pack or packet stands", place, ""),
+            SystemFault::BadPacket(place) => ("the packet", place, " has no whole header"),
+            SystemFault::Truncated(place) => ("the stream ends inside the item", place, ""),
+        };
+        write!(f, "{before} at byte {place}{after}")
     }
 }
 

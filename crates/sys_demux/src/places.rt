@@ -10,7 +10,7 @@ use crate::faults::SystemFault;
 use crate::headers::{Header, header_next};
 
 /// Where in a stream the next byte stands.
-#[derive(Clone, Copy, Debug)]
+#[derive(Clone, Copy)]
 pub(crate) enum Place {
     /// Where an item must stand, after bytes 00: none, one, or two or more.
     Zeros(u8),

@@ -6,7 +6,7 @@ use crate::places::Place;
 
 /// Takes the video bytes out of an MPEG-1 system stream (ISO/IEC 11172-1), piece by piece. It takes
 /// no memory.
-#[derive(Debug, Drop)]
+#[derive(Drop)]
 pub struct Unwrapper {
     pub(crate) place: Place,
     /// The place of the item's prefix.
