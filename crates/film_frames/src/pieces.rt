@@ -7,7 +7,7 @@ use mpeg_scan::Unit;
 use rtp_pack::{FRAME_HEADS, Packet, REPORT_BYTES};
 
 /// A report or a frame, and the unit that it belongs to.
-#[derive(Clone, Copy, Debug, PartialEq, Eq)]
+#[derive(Clone, Copy)]
 pub(crate) enum Piece {
     /// The sender report before a unit that starts a group.
     Report(Unit),

@@ -9,7 +9,7 @@ use mpeg_scan::Unit;
 use rtp_pack::{FRAME_HEADS, Packet};
 
 /// What is kept of a report or a frame beside its place: 8 bytes.
-#[derive(Clone, Copy, Debug, PartialEq, Eq)]
+#[derive(Clone, Copy)]
 pub(crate) struct Row {
     /// The number of its unit.
     unit: u32,
@@ -18,7 +18,7 @@ pub(crate) struct Row {
 }
 
 /// A report, or a frame with what its payload shows.
-#[derive(Clone, Copy, Debug, PartialEq, Eq)]
+#[derive(Clone, Copy)]
 pub(crate) enum Kept {
     /// A report.
     Report,

@@ -22,7 +22,7 @@ use vod_base::NoMemory;
 /// For each report and each frame of a film its place among all framed bytes, and what it carries.
 ///
 /// It takes 16 bytes for each of them, 8 for each unit, and 8 for each group, which has one report.
-#[derive(Debug, Drop)]
+#[derive(Drop)]
 pub struct FrameTable {
     /// Where each piece begins among all framed bytes of the film, and where the last ends.
     places: Vec<u64>,

@@ -15,7 +15,7 @@ const PART: u64 = 1024;
 static ZEROS: [u8; 1024] = [0; 1024];
 
 /// A track of frames of zero bytes, by their sizes. Contracts see the sizes.
-#[derive(Debug, Drop)]
+#[derive(Drop)]
 pub struct TraceTrack {
     ends: Vec<u64>,
 }

@@ -1,3 +1,4 @@
+use Rattle.std.proofs.lemmas.Grind.{common_steps}
 use Rattle.std.proofs.Common.{arith}
 use Rattle.film_frames.proofs.FilmLemmas.{film-few}
 use Rattle.film_frames.proofs.SentLemmas.{all-short}
@@ -13,3 +14,6 @@ pub loop-number-init : goal.loop-number-init
 loop-number-init c =
     let film = c.args.film.now in
     record { table = c.in_ok-table.ensures.table film.units.items; firsts = c.in_ok-table.ensures.firsts film.slice_starts.items film.units.items }
+
+pub returns : goal.returns
+returns c = grind (arith, common_steps)
