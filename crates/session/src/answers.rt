@@ -2,10 +2,13 @@
 
 ghost use Rattle.std.specs.Prelude.{◌≡◌, ◌<◌, ◌^◌, ◌++◌, [], ◌∷◌, true, None, ◌-◌, List, Some};
 ghost use Rattle.std.specs.Prelude.{◌+◌, length};
+ghost use Rattle.film_frames.specs.Runs.{run_pieces};
 ghost use Rattle.film_run.specs.Runs.{IsRun};
 ghost use Rattle.film_run.specs.Units.{stored_sizes};
+ghost use Rattle.pacer.specs.Pacings.{IsPacing, whole_pacing};
 ghost use Rattle.rtsp_text.specs.Replies.{Field, reply_front};
 ghost use Rattle.session.specs.Films.{OfFilm};
+ghost use Rattle.session.specs.Plans.{IsPrepared};
 ghost use Rattle.session.specs.Ranges.{AreFilms};
 ghost use Rattle.session.specs.Sendings.{halted_in, halted_notes, kept_of, next_of, note_of};
 ghost use Rattle.session.specs.Sendings.{state_after};
@@ -57,31 +60,14 @@ impl<'a> Session<'a> {
         let State::Ready(setup, _) = self.state else {
             unreachable!()
         };
-        let Prepared {
-            run,
-            counts,
-            frames,
-            plan,
-            paced,
-            sequence: _,
-        } = prepared;
-        let pacer = Pacer::new(frames, run.sent, paced, start);
-        self.counts = counts;
+        self.counts = prepared.counts;
         self.log.note(Receipt::Entry {
             place,
             answer: Answer::Admitted { start },
         });
         put_start(&mut self.reply, start - self.heard);
-        self.state = State::Playing(
-            setup,
-            Play {
-                run,
-                place,
-                start,
-                plan,
-                pacer,
-            },
-        );
+        let play = play_of(prepared, place, start);
+        self.state.enter(State::Playing(setup, play));
         self.waits = true;
     }
 
@@ -159,7 +145,7 @@ impl<'a> Session<'a> {
         });
         let (state, note) = state_and_note(setup, play, keep, next);
         self.log.note_play(note);
-        self.state = state;
+        self.state.enter(state);
         self.waits |= is_answered(next);
         self.tearing |= is_torn(next);
     }
@@ -222,6 +208,36 @@ impl<'a> Session<'a> {
             offers,
         });
         self.waits = true;
+    }
+}
+
+/// The play that is sent as it was prepared, once it was admitted.
+fn play_of<'a>(prepared: Prepared<'a>, place: u64, start: u64) -> Play<'a>
+    requires { IsPrepared prepared }
+    ensures play { result ≡ record {
+      run = prepared.entry.run;
+      place = place;
+      start = start;
+      plan = prepared.entry.plan;
+      pacer = whole_pacing (run_pieces prepared.entry.frames)
+          prepared.entry.run.sent prepared.entry.paced start;
+    } }
+    ensures pacing { IsPacing result.pacer }
+{
+    let Prepared {
+        run,
+        frames,
+        plan,
+        paced,
+        ..
+    } = prepared;
+    let pacer = Pacer::new(frames, run.sent, paced, start);
+    Play {
+        run,
+        place,
+        start,
+        plan,
+        pacer,
     }
 }
 

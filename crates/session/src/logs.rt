@@ -11,7 +11,7 @@ use vod_base::NoMemory;
 
 /// Receipts and notes, with the room that is reserved for more. Contracts see the three lists and
 /// how many more each has room for.
-#[derive(Debug, Drop)]
+#[derive(Drop)]
 pub(crate) struct Log {
     /// The station's answers.
     pub(crate) receipts: Vec<Receipt>,

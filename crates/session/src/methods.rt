@@ -5,7 +5,7 @@ ghost use Rattle.session.specs.declared.methods.Method.{Method};
 ghost use Rattle.session.specs.Judging.{IsTopic, IsWord, name_of};
 
 /// A method of RTSP that is spoken (RFC 2326 section 10).
-#[derive(Clone, Copy, Debug, PartialEq, Eq)]
+#[derive(Clone, Copy)]
 pub(crate) enum Method {
     /// OPTIONS (section 10.1).
     Options,
@@ -48,7 +48,7 @@ pub(crate) fn read_method(text: &[u8]) -> Option<Method>
 }
 
 /// What the body of a GET_PARAMETER asks for.
-#[derive(Clone, Copy, Debug, PartialEq, Eq)]
+#[derive(Clone, Copy)]
 pub(crate) enum Topic {
     /// Nothing: the body is empty.
     Nothing,

@@ -2,10 +2,12 @@
 
 ghost use Rattle.std.specs.Prelude.{◌≡◌, ◌≢◌, ◌<◌, ◌≤◌, ℕ, true, List, length, is_some};
 ghost use Rattle.std.specs.Prelude.{string_bytes, IfOk, IsTrue, IfSome, MatchOption, ◌↔◌};
-ghost use Rattle.std.specs.Prelude.{option_map};
+ghost use Rattle.std.specs.Prelude.{option_map, IfErr, Err};
+ghost use Rattle.film_frames.specs.declared.stores.Stored.{Stored};
 ghost use Rattle.session.specs.Films.{IsFilmNamed, Names};
-ghost use Rattle.session.specs.Judging.{FitsFilm, FitsSession, FitsState, IsJudged, fault_refusal};
-ghost use Rattle.session.specs.Judging.{option_of, required_of, task_for};
+ghost use Rattle.session.specs.Judging.{FitsFilm, FitsSession, FitsState, HasFilm, IsJudged};
+ghost use Rattle.session.specs.Judging.{IsOnFilm, IsOwnTalk, fault_refusal, option_of, required_of};
+ghost use Rattle.session.specs.Judging.{task_for};
 ghost use Rattle.session.specs.Ranges.{AreFilms};
 ghost use Rattle.rtsp_text.specs.Lines.{is_one_line};
 ghost use Rattle.session.specs.Tasks.{IsAsked, IsTask, IsValid, NeedsSession};
@@ -16,7 +18,7 @@ use rtsp_fields::{read_url, session_matches};
 use rtsp_text::{Request, RequestFault, header};
 
 /// Why a request is refused; none changes the state (RFC 2326 section 7.1.1).
-#[derive(Clone, Copy, Debug, PartialEq, Eq)]
+#[derive(Clone, Copy)]
 pub(crate) enum Refusal {
     /// It is no request of RTSP.
     BadRequest,
@@ -45,7 +47,7 @@ pub(crate) enum Refusal {
 }
 
 /// The film that a request names, and how its URL names it.
-#[derive(Clone, Copy, Debug)]
+#[derive(Clone, Copy)]
 pub(crate) struct Asked<'m> {
     /// The number of the film.
     pub(crate) film: usize,
@@ -54,7 +56,7 @@ pub(crate) struct Asked<'m> {
 }
 
 /// A request that is taken up.
-#[derive(Clone, Copy, Debug)]
+#[derive(Clone, Copy)]
 pub(crate) enum Task<'m> {
     /// The methods that are spoken are told.
     Options,
@@ -73,7 +75,7 @@ pub(crate) enum Task<'m> {
 }
 
 /// Where a session stands, as far as refusals go by it.
-#[derive(Clone, Copy, Debug)]
+#[derive(Clone, Copy)]
 pub(crate) struct Place {
     /// The film of the session, where there is one.
     pub(crate) film: Option<usize>,
@@ -119,6 +121,26 @@ pub(crate) fn judge<'m>(
     ensures task { IfOk result (IsTask (length films.now) place) }
     ensures judged { IsJudged films.now id.now place request.now result }
 {
+    let method = own_method(id, place, request)?;
+    if let Method::Options = method {
+        return Ok(Task::Options);
+    }
+    let Some(asked) = own_film(films, place, method, request.url) else {
+        return Err(Refusal::Film);
+    };
+    if !is_valid(method, place, header(request, b"Range").is_some()) {
+        return Err(Refusal::State);
+    }
+    Ok(task_of(films.len(), place, method, asked))
+}
+
+/// The method of a request that requires no option and whose session fits.
+fn own_method(id: &[u8; 16], place: Place, request: &Request<'_>) -> Result<Method, Refusal>
+    ensures talk { IfOk result (IsOwnTalk id.now place request.now) }
+    ensures needs { IfOk result (λ method. NeedsSession method (is_some place.film)) }
+    ensures refused { IfErr result (λ refusal. (films : List Stored) →
+        IsJudged films id.now place request.now (Err refusal)) }
+{
     let Some(method) = read_method(request.method) else {
         return Err(Refusal::Method);
     };
@@ -133,19 +155,23 @@ pub(crate) fn judge<'m>(
     ) {
         return Err(Refusal::Session);
     }
-    if let Method::Options = method {
-        return Ok(Task::Options);
+    Ok(method)
+}
+
+/// The film that a URL names, where the method can be asked of it.
+fn own_film<'m>(films: &[Stored], place: Place, method: Method, url: &'m [u8]) -> Option<Asked<'m>>
+    requires films { AreFilms films.now }
+    requires short { length url.now ≤ 16384 }
+    ensures film { MatchOption result (¬ HasFilm films.now place url.now method)
+        (λ asked. IsOnFilm films.now place url.now method asked.authority.now asked.film) }
+    ensures asked { IfSome result (IsAsked (length films.now)) }
+{
+    let asked = asked_film(films, url)?;
+    if is_own(method, place, asked.film) {
+        Some(asked)
+    } else {
+        None
     }
-    let Some(asked) = asked_film(films, request.url) else {
-        return Err(Refusal::Film);
-    };
-    if !is_own(method, place, asked.film) {
-        return Err(Refusal::Film);
-    }
-    if !is_valid(method, place, header(request, b"Range").is_some()) {
-        return Err(Refusal::State);
-    }
-    Ok(task_of(films.len(), place, method, asked))
 }
 
 /// The options that a request requires.

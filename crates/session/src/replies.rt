@@ -124,7 +124,7 @@ pub(crate) fn put_plain(reply: &mut Reply, sequence: u64)
 }
 
 /// What a play's reply says of its run.
-#[derive(Clone, Copy, Debug)]
+#[derive(Clone, Copy)]
 pub(crate) struct Info<'m> {
     /// The time at which it begins, in milliseconds.
     pub(crate) first_ms: u64,

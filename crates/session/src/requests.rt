@@ -1,7 +1,7 @@
 //! Requests, method by method.
 
 ghost use Rattle.std.specs.Prelude.{◌≡◌, ◌<◌, ◌≤◌, ℕ, true, false, length, is_some, IfOk, IfSome};
-ghost use Rattle.std.specs.Prelude.{MatchOption, Ok};
+ghost use Rattle.std.specs.Prelude.{MatchOption, OnOk, Ok, None, [], ◌+◌};
 ghost use Rattle.interleave.specs.Pieces.{IsRequestLength};
 ghost use Rattle.rtsp_text.specs.Lines.{is_one_line};
 ghost use Rattle.session.specs.declared.asks.Ask.{Ask};
@@ -10,16 +10,19 @@ ghost use Rattle.session.specs.Playing.{IsPlayable};
 ghost use Rattle.session.specs.Ranges.{IsSetup};
 ghost use Rattle.session.specs.Films.{OfFilm};
 ghost use Rattle.session.specs.Judging.{place_of};
+ghost use Rattle.session.specs.Logs.{IsSameLists};
 ghost use Rattle.session.specs.Methods.{AsksOfferOr, AsksPlayOr, Describes, GetsParameter, HasWait};
 ghost use Rattle.session.specs.Methods.{HearsRequest, Looks, GetsOffer, OffersReady};
-ghost use Rattle.session.specs.Methods.{Pauses, Plays, SetsUp, TearsDown};
+ghost use Rattle.session.specs.Methods.{Pauses, Plays, SetsUp, Takes, TearsDown};
 ghost use Rattle.session.specs.Planning.{IsPausedIn};
+ghost use Rattle.session.specs.Tasks.{IsTask};
 ghost use Rattle.session.specs.Replies.{refusal_text};
 ghost use Rattle.session.specs.Standings.{AsksFor, CanHear, IsAtRest, IsReadyIn, IsSameBusiness};
 ghost use Rattle.session.specs.Standings.{has_session_in, is_playing_in, with_reply};
 
 use crate::asks::Ask;
 use crate::films::{frames_of, length_ms, stored_at};
+use crate::logs::Log;
 use crate::methods::{Topic, read_topic};
 use crate::plans::{Planned, playback_of};
 use crate::refusals::{Place, Refusal, Task, judge, option_of, refusal_of};
@@ -35,6 +38,7 @@ use mpeg_scan::law_film;
 use plan_cert::Plan;
 use rtsp_fields::read_wait;
 use rtsp_text::{Request, header, read_request, sequence_of};
+use std::alloc::Global;
 use std::mem;
 use vod_base::NoMemory;
 
@@ -71,19 +75,32 @@ impl<'a> Session<'a> {
         ensures asks { AsksFor result self.new }
         ensures same { IsSameBusiness self.old self.new }
     {
-        let sequence = request.sequence;
         match judge(self.films, &self.id, self.place(), request) {
-            Ok(Task::Options) => {
+            Ok(task) => self.take_up(request, task),
+            Err(refusal) => self.refuse(Some(request.sequence), refusal, option_of(request)),
+        }
+    }
+
+    /// Takes up a request by its method.
+    fn take_up(&mut self, request: &Request<'_>, task: Task<'_>) -> Ask
+        requires hear { CanHear self.old }
+        requires task { IsTask (length self.old.films) (place_of self.old.state) task }
+        ensures takes { Takes self.old request.now (Ok task.entry) result self.new }
+        ensures asks { AsksFor result self.new }
+        ensures same { IsSameBusiness self.old self.new }
+    {
+        let sequence = request.sequence;
+        match task {
+            Task::Options => {
                 put_public(&mut self.reply, sequence);
                 self.reply_waits()
             }
-            Ok(Task::Describe(asked)) => self.describe(sequence, asked.film, asked.authority),
-            Ok(Task::Setup(film)) => self.set_up(request, film),
-            Ok(Task::Play(asked)) => self.play(request, asked.authority),
-            Ok(Task::Pause) => self.pause(sequence),
-            Ok(Task::Teardown) => self.tear_down(sequence),
-            Ok(Task::GetParameter) => self.get_parameter(request),
-            Err(refusal) => self.refuse(Some(sequence), refusal, option_of(request)),
+            Task::Describe(asked) => self.describe(sequence, asked.film, asked.authority),
+            Task::Setup(film) => self.set_up(request, film),
+            Task::Play(asked) => self.play(request, asked.authority),
+            Task::Pause => self.pause(sequence),
+            Task::Teardown => self.tear_down(sequence),
+            Task::GetParameter => self.get_parameter(request),
         }
     }
 
@@ -173,7 +190,7 @@ impl<'a> Session<'a> {
                     self.source.ssrc,
                     &self.id,
                 );
-                self.state = State::Ready(setup, None);
+                self.state.enter(State::Ready(setup, None));
                 self.reply_waits()
             }
             Err(refusal) => self.refuse(Some(request.sequence), refusal, b""),
@@ -215,10 +232,7 @@ impl<'a> Session<'a> {
         ensures asks { AsksFor result self.new }
         ensures same { IsSameBusiness self.old self.new }
     {
-        let Ok((own, paced)) = two_more(&planned.plan) else {
-            return self.refuse(Some(sequence), Refusal::Memory, b"");
-        };
-        let Ok(()) = self.log.reserve_for_play(self.looks_left) else {
+        let Ok((own, paced)) = plans_with_room(&mut self.log, self.looks_left, &planned.plan) else {
             return self.refuse(Some(sequence), Refusal::Memory, b"");
         };
         let films = self.films;
@@ -236,7 +250,7 @@ impl<'a> Session<'a> {
         };
         let info = info_of(stored, self.source, setup, &prepared, authority);
         put_play(&mut self.reply, sequence, &self.id, &info);
-        self.awaited = Awaited::Play(prepared);
+        self.awaited.set(Awaited::Play(prepared));
         Ask::Play(plan)
     }
 
@@ -258,8 +272,8 @@ impl<'a> Session<'a> {
         let last = play.pacer.last_slot();
         let left = run_after(stored, &playback, &play.run, &play.plan, last, keep);
         put_session(&mut self.reply, sequence, &self.id);
-        self.state = State::Playing(setup, play);
-        self.awaited = Awaited::Halt(keep, Next::Paused(left));
+        self.state.enter(State::Playing(setup, play));
+        self.awaited.set(Awaited::Halt(keep, Next::Paused(left)));
         Ask::Halt(keep)
     }
 
@@ -274,12 +288,12 @@ impl<'a> Session<'a> {
         match mem::replace(&mut self.state, State::Init) {
             State::Playing(setup, mut play) => {
                 let keep = play.pacer.ask_halt();
-                self.state = State::Playing(setup, play);
-                self.awaited = Awaited::Halt(keep, Next::Torn);
+                self.state.enter(State::Playing(setup, play));
+                self.awaited.set(Awaited::Halt(keep, Next::Torn));
                 Ask::Halt(keep)
             }
             state => {
-                self.state = state;
+                self.state.enter(state);
                 self.tearing = true;
                 self.waits = true;
                 Ask::Reply
@@ -319,7 +333,7 @@ impl<'a> Session<'a> {
             return self.refuse(Some(sequence), Refusal::Memory, b"");
         }
         self.looks_left = looks_left;
-        self.awaited = Awaited::Look(sequence);
+        self.awaited.set(Awaited::Look(sequence));
         Ask::Look(self.heard)
     }
 
@@ -368,13 +382,10 @@ impl<'a> Session<'a> {
         ensures asks { AsksFor result self.new }
         ensures same { IsSameBusiness self.old self.new }
     {
-        let Ok(offers) = Offers::new(self.alloc, wait) else {
+        let Ok(offers) = offers_with_room(self.alloc, &mut self.log, wait) else {
             return self.refuse(Some(sequence), Refusal::Memory, b"");
         };
-        if self.log.reserve_offer().is_err() {
-            return self.refuse(Some(sequence), Refusal::Memory, b"");
-        }
-        self.awaited = Awaited::Offer(sequence);
+        self.awaited.set(Awaited::Offer(sequence));
         Ask::Offer(planned.plan, offers)
     }
 }
@@ -388,12 +399,38 @@ fn wait_of(request: &Request<'_>) -> Option<u64>
     read_wait(header(request, b"x-Wait")?)
 }
 
-/// The plan twice more.
-fn two_more(plan: &Plan) -> Result<(Plan, Plan), NoMemory>
+/// The plan of a play twice more, once there is room for what the play leaves for the report beside
+/// so many looks.
+fn plans_with_room(log: &mut Log, looks: usize, plan: &Plan) -> Result<(Plan, Plan), NoMemory>
+    requires { looks ≤ 1024 }
+    ensures lists { IsSameLists log.old log.new }
+    ensures room { OnOk result (looks + 2 ≤ log.new.receipt_room) }
+    ensures plays { OnOk result (1 ≤ log.new.play_room) }
+    ensures more { (log.old.receipt_room ≤ log.new.receipt_room)
+        × (log.old.play_room ≤ log.new.play_room) }
+    ensures others { log.new.offer_room ≡ log.old.offer_room }
     ensures own { IfOk result (λ both. both.0 ≡ plan.now) }
     ensures paced { IfOk result (λ both. both.1 ≡ plan.now) }
 {
+    log.reserve_for_play(looks)?;
     let own = plan.copy()?;
     let paced = plan.copy()?;
     Ok((own, paced))
+}
+
+/// The offers of a wait, once there is room for their note.
+fn offers_with_room(alloc: Global, log: &mut Log, wait: u64) -> Result<Offers, NoMemory>
+    requires { wait ≤ 255 }
+    ensures lists { IsSameLists log.old log.new }
+    ensures room { OnOk result (1 ≤ log.new.offer_room) }
+    ensures more { log.old.offer_room ≤ log.new.offer_room }
+    ensures others { (log.new.receipt_room ≡ log.old.receipt_room)
+        × (log.new.play_room ≡ log.old.play_room) }
+    ensures wait { IfOk result (λ offers. offers.wait ≡ wait) }
+    ensures start { IfOk result (λ offers. offers.start ≡ None) }
+    ensures tried { IfOk result (λ offers. offers.tried ≡ []) }
+{
+    let offers = Offers::new(alloc, wait)?;
+    log.reserve_offer()?;
+    Ok(offers)
 }

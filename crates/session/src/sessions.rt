@@ -8,7 +8,7 @@ ghost use Rattle.session.specs.Standings.{CanKeep, IsAtRest, IsDue, open_of};
 use crate::logs::{LOOKS, Log};
 use crate::notes::Notes;
 use crate::settings::Settings;
-use crate::states::{Awaited, Counts, Source, State, source_of};
+use crate::states::{Awaited, Counts, NOTHING_SENT, Source, State, source_of};
 use crate::texts::Text;
 use film_frames::Stored;
 use rtsp_fields::session_id;
@@ -102,9 +102,6 @@ impl<'a> Session<'a> {
         ensures offers { IfOk result (λ session. session.offers ≡ []) }
         ensures late { IfOk result (λ session. session.late ≡ 0) }
     {
-        let reply = Reply::new(alloc)?;
-        let body = Text::new(alloc)?;
-        let log = Log::new(alloc)?;
         Ok(Session {
             alloc,
             films,
@@ -112,13 +109,10 @@ impl<'a> Session<'a> {
             id: session_id(u64::from(words[0]) * (1 << 32) + u64::from(words[1])),
             source: source_of(&words),
             state: State::Init,
-            counts: Counts {
-                frames: 0,
-                octets: 0,
-            },
+            counts: NOTHING_SENT,
             awaited: Awaited::Nothing,
-            reply,
-            body,
+            reply: Reply::new(alloc)?,
+            body: Text::new(alloc)?,
             waits: false,
             tearing: false,
             torn: false,
@@ -126,7 +120,7 @@ impl<'a> Session<'a> {
             heard: 0,
             late: 0,
             looks_left: LOOKS,
-            log,
+            log: Log::new(alloc)?,
         })
     }
 

@@ -2,12 +2,13 @@
 
 ghost use Rattle.std.specs.Prelude.{◌<◌, ◌≤◌, ◌^◌, ℕ, IfOk, IfSome, MatchOption};
 ghost use Rattle.session.specs.Ranges.{AreSettings, IsSetup};
-ghost use Rattle.session.specs.Setups.{IsBuffer, IsDelay, IsSetupRead};
+ghost use Rattle.session.specs.Setups.{HasChannels, IsBuffer, IsDelay, IsSetupRead};
+ghost use Rattle.rtsp_fields.specs.declared.transports.Channels.{Channels};
 
 use crate::refusals::Refusal;
 use crate::settings::Settings;
 use crate::states::Setup;
-use rtsp_fields::{read_buffer, read_startup, read_transport};
+use rtsp_fields::{Channels, read_buffer, read_startup, read_transport};
 use rtsp_text::{Request, header};
 
 /// What a SETUP asks for: the transport first, then the client's buffer and the start delay.
@@ -20,14 +21,13 @@ pub(crate) fn read_setup(
     ensures read { IsSetupRead settings.now request.now.head.now film result }
     ensures ranges { (films : ℕ) → film < films → IfOk result (IsSetup films) }
 {
-    let Some(transport) = header(request, b"Transport") else {
+    let Some(channels) = channels_of(request) else {
         return Err(Refusal::Transport);
     };
-    let Some(channels) = read_transport(transport) else {
-        return Err(Refusal::Transport);
+    let Some(buffer) = buffer_of(request, settings) else {
+        return Err(Refusal::Parameter);
     };
-    let (Some(buffer), Some(delay)) = (buffer_of(request, settings), delay_of(request, settings))
-    else {
+    let Some(delay) = delay_of(request, settings) else {
         return Err(Refusal::Parameter);
     };
     Ok(Setup {
@@ -37,6 +37,14 @@ pub(crate) fn read_setup(
         buffer,
         delay,
     })
+}
+
+/// The channels of the first transport that can be taken.
+fn channels_of(request: &Request<'_>) -> Option<Channels>
+    ensures { MatchOption result ((channels : Channels) →
+        ¬ HasChannels request.now.head.now channels) (HasChannels request.now.head.now) }
+{
+    read_transport(header(request, b"Transport")?)
 }
 
 /// The client's buffer.

@@ -171,7 +171,6 @@ fn is_between(state: &State<'_>) -> bool
 
 /// Sends what is due in a slot, and the reply, if one waits, at the first boundary that is reached.
 /// It tells whether the reply was sent.
-#[tactic(auto, using(crate::proofs::Fronts::due_fronts))]
 fn send_due<K: Link>(
     state: &mut State<'_>,
     reply: &Reply,
@@ -210,7 +209,6 @@ fn send_due<K: Link>(
 }
 
 /// Sends the reply, and then what is due.
-#[tactic(auto, using(crate::proofs::Fronts::front_left, crate::proofs::Fronts::front_right))]
 fn send_both<K: Link>(
     state: &mut State<'_>,
     reply: &Reply,
@@ -255,10 +253,10 @@ fn done_bytes(state: &State<'_>) -> Option<u64>
 fn settle(state: &mut State<'_>)
     ensures { state.new ≡ after_stop state.old }
 {
-    *state = match mem::replace(state, State::Init) {
-        State::Stopping(setup, stop) => State::Ready(setup, stop.paused),
-        other => other,
-    };
+    if let State::Stopping(setup, stop) = &*state {
+        let ready = State::Ready(*setup, stop.paused);
+        state.enter(ready);
+    }
 }
 
 /// Asks for the halt of a play that is done.

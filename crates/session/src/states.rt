@@ -9,7 +9,7 @@ use pacer::Pacer;
 use plan_cert::Plan;
 
 /// What SETUP settled.
-#[derive(Clone, Copy, Debug, PartialEq, Eq)]
+#[derive(Clone, Copy)]
 pub(crate) struct Setup {
     /// The number of the film.
     pub(crate) film: usize,
@@ -24,7 +24,7 @@ pub(crate) struct Setup {
 }
 
 /// The frames that a session sent, and their octets, both modulo 2^32.
-#[derive(Clone, Copy, Debug, PartialEq, Eq)]
+#[derive(Clone, Copy)]
 pub(crate) struct Counts {
     /// The frames.
     pub(crate) frames: u32,
@@ -32,8 +32,14 @@ pub(crate) struct Counts {
     pub(crate) octets: u32,
 }
 
+/// Nothing was sent.
+pub(crate) const NOTHING_SENT: Counts = Counts {
+    frames: 0,
+    octets: 0,
+};
+
 /// What a connection's random words give its stream (RFC 3550 section 5.1).
-#[derive(Clone, Copy, Debug, PartialEq, Eq)]
+#[derive(Clone, Copy)]
 pub(crate) struct Source {
     /// The SSRC.
     pub(crate) ssrc: u32,
@@ -100,7 +106,7 @@ pub(crate) struct Prepared<'a> {
 }
 
 /// What a halt leads to.
-#[derive(Clone, Copy, Debug, PartialEq, Eq)]
+#[derive(Clone, Copy)]
 pub(crate) enum Next {
     /// The play is done.
     Done,
@@ -123,6 +129,24 @@ pub(crate) enum Awaited<'a> {
     Look(u64),
     /// An offer, for the request of that number.
     Offer(u64),
+}
+
+impl<'a> State<'a> {
+    /// Goes over to another state.
+    pub(crate) fn enter(&mut self, state: State<'a>)
+        ensures { self.new ≡ state.entry }
+    {
+        *self = state;
+    }
+}
+
+impl<'a> Awaited<'a> {
+    /// Awaits this from now on.
+    pub(crate) fn set(&mut self, awaited: Awaited<'a>)
+        ensures { self.new ≡ awaited.entry }
+    {
+        *self = awaited;
+    }
 }
 
 /// What a connection's words give its stream.

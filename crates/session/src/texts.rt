@@ -12,7 +12,7 @@ const ROOM: usize = 24_576;
 
 /// The text of a reply's body, in a buffer of 24,576 bytes that `new` takes. Contracts see the text
 /// so far.
-#[derive(Debug, Drop)]
+#[derive(Drop)]
 pub(crate) struct Text {
     bytes: Vec<u8>,
 }

@@ -66,22 +66,22 @@ invariant_of-self-2 c =
       own = c.in-Ok.ensures.own;
       paced = c.in-Ok.ensures.paced;
     } in
-    record {
+    rw c.set.ensures (record {
       films = c.self.invariant.films;
       settings = c.self.invariant.settings;
       id = c.self.invariant.id;
       state = c.self.invariant.state;
       awaited = prepared_in films inside.state ready c.stored_at-stored.ensures.film prepared;
       stop = c.self.invariant.stop;
-      receipt_room = omega (arith, c.in-Ok-reserve_for_play.ensures.room);
-      play_room = omega (arith, c.in-Ok-reserve_for_play.ensures.plays);
+      receipt_room = omega (arith, c.in-Ok.ensures.room);
+      play_room = omega (arith, c.in-Ok.ensures.plays);
       offer_room = omega arith;
       looks = c.self.invariant.looks;
       torn = c.self.invariant.torn;
       late = c.self.invariant.late;
       heard = c.self.invariant.heard;
       front = λ asks. c.put_play.ensures.short;
-    }
+    })
 
 pub returns-clause-exact : goal.returns-clause-exact
 returns-clause-exact c =
@@ -127,9 +127,9 @@ returns-clause-exact c =
     let front = play_front old stored setup planned sequence authority in
     let own = c.in-Ok.own in
     let paced = c.in-Ok.paced in
-    let log = c.reserve_for_play.new.self in
-    let lists = c.reserve_for_play.ensures.lists in
-    subst (λ (s : Standing). AsksPlayOr s sequence authority setup (Ok planned) (AskPlay plan)
+    let log = c.plans_with_room.new.log in
+    let lists = c.plans_with_room.ensures.lists in
+    rw c.set.ensures (subst (λ (s : Standing). AsksPlayOr s sequence authority setup (Ok planned) (AskPlay plan)
     (new c.frames_of-frames.result own paced c.put_play.new.reply log.receipts log.plays log.offers)) c.self.view_is
     (inl (record {
       stored = stored;
@@ -143,4 +143,4 @@ returns-clause-exact c =
           ∙ ap (λ (r : List Receipt). new sending plan plan front r log.plays log.offers) lists.receipts
           ∙ ap (λ (p : List PlayNote). new sending plan plan front inside.log.receipts p log.offers) lists.plays
           ∙ ap (λ (o : List OfferNote). new sending plan plan front inside.log.receipts inside.log.plays o) lists.offers;
-    }))
+    })))

@@ -1,4 +1,4 @@
-use Rattle.std.proofs.Common.{◌≡◌, ◌-◌, refl, sym, ap, subst, ◌∙◌, rules, arith}
+use Rattle.std.proofs.Common.{◌≡◌, ◌-◌, refl, sym, ap, subst, ◌∙◌, arith}
 use Rattle.film_frames.specs.Runs.{run_pieces}
 use Rattle.pacer.specs.Pacings.{IsPacing, whole_pacing}
 use Rattle.session.specs.Inside.{IsAwaitedKept, IsPreparedIn, IsStateKept, awaited_offers, awaited_plays, awaited_receipts, open_receipts}
@@ -30,11 +30,9 @@ invariant_of-self c =
       place = c.args.place;
       start = c.args.start;
       plan = prepared.plan;
-      pacer = c.new-pacer.result;
+      pacer = whole_pacing (run_pieces prepared.frames) prepared.run.sent prepared.paced c.args.start;
     } in
-    let pacer : play.pacer ≡ whole_pacing (run_pieces prepared.frames) prepared.run.sent prepared.paced c.args.start =
-    c.new-pacer.ensures in
-    let pacing : IsPacing play.pacer = search rules in
+    let pacing : IsPacing play.pacer = subst (λ (p : Played). IsPacing p.pacer) c.play_of-play.ensures.play c.play_of-play.ensures.pacing in
     let none : c.replace.new.dest ≡ Nothing = c.replace.ensures.after in
     let receipts : awaited_receipts c.replace.new.dest ≡ 0 = ap awaited_receipts none in
     let plays : awaited_plays c.replace.new.dest ≡ 0 = ap awaited_plays none in
@@ -44,15 +42,15 @@ invariant_of-self c =
     let one : awaited_plays inside.awaited ≡ 1 = ap awaited_plays awaited in
     let receipt_room : c.note.new.self.receipt_room ≡ inside.log.receipt_room - 1 = ap (λ (l : Logged). l.receipt_room) c.note.ensures in
     let play_room : c.note.new.self.play_room ≡ inside.log.play_room = ap (λ (l : Logged). l.play_room) c.note.ensures in
-    record {
+    rw (c.enter.ensures, c.play_of-play.ensures.play) (record {
       films = c.self.invariant.films;
       settings = c.self.invariant.settings;
       id = c.self.invariant.id;
       state = admitted_state films c.in-Ready.field-1 ready.0 kept
-          (record { pacing = pacing; run = refl; plan = refl; pacer = pacer });
+          (record { pacing = pacing; run = refl; plan = refl; pacer = refl });
       awaited = subst (λ (a : Awaited). IsAwaitedKept films inside.source inside.settings prepared.counts inside.lost
           (Playing setup play) a) (sym none)
-          (admitted_going setup (run_pieces prepared.frames) prepared.run.sent c.args.start pacer kept.0.paced);
+          (admitted_going setup (run_pieces prepared.frames) prepared.run.sent c.args.start refl kept.0.paced);
       stop = tt;
       receipt_room = omega (arith, c.self.invariant.receipt_room);
       play_room = omega (arith, c.self.invariant.play_room);
@@ -62,4 +60,4 @@ invariant_of-self c =
       late = c.self.invariant.late;
       heard = c.self.invariant.heard;
       front = λ asks. absurd (omega (arith, asks));
-    }
+    })

@@ -52,7 +52,7 @@ invariant_of-self c =
     let offers : awaited_offers c.replace-asked.new.dest ≡ 0 = ap awaited_offers none in
     let room : c.note_play.new.self.receipt_room ≡ inside.log.receipt_room - 1 =
     ap (λ (l : Logged). l.receipt_room) c.note_play.ensures ∙ ap (λ (l : Logged). l.receipt_room) c.note.ensures in
-    record {
+    rw c.enter.ensures (record {
       films = c.self.invariant.films;
       settings = c.self.invariant.settings;
       id = c.self.invariant.id;
@@ -75,4 +75,4 @@ invariant_of-self c =
       late = c.self.invariant.late;
       heard = c.self.invariant.heard;
       front = λ asks. absurd (omega (arith, asks));
-    }
+    })

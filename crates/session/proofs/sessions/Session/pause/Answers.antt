@@ -50,7 +50,7 @@ invariant_of-self c =
       run_is = c.run_after-left.ensures.run;
       fits = c.run_after-left.ensures.fits;
     }) in
-    halt_asked hand (record {
+    rw (c.enter.ensures, c.set.ensures) (halt_asked hand (record {
       pacer = c.ask_halt-keep.new.self;
       keep = c.ask_halt-keep.result;
       next = Paused left;
@@ -59,7 +59,7 @@ invariant_of-self c =
       pacer_is = c.ask_halt-keep.ensures.state;
       most = c.ask_halt-keep.ensures.most;
       left = of_film inside.films.now setup.film stored (λ s. IsRunOf s inside.source setup inside.counts left) c.stored_at-stored.ensures.film runs;
-    })
+    }))
 
 pub returns-clause-exact : goal.returns-clause-exact
 returns-clause-exact c =
@@ -80,7 +80,7 @@ returns-clause-exact c =
     let value : keep ≡ next_boundary play.pacer = c.ask_halt-keep.ensures.value in
     let pacer : c.ask_halt-keep.new.self ≡ record play.pacer { keep = keep } =
     c.ask_halt-keep.ensures.state ∙ ap (λ (n : ℕ). record play.pacer { keep = n }) (sym value) in
-    subst (λ (old : Standing). Pauses old.state old c.args.sequence (AskHalt keep) (new c.ask_halt-keep.new.self c.put_session.new.reply))
+    rw (c.enter.ensures, c.set.ensures) (subst (λ (old : Standing). Pauses old.state old c.args.sequence (AskHalt keep) (new c.ask_halt-keep.new.self c.put_session.new.reply))
     c.self.view_is
     (subst (λ (s : State). Pauses s (standing_of inside) c.args.sequence (AskHalt keep)
     (new c.ask_halt-keep.new.self c.put_session.new.reply)) (sym state)
@@ -100,4 +100,4 @@ returns-clause-exact c =
         state = ap (λ (p : Pacing). new p c.put_session.new.reply) pacer
             ∙ ap (λ (text : List ℕ). new (record play.pacer { keep = keep }) text) c.put_session.ensures;
       };
-    }))
+    })))

@@ -2,6 +2,7 @@ use Rattle.std.proofs.Common.{ℕ, List, None, Ok, ap, subst, ◌∙◌}
 use Rattle.session.specs.Inside.{standing_of}
 use Rattle.session.specs.Methods.{SetsUp}
 use Rattle.session.specs.Standings.{Standing, with_reply}
+use Rattle.session.specs.declared.states.State.{State}
 use Rattle.session.specs.declared.states.State.TheVariants.{Ready}
 use Rattle.session.proofs.sessions.Session.set_up.Goals as goal
 
@@ -14,6 +15,7 @@ returns-in-Ok-clause-exact c =
       done = (
         c.reply_waits.ensures.asks,
         c.reply_waits.ensures.waits
+            ∙ ap (λ (s : State). record (with_reply (standing_of c.self.inside) c.put_setup.new.reply) { state = s }) c.enter.ensures
             ∙ ap (λ (t : List ℕ). record (with_reply (standing_of c.self.inside) t) { state = Ready c.in-Ok.setup None }) c.put_setup.ensures,
       );
     })

@@ -13,7 +13,7 @@ invariant_of-self c =
       state = sym c.in-Playing.ensures.value;
       hear = subst CanHear (sym c.self.view_is) c.requires.hear;
     } in
-    halt_asked hand (record {
+    rw (c.enter.ensures, c.set.ensures) (halt_asked hand (record {
       pacer = c.ask_halt-keep.new.self;
       keep = c.ask_halt-keep.result;
       next = Torn;
@@ -22,4 +22,4 @@ invariant_of-self c =
       pacer_is = c.ask_halt-keep.ensures.state;
       most = c.ask_halt-keep.ensures.most;
       left = tt;
-    })
+    }))

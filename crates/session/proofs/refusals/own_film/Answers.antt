@@ -1,0 +1,15 @@
+use Rattle.std.proofs.Common.{◌≡◌, ℕ, true, subst}
+use Rattle.session.specs.Judging.{FitsFilm}
+use Rattle.session.proofs.refusals.own_film.Goals as goal
+
+pub returns-in_err-asked-clause-film : goal.returns-in_err-asked-clause-film
+returns-in_err-asked-clause-film c =
+    rw c.from_residual.ensures (λ has. c.in_err-asked.ensures.asked has.0 has.1.0 has.1.1.named)
+
+pub returns-else-is_own-clause-film : goal.returns-else-is_own-clause-film
+returns-else-is_own-clause-film c = λ has.
+    let same : has.1.0 ≡ c.in_ok-asked.asked.film = c.in_ok-asked.ensures.one has.0 has.1.0 has.1.1.named in
+    let fits : FitsFilm c.args.method c.args.place c.in_ok-asked.asked.film =
+    subst (λ (film : ℕ). FitsFilm c.args.method c.args.place film) same has.1.1.own in
+    let yes : c.is_own.result ≡ true = c.is_own.ensures.1 fits in
+    cc
