@@ -1,5 +1,5 @@
 -- What a halt leaves.
-use Rattle.std.proofs.Common.{◌≡◌, ℕ, Bool, true, false, ◌||◌, if◌then◌else◌, List, refl}
+use Rattle.std.proofs.Common.{◌≡◌, ℕ, Bool, true, false, ◌||◌, if◌then◌else◌, List, refl, subst}
 use Rattle.film_frames.specs.declared.stores.Stored.{Stored}
 use Rattle.session.specs.declared.settings.Settings.{Settings}
 use Rattle.session.specs.declared.states.Awaited.TheVariants.{Nothing}
@@ -11,8 +11,12 @@ use Rattle.session.specs.declared.states.Setup.{Setup}
 use Rattle.session.specs.declared.states.Source.{Source}
 use Rattle.session.specs.declared.states.State.TheVariants.{Playing}
 use Rattle.session.specs.Hearings.{counts_next, is_answered, is_torn}
-use Rattle.session.specs.Inside.{IsAwaitedKept, IsNextIn, IsStateKept, IsStopAnswered, open_receipts}
+use Rattle.session.specs.Inside.{IsAwaitedKept, IsGoing, IsKept, IsNextIn, IsStateKept, IsStopAnswered, open_receipts, standing_of}
+use Rattle.session.specs.Standings.{CanHear}
+use Rattle.session.specs.declared.sessions.Session.TheInside.{Inside}
+use Rattle.session.specs.declared.states.Awaited.{Awaited}
 use Rattle.session.specs.Sendings.{state_after}
+use Rattle.session.proofs.Carries.{nothing_of}
 use Rattle.session.proofs.Grounds.{Ground}
 
 -- how the state is kept that a halt leaves
@@ -53,3 +57,9 @@ or_if true true = refl
 or_if true false = refl
 or_if false true = refl
 or_if false false = refl
+
+-- a session that hears a request stands between halts
+pub going_in : {inside : Inside} → IsKept inside → CanHear (standing_of inside) → IsGoing false inside.state
+going_in {inside} kept hear = subst (λ (lost : Bool). IsGoing lost inside.state) hear.lost
+    (subst (λ (a : Awaited). IsAwaitedKept inside.films.now inside.source inside.settings inside.counts inside.lost inside.state a)
+    (nothing_of inside.awaited hear.rest) kept.awaited)

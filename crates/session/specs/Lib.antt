@@ -13,6 +13,7 @@ pub mod Sendings
 pub mod Planning
 pub mod Inside
 pub mod Methods
+pub mod Halting
 pub mod Hearings
 pub mod Laws
 pub mod Changes

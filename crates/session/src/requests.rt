@@ -1,7 +1,7 @@
 //! Requests, method by method.
 
 ghost use Rattle.std.specs.Prelude.{◌≡◌, ◌<◌, ◌≤◌, ℕ, true, false, length, is_some, IfOk, IfSome};
-ghost use Rattle.std.specs.Prelude.{MatchOption, OnOk, Ok, None, [], ◌+◌};
+ghost use Rattle.std.specs.Prelude.{MatchOption, IfNone, OnOk, Ok, None, [], ◌+◌};
 ghost use Rattle.interleave.specs.Pieces.{IsRequestLength};
 ghost use Rattle.rtsp_text.specs.Lines.{is_one_line};
 ghost use Rattle.session.specs.declared.asks.Ask.{Ask};
@@ -19,6 +19,8 @@ ghost use Rattle.session.specs.Tasks.{IsTask};
 ghost use Rattle.session.specs.Replies.{refusal_text};
 ghost use Rattle.session.specs.Standings.{AsksFor, CanHear, IsAtRest, IsReadyIn, IsSameBusiness};
 ghost use Rattle.session.specs.Standings.{has_session_in, is_playing_in, with_reply};
+ghost use Rattle.session.specs.Inside.{IsGoing};
+ghost use Rattle.session.specs.Halting.{IsHalted};
 
 use crate::asks::Ask;
 use crate::films::{frames_of, length_ms, stored_at};
@@ -285,20 +287,13 @@ impl<'a> Session<'a> {
         ensures same { IsSameBusiness self.old self.new }
     {
         put_session(&mut self.reply, sequence, &self.id);
-        match mem::replace(&mut self.state, State::Init) {
-            State::Playing(setup, mut play) => {
-                let keep = play.pacer.ask_halt();
-                self.state.enter(State::Playing(setup, play));
-                self.awaited.set(Awaited::Halt(keep, Next::Torn));
-                Ask::Halt(keep)
-            }
-            state => {
-                self.state.enter(state);
-                self.tearing = true;
-                self.waits = true;
-                Ask::Reply
-            }
-        }
+        let Some(keep) = ask_halt(&mut self.state) else {
+            self.tearing = true;
+            self.waits = true;
+            return Ask::Reply;
+        };
+        self.awaited.set(Awaited::Halt(keep, Next::Torn));
+        Ask::Halt(keep)
     }
 
     /// GET_PARAMETER (RFC 2326 section 10.8).
@@ -387,6 +382,20 @@ impl<'a> Session<'a> {
         };
         self.awaited.set(Awaited::Offer(sequence));
         Ask::Offer(planned.plan, offers)
+    }
+}
+
+/// Asks for the halt of the play that is sent, if one is, at the end of the piece in hand, and tells
+/// how many bytes it keeps.
+fn ask_halt(state: &mut State<'_>) -> Option<u64>
+    requires { IsGoing false state.old }
+    ensures halted { IfSome result (IsHalted state.old state.new) }
+    ensures none { IfNone result (is_playing_in state.old ≡ false) }
+    ensures left { IfNone result (state.new ≡ state.old) }
+{
+    match state {
+        State::Playing(_, play) => Some(play.pacer.ask_halt()),
+        _ => None,
     }
 }
 

@@ -1,25 +1,62 @@
-use Rattle.std.proofs.Common.{sym, subst}
-use Rattle.session.specs.Standings.{CanHear}
+use Rattle.std.proofs.Common.{◌≡◌, ℕ, List, refl, sym, ap, subst, ◌∙◌}
+use Rattle.pacer.specs.Pacings.{Pacing}
+use Rattle.session.specs.Inside.{standing_of}
+use Rattle.session.specs.Methods.{TearsDown}
+use Rattle.session.specs.Standings.{CanHear, Standing}
+use Rattle.session.specs.declared.asks.Ask.TheVariants.{Halt as AskHalt}
+use Rattle.session.specs.declared.states.Awaited.TheVariants.{Halt}
 use Rattle.session.specs.declared.states.Next.TheVariants.{Torn}
+use Rattle.session.specs.declared.states.State.{State}
+use Rattle.session.specs.declared.states.State.TheVariants.{Playing}
 use Rattle.session.proofs.Askings.{HeardInPlay, halt_asked}
+use Rattle.session.proofs.Halts.{going_in}
 use Rattle.session.proofs.sessions.Session.tear_down.Goals as goal
 
-pub invariant_of-self : goal.invariant_of-self
-invariant_of-self c =
+pub ask_halt-requires : goal.ask_halt-requires
+ask_halt-requires c = going_in c.self.invariant (subst CanHear (sym c.self.view_is) c.requires.hear)
+
+pub invariant_of-self-2 : goal.invariant_of-self-2
+invariant_of-self-2 c =
+    let halted = c.in-Some.ensures.halted in
     let hand : HeardInPlay c.self.inside = record {
-      setup = c.in-Playing.setup;
-      play = c.in-Playing.play;
+      setup = halted.setup;
+      play = halted.play;
       kept = c.self.invariant;
-      state = sym c.in-Playing.ensures.value;
+      state = halted.old_is;
       hear = subst CanHear (sym c.self.view_is) c.requires.hear;
     } in
-    rw (c.enter.ensures, c.set.ensures) (halt_asked hand (record {
-      pacer = c.ask_halt-keep.new.self;
-      keep = c.ask_halt-keep.result;
+    rw (halted.new_is, c.set.ensures) (halt_asked hand (record {
+      pacer = halted.pacer;
+      keep = c.in-Some.keep;
       next = Torn;
       reply = c.put_session.new.reply;
-      pacing = c.ask_halt-keep.ensures.pacing;
-      pacer_is = c.ask_halt-keep.ensures.state;
-      most = c.ask_halt-keep.ensures.most;
+      pacing = halted.pacing;
+      pacer_is = halted.pacer_is;
+      most = halted.most;
       left = tt;
     }))
+
+pub returns-clause-exact : goal.returns-clause-exact
+returns-clause-exact c =
+    let inside = c.self.inside in
+    let halted = c.in-Some.ensures.halted in
+    let keep = c.in-Some.keep in
+    let new : Pacing → List ℕ → Standing = λ p text. record (standing_of inside) {
+      state = Playing halted.setup (record halted.play { pacer = p });
+      awaited = Halt keep Torn;
+      text = text;
+    } in
+    let pacer : halted.pacer ≡ record halted.play.pacer { keep = keep } =
+    halted.pacer_is ∙ ap (λ (n : ℕ). record halted.play.pacer { keep = n }) (sym halted.keep_is) in
+    rw (halted.new_is, c.set.ensures)
+    (subst (λ (old : Standing). TearsDown old.state old c.args.sequence (AskHalt keep) (new halted.pacer c.put_session.new.reply))
+    c.self.view_is
+    (subst (λ (s : State). TearsDown s (standing_of inside) c.args.sequence (AskHalt keep) (new halted.pacer c.put_session.new.reply))
+    (sym halted.old_is)
+    (record {
+      keep = keep;
+      keep_is = halted.keep_is;
+      command = refl;
+      state = ap (λ (p : Pacing). new p c.put_session.new.reply) pacer
+          ∙ ap (λ (text : List ℕ). new (record halted.play.pacer { keep = keep }) text) c.put_session.ensures;
+    })))
