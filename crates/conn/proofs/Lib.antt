@@ -1,3 +1,4 @@
+pub mod Admitting
 pub mod Agreeing
 pub mod Answering
 pub mod Beginning

@@ -433,3 +433,7 @@ lost_reply {a} {asked} {n} in_front heard can is told =
       sent = told.1.1;
       noted = heard.noted;
     }
+
+-- where a connection stands, by its session and what waits
+pub stage_is : {session is : Standing} {input waits : List ℕ} → session ≡ is → input ≡ waits → stage session input ≡ stage is waits
+stage_is {is} {input} session_is input_is = ap (λ s. stage s input) session_is ∙ ap (stage is) input_is

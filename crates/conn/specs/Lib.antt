@@ -9,6 +9,7 @@ pub mod Turns
 pub mod Words
 pub mod Plays
 pub mod Promises
+pub mod Refusals
 pub mod Admissions
 pub mod Journals
 pub mod Endings

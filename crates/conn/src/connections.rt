@@ -1,14 +1,15 @@
 //! A connection as it goes on: its input, its session, and the booking that is open for it.
 
 ghost use Rattle.std.specs.Prelude.{◌≡◌, ◌<◌, ◌≤◌, Ok, false, None, [], drop, take};
-ghost use Rattle.std.specs.Prelude.{length as list_length, IfOk, OnOk, OnErr};
+ghost use Rattle.std.specs.Prelude.{length as list_length, IfOk, IsSome, OnOk, OnErr, Some};
 ghost use Rattle.vod_base.specs.Links.{IsWithin, doing_of};
 ghost use Rattle.interleave.specs.Pieces.{IsFirst, IsRequestLength};
-ghost use Rattle.interleave.specs.declared.pieces.Step.TheVariants.{More};
+ghost use Rattle.interleave.specs.declared.pieces.Step.TheVariants.{More, Request};
 ghost use Rattle.session.specs.Standings.{AreFilms, AreSettings, CanKeep, IsAtRest, IsHalt};
-ghost use Rattle.session.specs.Standings.{PlayAnswer, LookAnswer, OfferAnswer};
+ghost use Rattle.session.specs.Standings.{IsHandedIn, IsPlay, PlayAnswer, LookAnswer, OfferAnswer};
 ghost use Rattle.session.specs.Standings.{awaited_answer, open_of};
 ghost use Rattle.conn.specs.Keeping.{IsHeld, IsQuiet, KeepsBusiness};
+ghost use Rattle.conn.specs.Refusals.{after_refusal, refusal_receipt};
 ghost use Rattle.conn.specs.Sights.{HasAnswered, HasAsked, HasBroken, HasComeTo};
 ghost use Rattle.conn.specs.Sights.{HasPassed, HasTakenUp, TakesNext, sight};
 ghost use Rattle.session.specs.declared.asks.Ask.{Ask};
@@ -210,16 +211,41 @@ impl<'a> Connection<'a> {
                 self.input.drop_front(count);
                 Taken::Gone
             }
-            Ok(Step::Request(length)) => {
-                if self.session.waits() {
-                    return Taken::Waits;
-                }
-                self.take_request(rt, station, seat, length);
-                if self.session.reply(link).is_err() {
-                    return Taken::End(ConnEnd::LinkFault);
-                }
-                Taken::Gone
-            }
+            Ok(Step::Request(length)) => self.take_whole(rt, station, seat, link, length),
+        }
+    }
+
+    /// Takes up the request in front, which has this length, unless a reply waits, and sends the
+    /// reply where it can go out.
+    #[tactic(auto, using(crate::proofs::Steps::count_steps))]
+    fn take_whole<R: Wait, K: Link>(
+        &mut self,
+        rt: &R,
+        station: &Station,
+        seat: &mut Seat,
+        link: &mut K,
+        length: usize,
+    ) -> Taken
+        requires seat { seat.old.id ≡ station.now.id }
+        requires quiet { IsQuiet seat.old.mine self.old }
+        requires torn { self.old.session.torn ≡ false }
+        requires lost { self.old.session.lost ≡ false }
+        requires first { IsFirst self.old.input (Ok (Request length)) }
+        ensures kept { KeepsBusiness seat.old seat.new self.old self.new }
+        ensures takes { TakesNext result
+            (sight self.old (K.told link.old) seat.old)
+            (sight self.new (K.told link.new) seat.new) }
+        ensures cut { CutsOn self.old.input self.new.input }
+        ensures taken { IsTaken result (list_length self.old.input) self.new }
+        ensures counted { HasCounted (end_in result) (K.faults link.old) (K.faults link.new) }
+    {
+        if self.session.waits() {
+            return Taken::Waits;
+        }
+        self.take_request(rt, station, seat, length);
+        match self.session.reply(link) {
+            Ok(()) => Taken::Gone,
+            Err(_) => Taken::End(ConnEnd::LinkFault),
         }
     }
 
@@ -265,22 +291,9 @@ impl<'a> Connection<'a> {
         match station.play(rt, seat, self.session.heard_slot(), plan) {
             Ok(booking) => {
                 self.session.hear_admission(booking.number, booking.start);
-                match mem::replace(&mut self.booking, Some(booking)) {
-                    None => {}
-                    Some(_) => unreachable!(),
-                }
+                hold(&mut self.booking, booking);
             }
-            Err(
-                PlayRefused::Overflow {
-                    place,
-                    slot,
-                    booked,
-                    asked,
-                },
-            ) => self.session.hear_overflow(place, slot, booked, asked),
-            Err(PlayRefused::JournalFull { entries, live, .. }) => {
-                self.session.hear_full(entries, live);
-            }
+            Err(refused) => hear_refusal(&mut self.session, refused),
         }
     }
 
@@ -299,9 +312,7 @@ impl<'a> Connection<'a> {
         ensures lost { self.new.session.lost ≡ self.old.session.lost }
     {
         seat.holds();
-        let Some(booking) = mem::replace(&mut self.booking, None) else {
-            unreachable!()
-        };
+        let booking = release(&mut self.booking);
         let place = station.halt(rt, seat, booking, keep);
         self.session.hear_halt(place);
     }
@@ -419,5 +430,47 @@ fn end_of(fault: DemuxFault) -> ConnEnd
     match fault {
         DemuxFault::HeadTooLong => ConnEnd::HeadTooLong,
         DemuxFault::BodyTooLong => ConnEnd::BodyTooLong,
+    }
+}
+
+/// Tells a session why the play was refused for which it asked.
+fn hear_refusal(session: &mut Session<'_>, refused: PlayRefused)
+    requires asked { IsPlay (awaited_answer session.old) }
+    requires closed { open_of session.old ≡ None }
+    ensures exact { session.new ≡ after_refusal session.old refused }
+    ensures handed { IsHandedIn session.old (refusal_receipt refused) session.new }
+    ensures open { open_of session.new ≡ None }
+{
+    match refused {
+        PlayRefused::JournalFull { entries, live, .. } => session.hear_full(entries, live),
+        PlayRefused::Overflow {
+            place,
+            slot,
+            booked,
+            asked,
+        } => session.hear_overflow(place, slot, booked, asked),
+    }
+}
+
+/// Holds a booking, where none is held.
+fn hold(held: &mut Option<Booking>, booking: Booking)
+    requires { held.old ≡ None }
+    ensures { held.new ≡ Some booking }
+{
+    match mem::replace(held, Some(booking)) {
+        None => {}
+        Some(_) => unreachable!(),
+    }
+}
+
+/// Gives up the booking that is held.
+fn release(held: &mut Option<Booking>) -> Booking
+    requires { IsSome held.old }
+    ensures booking { held.old ≡ Some result }
+    ensures none { held.new ≡ None }
+{
+    match mem::replace(held, None) {
+        Some(booking) => booking,
+        None => unreachable!(),
     }
 }

@@ -1,20 +1,25 @@
 use Rattle.std.proofs.Common.{rules}
 use Rattle.conn.specs.Keeping.{business}
+use Rattle.conn.proofs.Admitting.{held_some}
 use Rattle.conn.proofs.Outcomes.{halted_entry}
 use Rattle.conn.proofs.Going.{gone_halt}
 use Rattle.conn.proofs.connections.Connection.halt.Goals as goal
 
+pub release-booking-requires : goal.release-booking-requires
+release-booking-requires g c =
+    held_some c.args.seat.now.mine c.args.self.now.booking _ c.requires.held c.requires.keep
+
 pub returns-clause-kept : goal.returns-clause-kept
 returns-clause-kept g c = record {
-  seat = search rules;
+  seat = c.halt-place.ensures.same;
   quiet = search rules;
   gone =
       gone_halt {old = business c.args.seat.now.mine c.args.self.now}
       {new = business c.halt-place.new.seat.mine (record {
         session = c.hear_halt.new.self;
         input = c.args.self.now.input;
-        booking = c.replace.new.dest;
-      })} {made = c.in-Some.booking} (search rules) (search rules)
+        booking = c.release-booking.new.held;
+      })} {made = c.release-booking.result} c.release-booking.ensures.booking c.release-booking.ensures.none
       (record { mine = c.halt-place.ensures.made.mine; receipts = c.hear_halt.ensures.handed.receipts });
 }
 

@@ -1,0 +1,52 @@
+use Rattle.std.proofs.Common.{◌≡◌, ap, inl, inr, refl, rules, sym, ◌∙◌}
+use Rattle.interleave.specs.declared.pieces.Step.TheVariants.{Request}
+use Rattle.conn.specs.Sights.{sight}
+use Rattle.conn.specs.Turns.{after_reply, stage}
+use Rattle.conn.proofs.Cutting.{cuts_drop, fewer}
+use Rattle.conn.proofs.Sighting.{lost_reply, stage_is, taken_reply}
+use Rattle.conn.proofs.Taking.{some_request}
+use Rattle.conn.proofs.connections.Connection.take_whole.Goals as goal
+
+pub returns-in-Ok-clause-cut : goal.returns-in-Ok-clause-cut
+returns-in-Ok-clause-cut g c =
+    cuts_drop (Request c.args.length) c.requires.first refl c.take_request.ensures.input
+
+pub returns-in-Err-clause-cut : goal.returns-in-Err-clause-cut
+returns-in-Err-clause-cut g c =
+    cuts_drop (Request c.args.length) c.requires.first refl c.take_request.ensures.input
+
+pub returns-then-waits-clause-taken : goal.returns-then-waits-clause-taken
+returns-then-waits-clause-taken g c =
+    (c.requires.torn, c.requires.lost, inr (c.args.length, (c.requires.first, search rules)))
+
+pub returns-then-waits-clause-takes : goal.returns-then-waits-clause-takes
+returns-then-waits-clause-takes g c =
+    (refl, record { torn = c.requires.torn; waits = inr (c.args.length, (c.requires.first, search rules)) })
+
+pub returns-in-Ok-clause-taken : goal.returns-in-Ok-clause-taken
+returns-in-Ok-clause-taken g c = (
+  c.in-Ok.ensures.kept ∙ c.take_request.ensures.lost ∙ c.requires.lost,
+  fewer c.args.self.now.input c.take_request.new.self.input c.args.length
+      (some_request c.args.self.now.input c.args.length c.requires.first.1) c.requires.first.2 c.take_request.ensures.input,
+)
+
+pub returns-in-Ok-clause-takes : goal.returns-in-Ok-clause-takes
+returns-in-Ok-clause-takes g c =
+    taken_reply {a = sight c.args.self.now (g.K.Link.told c.args.link.now) c.args.seat.now} {b = sight (record { session = c.reply.new.self; input = c.take_request.new.self.input; booking = c.take_request.new.self.booking })
+    (g.K.Link.told c.reply.new.link) c.take_request.new.seat} {asked = c.take_request.new.self.session} {n = c.args.length}
+    c.requires.first (search rules) c.requires.torn c.take_request.ensures.heard
+    (stage_is c.in-Ok.ensures.exact c.take_request.ensures.input) c.in-Ok.ensures.told
+
+pub returns-in-Err-clause-takes : goal.returns-in-Err-clause-takes
+returns-in-Err-clause-takes g c =
+    inl (
+      refl,
+      lost_reply {a = sight c.args.self.now (g.K.Link.told c.args.link.now) c.args.seat.now} {b = sight (record { session = c.reply.new.self; input = c.take_request.new.self.input; booking = c.take_request.new.self.booking })
+          (g.K.Link.told c.reply.new.link) c.take_request.new.seat} {asked = c.take_request.new.self.session}
+          {n = c.args.length} (record {
+            first = c.requires.first;
+            replied = search rules;
+            torn = c.requires.torn;
+          }) c.take_request.ensures.heard c.in-Err.ensures.can
+          (stage_is c.in-Err.ensures.failed c.take_request.ensures.input) c.in-Err.ensures.front,
+    )
