@@ -26,11 +26,11 @@ use Rattle.conn.proofs.Going.{gone_full, gone_overflow, gone_play, held_none}
 use Rattle.conn.proofs.Outcomes.{answered_entry, answered_full}
 
 -- a booking that can keep some bytes is held
-pub held_some : {keep : ℕ} (mine : List Placed) (booking : Option Booking) (play : Option Open) →
+pub held_some : (mine : List Placed) (booking : Option Booking) (play : Option Open) (keep : ℕ) →
     IsHeld mine booking play → CanKeep play keep → IsSome booking
-held_some mine None None held can = absurd can
-held_some mine None (Some play) held can = absurd held
-held_some mine (Some booking) play held can = refl
+held_some mine None None keep held can = absurd can
+held_some mine None (Some play) keep held can = absurd held
+held_some mine (Some booking) play keep held can = refl
 
 -- none is held, and none is open
 held_closed : {booking : Option Booking} {play : Option Open} (mine : List Placed) → booking ≡ None → play ≡ None →
@@ -53,30 +53,30 @@ pub record HasToldRefusal (refused : PlayRefused) (before after : Connection) : 
   pub closed : open_of after.session ≡ None
   pub booking : after.booking ≡ before.booking
 
-gone_refused : {heard : ℕ} {plan : List Segment} {seat next : Sitting} {before after : Connection} (refused : PlayRefused) →
+gone_refused : {before after : Connection} (seat next : Sitting) (heard : ℕ) (plan : List Segment) (refused : PlayRefused) →
     IsRefused seat next heard plan refused → before.booking ≡ None → HasToldRefusal refused before after →
     HasGone (business seat.mine before) (business next.mine after)
-gone_refused (JournalFull asked entries live) is none told =
+gone_refused seat next heard plan (JournalFull asked entries live) is none told =
     gone_full entries live is.1.mine told.booking told.handed.receipts
-gone_refused (Overflow place slot booked bytes) is none told =
+gone_refused seat next heard plan (Overflow place slot booked bytes) is none told =
     gone_overflow none told.booking (record { mine = is.mine; receipts = told.handed.receipts })
 
-pub kept_refused : {heard : ℕ} {plan : List Segment} {seat next : Sitting} {before after : Connection} {refused : PlayRefused} →
+pub kept_refused : {seat next : Sitting} {before after : Connection} {refused : PlayRefused} (heard : ℕ) (plan : List Segment) →
     IsAsking seat next before → IsRefused seat next heard plan refused → HasToldRefusal refused before after →
     KeepsBusiness seat next before after
-kept_refused {seat} {next} {before} {refused} asking is told =
+kept_refused {seat} {next} {before} {refused} heard plan asking is told =
     let none = held_none seat.mine before.booking (open_of before.session) asking.closed asking.held in
     record {
       seat = asking.same;
       quiet = record { rest = told.handed.at_rest; held = held_closed next.mine (told.booking ∙ none) told.closed };
-      gone = gone_refused refused is none told;
+      gone = gone_refused seat next heard plan refused is none told;
     }
 
-pub answered_refused : {plan : List Segment} {seat next : Sitting} {before : Connection} {after : Standing} (refused : PlayRefused) →
+pub answered_refused : {plan : List Segment} {seat next : Sitting} {after : Standing} (before : Connection) (refused : PlayRefused) →
     IsAsking seat next before → IsRefused seat next before.session.heard plan refused → after ≡ after_refusal before.session refused →
     HasAnswered before.session (AskPlay plan) after seat next
-answered_refused (JournalFull asked entries live) asking is told = answered_full asking.same is.1 (told, refl)
-answered_refused (Overflow place slot booked bytes) asking is told =
+answered_refused before (JournalFull asked entries live) asking is told = answered_full asking.same is.1 (told, refl)
+answered_refused before (Overflow place slot booked bytes) asking is told =
     answered_entry asking.kept asking.also asking.same is refl (refl, told)
 
 -- a play was admitted: its booking is held
@@ -86,11 +86,11 @@ pub record HasAdmitted (plan : List Segment) (booking : Booking) (before after :
   pub opens : open_of after.session ≡ booking_of (awaited_answer before.session) booking.start
   pub booking_is : after.booking ≡ Some booking
 
-pub kept_admitted : {heard : ℕ} {plan : List Segment} {seat next : Sitting} {before after : Connection} {booking : Booking} →
+pub kept_admitted : {plan : List Segment} {seat next : Sitting} {before after : Connection} {booking : Booking} (heard : ℕ) →
     IsAsking seat next before → Made seat next 2 (play_of heard plan) booking.number (Admitted booking.start) →
     ((keep : ℕ) → keep ≤ total_bytes plan → IsOpenAmong next.mine booking.number keep) → HasAdmitted plan booking before after →
     KeepsBusiness seat next before after
-kept_admitted {plan} {seat} {next} {before} {after} {booking} asking made keeps admitted =
+kept_admitted {plan} {seat} {next} {before} {after} {booking} heard asking made keeps admitted =
     let none = held_none seat.mine before.booking (open_of before.session) asking.closed asking.held in
     let opened : open_of after.session ≡ Some (record { plan = plan; start = booking.start; due = 0 }) =
         admitted.opens ∙ ap (λ awaits. booking_of awaits booking.start) admitted.asked in
@@ -114,4 +114,4 @@ pub answered_admitted : {plan : List Segment} {seat next : Sitting} {before : Co
     IsAsking seat next before → Made seat next 2 (play_of before.session.heard plan) booking.number (Admitted booking.start) →
     HasHeardAdmission before.session booking after → HasAnswered before.session (AskPlay plan) after seat next
 answered_admitted asking made heard =
-    answered_entry asking.kept asking.also asking.same made refl (refl, heard.later, heard.exact, heard.play)
+    answered_entry asking.kept asking.also asking.same made refl (refl, (heard.later, heard.exact, heard.play))

@@ -1,5 +1,5 @@
 -- The link's count of faults, one call after another.
-use Rattle.std.proofs.Common.{◌≡◌, ℕ, ◌≤◌, false, Option, Some, sym, ◌∙◌, ap, arith}
+use Rattle.std.proofs.Common.{◌≡◌, ℕ, ◌≤◌, false, None, Option, Some, refl, sym, ◌∙◌, ap, arith}
 use Rattle.std.proofs.lemmas.Bool.{true≢false}
 use Rattle.vod_base.specs.Outside.{HasRisen}
 use Rattle.interleave.specs.declared.pieces.DemuxFault.{DemuxFault}
@@ -24,3 +24,6 @@ counted_fault old new count risen = record { count = count; fault = λ is. risen
 
 pub counted_on : (end : Option ConnEnd) (a b c : ℕ) → a ≤ b → HasCounted end b c → HasCounted end a c
 counted_on end a b c first next = record { count = omega (arith, first, next.count); fault = λ is. risen_on a b c first (next.fault is) }
+
+pub counted_none : (count : ℕ) → HasCounted None count count
+counted_none count = counted_same None count count (omega arith) refl

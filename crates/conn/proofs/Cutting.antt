@@ -58,5 +58,5 @@ pub fewer : (input rest : List ℕ) (n : ℕ) → 0 < n → n ≤ length input �
 fewer input rest n some within dropped = omega (arith, some, within, ap length dropped, length-drop n input)
 
 -- a piece of the bytes that wait is dropped
-pub drop_is : {old mid new : List ℕ} {n : ℕ} → new ≡ drop n mid → mid ≡ old → new ≡ drop n old
-drop_is {n} dropped same = dropped ∙ ap (drop n) same
+pub drop_is : {old mid new : List ℕ} (n : ℕ) → new ≡ drop n mid → mid ≡ old → new ≡ drop n old
+drop_is n dropped same = dropped ∙ ap (drop n) same

@@ -1,10 +1,11 @@
 -- Lemmas on what calls leave of a seat and of the connection for which it sits.
+use Rattle.std.proofs.Common.{◌≡◌, ℕ, List, refl, subst, sym}
+use Rattle.session.specs.Standings.{IsAtRest, IsSameBooking, open_of}
 use Rattle.station.specs.Seats.{Sitting}
-use Rattle.conn.specs.Keeping.{IsQuiet, KeepsBusiness, business}
+use Rattle.conn.specs.Keeping.{IsHeld, IsQuiet, KeepsBusiness, business}
 use Rattle.conn.specs.declared.connections.Connection.{Connection}
-use Rattle.std.proofs.Common.{refl}
 use Rattle.conn.proofs.Cutting.{seat_none, seat_on}
-use Rattle.conn.proofs.Going.{gone_on, gone_still}
+use Rattle.conn.proofs.Going.{gone_on, gone_still, held_same}
 
 -- before any call
 pub kept_none : (seat : Sitting) (connection : Connection) → IsQuiet seat.mine connection → KeepsBusiness seat seat connection connection
@@ -21,4 +22,49 @@ kept_on {a} {b} {c} {old} {mid} {new} first second = record {
   seat = seat_on a b c first.seat second.seat;
   quiet = second.quiet;
   gone = gone_on (business a.mine old) (business b.mine mid) (business c.mine new) first.gone second.gone;
+}
+
+-- the bytes that wait are no part of it
+pub kept_moved : (seat : Sitting) (connection : Connection) (input : List ℕ) → IsQuiet seat.mine connection →
+    KeepsBusiness seat seat connection (record connection { input = input })
+kept_moved seat connection input quiet = record {
+  seat = seat_none seat;
+  quiet = record { rest = quiet.rest; held = quiet.held };
+  gone = gone_still (business seat.mine connection) (business seat.mine connection) refl refl refl;
+}
+
+-- more of a play became due
+pub kept_due : {a b : Connection} (seat : Sitting) → IsQuiet seat.mine a → IsAtRest b.session → b.booking ≡ a.booking →
+    IsSameBooking (open_of a.session) (open_of b.session) → b.session.receipts ≡ a.session.receipts → KeepsBusiness seat seat a b
+kept_due {a} {b} seat quiet rest booking opens receipts = record {
+  seat = seat_none seat;
+  quiet = record {
+    rest = rest;
+    held = subst (λ k. IsHeld seat.mine k (open_of b.session)) (sym booking)
+        (held_same seat.mine a.booking (open_of a.session) (open_of b.session) opens quiet.held);
+  };
+  gone = gone_still (business seat.mine a) (business seat.mine b) refl booking receipts;
+}
+
+-- what a call leaves, after another one that made no entry, or before it
+pub kept_after : {old next : Sitting} {a mid b : Connection} → mid.booking ≡ a.booking → mid.session.receipts ≡ a.session.receipts →
+    KeepsBusiness old next mid b → KeepsBusiness old next a b
+kept_after {old} {next} {a} {mid} {b} booking receipts kept = record {
+  seat = kept.seat;
+  quiet = kept.quiet;
+  gone = gone_on (business old.mine a) (business old.mine mid) (business next.mine b)
+      (gone_still (business old.mine a) (business old.mine mid) refl booking receipts) kept.gone;
+}
+
+pub kept_then : {old next : Sitting} {a mid b : Connection} → KeepsBusiness old next a mid → IsAtRest b.session → b.booking ≡ mid.booking →
+    open_of b.session ≡ open_of mid.session → b.session.receipts ≡ mid.session.receipts → KeepsBusiness old next a b
+kept_then {old} {next} {a} {mid} {b} kept rest booking opens receipts = record {
+  seat = kept.seat;
+  quiet = record {
+    rest = rest;
+    held = subst (λ k. IsHeld next.mine k (open_of b.session)) (sym booking)
+        (subst (IsHeld next.mine mid.booking) (sym opens) kept.quiet.held);
+  };
+  gone = gone_on (business old.mine a) (business next.mine mid) (business next.mine b) kept.gone
+      (gone_still (business next.mine mid) (business next.mine b) refl booking receipts);
 }

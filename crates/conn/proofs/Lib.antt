@@ -1,5 +1,6 @@
 pub mod Admitting
 pub mod Agreeing
+pub mod Asking
 pub mod Answering
 pub mod Beginning
 pub mod Between
@@ -11,6 +12,7 @@ pub mod Filming
 pub mod Going
 pub mod Grounds
 pub mod Hearing
+pub mod Passing
 pub mod Playing
 pub mod Promising
 pub mod Refusing
@@ -18,6 +20,7 @@ pub mod Replying
 pub mod Progress
 pub mod Steps
 pub mod Rooms
+pub mod Showing
 pub mod Sighting
 pub mod Outcomes
 pub mod Staying

@@ -24,7 +24,7 @@ use Rattle.session.specs.Sendings.{IsTold, can_reply, due_bytes, is_between, is_
 use Rattle.session.specs.Sendings.{step_bytes, stepped_in}
 use Rattle.session.specs.Standings.{Standing}
 use Rattle.conn.specs.declared.connections.Connection.{Connection}
-use Rattle.conn.specs.Events.{HasTakenEvent, IsEndOf, IsWaiting}
+use Rattle.conn.specs.Events.{HasTakenEvent, IsEndOf, IsTakenUp, IsWaiting}
 use Rattle.conn.specs.Journals.{AgreeWith, terms_of}
 use Rattle.conn.proofs.Cutting.{seat_none, seat_on}
 use Rattle.conn.proofs.Journals.{agree_then, terms_same}
@@ -437,3 +437,8 @@ lost_reply {a} {asked} {n} in_front heard can is told =
 -- where a connection stands, by its session and what waits
 pub stage_is : {session is : Standing} {input waits : List ℕ} → session ≡ is → input ≡ waits → stage session input ≡ stage is waits
 stage_is {is} {input} session_is input_is = ap (λ s. stage s input) session_is ∙ ap (stage is) input_is
+
+-- a piece that is too long ends a connection
+pub fault_ends : (fault : DemuxFault) (end : ConnEnd) (c : Connection) → IsEndOf fault end → IsFirst c.input (Err fault) → IsTakenUp (Some end) c
+fault_ends LongHead end c is first = subst (λ e. IsTakenUp (Some e) c) (sym is) first
+fault_ends LongBody end c is first = subst (λ e. IsTakenUp (Some e) c) (sym is) first

@@ -1,9 +1,9 @@
-use Rattle.std.proofs.Common.{◌≡◌, ◌++◌, ◌∷◌, [], length, option_map, rules, arith}
-use Rattle.vod_base.specs.Gates.{after_take}
+use Rattle.std.proofs.Common.{◌≡◌, ◌++◌, ◌∷◌, [], length, option_map, refl, rules, subst, arith}
+use Rattle.vod_base.specs.Gates.{NoMore, after_empty_take, after_take}
 use Rattle.conn.specs.Parts.{duty, outlet}
 use Rattle.conn.specs.Words.{words_of}
 use Rattle.conn.proofs.Agreeing.{served_fresh}
-use Rattle.conn.proofs.Progress.{none_served, one_served}
+use Rattle.conn.proofs.Progress.{HasServedSoFar, ends_early, ends_failed, ends_taken, none_served, one_served}
 use Rattle.conn.proofs.parts.serve_part.Goals as goal
 
 pub connections-init : goal.connections-init
@@ -29,3 +29,25 @@ connections-preserved g c =
       one = served_fresh {films = c.args.films.now} {settings = c.args.settings.now} {words = _} {old = _} {new = _} {before = _} {after = _} {seat = c.connections.seat} {next = c.serve_connection-report.new.seat} {report = report}
           (search rules) (search rules) served.words served.served served.headline served.fault;
     }) given c.give_back.ensures.back (omega (arith, c.take.ensures.count, c.give_back.ensures.count)) items
+
+pub returns-then-is_err : goal.returns-then-is_err
+returns-then-is_err g c =
+    let items : c.connections.reports.items ≡ c.reserve.new.self.items = search rules in
+    record { part = ends_early (subst (HasServedSoFar (duty c.args.films.now c.args.settings.now c.args.seed c.args.worker) c.args.seat.now c.connections.seat
+    (outlet (g.G.Gate.faults c.args.part.now) (g.G.Gate.told c.args.part.now)) (outlet (g.G.Gate.faults c.connections.part) (g.G.Gate.told c.connections.part)))
+    items c.connections.invariant) refl }
+
+pub returns-in-Ok-None : goal.returns-in-Ok-None
+returns-in-Ok-None g c =
+    let items : c.connections.reports.items ≡ c.reserve.new.self.items = search rules in
+    let none : g.G.Gate.told c.take.new.self ≡ option_map (after_empty_take NoMore) (g.G.Gate.told c.connections.part) = search rules in
+    record { part = ends_taken {mid = outlet (g.G.Gate.faults c.connections.part) (g.G.Gate.told c.connections.part)} (subst (HasServedSoFar (duty c.args.films.now c.args.settings.now c.args.seed c.args.worker) c.args.seat.now c.connections.seat
+    (outlet (g.G.Gate.faults c.args.part.now) (g.G.Gate.told c.args.part.now)) (outlet (g.G.Gate.faults c.connections.part) (g.G.Gate.told c.connections.part)))
+    items c.connections.invariant) refl none c.take.ensures.count }
+
+pub returns-in-Err : goal.returns-in-Err
+returns-in-Err g c =
+    let items : c.connections.reports.items ≡ c.reserve.new.self.items = search rules in
+    record { part = ends_failed {mid = outlet (g.G.Gate.faults c.connections.part) (g.G.Gate.told c.connections.part)} (subst (HasServedSoFar (duty c.args.films.now c.args.settings.now c.args.seed c.args.worker) c.args.seat.now c.connections.seat
+    (outlet (g.G.Gate.faults c.args.part.now) (g.G.Gate.told c.args.part.now)) (outlet (g.G.Gate.faults c.connections.part) (g.G.Gate.told c.connections.part)))
+    items c.connections.invariant) refl c.in-Err.ensures.lost c.take.ensures.count c.in-Err.ensures.fault }

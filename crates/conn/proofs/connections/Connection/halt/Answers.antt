@@ -1,4 +1,5 @@
 use Rattle.std.proofs.Common.{rules}
+use Rattle.session.specs.Standings.{open_of}
 use Rattle.conn.specs.Keeping.{business}
 use Rattle.conn.proofs.Admitting.{held_some}
 use Rattle.conn.proofs.Outcomes.{halted_entry}
@@ -7,7 +8,7 @@ use Rattle.conn.proofs.connections.Connection.halt.Goals as goal
 
 pub release-booking-requires : goal.release-booking-requires
 release-booking-requires g c =
-    held_some c.args.seat.now.mine c.args.self.now.booking _ c.requires.held c.requires.keep
+    held_some c.args.seat.now.mine c.args.self.now.booking (open_of c.args.self.now.session) c.args.keep c.requires.held c.requires.keep
 
 pub returns-clause-kept : goal.returns-clause-kept
 returns-clause-kept g c = record {

@@ -6,6 +6,10 @@ use Rattle.conn.specs.declared.reports.ConnEnd.TheVariants.{LinkFault, TooMuchIn
 use Rattle.conn.specs.Sights.{HasBroken, HasComeTo, HasPassed, Sight, sight}
 use Rattle.conn.specs.Turns.{stage}
 use Rattle.std.proofs.lemmas.List.{length-take-le}
+use Rattle.conn.specs.Events.{CutsOn, HasTakenEvent, with_heard}
+use Rattle.conn.proofs.Counting.{counted_on}
+use Rattle.conn.proofs.Cutting.{cuts_same}
+use Rattle.conn.proofs.Keeping.{kept_after, kept_moved, kept_none, kept_on}
 use Rattle.conn.proofs.Rooms.{waits_for_room}
 use Rattle.conn.proofs.Sighting.{bytes_up, overfull, slot_broken, slot_up}
 use Rattle.conn.proofs.connections.Connection.hear.Goals as goal
@@ -63,3 +67,47 @@ returns-else-is_err-2-clause-comes g c =
     let passed : HasPassed here mid c.in-Slot.slot = search rules in
     subst (λ (h : Heard). HasComeTo c.take_up-in-Slot.result (doing_of h c.args.bytes.now) here after) (sym c.in-Slot.is)
     (slot_up c.take_up-in-Slot.result after passed c.take_up-in-Slot.ensures.up)
+
+pub returns-in-End-clause-kept : goal.returns-in-End-clause-kept
+returns-in-End-clause-kept g c = kept_none c.args.seat.now c.args.self.now c.requires.quiet
+
+pub returns-then-is_err-clause-kept : goal.returns-then-is_err-clause-kept
+returns-then-is_err-clause-kept g c = kept_moved c.args.seat.now c.args.self.now c.put.new.self c.requires.quiet
+
+pub returns-else-is_err-clause-kept : goal.returns-else-is_err-clause-kept
+returns-else-is_err-clause-kept g c =
+    kept_after {a = c.args.self.now} {mid = record { session = c.args.self.now.session; input = c.put.new.self; booking = c.args.self.now.booking }}
+    refl refl c.take_up.ensures.kept
+
+pub returns-then-is_err-2-clause-kept : goal.returns-then-is_err-2-clause-kept
+returns-then-is_err-2-clause-kept g c = c.step.ensures.kept
+
+pub returns-else-is_err-2-clause-kept : goal.returns-else-is_err-2-clause-kept
+returns-else-is_err-2-clause-kept g c = kept_on c.step.ensures.kept c.take_up-in-Slot.ensures.kept
+
+pub returns-then-is_err-2-clause-cut : goal.returns-then-is_err-2-clause-cut
+returns-then-is_err-2-clause-cut g c =
+    subst (λ (h : Heard). CutsOn (with_heard c.args.self.now.input h c.args.bytes.now) c.step.new.self.input) (sym c.in-Slot.is)
+    (cuts_same c.args.self.now.input c.step.new.self.input c.step.ensures.input)
+
+pub returns-else-is_err-2-clause-cut : goal.returns-else-is_err-2-clause-cut
+returns-else-is_err-2-clause-cut g c =
+    subst (λ (h : Heard). CutsOn (with_heard c.args.self.now.input h c.args.bytes.now) c.take_up-in-Slot.new.self.input) (sym c.in-Slot.is)
+    (subst (λ (i : List ℕ). CutsOn i c.take_up-in-Slot.new.self.input) c.step.ensures.input c.take_up-in-Slot.ensures.cut)
+
+pub returns-then-is_err-2-clause-taken : goal.returns-then-is_err-2-clause-taken
+returns-then-is_err-2-clause-taken g c =
+    subst (λ (h : Heard). HasTakenEvent h (length c.args.self.now.input) (Some LinkFault) c.step.new.self) (sym c.in-Slot.is) tt
+
+pub returns-else-is_err-2-clause-taken : goal.returns-else-is_err-2-clause-taken
+returns-else-is_err-2-clause-taken g c =
+    subst (λ (h : Heard). HasTakenEvent h (length c.args.self.now.input) c.take_up-in-Slot.result c.take_up-in-Slot.new.self) (sym c.in-Slot.is)
+    c.take_up-in-Slot.ensures.taken
+
+pub returns-else-is_err-clause-counted : goal.returns-else-is_err-clause-counted
+returns-else-is_err-clause-counted g c = c.take_up.ensures.counted
+
+pub returns-else-is_err-2-clause-counted : goal.returns-else-is_err-2-clause-counted
+returns-else-is_err-2-clause-counted g c =
+    counted_on c.take_up-in-Slot.result (g.K.Link.faults c.args.link.now) (g.K.Link.faults c.step.new.link) (g.K.Link.faults c.take_up-in-Slot.new.link)
+    c.step.ensures.count c.take_up-in-Slot.ensures.counted

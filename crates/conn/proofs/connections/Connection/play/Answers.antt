@@ -7,7 +7,7 @@ use Rattle.conn.proofs.connections.Connection.play.Goals as goal
 
 pub returns-in-Ok-clause-kept : goal.returns-in-Ok-clause-kept
 returns-in-Ok-clause-kept g c =
-    kept_admitted (record {
+    kept_admitted c.heard_slot.result (record {
       kept = c.holds.ensures.kept;
       also = c.play.ensures.kept;
       same = c.play.ensures.same;
@@ -22,7 +22,7 @@ returns-in-Ok-clause-kept g c =
 
 pub returns-in-Err-clause-kept : goal.returns-in-Err-clause-kept
 returns-in-Err-clause-kept g c =
-    kept_refused (record {
+    kept_refused c.heard_slot.result c.args.plan (record {
       kept = c.holds.ensures.kept;
       also = c.play.ensures.kept;
       same = c.play.ensures.same;
@@ -37,7 +37,7 @@ returns-in-Err-clause-kept g c =
 
 pub returns-in-Ok-clause-answered : goal.returns-in-Ok-clause-answered
 returns-in-Ok-clause-answered g c =
-    answered_admitted (record {
+    answered_admitted {before = c.args.self.now} (record {
       kept = c.holds.ensures.kept;
       also = c.play.ensures.kept;
       same = c.play.ensures.same;
@@ -52,7 +52,7 @@ returns-in-Ok-clause-answered g c =
 
 pub returns-in-Err-clause-answered : goal.returns-in-Err-clause-answered
 returns-in-Err-clause-answered g c =
-    answered_refused c.in-Err.refused (record {
+    answered_refused c.args.self.now c.in-Err.refused (record {
       kept = c.holds.ensures.kept;
       also = c.play.ensures.kept;
       same = c.play.ensures.same;

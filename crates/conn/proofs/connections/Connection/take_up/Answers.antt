@@ -46,3 +46,11 @@ pub returns-in-End-clause-counted : goal.returns-in-End-clause-counted
 returns-in-End-clause-counted g c =
     counted_on (Some c.in-End.end) (g.K.Link.faults c.args.link.now) (g.K.Link.faults c.pieces.link) (g.K.Link.faults c.take_next.new.link)
     c.pieces.invariant.4 c.in-End.ensures.counted
+
+pub returns-in-End-clause-cut : goal.returns-in-End-clause-cut
+returns-in-End-clause-cut g c =
+    cuts_on c.args.self.now.input c.pieces.self.input c.take_next.new.self.input c.pieces.invariant.2 c.take_next.ensures.cut
+
+pub returns-in-Waits-clause-cut : goal.returns-in-Waits-clause-cut
+returns-in-Waits-clause-cut g c =
+    cuts_on c.args.self.now.input c.pieces.self.input c.take_next.new.self.input c.pieces.invariant.2 c.take_next.ensures.cut

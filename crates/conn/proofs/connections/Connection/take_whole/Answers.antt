@@ -2,7 +2,9 @@ use Rattle.std.proofs.Common.{◌≡◌, ap, inl, inr, refl, rules, sym, ◌∙�
 use Rattle.interleave.specs.declared.pieces.Step.TheVariants.{Request}
 use Rattle.conn.specs.Sights.{sight}
 use Rattle.conn.specs.Turns.{after_reply, stage}
-use Rattle.conn.proofs.Cutting.{cuts_drop, fewer}
+use Rattle.conn.proofs.Counting.{counted_fault, counted_none}
+use Rattle.conn.proofs.Cutting.{cuts_drop, cuts_none, fewer}
+use Rattle.conn.proofs.Keeping.{kept_none, kept_then}
 use Rattle.conn.proofs.Sighting.{lost_reply, stage_is, taken_reply}
 use Rattle.conn.proofs.Taking.{some_request}
 use Rattle.conn.proofs.connections.Connection.take_whole.Goals as goal
@@ -50,3 +52,26 @@ returns-in-Err-clause-takes g c =
           }) c.take_request.ensures.heard c.in-Err.ensures.can
           (stage_is c.in-Err.ensures.failed c.take_request.ensures.input) c.in-Err.ensures.front,
     )
+
+pub returns-then-waits-clause-kept : goal.returns-then-waits-clause-kept
+returns-then-waits-clause-kept g c = kept_none c.args.seat.now c.args.self.now c.requires.quiet
+
+pub returns-in-Ok-clause-kept : goal.returns-in-Ok-clause-kept
+returns-in-Ok-clause-kept g c =
+    kept_then {a = c.args.self.now} {mid = c.take_request.new.self} {b = record { session = c.reply.new.self; input = c.take_request.new.self.input; booking = c.take_request.new.self.booking }}
+    c.take_request.ensures.kept c.reply.ensures.rest refl c.reply.ensures.open c.reply.ensures.receipts
+
+pub returns-in-Err-clause-kept : goal.returns-in-Err-clause-kept
+returns-in-Err-clause-kept g c =
+    kept_then {a = c.args.self.now} {mid = c.take_request.new.self} {b = record { session = c.reply.new.self; input = c.take_request.new.self.input; booking = c.take_request.new.self.booking }}
+    c.take_request.ensures.kept c.reply.ensures.rest refl c.reply.ensures.open c.reply.ensures.receipts
+
+pub returns-then-waits-clause-cut : goal.returns-then-waits-clause-cut
+returns-then-waits-clause-cut g c = cuts_none c.args.self.now.input
+
+pub returns-then-waits-clause-counted : goal.returns-then-waits-clause-counted
+returns-then-waits-clause-counted g c = counted_none (g.K.Link.faults c.args.link.now)
+
+pub returns-in-Err-clause-counted : goal.returns-in-Err-clause-counted
+returns-in-Err-clause-counted g c =
+    counted_fault (g.K.Link.faults c.args.link.now) (g.K.Link.faults c.reply.new.link) c.reply.ensures.count c.in-Err.ensures.fault

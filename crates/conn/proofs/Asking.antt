@@ -1,0 +1,27 @@
+-- A request that was heard, and answered as far as the station goes.
+use Rattle.std.proofs.Common.{◌≡◌, ℕ, List, refl, subst}
+use Rattle.session.specs.declared.asks.Ask.{Ask}
+use Rattle.session.specs.declared.asks.Ask.TheVariants.{Reply as AskReply}
+use Rattle.session.specs.Hearings.{Hears}
+use Rattle.session.specs.Standings.{Standing}
+use Rattle.station.specs.Seats.{Sitting}
+use Rattle.conn.specs.Sights.{HasAnswered, HasAsked}
+use Rattle.conn.specs.Turns.{Unasked}
+use Rattle.conn.proofs.Sighting.{noted_unasked}
+
+pub asked_on : {old asking new : Standing} {ask arm : Ask} {message bytes : List ℕ} {seat next : Sitting} → Hears old message ask asking →
+    message ≡ bytes → ask ≡ arm → HasAnswered asking arm new seat next → HasAsked old bytes new seat next
+asked_on {old} {asking} {ask} {arm} {bytes} hears same is answered = record {
+  outcome = answered.outcome;
+  heard = record {
+    ask = arm;
+    asking = asking;
+    hears = subst (λ (a : Ask). Hears old bytes a asking) is (subst (λ (m : List ℕ). Hears old m ask asking) same hears);
+    answered = answered.answered;
+  };
+  noted = answered.noted;
+}
+
+-- the station wasn't asked
+pub answered_none : (session : Standing) (seat : Sitting) → HasAnswered session AskReply session seat seat
+answered_none session seat = record { outcome = Unasked; answered = refl; noted = noted_unasked seat }
