@@ -93,7 +93,7 @@ pub kept_admitted : {plan : List Segment} {seat next : Sitting} {before after : 
 kept_admitted {plan} {seat} {next} {before} {after} {booking} heard asking made keeps admitted =
     let none = held_none seat.mine before.booking (open_of before.session) asking.closed asking.held in
     let opened : open_of after.session ≡ Some (record { plan = plan; start = booking.start; due = 0 }) =
-        admitted.opens ∙ ap (λ awaits. booking_of awaits booking.start) admitted.asked in
+    admitted.opens ∙ ap (λ awaits. booking_of awaits booking.start) admitted.asked in
     record {
       seat = asking.same;
       quiet = record {

@@ -52,7 +52,7 @@ returns-else-is_err-clause-comes g c =
     (g.K.Link.told c.args.link.now) c.args.seat.now in
     let after : Sight = sight c.take_up.new.self (g.K.Link.told c.take_up.new.link) c.take_up.new.seat in
     subst (λ (h : Heard). HasComeTo c.take_up.result (doing_of h c.args.bytes.now) here after) (sym c.in-Bytes.is)
-    (bytes_up c.take_up.result after (record {
+    (bytes_up {b = mid} {a = here} c.take_up.result after (record {
       few = few;
       waits = ap (stage c.args.self.now.session) input;
       told = refl;
@@ -66,7 +66,7 @@ returns-else-is_err-2-clause-comes g c =
     let after : Sight = sight c.take_up-in-Slot.new.self (g.K.Link.told c.take_up-in-Slot.new.link) c.take_up-in-Slot.new.seat in
     let passed : HasPassed here mid c.in-Slot.slot = search rules in
     subst (λ (h : Heard). HasComeTo c.take_up-in-Slot.result (doing_of h c.args.bytes.now) here after) (sym c.in-Slot.is)
-    (slot_up c.take_up-in-Slot.result after passed c.take_up-in-Slot.ensures.up)
+    (slot_up {a = here} {b = mid} c.take_up-in-Slot.result after passed c.take_up-in-Slot.ensures.up)
 
 pub returns-in-End-clause-kept : goal.returns-in-End-clause-kept
 returns-in-End-clause-kept g c = kept_none c.args.seat.now c.args.self.now c.requires.quiet

@@ -124,16 +124,20 @@ returns-in-Err-clause-taken g c =
 pub returns-in-Ok-Skip-clause-taken : goal.returns-in-Ok-Skip-clause-taken
 returns-in-Ok-Skip-clause-taken g c =
     let first : IsFirst c.args.self.now.input (Ok (Skip c.in-Ok-Skip.count)) = first_is c.in-Ok-Skip.ensures.first refl c.in-Ok-Skip.field-0-is in
-    let some : 0 < c.in-Ok-Skip.count = first.0 in
-    (c.requires.lost, fewer c.args.self.now.input c.drop_front.new.self c.in-Ok-Skip.count some first.1.within
-    (drop_is c.in-Ok-Skip.count c.drop_front.ensures c.look.ensures.waiting))
+    let some : 0 < c.in-Ok-Skip.count = first.0 in (
+      c.requires.lost,
+      fewer c.args.self.now.input c.drop_front.new.self c.in-Ok-Skip.count some first.1.within
+          (drop_is c.in-Ok-Skip.count c.drop_front.ensures c.look.ensures.waiting),
+    )
 
 pub returns-in-Ok-Block-clause-taken : goal.returns-in-Ok-Block-clause-taken
 returns-in-Ok-Block-clause-taken g c =
     let first : IsFirst c.args.self.now.input (Ok (Block c.in-Ok-Block.field-0-0 c.in-Ok-Block.count)) = first_is c.in-Ok-Block.ensures.first refl c.in-Ok-Block.field-0-is in
-    let some : 0 < c.in-Ok-Block.count = subst (λ n. 0 < n) (sym first.3) (omega arith) in
-    (c.requires.lost, fewer c.args.self.now.input c.drop_front-in-Ok-Block.new.self c.in-Ok-Block.count some first.4
-    (drop_is c.in-Ok-Block.count c.drop_front-in-Ok-Block.ensures c.look.ensures.waiting))
+    let some : 0 < c.in-Ok-Block.count = subst (λ n. 0 < n) (sym first.3) (omega arith) in (
+      c.requires.lost,
+      fewer c.args.self.now.input c.drop_front-in-Ok-Block.new.self c.in-Ok-Block.count some first.4
+          (drop_is c.in-Ok-Block.count c.drop_front-in-Ok-Block.ensures c.look.ensures.waiting),
+    )
 
 pub returns-in-Ok-Skip-clause-counted : goal.returns-in-Ok-Skip-clause-counted
 returns-in-Ok-Skip-clause-counted g c = counted_none (g.K.Link.faults c.args.link.now)
