@@ -1,6 +1,6 @@
 -- What is known of the waiting bytes stays true as more bytes come.
 use Rattle.std.proofs.Common.{◌≡◌, ℕ, ◌-◌, ◌<◌, ◌≤◌, ◌++◌, List, length, take, drop, refl, sym, ◌∙◌, subst, arith}
-use Rattle.std.proofs.lemmas.List.{get_or_append_left, drop-append-le, take-append-le, take_all, length-append, length-drop}
+use Rattle.std.proofs.lemmas.List.{get_or_append_left, drop-append-le, take-append-le, length-append}
 use Rattle.interleave.specs.Heads.{empty_line_ends, HasNoHead, IsHead}
 use Rattle.interleave.specs.Lengths.{IsBodyLength, IsLongBody}
 use Rattle.interleave.specs.Pieces.{IsRequestLength, IsBodyTooLong}
@@ -70,9 +70,3 @@ kept_known {items} {start} more known moved h =
 pub settled_known : (w : List ℕ) (known : Known) → IsSettled w known → IsKnown w known
 settled_known w (Searched to) h = (omega (arith, h.0), omega (arith, h.1), h.2)
 settled_known w (Length total) h = h
-
--- the same of the bytes that are kept after others
-pub settled_rest : (items : List ℕ) (start : ℕ) (known : Known) → IsSettled (take (length items - start) (drop start items)) known → IsKnown (drop start items) known
-settled_rest items start known h =
-    let whole : take (length items - start) (drop start items) ≡ drop start items = take_all (length items - start) (drop start items) (omega (arith, length-drop start items)) in
-    settled_known (drop start items) known (rw whole at h)

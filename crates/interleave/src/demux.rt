@@ -20,7 +20,7 @@ pub struct TooMuchInput;
 
 impl fmt::Display for TooMuchInput {
     fn fmt<W: fmt::Write>(&self, f: &mut fmt::Formatter<W>) -> fmt::Result {
-        write!(f, "too many bytes wait")
+        f.write_str("too many bytes wait")
     }
 }
 
@@ -30,7 +30,7 @@ impl Error for TooMuchInput {}
 /// 10.12).
 ///
 /// Contracts see the list of the waiting bytes.
-#[derive(Debug, Drop)]
+#[derive(Drop)]
 pub struct Demux {
     bytes: Vec<u8>,
     start: usize,
@@ -96,7 +96,7 @@ impl Demux {
         ensures waiting { self.new ≡ self.old }
         ensures first { IsFirst self.old result }
     {
-        let waiting = &self.bytes[self.start..];
+        let waiting = self.waiting();
         let Some(front) = waiting.first() else {
             return Ok(Step::More);
         };

@@ -10,7 +10,7 @@ use crate::lengths::body_length;
 use crate::pieces::{DemuxFault, Step};
 
 /// What is kept about the request in front of the waiting bytes.
-#[derive(Clone, Copy, Debug, PartialEq, Eq)]
+#[derive(Clone, Copy)]
 pub(crate) enum Known {
     /// No empty line ends among this many bytes.
     Searched(usize),

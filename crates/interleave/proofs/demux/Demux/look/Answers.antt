@@ -1,4 +1,7 @@
-use Rattle.interleave.proofs.More.{settled_rest}
+use Rattle.std.proofs.Common.{ℕ, List, Ok, drop, refl, sym, subst, ◌∙◌}
+use Rattle.interleave.specs.Known.{IsKnown, IsSettled}
+use Rattle.interleave.specs.Pieces.{IsFirst}
+use Rattle.interleave.proofs.More.{settled_known}
 use Rattle.interleave.proofs.demux.Demux.look.Goals as goal
 
 pub invariant_of-self : goal.invariant_of-self
@@ -6,5 +9,22 @@ invariant_of-self c = record {
   start = c.self.invariant.start;
   most = c.self.invariant.most;
   room = c.self.invariant.room;
-  known = settled_rest c.self.inside.bytes.items c.self.inside.start c.in_ok-known.known (rw c.deref.ensures.value at c.in_ok-known.ensures);
+  known = settled_known (drop c.self.inside.start c.self.inside.bytes.items) c.in_ok-known.known
+      (subst (λ (l : List ℕ). IsSettled l c.in_ok-known.known) (c.waiting-waiting.ensures ∙ sym c.self.view_is) c.in_ok-known.ensures);
+}
+
+pub learn-requires-clause-known : goal.learn-requires-clause-known
+learn-requires-clause-known c =
+    subst (λ (l : List ℕ). IsKnown l c.self.inside.known) (c.self.view_is ∙ sym c.waiting-waiting.ensures) c.self.invariant.known
+
+pub returns : goal.returns
+returns c = record {
+  waiting = c.self.view_is;
+  first = subst (λ (l : List ℕ). IsFirst l (Ok c.request_step-step.result)) c.waiting-waiting.ensures c.request_step-step.ensures;
+}
+
+pub returns-then-front-eq36 : goal.returns-then-front-eq36
+returns-then-front-eq36 c = record {
+  waiting = refl;
+  first = subst (λ (l : List ℕ). IsFirst l (Ok c.block_step.result)) c.waiting-waiting.ensures c.block_step.ensures;
 }
