@@ -1,6 +1,6 @@
 -- What the commands' answers mean, in terms of the definitions that the run cites.
-use Rattle.std.proofs.Common.{◌≡◌, ℕ, List, ◌++◌, Some, None, Result, Ok, Err, Vec, Global, subst, sym, inl, inr}
-use Rattle.std.specs.Prelude.{IfErr, IfOk, IsErrAnd, codes}
+use Rattle.std.proofs.Common.{◌≡◌, ℕ, List, ◌++◌, Some, None, Result, Ok, Vec, Global, subst, inl, inr}
+use Rattle.std.specs.Prelude.{IfOk, codes}
 use Rattle.vod_base.specs.Outside.{File, file_named}
 use Rattle.wire_curve.specs.declared.curves.Curves.{Curves}
 use Rattle.plan_cert.specs.declared.Segment.{Segment}
@@ -9,7 +9,6 @@ use Rattle.cert_check.specs.Best.{IsBestPlan}
 use Rattle.cert_check.specs.Fault.{IsFirstFault}
 use Rattle.cert_check.specs.declared.CertFault.{CertFault}
 use Rattle.mpeg_scan.specs.declared.units.Unit.{Unit as PictureUnit}
-use Rattle.troubles.specs.declared.faults.Trouble.{Trouble}
 use Rattle.inputs.specs.Scans.{HoldsFilm}
 use Rattle.local_commands.specs.ScanText.{scan_text}
 use Rattle.command_words.specs.Words.{Viewer}
@@ -17,15 +16,6 @@ use Rattle.local_commands.specs.Carrying.{IsScanned}
 use Rattle.local_commands.specs.Plans.{HasCurves, IsChecked, IsVerdict}
 use Rattle.local_commands.specs.Verdict.{cert_fault_text}
 use Rattle.local_commands.specs.declared.done.Done.{Done}
-
-pub ok_map : {T E : Type 0} (P Q : T → Type 0) (r : Result T E) → ((x : T) → P x → Q x) → IfOk r P → IfOk r Q
-ok_map P Q (Ok x) f h = f x h
-ok_map P Q (Err e) f h = tt
-
--- a trouble is handed on
-pub handed_on : {T : Type 0} {t : Trouble} (P : Trouble → Type 0) (r : Result T Trouble) → IsErrAnd r (λ y. y ≡ t) → P t → IfErr r P
-handed_on P (Ok x) is p = tt
-handed_on P (Err y) is p = subst P (sym is) p
 
 pub text_of : {E : Type 0} (text : List ℕ) (r : Result (Vec ℕ Global) E) (made : Vec ℕ Global) → IfOk r (λ v. v.items ≡ text) → r ≡ Ok made → made.items ≡ text
 text_of {E = E} text r made h e = subst (λ (x : Result (Vec ℕ Global) E). IfOk x (λ v. v.items ≡ text)) e h

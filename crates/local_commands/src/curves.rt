@@ -22,7 +22,7 @@ use vod_base::Library;
 use wire_curve::{CurveRefused, Curves, Timing, film_curves};
 
 /// Reads a trace or film and makes the curves of its viewer.
-pub fn viewer_curves<'a, L: Library>(
+pub(crate) fn viewer_curves<'a, L: Library>(
     alloc: Global,
     library: &mut L,
     viewer: Viewer<'a>,

@@ -14,8 +14,8 @@ ghost use Rattle.day_run.specs.declared.reels.Source.{Source};
 ghost use Rattle.day_run.specs.declared.scripts.Script.{Script};
 ghost use Rattle.troubles.specs.declared.faults.Fault.{Fault};
 ghost use Rattle.inputs.specs.Files.{IsNamed};
-ghost use Rattle.local_commands.specs.Days.{AreHeldAs, HoldsScript, IsDayRefused, IsFirstNamedRefused};
-ghost use Rattle.local_commands.specs.Days.{IsHeldAs, IsNameOf};
+ghost use Rattle.local_commands.specs.Days.{AreHeldAs, HoldsScript, IsDayRefused};
+ghost use Rattle.local_commands.specs.Days.{IsFirstNamedRefused, IsHeldAs, IsNameOf};
 ghost use Rattle.local_commands.specs.Days.{IsNamedRefused, IsScriptRefused, names_in};
 
 use crate::profiles::profile_of;

@@ -1,8 +1,9 @@
 //! The text that `scan` prints: a line for the film, and one for each of its units.
 
 ghost use Rattle.std.specs.Prelude.{◌≡◌, ◌++◌, IfOk, OnOk};
-ghost use Rattle.local_commands.specs.ScanText.{kind_text, mark, unit_name, unit_places, unit_marks};
-ghost use Rattle.local_commands.specs.ScanText.{unit_line, unit_lines, film_line, scan_text};
+ghost use Rattle.local_commands.specs.ScanText.{kind_text, mark, unit_name, unit_places};
+ghost use Rattle.local_commands.specs.ScanText.{unit_marks, unit_line, unit_lines, film_line};
+ghost use Rattle.local_commands.specs.ScanText.{scan_text};
 
 use mpeg_scan::{Kind, Unit};
 use report::{push, push_field, push_number};
@@ -10,7 +11,12 @@ use std::alloc::Global;
 use vod_base::NoMemory;
 
 /// The text of a film with that number of bytes, that rate code and those units.
-pub fn scan_text(alloc: Global, bytes: u64, rate: u8, units: &[Unit]) -> Result<Vec<u8>, NoMemory>
+pub(crate) fn scan_text(
+    alloc: Global,
+    bytes: u64,
+    rate: u8,
+    units: &[Unit],
+) -> Result<Vec<u8>, NoMemory>
     ensures { IfOk result (λ text. text.items ≡ scan_text bytes rate units.now) }
 {
     let mut text = film_text(alloc, bytes, rate, units.len() as u64)?;

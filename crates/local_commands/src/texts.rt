@@ -78,7 +78,6 @@ pub fn version(alloc: Global) -> Result<Vec<u8>, AllocError>
 }
 
 /// The text of `--help`.
-#[tactic(auto, unfolding(crate::specs::Texts::help_text))]
 pub fn help(alloc: Global) -> Result<Vec<u8>, AllocError>
     ensures { IfOk result (λ text. text.items ≡ help_text) }
 {

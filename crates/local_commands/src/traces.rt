@@ -13,7 +13,7 @@ use troubles::{Fault, Trouble};
 use vod_base::Library;
 
 /// The picture sizes of the trace of that name.
-pub fn load_trace<'a, L: Library>(
+pub(crate) fn load_trace<'a, L: Library>(
     alloc: Global,
     library: &mut L,
     name: &'a str,

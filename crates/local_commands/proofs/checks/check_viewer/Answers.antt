@@ -8,7 +8,8 @@ use Rattle.local_commands.specs.Carrying.{IsDone, IsInputRefused, IsRead}
 use Rattle.std.specs.Prelude.{codes}
 use Rattle.local_commands.specs.Plans.{IsViewerTrouble}
 use Rattle.local_commands.specs.Verdict.{refused_line}
-use Rattle.local_commands.proofs.CommandLemmas.{handed_on, ok_map, text_of, HasCertificate, least_checked, fault_checked}
+use Rattle.inputs.proofs.ScanLemmas.{handed_on, ok_map}
+use Rattle.local_commands.proofs.CommandLemmas.{text_of, HasCertificate, least_checked, fault_checked}
 use Rattle.local_commands.proofs.checks.check_viewer.Goals as goal
 
 pub returns-in_err-curves-clause-trouble : goal.returns-in_err-curves-clause-trouble

@@ -6,7 +6,7 @@ use Rattle.inputs.specs.Files.{IsNamed}
 use Rattle.local_commands.specs.Pictures.{pictures_of}
 use Rattle.wire_curve.specs.Refusal.{HasFault, IsRefused}
 use Rattle.local_commands.specs.Plans.{IsSourceTrouble, IsViewerTrouble, Pictures, timing_of}
-use Rattle.local_commands.proofs.CommandLemmas.{handed_on}
+use Rattle.inputs.proofs.ScanLemmas.{handed_on}
 use Rattle.local_commands.proofs.PictureLemmas.{limits_of}
 use Rattle.local_commands.proofs.curves.viewer_curves.Goals as goal
 

@@ -4,7 +4,7 @@ use Rattle.inputs.specs.Scans.{HoldsVideo, IsFilmRefused}
 use Rattle.troubles.proofs.CauseLemmas.{trouble_map}
 use Rattle.local_commands.specs.Days.{IsNameOf, IsNamedRefused, IsRefusedAs}
 use Rattle.local_commands.specs.Plans.{HoldsTrace, IsTraceRefused}
-use Rattle.local_commands.proofs.CommandLemmas.{handed_on}
+use Rattle.inputs.proofs.ScanLemmas.{handed_on}
 use Rattle.local_commands.proofs.days.load_source.Goals as goal
 
 pub returns-in_ok-film-clause-held : goal.returns-in_ok-film-clause-held

@@ -2,7 +2,7 @@ use Rattle.std.proofs.Common.{rules, ◌∙◌, arith}
 use Rattle.std.specs.List.{Contains}
 use Rattle.troubles.proofs.CauseLemmas.{trouble_map}
 use Rattle.local_commands.specs.Days.{IsFirstNamedRefused, IsNameOf, IsNamedRefused, names_in}
-use Rattle.local_commands.proofs.CommandLemmas.{handed_on}
+use Rattle.inputs.proofs.ScanLemmas.{handed_on}
 use Rattle.local_commands.proofs.DayLemmas.{first_named_refused, held_push, held_whole, named_contains, sources_push}
 use Rattle.local_commands.proofs.days.load_sources.Goals as goal
 

@@ -3,7 +3,8 @@ use Rattle.command_words.specs.Words.{scan_of}
 use Rattle.inputs.specs.Scans.{HoldsFilm}
 use Rattle.local_commands.specs.Carrying.{IsDone}
 use Rattle.local_commands.specs.ScanText.{scan_text}
-use Rattle.local_commands.proofs.CommandLemmas.{ok_map, film_done, text_of}
+use Rattle.inputs.proofs.ScanLemmas.{ok_map}
+use Rattle.local_commands.proofs.CommandLemmas.{film_done, text_of}
 use Rattle.local_commands.proofs.scans.print_scan.Goals as goal
 
 pub returns-clause-done : goal.returns-clause-done

@@ -2,7 +2,7 @@ use Rattle.std.proofs.Common.{arith, inl}
 use Rattle.troubles.proofs.CauseLemmas.{trouble_map}
 use Rattle.inputs.specs.Files.{IsMissing, IsNamed}
 use Rattle.local_commands.specs.Plans.{IsTraceRefused}
-use Rattle.local_commands.proofs.CommandLemmas.{handed_on}
+use Rattle.inputs.proofs.ScanLemmas.{handed_on}
 use Rattle.local_commands.proofs.traces.load_trace.Goals as goal
 
 pub returns-in_err-text-clause-trouble : goal.returns-in_err-text-clause-trouble
