@@ -1,23 +1,16 @@
 -- The lines that are printed, read back by their keys.
-use Rattle.std.proofs.Common.{◌≡◌, ◌≢◌, ◌∙◌, ℕ, ◌<◌, ◌^◌, ◌==◌, ◌||◌, Bool, true, false, List, [], ◌∷◌, ◌++◌, All, map, Option, None, codes, decimal, length, refl, sym, ap, arith}
-use Rattle.std.specs.Prelude.{⊤}
-use Rattle.std.proofs.lemmas.Bool.{ne_eqb}
+use Rattle.std.proofs.Common.{◌≡◌, ◌∙◌, ℕ, ◌<◌, ◌^◌, true, List, [], ◌∷◌, ◌++◌, All, None, codes, decimal, length, refl, sym, ap}
 use Rattle.std.proofs.lemmas.List.{append-nil, append_assoc}
-use Rattle.std.proofs.lemmas.List.Elements.{All-append, All-cons, All-head, All-nil, All-tail}
-use Rattle.std.specs.Option.{option_to_list}
-use Rattle.std.proofs.lemmas.List.Splits.{slice_split_at, slice_split_none}
-use Rattle.plan_cert.proofs.Decimals.{not_in_decimal}
 use Rattle.command_words.specs.Settings.{setting_value, values_of}
 use Rattle.command_words.specs.Spelling.{Setting, number_setting, word_of}
-use Rattle.command_words.proofs.SettingLemmas.{are_plain, picked, values_read}
-use Rattle.command_words.proofs.WordLemmas.{values_of-append}
+use Rattle.command_words.proofs.SettingLemmas.{are_plain, picked}
 use Rattle.admission.specs.declared.entries.Entry.{Entry}
 use Rattle.rtsp_client.specs.Meters.{watched_in}
 use Rattle.rtsp_client.specs.Moments.{History}
 use Rattle.rtsp_client.specs.declared.wishes.Watched.{Watched}
 use Rattle.rtsp_client.specs.declared.wishes.Wish.{Wish}
 use Rattle.troubles.specs.Said.{with_label}
-use Rattle.troubles.proofs.WordLemmas.{HasNo, none_by}
+use Rattle.troubles.proofs.WordLemmas.{none_by}
 use Rattle.local_commands.specs.TextLaws.{GivesOnce, words_in}
 use Rattle.vodserve.specs.TextLaws.{IsShortWatched, TellsPlay, TellsServed}
 use Rattle.vodserve.specs.Served.{served_text}

@@ -1,28 +1,17 @@
 -- The text of a server is read back.
-use Rattle.std.proofs.Common.{◌≡◌, ◌≢◌, ◌∙◌, ℕ, ◌+◌, ◌<◌, ◌^◌, ◌==◌, ◌&&◌, if◌then◌else◌, Bool, true, false, List, [], ◌∷◌, ◌++◌, All, length, map, flat_map, get_or, codes, decimal, refl, sym, ap, arith}
-use Rattle.std.specs.List.{AllZip}
-use Rattle.std.specs.Str.{bytes_eq}
+use Rattle.std.proofs.Common.{◌≡◌, ◌≢◌, ◌∙◌, ℕ, ◌+◌, ◌<◌, ◌^◌, List, ◌∷◌, ◌++◌, All, length, flat_map, codes, decimal, refl, sym, arith}
 use Rattle.std.proofs.lemmas.Fmt.{decimal_injective}
-use Rattle.std.proofs.lemmas.List.{append-nil, append_assoc, append_cancel_left, append_cancel_right}
-use Rattle.std.proofs.lemmas.List.Elements.{All-append, All-cons, All-head, All-nil, All-tail}
-use Rattle.mpeg_scan.specs.declared.units.Kind.{Kind}
-use Rattle.mpeg_scan.specs.declared.units.Kind.TheVariants.{I, P, B, D}
-use Rattle.mpeg_scan.specs.declared.units.Unit.{Unit as PictureUnit}
+use Rattle.std.proofs.lemmas.List.{append_assoc, append_cancel_left, append_cancel_right}
+use Rattle.std.proofs.lemmas.List.Elements.{All-append}
 use Rattle.admission.specs.declared.entries.Entry.{Entry}
 use Rattle.admission.specs.Machine.{booked_in}
 use Rattle.admission.specs.Histories.{state_after}
 use Rattle.report.specs.CalendarTexts.{booked_slots, first_words, slot_line}
-use Rattle.cert_check.specs.declared.CertFault.{CertFault}
-use Rattle.cert_check.specs.declared.CertFault.TheVariants.{EmptySegment, WrongLength, WrongTotal, BelowLow, AboveUp, EqualSlopes, RiseOffUpper, FallOffLower}
 use Rattle.plan_cert.proofs.Decimals.{not_in_decimal}
-use Rattle.troubles.specs.Said.{number_text}
-use Rattle.troubles.proofs.WordLemmas.{AreShort, HasNo, none_by, numbers_back, numbers_of, split, split_words}
-use Rattle.local_commands.specs.ScanText.{film_line, kind_text, mark, scan_text, unit_line, unit_lines, unit_marks, unit_places}
+use Rattle.troubles.proofs.WordLemmas.{HasNo, none_by}
 use Rattle.report.specs.JournalTexts.{journal_text}
 use Rattle.vodserve.specs.Served.{served_text}
-use Rattle.local_commands.specs.Verdict.{refused_line}
-use Rattle.local_commands.specs.Verdict.{cert_fault_text, fault_name}
-use Rattle.local_commands.proofs.FieldLemmas.{field_cut, last_cut, line_cut, two_cut}
+use Rattle.local_commands.proofs.FieldLemmas.{field_cut, last_cut}
 
 -- ---- a server
 -- all but the last line, and the last line without its end

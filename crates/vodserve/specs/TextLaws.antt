@@ -1,8 +1,6 @@
 -- What a reader of the output of a server or a client can tell from it.
-use Rattle.std.specs.Prelude.{ℕ, ◌≡◌, ◌≢◌, ◌<◌, ◌^◌, ◌==◌, ◌||◌, List, [], ◌∷◌, ◌++◌, All, IfSome}
-use Rattle.std.specs.Prelude.{codes, decimal, length, slice_index_or}
-use Rattle.std.specs.List.{AllZip, list_any, slice_split}
-use Rattle.std.specs.Str.{bytes_eq}
+use Rattle.std.specs.Prelude.{ℕ, ◌≡◌, ◌≢◌, ◌<◌, ◌^◌, List, ◌∷◌, ◌++◌, All}
+use Rattle.std.specs.Prelude.{codes, length}
 use Rattle.rtsp_client.specs.Meters.{count_over, count_under, most_waiting}
 use Rattle.rtsp_client.specs.Moments.{History, frames, payloads, reports, sizes}
 use Rattle.rtsp_client.specs.declared.wishes.Watched.{Watched}

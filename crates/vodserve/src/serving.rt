@@ -1,7 +1,7 @@
 //! A server: its films are loaded, its gate is opened, and its workers are run.
 
 ghost use Rattle.std.specs.Prelude.{◌≡◌, ◌≤◌, ◌++◌, Some, true, codes, All, IfSome, IfOk, IfErr};
-ghost use Rattle.std.specs.Prelude.{OnOk};
+ghost use Rattle.std.specs.Prelude.{◌∷◌, [], OnOk};
 ghost use Rattle.std.specs.List.{Contains};
 ghost use Rattle.std.specs.Option.{option_to_list};
 ghost use Rattle.vod_base.specs.Outside.{HasRisen};
@@ -192,9 +192,19 @@ fn add_film<'a, L: Library>(
         return Ok(());
     };
     let film = load_film(alloc, library, name)?;
+    match push_film(films, film) {
+        Ok(()) => Ok(()),
+        Err(NoMemory) => Err(Trouble::NoMemory),
+    }
+}
+
+/// Puts a film after the others.
+fn push_film(films: &mut Vec<Stored>, film: Stored) -> Result<(), NoMemory>
+    ensures { OnOk result (films.new.items ≡ films.old.items ++ film ∷ []) }
+{
     match films.push(film) {
         Ok(()) => Ok(()),
-        Err(_) => Err(Trouble::NoMemory),
+        Err(_) => Err(NoMemory),
     }
 }
 

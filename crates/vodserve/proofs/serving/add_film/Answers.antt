@@ -1,20 +1,16 @@
 use Rattle.std.proofs.Common.{sym, subst}
-use Rattle.std.specs.Prelude.{All, OnOk}
+use Rattle.std.specs.Prelude.{All}
 use Rattle.film_frames.specs.declared.stores.Stored.{Stored}
 use Rattle.vodserve.specs.Worked.{IsHeld}
 use Rattle.vodserve.proofs.ServeLemmas.{held_film}
 use Rattle.vodserve.proofs.WorkerLemmas.{all_push}
 use Rattle.vodserve.proofs.serving.add_film.Goals as goal
-use Rattle.vodserve.proofs.serving.add_film.Goals.{in-Ok, in-Err}
 
-pub returns-clause-held : goal.returns-clause-held
-returns-clause-held g c =
+pub returns-in-Ok-clause-held : goal.returns-in-Ok-clause-held
+returns-in-Ok-clause-held g c =
     let Held : Stored → Type 0 = IsHeld (g.L.Library.files c.args.library.now) in
     let film : Held c.in_ok-film.film =
-    held_film (g.L.Library.files c.args.library.now) c.in_ok-film.film c.in-Some.name.now ((c.in_ok-film.ensures {u = tt}).name) (λ held told. (c.in_ok-film.ensures {u = tt}).film held told)
+    held_film (g.L.Library.files c.args.library.now) c.in_ok-film.film c.in-Some.name.now ((c.in_ok-film.ensures {u = tt}).name)
+    (λ held told. (c.in_ok-film.ensures {u = tt}).film held told)
     (λ held told. (c.in_ok-film.ensures {u = tt}).small held told) in
-    λ all. elim c.match-push.branch [
-      | in-Ok w ↦ subst (λ r. OnOk r (All Held c.push.new.self.items)) (sym w.result-is)
-          (subst (All Held) (sym ((w.in-Ok.ensures {u = tt}).items)) (all_push Held c.args.films.now.items c.in_ok-film.film all film))
-      | in-Err w ↦ subst (λ r. OnOk r (All Held c.push.new.self.items)) (sym w.result-is) tt
-    ]
+    λ all. subst (All Held) (sym (c.in-Ok.ensures {u = tt})) (all_push Held c.args.films.now.items c.in_ok-film.film all film)

@@ -10,7 +10,7 @@ use Rattle.command_words.specs.Settings.{setting_value, texts, values_of}
 use Rattle.troubles.proofs.CauseLemmas.{trouble_map}
 use Rattle.inputs.specs.Films.{IsHeldRefused}
 use Rattle.vodserve.specs.Served.{IsFirstRefused, IsWordNamed}
-use Rattle.local_commands.proofs.CommandLemmas.{handed_on}
+use Rattle.inputs.proofs.ScanLemmas.{handed_on}
 use Rattle.vodserve.proofs.ServeLemmas.{films_are, first_refused, values_rest, word_film}
 use Rattle.vodserve.proofs.serving.load_films.Goals as goal
 

@@ -4,7 +4,7 @@ use Rattle.vodserve.specs.Worked.{opening_of}
 use Rattle.vodserve.proofs.GateLemmas.{opened_few, opened_once}
 use Rattle.conn.specs.Parts.{outlet}
 use Rattle.command_words.specs.Orders.{serving_of}
-use Rattle.local_commands.proofs.CommandLemmas.{handed_on}
+use Rattle.inputs.proofs.ScanLemmas.{handed_on}
 use Rattle.vodserve.proofs.ServeLemmas.{only_opened, read_serves}
 use Rattle.vodserve.proofs.serving.prepare.Goals as goal
 
