@@ -2,6 +2,7 @@ pub mod Keeping
 pub mod Metering
 pub mod Rates
 pub mod Sighting
+pub mod Sources
 pub mod Texts
 pub mod Answering
 pub mod Replying

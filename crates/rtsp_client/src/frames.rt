@@ -12,7 +12,7 @@ use rtp_pack::Head;
 const MOST_UNITS: u128 = 4_194_304;
 
 /// What the frames so far say of their film.
-#[derive(Clone, Copy, Debug)]
+#[derive(Clone, Copy)]
 pub(crate) struct Source {
     /// The synchronization source.
     pub(crate) ssrc: u32,

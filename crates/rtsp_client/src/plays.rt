@@ -1,7 +1,7 @@
 //! What the reply to PLAY says.
 
 /// What the reply to PLAY said, and when.
-#[derive(Clone, Copy, Debug)]
+#[derive(Clone, Copy)]
 pub(crate) struct Play {
     /// In how many slots the play starts.
     pub(crate) start: u64,

@@ -16,7 +16,7 @@ use std::marker::Model;
 use vod_base::NoMemory;
 
 /// What was heard of a film so far.
-#[derive(Debug, Drop)]
+#[derive(Drop)]
 pub(crate) struct Watching {
     /// The greatest slot that was heard, at first 0.
     last_slot: u64,

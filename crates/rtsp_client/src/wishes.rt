@@ -63,13 +63,18 @@ impl fmt::Display for WatchFault {
     fn fmt<W: fmt::Write>(&self, f: &mut fmt::Formatter<W>) -> fmt::Result {
         match self {
             WatchFault::Refused(code) => write!(f, "a request was answered {code}"),
-            WatchFault::BadReply(number) => write!(f, "reply {number} isn't as it should be"),
-            WatchFault::BadFrame(number) => write!(f, "frame {number} isn't as it should be"),
-            WatchFault::Framing => write!(f, "what came begins no reply and no block"),
+            WatchFault::BadReply(number) => write_bad(f, "reply", *number),
+            WatchFault::BadFrame(number) => write_bad(f, "frame", *number),
+            WatchFault::Framing => f.write_str("what came begins no reply and no block"),
             WatchFault::EndedEarly(units) => write!(f, "the server ended after {units} pictures"),
-            WatchFault::TurnsSpent => write!(f, "too many events"),
+            WatchFault::TurnsSpent => f.write_str("too many events"),
         }
     }
+}
+
+/// Writes which one of what was heard is bad.
+fn write_bad<W: fmt::Write>(f: &mut fmt::Formatter<W>, what: &str, number: u64) -> fmt::Result {
+    write!(f, "{what} {number} isn't as it should be")
 }
 
 impl Error for WatchFault {}

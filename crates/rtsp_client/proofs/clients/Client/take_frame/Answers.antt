@@ -45,8 +45,8 @@ returns-in_err-write_all-clause-ended g c =
 pub returns-then-not-is_complete-clause-passed : goal.returns-then-not-is_complete-clause-passed
 returns-then-not-is_complete-clause-passed g c = λ h k.
     let whole : length (take c.args.length c.args.self.now.input) ≡ c.args.length = length-take-le c.args.length c.args.self.now.input c.requires.within in
-    let long : 20 ≤ length (take c.args.length c.waiting.result.now) = search rules in
-    let state : c.add_frame.new.self ≡ after_frame c.args.self.now.watching c.in-Some.source c.args.length = search rules in
+    let long : 20 ≤ length (take c.args.length c.waiting.result.now) = c.in-Some.ensures.long in
+    let state : c.add_frame.new.self ≡ after_frame c.args.self.now.watching c.in-Some.source c.args.length = c.in_ok-add_frame.ensures in
     let open_ : has_all c.add_frame.new.self ≡ false = search rules in
     let handed : g.O.Sink.written c.write_all.new.self ≡ told_more (g.O.Sink.written c.args.out.now)
     (drop 20 (take c.args.length c.waiting.result.now)) =
@@ -89,8 +89,8 @@ returns-in_err-send-clause-ended g c =
     rw (p.1, p.2)
     (λ h k.
     let whole : length (take c.args.length c.args.self.now.input) ≡ c.args.length = length-take-le c.args.length c.args.self.now.input c.requires.within in
-    let long : 20 ≤ length (take c.args.length c.waiting.result.now) = search rules in
-    let state : c.add_frame.new.self ≡ after_frame c.args.self.now.watching c.in-Some.source c.args.length = search rules in
+    let long : 20 ≤ length (take c.args.length c.waiting.result.now) = c.in-Some.ensures.long in
+    let state : c.add_frame.new.self ≡ after_frame c.args.self.now.watching c.in-Some.source c.args.length = c.in_ok-add_frame.ensures in
     let all : has_all c.add_frame.new.self ≡ true = search rules in
     let handed : g.O.Sink.written c.write_all.new.self ≡ told_more (g.O.Sink.written c.args.out.now)
     (drop 20 (take c.args.length c.waiting.result.now)) =
@@ -119,8 +119,8 @@ returns-in_err-send-clause-ended g c =
 pub returns-clause-passed : goal.returns-clause-passed
 returns-clause-passed g c = λ h k.
     let whole : length (take c.args.length c.args.self.now.input) ≡ c.args.length = length-take-le c.args.length c.args.self.now.input c.requires.within in
-    let long : 20 ≤ length (take c.args.length c.waiting.result.now) = search rules in
-    let state : c.add_frame.new.self ≡ after_frame c.args.self.now.watching c.in-Some.source c.args.length = search rules in
+    let long : 20 ≤ length (take c.args.length c.waiting.result.now) = c.in-Some.ensures.long in
+    let state : c.add_frame.new.self ≡ after_frame c.args.self.now.watching c.in-Some.source c.args.length = c.in_ok-add_frame.ensures in
     let all : has_all c.add_frame.new.self ≡ true = search rules in
     let handed : g.O.Sink.written c.write_all.new.self ≡ told_more (g.O.Sink.written c.args.out.now)
     (drop 20 (take c.args.length c.waiting.result.now)) =

@@ -1,0 +1,47 @@
+-- What the frames say with one more block.
+use Rattle.std.proofs.Common.{◌≡◌, ℕ, ◌≤◌, Bool, true, false, if◌then◌else◌, List, length, take, drop, ◌-◌, Option, Some, None, Result, Ok, Err, refl, sym, ap, ◌∙◌, arith}
+use Rattle.std.proofs.lemmas.List.{length-drop, take_all}
+use Rattle.std.proofs.lemmas.Bool.Decides.{nat_tests}
+use Rattle.std.specs.Prelude.{IfSome, nat_lt}
+use Rattle.rtp_pack.specs.Heads.{head_of}
+use Rattle.rtp_pack.specs.declared.heads.Head.{Head}
+use Rattle.rtp_pack.specs.declared.heads.HeadFault.{HeadFault}
+use Rattle.rtp_pack.specs.declared.heads.HeadFault.TheVariants.{Short}
+use Rattle.rtsp_client.specs.declared.frames.Source.{Source}
+use Rattle.rtsp_client.specs.declared.plays.Play.{Play}
+use Rattle.rtsp_client.specs.States.{State, has_all, source_played, source_read, source_with}
+
+-- a head that is read is whole
+not-short : {head : Head} (short : Bool) (rest : Result Head HeadFault) → (if short then Err Short else rest) ≡ Ok head → short ≡ false
+not-short true rest is = absurd cc
+not-short false rest is = refl
+
+at-least : (n : ℕ) → nat_lt n 16 ≡ false → 16 ≤ n
+at-least n not = grind (arith, nat_tests)
+
+pub head-long : {head : Head} (block : List ℕ) → head_of (drop 4 block) ≡ Ok head → 20 ≤ length block
+head-long block is = omega (arith, length-drop 4 block, at-least (length (drop 4 block)) (not-short (nat_lt (length (drop 4 block)) 16) _ is))
+
+-- no reply to PLAY was heard
+pub source-unplayed : (s : State) (block : List ℕ) → s.play ≡ None → None ≡ source_with s block
+source-unplayed s block is = sym (ap (λ play. source_played play s block) is)
+
+-- all pictures are whole, or some are to come
+pub source-all : {play : Play} (s : State) (block : List ℕ) → s.play ≡ Some play → has_all s ≡ true → None ≡ source_with s block
+source-all {play} s block is all = sym (ap (λ p. source_played p s block) is
+    ∙ ap (λ (b : Bool). if b then None else source_read s.source (head_of (drop 4 block)) (drop 20 block) play.end_ms) all)
+
+pub source-read : {play : Play} {found : Option Source} {head : Result Head HeadFault} (s : State) (block : List ℕ) → s.play ≡ Some play → has_all s ≡ false →
+    head_of (drop 4 block) ≡ head → found ≡ source_read s.source head (drop 20 block) play.end_ms → found ≡ source_with s block
+source-read {play} s block is some read found =
+    found ∙ ap (λ h. source_read s.source h (drop 20 block) play.end_ms) (sym read)
+    ∙ sym (ap (λ p. source_played p s block) is
+    ∙ ap (λ (b : Bool). if b then None else source_read s.source (head_of (drop 4 block)) (drop 20 block) play.end_ms) some)
+
+-- the rest of a block
+pub rest-whole : (n : ℕ) (block : List ℕ) → take (length block - n) (drop n block) ≡ drop n block
+rest-whole n block = take_all (length block - n) (drop n block) (omega (arith, length-drop n block))
+
+pub long-so : (found : Option Source) (block : List ℕ) → 20 ≤ length block → IfSome found (λ source. 20 ≤ length block)
+long-so None block long = tt
+long-so (Some source) block long = long
