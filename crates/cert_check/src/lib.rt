@@ -39,28 +39,29 @@ pub enum CertFault {
 
 impl fmt::Display for CertFault {
     fn fmt<W: fmt::Write>(&self, f: &mut fmt::Formatter<W>) -> fmt::Result {
-        match self {
-            CertFault::EmptySegment(segment) => write!(f, "segment {segment} has no slots"),
-            CertFault::WrongLength => f.write_str("the slots aren't those of the curves"),
-            CertFault::WrongTotal => f.write_str("the bytes aren't those of the curves"),
-            CertFault::BelowLow(slot) => write!(f, "slot {slot} ends below the lower curve"),
-            CertFault::AboveUp(slot) => write!(f, "slot {slot} ends above the upper curve"),
+        let (before, number, after) = match self {
+            CertFault::WrongLength => {
+                return f.write_str("the slots aren't those of the curves");
+            }
+            CertFault::WrongTotal => return f.write_str("the bytes aren't those of the curves"),
+            CertFault::EmptySegment(segment) => ("segment ", segment, " has no slots"),
+            CertFault::BelowLow(slot) => ("slot ", slot, " ends below the lower curve"),
+            CertFault::AboveUp(slot) => ("slot ", slot, " ends above the upper curve"),
             CertFault::EqualSlopes(segment) => {
-                write!(f, "segment {segment} and the next have equal slopes")
+                ("segment ", segment, " and the next have equal slopes")
             }
-            CertFault::RiseOffUpper(segment) => {
-                write!(
-                    f,
-                    "the slope rises after segment {segment} off the upper curve"
-                )
-            }
-            CertFault::FallOffLower(segment) => {
-                write!(
-                    f,
-                    "the slope falls after segment {segment} off the lower curve"
-                )
-            }
-        }
+            CertFault::RiseOffUpper(segment) => (
+                "the slope rises after segment ",
+                segment,
+                " off the upper curve",
+            ),
+            CertFault::FallOffLower(segment) => (
+                "the slope falls after segment ",
+                segment,
+                " off the lower curve",
+            ),
+        };
+        write!(f, "{before}{number}{after}")
     }
 }
 

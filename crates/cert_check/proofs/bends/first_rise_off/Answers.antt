@@ -1,3 +1,4 @@
+use Rattle.std.proofs.lemmas.Grind.{common_steps, rows}
 use Rattle.std.proofs.Common.{◌≡◌, ◌+◌, ◌-◌, take, slice_index, arith, ap, below_more}
 use Rattle.std.proofs.lemmas.Bool.{both_ways}
 use Rattle.plan_cert.specs.Slots.{total_slots}
@@ -31,3 +32,15 @@ loop-i-preserved c =
         | else-off-via-then-off+else-rises w ↦ both_ways w.rises.result w.if-rises.false (w.rises.ensures.1 fault.1)
       ]);
     }
+
+pub overflow_add-place : goal.overflow_add-place
+overflow_add-place c = grind (arith, common_steps)
+
+pub overflow_add-height : goal.overflow_add-height
+overflow_add-height c = grind (arith, common_steps)
+
+pub offset_bounds-up-place : goal.offset_bounds-up-place
+offset_bounds-up-place c = grind (arith, common_steps)
+
+pub returns-then-rises : goal.returns-then-rises
+returns-then-rises c = grind (arith, common_steps, rows)

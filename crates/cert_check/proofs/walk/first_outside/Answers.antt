@@ -1,3 +1,4 @@
+use Rattle.std.proofs.lemmas.Grind.{common_steps}
 use Rattle.std.proofs.Common.{◌≡◌, ◌<◌, ◌+◌, false, not, is_some, length, arith, ap, ◌∙◌, below_more}
 use Rattle.std.proofs.lemmas.Bool.{both_ways}
 use Rattle.cert_check.specs.Fault.{IsAboveUp}
@@ -49,3 +50,27 @@ loop-t-preserved c =
             ]))
       ];
     }
+
+pub loop-t-init : goal.loop-t-init
+loop-t-init c = grind (arith, common_steps)
+
+pub next-walk-requires-clause-more : goal.next-walk-requires-clause-more
+next-walk-requires-clause-more c = grind (arith, common_steps)
+
+pub next-walk-requires-clause-fits : goal.next-walk-requires-clause-fits
+next-walk-requires-clause-fits c = grind (arith, common_steps)
+
+pub bounds-segments-walk : goal.bounds-segments-walk
+bounds-segments-walk c = grind (arith, common_steps)
+
+pub scaled_height-height-requires-clause-within : goal.scaled_height-height-requires-clause-within
+scaled_height-height-requires-clause-within c = grind (arith, common_steps)
+
+pub scaled_height-height-requires-clause-few : goal.scaled_height-height-requires-clause-few
+scaled_height-height-requires-clause-few c = grind (arith, common_steps)
+
+pub overflow_mul-from : goal.overflow_mul-from
+overflow_mul-from c = grind (arith, common_steps)
+
+pub overflow_mul-from-then-is_none : goal.overflow_mul-from-then-is_none
+overflow_mul-from-then-is_none c = grind (arith, common_steps)
