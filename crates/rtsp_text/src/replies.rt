@@ -15,7 +15,7 @@ use vod_base::NoMemory;
 /// The text of a reply (RFC 2326 section 7), in a buffer of 65,536 bytes.
 ///
 /// Contracts see the text so far as a list of bytes. Only `new` takes memory.
-#[derive(Debug, Drop)]
+#[derive(Drop)]
 pub struct Reply {
     text: Vec<u8>,
 }

@@ -50,16 +50,15 @@ pub enum RequestFault {
 
 impl fmt::Display for RequestFault {
     fn fmt<W: fmt::Write>(&self, f: &mut fmt::Formatter<W>) -> fmt::Result {
-        match self {
-            RequestFault::BadLine => write!(f, "no request line"),
-            RequestFault::BadVersion => write!(f, "another version than RTSP/1.0"),
-            RequestFault::BadHeader(number) => write!(
-                f,
-                "header line {number} isn't a name, a colon and a value"
-            ),
-            RequestFault::NoSequenceNumber => write!(f, "no CSeq with a number"),
-            RequestFault::BadLength => write!(f, "a Content-Length that isn't all digits"),
-        }
+        f.write_str(match self {
+            RequestFault::BadLine => "no request line",
+            RequestFault::BadVersion => "another version than RTSP/1.0",
+            RequestFault::BadHeader(number) => {
+                return write!(f, "header line {number} isn't a name, a colon and a value");
+            }
+            RequestFault::NoSequenceNumber => "no CSeq with a number",
+            RequestFault::BadLength => "a Content-Length that isn't all digits",
+        })
     }
 }
 
