@@ -6,12 +6,16 @@ use Rattle.plan_cert.specs.declared.Segment.{Segment}
 use Rattle.plan_cert.specs.Plan.{IsPlan}
 use Rattle.plan_cert.specs.Slots.{sum_through, total_slots}
 use Rattle.plan_cert.proofs.SlotSums.{sum_through-past}
-use Rattle.film_frames.specs.Tracks.{IsBoundaryAfter}
-use Rattle.film_run.specs.Pauses.{IsHalt}
+use Rattle.film_frames.specs.Tracks.{IsBoundary, IsBoundaryAfter}
+use Rattle.film_run.specs.declared.runs.Run.{Run}
+use Rattle.film_run.specs.Pauses.{IsHalt, IsLeft}
+use Rattle.film_run.specs.Runs.{Fits, IsRun}
 use Rattle.pacer.specs.Pacings.{IsPacing, Pacing, first_slots, is_done, slots_through, after_step}
 use Rattle.day_run.specs.declared.clients.Play.{Play}
+use Rattle.day_run.specs.declared.clients.Rest.{Rest}
 use Rattle.day_run.specs.declared.clients.Stop.{Stop}
-use Rattle.day_run.specs.Clients.{IsPlaying, IsStopping}
+use Rattle.day_run.specs.Clients.{IsPlaying, IsRest, IsStopping}
+use Rattle.day_run.specs.Reels.{reel_pieces, reel_sizes}
 
 -- a slot was stepped, and what was due in it was sent
 pub playing-stepped : (slot : ℕ) (play : Play) (p : Pacing) → p ≡ after_step false slot play.pacer → IsPacing p → IsPlaying play → IsPlaying (record play { pacer = p })
@@ -73,3 +77,39 @@ halts {play} (Some last) playing undone passed boundary most =
       | inr past ↦ absurd (omega (arith, sum_through-past play.plan last plan (omega (arith, past)), through, below, playing.whole))
     ] in
     (inside, omega (arith, through, boundary.after), omega (arith, most, playing.whole))
+
+-- what a halt leaves of a play, whose halt is at a boundary
+pub record LeftRun (play : Play) (keep : ℕ) (left : Run) : Type 0 where
+  pub last : Option ℕ
+  pub boundary : IsBoundary play.pacer.pieces (play.pacer.before + keep)
+  pub left_is : IsLeft (reel_sizes play.rest.reel.now) play.rest.playback play.rest.run play.plan last keep left
+  pub run_is : IsRun (reel_sizes play.rest.reel.now) left
+  pub fits : Fits play.rest.playback.buffer left
+
+-- it can be sent on
+pub left-rest : {play : Play} {keep : ℕ} {left : Run} → IsPlaying play → LeftRun play keep left → IsRest (record play.rest { run = left })
+left-rest {play} {keep} {left} playing own = record {
+  playback = playing.rest.playback;
+  run = own.run_is;
+  first = own.left_is.first_is ∙ playing.rest.first;
+  end = own.left_is.end_is ∙ playing.rest.end;
+  boundary = subst (λ n. IsBoundary (reel_pieces play.rest.reel.now) n) (ap (λ n. n + keep) playing.before_is ∙ sym own.left_is.sent_is)
+      (subst (λ (ps : List (List ℕ)). IsBoundary ps (play.pacer.before + keep)) playing.pieces_are own.boundary);
+  fits = own.fits;
+}
+
+-- what a play that was halted goes on to send
+pub left-stopping : {play : Play} {p : Pacing} {keep : ℕ} {rest : Rest} → IsPlaying play → IsRest rest → p ≡ record play.pacer { keep = keep }
+    → IsPacing p → IsStopping (record { keep = keep; rest = rest; pacer = p })
+left-stopping playing is e pacing = record {
+  rest = is;
+  keep_is = ap (λ (q : Pacing). q.keep) e;
+  pacing = pacing;
+  all_sent = ap (λ (q : Pacing). q.sent) e ∙ playing.all_sent ∙ sym (ap (λ (q : Pacing). q.due) e);
+}
+
+-- it has come to the slot that was heard last
+pub left-timed : {p : Pacing} {keep : ℕ} (old : Pacing) (heard : ℕ) → p ≡ record old { keep = keep }
+    → old.passed ≡ heard + 1 - old.start → p.passed ≡ heard + 1 - p.start
+left-timed old heard e timed =
+    ap (λ (q : Pacing). q.passed) e ∙ timed ∙ sym (ap (λ (q : Pacing). heard + 1 - q.start) e)

@@ -13,7 +13,7 @@ use early_start::MAX_WAIT;
 use vod_base::read_number;
 
 /// What a play or an offer asks for; its film or trace is the line's fourth word.
-#[derive(Clone, Copy, Debug, PartialEq, Eq)]
+#[derive(Clone, Copy)]
 pub(crate) struct Asked {
     pub(crate) client: u8,
     pub(crate) film: bool,
@@ -22,7 +22,7 @@ pub(crate) struct Asked {
 }
 
 /// What a line says.
-#[derive(Clone, Copy, Debug, PartialEq, Eq)]
+#[derive(Clone, Copy)]
 pub(crate) enum Saying {
     Play(Asked),
     Pause(u8),

@@ -1,6 +1,7 @@
 //! The printed lines of a day that are no entries of the journal.
 
-ghost use Rattle.std.specs.Prelude.{◌≡◌, ◌++◌, OnOk, flat_map};
+ghost use Rattle.std.specs.Prelude.{◌≡◌, ◌++◌, OnOk, codes, flat_map};
+ghost use Rattle.report.specs.Fields.{field};
 ghost use Rattle.day_run.specs.Prints.{fair_text, fault_text, fault_words, full_text, made_words};
 ghost use Rattle.day_run.specs.Prints.{offer_text, slot_text, slot_words, start_words, state_text};
 ghost use Rattle.day_run.specs.Prints.{sum_words, tried_text, turn_words};
@@ -61,9 +62,7 @@ pub(crate) fn push_offer(out: &mut Vec<u8>, offers: &Offers) -> Result<(), NoMem
     ensures { OnOk result (out.new.items ≡ out.old.items ++ (offer_text offers.now)) }
 {
     push_all_tried(out, offers.tries())?;
-    push_start(out, offers.start())?;
-    push_field(out, b" tried=", offers.tries().len() as u64)?;
-    push(out, b"\n")
+    push_offered(out, offers.start(), offers.tries().len() as u64)
 }
 
 /// Appends the line of a fair.
@@ -99,8 +98,18 @@ fn push_tried(out: &mut Vec<u8>, tried: &Tried) -> Result<(), NoMemory>
 {
     push_field(out, b"tried start=", tried.start)?;
     push_field(out, b" slot=", tried.over.slot)?;
-    push_field(out, b" booked=", tried.over.booked)?;
-    push_field(out, b" asked=", tried.over.asked)?;
+    push_room(out, tried.over.booked, tried.over.asked)
+}
+
+/// Appends what is booked in the slot that has no room and what was asked for there, and ends the
+/// line.
+#[tactic(auto, using(std::proofs::lemmas::List::append_assoc))]
+fn push_room(out: &mut Vec<u8>, booked: u64, asked: u64) -> Result<(), NoMemory>
+    ensures { OnOk result (out.new.items ≡ out.old.items
+        ++ (field (codes " booked=") booked ++ field (codes " asked=") asked ++ codes "\n")) }
+{
+    push_field(out, b" booked=", booked)?;
+    push_field(out, b" asked=", asked)?;
     push(out, b"\n")
 }
 
@@ -112,6 +121,17 @@ fn push_all_tried(out: &mut Vec<u8>, tried: &[Tried]) -> Result<(), NoMemory>
         push_tried(out, start)?;
     }
     Ok(())
+}
+
+/// Appends what is offered and how many starts were tried in vain, and ends the line.
+#[tactic(auto, using(std::proofs::lemmas::List::append_assoc))]
+fn push_offered(out: &mut Vec<u8>, start: Option<u64>, tried: u64) -> Result<(), NoMemory>
+    ensures { OnOk result (out.new.items ≡ out.old.items
+        ++ (start_words start ++ field (codes " tried=") tried ++ codes "\n")) }
+{
+    push_start(out, start)?;
+    push_field(out, b" tried=", tried)?;
+    push(out, b"\n")
 }
 
 /// Appends what is offered.
