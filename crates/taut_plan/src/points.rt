@@ -9,14 +9,14 @@ use wire_curve::Curves;
 
 /// A point in the plane of slots and bytes. Place k is the end of slot k - 1, and place 0 the
 /// start.
-#[derive(Clone, Copy, Debug)]
+#[derive(Clone, Copy)]
 pub(crate) struct Point {
     pub(crate) place: u64,
     pub(crate) height: u64,
 }
 
 /// One of the two curves.
-#[derive(Clone, Copy, Debug)]
+#[derive(Clone, Copy)]
 pub(crate) enum Side {
     Lower,
     Upper,

@@ -1,3 +1,4 @@
+use Rattle.std.proofs.lemmas.Grind.{common_steps}
 use Rattle.std.proofs.Common.{arith, ◌+◌, sym, subst}
 use Rattle.taut_plan.specs.Chain.{IsChain}
 use Rattle.taut_plan.specs.Sides.{side_of}
@@ -30,3 +31,9 @@ returns-clause-chain c =
     let curve = side_of c.args.curves.now c.args.side in
     subst (IsChain c.args.side curve (c.args.slot + 1) c.args.apex) (sym c.in_ok-join.ensures)
     (join_step curve c.args.slot c.point_at-point.ensures c.loop-side.invariant c.loop-side-test.ensures)
+
+pub pop_last-requires : goal.pop_last-requires
+pop_last-requires c = grind (arith, common_steps)
+
+pub loop-side-smaller : goal.loop-side-smaller
+loop-side-smaller c = grind (arith, common_steps)
