@@ -1,13 +1,13 @@
-use Rattle.std.proofs.Common.{◌≡◌, ◌+◌, ◌<◌, ◌++◌, ◌∷◌, [], ℕ, List, length, ap, sym, subst, inr, refl, arith, length-append}
-use Rattle.std.specs.Prelude.{map}
+use Rattle.std.proofs.Common.{◌≡◌, ◌+◌, ◌∙◌, ◌<◌, ◌++◌, ◌∷◌, [], ℕ, List, length, ap, sym, subst, inr, refl, arith, rules, length-append}
+use Rattle.std.specs.Prelude.{All, map}
 use Rattle.std.specs.List.{remove}
-use Rattle.std.proofs.lemmas.List.{map-append}
+use Rattle.std.proofs.lemmas.List.{append-nil, map-append}
 use Rattle.std.proofs.lemmas.List.Elements.{All-nil}
 use Rattle.vod_base.specs.Outside.{HasRisen}
 use Rattle.station.specs.Seats.{Sitting}
 use Rattle.conn.specs.declared.reports.PartReport.{PartReport}
 use Rattle.vodserve.specs.Worked.{AreLeft}
-use Rattle.vodserve.specs.Workers.{AreWorkers, IsWorker, report_of}
+use Rattle.vodserve.specs.Workers.{AreJoined, AreWorkers, IsWorker, report_of}
 use Rattle.vodserve.specs.declared.workers.Worker.{Worker}
 use Rattle.vodserve.proofs.WorkerLemmas.{all_push, first_worker, join_one, rest_workers}
 use Rattle.vodserve.proofs.GateLemmas.{first_split, not_opened_back, not_opened_here, one_done, risen_on, risen_since, back_still_open}
@@ -83,3 +83,29 @@ loop-workers-preserved g c =
             (c.rejoin.ensures.risen some) inv.count);
       },
     )
+
+-- when none is left, all are done
+all_done : {A : Type 0} (all done rest : List A) → all ≡ done ++ rest → length rest ≡ 0 → done ≡ all
+all_done all done [] whole none = sym (whole ∙ append-nil done)
+all_done all done (item ∷ rest) whole none = absurd (omega (arith, none))
+
+pub returns-clause-joined : goal.returns-clause-joined
+returns-clause-joined g c =
+    let inv = c.loop-workers.invariant.1 in
+    let none : length c.loop-workers.workers.items ≡ 0 = search rules in
+    subst (λ (ws : List (Worker _)). AreJoined g.G.Gate.told c.args.station.now (length c.args.workers.items) ws c.loop-workers.seat (g.G.Gate.told c.loop-workers.gate))
+    (all_done c.args.workers.items c.loop-workers.invariant.0 c.loop-workers.workers.items inv.whole none) inv.joined
+
+pub returns-clause-left : goal.returns-clause-left
+returns-clause-left g c =
+    let inv = c.loop-workers.invariant.1 in
+    let none : length c.loop-workers.workers.items ≡ 0 = search rules in
+    subst (λ (ws : List (Worker _)). AreLeft (map report_of ws) c.loop-workers.end c.loop-workers.reports.items)
+    (all_done c.args.workers.items c.loop-workers.invariant.0 c.loop-workers.workers.items inv.whole none) inv.left
+
+pub returns-clause-counted : goal.returns-clause-counted
+returns-clause-counted g c =
+    let inv = c.loop-workers.invariant.1 in
+    let none : length c.loop-workers.workers.items ≡ 0 = search rules in
+    subst (All (λ worker. 0 < g.G.Gate.faults worker.part → HasRisen (g.G.Gate.faults c.args.gate.now) (g.G.Gate.faults c.loop-workers.gate)))
+    (all_done c.args.workers.items c.loop-workers.invariant.0 c.loop-workers.workers.items inv.whole none) inv.counted
