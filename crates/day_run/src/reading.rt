@@ -136,22 +136,11 @@ impl Draft {
     {
         match saying {
             Saying::Play(asked) => match self.source(words, asked)? {
-                Some(source) => Ok(Some(Line::Play {
-                    client: asked.client,
-                    source,
-                    buffer: asked.buffer,
-                    delay: asked.delay,
-                })),
+                Some(source) => Ok(Some(play_line(asked, source))),
                 None => Ok(None),
             },
             Saying::Offer(asked, wait) => match self.source(words, asked)? {
-                Some(source) => Ok(Some(Line::Offer {
-                    client: asked.client,
-                    source,
-                    buffer: asked.buffer,
-                    delay: asked.delay,
-                    wait,
-                })),
+                Some(source) => Ok(Some(offer_line(asked, source, wait))),
                 None => Ok(None),
             },
             Saying::Pause(client) => Ok(Some(Line::Pause(client))),
@@ -199,6 +188,31 @@ impl Draft {
             Some(saying) => self.add_saying(words, saying),
             None => Ok(false),
         }
+    }
+}
+
+/// The line of a play of the source of that number.
+fn play_line(asked: Asked, source: usize) -> Line
+    ensures { result ≡ Line.Play asked.client source asked.buffer asked.delay }
+{
+    Line::Play {
+        client: asked.client,
+        source,
+        buffer: asked.buffer,
+        delay: asked.delay,
+    }
+}
+
+/// The line of an offer for such a play.
+fn offer_line(asked: Asked, source: usize, wait: u64) -> Line
+    ensures { result ≡ Line.Offer asked.client source asked.buffer asked.delay wait }
+{
+    Line::Offer {
+        client: asked.client,
+        source,
+        buffer: asked.buffer,
+        delay: asked.delay,
+        wait,
     }
 }
 
