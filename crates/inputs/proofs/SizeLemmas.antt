@@ -1,14 +1,13 @@
 -- The sizes that are counted while a film's parts are told are those of its units.
-use Rattle.std.proofs.Common.{◌≡◌, ℕ, ◌+◌, ◌-◌, ◌*◌, ◌≤◌, false, cond, eqb, ltb, leb, ◌&&◌, List, [], ◌∷◌, ◌++◌, append_assoc, Some, None, IsSome, length, take, drop, map, sum, refl, sym, ap, ◌∙◌, arith, length-append}
+use Rattle.std.proofs.Common.{◌≡◌, ℕ, ◌+◌, ◌-◌, ◌≤◌, false, cond, eqb, ltb, leb, ◌&&◌, List, [], ◌∷◌, ◌++◌, append_assoc, Some, None, IsSome, length, take, drop, map, refl, sym, ap, ◌∙◌, arith, length-append}
 use Rattle.std.proofs.lemmas.List.{append-nil, length-map}
-use Rattle.std.proofs.lemmas.List.Sums.{sum_by-cons}
 use Rattle.std.proofs.lemmas.Bool.{and_parts, false≢true, eqb-true}
 use Rattle.mpeg_scan.specs.declared.units.Unit.{Unit as PictureUnit}
 use Rattle.mpeg_scan.specs.Calls.{Call, head_call, slice_call, unit_call}
 use Rattle.mpeg_scan.specs.Codes.{read, codes_of}
 use Rattle.mpeg_scan.specs.Counts.{Count, counts_after, group_of, no_count}
 use Rattle.mpeg_scan.specs.Films.{IsFilm, refusal, slices_in, told_of, units_in}
-use Rattle.mpeg_scan.specs.Layout.{AreChained, AreLaid, unit_starts}
+use Rattle.mpeg_scan.specs.Layout.{unit_starts}
 use Rattle.mpeg_scan.specs.Tiles.{Part, between, within, first_of, parts_after}
 use Rattle.mpeg_scan.specs.Words.{rate_of}
 use Rattle.mpeg_scan.proofs.BoundLemmas.{film-bytes, film-pictures, film-rate, film-units}
@@ -19,7 +18,7 @@ use Rattle.rtp_pack.specs.Packets.{lengths_to, unit_lengths}
 use Rattle.rtp_pack.specs.Sizes.{Measure, measure_from_head, frames_of, measure_of, with_slice}
 use Rattle.rtp_pack.proofs.SizeLemmas.{slices-append}
 use Rattle.film_frames.specs.Pieces.{wire_size}
-use Rattle.film_frames.proofs.PieceLemmas.{unit-bound, unit-le}
+use Rattle.film_frames.proofs.FilmLemmas.{AreUnits, units-bound}
 use Rattle.inputs.specs.Sizes.{AreSizesWithin, IsSized, Sizing, sizing_after_call, first_sizing, sizing_after, sizes_of}
 
 pub sized-append : (s : Sizing) (xs ys : List Call) → sizing_after s (xs ++ ys) ≡ sizing_after (sizing_after s xs) ys
@@ -135,19 +134,6 @@ sized-more {calls} {unit} {sizes} call so_far unit_is sizes_are =
     }
 
 -- ---- the limits of a film's sizes
-
--- units that lie so, one after another, from a place to another
-record AreUnits (end : ℕ) (starts : List ℕ) (units : List PictureUnit) (from to : ℕ) : Type 0 where
-  laid : AreLaid end starts units
-  chained : AreChained from units to
-
-units-bound : {end : ℕ} {starts : List ℕ} {units : List PictureUnit} {from to : ℕ} → AreUnits end starts units from to →
-    sum (map (λ u. wire_size starts u) units) + 2 * from ≤ 2 * to + 112 * length units
-units-bound {units = []} are = omega (arith, are.chained)
-units-bound {end} {starts} {units = unit ∷ units} {to} are =
-    let later : AreUnits end starts units unit.to to = record { laid = are.laid.1; chained = are.chained.1 } in
-    let rest = units-bound later in
-    omega (arith, rest, are.chained.0, unit-bound starts unit are.laid.0.1, unit-le starts unit are.laid.0.1, sum_by-cons (λ n. n) (wire_size starts unit) (map (λ u. wire_size starts u) units))
 
 pub film-limits : (film : List ℕ) (rate : ℕ) → refusal film ≡ None → rate ≡ rate_of (codes_of (read [] film)) → AreSizesWithin rate (sizes_of film)
 film-limits film rate accepted is =

@@ -70,3 +70,16 @@ returns-in-None-clause-trouble g c =
       count = omega (arith, c.find_file.ensures.library.count, c.find_pack.ensures.library.count);
     } in
     troubles_on c.args.name.now (g.L.Library.faults c.scan_plain.new.library) c.scan_plain.result on c.scan_plain.ensures.trouble
+
+pub returns-clause-film : goal.returns-clause-film
+returns-clause-film g c =
+    heard_on (g.F.Found.heard c.scan_stream.new.found) c.args.name.now c.scan_stream.result
+    (c.find_pack.ensures.library.kept ∙ c.find_file.ensures.library.kept) c.scan_stream.ensures.film
+
+pub returns-clause-trouble : goal.returns-clause-trouble
+returns-clause-trouble g c =
+    let on : ReadOn (g.L.Library.files c.args.library.now) (g.L.Library.files c.find_pack.new.library) (g.L.Library.faults c.args.library.now) (g.L.Library.faults c.find_pack.new.library) = record {
+      kept = c.find_pack.ensures.library.kept ∙ c.find_file.ensures.library.kept;
+      count = omega (arith, c.find_file.ensures.library.count, c.find_pack.ensures.library.count);
+    } in
+    troubles_on c.args.name.now (g.L.Library.faults c.scan_stream.new.library) c.scan_stream.result on c.scan_stream.ensures.trouble
