@@ -28,7 +28,7 @@ pub struct Overflow {
 /// The bytes that are booked on a link, slot by slot, from `now` on.
 ///
 /// Contracts see `now`, the steps of the capacity and the list of the totals from `now` on.
-#[derive(Debug, Drop)]
+#[derive(Drop)]
 pub struct Calendar {
     profile: Profile,
     ring: Ring,

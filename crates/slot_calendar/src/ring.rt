@@ -22,7 +22,7 @@ const BLOCKS: usize = 1024;
 ///
 /// Contracts see `now`, the list of the totals from it on, and the block that was lowered and not
 /// read again.
-#[derive(Debug, Drop)]
+#[derive(Drop)]
 pub(crate) struct Ring {
     first: u64,
     places: Vec<u64>,

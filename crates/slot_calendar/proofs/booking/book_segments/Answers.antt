@@ -1,3 +1,4 @@
+use Rattle.std.proofs.lemmas.Grind.{common_steps}
 use Rattle.std.proofs.Common.{◌≡◌, ◌<◌, ◌≤◌, ◌+◌, get_or, length, arith, ◌∙◌, rules}
 use Rattle.plan_cert.specs.declared.Segment.{Segment}
 use Rattle.slot_calendar.proofs.Sending.{IsSegmentFrom, asked-next, asked-front, slots-next}
@@ -33,3 +34,21 @@ loop-segment-preserved c =
           omega (arith, next, added, i.invariant.totals t since)
           );
     }
+
+pub loop-segment-init : goal.loop-segment-init
+loop-segment-init c = grind (arith, common_steps)
+
+pub book_segment-requires-clause-plan : goal.book_segment-requires-clause-plan
+book_segment-requires-clause-plan c = grind (arith, common_steps)
+
+pub book_segment-requires-clause-small : goal.book_segment-requires-clause-small
+book_segment-requires-clause-small c = grind (arith, common_steps)
+
+pub book_segment-requires-clause-within : goal.book_segment-requires-clause-within
+book_segment-requires-clause-within c = grind (arith, common_steps)
+
+pub overflow_add-from : goal.overflow_add-from
+overflow_add-from c = grind (arith, common_steps)
+
+pub returns-clause-totals : goal.returns-clause-totals
+returns-clause-totals c = grind (arith, common_steps)

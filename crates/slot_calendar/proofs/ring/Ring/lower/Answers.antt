@@ -1,3 +1,4 @@
+use Rattle.std.proofs.lemmas.Grind.{common_steps}
 use Rattle.std.proofs.Common.{◌≡◌, ◌<◌, ◌≤◌, ◌+◌, ◌-◌, ◌/◌, ◌%◌, ℕ, List, Some, get_or, arith, ap, subst, ◌∙◌, inl, inr}
 use Rattle.std.proofs.lemmas.Bool.{cases_lt}
 use Rattle.std.proofs.lemmas.List.{get_or_read}
@@ -53,3 +54,6 @@ returns-clause-others c = λ t since other. (
     set-there (c.index_mut.result.now - c.args.by) places turn (omega (arith, first, since)) other
     ∙ ap (λ s. total_at s.first s.totals t) c.self.view_is
     )
+
+pub overflow_sub-index_mut : goal.overflow_sub-index_mut
+overflow_sub-index_mut c = grind (arith, common_steps)

@@ -1,3 +1,4 @@
+use Rattle.std.proofs.lemmas.Grind.{common_steps}
 use Rattle.std.proofs.Common.{◌≡◌, ◌<◌, ◌+◌, ◌/◌, ◌%◌, ℕ, max, get_or, set, arith, sym, ap, subst, ◌∙◌}
 use Rattle.std.proofs.lemmas.List.{get_or_read}
 use Rattle.std.proofs.lemmas.Nat.{mod_below}
@@ -43,3 +44,6 @@ returns-clause-others c = λ t from other. (
     set-there (c.index.result.now + c.args.by) places turn (omega (arith, first, from)) other
     ∙ ap (λ s. total_at s.first s.totals t) c.self.view_is
     )
+
+pub overflow_add-total : goal.overflow_add-total
+overflow_add-total c = grind (arith, common_steps)
