@@ -20,7 +20,7 @@ use vod_base::NoMemory;
 /// open play.
 ///
 /// Contracts see the steps of the capacity, the most entries, and the list of the entries.
-#[derive(Debug, Drop)]
+#[derive(Drop)]
 pub struct Book {
     calendar: Calendar,
     entries: Vec<Entry>,
