@@ -35,13 +35,9 @@ impl<'a, R: Files> FileLibrary<'a, R> {
         ensures { self.new.faults ≡ self.old.faults }
     {
         match self.open.take() {
-            Some(open) if open.name.as_str() == name && open.place == at => Ok(open),
-            _ => self.opened(name, at),
+            Some(open) if open.name.as_str() == name && open.place == at => return Ok(open),
+            _ => {}
         }
-    }
-
-    /// The file of that name, opened anew.
-    fn opened(&self, name: &str, at: u64) -> io::Result<Open<R::File>> {
         let name_kept = String::from_str(self.alloc, name)?;
         let mut file = fs::open(self.rt, name)?;
         file.seek(SeekFrom::Start(at))?;
@@ -57,7 +53,8 @@ impl<'a, R: Files> FileLibrary<'a, R> {
         ensures { self.new.faults ≡ self.old.faults }
     {
         let mut open = self.open_at(name, at)?;
-        let count = open.read(into)?;
+        let count = read_some(&mut open.file, into)?;
+        open.place = open.place.saturating_add(count as u64);
         self.open = Some(open);
         Ok(count)
     }
@@ -96,15 +93,6 @@ struct Open<F> {
     name: String,
     file: F,
     place: u64,
-}
-
-impl<F: Read> Open<F> {
-    /// Reads what comes next.
-    fn read(&mut self, into: &mut [u8]) -> io::Result<usize> {
-        let count = read_some(&mut self.file, into)?;
-        self.place = self.place.saturating_add(count as u64);
-        Ok(count)
-    }
 }
 
 /// Reads, again where a signal interrupted it.

@@ -72,16 +72,21 @@ impl<'a, R: Net + Clock> TcpLink<'a, R> {
     ) -> io::Result<TcpLink<'a, R>>
         ensures { IfOk result (λ link. link.faults.count ≡ 0) }
     {
-        let gathered = Gathered::new(alloc)?;
-        let events = Events::with_capacity(alloc, 4)?;
+        stream.set_nonblocking(true)?;
+        let _ = stream.set_nodelay(true);
+        let mut socket = TcpStream::from_std(stream);
         let poll = Poll::new(rt)?;
-        let socket = polled(&poll, stream)?;
+        poll.registry().register(
+            &mut socket,
+            Token(0),
+            Interest::READABLE | Interest::WRITABLE,
+        )?;
         Ok(TcpLink {
             rt,
             socket,
             poll,
-            events,
-            gathered,
+            events: Events::with_capacity(alloc, 4)?,
+            gathered: Gathered::new(alloc)?,
             clock,
             slot: None,
             readable: true,
@@ -89,16 +94,6 @@ impl<'a, R: Net + Clock> TcpLink<'a, R> {
             faults: Faults::none(),
         })
     }
-}
-
-/// The socket of a stream, which doesn't block, and which this poll waits for.
-fn polled(poll: &Poll, stream: net::TcpStream) -> io::Result<TcpStream> {
-    stream.set_nonblocking(true)?;
-    let _ = stream.set_nodelay(true);
-    let mut socket = TcpStream::from_std(stream);
-    let ready = Interest::READABLE | Interest::WRITABLE;
-    poll.registry().register(&mut socket, Token(0), ready)?;
-    Ok(socket)
 }
 
 impl<R: Clock> TcpLink<'_, R> {
@@ -222,42 +217,18 @@ impl<R: Clock> TcpLink<'_, R> {
     {
         for _ in 0..u64::MAX {
             self.flush()?;
-            if let Some(heard) = self.hear_now(into)? {
-                return Ok(heard);
+            if let Some(slot) = self.new_slot()? {
+                return Ok(Heard::Slot(slot));
             }
-            self.wait_for_slot()?;
+            match self.read(into)? {
+                Some(0) => return Ok(Heard::End),
+                Some(count) => return Ok(Heard::Bytes(count)),
+                None => {}
+            }
+            let rest = rest_of_slot(self.elapsed()?, self.clock.slot_units.max(1));
+            self.wait(rest)?;
         }
         Ok(Heard::End)
-    }
-
-    /// The event that has come: a new slot, or what came; None where there is none yet.
-    fn hear_now(&mut self, into: &mut [u8]) -> io::Result<Option<Heard>>
-        requires { 0 < length into.now }
-        ensures faults { self.new.faults ≡ self.old.faults }
-        ensures within { IfOk result (λ come.
-            IfSome come (λ heard. IsWithin heard (length into.new))) }
-    {
-        if let Some(slot) = self.new_slot()? {
-            return Ok(Some(Heard::Slot(slot)));
-        }
-        match self.read(into)? {
-            Some(0) => Ok(Some(Heard::End)),
-            Some(count) => Ok(Some(Heard::Bytes(count))),
-            None => Ok(None),
-        }
-    }
-
-    /// Waits until the socket is ready for something, at most until the next slot begins.
-    fn wait_for_slot(&mut self) -> io::Result<()>
-        ensures { self.new.faults ≡ self.old.faults }
-    {
-        let rest = rest_of_slot(self.elapsed()?, self.clock.slot_units.max(1));
-        self.wait(rest)
-    }
-
-    /// What is left of so long a time since it began.
-    fn left_of(&self, most: Duration, begun: Instant) -> io::Result<Duration> {
-        Ok(most.saturating_sub(begun.elapsed(self.rt)?))
     }
 
     /// Writes all gathered bytes, within the time that a peer has for them.
@@ -266,11 +237,11 @@ impl<R: Clock> TcpLink<'_, R> {
         let patience = Duration::from_secs(PATIENCE);
         for _ in 0..u64::MAX {
             self.flush()?;
-            let left = self.left_of(patience, begun)?;
-            if self.gathered.waiting().is_empty() || left.is_zero() {
+            let waited = begun.elapsed(self.rt)?;
+            if self.gathered.waiting().is_empty() || waited >= patience {
                 break;
             }
-            self.wait(left)?;
+            self.wait(patience.saturating_sub(waited))?;
         }
         Ok(())
     }
@@ -281,12 +252,12 @@ impl<R: Clock> TcpLink<'_, R> {
         let most = Duration::from_secs(LINGER);
         let mut dropped = [0; 1024];
         for _ in 0..u64::MAX {
-            let left = self.left_of(most, begun)?;
-            if left.is_zero() || self.read(&mut dropped)? == Some(0) {
+            let waited = begun.elapsed(self.rt)?;
+            if waited >= most || self.read(&mut dropped)? == Some(0) {
                 break;
             }
             if !self.readable {
-                self.wait(left)?;
+                self.wait(most.saturating_sub(waited))?;
             }
         }
         Ok(())
