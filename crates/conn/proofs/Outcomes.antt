@@ -1,10 +1,9 @@
 -- What the station's answers make of a connection.
 use Rattle.std.proofs.Common.{◌≡◌, ℕ, List}
 use Rattle.std.proofs.Common.{refl}
-use Rattle.std.proofs.Common.{sym, ◌∙◌, subst}
+use Rattle.std.proofs.Common.{sym, ◌∙◌}
 use Rattle.std.proofs.lemmas.List.{append-nil}
-use Rattle.station.specs.Answers.{IsFull, IsRefused, Made}
-use Rattle.station.specs.declared.answers.PlayRefused.{PlayRefused}
+use Rattle.station.specs.Answers.{IsFull, Made}
 use Rattle.station.specs.Ledgers.{IsOffered}
 use Rattle.station.specs.declared.answers.Offered.{Offered as Told}
 use Rattle.station.specs.Seats.{IsSameSeat, IsSeat, Sitting}
@@ -43,11 +42,6 @@ answered_full {ask} {new} {seat} {next} {more} {entries} {live} same full answer
   answered = answered;
   noted = record { mine = full.mine ∙ sym (append-nil seat.mine); seat = same; agree = full_agrees same full };
 }
-
--- a play is refused as its cause says
-pub refused_as : {was is : PlayRefused} (seat next : Sitting) (heard : ℕ) (plan : List Segment) → IsRefused seat next heard plan was → was ≡ is →
-    IsRefused seat next heard plan is
-refused_as seat next heard plan refused same = subst (IsRefused seat next heard plan) same refused
 
 pub answered_offer : {old : Standing} {ask : Ask} {new : Standing} {seat next : Sitting} {heard : ℕ}
     {plan : List Segment} {told : Told} {found : Offers}
