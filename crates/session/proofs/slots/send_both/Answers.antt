@@ -1,4 +1,5 @@
-use Rattle.std.proofs.Common.{◌≡◌, false, rules}
+use Rattle.std.proofs.lemmas.Grind.{common_steps}
+use Rattle.std.proofs.Common.{◌≡◌, false, rules, arith}
 use Rattle.vod_base.specs.Links.{sends, told_more}
 use Rattle.session.specs.Sendings.{step_bytes}
 use Rattle.session.proofs.Fronts.{front_right, on_err}
@@ -10,3 +11,9 @@ returns-in_err-step-clause-front g c =
     on_err c.from_residual-in_err-step.result
     (front_right (g.K.Link.told c.args.link.now) c.args.reply.now
     (step_bytes false c.args.slot c.args.state.now) told (search rules))
+
+pub returns-in_err-send-clause-front : goal.returns-in_err-send-clause-front
+returns-in_err-send-clause-front g c = grind (arith, common_steps)
+
+pub returns-clause-told : goal.returns-clause-told
+returns-clause-told g c = grind (arith, common_steps)

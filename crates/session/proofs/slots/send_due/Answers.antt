@@ -1,4 +1,5 @@
-use Rattle.std.proofs.Common.{◌≡◌, ◌++◌, true, false, rules}
+use Rattle.std.proofs.lemmas.Grind.{common_steps}
+use Rattle.std.proofs.Common.{◌≡◌, ◌++◌, true, false, rules, arith}
 use Rattle.vod_base.specs.Links.{IsFrontTold, sends, told_more}
 use Rattle.session.specs.Sendings.{is_between, step_bytes, stepped_in}
 use Rattle.session.proofs.Fronts.{front_both, on_err}
@@ -20,3 +21,9 @@ returns-in_err-send_both-clause-front g c =
       after = step_bytes false c.args.slot (stepped_in true c.args.slot c.args.state.now);
       plain = step_bytes false c.args.slot c.args.state.now;
     }) waits between told front)
+
+pub returns-in_err-step-2-clause-front : goal.returns-in_err-step-2-clause-front
+returns-in_err-step-2-clause-front g c = grind (arith, common_steps)
+
+pub returns-clause-told : goal.returns-clause-told
+returns-clause-told g c = grind (arith, common_steps)
