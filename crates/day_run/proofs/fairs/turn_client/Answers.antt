@@ -1,4 +1,5 @@
-use Rattle.std.proofs.Common.{ap}
+use Rattle.std.proofs.lemmas.Grind.{common_steps}
+use Rattle.std.proofs.Common.{ap, arith}
 use Rattle.day_run.specs.declared.clients.Client.{Client}
 use Rattle.day_run.specs.Clients.{state_of}
 use Rattle.day_run.specs.FairDays.{words_for}
@@ -19,3 +20,12 @@ pub returns-in_ok-resume-in-Paused-clause-left : goal.returns-in_ok-resume-in-Pa
 returns-in_ok-resume-in-Paused-clause-left c =
     no-words c.args.runner.now.clients.items c.args.client c.requires.runner.count c.ranges.client.fits c.index.ensures
     (ap (λ (x : Client). words_for (state_of x)) c.in-Paused.is)
+
+pub returns-in-Playing-clause-done : goal.returns-in-Playing-clause-done
+returns-in-Playing-clause-done c = grind (arith, common_steps)
+
+pub returns-in-Pausing-clause-done : goal.returns-in-Pausing-clause-done
+returns-in-Pausing-clause-done c = grind (arith, common_steps)
+
+pub returns-in_ok-resume-in-Paused-clause-done : goal.returns-in_ok-resume-in-Paused-clause-done
+returns-in_ok-resume-in-Paused-clause-done c = grind (arith, common_steps)

@@ -1,3 +1,4 @@
+use Rattle.std.proofs.lemmas.Grind.{common_steps}
 use Rattle.std.proofs.Common.{◌≡◌, ◌<◌, ◌∙◌, get_or, length, map, set, ap, refl, sym, subst, arith}
 use Rattle.std.proofs.lemmas.List.{set-get_or}
 use Rattle.admission.specs.declared.entries.Command.TheVariants.{Halt}
@@ -82,3 +83,6 @@ returns-in-None-clause-line c =
     let P : ClientState → Type 0 = λ s. IsPauseLine (link_on old) c.args.client s (moment_of old) new (told_text old.book.entries tolds.State) in
     subst P at (no-pause (link_on old) c.args.client client c.in-None.ensures.idle
     (record { kept = ap (λ l. record (moment_of old) { states = map state_of l }) same; text_is = refl }))
+
+pub returns-in-None-clause-runner : goal.returns-in-None-clause-runner
+returns-in-None-clause-runner c = grind (arith, common_steps)

@@ -1,3 +1,4 @@
+use Rattle.std.proofs.lemmas.Grind.{common_steps}
 use Rattle.std.proofs.Common.{◌≡◌, ◌<◌, false, length, ap, sym, ◌∙◌, arith}
 use Rattle.day_run.specs.Clients.{rest_of, state_of}
 use Rattle.day_run.specs.Days.{rest_at, state_at}
@@ -23,3 +24,9 @@ returns-in-Some-clause-line c =
       new = _;
       entries = _;
     }) one own free c.ask.ensures.asked
+
+pub returns-then-is_busy-clause-line : goal.returns-then-is_busy-clause-line
+returns-then-is_busy-clause-line c = grind (arith, common_steps)
+
+pub returns-in-None-clause-line : goal.returns-in-None-clause-line
+returns-in-None-clause-line c = grind (arith, common_steps)

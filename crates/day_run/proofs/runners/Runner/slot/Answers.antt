@@ -1,3 +1,4 @@
+use Rattle.std.proofs.lemmas.Grind.{common_steps}
 use Rattle.std.proofs.Common.{map, arith}
 use Rattle.day_run.specs.Clients.{state_of}
 use Rattle.day_run.proofs.LineSteps.{halt_entries-sent}
@@ -19,3 +20,9 @@ returns-clause-moment c =
       left = c.end_each.ensures.states;
       quiet = halt_entries-sent c.args.slot 0 (map state_of old.clients.items);
     })
+
+pub end_each-requires-clause-sound : goal.end_each-requires-clause-sound
+end_each-requires-clause-sound c = grind (arith, common_steps)
+
+pub returns-clause-runner : goal.returns-clause-runner
+returns-clause-runner c = grind (arith, common_steps)
