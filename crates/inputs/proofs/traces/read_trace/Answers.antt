@@ -1,3 +1,4 @@
+use Rattle.std.proofs.lemmas.Grind.{common_steps}
 use Rattle.std.proofs.Common.{◌≡◌, length, arith, rules, ◌++◌, ◌∷◌, [], ◌-◌, take, drop}
 use Rattle.inputs.proofs.Tokens.{slice_from}
 use Rattle.inputs.proofs.TraceWords.{TokenBegins, next_read, next_bad}
@@ -23,3 +24,6 @@ loop-from-preserved c =
     let read = next_read c.loop-from.invariant counted token place.1 size.0 size.1 in
     let pushed : c.push.new.self.items ≡ c.loop-from.sizes.items ++ c.in-Some-next_size.size.value ∷ [] = search rules in
     rw pushed read
+
+pub overflow_add-at : goal.overflow_add-at
+overflow_add-at c = grind (arith, common_steps)
