@@ -2,74 +2,60 @@
 
 use mpeg_scan::FilmFault;
 use std::alloc::{AllocError, AllocFailed};
-use std::fmt;
 use sys_demux::SystemFault;
 use thiserror::Error;
 use vod_base::NoMemory;
 use wire_curve::CurveFault;
 
 /// Why an input is refused.
-#[derive(Clone, Copy, Debug, PartialEq, Eq)]
+#[derive(Clone, Copy, Debug, PartialEq, Eq, Error)]
 pub enum Fault {
     /// The library has no file of that name.
+    #[error("there is no such file")]
     NotFound,
     /// The place of the first byte of the first token that makes the text no trace.
+    #[error("the word at byte {0} makes it no trace")]
     BadTrace(u64),
     /// The curves of the trace are refused.
+    #[error("{0}")]
     Curves(CurveFault),
     /// The first line, from 1, at which the text is no certificate.
+    #[error("line {0} makes it no certificate")]
     BadCert(u64),
     /// The first line, from 1, at which the text is no script.
+    #[error("line {0} makes it no script")]
     BadScript(u64),
     /// The film is refused; its places count from the first byte of its video.
+    #[error("{0}")]
     Film(FilmFault),
     /// The film is a system stream that is refused; its places count from the file's first byte.
+    #[error("{0}")]
     System(SystemFault),
     /// The film has more bytes than a server may hold.
+    #[error("the film has more bytes than a server holds")]
     FilmTooLarge,
     /// There is no connection to a server.
+    #[error("there is no connection")]
     NoConnection,
     /// A server refused a request with that status code.
+    #[error("the server answered {0}")]
     RefusedWith(u16),
     /// A server's reply of that number, from 1, isn't one that its request asks for.
+    #[error("reply {0} isn't as it must be")]
     BadReply(u64),
     /// A server's interleaved block of that number, from 0, isn't the film's next frame.
+    #[error("block {0} isn't the film's next frame")]
     BadFrame(u64),
     /// A server's bytes are no interleaved blocks and replies.
+    #[error("the server's bytes can't be told apart")]
     Framing,
     /// A server ended before its last reply, when so many pictures were whole.
+    #[error("the server ended after {0} pictures")]
     EndedEarly(u64),
     /// More events were heard than a connection may have, 2^40.
+    #[error("the server's events don't end")]
     TurnsSpent,
 }
-
-impl fmt::Display for Fault {
-    fn fmt<W: fmt::Write>(&self, f: &mut fmt::Formatter<W>) -> fmt::Result {
-        let (before, number, after) = match *self {
-            Fault::Curves(fault) => return write!(f, "{fault}"),
-            Fault::Film(fault) => return write!(f, "{fault}"),
-            Fault::System(fault) => return write!(f, "{fault}"),
-            Fault::NotFound => ("there is no such file", None, ""),
-            Fault::BadTrace(byte) => ("the word at byte ", Some(byte), " makes it no trace"),
-            Fault::BadCert(line) => ("line ", Some(line), " makes it no certificate"),
-            Fault::BadScript(line) => ("line ", Some(line), " makes it no script"),
-            Fault::FilmTooLarge => ("the film has more bytes than a server holds", None, ""),
-            Fault::NoConnection => ("there is no connection", None, ""),
-            Fault::RefusedWith(status) => ("the server answered ", Some(u64::from(status)), ""),
-            Fault::BadReply(reply) => ("reply ", Some(reply), " isn't as it must be"),
-            Fault::BadFrame(block) => ("block ", Some(block), " isn't the film's next frame"),
-            Fault::Framing => ("the server's bytes can't be told apart", None, ""),
-            Fault::EndedEarly(count) => ("the server ended after ", Some(count), " pictures"),
-            Fault::TurnsSpent => ("the server's events don't end", None, ""),
-        };
-        match number {
-            Some(number) => write!(f, "{before}{number}{after}"),
-            None => f.write_str(before),
-        }
-    }
-}
-
-impl std::error::Error for Fault {}
 
 /// Why the words weren't carried out, as the line on the error stream says it.
 #[derive(Clone, Copy, Debug, Error)]
