@@ -15,7 +15,7 @@ use std::alloc::Global;
 use std::marker::Model;
 
 /// An event that a link in memory is to hand out.
-#[derive(Drop)]
+#[derive(Debug, Drop)]
 pub enum Event {
     /// Bytes come. Those that are longer than a call can take come in several calls; no bytes are
     /// no event.
