@@ -18,7 +18,7 @@ use Rattle.plan_cert.specs.Slots.{total_bytes}
 use Rattle.session.specs.Standings.{Open, IsSameBooking}
 use Rattle.station.specs.declared.answers.Booking.{Booking}
 use Rattle.conn.specs.Keeping.{Business, HasGone, IsHeld, entry_receipts, receipt_for, Closed}
-use Rattle.conn.specs.Keeping.{Broken, course_with, course_from, course_of}
+use Rattle.conn.specs.Keeping.{Broken, open_play_with, open_play_from, open_play_of}
 
 entry_receipts-append : (xs ys : List Receipt) → entry_receipts (xs ++ ys) ≡ entry_receipts xs ++ entry_receipts ys
 entry_receipts-append [] ys = refl
@@ -32,7 +32,7 @@ gone_none {old} {new} full mine booking receipts none = record {
   made = [];
   mine_is = mine ∙ sym (append-nil old.mine);
   receipts_are = ap entry_receipts receipts ∙ entry_receipts-append old.receipts full ∙ ap (λ rs. entry_receipts old.receipts ++ rs) none;
-  course_is = ap course_of (sym booking);
+  open_is = ap open_play_of (sym booking);
 }
 
 -- nothing was answered
@@ -41,12 +41,12 @@ gone_still old new mine booking receipts = gone_none [] mine booking (receipts �
 
 -- one entry was made
 pub gone_one : (old new : Business) (placed : Placed) → new.mine ≡ old.mine ++ placed ∷ [] → new.receipts ≡ old.receipts ++ receipt_for placed ∷ [] →
-    course_with (course_of old.booking) placed ≡ course_of new.booking → HasGone old new
-gone_one old new placed mine receipts course = record {
+    open_play_with (open_play_of old.booking) placed ≡ open_play_of new.booking → HasGone old new
+gone_one old new placed mine receipts opened = record {
   made = placed ∷ [];
   mine_is = mine;
   receipts_are = ap entry_receipts receipts ∙ entry_receipts-append old.receipts (receipt_for placed ∷ []);
-  course_is = course;
+  open_is = opened;
 }
 
 -- one after the other
@@ -57,8 +57,8 @@ gone_on a b c first second = record {
   receipts_are = second.receipts_are ∙ ap (λ xs. xs ++ map receipt_for second.made) first.receipts_are
       ∙ append_assoc (entry_receipts a.receipts) (map receipt_for first.made) (map receipt_for second.made)
       ∙ ap (λ xs. entry_receipts a.receipts ++ xs) (sym (map-append receipt_for first.made second.made));
-  course_is = fold-append course_with (course_of a.booking) first.made second.made
-      ∙ ap (λ course. course_from course second.made) first.course_is ∙ second.course_is;
+  open_is = fold-append open_play_with (open_play_of a.booking) first.made second.made
+      ∙ ap (λ play. open_play_from play second.made) first.open_is ∙ second.open_is;
 }
 
 -- a play stays open as an entry is made that doesn't halt it
@@ -113,10 +113,10 @@ pub record LookEntry : Type 0 where
   pub booked : ℕ
 
 at_look : (booking : Option Booking) (look : LookEntry) →
-    course_with (course_of booking) (record {
+    open_play_with (open_play_of booking) (record {
       place = look.place;
       entry = record { maker = look.maker; command = Look look.slot; answer = Looked look.now look.at look.booked };
-    }) ≡ course_of booking
+    }) ≡ open_play_of booking
 at_look None look = refl
 at_look (Some booking) look = refl
 
@@ -125,25 +125,25 @@ pub gone_look : {old new : Business} {maker place slot now at booked : ℕ} → 
     HasGone old new
 gone_look {old} {new} {maker} {place} {slot} {now} {at} {booked} same entered =
     gone_one old new _ entered.mine entered.receipts (at_look old.booking
-    (record { maker = maker; place = place; slot = slot; now = now; at = at; booked = booked }) ∙ ap course_of (sym same))
+    (record { maker = maker; place = place; slot = slot; now = now; at = at; booked = booked }) ∙ ap open_play_of (sym same))
 
 pub gone_overflow : {old new : Business} {maker place slot : ℕ} {plan : List Segment} {over booked asked : ℕ} →
     old.booking ≡ None → new.booking ≡ old.booking →
     HasEntered old new (record { place = place; entry = record { maker = maker; command = Play slot plan; answer = Overflow over booked asked } }) →
     HasGone old new
 gone_overflow {old} {new} {maker} {place} {slot} {plan} {over} {booked} {asked} none same entered =
-    gone_one old new _ entered.mine entered.receipts (ap (λ b. course_with (course_of b)
+    gone_one old new _ entered.mine entered.receipts (ap (λ b. open_play_with (open_play_of b)
     (record { place = place; entry = record { maker = maker; command = Play slot plan; answer = Overflow over booked asked } })) none
-    ∙ ap course_of (sym (same ∙ none)))
+    ∙ ap open_play_of (sym (same ∙ none)))
 
 pub gone_play : {old new : Business} {made : Booking} {maker slot : ℕ} {plan : List Segment} → old.booking ≡ None →
     new.booking ≡ Some made →
     HasEntered old new (record { place = made.number; entry = record { maker = maker; command = Play slot plan; answer = Admitted made.start } }) →
     HasGone old new
 gone_play {old} {new} {made} {maker} {slot} {plan} none some entered =
-    gone_one old new _ entered.mine entered.receipts (ap (λ b. course_with (course_of b)
+    gone_one old new _ entered.mine entered.receipts (ap (λ b. open_play_with (open_play_of b)
     (record { place = made.number; entry = record { maker = maker; command = Play slot plan; answer = Admitted made.start } })) none
-    ∙ ap course_of (sym some))
+    ∙ ap open_play_of (sym some))
 
 at_halt : (number : ℕ) → (if number == number then Closed else Broken) ≡ Closed
 at_halt number = let same : (number == number) ≡ true = grind arith in ap (λ b. if b then Closed else Broken) same
@@ -153,9 +153,9 @@ pub gone_halt : {old new : Business} {made : Booking} {maker place keep : ℕ} �
     HasEntered old new (record { place = place; entry = record { maker = maker; command = Halt made.number keep; answer = Halted } }) →
     HasGone old new
 gone_halt {old} {new} {made} {maker} {place} {keep} some none entered =
-    gone_one old new _ entered.mine entered.receipts (ap (λ b. course_with (course_of b)
+    gone_one old new _ entered.mine entered.receipts (ap (λ b. open_play_with (open_play_of b)
     (record { place = place; entry = record { maker = maker; command = Halt made.number keep; answer = Halted } })) some
-    ∙ at_halt made.number ∙ ap course_of (sym none))
+    ∙ at_halt made.number ∙ ap open_play_of (sym none))
 
 -- no booking is held where the session has none open
 pub held_none : (mine : List Placed) (booking : Option Booking) (play : Option Open) → play ≡ None → IsHeld mine booking play → booking ≡ None

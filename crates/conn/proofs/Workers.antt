@@ -12,7 +12,7 @@ use Rattle.admission.specs.Makers.{Placed}
 use Rattle.session.specs.declared.notes.Receipt.{Receipt}
 use Rattle.station.specs.declared.answers.Booking.{Booking}
 use Rattle.conn.specs.declared.reports.ConnReport.{ConnReport}
-use Rattle.conn.specs.Keeping.{HasGone, Closed, at_rest, course_from, course_of, course_with}
+use Rattle.conn.specs.Keeping.{HasGone, Closed, at_rest, open_play_from, open_play_of, open_play_with}
 use Rattle.conn.specs.Keeping.{entry_receipts, receipt_for}
 use Rattle.conn.specs.Parts.{IsUntouched, IsServed, AreOf, entries_told, HasServed}
 use Rattle.conn.specs.Words.{words_of}
@@ -34,7 +34,7 @@ gone_whole {next} mine new rested gone = record {
   made = gone.made;
   mine_is = gone.mine_is;
   receipts_are = ap entry_receipts rested.same ∙ gone.receipts_are ∙ ap (λ rs. entry_receipts rs ++ map receipt_for gone.made) rested.none;
-  course_is = ap (λ b. course_from (course_of b) gone.made) (sym rested.closed) ∙ gone.course_is ∙ ap course_of rested.open_none;
+  open_is = ap (λ b. open_play_from (open_play_of b) gone.made) (sym rested.closed) ∙ gone.open_is ∙ ap open_play_of rested.open_none;
 }
 
 pub served_none : (part : Option Content) → IfSome part IsUntouched → IsServed part part 0
@@ -103,7 +103,7 @@ has_none mine reports none = record {
   made = [];
   mine_is = sym (append-nil mine);
   receipts_are = ap entries_told none;
-  course_is = refl;
+  open_is = refl;
 }
 
 pub has_one : {mine mid new : List Placed} {reports more : List ConnReport} (report : ConnReport) → HasServed mine reports mid →
@@ -114,7 +114,7 @@ has_one {mine} {new} {reports} {more} report served gone is = record {
   receipts_are = ap entries_told is ∙ entries_told-append reports (report ∷ [])
       ∙ ap (λ rs. entries_told reports ++ rs) (append-nil (entry_receipts report.receipts.items) ∙ gone.receipts_are)
       ∙ ap (λ rs. rs ++ map receipt_for gone.made) served.receipts_are ∙ sym (map-append receipt_for served.made gone.made);
-  course_is = fold-append course_with Closed served.made gone.made ∙ ap (λ course. course_from course gone.made) served.course_is ∙ gone.course_is;
+  open_is = fold-append open_play_with Closed served.made gone.made ∙ ap (λ play. open_play_from play gone.made) served.open_is ∙ gone.open_is;
 }
 
 -- something holds of each report of a list, and of one more

@@ -29,33 +29,33 @@ receipt_for placed = EntryReceipt placed.place placed.entry.answer
 
 -- which play is open as entries are made one after another: none, the one of a number, or they
 -- don't follow one another
-pub data Course : Type 0 where
-  Closed : Course
-  Playing : ℕ → Course
-  Broken : Course
+pub data OpenPlay : Type 0 where
+  Closed : OpenPlay
+  Playing : ℕ → OpenPlay
+  Broken : OpenPlay
 
 -- where none is open one may be admitted, and the open one alone may be halted
-abbrev pub course_after : Course → ℕ → Command → Answer → Course
-course_after Closed place (Play slot plan) (Admitted start) = Playing place
-course_after Closed place (Play slot plan) (Overflow slot' booked asked) = Closed
-course_after Closed place (Look slot) (Looked now at booked) = Closed
-course_after (Playing number) place (Look slot) (Looked now at booked) = Playing number
-course_after (Playing number) place (Halt halted keep) Halted = if halted == number
+abbrev pub open_play_after : OpenPlay → ℕ → Command → Answer → OpenPlay
+open_play_after Closed place (Play slot plan) (Admitted start) = Playing place
+open_play_after Closed place (Play slot plan) (Overflow slot' booked asked) = Closed
+open_play_after Closed place (Look slot) (Looked now at booked) = Closed
+open_play_after (Playing number) place (Look slot) (Looked now at booked) = Playing number
+open_play_after (Playing number) place (Halt halted keep) Halted = if halted == number
     then Closed else Broken
-course_after _ _ _ _ = Broken
+open_play_after _ _ _ _ = Broken
 
-abbrev pub course_with : Course → Placed → Course
-course_with course placed =
-    course_after course placed.place placed.entry.command placed.entry.answer
+abbrev pub open_play_with : OpenPlay → Placed → OpenPlay
+open_play_with play placed =
+    open_play_after play placed.place placed.entry.command placed.entry.answer
 
--- the entries were made in order from this course on
-abbrev pub course_from : Course → List Placed → Course
-course_from course made = fold course_with course made
+-- the play that is open after these entries, where that one was open before them
+abbrev pub open_play_from : OpenPlay → List Placed → OpenPlay
+open_play_from play made = fold open_play_with play made
 
 -- the play that a booking holds open
-abbrev pub course_of : Option Booking → Course
-course_of None = Closed
-course_of (Some booking) = Playing booking.number
+abbrev pub open_play_of : Option Booking → OpenPlay
+open_play_of None = Closed
+open_play_of (Some booking) = Playing booking.number
 
 -- what a seat made, what a connection holds open and was answered
 pub record Business : Type 0 where
@@ -77,7 +77,7 @@ pub record HasGone (old new : Business) : Type 0 where
   pub mine_is : new.mine ≡ old.mine ++ made
   pub receipts_are : entry_receipts new.receipts ≡
       entry_receipts old.receipts ++ map receipt_for made
-  pub course_is : course_from (course_of old.booking) made ≡ course_of new.booking
+  pub open_is : open_play_from (open_play_of old.booking) made ≡ open_play_of new.booking
 
 -- the booking is the one that the session holds open, and the seat can halt it with any bytes of
 -- its plan

@@ -14,7 +14,7 @@ use Rattle.station.specs.Seats.{Sitting, IsSameSeat}
 use Rattle.conn.specs.declared.reports.ConnReport.{ConnReport}
 use Rattle.conn.specs.declared.reports.PartReport.{PartReport}
 use Rattle.conn.specs.declared.reports.PartEnd.TheVariants.{AllTaken, GateFault}
-use Rattle.conn.specs.Keeping.{Closed, course_from, entry_receipts, receipt_for}
+use Rattle.conn.specs.Keeping.{Closed, open_play_from, entry_receipts, receipt_for}
 use Rattle.conn.specs.declared.reports.ConnEnd.TheVariants.{LinkFault}
 use Rattle.conn.specs.Promises.{KeepsPromise}
 use Rattle.conn.specs.Served.{HasServedConnection}
@@ -59,7 +59,7 @@ pub record HasServed (mine : List Placed) (reports : List ConnReport) (new : Lis
   pub made : List Placed
   pub mine_is : new ≡ mine ++ made
   pub receipts_are : entries_told reports ≡ map receipt_for made
-  pub course_is : course_from Closed made ≡ Closed
+  pub open_is : open_play_from Closed made ≡ Closed
 
 -- before its first event a connection did nothing, where it tells what it does
 abbrev pub fresh_told : Option (List Doing) → Option (List Doing)
