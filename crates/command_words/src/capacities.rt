@@ -1,6 +1,6 @@
 //! The capacity of a link, as a word gives it.
 
-ghost use Rattle.std.specs.Prelude.{◌≡◌, ◌^◌, ◌≤◌, [], true, false, IfSome};
+ghost use Rattle.std.specs.Prelude.{◌≡◌, ◌^◌, ◌≤◌, [], true, false, IfOk, IfSome};
 ghost use Rattle.slot_calendar.specs.Profiles.{IsProfile};
 ghost use Rattle.command_words.specs.Settings.{texts, values_of};
 ghost use Rattle.command_words.specs.Capacities.{IsFront, capacity_of, flat_steps, may_follow};
@@ -9,8 +9,9 @@ ghost use Rattle.command_words.specs.Capacities.{step_more};
 
 use crate::settings::{Given, find_given, number_within};
 use crate::steps::Steps;
-use slot_calendar::{CapStep, MAX_CAPACITY, MAX_STEPS};
-use vod_base::{LATEST_SLOT, read_number};
+use slot_calendar::{CapStep, MAX_CAPACITY, MAX_STEPS, Profile};
+use std::alloc::Global;
+use vod_base::{LATEST_SLOT, NoMemory, read_number};
 
 /// The bytes of a slot where the words say nothing.
 const BYTES: u64 = 50_000;
@@ -25,6 +26,14 @@ pub(crate) fn one_capacity(words: &[String], key: &str) -> Option<Steps>
         Given::Once(text) => read_capacity(text),
         Given::Again => None,
     }
+}
+
+/// The capacity of these steps, each from its slot on, in bytes a slot.
+pub fn profile_of(alloc: Global, steps: &[CapStep]) -> Result<Profile, NoMemory>
+    requires { IsProfile steps.now }
+    ensures { IfOk result (λ profile. profile ≡ steps.now) }
+{
+    Ok(Profile::new(Vec::from_slice(alloc, steps)?))
 }
 
 /// The step that a text SLOT:BYTES writes.

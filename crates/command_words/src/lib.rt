@@ -13,6 +13,7 @@ mod steps;
 mod viewers;
 mod words;
 
+pub use capacities::profile_of;
 pub use commands::{Command, command_named, keys_of};
 pub use films::film_named;
 pub use laws::{law_defaults, law_order_is_free, law_words_have_form};

@@ -18,9 +18,8 @@ ghost use Rattle.local_commands.specs.Days.{AreHeldAs, HoldsScript, IsDayRefused
 ghost use Rattle.local_commands.specs.Days.{IsFirstNamedRefused, IsHeldAs, IsNameOf};
 ghost use Rattle.local_commands.specs.Days.{IsNamedRefused, IsScriptRefused, names_in};
 
-use crate::profiles::profile_of;
 use crate::traces::load_trace;
-use command_words::{FairRun, ScriptRun};
+use command_words::{FairRun, ScriptRun, profile_of};
 use day_run::{Day, Named, Script, ScriptRefused, Source, fair, read_script, run_script};
 use inputs::{load_script_film, read_input};
 use std::alloc::Global;

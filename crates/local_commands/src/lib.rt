@@ -9,7 +9,6 @@ mod days;
 mod done;
 mod makes;
 mod plans;
-mod profiles;
 mod scan_text;
 mod scans;
 mod text_laws;
@@ -21,7 +20,6 @@ pub use days::{law_day_not_refused, load_script, load_sources, run_day, run_fair
 pub use done::{Done, finish};
 pub use makes::make;
 pub use plans::plan_viewer;
-pub use profiles::profile_of;
 pub use scans::{law_one_scan, print_scan};
 pub use text_laws::{law_help, law_scan_tells_units, law_verdict_tells_fault};
 pub use texts::{help, version};

@@ -1,6 +1,6 @@
 -- How a gate and its parts stand as workers are made and joined.
 use Rattle.std.proofs.Common.{◌≡◌, ◌∙◌, ◌+◌, ◌<◌, ◌≤◌, ◌-◌, ◌^◌, ℕ, List, [], ◌∷◌, ◌++◌, length, Option, Some, None, inl, inr, sym, ap, subst, refl, arith}
-use Rattle.std.specs.Prelude.{IfSome, IsSome, All, option_map, slice_index_or}
+use Rattle.std.specs.Prelude.{IfSome, All, option_map, slice_index_or}
 use Rattle.std.specs.List.{remove}
 use Rattle.std.proofs.lemmas.Bool.{cases_lt}
 use Rattle.std.proofs.lemmas.List.{append-nil, append_assoc}
@@ -59,10 +59,6 @@ open_back opening (Some p) (Some c) is = is
 
 pub back_still_open : (opening : Opening) (part gate gate' : Option Content) → IsOpenAs opening gate → gate' ≡ told_rejoined part gate → IsOpenAs opening gate'
 back_still_open opening part gate gate' is rejoins = subst (IsOpenAs opening) (sym rejoins) (open_back opening part gate is)
-
-pub is_open : (opening : Opening) (gate : Option Content) → IsOpenAs opening gate → IfSome gate (λ content. IsOpen content)
-is_open opening None is = tt
-is_open opening (Some c) is = subst IsSome (sym is) refl
 
 pub new_number : (count : ℕ) (gate part : Option Content) → IfSome gate (AreOut 0 count) → part ≡ option_map new_part gate → IfSome part (λ content. content.own.number ≡ count)
 new_number count None part are is = subst (λ (c : Option Content). IfSome c (λ content. content.own.number ≡ count)) (sym is) tt

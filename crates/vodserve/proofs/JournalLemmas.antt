@@ -1,6 +1,6 @@
--- Texts that are written, or made.
-use Rattle.std.proofs.Common.{◌≡◌, ℕ, List, length, sym, ap, ◌∙◌, arith, Option, Result, Ok, Err, Vec, Global, subst}
-use Rattle.std.specs.Prelude.{IfOk, OnErr, OnOk}
+-- Texts that are written.
+use Rattle.std.proofs.Common.{◌≡◌, ℕ, List, length, sym, ap, ◌∙◌, arith, Option, Result, Ok, Err}
+use Rattle.std.specs.Prelude.{OnErr, OnOk}
 use Rattle.vod_base.specs.Outside.{IsFrontMore, told_more}
 use Rattle.std.proofs.lemmas.List.{take_all}
 
@@ -10,6 +10,3 @@ pub written_front : {E : Type 0} (result : Result (Unit {0}) E) (told told' : Op
 written_front (Ok done) told told' text whole front =
     (length text, (omega arith, whole ∙ ap (told_more told) (sym (take_all (length text) text (omega arith)))))
 written_front (Err fault) told told' text whole front = front
-
-pub ok_text : {E : Type 0} (result : Result (Vec ℕ Global) E) (made : Vec ℕ Global) (text : List ℕ) → result ≡ Ok made → IfOk result (λ v. v.items ≡ text) → made.items ≡ text
-ok_text {E = E} result made text is h = subst (λ (r : Result (Vec ℕ Global) E). IfOk r (λ v. v.items ≡ text)) is h

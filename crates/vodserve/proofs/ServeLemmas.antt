@@ -1,6 +1,6 @@
 -- The films that words name.
 use Rattle.std.proofs.Common.{◌≡◌, ◌≢◌, ◌∙◌, ◌+◌, ◌<◌, ◌≤◌, ◌&&◌, not, ℕ, true, List, [], ◌∷◌, ◌++◌, length, drop, get_or, Option, Some, None, inl, inr, refl, sym, ap, subst, suc, zero, arith, string_bytes, String, Global, add-one, add-zero, length-append}
-use Rattle.std.specs.Prelude.{All, IfSome, codes, map, nat_le, option_map, slice_index_or}
+use Rattle.std.specs.Prelude.{All, IfSome, codes, map, nat_le, slice_index_or}
 use Rattle.std.specs.List.{Contains, list_all, list_any}
 use Rattle.std.specs.Option.{option_to_list}
 use Rattle.std.specs.Str.{bytes_eq}
@@ -22,7 +22,7 @@ use Rattle.command_words.specs.Settings.{setting_value, texts, values_of}
 use Rattle.command_words.specs.Words.{are_distinct, are_films, are_names}
 use Rattle.vod_base.specs.Outside.{File, HasRisen}
 use Rattle.inputs.specs.Scans.{HoldsVideo}
-use Rattle.vod_base.specs.Gates.{Content, after_open}
+use Rattle.vod_base.specs.Gates.{Content}
 use Rattle.vod_base.specs.declared.gates.Opening.{Opening}
 use Rattle.slot_calendar.specs.declared.profiles.CapStep.{CapStep}
 use Rattle.admission.specs.declared.entries.Entry.{Entry}
@@ -198,11 +198,6 @@ make_serves served gate' SinkFault is low opened = is
 make_serves served gate' NoMemory is low opened = inr opened
 make_serves served gate' GateFault is low opened = (λ end. omega (arith, is end, low), opened)
 make_serves served gate' LinkFault is low opened = absurd is
-
--- what is told of a gate that was opened
-pub newly_open : (how : Opening) (gate gate' : Option Content) → gate' ≡ option_map (after_open (Some how)) gate → IsNewlyOpen how gate'
-newly_open how None gate' is = subst (IsNewlyOpen how) (sym is) tt
-newly_open how (Some c) gate' is = subst (IsNewlyOpen how) (sym is) (refl, refl)
 
 pub newly_open_as : (how : Opening) (gate : Option Content) → IsNewlyOpen how gate → IsOpenAs how gate
 newly_open_as how None is = tt

@@ -1,7 +1,7 @@
 //! A server: its films are loaded, its gate is opened, and its workers are run.
 
 ghost use Rattle.std.specs.Prelude.{◌≡◌, ◌≤◌, ◌++◌, Some, true, codes, All, IfSome, IfOk, IfErr};
-ghost use Rattle.std.specs.Prelude.{◌∷◌, [], OnOk};
+ghost use Rattle.std.specs.Prelude.{OnOk};
 ghost use Rattle.std.specs.List.{Contains};
 ghost use Rattle.std.specs.Option.{option_to_list};
 ghost use Rattle.vod_base.specs.Outside.{HasRisen};
@@ -23,11 +23,10 @@ ghost use Rattle.vodserve.specs.Workers.{IsMakeTrouble, IsNotOpened};
 
 use crate::workers::{Service, join_workers, make_workers, run_workers};
 use admission::Book;
-use command_words::{Serving, film_named};
+use command_words::{Serving, film_named, profile_of};
 use conn::{ConnReport, PartEnd};
 use film_frames::Stored;
 use inputs::load_film;
-use local_commands::profile_of;
 use session::Settings;
 use slot_calendar::{CapStep, Profile};
 use station::{Seat, Station};
@@ -192,20 +191,8 @@ fn add_film<'a, L: Library>(
         return Ok(());
     };
     let film = load_film(alloc, library, name)?;
-    match push_film(films, film) {
-        Ok(()) => Ok(()),
-        Err(NoMemory) => Err(Trouble::NoMemory),
-    }
-}
-
-/// Puts a film after the others.
-fn push_film(films: &mut Vec<Stored>, film: Stored) -> Result<(), NoMemory>
-    ensures { OnOk result (films.new.items ≡ films.old.items ++ film ∷ []) }
-{
-    match films.push(film) {
-        Ok(()) => Ok(()),
-        Err(_) => Err(NoMemory),
-    }
+    films.push(film)?;
+    Ok(())
 }
 
 /// Loads the films that the words name, one by one: the first that is refused is named.

@@ -6,11 +6,11 @@ use Rattle.vodserve.proofs.ServeLemmas.{held_film}
 use Rattle.vodserve.proofs.WorkerLemmas.{all_push}
 use Rattle.vodserve.proofs.serving.add_film.Goals as goal
 
-pub returns-in-Ok-clause-held : goal.returns-in-Ok-clause-held
-returns-in-Ok-clause-held g c =
+pub returns-clause-held : goal.returns-clause-held
+returns-clause-held g c =
     let Held : Stored → Type 0 = IsHeld (g.L.Library.files c.args.library.now) in
     let film : Held c.in_ok-film.film =
     held_film (g.L.Library.files c.args.library.now) c.in_ok-film.film c.in-Some.name.now ((c.in_ok-film.ensures {u = tt}).name)
     (λ held told. (c.in_ok-film.ensures {u = tt}).film held told)
     (λ held told. (c.in_ok-film.ensures {u = tt}).small held told) in
-    λ all. subst (All Held) (sym (c.in-Ok.ensures {u = tt})) (all_push Held c.args.films.now.items c.in_ok-film.film all film)
+    λ all. subst (All Held) (sym ((c.in_ok-push.ensures {u = tt}).items)) (all_push Held c.args.films.now.items c.in_ok-film.film all film)
