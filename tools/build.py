@@ -9,6 +9,7 @@ proved and built is rt's affair: at the end `rt run` in crates/vodserve takes ea
 Says on the error stream how far it is. Ends with 0 where the program was built, else with 1, after what rt said of the crate that failed.
 """
 
+import argparse
 import concurrent.futures
 import os
 import shutil
@@ -21,6 +22,8 @@ TOP = os.path.dirname(os.path.dirname(os.path.abspath(__file__)))
 PROGRAM = "vodserve"
 # What one check takes of memory, in bytes, where it is large.
 MEMORY_OF_A_CHECK = 3_000_000_000
+# The processor seconds of a check that wasn't measured.
+A_CHECK = 100
 
 
 def say(text):
@@ -39,19 +42,23 @@ def read_crates():
     return {name: [it for it in below if it in names] for name, below in names.items()}
 
 
+def link_or_copy(source, target):
+    """Gives a file a second name; where its file system has none, copies it."""
+    try:
+        os.link(source, target)
+    except OSError:
+        shutil.copy2(source, target)
+
+
 def all_below(crates, name):
     return {it for below in crates[name] for it in {below} | all_below(crates, below)}
 
 
-def lines_of(name):
-    """Returns how many lines of code, definitions and proofs a crate has: its check takes about as long as these are many."""
-    count = 0
-    for part in ("src", "specs", "proofs"):
-        for folder, _, files in os.walk(f"{TOP}/crates/{name}/{part}"):
-            for file in files:
-                with open(f"{folder}/{file}", "rb") as it:
-                    count += it.read().count(b"\n")
-    return count
+def read_seconds():
+    """Returns the processor seconds that each crate's check took where it was measured: the order goes by them, and what is left."""
+    with open(f"{TOP}/tools/seconds.txt", encoding="utf-8") as file:
+        lines = [line.split("#")[0].split() for line in file]
+    return {it[0]: int(it[1]) for it in lines if it}
 
 
 def jobs_now():
@@ -68,7 +75,8 @@ class Build:
     def __init__(self, jobs, room):
         crates = read_crates()
         self.below = {it: all_below(crates, it) for it in all_below(crates, PROGRAM)}
-        self.lines = {it: lines_of(it) for it in [*self.below, PROGRAM]}
+        measured = read_seconds()
+        self.seconds = {it: measured.get(it, A_CHECK) for it in [*self.below, PROGRAM]}
         self.jobs, self.room, self.done, self.begin = jobs, room, [], time.monotonic()
         self.lanes = [f"{room}/{lane}" for lane in range(jobs)]
         for lane in self.lanes:
@@ -77,14 +85,14 @@ class Build:
                 shutil.copy(f"{TOP}/{file}", lane)
 
     def rest_of(self, name):
-        """Returns the lines of the longest chain of crates from this one up: those with the longest go first."""
+        """Returns the seconds of the longest chain of crates from this one up: those with the longest go first."""
         above = [self.rest_of(it) for it, below in self.below.items() if name in below]
-        return self.lines[name] + max(above, default=0)
+        return self.seconds[name] + max(above, default=0)
 
     def is_longest(self, name):
         """Whether hardly a crate that isn't proved yet has a longer chain above it: the whole waits for this one."""
         longest = max(self.rest_of(it) for it in self.below if it not in self.done)
-        return self.rest_of(name) * 10 >= longest * 9
+        return self.rest_of(name) * 5 >= longest * 4
 
     def prove(self, lane, name, jobs, first):
         """Returns whether a lane's rt proved a crate and built its library; what it said stands in the room.
@@ -102,21 +110,21 @@ class Build:
                 to = f"{other}/crates/{name}/out"
                 shutil.rmtree(f"{to}/rlib", ignore_errors=True)
                 os.makedirs(to, exist_ok=True)
-                shutil.copytree(f"{lane}/crates/{name}/out/rlib", f"{to}/rlib")
+                shutil.copytree(f"{lane}/crates/{name}/out/rlib", f"{to}/rlib", copy_function=link_or_copy)
 
     def tell(self, what):
         taken = time.monotonic() - self.begin
-        proved = sum(self.lines[it] for it in self.done)
-        left = sum(self.lines.values()) - proved
+        proved = sum(self.seconds[it] for it in self.done)
+        left = sum(self.seconds.values()) - proved
         # before an eighth is proved there is too little to go by
         rest = f", about {in_words(taken * left / proved)} left" if proved * 7 >= left else ""
-        say(f"{in_words(taken)}: {what} ({len(self.done)} of {len(self.lines)} crates{rest})")
+        say(f"{in_words(taken)}: {what} ({len(self.done)} of {len(self.seconds)} crates{rest})")
 
     def run(self):
         """Returns the name of a crate that was not proved, or None."""
         left = sorted(self.below, key=self.rest_of, reverse=True)
-        # a check doesn't keep its processors busy all the time, so there are half as many more jobs
-        free, running, lanes = self.jobs * 3 // 2, {}, [*self.lanes]
+        # a check of two jobs doesn't keep two processors busy all the time, so there is one job more
+        free, running, lanes = self.jobs + 1, {}, [*self.lanes]
         with concurrent.futures.ThreadPoolExecutor(self.jobs) as pool:
             while left or running:
                 ready = [it for it in left if self.below[it] <= {*self.done}][:len(lanes)]
@@ -146,14 +154,20 @@ def told_in(file):
     """Returns the lines of a log that say what failed, and its last line."""
     with open(file, encoding="utf-8", errors="replace") as it:
         lines = [line.rstrip() for line in it]
-    return "\n".join([line for line in lines if "error" in line or "not proved" in line][:12] + lines[-1:])
+    failed = [line for line in lines if "error" in line or "not proved" in line]
+    return "\n".join(dict.fromkeys(failed[:12] + lines[-1:]))
 
 
 def main():
-    jobs = int(sys.argv[1]) if len(sys.argv) > 1 else jobs_now()
-    with tempfile.TemporaryDirectory(prefix="vodserve-build-") as room:
+    words = argparse.ArgumentParser(description="Proves the crates of vodserve side by side, and builds the program.")
+    words.add_argument("jobs", nargs="?", type=int, default=jobs_now(), help="the processors to take; default: as many as memory allows")
+    jobs = max(1, words.parse_args().jobs)
+    # in the checkout's file system, where a file can have a second name
+    folder = f"{TOP}/crates/{PROGRAM}/out"
+    os.makedirs(folder, exist_ok=True)
+    with tempfile.TemporaryDirectory(prefix="build-", dir=folder) as room:
         build = Build(jobs, room)
-        say(f"proving {len(build.lines)} crates, {jobs} at a time, and building the program, this once")
+        say(f"proving {len(build.seconds)} crates, {jobs} at a time, and building the program, this once")
         failed = build.run()
         if failed is None:
             failed, log = PROGRAM, f"{room}/{PROGRAM}.log"
