@@ -219,3 +219,10 @@ pub record HasFailed (old : Standing) (slot : ℕ) (told_old told_new : Option (
   -- the play is the same, and its slots were missed as without the fault
   pub carried : IsCarried old.state new.state
   pub late : new.late ≡ old.late + missed_between old.heard (start_in old.state) slot
+  -- the link is lost, and nothing else changes
+  pub rest : new ≡ record old {
+    heard = slot;
+    late = old.late + missed_between old.heard (start_in old.state) slot;
+    state = new.state;
+    lost = true;
+  }
