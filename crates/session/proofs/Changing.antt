@@ -57,7 +57,7 @@ play_asked {new} {stored} {setup} {paused} {range} {planned} sequence authority 
 }
 
 comes_changes : (old new : Standing) (message : List ℕ) (ask : Ask) → ComesTo old message ask new → Changes ask old new
-comes_changes old new message ask (Lacks is) = replied_changes old _ ask new is
+comes_changes old new message ask (Lacks may is) = replied_changes old _ ask new is
 comes_changes old new message ask (Refuses sequence refusal option other is) = replied_changes old _ ask new is
 comes_changes old new message ask (Says sequence fields body tearing by command is) =
     subst (λ a. Changes a old new) (sym command) (

@@ -16,12 +16,12 @@ use Rattle.session.specs.declared.states.Play.{Play as Played}
 use Rattle.session.specs.declared.states.Setup.{Setup}
 use Rattle.session.specs.declared.states.State.{State}
 use Rattle.session.specs.declared.states.State.TheVariants.{Init, Ready, Playing, Stopping}
-use Rattle.session.specs.EndLaws.{EndsSession, HaltsPlay, HasTeardown, IsOfMethod, IsPausedPlay, IsPause, IsSessionTold, IsTeardown, IsTeardownHeard, IsTornDown}
+use Rattle.session.specs.EndLaws.{EndsSession, HaltsPlay, HasTeardown, IsPausedPlay, IsPause, IsSessionTold, IsTeardown, IsTeardownHeard, IsTornDown}
 use Rattle.session.specs.Hearings.{Hears, HearsOn, after_halt, is_torn, new_standing}
 use Rattle.session.specs.declared.methods.Method.{Method}
 use Rattle.session.specs.declared.methods.Method.TheVariants.{Pause, Teardown}
 use Rattle.session.specs.Judging.{IsJudged, method_of, name_of, option_of, place_of}
-use Rattle.session.specs.Laws.{stage_of}
+use Rattle.session.specs.Laws.{IsOfMethod, stage_of}
 use Rattle.session.specs.LookLaws.{Happening, Message, Admission, Overflow, Full, Halt, Look, Offer, Slot, Sending, AreAfter, IsAfter}
 use Rattle.session.specs.Methods.{AsksHalt, Ends, Pauses, PausesPlay, Takes, TearsDown}
 use Rattle.session.specs.PlayLaws.{IsDeclined}
@@ -177,7 +177,7 @@ calm_by old new calm tearing torn awaited = record {
 }
 
 comes_calm : (old new : Standing) (message : List ℕ) (ask : Ask) → IsCalm old → ComesTo old message ask new → IsTeardown message ⊎ IsCalm new
-comes_calm old new message ask calm (Lacks is) =
+comes_calm old new message ask calm (Lacks may is) =
     inr (calm_by old new calm (ap (λ (s : Standing). s.tearing) is.1) (ap (λ (s : Standing). s.torn) is.1)
     (ap (λ (s : Standing). is_ending s.awaited) is.1 ∙ calm.awaited))
 comes_calm old new message ask calm (Refuses sequence refusal option other is) =

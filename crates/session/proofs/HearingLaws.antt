@@ -17,7 +17,7 @@ plays_on old new state heard = record { state = state; heard = heard }
 
 comes_plays : {old new : Standing} {message : List ℕ} {ask : Ask} {setup : Setup} {play : Played} → ComesTo old message ask new
     → old.state ≡ Playing setup play → IsNoHalt ask → PlaysOn old new
-comes_plays {old} {new} {ask} (Lacks is) playing free =
+comes_plays {old} {new} {ask} (Lacks may is) playing free =
     plays_on old new (ap (λ (s : Standing). s.state) is.1) (ap (λ (s : Standing). s.heard) is.1)
 comes_plays {old} {new} {ask} (Refuses sequence refusal option other is) playing free =
     plays_on old new (ap (λ (s : Standing). s.state) is.1) (ap (λ (s : Standing). s.heard) is.1)
@@ -44,7 +44,7 @@ leaves : (old : Standing) (text : List ℕ) (ask : Ask) (new : Standing) → IsR
 leaves old text ask new is = inr (is.1 ∙ ap (λ (t : List ℕ). with_reply old t) (sym (ap (λ (s : Standing). s.text) is.1)))
 
 comes_leaves : (old new : Standing) (message : List ℕ) (ask : Ask) → ComesTo old message ask new → ask ≡ Reply → LeavesOr old new
-comes_leaves old new message ask (Lacks is) reply = leaves old _ ask new is
+comes_leaves old new message ask (Lacks may is) reply = leaves old _ ask new is
 comes_leaves old new message ask (Refuses sequence refusal option other is) reply = leaves old _ ask new is
 comes_leaves old new message ask (Says sequence fields body tearing by command is) reply =
     inl (record { sequence = Some sequence; fields = fields; body = body; text_is = ap (λ (s : Standing). s.text) is })

@@ -37,7 +37,7 @@ replies_room : (old new : Standing) (ask : Ask) → ask ≡ Reply → new.looks_
 replies_room old new ask reply is = subst (λ a. Keeps (looks_in a) old new) (sym reply) (same_room old new is)
 
 comes_room : (old new : Standing) (message : List ℕ) (ask : Ask) → ComesTo old message ask new → Keeps (looks_in ask) old new
-comes_room old new message ask (Lacks is) = replies_room old new ask is.0 (ap (λ (s : Standing). s.looks_left) is.1)
+comes_room old new message ask (Lacks may is) = replies_room old new ask is.0 (ap (λ (s : Standing). s.looks_left) is.1)
 comes_room old new message ask (Refuses sequence refusal option other is) =
     replies_room old new ask is.0 (ap (λ (s : Standing). s.looks_left) is.1)
 comes_room old new message ask (Says sequence fields body tearing by command is) =

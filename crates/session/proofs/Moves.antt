@@ -16,7 +16,7 @@ use Rattle.session.specs.Standings.{Standing}
 use Rattle.session.proofs.Results.{ComesTo, Lacks, Refuses, Says, SettlesSetup, AsksForPlay, AsksForHalt, AsksForLook, AsksForOffer, comes_to}
 
 comes_moves : (old new : Standing) (message : List ℕ) (ask : Ask) → ComesTo old message ask new → StaysOr InitStage ReadyStage old new
-comes_moves old new message ask (Lacks is) = inl (ap (λ (s : Standing). stage_of s.state) is.1)
+comes_moves old new message ask (Lacks may is) = inl (ap (λ (s : Standing). stage_of s.state) is.1)
 comes_moves old new message ask (Refuses sequence refusal option other is) = inl (ap (λ (s : Standing). stage_of s.state) is.1)
 comes_moves old new message ask (Says sequence fields body tearing by command is) = inl (ap (λ (s : Standing). stage_of s.state) is)
 comes_moves old new message ask (SettlesSetup sequence setup init ranges command is) =

@@ -60,7 +60,7 @@ same_play {play} {other} is is_too = ap (λ s. play_in s play) (sym is ∙ is_to
 
 comes_halts : {old new : Standing} {message : List ℕ} {keep : ℕ} {setup : Setup} {play : Played} → ComesTo old message (AskHalt keep) new
     → old.state ≡ Playing setup play → IsPacing play.pacer → KeepsToBoundary play keep
-comes_halts {new} (Lacks is) playing pacing = absurd (let no : ⊥ = cc (is.0) in no)
+comes_halts {new} (Lacks may is) playing pacing = absurd (let no : ⊥ = cc (is.0) in no)
 comes_halts {new} (Refuses sequence refusal option other is) playing pacing =
     absurd (let no : ⊥ = cc (is.0) in no)
 comes_halts {new} (Says sequence fields body tearing by command is) playing pacing =

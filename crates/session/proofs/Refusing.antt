@@ -9,7 +9,7 @@ use Rattle.session.specs.declared.refusals.Refusal.{Refusal}
 use Rattle.session.specs.declared.refusals.Refusal.TheVariants.{BadRequest, Version, Method, Option as Required, Session, Film, State as NotNow, Transport, Parameter, Buffer, Range, Memory}
 use Rattle.session.specs.Changes.{HasCode, IsNoRefusal, RefusesNone}
 use Rattle.session.specs.Hearings.{Hears}
-use Rattle.session.specs.Laws.{Is500, IsWanting, NeverLacks}
+use Rattle.session.specs.Laws.{Is500, IsWanting, MayWantMemory, NeverLacks}
 use Rattle.session.specs.Replies.{code_of, refusal_text}
 use Rattle.session.specs.Standings.{Standing}
 use Rattle.session.proofs.Grounds.{TwoHearings}
@@ -111,7 +111,7 @@ of_text : {text : List ℕ} {ask : Ask} (old new : Standing) → ask ≡ Reply �
 of_text {text} {ask} old new reply is refuses = subst (λ a. RefusesNone a new) (sym reply) (subst IsNoRefusal (sym is) refuses)
 
 comes_text : (old new : Standing) (message : List ℕ) (ask : Ask) → ComesTo old message ask new → RefusesNone ask new
-comes_text old new message ask (Lacks is) =
+comes_text old new message ask (Lacks may is) =
     of_text old new is.0 (ap (λ (s : Standing). s.text) is.1) (refusal_plain _ Memory [])
 comes_text old new message ask (Refuses sequence refusal option other is) =
     of_text old new is.0 (ap (λ (s : Standing). s.text) is.1) (refusal_plain sequence refusal option)
@@ -132,9 +132,10 @@ comes_text old new message ask (AsksForOffer sequence wait planned asks) = subst
 pub hears_text : (old new : Standing) (message : List ℕ) (ask : Ask) → Hears old message ask new → RefusesNone ask new
 hears_text old new message ask hears = comes_text old new message ask (comes_to old message ask new hears)
 
--- a reply of 500 is that to a message for which memory is wanting
-comes_500 : (old new : Standing) (message : List ℕ) → ComesTo old message Reply new → HasCode 500 new.text → IsWanting old message Reply new
-comes_500 old new message (Lacks is) code = is
+-- a reply of 500 is that to a message for which memory is wanting, as it may be for it
+comes_500 : (old new : Standing) (message : List ℕ) → ComesTo old message Reply new → HasCode 500 new.text
+    → MayWantMemory old message × IsWanting old message Reply new
+comes_500 old new message (Lacks may is) code = (may, is)
 comes_500 old new message (Refuses sequence refusal option other is) code =
     let text = refusal_text sequence refusal option in
     let own = own_code refusal in
@@ -150,12 +151,19 @@ comes_500 old new message (AsksForHalt sequence setup play next playing told by 
 comes_500 old new message (AsksForLook sequence look) code = absurd (let no : ⊥ = cc (look.command) in no)
 comes_500 old new message (AsksForOffer sequence wait planned asks) code = absurd (let no : ⊥ = cc (asks.command) in no)
 
+hears_wanting : (old new : Standing) (message : List ℕ) (ask : Ask) → Hears old message ask new → Is500 ask new
+    → MayWantMemory old message × IsWanting old message ask new
+hears_wanting old new message Reply hears code = comes_500 old new message (comes_to old message Reply new hears) code
+hears_wanting old new message (AskPlay plan) hears code = absurd code
+hears_wanting old new message (AskHalt keep) hears code = absurd code
+hears_wanting old new message (AskLook slot) hears code = absurd code
+hears_wanting old new message (AskOffer plan offers) hears code = absurd code
+
 pub hears_500 : (old new : Standing) (message : List ℕ) (ask : Ask) → Hears old message ask new → Is500 ask new → IsWanting old message ask new
-hears_500 old new message Reply hears code = comes_500 old new message (comes_to old message Reply new hears) code
-hears_500 old new message (AskPlay plan) hears code = absurd code
-hears_500 old new message (AskHalt keep) hears code = absurd code
-hears_500 old new message (AskLook slot) hears code = absurd code
-hears_500 old new message (AskOffer plan offers) hears code = absurd code
+hears_500 old new message ask hears code = (hears_wanting old new message ask hears code).1
+
+pub hears_may : (old new : Standing) (message : List ℕ) (ask : Ask) → Hears old message ask new → Is500 ask new → MayWantMemory old message
+hears_may old new message ask hears code = (hears_wanting old new message ask hears code).0
 
 -- and the other way round
 wanting_500 : (old new : Standing) (message : List ℕ) (ask : Ask) → IsWanting old message ask new → Is500 ask new
@@ -186,7 +194,7 @@ hears_same twice there back =
 
 -- what is begun with the station is no want of memory
 comes_never : (old new : Standing) (message : List ℕ) (ask : Ask) → ComesTo old message ask new → NeverLacks ask new
-comes_never old new message ask (Lacks is) = subst (λ a. NeverLacks a new) (sym is.0) tt
+comes_never old new message ask (Lacks may is) = subst (λ a. NeverLacks a new) (sym is.0) tt
 comes_never old new message ask (Refuses sequence refusal option other is) = subst (λ a. NeverLacks a new) (sym is.0) tt
 comes_never old new message ask (Says sequence fields body tearing by command is) = subst (λ a. NeverLacks a new) (sym command) tt
 comes_never old new message ask (SettlesSetup sequence setup init ranges command is) = subst (λ a. NeverLacks a new) (sym command) tt

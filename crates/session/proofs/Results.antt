@@ -28,20 +28,20 @@ use Rattle.session.specs.declared.states.State.{State}
 use Rattle.session.specs.declared.states.State.TheVariants.{Init, Ready, Playing, Stopping}
 use Rattle.session.specs.EndLaws.{IsTeardown}
 use Rattle.session.specs.Hearings.{Hears, HearsOn, is_answered, is_torn}
-use Rattle.session.specs.Judging.{IsJudged, IsReadAs, fault_refusal, option_of, place_of}
-use Rattle.session.specs.Laws.{IsWanting}
+use Rattle.session.specs.Judging.{IsJudged, IsReadAs, IsTopic, IsWord, fault_refusal, option_of, place_of}
+use Rattle.session.specs.Laws.{IsOfMethod, IsWanting, MayWantMemory}
 use Rattle.session.specs.Methods.{AsksHalt, AsksLook, AsksOffer, AsksOfferOr, AsksPlayOr, Gets, GetsOffer, IsRefused, IsReplied, IsSetUp, Looks, Pauses, Plays, Takes, TearsDown, play_front, prepared_of}
 use Rattle.session.specs.Planning.{IsPlanned, IsPlannedRun}
 use Rattle.session.specs.Ranges.{AreSettings, IsSetup}
 use Rattle.session.specs.Replies.{setup_text}
 use Rattle.session.specs.Setups.{AsksForSetup, IsChosen, IsSetupRead}
-use Rattle.session.specs.Standings.{Standing, with_reply}
+use Rattle.session.specs.Standings.{IsReadyIn, Standing, with_reply}
 use Rattle.session.proofs.Playables.{of_film}
 use Rattle.session.proofs.OneHearing.{first_is}
 
 pub data ComesTo (old : Standing) (message : List ℕ) (ask : Ask) (new : Standing) : Type 0 where
   -- memory is wanting
-  Lacks : IsWanting old message ask new → ComesTo old message ask new
+  Lacks : MayWantMemory old message → IsWanting old message ask new → ComesTo old message ask new
   Refuses : (sequence : Option ℕ) (refusal : Refusal) (option : List ℕ) → refusal ≢ Memory
       → IsRefused old sequence refusal option ask new → ComesTo old message ask new
   -- a 200 that changes nothing, or that a TEARDOWN is answered
@@ -129,56 +129,85 @@ record PlayHeard (old : Standing) (message : List ℕ) : Type 0 where
   range : Option (List ℕ)
   number : first_sequence message ≡ Some sequence
   ready : old.state ≡ Ready setup paused
+  play : IsOfMethod (codes "PLAY") message
+
+-- a GET_PARAMETER that is heard while the link goes on
+record ParameterHeard (old : Standing) (message : List ℕ) (request : Request) : Type 0 where
+  linked : old.lost ≡ false
+  read : IsReadAs message request
+  method : request.method.now ≡ codes "GET_PARAMETER"
+  number : first_sequence message ≡ Some request.sequence
 
 module _ (old : Standing) (message : List ℕ) (ask : Ask) (new : Standing) where
   abbrev Comes : Type 0
   Comes = ComesTo old message ask new
 
-  lacks : (sequence : ℕ) → first_sequence message ≡ Some sequence → IsRefused old (Some sequence) Memory [] ask new → Comes
-  lacks sequence number is = Lacks (subst (λ s. IsRefused old s Memory [] ask new) (sym number) is)
+  lacks : (sequence : ℕ) → first_sequence message ≡ Some sequence → MayWantMemory old message
+      → IsRefused old (Some sequence) Memory [] ask new → Comes
+  lacks sequence number may is = Lacks may (subst (λ s. IsRefused old s Memory [] ask new) (sym number) is)
 
-  -- a refusal, or want of memory
-  refuses : (sequence : ℕ) (refusal : Refusal) → first_sequence message ≡ Some sequence
+  -- a refusal, or want of memory where it may be
+  refuses : (sequence : ℕ) (refusal : Refusal) → first_sequence message ≡ Some sequence → (refusal ≡ Memory → MayWantMemory old message)
       → IsRefused old (Some sequence) refusal [] ask new → Comes
-  refuses sequence refusal number is =
+  refuses sequence refusal number may is =
       elim (is_memory refusal) [
-        | inl memory ↦ lacks sequence number (subst (λ r. IsRefused old (Some sequence) r [] ask new) memory is)
+        | inl memory ↦ lacks sequence number (may memory) (subst (λ r. IsRefused old (Some sequence) r [] ask new) memory is)
         | inr other ↦ Refuses (Some sequence) refusal [] other is
       ]
+
+  ready_in : (setup : Setup) (paused : Option Run) → old.state ≡ Ready setup paused → IsReadyIn old.state setup
+  ready_in setup paused same = subst (λ (s : State). IsReadyIn s setup) (sym same) refl
 
   says : (sequence : ℕ) (fields : List Field) (body : List ℕ) → IsReplied old (reply_text 200 (Some sequence) fields body) ask new → Comes
   says sequence fields body is = Says sequence fields body old.tearing (inl refl) is.0 is.1
 
-  looks_to : (sequence : ℕ) → first_sequence message ≡ Some sequence → Looks old sequence ask new → Comes
-  looks_to sequence number (inl look) = AsksForLook sequence look
-  looks_to sequence number (inr short) = lacks sequence number short.refused
+  looks_to : (request : Request) → ParameterHeard old message request → IsWord (codes "x-Booked") request.body.now
+      → Looks old request.sequence ask new → Comes
+  looks_to request heard booked (inl look) = AsksForLook request.sequence look
+  looks_to request heard booked (inr short) =
+      lacks request.sequence heard.number (inr (inr (inr (record {
+        look = record { request = request; linked = heard.linked; is_request = heard.read; method = heard.method; body = booked };
+        none = short.later;
+      })))) short.refused
 
   asks_offer_to : (sequence wait : ℕ) (planned : Result Planned Refusal) → first_sequence message ≡ Some sequence
-      → AsksOfferOr old sequence wait planned ask new → Comes
-  asks_offer_to sequence wait (Ok planned) number (inl asks) = AsksForOffer sequence wait planned asks
-  asks_offer_to sequence wait (Ok planned) number (inr refused) = lacks sequence number refused
-  asks_offer_to sequence wait (Err refusal) number refused = refuses sequence refusal number refused
+      → MayWantMemory old message → AsksOfferOr old sequence wait planned ask new → Comes
+  asks_offer_to sequence wait (Ok planned) number may (inl asks) = AsksForOffer sequence wait planned asks
+  asks_offer_to sequence wait (Ok planned) number may (inr refused) = lacks sequence number may refused
+  asks_offer_to sequence wait (Err refusal) number may refused = refuses sequence refusal number (λ memory. may) refused
 
-  gets_offer_to : (state : State) (request : Request) → first_sequence message ≡ Some request.sequence
-      → GetsOffer state old request ask new → Comes
-  gets_offer_to Init request number is = refuses request.sequence Session number is
-  gets_offer_to (Ready setup paused) request number (inl short) = refuses request.sequence Parameter number short.refused
-  gets_offer_to (Ready setup paused) request number (inr offers) =
-      asks_offer_to request.sequence offers.wait offers.offers.planned number offers.offers.asks
-  gets_offer_to (Playing setup play) request number is = refuses request.sequence NotNow number is
-  gets_offer_to (Stopping setup stop) request number is = refuses request.sequence NotNow number is
+  gets_offer_to : (state : State) (request : Request) → ParameterHeard old message request → IsWord (codes "x-Offer") request.body.now
+      → old.state ≡ state → GetsOffer state old request ask new → Comes
+  gets_offer_to Init request heard offer same is = Refuses (Some request.sequence) Session [] (λ memory. cc) is
+  gets_offer_to (Ready setup paused) request heard offer same (inl short) =
+      Refuses (Some request.sequence) Parameter [] (λ memory. cc) short.refused
+  gets_offer_to (Ready setup paused) request heard offer same (inr offers) =
+      asks_offer_to request.sequence offers.wait offers.offers.planned heard.number (inr (inr (inl (record {
+        setup = setup;
+        request = request;
+        ready = ready_in setup paused same;
+        offer = record { is_request = heard.read; method = heard.method; body = offer };
+      })))) offers.offers.asks
+  gets_offer_to (Playing setup play) request heard offer same is = Refuses (Some request.sequence) NotNow [] (λ memory. cc) is
+  gets_offer_to (Stopping setup stop) request heard offer same is = Refuses (Some request.sequence) NotNow [] (λ memory. cc) is
 
-  gets_to : (request : Request) (topic : Topic) → first_sequence message ≡ Some request.sequence → Gets old request topic ask new → Comes
-  gets_to request NoTopic number is = says request.sequence [] [] is
-  gets_to request Booked number is = looks_to request.sequence number is
-  gets_to request OfferTopic number is = gets_offer_to old.state request number is
-  gets_to request Unknown number is = refuses request.sequence Parameter number is
+  gets_to : (request : Request) (topic : Topic) → ParameterHeard old message request → IsTopic request.body.now topic
+      → Gets old request topic ask new → Comes
+  gets_to request NoTopic heard topic is = says request.sequence [] [] is
+  gets_to request Booked heard topic is = looks_to request heard topic is
+  gets_to request OfferTopic heard topic is = gets_offer_to old.state request heard topic refl is
+  gets_to request Unknown heard topic is = Refuses (Some request.sequence) Parameter [] (λ memory. cc) is
 
   set_up_to : (request : Request) (film : ℕ) (read : Result Setup Refusal) → SetupHeard old message request film
       → IsSetupRead old.settings request.head.now film read → IsSetUp old request.sequence read ask new → Comes
   set_up_to request film (Ok setup) heard read is =
       SettlesSetup request.sequence setup heard.init (setup_ranges read heard.within) is.0 is.1
-  set_up_to request film (Err refusal) heard read is = refuses request.sequence refusal heard.number is
+  set_up_to request film (Err refusal) heard read is =
+      refuses request.sequence refusal heard.number
+      (λ memory. absurd (subst (λ r. IsSetupRead old.settings request.head.now film (Err r)) memory read)) is
+
+  may_play : PlayHeard old message → MayWantMemory old message
+  may_play heard = inr (inl (record { setup = heard.setup; ready = ready_in heard.setup heard.paused heard.ready; play = heard.play }))
 
   asks_play_to : (heard : PlayHeard old message) (planned : Result Planned Refusal)
       → IsPlanned old heard.setup heard.paused heard.range planned
@@ -189,13 +218,13 @@ module _ (old : Standing) (message : List ℕ) (ask : Ask) (new : Standing) wher
       asks.command asks.state
     where
       open heard use {sequence, authority, setup, paused, range, ready}
-  asks_play_to heard (Ok planned) is (inr refused) = lacks heard.sequence heard.number refused
-  asks_play_to heard (Err refusal) is refused = refuses heard.sequence refusal heard.number refused
+  asks_play_to heard (Ok planned) is (inr refused) = lacks heard.sequence heard.number (may_play heard) refused
+  asks_play_to heard (Err refusal) is refused = refuses heard.sequence refusal heard.number (λ memory. may_play heard) refused
 
   plays_to : (state : State) (request : Request) (authority : List ℕ) → first_sequence message ≡ Some request.sequence
-      → old.state ≡ state → Plays state old request authority ask new → Comes
-  plays_to Init request authority number same is = absurd is
-  plays_to (Ready setup paused) request authority number same is =
+      → IsOfMethod (codes "PLAY") message → old.state ≡ state → Plays state old request authority ask new → Comes
+  plays_to Init request authority number play same is = absurd is
+  plays_to (Ready setup paused) request authority number play same is =
       asks_play_to (record {
         sequence = request.sequence;
         authority = authority;
@@ -204,9 +233,10 @@ module _ (old : Standing) (message : List ℕ) (ask : Ask) (new : Standing) wher
         range = header_value request.head.now (codes "Range");
         number = number;
         ready = same;
+        play = play;
       }) is.planned is.is_planned is.asks
-  plays_to (Playing setup play) request authority number same is = says request.sequence _ [] is
-  plays_to (Stopping setup stop) request authority number same is = says request.sequence _ [] is
+  plays_to (Playing setup going) request authority number play same is = says request.sequence _ [] is
+  plays_to (Stopping setup stop) request authority number play same is = says request.sequence _ [] is
 
   pauses_to : (state : State) (sequence : ℕ) → old.state ≡ state → Pauses state old sequence ask new → Comes
   pauses_to Init sequence same is = absurd is
@@ -220,35 +250,40 @@ module _ (old : Standing) (message : List ℕ) (ask : Ask) (new : Standing) wher
   tears_to (Playing setup play) sequence torn same is = AsksForHalt sequence setup play Torn same refl (inr torn) is
   tears_to (Stopping setup stop) sequence torn same is = Says sequence _ [] true (inr torn) is.0 is.1
 
-  takes_to : (request : Request) (judgement : Result Task Refusal) → IsReadAs message request → first_sequence message ≡ Some request.sequence
+  takes_to : (request : Request) (judgement : Result Task Refusal) → old.lost ≡ false → IsReadAs message request
+      → first_sequence message ≡ Some request.sequence
       → IsJudged old.films old.id (place_of old.state) request judgement → Takes old request judgement ask new → Comes
-  takes_to request (Ok ToOptions) read number judged takes = says request.sequence _ [] takes
-  takes_to request (Ok (ToDescribe asked)) read number judged takes = says request.sequence _ _ takes.reply
-  takes_to request (Ok (ToSetup film)) read number judged takes =
+  takes_to request (Ok ToOptions) linked read number judged takes = says request.sequence _ [] takes
+  takes_to request (Ok (ToDescribe asked)) linked read number judged takes = says request.sequence _ _ takes.reply
+  takes_to request (Ok (ToSetup film)) linked read number judged takes =
       let named = judged.film.1.named.film in
       set_up_to request film takes.read (record {
         number = number;
         init = init_of old.state judged.state;
         within = slice_get_within old.films film named.stored named.at;
       }) takes.is_read takes.done
-  takes_to request (Ok (ToPlay asked)) read number judged takes = plays_to old.state request asked.authority.now number refl takes
-  takes_to request (Ok ToPause) read number judged takes = pauses_to old.state request.sequence refl takes
-  takes_to request (Ok ToTeardown) read number judged takes = tears_to old.state request.sequence
+  takes_to request (Ok (ToPlay asked)) linked read number judged takes =
+      plays_to old.state request asked.authority.now number
       (record { request = request; is_request = read; method_is = judged.talk.spoken.named }) refl takes
-  takes_to request (Ok ToGetParameter) read number judged takes = gets_to request takes.topic number takes.gets
-  takes_to request (Err refusal) read number judged takes =
+  takes_to request (Ok ToPause) linked read number judged takes = pauses_to old.state request.sequence refl takes
+  takes_to request (Ok ToTeardown) linked read number judged takes = tears_to old.state request.sequence
+      (record { request = request; is_request = read; method_is = judged.talk.spoken.named }) refl takes
+  takes_to request (Ok ToGetParameter) linked read number judged takes =
+      gets_to request takes.topic
+      (record { linked = linked; read = read; method = judged.talk.spoken.named; number = number }) takes.is_topic takes.gets
+  takes_to request (Err refusal) linked read number judged takes =
       elim (is_memory refusal) [
         | inl memory ↦
             absurd (subst (λ r. IsJudged old.films old.id (place_of old.state) request (Err r)) memory judged)
         | inr other ↦ Refuses (Some request.sequence) refusal (option_of request.head.now) other takes
       ]
 
-  hears_on_to : (lost : Bool) → HearsOn lost old message ask new → Comes
-  hears_on_to true refused = Lacks refused
-  hears_on_to false (inl fault) = Refuses (first_sequence message) (fault_refusal fault.fault) [] (fault_refuses fault.fault) fault.refused
-  hears_on_to false (inr whole) =
-      takes_to whole.request whole.hears.judgement whole.is_request (first_is message whole.request.sequence whole.is_request.sequence_is)
+  hears_on_to : (lost : Bool) → old.lost ≡ lost → HearsOn lost old message ask new → Comes
+  hears_on_to true lost refused = Lacks (inl lost) refused
+  hears_on_to false linked (inl fault) = Refuses (first_sequence message) (fault_refusal fault.fault) [] (fault_refuses fault.fault) fault.refused
+  hears_on_to false linked (inr whole) =
+      takes_to whole.request whole.hears.judgement linked whole.is_request (first_is message whole.request.sequence whole.is_request.sequence_is)
       whole.hears.judged whole.hears.takes
 
   pub comes_to : Hears old message ask new → Comes
-  comes_to hears = hears_on_to old.lost hears
+  comes_to hears = hears_on_to old.lost refl hears

@@ -33,7 +33,7 @@ pub data HearsAs (old : Standing) (ask : Ask) (new : Standing) : Type 0 where
       → HearsAs old ask new
 
 comes_as : (old : Standing) (message : List ℕ) (ask : Ask) (new : Standing) → ComesTo old message ask new → HearsAs old ask new
-comes_as old message ask new (Lacks is) = Replies _ old.tearing is.0 is.1
+comes_as old message ask new (Lacks may is) = Replies _ old.tearing is.0 is.1
 comes_as old message ask new (Refuses sequence refusal option other is) = Replies _ old.tearing is.0 is.1
 comes_as old message ask new (Says sequence fields body tearing by command is) = Replies _ tearing command is
 comes_as old message ask new (SettlesSetup sequence setup init ranges command is) = SetsUp _ setup init command is

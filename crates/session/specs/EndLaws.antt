@@ -7,7 +7,6 @@ use Rattle.film_run.specs.Pauses.{IsLeft}
 use Rattle.film_run.specs.Units.{stored_sizes}
 use Rattle.pacer.specs.Pacings.{slots_through}
 use Rattle.rtsp_text.specs.Replies.{Field, reply_text, value_named}
-use Rattle.rtsp_text.specs.declared.requests.Request.{Request}
 use Rattle.session.specs.declared.asks.Ask.{Ask}
 use Rattle.session.specs.declared.asks.Ask.TheVariants.{Reply, Play as AskPlay, Halt as AskHalt}
 use Rattle.session.specs.declared.asks.Ask.TheVariants.{Look as AskLook, Offer as AskOffer}
@@ -16,19 +15,12 @@ use Rattle.session.specs.declared.states.Setup.{Setup}
 use Rattle.session.specs.declared.states.State.TheVariants.{Ready, Playing}
 use Rattle.session.specs.Films.{IsFilmAt}
 use Rattle.session.specs.Hearings.{after_halt}
-use Rattle.session.specs.Judging.{IsReadAs}
-use Rattle.session.specs.Laws.{InitStage, PlayingStage, ReadyStage, Stage, stage_of}
+use Rattle.session.specs.Laws.{InitStage, IsOfMethod, PlayingStage, ReadyStage, Stage, stage_of}
 use Rattle.session.specs.LookLaws.{Admission, Full, Halt, Happening, Look, Message, Offer}
 use Rattle.session.specs.LookLaws.{Overflow, Sending, Slot}
 use Rattle.session.specs.Playing.{playback_of}
 use Rattle.session.specs.Sendings.{sent_reply}
 use Rattle.session.specs.Standings.{Standing}
-
--- a message is a request of this method
-pub record IsOfMethod (method message : List ℕ) : Type 0 where
-  pub request : Request
-  pub is_request : IsReadAs message request
-  pub method_is : request.method.now ≡ method
 
 abbrev pub IsTeardown : List ℕ → Type 0
 IsTeardown message = IsOfMethod (codes "TEARDOWN") message

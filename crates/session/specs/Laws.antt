@@ -1,9 +1,11 @@
 -- Laws of a session, in RFC 2326's words.
-use Rattle.std.specs.Prelude.{ℕ, ◌≡◌, ◌+◌, ◌%◌, ◌^◌, ◌++◌, ◌⊎◌, ⊤, List, [], Option, Some}
+use Rattle.std.specs.Prelude.{ℕ, ◌≡◌, ◌+◌, ◌%◌, ◌^◌, ◌++◌, ◌⊎◌, ⊤, true, List, [], Option, Some}
+use Rattle.std.specs.Prelude.{codes}
 use Rattle.rtp_pack.specs.declared.reports.Identity.{Identity}
 use Rattle.film_frames.specs.declared.stores.Stored.{Stored}
 use Rattle.film_run.specs.declared.runs.Run.{Run}
 use Rattle.rtsp_text.specs.Replies.{Field, reply_text}
+use Rattle.rtsp_text.specs.declared.requests.Request.{Request}
 use Rattle.session.specs.declared.asks.Ask.{Ask}
 use Rattle.session.specs.declared.asks.Ask.TheVariants.{Reply, Play as AskPlay, Halt as AskHalt}
 use Rattle.session.specs.declared.asks.Ask.TheVariants.{Look as AskLook, Offer as AskOffer}
@@ -15,9 +17,12 @@ use Rattle.session.specs.declared.states.State.TheVariants.{Init, Ready, Playing
 use Rattle.rtsp_text.specs.Fields.{first_sequence}
 use Rattle.session.specs.declared.refusals.Refusal.TheVariants.{Memory}
 use Rattle.session.specs.Changes.{HasCode}
+use Rattle.session.specs.Judging.{IsReadAs}
+use Rattle.session.specs.LookLaws.{AsksBooked}
 use Rattle.session.specs.Methods.{IsRefused}
+use Rattle.session.specs.OfferLaws.{IsOfferRequest}
 use Rattle.session.specs.Planning.{IsPlannedRun}
-use Rattle.session.specs.Standings.{Standing, with_reply}
+use Rattle.session.specs.Standings.{IsReadyIn, Standing, with_reply}
 
 -- the states of RFC 2326's server (appendix A.2); a play that was halted is over, also while its
 -- rest is sent
@@ -113,3 +118,31 @@ NeverLacks (AskPlay plan) new = (rest : List ℕ) → ¬ HasCode 500 (new.text +
 NeverLacks (AskHalt keep) new = ¬ HasCode 500 new.text
 NeverLacks (AskLook slot) new = ⊤
 NeverLacks (AskOffer plan offers) new = ⊤
+
+-- a message is a request of this method
+pub record IsOfMethod (method message : List ℕ) : Type 0 where
+  pub request : Request
+  pub is_request : IsReadAs message request
+  pub method_is : request.method.now ≡ method
+
+-- a PLAY in Ready, an offer in Ready, and a look once the room of the first looks is used up
+pub record IsPlayInReady (old : Standing) (message : List ℕ) : Type 0 where
+  pub setup : Setup
+  pub ready : IsReadyIn old.state setup
+  pub play : IsOfMethod (codes "PLAY") message
+
+pub record IsOfferInReady (old : Standing) (message : List ℕ) : Type 0 where
+  pub setup : Setup
+  pub request : Request
+  pub ready : IsReadyIn old.state setup
+  pub offer : IsOfferRequest old message request
+
+pub record IsLookPastRoom (old : Standing) (message : List ℕ) : Type 0 where
+  pub look : AsksBooked old message
+  pub none : old.looks_left ≡ 0
+
+-- memory may be wanting for such a message, and for no other; once the link is lost, each message
+-- is answered so
+abbrev pub MayWantMemory : Standing → List ℕ → Type 0
+MayWantMemory old message = (old.lost ≡ true) ⊎ (IsPlayInReady old message
+    ⊎ (IsOfferInReady old message ⊎ IsLookPastRoom old message))

@@ -19,8 +19,8 @@ ghost use Rattle.session.specs.Changes.{RefusesNone};
 ghost use Rattle.session.specs.Hearings.{Hears, after_admission, after_full, after_halt};
 ghost use Rattle.session.specs.Hearings.{after_look, after_overflow};
 ghost use Rattle.session.specs.Laws.{GoesOn, InitStage, Is500, IsDropped, IsNoHalt, IsOneHearing};
-ghost use Rattle.session.specs.Laws.{IsWanting, LeavesOr, NeverLacks, PlayingStage, PlaysOn};
-ghost use Rattle.session.specs.Laws.{ReadyStage, Resumes, StaysOr};
+ghost use Rattle.session.specs.Laws.{IsWanting, LeavesOr, MayWantMemory, NeverLacks};
+ghost use Rattle.session.specs.Laws.{PlayingStage, PlaysOn, ReadyStage, Resumes, StaysOr};
 ghost use Rattle.session.specs.Methods.{IsSetUp, play_front};
 ghost use Rattle.session.specs.Planning.{IsPlannedRun};
 ghost use Rattle.session.specs.Ranges.{AreFilms};
@@ -101,7 +101,9 @@ pub fn law_play_is_asked()
 
 /// A message is heard in one way, where memory is found for it: one command to the station, and one
 /// session after it, with its state and its reply. Where memory is wanting, it is answered 500, as
-/// for no other reason, and nothing else changes.
+/// for no other reason, and nothing else changes. That may be so of a PLAY and of an offer in
+/// Ready, and of a look once the room of the first 1,024 is used up; any other message is answered
+/// 500 only where the link was lost.
 pub fn law_one_hearing()
     ensures one { (old one other : Standing) (message : List ℕ) (ask again : Ask) →
         AreFilms old.films → Hears old message ask one → Hears old message again other
@@ -109,6 +111,9 @@ pub fn law_one_hearing()
     ensures memory { (old new : Standing) (message : List ℕ) (ask : Ask) →
         Hears old message ask new
         → Is500 ask new → IsWanting old message ask new }
+    ensures only { (old new : Standing) (message : List ℕ) (ask : Ask) →
+        Hears old message ask new
+        → Is500 ask new → MayWantMemory old message }
     ensures begun { (old new : Standing) (message : List ℕ) (ask : Ask) →
         Hears old message ask new → NeverLacks ask new }
 {}

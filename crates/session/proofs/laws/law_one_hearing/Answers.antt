@@ -1,5 +1,5 @@
 use Rattle.session.proofs.OneHearing.{hears_once}
-use Rattle.session.proofs.Refusing.{hears_500, hears_never}
+use Rattle.session.proofs.Refusing.{hears_500, hears_may, hears_never}
 use Rattle.session.proofs.laws.law_one_hearing.Goals as goal
 
 pub returns-clause-one : goal.returns-clause-one
@@ -18,6 +18,9 @@ returns-clause-one c = λ old one other message ask again films is its.
 
 pub returns-clause-memory : goal.returns-clause-memory
 returns-clause-memory c = hears_500
+
+pub returns-clause-only : goal.returns-clause-only
+returns-clause-only c = hears_may
 
 pub returns-clause-begun : goal.returns-clause-begun
 returns-clause-begun c = hears_never
