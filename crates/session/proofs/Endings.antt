@@ -2,6 +2,7 @@
 use Rattle.std.proofs.Common.{◌≡◌, ℕ, ◌⊎◌, ◌&&◌, Bool, true, false, cond, List, [], ◌∷◌, Some, codes, Result, Ok, Err, refl, sym, ap, subst, ◌∙◌, inl, inr}
 use Rattle.pacer.specs.Pacings.{next_boundary}
 use Rattle.rtsp_text.specs.Replies.{value_named}
+use Rattle.rtsp_text.specs.declared.requests.Request.{Request}
 use Rattle.rtsp_text.proofs.Once.{no_fault}
 use Rattle.session.specs.declared.asks.Ask.{Ask}
 use Rattle.session.specs.declared.asks.Ask.TheVariants.{Reply, Halt as AskHalt}
@@ -16,11 +17,11 @@ use Rattle.session.specs.declared.states.Play.{Play as Played}
 use Rattle.session.specs.declared.states.Setup.{Setup}
 use Rattle.session.specs.declared.states.State.{State}
 use Rattle.session.specs.declared.states.State.TheVariants.{Init, Ready, Playing, Stopping}
-use Rattle.session.specs.EndLaws.{EndsSession, HaltsPlay, HasTeardown, IsPausedPlay, IsPause, IsSessionTold, IsTeardown, IsTeardownHeard, IsTornDown}
+use Rattle.session.specs.EndLaws.{CanBePaused, CanBeTornDown, EndsSession, HaltsPlay, HasTeardown, IsPausedPlay, IsPause, IsSessionTold, IsTeardown, IsTeardownHeard, IsTornDown}
 use Rattle.session.specs.Hearings.{Hears, HearsOn, after_halt, is_torn, new_standing}
 use Rattle.session.specs.declared.methods.Method.{Method}
 use Rattle.session.specs.declared.methods.Method.TheVariants.{Pause, Teardown}
-use Rattle.session.specs.Judging.{IsJudged, method_of, name_of, option_of, place_of}
+use Rattle.session.specs.Judging.{IsJudged, IsReadAs, method_of, name_of, option_of, place_of}
 use Rattle.session.specs.Laws.{IsOfMethod, stage_of}
 use Rattle.session.specs.LookLaws.{Happening, Message, Admission, Overflow, Full, Halt, Look, Offer, Slot, Sending, AreAfter, IsAfter}
 use Rattle.session.specs.Methods.{AsksHalt, Ends, Pauses, PausesPlay, Takes, TearsDown}
@@ -29,7 +30,7 @@ use Rattle.session.specs.Replies.{field, session_text}
 use Rattle.session.specs.Sendings.{after_play, is_between, is_done_in, is_sending, is_taken, next_of, sent_due, sent_in, sent_reply, sent_slot, stepped_in}
 use Rattle.session.specs.Standings.{Standing}
 use Rattle.session.proofs.Grounds.{Beginning, TakenRequest}
-use Rattle.session.proofs.OneVerdict.{method_once}
+use Rattle.session.proofs.OneVerdict.{AreAlike, method_once, not_both}
 use Rattle.session.proofs.RangeInPlaying.{refused, same_request}
 use Rattle.session.proofs.Results.{ComesTo, Lacks, Refuses, Says, SettlesSetup, AsksForPlay, AsksForHalt, AsksForLook, AsksForOffer, comes_to}
 
@@ -105,18 +106,19 @@ TakesMethod P method = (taken : TakenRequest) (judgement : Result Task Refusal) 
     → IsJudged taken.old.films taken.old.id (place_of taken.old.state) taken.request judgement
     → Takes taken.old taken.request judgement taken.ask taken.new → Comes P taken.old taken.ask taken.new
 
+-- what the task of a method does
+abbrev DoesTask : (Standing → Ask → Standing → Type 0) → Method → Type 0
+DoesTask P method = (taken : TakenRequest) (task : Task) → method_of task ≡ method
+    → Takes taken.old taken.request (Ok task) taken.ask taken.new → P taken.old taken.ask taken.new
+
 -- a request of a method is refused, or does what the method's task does
-does_task : (P : Standing → Ask → Standing → Type 0) (method : Method)
-    → ((taken : TakenRequest) (task : Task) → method_of task ≡ method
-    → Takes taken.old taken.request (Ok task) taken.ask taken.new → P taken.old taken.ask taken.new)
-    → TakesMethod P (name_of method)
+does_task : (P : Standing → Ask → Standing → Type 0) (method : Method) → DoesTask P method → TakesMethod P (name_of method)
 does_task P method does taken (Ok task) named judged takes =
     inr (does taken task (method_once taken.request.method.now (method_of task) method judged.talk.spoken.named named) takes)
 does_task P method does taken (Err refusal) named judged takes =
     inl (refused (Some taken.request.sequence) refusal (option_of taken.request.head.now) takes)
 
-tears_task : (taken : TakenRequest) (task : Task) → method_of task ≡ Teardown
-    → Takes taken.old taken.request (Ok task) taken.ask taken.new → IsTornDown taken.old taken.ask taken.new
+tears_task : DoesTask IsTornDown Teardown
 tears_task taken ToTeardown is takes = tears_in taken.request.sequence refl takes
 tears_task taken ToOptions is takes = absurd cc
 tears_task taken (ToDescribe asked) is takes = absurd cc
@@ -125,8 +127,7 @@ tears_task taken (ToPlay asked) is takes = absurd cc
 tears_task taken ToPause is takes = absurd cc
 tears_task taken ToGetParameter is takes = absurd cc
 
-pauses_task : (taken : TakenRequest) (task : Task) → method_of task ≡ Pause
-    → Takes taken.old taken.request (Ok task) taken.ask taken.new → IsPausedPlay taken.old taken.ask taken.new
+pauses_task : DoesTask IsPausedPlay Pause
 pauses_task taken ToPause is takes = pauses_in taken.request.sequence refl takes
 pauses_task taken ToOptions is takes = absurd cc
 pauses_task taken (ToDescribe asked) is takes = absurd cc
@@ -156,6 +157,54 @@ pub pause_leaves : (old new : Standing) (message : List ℕ) (ask : Ask) → IsP
     → IsDeclined old ask new ⊎ IsPausedPlay old ask new
 pause_leaves old new message ask is hears =
     hears_on IsPausedPlay (does_task IsPausedPlay Pause pauses_task) old.lost {old = old} {message = message} {ask = ask} {new = new} is hears
+
+-- a message that is taken up, with its task
+record IsTakenUp (old : Standing) (message : List ℕ) (task : Task) : Type 0 where
+  request : Request
+  is_request : IsReadAs message request
+  judged : IsJudged old.films old.id (place_of old.state) request (Ok task)
+
+takes_up : (P : Standing → Ask → Standing → Type 0) {message : List ℕ} {task : Task} → DoesTask P (method_of task) → (taken : TakenRequest)
+    (judgement : Result Task Refusal) (is : IsTakenUp taken.old message task) → AreAlike is.request taken.request
+    → IsJudged taken.old.films taken.old.id (place_of taken.old.state) taken.request judgement
+    → Takes taken.old taken.request judgement taken.ask taken.new → P taken.old taken.ask taken.new
+takes_up P {task} does taken (Ok other) is alike judged takes =
+    does taken other (method_once taken.request.method.now (method_of other) (method_of task) judged.talk.spoken.named
+    (alike.method ∙ is.judged.talk.spoken.named)) takes
+takes_up P does taken (Err refusal) is alike judged takes = absurd (not_both refusal alike is.judged judged)
+
+-- it does what its task does
+hears_up : (P : Standing → Ask → Standing → Type 0) {task : Task} → DoesTask P (method_of task) → {lost : Bool} {old : Standing}
+    {message : List ℕ} {ask : Ask} {new : Standing} → lost ≡ false → IsTakenUp old message task → HearsOn lost old message ask new
+    → P old ask new
+hears_up P does {lost = true} {ask} {new} linked is hears = absurd (let no : ⊥ = cc in no)
+hears_up P does {lost = false} {message} {ask} {new} linked is (inl fault) =
+    absurd (no_fault fault.fault is.is_request fault.is_fault)
+hears_up P does {lost = false} {old} {message} {ask} {new} linked is (inr whole) =
+    takes_up P does (record { old = old; new = new; request = whole.request; ask = ask }) whole.hears.judgement is
+    (same_request message is.request whole.request is.is_request whole.is_request) whole.hears.judged whole.hears.takes
+
+pub teardown_taken : (old new : Standing) (message : List ℕ) (ask : Ask) → CanBeTornDown old message → Hears old message ask new
+    → IsTornDown old ask new
+teardown_taken old new message ask can hears =
+    hears_up IsTornDown {task = ToTeardown} tears_task {old = old} {message = message} {ask = ask} {new = new} can.good.linked (record {
+      request = can.request;
+      is_request = can.is_request;
+      judged = record { talk = can.good.talk; film = can.good.film; state = tt };
+    }) hears
+
+pub pause_taken : (old new : Standing) (message : List ℕ) (ask : Ask) → CanBePaused old message → Hears old message ask new
+    → IsPausedPlay old ask new
+pause_taken old new message ask can hears =
+    hears_up IsPausedPlay {task = ToPause} pauses_task {old = old} {message = message} {ask = ask} {new = new} can.good.linked (record {
+      request = can.request;
+      is_request = can.is_request;
+      judged = record {
+        talk = can.good.talk;
+        film = can.good.film;
+        state = ap (λ (s : State). (place_of s).playing) can.playing;
+      };
+    }) hears
 
 -- ---- only a TEARDOWN ends the session
 

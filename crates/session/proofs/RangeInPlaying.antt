@@ -125,7 +125,7 @@ range_refused {request} heard is =
 record RangedPlay (old : Standing) (request other : Request) : Type 0 where
   pub alike : AreAlike request other
   pub ranged : IsRanged (place_of old.state) request
-  pub good : IsElseGood old request
+  pub good : IsElseGood PlayMethod old request
 
 -- its code, where no other refusal comes before
 takes_455 : {old : Standing} {request other : Request} (judgement : Result Task Refusal) (ask : Ask) (new : Standing)
@@ -146,7 +146,7 @@ takes_455 {old} {request} {other} (Err refusal) ask new play judged takes =
     subst (λ (t : List ℕ). HasCode 455 t) (sym text) (refusal_code (Some other.sequence) NotNow (option_of other.head.now))
 
 hears_455 : {lost : Bool} {old : Standing} {message : List ℕ} {request : Request} (ask : Ask) (new : Standing) → lost ≡ false
-    → HasRangeInPlaying old message request → IsElseGood old request → HearsOn lost old message ask new → HasCode 455 new.text
+    → HasRangeInPlaying old message request → IsElseGood PlayMethod old request → HearsOn lost old message ask new → HasCode 455 new.text
 hears_455 {lost = true} ask new linked is good hears = absurd (let no : ⊥ = cc in no)
 hears_455 {lost = false} {message} {request} ask new linked is good (inl fault) =
     absurd (no_fault fault.fault is.is_request fault.is_fault)
@@ -158,5 +158,5 @@ hears_455 {lost = false} {old} {message} {request} ask new linked is good (inr w
     }) whole.hears.judged whole.hears.takes
 
 pub range_455 : {request : Request} (heard : HeardMessage) → HasRangeInPlaying heard.old heard.message request
-    → IsElseGood heard.old request → HasCode 455 heard.new.text
+    → IsElseGood PlayMethod heard.old request → HasCode 455 heard.new.text
 range_455 heard is good = hears_455 heard.ask heard.new good.linked is good heard.hears

@@ -7,18 +7,22 @@ use Rattle.film_run.specs.Pauses.{IsLeft}
 use Rattle.film_run.specs.Units.{stored_sizes}
 use Rattle.pacer.specs.Pacings.{slots_through}
 use Rattle.rtsp_text.specs.Replies.{Field, reply_text, value_named}
+use Rattle.rtsp_text.specs.declared.requests.Request.{Request}
 use Rattle.session.specs.declared.asks.Ask.{Ask}
 use Rattle.session.specs.declared.asks.Ask.TheVariants.{Reply, Play as AskPlay, Halt as AskHalt}
 use Rattle.session.specs.declared.asks.Ask.TheVariants.{Look as AskLook, Offer as AskOffer}
+use Rattle.session.specs.declared.methods.Method.TheVariants.{Pause, Teardown}
 use Rattle.session.specs.declared.states.Play.{Play as Played}
 use Rattle.session.specs.declared.states.Setup.{Setup}
 use Rattle.session.specs.declared.states.State.TheVariants.{Ready, Playing}
 use Rattle.session.specs.Films.{IsFilmAt}
 use Rattle.session.specs.Hearings.{after_halt}
+use Rattle.session.specs.Judging.{IsReadAs}
 use Rattle.session.specs.Laws.{InitStage, IsOfMethod, PlayingStage, ReadyStage, Stage, stage_of}
 use Rattle.session.specs.LookLaws.{Admission, Full, Halt, Happening, Look, Message, Offer}
 use Rattle.session.specs.LookLaws.{Overflow, Sending, Slot}
 use Rattle.session.specs.Playing.{playback_of}
+use Rattle.session.specs.PlayLaws.{IsElseGood}
 use Rattle.session.specs.Sendings.{sent_reply}
 use Rattle.session.specs.Standings.{Standing}
 
@@ -27,6 +31,21 @@ IsTeardown message = IsOfMethod (codes "TEARDOWN") message
 
 abbrev pub IsPause : List ℕ → Type 0
 IsPause message = IsOfMethod (codes "PAUSE") message
+
+-- a PAUSE in Playing that nothing refuses
+pub record CanBePaused (old : Standing) (message : List ℕ) : Type 0 where
+  pub setup : Setup
+  pub play : Played
+  pub request : Request
+  pub playing : old.state ≡ Playing setup play
+  pub is_request : IsReadAs message request
+  pub good : IsElseGood Pause old request
+
+-- a TEARDOWN that nothing refuses: there is a session, so it isn't heard in Init
+pub record CanBeTornDown (old : Standing) (message : List ℕ) : Type 0 where
+  pub request : Request
+  pub is_request : IsReadAs message request
+  pub good : IsElseGood Teardown old request
 
 -- a TEARDOWN is heard
 abbrev pub IsTeardownHeard : Happening → Type 0

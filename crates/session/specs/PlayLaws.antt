@@ -18,7 +18,7 @@ use Rattle.rtsp_text.specs.Fields.{header_value}
 use Rattle.rtsp_text.specs.declared.requests.Request.{Request}
 use Rattle.session.specs.declared.asks.Ask.{Ask}
 use Rattle.session.specs.declared.asks.Ask.TheVariants.{Reply}
-use Rattle.session.specs.declared.methods.Method.TheVariants.{Play as PlayMethod}
+use Rattle.session.specs.declared.methods.Method.{Method}
 use Rattle.session.specs.declared.notes.PlayNote.{PlayNote}
 use Rattle.session.specs.declared.plans.Planned.{Planned}
 use Rattle.session.specs.declared.settings.Settings.{Settings}
@@ -48,12 +48,12 @@ pub record IsDeclined (old : Standing) (ask : Ask) (new : Standing) : Type 0 whe
   pub leaves : new ≡ with_reply old new.text
   pub no_ok : ¬ HasCode 200 new.text
 
--- no refusal that is looked for before its state applies to a request: it requires no option, and
--- names the session and the session's film
-pub record IsElseGood (old : Standing) (request : Request) : Type 0 where
+-- no refusal that is looked for before its state applies to a request of a method: it requires no
+-- option, and names the session and the session's film
+pub record IsElseGood (method : Method) (old : Standing) (request : Request) : Type 0 where
   pub linked : old.lost ≡ false
-  pub talk : IsOwnTalk old.id (place_of old.state) request PlayMethod
-  pub film : HasFilm old.films (place_of old.state) request.url.now PlayMethod
+  pub talk : IsOwnTalk old.id (place_of old.state) request method
+  pub film : HasFilm old.films (place_of old.state) request.url.now method
 
 -- a halt keeps what was sent up to the first boundary that is reached
 abbrev pub KeepsToBoundary : Played → ℕ → Type 0

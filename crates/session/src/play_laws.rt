@@ -8,6 +8,7 @@ ghost use Rattle.film_frames.specs.Tracks.{framed_bytes};
 ghost use Rattle.pacer.specs.Pacings.{IsPacing};
 ghost use Rattle.rtsp_text.specs.declared.requests.Request.{Request};
 ghost use Rattle.session.specs.declared.asks.Ask.{Ask};
+ghost use Rattle.session.specs.declared.methods.Method.TheVariants.{Play as PlayMethod};
 ghost use Rattle.session.specs.declared.states.Play.{Play as Played};
 ghost use Rattle.session.specs.declared.states.Setup.{Setup};
 ghost use Rattle.session.specs.declared.states.State.TheVariants.{Playing};
@@ -30,7 +31,8 @@ pub fn law_range_in_playing()
         → HasRangeInPlaying old message request → IsDeclined old ask new }
     ensures code { (old new : Standing) (message : List ℕ) (ask : Ask) (request : Request) →
         Hears old message ask new
-        → HasRangeInPlaying old message request → IsElseGood old request → HasCode 455 new.text }
+        → HasRangeInPlaying old message request → IsElseGood PlayMethod old request
+        → HasCode 455 new.text }
 {}
 
 /// A PAUSE and a TEARDOWN halt a play at the first boundary at or after what was sent: the frame or

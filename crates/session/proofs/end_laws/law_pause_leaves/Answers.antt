@@ -1,5 +1,8 @@
-use Rattle.session.proofs.Endings.{pause_leaves}
+use Rattle.session.proofs.Endings.{pause_leaves, pause_taken}
 use Rattle.session.proofs.end_laws.law_pause_leaves.Goals as goal
 
-pub returns : goal.returns
-returns c = pause_leaves
+pub returns-clause-leaves : goal.returns-clause-leaves
+returns-clause-leaves c = pause_leaves
+
+pub returns-clause-taken : goal.returns-clause-taken
+returns-clause-taken c = pause_taken
