@@ -28,7 +28,7 @@ impl<'a, R: Net<Listener = TcpListener, Stream = TcpStream> + Clock> DialGate<'a
             rt,
             alloc,
             call: Call::NotOpen,
-            faults: Faults::none(),
+            faults: Faults::new(),
         }
     }
 
@@ -71,7 +71,7 @@ impl<'a, R: Net<Listener = TcpListener, Stream = TcpStream> + Clock> Gate for Di
             rt: self.rt,
             alloc: self.alloc,
             call: mem::replace(&mut self.call, Call::Given),
-            faults: Faults::none(),
+            faults: Faults::new(),
         })
     }
 

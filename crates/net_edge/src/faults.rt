@@ -13,7 +13,7 @@ pub(crate) struct Faults {
 
 impl Faults {
     /// None yet.
-    pub(crate) fn none() -> Faults
+    pub(crate) fn new() -> Faults
         ensures { result.count ≡ 0 }
     {
         Faults { count: 0 }

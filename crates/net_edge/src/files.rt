@@ -26,7 +26,7 @@ impl<'a, R: Files> FileLibrary<'a, R> {
             rt,
             alloc,
             open: None,
-            faults: Faults::none(),
+            faults: Faults::new(),
         }
     }
 

@@ -30,7 +30,7 @@ impl<'a, R: Net<Listener = TcpListener, Stream = TcpStream> + Clock> TcpGate<'a,
             alloc,
             door: None,
             given: 0,
-            faults: Faults::none(),
+            faults: Faults::new(),
         }
     }
 
@@ -48,7 +48,8 @@ impl<'a, R: Net<Listener = TcpListener, Stream = TcpStream> + Clock> TcpGate<'a,
         }
     }
 
-    /// The next connection, or None where all were given.
+    /// The next connection that can be set up, or None where all were given. One that can't be, for
+    /// want of memory or of a file descriptor, is closed: it is the loss of one, not of a worker.
     fn next_link(&mut self) -> io::Result<Option<TcpLink<'a, R>>>
         ensures faults { self.new.faults ≡ self.old.faults }
         ensures fresh { IfOk result (λ next. IfSome next (λ link. link.faults.count ≡ 0)) }
@@ -59,9 +60,14 @@ impl<'a, R: Net<Listener = TcpListener, Stream = TcpStream> + Clock> TcpGate<'a,
         if door.connections != 0 && self.given >= door.connections {
             return Ok(None);
         }
-        let link = TcpLink::new(self.rt, self.alloc, door.accept()?, door.clock)?;
-        self.given = self.given.saturating_add(1);
-        Ok(Some(link))
+        for _ in 0..u64::MAX {
+            let stream = door.accept()?;
+            if let Ok(link) = TcpLink::new(self.rt, self.alloc, stream, door.clock) {
+                self.given = self.given.saturating_add(1);
+                return Ok(Some(link));
+            }
+        }
+        Err(io::Error::from(ErrorKind::TimedOut))
     }
 }
 
@@ -91,7 +97,7 @@ impl<'a, R: Net<Listener = TcpListener, Stream = TcpStream> + Clock> Gate for Tc
                 alloc: self.alloc,
                 door: Some(door),
                 given: 0,
-                faults: Faults::none(),
+                faults: Faults::new(),
             }),
             Err(_) => Err(self.faults.add_gate_fault()),
         }

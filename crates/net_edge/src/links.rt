@@ -91,7 +91,7 @@ impl<'a, R: Net + Clock> TcpLink<'a, R> {
             slot: None,
             readable: true,
             stuck: None,
-            faults: Faults::none(),
+            faults: Faults::new(),
         })
     }
 }

@@ -18,7 +18,7 @@ impl<W: Write + Drop> OutSink<W> {
     pub fn new(stream: W) -> OutSink<W> {
         OutSink {
             stream,
-            faults: Faults::none(),
+            faults: Faults::new(),
         }
     }
 }
