@@ -23,16 +23,6 @@ request_few bytes unfinished =
       | inr body ↦ let is = body.1.0 in omega (arith, body.1.1, is.total_is, is.fits, is.small)
     ]
 
-pub few_wait : (bytes : List ℕ) → ((k : ℕ) → get_or bytes k 0 < 256) → IsFirst bytes (Ok More) → length bytes < 81920
-few_wait bytes fits first =
-    elim first [
-      | inl none ↦ omega (arith, none)
-      | inr some ↦ elim some [
-        | inl block ↦ block_few bytes (fits 2) (fits 3) block.1
-        | inr request ↦ request_few bytes request.1
-      ]
-    ]
-
 -- so an event's bytes find no room only while a reply waits
 pub waits_for_room : (c : Connection) (n : ℕ) → (IsFirst c.input (Ok More) → length c.input < 81920) → n ≤ 16384 → 131072 < length c.input + n → IsWaiting c →
     c.session.waits ≡ true

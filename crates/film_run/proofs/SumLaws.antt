@@ -42,9 +42,6 @@ bytes-most sizes from end order = omega (arith, bytes-front sizes from end order
 pub length-between : (sizes : List ℕ) (from end : ℕ) → end ≤ length sizes → length (sizes_between sizes from end) ≡ end - from
 length-between sizes from end within = omega (arith, length-take (end - from) (drop from sizes), length-drop from sizes)
 
-pub size-between : (sizes : List ℕ) (from end k : ℕ) → k < end - from → get_or (sizes_between sizes from end) k 0 ≡ get_or sizes (from + k) 0
-size-between sizes from end k inside = get_or-take (end - from) (drop from sizes) k 0 inside ∙ get_or-drop from sizes k 0
-
 -- the first of the units between
 pub bytes-first : (sizes : List ℕ) (from end n : ℕ) → n ≤ end - from → sum (take n (sizes_between sizes from end)) ≡ bytes_between sizes from (from + n)
 bytes-first sizes from end n inside =

@@ -31,15 +31,6 @@ pub name_within : (head : List ℕ) (at : ℕ) → IsLengthLine head at → at +
 name_within head at h =
     let e = simp (length-map, length-take, length-drop) at (ap length h.name) in omega (arith, e)
 
--- the first line of that name gives the length of the body
-pub given_body : (o : Option ℕ) (head : List ℕ) (at : ℕ) → IsLengthLine head at → ((k : ℕ) → k < at → ¬ IsLengthLine head k) →
-    MatchOption o (IsLongAt head (at + 15)) (λ n. (n ≤ 65536) × IsWrittenAt head (at + 15) n) →
-    MatchOption o (IsLongBody head) (λ n. (n ≤ 65536) × IsBodyLength head n)
-given_body None head at line first h =
-    (h.0, (h.1.0, inl (record { at = at; is_line = line; first = first; value = h.1.1 })))
-given_body (Some n) head at line first h =
-    (h.0, inl (record { at = at; is_line = line; first = first; value = h.1 }))
-
 -- no line of that name begins anywhere
 pub no_line : (head : List ℕ) → ((k : ℕ) → k < length head → ¬ IsLengthLine head k) → (k : ℕ) → ¬ IsLengthLine head k
 no_line head none k = λ h. none k (omega (arith, name_within head k h)) h

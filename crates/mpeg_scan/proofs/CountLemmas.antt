@@ -26,9 +26,6 @@ pub record Agrees (pictures : ℕ) (has : Bool) (all n before : ℕ) (starts : B
 
 -- ---- the calls, one by one
 
-counts-slice : (k : Count) (from to : ℕ) (calls : List Call) → counts_after (Some k) (slice_call from to ∷ calls) ≡ counts_after (Some (record k { slices = k.slices + 1 })) calls
-counts-slice k from to calls = refl
-
 counts-unit : (k : Count) (u : PictureUnit) → u.first_slice + u.slices ≡ k.slices → u.presentation ≡ group_of k u + u.temporal → counts_after (Some k) (unit_call u ∷ []) ≡ Some (record { units = k.units + 1; slices = k.slices; before_group = group_of k u })
 counts-unit k u slices shown =
     ap (λ b. counts_after (cond b (Some (record { units = k.units + 1; slices = k.slices; before_group = group_of k u })) None) []) (and_from (eqb (u.first_slice + u.slices) k.slices) (eqb u.presentation (group_of k u + u.temporal)) (eq-eqb (u.first_slice + u.slices) k.slices slices) (eq-eqb u.presentation (group_of k u + u.temporal) shown))

@@ -93,11 +93,6 @@ none-more : (c : Code) (past : List Code) (from : ℕ) (OfKind : ℕ → Type 0)
 none-more c past from OfKind other none place kind (inl new) after is = other (subst (λ k. OfKind k) (sym new.1) is)
 none-more c past from OfKind other none place kind (inr old) after is = none place kind old after is
 
--- the same where the code stands before
-none-before : (c : Code) (past : List Code) (from : ℕ) (OfKind : ℕ → Type 0) → c.place < from → NoneFrom past from OfKind → NoneFrom (c ∷ past) from OfKind
-none-before c past from OfKind before none place kind (inl new) after is = omega (arith, new.0, before, after)
-none-before c past from OfKind before none place kind (inr old) after is = none place kind old after is
-
 -- none of the older codes stands from the new one on
 none-new : (c : Code) (past : List Code) (OfKind : ℕ → Type 0) → ((place kind : ℕ) → HasCode place kind past → place < c.place) → (OfKind c.kind → ⊥) → NoneFrom (c ∷ past) c.place OfKind
 none-new c past OfKind below other place kind (inl new) after is = other (subst (λ k. OfKind k) (sym new.1) is)

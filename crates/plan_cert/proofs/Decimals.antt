@@ -43,13 +43,6 @@ same_cut {ws} {bs} c (x ∷ xs) (y ∷ ys) e none none' =
     let same : xs ≡ ys = rest.0 in
     (cc, rest.1)
 
--- a text without a byte can't be cut at it
-pub no_cut : (c : ℕ) (text xs ws : List ℕ) → All (λ b. b ≢ c) text → text ≡ xs ++ c ∷ ws → ⊥
-no_cut c [] [] ws none e = cc
-no_cut c [] (x ∷ xs) ws none e = cc
-no_cut c (t ∷ text) [] ws none e = All-head (λ b. b ≢ c) t text none (cc)
-no_cut c (t ∷ text) (x ∷ xs) ws none e = no_cut c text xs ws (All-tail (λ b. b ≢ c) t text none) (cc)
-
 -- the two numbers of a text, by its first space
 pub numbers_cut : (text front after : List ℕ) (s : Segment) → IsSplitAtFirst 32 text front after → AreNumbers text s → (front ≡ decimal s.slots) × (after ≡ decimal s.bytes)
 numbers_cut text front after s cut numbers =

@@ -191,12 +191,6 @@ piece_text {text} {line} after segments s so_far cut words =
     ∙ ap (λ x. flat_map segment_line segments ++ x) (append_assoc (segment_words s) (10 ∷ []) after) in
     whole ∙ sym joined
 
--- the end
-pub end_text : {text rest line after : List ℕ} (segments : List Segment) → text ≡ flat_map segment_line segments ++ rest →
-    rest ≡ line ++ 10 ∷ after → line ≡ codes "end" → after ≡ [] → text ≡ flat_map segment_line segments ++ codes "end\n"
-end_text {text} {line} {after} segments so_far cut words none =
-    so_far ∙ ap (λ r. flat_map segment_line segments ++ r) (cut ∙ ap (λ l. l ++ 10 ∷ after) words ∙ ap (λ b. codes "end" ++ 10 ∷ b) none)
-
 pub whole_text : {text rest : List ℕ} (slots bytes : ℕ) (segments : List Segment) → text ≡ cert_head slots bytes ++ rest →
     rest ≡ flat_map segment_line segments ++ codes "end\n" → text ≡ cert_head slots bytes ++ flat_map segment_line segments ++ codes "end\n"
 whole_text {text} slots bytes segments head body =

@@ -101,10 +101,6 @@ some-cond : {A : Type 0} (c : Bool) (x : A) → is_some (cond c (Some x) None) �
 some-cond true x = refl
 some-cond false x = refl
 
-and-true : (c : Bool) → (true && c) ≡ c
-and-true true = refl
-and-true false = refl
-
 -- whether a frame goes on, by the source that is kept
 goes-on : {head : Head} {ms : ℕ} (source : Option Source) (h : History) (b : List ℕ) → IsSourceOf source h → head ≡ head_at (drop 4 b)
     → ms ≡ end_ms h

@@ -39,10 +39,6 @@ clock_at {text} {first} {second} {seconds} e f clock =
       small_seconds = clock.small_seconds;
     }))
 
-pub no_colon : (text : List ℕ) (first seconds : ℕ) → IsEnd 58 text 0 first → first ≡ length text → IsClock text seconds → ⊥
-no_colon text first seconds e past clock =
-    omega (arith, first_colon text first seconds clock e, past, clock.minutes_end.after, clock.inside)
-
 -- the piece ends before the text does
 pub inside_text : (text : List ℕ) (from to : ℕ) → IsEnd 58 text from to → (to ≡ length text → ⊥) → to < length text
 inside_text text from to e other =
@@ -89,19 +85,6 @@ whole_clock {first} {second} {hours} {minutes} {seconds} parts = (
   },
   omega (arith, parts.are_hours.1, parts.small_minutes, parts.small_seconds),
 )
-
--- not short enough for a clock
-pub long_minutes : {text : List ℕ} {first second minutes n : ℕ} → IsEnd 58 text 0 first → IsEnd 58 text (first + 1) second →
-    IsDigits 2 (slice_range text (first + 1) second) minutes → 59 < minutes → IsClock text n → ⊥
-long_minutes {text} {first} {second} {minutes} {n} e f m large clock =
-    let at : IsClockAt text first second n = clock_at e f clock in
-    omega (arith, value_once 2 (slice_range text (first + 1) second) minutes at.minutes m at.are_minutes, at.small_minutes, large)
-
-pub long_seconds : {text : List ℕ} {first second seconds n : ℕ} → IsEnd 58 text 0 first → IsEnd 58 text (first + 1) second →
-    IsDigits 2 (slice_range text (second + 1) (length text)) seconds → 59 < seconds → IsClock text n → ⊥
-long_seconds {text} {first} {second} {seconds} {n} e f s large clock =
-    let at : IsClockAt text first second n = clock_at e f clock in
-    omega (arith, value_once 2 (slice_range text (second + 1) (length text)) seconds at.rest s at.are_seconds, at.small_seconds, large)
 
 -- no seconds as such, and a clock time or not
 pub digits_or_clock : (o : Option ℕ) (text : List ℕ) → ((n : ℕ) → ¬ IsDigits 9 text n) → MatchOption o ((n : ℕ) → ¬ IsClock text n) (λ n. IsClock text n × (n < 10 ^ 13)) →

@@ -10,7 +10,3 @@ pub begins_by_test : (start text : List ℕ) (Holds : Type 0) → lower start �
 begins_by_test start text Holds is_lower test =
     let lowered : take (length start) (lower text) ≡ lower (take (length start) text) = take-map to_ascii_lowercase (length start) text in
     (λ h. lowered ∙ test.0 h ∙ is_lower, λ b. test.1 (sym lowered ∙ b ∙ sym is_lower))
-
--- an empty text, by its length
-pub no_bytes : (text : List ℕ) → length text ≡ 0 → text ≡ []
-no_bytes text none = nil_from_length text none

@@ -256,9 +256,5 @@ walk_end w at n walked line =
       same_lines = same_header_lines (take n w) w lines_are;
     }
 
--- a whole request has a line in front, and one after each line before its head's end
-pub first_ends : (w : List ℕ) (total : ℕ) → IsRequestLength w total → HasNoLine w 0 → ⊥
-first_ends w total request open_line = no_head_open w 0 request.head (λ k below. absurd (omega (arith, below))) open_line request.is_head
-
 pub next_ends : (w : List ℕ) (at total : ℕ) → IsRequestLength w total → HasWalked w at → HasNoLine w at → ⊥
 next_ends w at total request walked open_line = no_head_open w at request.head walked.none open_line request.is_head

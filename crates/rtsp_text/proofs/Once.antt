@@ -118,11 +118,6 @@ line_at lines n line more e =
       left = sym (drop-drop 1 n lines) ∙ ap (drop 1) e;
     }
 
-pub bad_here : {lines : List (List ℕ)} {line : List ℕ} {more : List (List ℕ)} (n : ℕ) → drop n lines ≡ line ∷ more → ((k : ℕ) → k < n → IsHeaderLine (get_or lines k [])) → (¬ IsHeaderLine line) → IsFirstBad lines (n + 1)
-bad_here {lines} {line} {more} n e before bad =
-    let at = line_at lines n line more e in
-    record { index = n; number_is = refl; inside = at.inside; before = before; bad = λ good. bad (subst IsHeaderLine at.line_is good) }
-
 pub all_good : (lines : List (List ℕ)) (n : ℕ) → drop n lines ≡ [] → ((k : ℕ) → k < n → IsHeaderLine (get_or lines k [])) → All IsHeaderLine lines
 all_good lines n e before =
     let count : length (drop n lines) ≡ 0 = ap length e in

@@ -45,9 +45,6 @@ digits_cut digits reason code is = record {
   first = all_other is_ascii_digit 32 refl digits (and_parts (nat_lt 0 (length digits)) (list_all is_ascii_digit digits) is.decimal).1;
 }
 
-version_cut : (rest : List ℕ) → IsSplitAtFirst 32 (codes "RTSP/1.0" ++ 32 ∷ rest) (codes "RTSP/1.0") rest
-version_cut rest = record { parts = refl; first = refl }
-
 -- the words of a status line are the parts at its first two spaces
 pub record AreStatusParts (version digits reason d r : List ℕ) : Type 0 where
   pub version_is : version ≡ codes "RTSP/1.0"

@@ -50,14 +50,6 @@ line_parts {text} {method} {url} {version} {m} {u} first second line =
 pub line_rest : {text method rest m u v : List ℕ} → IsSplitAtFirst 32 text method rest → IsRequestLine text m u v → rest ≡ u ++ 32 ∷ v
 line_rest {text} {method} {m} first line = (cut_once first line.parts (token_without 32 refl m line.method_is)).after
 
-pub whole_line : {text method rest url version : List ℕ} → IsSplitAtFirst 32 text method rest → IsSplitAtFirst 32 rest url version → is_token method ≡ true → IsUrl url → IsVersion version → IsRequestLine text method url version
-whole_line {text} {method} {url} {version} first second method_is url_is version_is = record {
-  parts = first.parts ∙ ap (λ r. method ++ 32 ∷ r) second.parts;
-  method_is = method_is;
-  url_is = url_is;
-  version_is = version_is;
-}
-
 -- what stands after the scheme
 record IsSlashSplit (rest authority path : List ℕ) : Type 0 where
   parts : rest ≡ authority ++ path
@@ -124,11 +116,6 @@ url_parts url u =
       some = omega (arith, ap length rest, length-append u.authority u.path, u.some);
       no_slash = subst P (sym rest) (first_other u.authority u.path u.some u.no_slash);
     }
-
-pub url_long : (url : List ℕ) → IsRtspUrl url → 7 < length url
-url_long url u =
-    let seven : length u.scheme ≡ 7 = sym (length-map u.scheme to_ascii_lowercase) ∙ ap length u.scheme_is in
-    omega (arith, ap length u.parts, length-append u.scheme (u.authority ++ u.path), length-append u.authority u.path, u.some)
 
 pub numbers : (text major minor : List ℕ) → IsSplitAtFirst 46 text major minor → is_decimal major ≡ true → is_decimal minor ≡ true → AreVersionNumbers text
 numbers text major minor cut major_is minor_is = record { major = major; minor = minor; parts = cut.parts; major_is = major_is; minor_is = minor_is }

@@ -118,16 +118,6 @@ topped-lower {places} {tops} p v topped inside falls = record {
       );
   stale_in = topped.stale_in;
 }
-
--- any block may be called stale
-pub topped-loose : (places tops : List ℕ) (b : ℕ) → b < 1024 → IsTopped places tops None → IsTopped places tops (Some b)
-topped-loose places tops b inside topped = record {
-  places_are = topped.places_are;
-  tops_are = topped.tops_are;
-  bounded = topped.bounded;
-  reached = λ k less exact. topped.reached k less (λ e. cc);
-  stale_in = λ k is. some_in b k inside is;
-}
   where
     some_in : (x y : ℕ) → x < 1024 → Some x ≡ Some y → y < 1024
     some_in x y less is = let same : x ≡ y = cc in omega (arith, same, less)

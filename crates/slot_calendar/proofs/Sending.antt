@@ -95,20 +95,6 @@ pub asked-after : (segments : List Segment) (start t : ℕ) → start + total_sl
 asked-after segments start t past =
     omega (arith, sent-end segments start t past, sent-end segments start (t + 1) (omega arith))
 
--- ---- the segments of a plan, one after the other
-pub one-plan : (segments : List Segment) (i : ℕ) (s : Segment) → IsPlan segments → i < length segments → s ≡ get_or segments i s → IsPlan (s ∷ [])
-one-plan segments i s plan inside is =
-    let slots : total_slots (take i segments) + (get_or segments i s).slots ≤ total_slots segments = sum_by_more_le (λ x. x.slots) segments i s inside in
-    let bytes : total_bytes (take i segments) + (get_or segments i s).bytes ≤ total_bytes segments = sum_by_more_le (λ x. x.bytes) segments i s inside in
-    let same_slots : s.slots ≡ (get_or segments i s).slots = ap (λ x. x.slots) is in
-    let same_bytes : s.bytes ≡ (get_or segments i s).bytes = ap (λ x. x.bytes) is in
-    let here : 1 ≤ (get_or segments i s).slots = All-get_or (λ x. 1 ≤ x.slots) segments i s inside plan.no_empty in
-    record {
-      no_empty = All-cons (λ x. 1 ≤ x.slots) s [] (omega (arith, here, same_slots)) (All-nil (λ x. 1 ≤ x.slots));
-      few_slots = omega (arith, one-slots s, slots, same_slots, plan.few_slots);
-      few_bytes = omega (arith, one-bytes s, bytes, same_bytes, plan.few_bytes);
-    }
-
 pub front-next : (segments : List Segment) (i : ℕ) (s : Segment) → i < length segments → s ≡ get_or segments i s → take (i + 1) segments ≡ take i segments ++ s ∷ []
 front-next segments i s inside is = take_more segments i s inside ∙ ap (λ x. take i segments ++ x ∷ []) (sym is)
 

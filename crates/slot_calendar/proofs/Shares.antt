@@ -91,10 +91,6 @@ stands-cut {old} {new} before after play plan cut stands = record {
       );
 }
 
-pub stands-later : (old new : Entries) (plays : List Play) → old.first ≤ new.first →
-    ((t : ℕ) → new.first ≤ t → booked_at new t ≡ booked_at old t) → StandsFor old plays → StandsFor new plays
-stands-later old new plays later totals stands = record { each = λ t from. totals t from ∙ stands.each t (omega (arith, later, from)) }
-
 -- what a play that stands whole may give back
 pub cut-booked : {calendar : Entries} {t : ℕ} (before after : List Play) (play : Play) → IsPlan play.segments →
     StandsFor calendar (before ++ whole_play play.start play.segments ∷ after) → calendar.first ≤ t

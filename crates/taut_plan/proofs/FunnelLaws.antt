@@ -36,18 +36,6 @@ crossing_starts {side} {curve} {other} {slot} {o} {own} {others} funnel chain = 
   apart = funnel.keeps;
 }
 
-pub first_is_between : {side : Side} {curve other : ℕ → ℕ} {t s : ℕ} {o : Point} {own others : List Point}
-    {point : Point}
-    → point ≡ on_curve curve t
-    → IsCrossing side curve other t s o own others → FirstIsBetween o others point
-first_is_between {other} {s} {others = []} {point} is state = tt
-first_is_between {other} {t} {s} {others = b ∷ rest} {point} is state =
-    let edge = state.others.0 in
-    let later = edge.later in
-    let near = edge.near in
-    let most = state.not_past in
-    (omega (arith, later), subst (λ (p : Point). b.place ≤ p.place) (sym is) (let le : b.place ≤ t = omega (arith, near, most) in le))
-
 ordered_on : (side : Side) (lo hi : ℕ → ℕ) (t : ℕ) → lo t ≤ hi t
     → IsOrdered side (curve_on lo hi side t) (curve_on lo hi (other_side side) t)
 ordered_on Lower lo hi t le = le

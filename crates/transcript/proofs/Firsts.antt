@@ -133,9 +133,6 @@ first-frame {starts} {unit} from k units s none some =
 
 -- ---- the time of a picture
 
-min-left : (a b n : ℕ) → n ≤ min a b → n ≤ a
-min-left a b n less = omega (arith, less)
-
 -- a first frame that begins a film tells its rate
 pub time-is : {run : Run} {starts : List ℕ} {unit : PictureUnit} {f rate : ℕ} {first : List ℕ} → IsLaid starts unit → IsLed run starts unit f first
     → BeginsSequence run.film rate unit.from → begins_film (drop 20 first) ≡ true → time_in first ≡ picture_time rate

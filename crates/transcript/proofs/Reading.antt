@@ -123,12 +123,6 @@ pub record IsReadingOf (x : Stream) (c : ℕ) (at : Stage) : Type 0 where
   pub sum : sum_of at.history ≡ steps (begun_sum x) (moments_in (take (count_ended (film_place x c) x.blocks) x.blocks))
   pub cut : length (framed_bytes (take (count_ended (film_place x c) x.blocks) x.blocks)) + cut_bytes at.rest ≡ min (film_place x c) (length (framed_bytes x.blocks))
 
-min-less : (a b : ℕ) → a < b → a ≡ min a b
-min-less a b less = omega (arith, less)
-
-min-more : (a b : ℕ) → b ≤ a → b ≡ min a b
-min-more a b more = omega (arith, more)
-
 -- with the two first replies whole
 reading-film : {x : Stream} {c : ℕ} {at : Stage} → length x.first + length x.second ≤ c
     → sum_of at.history ≡ steps (begun_sum x) (moments_in (take (count_ended (film_place x c) (x.blocks ++ x.later)) (x.blocks ++ x.later)))

@@ -115,10 +115,6 @@ none-by a b rest (BeginsNone is) none =
 none-by a b rest (BeginsOne prepared start is) none =
     let some : begun_play prepared start a ∷ plays_of a ≡ [] = sym (ap (λ l. l ++ plays_of a) (is a)) ∙ none in absurd (let no : ⊥ = cc in no)
 
-none-so-far : (a b : List Asking) → plays_of a ≡ [] → plays_of (a ++ b) ≡ plays_of b
-none-so-far [] b none = refl
-none-so-far (Asks asked outcome ∷ a) b none = none-by a b (none-so-far a b) (either asked outcome) none
-
 -- none at all, none so far
 before-by : {asked : Awaited} {outcome : Outcome} (a b : List Asking) → (plays_of (a ++ b) ≡ [] → plays_of a ≡ []) → Beginning asked outcome → plays_of (Asks asked outcome ∷ (a ++ b)) ≡ []
     → plays_of (Asks asked outcome ∷ a) ≡ []

@@ -120,10 +120,6 @@ reply_turns {outcome = Entered placed} {new} answered rest waiting = absurd answ
 reply_turns {outcome = WasFull more entries live} {new} answered rest waiting = absurd answered
 reply_turns {outcome = Offered at_slot note} {new} answered rest waiting = absurd answered
 
--- a play's answer
-idle_in : (state : State) (setup : Setup) (paused : Option Run) → state ≡ Ready setup paused → sends_in state ≡ Idle
-idle_in state setup paused is = ap sends_in is
-
 admitted_sends : {state : State} {setup : Setup} {paused : Option Run} {prepared : Prepared} {awaited : Awaited}
     (place start : ℕ)
     → state ≡ Ready setup paused → awaited ≡ Play prepared

@@ -219,13 +219,6 @@ rounds_split cur new (round ∷ rounds) takes done =
 
 -- ---- what was heard has one split
 
-abbrev is_slot : List Doing → Bool
-is_slot [] = false
-is_slot (HeardBytes bytes ∷ doings) = false
-is_slot (HeardSlot slot ∷ doings) = true
-is_slot (HeardEnd ∷ doings) = false
-is_slot (Sent byte ∷ doings) = false
-
 abbrev is_some : List Doing → Bool
 is_some [] = false
 is_some (doing ∷ doings) = true

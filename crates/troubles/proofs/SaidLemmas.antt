@@ -56,16 +56,6 @@ said_part {told} {text} piece said count risen wrote = record {
   );
 }
 
--- a piece was written, or failed
-pub said_piece : {faults faults' faults'' : ℕ} {told told' told'' : Option (List ℕ)} {text : List ℕ} {ok : Bool}
-    (piece : List ℕ) → IsSaid faults faults' told told' text true →
-    faults' ≤ faults'' → (ok ≡ true → told'' ≡ told_more told' piece) → (ok ≡ false → HasRisen faults' faults'') → (ok ≡ false → IsFrontMore told' told'' piece) →
-    IsSaid faults faults'' told told'' (text ++ piece) ok
-said_piece {text} {ok = true} piece said count whole risen front =
-    said_more piece said count (whole refl)
-said_piece {text} {ok = false} piece said count whole risen front =
-    said_part piece said count (risen refl) (front refl)
-
 -- a piece goes on in a text that is named in another grouping
 pub said_as : {faults faults' : ℕ} {told told' : Option (List ℕ)} {text text' : List ℕ} {ok : Bool} → text ≡ text' →
     IsSaid faults faults' told told' text ok → IsSaid faults faults' told told' text' ok

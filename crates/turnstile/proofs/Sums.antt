@@ -16,11 +16,6 @@ pub total_push : (f : View → ℕ) (views : List View) (v : View) → total f (
 total_push f [] v = omega arith
 total_push f (x ∷ xs) v = let e = total_push f xs v in omega arith
 
-pub total_at : (f : View → ℕ) (views : List View) (i : ℕ) (v : View) → get_elem? views i ≡ some v → f v ≤ total f views
-total_at f [] i v at = absurd (some-ne-none v (sym at))
-total_at f (x ∷ xs) zero v at = let e : f x ≡ f v = ap f (some-injective x v at) in omega arith
-total_at f (x ∷ xs) (suc i) v at = let e = total_at f xs i v at in omega arith
-
 ticket_small : (st : Stage) → has_ticket st ≤ 1
 ticket_small Idle = omega arith
 ticket_small (Waits t) = omega arith

@@ -74,14 +74,6 @@ first_uses_more {sizes} {timing} {n} {uses} so_far {s} is in' t lt =
       | inr other ↦ first_uses_off so_far is t lt other
     ]
 
--- the numbers after all pictures
-pub AreUses-all : (sizes : List ℕ) (timing : Timing) (slots : ℕ) (uses : List ℕ) → slots ≡ slot_count sizes timing
-    → AreFirstUses sizes timing slots (length sizes) uses → AreUses sizes timing uses
-AreUses-all sizes timing slots uses is all = record {
-  slots = all.slots_are ∙ is;
-  each = λ t lt. all.each t (omega (arith, is));
-}
-
 -- The running sums
 
 cond_before : (a t n : ℕ) → cond (ltb a (t + 1)) n 0 ≡ cond (ltb a t) n 0 + cond (eqb a t) n 0
