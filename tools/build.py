@@ -1,18 +1,22 @@
 #!/usr/bin/env python3
 """Proves the crates of vodserve side by side, and builds the program.
 
-    tools/build.py [JOBS]
+    tools/build.py [--jobs JOBS] [--run [WORD..]]
 
 Takes JOBS processors, or as many as there are and memory allows. `rt` keeps other runs out of the crates that it works on, and
 of those below them, so each lane has a copy of the sources, and gets the libraries that the other lanes built. What is
 proved and built is rt's affair: at the end `rt run` in crates/vodserve takes each library only where it is of the same sources.
-Says on the error stream how far it is. Ends with 0 where the program was built, else with 1, after what rt said of the crate that failed.
+Says on the error stream how far it is. Ends with 0 where the program was built, or as the program that it then runs with the WORDs;
+else with 70, after what rt said of the crate that failed. Where another run builds the program, it waits for that one's.
 """
 
 import argparse
 import concurrent.futures
+import contextlib
+import fcntl
 import os
 import shutil
+import signal
 import subprocess
 import sys
 import tempfile
@@ -20,6 +24,7 @@ import time
 
 TOP = os.path.dirname(os.path.dirname(os.path.abspath(__file__)))
 PROGRAM = "vodserve"
+OUT = f"{TOP}/crates/{PROGRAM}/out"
 # What one check takes of memory, in bytes, where it is large.
 MEMORY_OF_A_CHECK = 3_000_000_000
 # The processor seconds of a check that wasn't measured.
@@ -78,6 +83,7 @@ class Build:
         measured = read_seconds()
         self.seconds = {it: measured.get(it, A_CHECK) for it in [*self.below, PROGRAM]}
         self.jobs, self.room, self.done, self.begin = jobs, room, [], time.monotonic()
+        self.children = set()
         self.lanes = [f"{room}/{lane}" for lane in range(jobs)]
         for lane in self.lanes:
             shutil.copytree(f"{TOP}/crates", f"{lane}/crates", ignore=shutil.ignore_patterns("out"))
@@ -94,14 +100,28 @@ class Build:
         longest = max(self.rest_of(it) for it in self.below if it not in self.done)
         return self.rest_of(name) * 5 >= longest * 4
 
+    def call(self, words, top, name):
+        """Returns whether a command ended well that works on a crate; what it said stands in the room."""
+        with open(f"{self.room}/{name}.log", "w", encoding="utf-8") as log:
+            child = subprocess.Popen(words, cwd=f"{top}/crates/{name}", stdout=log, stderr=log, stdin=subprocess.DEVNULL)
+        self.children.add(child)
+        try:
+            return child.wait() == 0
+        finally:
+            child.terminate()
+            self.children.discard(child)
+
+    def stop(self):
+        """Ends the commands that are under way."""
+        for child in [*self.children]:
+            child.terminate()
+
     def prove(self, lane, name, jobs, first):
-        """Returns whether a lane's rt proved a crate and built its library; what it said stands in the room.
+        """Returns whether a lane's rt proved a crate and built its library.
 
         The crates that come first have the processors before the others.
         """
-        with open(f"{self.room}/{name}.log", "w", encoding="utf-8") as log:
-            words = [*([] if first else ["nice"]), "rt", "lib", "--jobs", str(jobs)]
-            return subprocess.call(words, cwd=f"{lane}/crates/{name}", stdout=log, stderr=log, stdin=subprocess.DEVNULL) == 0
+        return self.call([*([] if first else ["nice"]), "rt", "lib", "--jobs", str(jobs)], lane, name)
 
     def hand_out(self, lane, name):
         """Gives the library that a lane built to the other lanes and to the checkout."""
@@ -125,7 +145,8 @@ class Build:
         left = sorted(self.below, key=self.rest_of, reverse=True)
         # a check of two jobs doesn't keep two processors busy all the time, so there is one job more
         free, running, lanes = self.jobs + 1, {}, [*self.lanes]
-        with concurrent.futures.ThreadPoolExecutor(self.jobs) as pool:
+        with concurrent.futures.ThreadPoolExecutor(self.jobs) as pool, contextlib.ExitStack() as at_end:
+            at_end.callback(self.stop)
             while left or running:
                 ready = [it for it in left if self.below[it] <= {*self.done}][:len(lanes)]
                 for place, name in enumerate(ready):
@@ -158,28 +179,56 @@ def told_in(file):
     return "\n".join(dict.fromkeys(failed[:12] + lines[-1:]))
 
 
-def main():
-    words = argparse.ArgumentParser(description="Proves the crates of vodserve side by side, and builds the program.")
-    words.add_argument("jobs", nargs="?", type=int, default=jobs_now(), help="the processors to take; default: as many as memory allows")
-    jobs = max(1, words.parse_args().jobs)
-    # in the checkout's file system, where a file can have a second name
-    folder = f"{TOP}/crates/{PROGRAM}/out"
-    os.makedirs(folder, exist_ok=True)
-    with tempfile.TemporaryDirectory(prefix="build-", dir=folder) as room:
+def build_program(jobs):
+    """Returns whether the program was built, after it has said what failed."""
+    with tempfile.TemporaryDirectory(prefix="build-", dir=OUT) as room:
         build = Build(jobs, room)
         say(f"proving {len(build.seconds)} crates, {jobs} at a time, and building the program, this once")
         failed = build.run()
+        if failed is None and not build.call(["rt", "run", "--jobs", str(jobs), "--", "--version"], TOP, PROGRAM):
+            failed = PROGRAM
         if failed is None:
-            failed, log = PROGRAM, f"{room}/{PROGRAM}.log"
-            with open(log, "w", encoding="utf-8") as file:
-                words = ["rt", "run", "--jobs", str(jobs), "--", "--version"]
-                status = subprocess.call(words, cwd=f"{TOP}/crates/{PROGRAM}", stdout=file, stderr=file, stdin=subprocess.DEVNULL)
-            if status == 0:
-                say(f"{in_words(time.monotonic() - build.begin)}: all proved, and the program is built")
-                return 0
-        say(f"{failed} could not be proved or built; rt said:")
-        print(told_in(f"{room}/{failed}.log"), file=sys.stderr)
-        return 1
+            say(f"{in_words(time.monotonic() - build.begin)}: all proved, and the program is built")
+        else:
+            say(f"{failed} could not be proved or built; rt said:")
+            print(told_in(f"{room}/{failed}.log"), file=sys.stderr)
+        return failed is None
+
+
+def time_of(file):
+    """Returns when a file was written, or None where there is none."""
+    return os.stat(file).st_mtime_ns if os.path.exists(file) else None
+
+
+def end(number, _):
+    sys.exit(128 + number)
+
+
+def main():
+    for number in (signal.SIGINT, signal.SIGTERM, signal.SIGHUP):
+        signal.signal(number, end)
+    words = argparse.ArgumentParser(description="Proves the crates of vodserve side by side, and builds the program.")
+    words.add_argument("--jobs", type=int, default=jobs_now(), help="the processors to take; default: as many as memory allows")
+    words.add_argument("--run", nargs=argparse.REMAINDER, metavar="WORD", help="run the program then with these words")
+    said = words.parse_args()
+    program, begin = f"{OUT}/{PROGRAM}", time.time_ns()
+    os.makedirs(OUT, exist_ok=True)
+    with open(f"{OUT}/build.lock", "w", encoding="utf-8") as lock:
+        before = time_of(program)
+        try:
+            fcntl.flock(lock, fcntl.LOCK_EX | fcntl.LOCK_NB)
+        except BlockingIOError:
+            say("another run is building the program: waiting for it")
+            fcntl.flock(lock, fcntl.LOCK_EX)
+        # in the checkout's file system, where a file can have a second name
+        if time_of(program) == before:
+            if not build_program(max(1, said.jobs)):
+                return 70
+            # a source that was changed meanwhile is newer
+            os.utime(program, ns=(begin, begin))
+    if said.run is None:
+        return 0
+    os.execv(program, [program, *said.run])
 
 
 if __name__ == "__main__":

@@ -1,5 +1,5 @@
 #!/usr/bin/env python3
-"""Draws as SVG what a film or trace needs of a link beside its smoothed plan, and what a day books of a link.
+"""Draws as SVG what a trace needs of a link beside its smoothed plan, and what a day books of a link.
 
     tools/draw.py plan trace=NAME [buffer=BYTES] [startup=SLOTS] [program=PATH] > plan.svg
     tools/draw.py day script=NAME [capacity=BYTES] [journal=ENTRIES] [slot=UNITS] [program=PATH] > day.svg
@@ -295,7 +295,7 @@ def main():
         fail(__doc__.split("\n\n")[1].strip())
     words = words_of(sys.argv[2:])
     here = os.path.dirname(os.path.abspath(__file__))
-    program = words.pop("program", os.path.join(here, "..", "vodserve"))
+    program = os.path.abspath(words.pop("program", os.path.join(here, "..", "vodserve")))
     sys.stdout.write(drawings[sys.argv[1]](program, words))
 
 
