@@ -11,16 +11,16 @@ use Rattle.slot_calendar.specs.Calendars.{Entries as Calendar, StandsFor, Fits, 
 use Rattle.slot_calendar.proofs.Sending.{asked-before}
 use Rattle.admission.specs.declared.entries.Command.TheVariants.{Look}
 use Rattle.admission.specs.declared.entries.Answer.TheVariants.{Looked}
-use Rattle.admission.specs.Machine.{State, Held, IsAnswer, IsWithin, booked_in, halted_play, with_halted, held_as, admitted_play, plays_of}
+use Rattle.admission.specs.Machine.{State, Held, IsAnswer, IsNeverOverbooked, booked_in, halted_play, with_halted, held_as, admitted_play, plays_of}
 use Rattle.admission.specs.Kept.{Follows}
 use Rattle.admission.proofs.Halts.{play_of, plays-split, split}
 
 -- before its start a plan fits, since nothing is booked above capacity
-fits-early : {steps : List CapStep} {state : State} {start u : ℕ} (segments : List Segment) → IsWithin steps state → u < start → Fits (booked_in state) (capacity_at steps) start segments u
+fits-early : {steps : List CapStep} {state : State} {start u : ℕ} (segments : List Segment) → IsNeverOverbooked steps state → u < start → Fits (booked_in state) (capacity_at steps) start segments u
 fits-early {steps} {start} {u} segments within early = omega (arith, within.each u, asked-before segments start u early)
 
 -- what the calendar has booked from now on is what the state has booked
-fits-each : {steps : List CapStep} {calendar : Calendar} {state : State} {start u : ℕ} (segments : List Segment) → IsWithin steps state → StandsFor calendar (plays_of state) →
+fits-each : {steps : List CapStep} {calendar : Calendar} {state : State} {start u : ℕ} (segments : List Segment) → IsNeverOverbooked steps state → StandsFor calendar (plays_of state) →
     calendar.first < start → (calendar.first ≤ u → Fits (booked_at calendar) (capacity_at steps) start segments u) → Fits (booked_in state) (capacity_at steps) start segments u
 fits-each {steps} {calendar} {state} {start} {u} segments within stands after fits = elim (cases_lt u calendar.first) [
   | inl early ↦ fits-early segments within (omega (arith, early, after))
@@ -29,7 +29,7 @@ fits-each {steps} {calendar} {state} {start} {u} segments within stands after fi
 
 -- room from now on is room everywhere
 pub room-everywhere : {steps : List CapStep} {calendar : Calendar} {state : State} {start : ℕ}
-    {segments : List Segment} → IsWithin steps state → StandsFor calendar (plays_of state) →
+    {segments : List Segment} → IsNeverOverbooked steps state → StandsFor calendar (plays_of state) →
     calendar.first < start → HasRoom calendar.first (booked_at calendar) (capacity_at steps) start segments → HasRoom 0 (booked_in state) (capacity_at steps) start segments
 room-everywhere {steps} {start} {segments} within stands after room = record {
   each = λ u _. fits-each segments within stands after (λ since. room.each u since);
@@ -37,7 +37,7 @@ room-everywhere {steps} {start} {segments} within stands after room = record {
 
 -- the first overflow from now on is the first one
 pub overflow-everywhere : {steps : List CapStep} {calendar : Calendar} {state : State} {start : ℕ}
-    {segments : List Segment} {over : Overflow} → IsWithin steps state →
+    {segments : List Segment} {over : Overflow} → IsNeverOverbooked steps state →
     StandsFor calendar (plays_of state) → calendar.first < start → IsFirstOverflow calendar.first (booked_at calendar) (capacity_at steps) start segments over →
     IsFirstOverflow 0 (booked_in state) (capacity_at steps) start segments over
 overflow-everywhere {steps} {start} {segments} {over} within stands after first = record {

@@ -14,7 +14,7 @@ use Rattle.admission.specs.declared.entries.Command.{Command}
 use Rattle.admission.specs.declared.entries.Command.TheVariants.{Play, Halt, Look}
 use Rattle.admission.specs.declared.entries.Answer.{Answer}
 use Rattle.admission.specs.declared.entries.Answer.TheVariants.{Admitted, Overflow, Halted, Looked}
-use Rattle.admission.specs.Machine.{State, Held, plays_of, booked_in, IsWithin, admitted_play, halted_play, held_as, with_halted, IsAnswer, next_state}
+use Rattle.admission.specs.Machine.{State, Held, plays_of, booked_in, IsNeverOverbooked, admitted_play, halted_play, held_as, with_halted, IsAnswer, next_state}
 use Rattle.admission.specs.Histories.{IsLegal, state_after}
 use Rattle.admission.proofs.Runs.{Machine, machine_after, no_entry, state-next, legal-at}
 use Rattle.admission.proofs.Halts.{halting, split, holds-of, all-halted, play_of, plays-split}
@@ -74,7 +74,7 @@ booked-opened state number start t segments =
     omega (arith, new, share-cut segments start (total_bytes segments) t)
 
 pub within-next : {steps : List CapStep} {state : State} (place : ℕ) (command : Command) (answer : Answer) → IsAnswer steps state command answer → All IsWhole state.held →
-    IsWithin steps state → IsWithin steps (next_state state place command answer)
+    IsNeverOverbooked steps state → IsNeverOverbooked steps (next_state state place command answer)
 within-next {steps} {state} place (Play slot segments) (Admitted start) is all within = record {
   each = λ t. omega (arith, booked-opened state place start t segments, is.1.each t (omega arith));
 }
@@ -98,7 +98,7 @@ within-next {steps} place (Look slot) Halted is all within = absurd is
 -- ---- after a legal history
 pub record IsSound (steps : List CapStep) (state : State) : Type 0 where
   pub whole : All IsWhole state.held
-  pub within : IsWithin steps state
+  pub within : IsNeverOverbooked steps state
 
 sound-at : (steps : List CapStep) (xs : List Entry) (n : ℕ) → IsLegal steps xs → n ≤ length xs → IsSound steps (state_after (take n xs))
 sound-at steps xs zero legal few = record { whole = All-nil IsWhole; within = record { each = λ t. omega arith } }

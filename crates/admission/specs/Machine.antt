@@ -41,7 +41,7 @@ abbrev pub open_plays : State → ℕ
 open_plays state = count_by (λ (h : Held). h.is_open) state.held
 
 -- no slot is booked above its capacity
-pub record IsWithin (steps : List CapStep) (state : State) : Type 0 where
+pub record IsNeverOverbooked (steps : List CapStep) (state : State) : Type 0 where
   pub each : (t : ℕ) → booked_in state t ≤ capacity_at steps t
 
 -- a play as it is admitted: open, with all its bytes

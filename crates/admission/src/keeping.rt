@@ -2,7 +2,7 @@
 
 ghost use Rattle.std.specs.Prelude.{◌≡◌, ◌+◌, ◌^◌, ◌<◌, ◌≤◌, ◌++◌, [], ◌∷◌, ℕ, length, vec_len};
 ghost use Rattle.std.specs.Prelude.{vec_capacity, if◌then◌else◌};
-ghost use Rattle.admission.specs.Machine.{State, CanHalt, IsAnswer, IsWithin, next_state};
+ghost use Rattle.admission.specs.Machine.{State, CanHalt, IsAnswer, IsNeverOverbooked, next_state};
 ghost use Rattle.admission.specs.Histories.{IsLegal, is_admission, state_after};
 ghost use Rattle.admission.specs.Kept.{Follows};
 
@@ -15,7 +15,7 @@ pub(crate) fn admit(calendar: &mut Calendar, slot: u64, plan: &Plan) -> Answer
     requires { slot ≤ 2 ^ 62 }
     ensures steps { calendar.new.steps ≡ calendar.old.steps }
     ensures answer { (state : State) → Follows calendar.old state →
-        IsWithin calendar.old.steps state →
+        IsNeverOverbooked calendar.old.steps state →
         IsAnswer calendar.old.steps state (Command.Play slot plan.now) result }
     ensures next { (state : State) (place : ℕ) → Follows calendar.old state →
         Follows calendar.new (next_state state place (Command.Play slot plan.now) result) }

@@ -38,5 +38,5 @@ abbrev pub field_of : (List ℕ → ℕ → ℕ) → List ℕ
 field_of field = map (λ j. field (picture_header j) 0) (range_with_len 0 12)
 
 -- a number is within two bounds
-abbrev pub IsWithin : ℕ → ℕ → ℕ → Type 0
-IsWithin least most number = (least ≤ number) × (number ≤ most)
+abbrev pub IsBetween : ℕ → ℕ → ℕ → Type 0
+IsBetween least most number = (least ≤ number) × (number ≤ most)

@@ -47,44 +47,44 @@ none-at-boundary film run none = λ identity.
     subst (λ n. IsBoundary pieces n) (sym none) (record { number = 0; among = omega arith; place_is = refl })
 
 -- what the times of a run say over a list of units and the time of one
-record Times (from : ℕ) (to : Option ℕ) (run : Run) (units : List PictureUnit) (unit_time : ℕ) : Type 0 where
-  rest : ¬ BeginsBy unit_time from (length units)
-  begins : IsGroupBy units unit_time from run.first_unit
-  ends : IsEnd units unit_time to run.first_unit run.end_unit
+record Times (from : ℕ) (to : Option ℕ) (run : Run) (units : List PictureUnit) (picture_units : ℕ) : Type 0 where
+  rest : ¬ BeginsBy picture_units from (length units)
+  begins : IsGroupBy units picture_units from run.first_unit
+  ends : IsEnd units picture_units to run.first_unit run.end_unit
   within : run.end_unit ≤ length units
 
-times-of : {from : ℕ} {to : Option ℕ} {run : Run} {units : List PictureUnit} {unit_time first end : ℕ} → ¬ BeginsBy unit_time from (length units)
-    → IsGroupBy units unit_time from first → IsEnd units unit_time to first end → end ≤ length units → run.first_unit ≡ first → run.end_unit ≡ end
-    → Times from to run units unit_time
-times-of {from} {to} {run} {units} {unit_time} {first} {end} rest begins ends within first_is end_is =
-    let P : ℕ → Type 0 = λ e. IsEnd units unit_time to first e in
-    let Q : ℕ → Type 0 = λ f. IsEnd units unit_time to f run.end_unit in
+times-of : {from : ℕ} {to : Option ℕ} {run : Run} {units : List PictureUnit} {picture_units first end : ℕ} → ¬ BeginsBy picture_units from (length units)
+    → IsGroupBy units picture_units from first → IsEnd units picture_units to first end → end ≤ length units → run.first_unit ≡ first → run.end_unit ≡ end
+    → Times from to run units picture_units
+times-of {from} {to} {run} {units} {picture_units} {first} {end} rest begins ends within first_is end_is =
+    let P : ℕ → Type 0 = λ e. IsEnd units picture_units to first e in
+    let Q : ℕ → Type 0 = λ f. IsEnd units picture_units to f run.end_unit in
     record {
       rest = rest;
-      begins = subst (λ f. IsGroupBy units unit_time from f) (sym first_is) begins;
+      begins = subst (λ f. IsGroupBy units picture_units from f) (sym first_is) begins;
       ends = subst Q (sym first_is) (subst P (sym end_is) ends);
       within = omega arith;
     }
 
 -- the units that times ask for, of a list of units and with the time of one
-pub record AsksFor (from : ℕ) (to : Option ℕ) (units : List PictureUnit) (unit_time first end : ℕ) : Type 0 where
+pub record AsksFor (from : ℕ) (to : Option ℕ) (units : List PictureUnit) (picture_units first end : ℕ) : Type 0 where
   pub order : ¬ IsReversed from to
-  pub rest : ¬ BeginsBy unit_time from (length units)
-  pub begins : IsGroupBy units unit_time from first
-  pub ends : IsEnd units unit_time to first end
+  pub rest : ¬ BeginsBy picture_units from (length units)
+  pub begins : IsGroupBy units picture_units from first
+  pub ends : IsEnd units picture_units to first end
   pub some : first < end
   pub within : end ≤ length units
 
-pub asks_for_run : {film : Film} {from : ℕ} {to : Option ℕ} {run : Run} {units : List PictureUnit} {unit_time first end : ℕ}
-    → units ≡ film.units.items → unit_time ≡ picture_time film.rate → AsksFor from to units unit_time first end → BeginsAt first end run
+pub asks_for_run : {film : Film} {from : ℕ} {to : Option ℕ} {run : Run} {units : List PictureUnit} {picture_units first end : ℕ}
+    → units ≡ film.units.items → picture_units ≡ picture_time film.rate → AsksFor from to units picture_units first end → BeginsAt first end run
     → IsAsked film from to run
-asks_for_run {film} {from} {to} {run} {unit_time} {first} {end} units_are time_is asks at =
+asks_for_run {film} {from} {to} {run} {picture_units} {first} {end} units_are time_is asks at =
     let first_is = at.first_is in
     let end_is = at.end_is in
     let some : first < end = asks.some in
     let its = times-of asks.rest asks.begins asks.ends asks.within first_is end_is in
     let of_film : Times from to run film.units.items (picture_time film.rate) =
-    subst (λ t. Times from to run film.units.items t) time_is (subst (λ l. Times from to run l unit_time) units_are its) in
+    subst (λ t. Times from to run film.units.items t) time_is (subst (λ l. Times from to run l picture_units) units_are its) in
     let count : length (film_sizes film.slice_starts.items film.units.items) ≡ length film.units.items = length-map film.units.items (λ u. wire_size film.slice_starts.items u) in
     record {
       some = λ nothing. elim nothing [ inl ended ↦ of_film.rest ended | inr reversed ↦ asks.order reversed ];

@@ -32,11 +32,12 @@ pub record IsAfter (time end : ℕ) : Type 0 where
 
 -- of so many units, which take so long each, this is the first after a unit that begins at a time
 -- or later, or the end
-pub record IsPlaceAfter (units after time unit_time place : ℕ) : Type 0 where
+pub record IsPlaceAfter (units after time picture_units place : ℕ) : Type 0 where
   pub later : after < place
   pub within : place ≤ units
-  pub begins : place < units → time ≤ place * unit_time
-  pub least : (other : ℕ) → after < other → other < units → time ≤ other * unit_time → place ≤ other
+  pub begins : place < units → time ≤ place * picture_units
+  pub least : (other : ℕ) → after < other → other < units → time ≤ other * picture_units
+      → place ≤ other
 
 -- unit k is there and starts a group
 pub record StartsGroup (units : List PictureUnit) (k : ℕ) : Type 0 where

@@ -95,12 +95,12 @@ fn group_after(units: &[Unit], place: usize) -> usize
 
 /// The first unit after `first` that begins at a time or later, or the end. The time and that of a
 /// unit are in units of 1/360,000 second.
-fn end_place(units: usize, first: usize, time: u64, unit_time: u64) -> usize
+fn end_place(units: usize, first: usize, time: u64, picture_units: u64) -> usize
     requires first { first < units }
-    requires some { 1 ≤ unit_time }
-    ensures { IsPlaceAfter units first time unit_time result }
+    requires some { 1 ≤ picture_units }
+    ensures { IsPlaceAfter units first time picture_units result }
 {
-    let place = time.div_ceil(unit_time);
+    let place = time.div_ceil(picture_units);
     (place.min(units as u64) as usize).max(first + 1)
 }
 
@@ -116,48 +116,48 @@ fn picture_time(film: &Film) -> u64
 
 /// The last group that begins at or before a time in nanoseconds. None exactly where the units have
 /// ended then.
-fn group_by(units: &[Unit], unit_time: u64, time: u128) -> Option<usize>
+fn group_by(units: &[Unit], picture_units: u64, time: u128) -> Option<usize>
     requires few { length units.now ≤ 4194304 }
-    requires some { 1 ≤ unit_time }
-    requires fits { unit_time ≤ 360000 }
+    requires some { 1 ≤ picture_units }
+    requires fits { picture_units ≤ 360000 }
     requires first { StartsGroup units.now 0 }
     ensures found { MatchOption result
-        (BeginsBy unit_time time (length units.now))
-        (IsGroupBy units.now unit_time time) }
-    ensures rest { IfSome result (λ _. ¬ BeginsBy unit_time time (length units.now)) }
+        (BeginsBy picture_units time (length units.now))
+        (IsGroupBy units.now picture_units time) }
+    ensures rest { IfSome result (λ _. ¬ BeginsBy picture_units time (length units.now)) }
 {
     let begin = units_before(time);
-    if units.len() as u64 * unit_time <= begin {
+    if units.len() as u64 * picture_units <= begin {
         return None;
     }
-    Some(group_before(units, (begin / unit_time) as usize))
+    Some(group_before(units, (begin / picture_units) as usize))
 }
 
 /// The first group after a unit that begins at or after a time in nanoseconds, or the units' end.
-fn group_from(units: &[Unit], unit_time: u64, time: u128, after: usize) -> usize
+fn group_from(units: &[Unit], picture_units: u64, time: u128, after: usize) -> usize
     requires few { length units.now ≤ 4194304 }
-    requires some { 1 ≤ unit_time }
-    requires fits { unit_time ≤ 360000 }
+    requires some { 1 ≤ picture_units }
+    requires fits { picture_units ≤ 360000 }
     requires after { after < length units.now }
-    ensures { IsGroupFrom units.now unit_time time after result }
+    ensures { IsGroupFrom units.now picture_units time after result }
 {
-    let place = end_place(units.len(), after, units_after(time), unit_time);
+    let place = end_place(units.len(), after, units_after(time), picture_units);
     group_after(units, place)
 }
 
 /// The unit at which a run ends that begins with a unit, and is to end by a time in nanoseconds or
 /// with the units.
-fn end_of(units: &[Unit], unit_time: u64, time: Option<u128>, first: usize) -> usize
+fn end_of(units: &[Unit], picture_units: u64, time: Option<u128>, first: usize) -> usize
     requires few { length units.now ≤ 4194304 }
-    requires some { 1 ≤ unit_time }
-    requires fits { unit_time ≤ 360000 }
+    requires some { 1 ≤ picture_units }
+    requires fits { picture_units ≤ 360000 }
     requires first { first < length units.now }
-    ensures end { IsEnd units.now unit_time time first result }
+    ensures end { IsEnd units.now picture_units time first result }
     ensures after { first < result }
     ensures within { result ≤ length units.now }
 {
     match time {
-        Some(time) => group_from(units, unit_time, time, first),
+        Some(time) => group_from(units, picture_units, time, first),
         None => units.len(),
     }
 }

@@ -7,21 +7,21 @@ use Rattle.std.proofs.lemmas.List.Elements.{All-append, All-cons, All-nil}
 use Rattle.std.proofs.lemmas.List.Sums.{sum_by-append}
 use Rattle.std.specs.List.{list_all}
 use Rattle.vod_base.specs.Numbers.{number_of}
-use Rattle.inputs.specs.Traces.{is_blank, Token, begins_token, joined_tokens, tokens_from, IsTrace, IsBadTrace, AddsSize}
+use Rattle.inputs.specs.Traces.{is_white_space, Token, begins_token, joined_tokens, tokens_from, WriteSizes, IsBadTrace, AddsSize}
 
 -- blanks in front are passed over
-pub tokens-blanks : (at : ℕ) (blanks rest : List ℕ) → list_all is_blank blanks ≡ true → tokens_from at (blanks ++ rest) ≡ tokens_from (at + length blanks) rest
+pub tokens-blanks : (at : ℕ) (blanks rest : List ℕ) → list_all is_white_space blanks ≡ true → tokens_from at (blanks ++ rest) ≡ tokens_from (at + length blanks) rest
 tokens-blanks at [] rest h = ap (λ (n : ℕ). tokens_from n rest) (sym (add-zero at))
 tokens-blanks at (b ∷ blanks) rest h =
     ap (λ (v : Bool). if v then tokens_from (at + 1) (blanks ++ rest) else joined_tokens at b (begins_token (blanks ++ rest)) (tokens_from (at + 1) (blanks ++ rest)))
-    (and_parts (is_blank b) (list_all is_blank blanks) h).0
-    ∙ tokens-blanks (at + 1) blanks rest (and_parts (is_blank b) (list_all is_blank blanks) h).1
+    (and_parts (is_white_space b) (list_all is_white_space blanks) h).0
+    ∙ tokens-blanks (at + 1) blanks rest (and_parts (is_white_space b) (list_all is_white_space blanks) h).1
     ∙ ap (λ (n : ℕ). tokens_from n rest) (omega arith)
 
 -- a word of a byte and others, before text that begins none
 record IsWholeWord (b : ℕ) (word rest : List ℕ) : Type 0 where
-  first : is_blank b ≡ false
-  others : list_all (λ x. not (is_blank x)) word ≡ true
+  first : is_white_space b ≡ false
+  others : list_all (λ x. not (is_white_space x)) word ≡ true
   ends : begins_token rest ≡ false
 
 -- its bytes are one token
@@ -30,23 +30,23 @@ tokens-word at b [] rest is =
     ap (λ (v : Bool). if v then tokens_from (at + 1) rest else joined_tokens at b (begins_token rest) (tokens_from (at + 1) rest)) is.first
     ∙ ap (λ (v : Bool). joined_tokens at b v (tokens_from (at + 1) rest)) is.ends
 tokens-word at b (c ∷ word) rest is =
-    let others = and_parts (not (is_blank c)) (list_all (λ x. not (is_blank x)) word) is.others in
-    let next : IsWholeWord c word rest = record { first = not-true (is_blank c) others.0; others = others.1; ends = is.ends } in
+    let others = and_parts (not (is_white_space c)) (list_all (λ x. not (is_white_space x)) word) is.others in
+    let next : IsWholeWord c word rest = record { first = not-true (is_white_space c) others.0; others = others.1; ends = is.ends } in
     let rest_tokens : List Token = tokens_from (at + 1) (c ∷ (word ++ rest)) in
-    ap (λ (v : Bool). if v then rest_tokens else joined_tokens at b (not (is_blank c)) rest_tokens) is.first
+    ap (λ (v : Bool). if v then rest_tokens else joined_tokens at b (not (is_white_space c)) rest_tokens) is.first
     ∙ ap (λ (v : Bool). joined_tokens at b (not v) rest_tokens) next.first
     ∙ ap (λ (ts : List Token). joined_tokens at b true ts) (tokens-word (at + 1) c word rest next)
     ∙ ap (λ (n : ℕ). (record { from = at; bytes = b ∷ c ∷ word }) ∷ tokens_from n rest) (omega arith)
 
-pub word_list : (at : ℕ) (word rest : List ℕ) → 0 < length word → list_all (λ x. not (is_blank x)) word ≡ true → begins_token rest ≡ false →
+pub word_list : (at : ℕ) (word rest : List ℕ) → 0 < length word → list_all (λ x. not (is_white_space x)) word ≡ true → begins_token rest ≡ false →
     tokens_from at (word ++ rest) ≡ (record { from = at; bytes = word }) ∷ tokens_from (at + length word) rest
 word_list at [] rest some all ends = absurd (omega arith)
 word_list at (b ∷ word) rest some all ends =
-    let bytes = and_parts (not (is_blank b)) (list_all (λ x. not (is_blank x)) word) all in
-    tokens-word at b word rest (record { first = not-true (is_blank b) bytes.0; others = bytes.1; ends = ends })
+    let bytes = and_parts (not (is_white_space b)) (list_all (λ x. not (is_white_space x)) word) all in
+    tokens-word at b word rest (record { first = not-true (is_white_space b) bytes.0; others = bytes.1; ends = ends })
 
 -- the blanks at a place of a text are passed over
-blanks_at : (text : List ℕ) (at n : ℕ) → n ≤ length (drop at text) → list_all is_blank (take n (drop at text)) ≡ true →
+blanks_at : (text : List ℕ) (at n : ℕ) → n ≤ length (drop at text) → list_all is_white_space (take n (drop at text)) ≡ true →
     tokens_from at (drop at text) ≡ tokens_from (at + n) (drop (at + n) text)
 blanks_at text at n fits blank =
     ap (tokens_from at) (sym (take-append-drop n (drop at text)))
@@ -54,13 +54,13 @@ blanks_at text at n fits blank =
     ∙ ap (λ (k : ℕ). tokens_from (at + k) (drop n (drop at text))) (length-take-le n (drop at text) fits)
     ∙ ap (tokens_from (at + n)) (drop-drop n at text)
 
-pub blanks_step : {front : List ℕ} (text : List ℕ) (at n : ℕ) → front ≡ drop at text → n ≤ length front → list_all is_blank (take n front) ≡ true →
+pub blanks_step : {front : List ℕ} (text : List ℕ) (at n : ℕ) → front ≡ drop at text → n ≤ length front → list_all is_white_space (take n front) ≡ true →
     tokens_from at (drop at text) ≡ tokens_from (at + n) (drop (at + n) text)
 blanks_step text at n are fits blank = blanks_at text at n (rw (← are) fits) (rw (← are) blank)
 
 -- the bytes up to a blank at a place of a text are a token
 pub word_at : {m : ℕ} (text : List ℕ) (from : ℕ) → m ≤ length (drop from text) → 0 < m →
-    list_all (λ x. not (is_blank x)) (take m (drop from text)) ≡ true → begins_token (drop m (drop from text)) ≡ false →
+    list_all (λ x. not (is_white_space x)) (take m (drop from text)) ≡ true → begins_token (drop m (drop from text)) ≡ false →
     tokens_from from (drop from text) ≡ (record { from = from; bytes = slice_range text from (from + m) }) ∷ tokens_from (from + m) (drop (from + m) text)
 word_at {m} text from fits some word ends =
     let len : length (take m (drop from text)) ≡ m = length-take-le m (drop from text) fits in
@@ -81,7 +81,7 @@ pub record HasRead (text : List ℕ) (at : ℕ) (sizes : List ℕ) (total : ℕ)
   pub within : at ≤ length text
   pub done : List Token
   pub tokens : tokens_from 0 text ≡ done ++ tokens_from at (drop at text)
-  pub written : IsTrace done sizes
+  pub written : WriteSizes done sizes
   pub total_is : total ≡ sum sizes
 
 -- sizes that go with the tokens end with the last token's number

@@ -8,17 +8,17 @@ use Rattle.std.proofs.lemmas.List.Elements.{All-head, All-tail}
 use Rattle.vod_base.specs.Numbers.{number_of}
 use Rattle.vod_base.proofs.Written.{written_read}
 use Rattle.inputs.specs.Laws.{AreWithinLimits, lines_of}
-use Rattle.inputs.specs.Traces.{IsTraceText, Token, is_blank, tokens_from}
+use Rattle.inputs.specs.Traces.{IsTraceText, Token, is_white_space, tokens_from}
 use Rattle.inputs.proofs.SmallNumbers.{number_read}
 use Rattle.inputs.proofs.Tokens.{word_list}
 use Rattle.inputs.proofs.Words.{digit_no_blank}
 
 -- digits are a word
-digits_word : (bytes : List ℕ) → list_all is_ascii_digit bytes ≡ true → list_all (λ b. not (is_blank b)) bytes ≡ true
+digits_word : (bytes : List ℕ) → list_all is_ascii_digit bytes ≡ true → list_all (λ b. not (is_white_space b)) bytes ≡ true
 digits_word [] h = refl
 digits_word (b ∷ bytes) h =
     let parts = and_parts (is_ascii_digit b) (list_all is_ascii_digit bytes) h in
-    and_from (not (is_blank b)) (list_all (λ x. not (is_blank x)) bytes) (digit_no_blank b parts.0) (digits_word bytes parts.1)
+    and_from (not (is_white_space b)) (list_all (λ x. not (is_white_space x)) bytes) (digit_no_blank b parts.0) (digits_word bytes parts.1)
 
 -- each line is a token
 line_tokens : ℕ → List ℕ → List Token

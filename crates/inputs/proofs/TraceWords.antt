@@ -2,7 +2,7 @@
 use Rattle.std.proofs.Common.{◌≡◌, ℕ, ◌+◌, ◌-◌, ◌<◌, ◌≤◌, true, not, List, [], ◌∷◌, ◌++◌, length, length-drop, take, drop, slice_range, sym, ap, ◌∙◌, arith, subst}
 use Rattle.std.proofs.lemmas.List.{drop-drop}
 use Rattle.std.proofs.lemmas.List.Sums.{prefix_len-le-length}
-use Rattle.inputs.specs.Traces.{is_blank, begins_token, tokens_from, IsBadTrace, AddsSize}
+use Rattle.inputs.specs.Traces.{is_white_space, begins_token, tokens_from, IsBadTrace, AddsSize}
 use Rattle.inputs.specs.Words.{word_length, first_word}
 use Rattle.inputs.proofs.Tokens.{HasRead, more_read, bad_read}
 use Rattle.inputs.proofs.Words.{word_token}
@@ -37,7 +37,7 @@ pub next_read : {text rest : List ℕ} {at from len : ℕ} {sizes : List ℕ} {t
 next_read {text} {rest} {at} {from} {len} {sizes} {total} {count} {size} read counted token inside long adds =
     let word : len ≡ word_length (drop from text) = long ∙ ap word_length token.are in
     let within : from + word_length (drop from text) ≤ length text =
-    omega (arith, inside, prefix_len-le-length (λ b. not (is_blank b)) (drop from text), length-drop from text) in
+    omega (arith, inside, prefix_len-le-length (λ b. not (is_white_space b)) (drop from text), length-drop from text) in
     let bytes : first_word rest ≡ slice_range text from (from + word_length (drop from text)) = ap first_word token.are ∙ word_slice text from in
     subst (λ (n : ℕ). HasRead text (from + n) (sizes ++ size ∷ []) (total + size)) (sym word)
     (more_read from read counted (after_blanks text at from token.same token.begins) within

@@ -8,13 +8,13 @@ use Rattle.std.proofs.lemmas.List.{get_or-drop, get_or-take, length-drop, length
 use Rattle.std.proofs.lemmas.List.Sums.{AllPass-from_list_all, list_all-from_AllPass, prefix_len_is, prefix_len-le-length, prefix_len_passes, prefix_len_stops}
 use Rattle.std.proofs.lemmas.Str.Parse.{digits_value-take-le}
 use Rattle.vod_base.specs.Numbers.{number_of}
-use Rattle.inputs.specs.Traces.{is_blank, begins_token, tokens_from}
+use Rattle.inputs.specs.Traces.{is_white_space, begins_token, tokens_from}
 use Rattle.inputs.specs.Words.{word_length, first_word, WritesSize}
 use Rattle.inputs.proofs.SmallNumbers.{number_is, number_read}
 use Rattle.inputs.proofs.Tokens.{word_at}
 
 -- a digit is no blank
-pub digit_no_blank : (b : ℕ) → is_ascii_digit b ≡ true → not (is_blank b) ≡ true
+pub digit_no_blank : (b : ℕ) → is_ascii_digit b ≡ true → not (is_white_space b) ≡ true
 digit_no_blank b h = grind arith
 
 -- each of the digits in front is one
@@ -26,29 +26,29 @@ digit_at rest k i fits digits before =
 -- digits in front are of the first word
 digits_within : (rest : List ℕ) (k : ℕ) → k ≤ length rest → list_all is_ascii_digit (take k rest) ≡ true → k ≤ word_length rest
 digits_within rest k fits digits = elim (cases_lt (word_length rest) k) [
-  | inl short ↦ absurd (both_ways (not (is_blank (get_or rest (word_length rest) 0)))
-      (prefix_len_stops (λ b. not (is_blank b)) rest 0 (omega (arith, short)))
+  | inl short ↦ absurd (both_ways (not (is_white_space (get_or rest (word_length rest) 0)))
+      (prefix_len_stops (λ b. not (is_white_space b)) rest 0 (omega (arith, short)))
       (digit_no_blank (get_or rest (word_length rest) 0) (digit_at rest k (word_length rest) fits digits short)))
   | inr long ↦ long
 ]
 
 -- up to a blank or the end they are the first word
 pub digits_are : (rest : List ℕ) (k : ℕ) → k ≤ length rest → list_all is_ascii_digit (take k rest) ≡ true
-    → (k < length rest → is_blank (get_or rest k 0) ≡ true) → k ≡ word_length rest
+    → (k < length rest → is_white_space (get_or rest k 0) ≡ true) → k ≡ word_length rest
 digits_are rest k fits digits ends =
-    sym (prefix_len_is (λ b. not (is_blank b)) rest k 0 fits
+    sym (prefix_len_is (λ b. not (is_white_space b)) rest k 0 fits
     (λ i before. digit_no_blank (get_or rest i 0) (digit_at rest k i fits digits before))
     (λ inside. ap not (ends inside)))
 
 -- a byte after them that is no blank is of the first word too
-other_within : (rest : List ℕ) (k : ℕ) → k < length rest → list_all is_ascii_digit (take k rest) ≡ true → is_blank (get_or rest k 0) ≡ false → k < word_length rest
+other_within : (rest : List ℕ) (k : ℕ) → k < length rest → list_all is_ascii_digit (take k rest) ≡ true → is_white_space (get_or rest k 0) ≡ false → k < word_length rest
 other_within rest k inside digits other = elim (cases_lt k (word_length rest)) [
   | inl long ↦ long
   | inr short ↦ (
       let within : k ≤ word_length rest = digits_within rest k (omega (arith, inside)) digits in
       let same : word_length rest ≡ k = omega (arith, within, short) in
-      absurd (both_ways (not (is_blank (get_or rest k 0)))
-      (ap (λ n. not (is_blank (get_or rest n 0))) (sym same) ∙ prefix_len_stops (λ b. not (is_blank b)) rest 0 (omega (arith, same, inside)))
+      absurd (both_ways (not (is_white_space (get_or rest k 0)))
+      (ap (λ n. not (is_white_space (get_or rest n 0))) (sym same) ∙ prefix_len_stops (λ b. not (is_white_space b)) rest 0 (omega (arith, same, inside)))
       (ap not other))
       )
 ]
@@ -58,7 +58,7 @@ no_digit : (rest : List ℕ) (k size : ℕ) → k < word_length rest → is_asci
 no_digit rest k size inside other is =
     let read = number_read (first_word rest) size is in
     both_ways (is_ascii_digit (get_or rest k 0)) other
-    (digit_at rest (word_length rest) k (prefix_len-le-length (λ b. not (is_blank b)) rest) read.1 inside)
+    (digit_at rest (word_length rest) k (prefix_len-le-length (λ b. not (is_white_space b)) rest) read.1 inside)
 
 -- digits in front, and the number that they write
 pub record DigitsInFront (rest : List ℕ) (k value : ℕ) : Type 0 where
@@ -81,7 +81,7 @@ too_large {rest} {k} {value} {size} front fits large is =
 -- where the digits in front end within the first word, it writes no number up to 2^32
 end_inside : {rest : List ℕ} {k value size : ℕ} → DigitsInFront rest k value → k < word_length rest → DoStop rest k value → WritesSize rest size → ⊥
 end_inside {rest} {k} {value} {size} front inside stops written =
-    let long : word_length rest ≤ length rest = prefix_len-le-length (λ b. not (is_blank b)) rest in
+    let long : word_length rest ≤ length rest = prefix_len-le-length (λ b. not (is_white_space b)) rest in
     elim (stops (omega (arith, inside, long))) [
       | inl large ↦ too_large front (omega (arith, inside, long)) large written
       | inr other ↦ no_digit rest k size inside other written.0
@@ -91,17 +91,17 @@ end_inside {rest} {k} {value} {size} front inside stops written =
 pub no_digits : {rest : List ℕ} {k value size : ℕ} → DigitsInFront rest k value → k ≡ 0 → DoStop rest k value → WritesSize rest size → ⊥
 no_digits {rest} {k} {value} {size} front none stops written =
     let read = number_read (first_word rest) size written.0 in
-    let long : length (first_word rest) ≡ word_length rest = length-take-le (word_length rest) rest (prefix_len-le-length (λ b. not (is_blank b)) rest) in
+    let long : length (first_word rest) ≡ word_length rest = length-take-le (word_length rest) rest (prefix_len-le-length (λ b. not (is_white_space b)) rest) in
     end_inside front (omega (arith, none, read.0, long)) stops written
 
 -- another byte after them that is no blank
-pub not_whole : {rest : List ℕ} {k value size : ℕ} → DigitsInFront rest k value → k < length rest → is_blank (get_or rest k 0) ≡ false → DoStop rest k value → WritesSize rest size → ⊥
+pub not_whole : {rest : List ℕ} {k value size : ℕ} → DigitsInFront rest k value → k < length rest → is_white_space (get_or rest k 0) ≡ false → DoStop rest k value → WritesSize rest size → ⊥
 not_whole {rest} {k} front inside other stops written =
     end_inside front (other_within rest k inside front.digits other) stops written
 
 -- digits that are the whole word write their number
 pub whole_word : {rest : List ℕ} {k value : ℕ} → DigitsInFront rest k value → 0 < k → k ≤ length rest → value ≤ 2 ^ 32
-    → (k < length rest → is_blank (get_or rest k 0) ≡ true) → (k ≡ word_length rest) × WritesSize rest value
+    → (k < length rest → is_white_space (get_or rest k 0) ≡ true) → (k ≡ word_length rest) × WritesSize rest value
 whole_word {rest} {k} {value} front some fits small ends =
     let whole : k ≡ word_length rest = digits_are rest k fits front.digits ends in
     let long : 0 < length (take k rest) = omega (arith, some, length-take-le k rest fits) in
@@ -113,14 +113,14 @@ some_word : (rest : List ℕ) → begins_token rest ≡ true → 0 < word_length
 some_word [] begins = absurd (false≢true begins)
 some_word (b ∷ rest) begins = rw begins (omega arith)
 
-word_bytes : (rest : List ℕ) → list_all (λ b. not (is_blank b)) (first_word rest) ≡ true
+word_bytes : (rest : List ℕ) → list_all (λ b. not (is_white_space b)) (first_word rest) ≡ true
 word_bytes rest =
-    list_all-from_AllPass (λ b. not (is_blank b)) (first_word rest) (λ i d inside.
-    let long : length (first_word rest) ≡ word_length rest = length-take-le (word_length rest) rest (prefix_len-le-length (λ b. not (is_blank b)) rest) in
+    list_all-from_AllPass (λ b. not (is_white_space b)) (first_word rest) (λ i d inside.
+    let long : length (first_word rest) ≡ word_length rest = length-take-le (word_length rest) rest (prefix_len-le-length (λ b. not (is_white_space b)) rest) in
     let before : i < word_length rest = omega (arith, inside, long) in
-    ap (λ b. not (is_blank b)) (get_or-take (word_length rest) rest i d before) ∙ prefix_len_passes (λ b. not (is_blank b)) rest i d before)
+    ap (λ b. not (is_white_space b)) (get_or-take (word_length rest) rest i d before) ∙ prefix_len_passes (λ b. not (is_white_space b)) rest i d before)
 
-begins_first : (rest : List ℕ) → begins_token rest ≡ true → (0 < length rest) × (not (is_blank (get_or rest 0 0)) ≡ true)
+begins_first : (rest : List ℕ) → begins_token rest ≡ true → (0 < length rest) × (not (is_white_space (get_or rest 0 0)) ≡ true)
 begins_first [] begins = absurd (false≢true begins)
 begins_first (b ∷ rest) begins = (omega arith, begins)
 
@@ -131,9 +131,9 @@ word_ends rest = elim (cases_Bool (begins_token (drop (word_length rest) rest)))
       let first = begins_first (drop (word_length rest) rest) begins in
       let same : get_or (drop (word_length rest) rest) 0 0 ≡ get_or rest (word_length rest) 0 =
       get_or-drop (word_length rest) rest 0 0 ∙ ap (λ n. get_or rest n 0) (add-zero (word_length rest)) in
-      absurd (both_ways (not (is_blank (get_or rest (word_length rest) 0)))
-      (prefix_len_stops (λ b. not (is_blank b)) rest 0 (omega (arith, first.0, length-drop (word_length rest) rest)))
-      (ap (λ b. not (is_blank b)) (sym same) ∙ first.1))
+      absurd (both_ways (not (is_white_space (get_or rest (word_length rest) 0)))
+      (prefix_len_stops (λ b. not (is_white_space b)) rest 0 (omega (arith, first.0, length-drop (word_length rest) rest)))
+      (ap (λ b. not (is_white_space b)) (sym same) ∙ first.1))
       )
 ]
 
@@ -141,5 +141,5 @@ word_ends rest = elim (cases_Bool (begins_token (drop (word_length rest) rest)))
 pub word_token : (text : List ℕ) (from : ℕ) → begins_token (drop from text) ≡ true →
     tokens_from from (drop from text) ≡ (record { from = from; bytes = slice_range text from (from + word_length (drop from text)) }) ∷ tokens_from (from + word_length (drop from text)) (drop (from + word_length (drop from text)) text)
 word_token text from begins =
-    word_at {m = word_length (drop from text)} text from (prefix_len-le-length (λ b. not (is_blank b)) (drop from text))
+    word_at {m = word_length (drop from text)} text from (prefix_len-le-length (λ b. not (is_white_space b)) (drop from text))
     (some_word (drop from text) begins) (word_bytes (drop from text)) (word_ends (drop from text))

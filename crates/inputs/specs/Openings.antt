@@ -18,7 +18,7 @@ IsOpening (Pack place) seen = (more : List ℕ) → pack_in (seen ++ more) ≡ S
 IsOpening Other seen = (more : List ℕ) → pack_in (seen ++ more) ≡ None
 
 -- a place that was found is at most this one
-abbrev pub IsWithin : ℕ → Opening → Type 0
-IsWithin end (Open prefix) = Unit {0}
-IsWithin end (Pack place) = place ≤ end
-IsWithin end Other = Unit {0}
+abbrev pub IsFoundBy : ℕ → Opening → Type 0
+IsFoundBy end (Open prefix) = Unit {0}
+IsFoundBy end (Pack place) = place ≤ end
+IsFoundBy end Other = Unit {0}

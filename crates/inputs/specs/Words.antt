@@ -2,13 +2,13 @@
 use Rattle.std.specs.Prelude.{◌≡◌, ◌≤◌, ◌^◌, ℕ, List, not, take, Some}
 use Rattle.std.specs.List.{prefix_len}
 use Rattle.vod_base.specs.Numbers.{number_of}
-use Rattle.inputs.specs.Traces.{is_blank}
+use Rattle.inputs.specs.Traces.{is_white_space}
 
--- how many bytes stand before the first blank
+-- how many bytes stand before the first white space
 abbrev pub word_length : List ℕ → ℕ
-word_length rest = prefix_len (λ b. not (is_blank b)) rest
+word_length rest = prefix_len (λ b. not (is_white_space b)) rest
 
--- the bytes before the first blank
+-- the bytes before the first white space
 abbrev pub first_word : List ℕ → List ℕ
 first_word rest = take (word_length rest) rest
 

@@ -5,8 +5,8 @@ ghost use Rattle.inputs.specs.Laws.{AreWithinLimits, IsFaultInFile, lines_of};
 ghost use Rattle.inputs.specs.Traces.{AreSeparated, IsTraceText, Token, tokens_from};
 ghost use Rattle.inputs.specs.Videos.{IsStreamFault};
 
-/// The tokens of a text are the words in it, each with its place: none is empty, none has a blank
-/// in it, and blanks stand between them, in front and at the end. No other list of tokens is so.
+/// The tokens of a text are the words in it, each with its place: none is empty, none has white
+/// space in it, and such stands between them, in front and at the end. No other list is so.
 pub fn law_tokens()
     ensures are { (text : List ℕ) → AreSeparated 0 text (tokens_from 0 text) }
     ensures only { (text : List ℕ) (tokens : List Token) → AreSeparated 0 text tokens →

@@ -4,7 +4,7 @@ ghost use Rattle.std.specs.Prelude.{option_map, IfErr, IfOk, IfSome};
 ghost use Rattle.vod_base.specs.Outside.{File, file_named};
 ghost use Rattle.troubles.specs.Causes.{IsReadOnly, IsReadTrouble};
 ghost use Rattle.inputs.specs.Files.{IsNamed, IsNever};
-ghost use Rattle.inputs.specs.Openings.{IsOpen, IsOpening, IsWithin};
+ghost use Rattle.inputs.specs.Openings.{IsOpen, IsOpening, IsFoundBy};
 ghost use Rattle.inputs.specs.Scans.{IsOpened};
 ghost use Rattle.inputs.specs.Videos.{pack_in};
 
@@ -81,7 +81,7 @@ fn open_piece(before: Prefix, at: u64, piece: &[u8]) -> Opening
     requires { at + length piece.now ≤ 2 ^ 40 }
     ensures opening { (seen : List ℕ) → length seen ≡ at → IsOpen before seen →
         IsOpening result (seen ++ piece.now) }
-    ensures within { IsWithin (at + length piece.now) result }
+    ensures within { IsFoundBy (at + length piece.now) result }
 {
     let mut prefix = before;
     for (index, byte) in piece.iter().enumerate() {

@@ -4,7 +4,7 @@ ghost use Rattle.std.specs.Prelude.{length, take, drop, slice_index, MatchOption
 ghost use Rattle.std.specs.List.{list_all};
 ghost use Rattle.std.specs.Char.{is_ascii_digit};
 ghost use Rattle.std.specs.Str.Parse.{digits_value};
-ghost use Rattle.inputs.specs.Traces.{is_blank, begins_token, tokens_from};
+ghost use Rattle.inputs.specs.Traces.{is_white_space, begins_token, tokens_from};
 ghost use Rattle.inputs.specs.Traces.{AddsSize, IsTraceText};
 ghost use Rattle.inputs.specs.Words.{word_length, first_word, WritesSize};
 ghost use Rattle.inputs.specs.TraceRefusals.{IsTraceRefused};
@@ -33,8 +33,8 @@ pub enum TraceRefused {
     NoMemory,
 }
 
-/// Reads the picture sizes of a trace: decimal numbers up to 2^32 with blanks between them, at most
-/// 1,000,000 numbers with a sum up to 2^40.
+/// Reads the picture sizes of a trace: decimal numbers up to 2^32 with white space between them, at
+/// most 1,000,000 of them with a sum up to 2^40.
 pub fn read_trace(alloc: Global, text: &[u8]) -> Result<Vec<u64>, TraceRefused>
     ensures trace { IfOk result (λ sizes. IsTraceText text.now sizes.items) }
     ensures refused { IfErr result (IsTraceRefused text.now) }
@@ -66,21 +66,21 @@ struct Number {
 }
 
 #[inline(always)]
-fn is_blank(byte: u8) -> bool
-    ensures { result ≡ is_blank byte }
+fn is_white_space(byte: u8) -> bool
+    ensures { result ≡ is_white_space byte }
 {
     byte == b' ' || byte == b'\t' || byte == b'\r' || byte == b'\n'
 }
 
-/// How many blanks stand in front.
+/// How many bytes of white space stand in front.
 #[inline(always)]
-fn blank_len(rest: &[u8]) -> usize
+fn white_space_len(rest: &[u8]) -> usize
     ensures within { result ≤ length rest.now }
-    ensures blanks { list_all is_blank (take result rest.now) ≡ true }
+    ensures white_space { list_all is_white_space (take result rest.now) ≡ true }
     ensures next { result < length rest.now → begins_token (drop result rest.now) ≡ true }
 {
     for (place, byte) in rest.iter().enumerate() {
-        if !is_blank(*byte) {
+        if !is_white_space(*byte) {
             return place;
         }
     }
@@ -95,7 +95,7 @@ fn next_place(text: &[u8], at: usize) -> Option<usize>
         (λ from. (at ≤ from) × (from < length text.now) × (begins_token (drop from text.now) ≡ true)
         × (tokens_from at (drop at text.now) ≡ tokens_from from (drop from text.now))) }
 {
-    let from = at + blank_len(&text[at..]);
+    let from = at + white_space_len(&text[at..]);
     if from < text.len() { Some(from) } else { None }
 }
 
@@ -132,7 +132,7 @@ fn number_in_front(rest: &[u8]) -> Option<Number>
     if number.len == 0 || number.value > MOST_SIZE {
         return None;
     }
-    if number.len < rest.len() && !is_blank(rest[number.len]) {
+    if number.len < rest.len() && !is_white_space(rest[number.len]) {
         return None;
     }
     Some(number)

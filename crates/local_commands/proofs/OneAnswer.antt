@@ -20,7 +20,7 @@ use Rattle.plan_cert.specs.Text.{cert_text}
 use Rattle.cert_check.specs.Fault.{IsTaut}
 use Rattle.inputs.specs.Scans.{HoldsSizes, IsFilmRefused}
 use Rattle.inputs.specs.Sizes.{sizes_of}
-use Rattle.inputs.specs.Traces.{Token, tokens_from, IsTrace, IsTraceText, IsBadTrace as IsBadTraceText}
+use Rattle.inputs.specs.Traces.{Token, tokens_from, WriteSizes, IsTraceText, IsBadTrace as IsBadTraceText}
 use Rattle.inputs.proofs.ReadLemmas.{one_file}
 use Rattle.inputs.proofs.VideoLemmas.{held_not_refused, held_once}
 use Rattle.command_words.specs.Words.{Source, trace_source, film_source, Viewer}
@@ -104,7 +104,7 @@ planned_once {held} {viewer} p q =
     (p.certificate ∙ ap cert_text (sym one) ∙ sym q.certificate, p.plan_is ∙ ap (λ (s : List Segment). Some s) (sym one) ∙ sym q.plan_is)
 
 -- a trace's first tokens are a trace
-front_trace : (front rest : List Token) (sizes : List ℕ) → IsTrace (front ++ rest) sizes → IsTrace front (take (length front) sizes)
+front_trace : (front rest : List Token) (sizes : List ℕ) → WriteSizes (front ++ rest) sizes → WriteSizes front (take (length front) sizes)
 front_trace front rest sizes trace = record {
   numbers = sym (take_at (map (λ (t : Token). number_of t.bytes) front) (map (λ (t : Token). number_of t.bytes) rest) (length front) (length-map front (λ (t : Token). number_of t.bytes)))
       ∙ ap (take (length front)) (sym (map-append (λ (t : Token). number_of t.bytes) front rest) ∙ trace.numbers)
@@ -118,7 +118,7 @@ bad_no_trace : (text sizes : List ℕ) (place : ℕ) → IsTraceText text sizes 
 bad_no_trace text sizes place trace bad =
     let split : tokens_from 0 text ≡ (bad.good ++ bad.bad ∷ []) ++ bad.rest = bad.tokens ∙ sym (append_assoc bad.good (bad.bad ∷ []) bad.rest) in
     bad.ends (take (length (bad.good ++ bad.bad ∷ [])) sizes)
-    (front_trace (bad.good ++ bad.bad ∷ []) bad.rest sizes (subst (λ (ts : List Token). IsTrace ts sizes) split trace))
+    (front_trace (bad.good ++ bad.bad ∷ []) bad.rest sizes (subst (λ (ts : List Token). WriteSizes ts sizes) split trace))
 
 pub no_file : (text : List ℕ) → Some text ≡ None → ⊥
 no_file text e = cc

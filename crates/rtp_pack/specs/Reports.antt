@@ -27,8 +27,8 @@ report_bytes report = sender_bytes report ++ description_bytes report
 
 -- the media time of a unit in seconds, 32 bits before the point and 32 after it, where a picture
 -- takes so many 1/360,000 seconds
-abbrev pub unit_time : ℕ → PictureUnit → ℕ
-unit_time picture_time unit =
+abbrev pub media_time : ℕ → PictureUnit → ℕ
+media_time picture_time unit =
     let ticks = unit.presentation * picture_time in ticks / 360000 % 2 ^ 32 * 2 ^ 32
     + ticks % 360000 * 2 ^ 32 / 360000
 
@@ -37,7 +37,7 @@ unit_time picture_time unit =
 abbrev pub unit_report : Identity → ℕ → PictureUnit → ℕ → ℕ → Report
 unit_report identity picture_time unit packets octets = record {
   ssrc = identity.ssrc;
-  time = unit_time picture_time unit;
+  time = media_time picture_time unit;
   timestamp = unit_timestamp identity picture_time unit;
   packets = (identity.packets + packets) % 2 ^ 32;
   octets = (identity.octets + octets) % 2 ^ 32;

@@ -11,7 +11,7 @@ ghost use Rattle.rtp_pack.specs.Fields.{HasReportFields, HasRtpFields, HasVideoF
 ghost use Rattle.rtp_pack.specs.Heads.{head_bytes, head_of, unit_timestamp, video_word};
 ghost use Rattle.rtp_pack.specs.Laws.{ArePieces, AreShortUncut, DoLongEndPieces, IsLastMarked};
 ghost use Rattle.rtp_pack.specs.Laws.{IsUncut};
-ghost use Rattle.rtp_pack.specs.Reports.{report_bytes, unit_time};
+ghost use Rattle.rtp_pack.specs.Reports.{report_bytes, media_time};
 ghost use Rattle.rtp_pack.specs.Rules.{HaveBytes, MeetsRules};
 ghost use Rattle.rtp_pack.specs.Packets.{ArePackets, DoCover, IsLaid, OfUnit};
 
@@ -112,7 +112,7 @@ pub fn law_report_fields()
 pub fn law_media_times()
     ensures time { (picture_time : ℕ) (unit : PictureUnit) →
         unit.presentation * picture_time < 360000 * 2 ^ 32
-        → IsTickOf (unit.presentation * picture_time) (2 ^ 32) (unit_time picture_time unit) }
+        → IsTickOf (unit.presentation * picture_time) (2 ^ 32) (media_time picture_time unit) }
     ensures timestamp { (identity : Identity) (picture_time : ℕ) (unit : PictureUnit) →
         (tick : ℕ) × (IsTickOf (unit.presentation * picture_time) 90000 tick
         × (unit_timestamp identity picture_time unit ≡ (identity.timestamp + tick) % 2 ^ 32)) }

@@ -1,6 +1,6 @@
 //! RTCP sender reports.
 ghost use Rattle.std.specs.Prelude.{◌≡◌};
-ghost use Rattle.rtp_pack.specs.Reports.{report_bytes, unit_report, unit_time};
+ghost use Rattle.rtp_pack.specs.Reports.{report_bytes, unit_report, media_time};
 
 use crate::heads::{media_timestamp, wrapped_sum};
 use byteorder::{BigEndian, ByteOrder};
@@ -75,7 +75,7 @@ pub fn unit_report(
 {
     Report {
         ssrc: identity.ssrc,
-        time: unit_time(picture_time, unit),
+        time: media_time(picture_time, unit),
         timestamp: media_timestamp(identity, picture_time, unit),
         packets: wrapped_sum(identity.packets, u128::from(packets)),
         octets: wrapped_sum(identity.octets, u128::from(octets)),
@@ -85,8 +85,8 @@ pub fn unit_report(
 /// The media time of a unit in seconds, 32 bits before the point and 32 after it.
 ///
 /// `picture_time` is the time of a picture in 1/360,000 second.
-fn unit_time(picture_time: u32, unit: &Unit) -> u64
-    ensures { result ≡ unit_time picture_time unit.now }
+fn media_time(picture_time: u32, unit: &Unit) -> u64
+    ensures { result ≡ media_time picture_time unit.now }
 {
     let ticks = u128::from(unit.presentation) * u128::from(picture_time);
     let seconds = (ticks / 360_000 % 0x1_0000_0000) as u64;

@@ -47,7 +47,8 @@ bytes_waiting wish h slot cut = (bytes_received h + cut) - played_before wish h 
 -- the first unit that isn't whole is used in this slot of the play, or was to be used before it.
 -- Units are used in their order.
 abbrev pub lacks_picture : Wish → History → ℕ → Bool
-lacks_picture wish h slot = not (is_complete h) && nat_le (use_slot wish (time h) (length (sizes h))) slot
+lacks_picture wish h slot =
+    not (is_complete h) && nat_le (use_slot wish (time h) (length (sizes h))) slot
 
 -- the most bytes that waited at a reading
 abbrev pub most_waiting : Wish → History → ℕ

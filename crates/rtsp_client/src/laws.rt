@@ -54,7 +54,8 @@ pub fn law_film_watched(film: &Film, first_unit: usize, end_unit: usize, identit
     requires within { end_unit ≤ length film.now.units.items }
     ensures { (moments : List Moment) →
         frames_of moments ≡ run_frames (run_of film.now first_unit end_unit identity) →
-        OfUnit film.now.units.items first_unit (λ first. OfUnit film.now.units.items (end_unit - 1) (λ last.
+        OfUnit film.now.units.items first_unit (λ first.
+        OfUnit film.now.units.items (end_unit - 1) (λ last.
         payloads_of moments ≡ take (last.to - first.from) (drop first.from film.now.bytes.items))) }
 {
     law_film_comes_back(film, first_unit, end_unit, identity);

@@ -4,15 +4,15 @@ use Rattle.std.proofs.lemmas.List.{length-map, length-take}
 use Rattle.std.proofs.lemmas.Option.{same_Some}
 use Rattle.vod_base.specs.Blanks.{without_blanks}
 use Rattle.rtsp_fields.specs.Pieces.{IsEnd, IsPiece, NoneBefore, NoPiece, Begins, lower}
-use Rattle.rtsp_fields.specs.Values.{IsWithin}
+use Rattle.rtsp_fields.specs.Values.{WritesNumber}
 use Rattle.rtsp_fields.specs.Transports.{IsPair, IsSingle, AreChannels, word, IsOther, NamesChannels, HasChannels, IsTaken, CanBeTaken, IsTransport, after_name}
 use Rattle.rtsp_fields.specs.declared.transports.Channels.{Channels}
 use Rattle.rtsp_fields.proofs.Places.{end_once, first_once}
 
 -- a pair, cut at its dash
 pub record IsPairAt (text : List ℕ) (dash : ℕ) (channels : Channels) : Type 0 where
-  pub media : IsWithin 0 255 (take dash text) channels.media
-  pub control : IsWithin 0 255 (slice_range text (dash + 1) (length text)) channels.control
+  pub media : WritesNumber 0 255 (take dash text) channels.media
+  pub control : WritesNumber 0 255 (slice_range text (dash + 1) (length text)) channels.control
   pub inside : dash < length text
   pub differ : channels.media ≢ channels.control
 
@@ -22,11 +22,11 @@ pair_at text dash channels e p =
     subst (λ (d : ℕ). IsPairAt text d channels) same (record { media = p.media; control = p.control; inside = p.inside; differ = p.differ })
 
 -- one text writes one number
-pub within_once : {low high : ℕ} {text : List ℕ} {a b : ℕ} → IsWithin low high text a → IsWithin low high text b → a ≡ b
+pub within_once : {low high : ℕ} {text : List ℕ} {a b : ℕ} → WritesNumber low high text a → WritesNumber low high text b → a ≡ b
 within_once {a} {b} x y = same_Some a b (sym x.is_number ∙ y.is_number)
 
-pub not_pair_equal : {text : List ℕ} {dash a b : ℕ} {channels : Channels} → IsEnd 45 text 0 dash → IsWithin 0 255 (take dash text) a →
-    IsWithin 0 255 (slice_range text (dash + 1) (length text)) b → a ≡ b → IsPair text channels → ⊥
+pub not_pair_equal : {text : List ℕ} {dash a b : ℕ} {channels : Channels} → IsEnd 45 text 0 dash → WritesNumber 0 255 (take dash text) a →
+    WritesNumber 0 255 (slice_range text (dash + 1) (length text)) b → a ≡ b → IsPair text channels → ⊥
 not_pair_equal {text} {dash} {a} {b} {channels} e x y same p =
     let at : IsPairAt text dash channels = pair_at text dash channels e p in
     at.differ (within_once at.media x ∙ same ∙ within_once y at.control)

@@ -14,7 +14,7 @@ use Rattle.vod_base.proofs.Digits.{is_digit_at}
 use Rattle.rtsp_text.proofs.OneLines.{decimal_numerals}
 use Rattle.rtsp_fields.specs.Pieces.{HasNone, IsStart, IsEnd, IsPiece, NoPiece, NoneBefore, Begins, lower}
 use Rattle.rtsp_fields.specs.Transports.{IsPair, AreChannels, IsOther, NamesChannels, AreNamed, IsTaken, IsTransport, word, after_name}
-use Rattle.rtsp_fields.specs.Values.{IsWithin}
+use Rattle.rtsp_fields.specs.Values.{WritesNumber}
 use Rattle.rtsp_fields.specs.declared.transports.Channels.{Channels}
 
 -- ---- a text that a separator cuts: its first piece, and those of the rest
@@ -425,7 +425,7 @@ last_digit front n fits =
     ∙ ap is_blank (get_or-append-add front (decimal n) (length (decimal n) - 1) 0)
     ∙ digit_blank (get_or (decimal n) (length (decimal n) - 1) 0) (is_digit_at (decimal n) (length (decimal n) - 1) (digits n fits) (omega (arith, some)))
 
-within : (most n : ℕ) → n ≤ most → most ≤ 255 → IsWithin 0 most (decimal n) n
+within : (most n : ℕ) → n ≤ most → most ≤ 255 → WritesNumber 0 most (decimal n) n
 within most n fits few = record { is_number = written_read 0 n (omega (arith, fits, few)); above = omega arith; below = fits }
 
 pair : (m n : ℕ) → m ≤ 255 → n ≤ 255 → m ≢ n → IsPair (decimal m ++ 45 ∷ decimal n) (record { media = m; control = n })
@@ -445,8 +445,8 @@ pair m n small fits differ =
       dash = dash;
       is_dash = piece.end;
       inside = omega (arith, long);
-      media = subst (λ (t : List ℕ). IsWithin 0 255 t m) (sym first) (within 255 m small (omega arith));
-      control = subst (λ (t : List ℕ). IsWithin 0 255 t n) (sym last) (within 255 n fits (omega arith));
+      media = subst (λ (t : List ℕ). WritesNumber 0 255 t m) (sym first) (within 255 m small (omega arith));
+      control = subst (λ (t : List ℕ). WritesNumber 0 255 t n) (sym last) (within 255 n fits (omega arith));
       differ = differ;
     }
 

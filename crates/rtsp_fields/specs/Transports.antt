@@ -4,7 +4,7 @@
 use Rattle.std.specs.Prelude.{◌≡◌, ◌≢◌, ℕ, ◌+◌, ◌<◌, ◌⊎◌, List, length, take, codes, slice_range}
 use Rattle.vod_base.specs.Blanks.{without_blanks}
 use Rattle.rtsp_fields.specs.Pieces.{IsEnd, IsPiece, NoneBefore, NoPiece, Begins, lower}
-use Rattle.rtsp_fields.specs.Values.{IsWithin}
+use Rattle.rtsp_fields.specs.Values.{WritesNumber}
 use Rattle.rtsp_fields.specs.declared.transports.Channels.{Channels}
 
 -- two different numbers up to 255 with `-` between them
@@ -12,13 +12,13 @@ pub record IsPair (text : List ℕ) (channels : Channels) : Type 0 where
   pub dash : ℕ
   pub is_dash : IsEnd 45 text 0 dash
   pub inside : dash < length text
-  pub media : IsWithin 0 255 (take dash text) channels.media
-  pub control : IsWithin 0 255 (slice_range text (dash + 1) (length text)) channels.control
+  pub media : WritesNumber 0 255 (take dash text) channels.media
+  pub control : WritesNumber 0 255 (slice_range text (dash + 1) (length text)) channels.control
   pub differ : channels.media ≢ channels.control
 
 -- one number up to 254, which means itself and the next
 pub record IsSingle (text : List ℕ) (channels : Channels) : Type 0 where
-  pub media : IsWithin 0 254 text channels.media
+  pub media : WritesNumber 0 254 text channels.media
   pub control : channels.control ≡ channels.media + 1
 
 -- the channels that stand after `interleaved=`

@@ -1,14 +1,14 @@
 //! Numbers in header values.
 
 ghost use Rattle.std.specs.Prelude.{◌≡◌, ℕ, ◌^◌, ◌≤◌, MatchOption};
-ghost use Rattle.rtsp_fields.specs.Values.{IsWithin};
+ghost use Rattle.rtsp_fields.specs.Values.{WritesNumber};
 
 use vod_base::read_number;
 
 /// The number from `least` to `most` that the text writes, in decimal digits.
 pub(crate) fn number_within(text: &[u8], least: u64, most: u64) -> Option<u64>
     ensures { MatchOption result ((n : ℕ) →
-        ¬ IsWithin least most text.now n) (IsWithin least most text.now) }
+        ¬ WritesNumber least most text.now n) (WritesNumber least most text.now) }
 {
     match read_number(text) {
         Ok(number) if least <= number && number <= most => Some(number),
@@ -21,7 +21,7 @@ pub(crate) fn number_within(text: &[u8], least: u64, most: u64) -> Option<u64>
 /// None exactly where the value isn't such a number in decimal digits.
 pub fn read_buffer(value: &[u8]) -> Option<u64>
     ensures { MatchOption result ((n : ℕ) →
-        ¬ IsWithin 1 (2 ^ 42) value.now n) (IsWithin 1 (2 ^ 42) value.now) }
+        ¬ WritesNumber 1 (2 ^ 42) value.now n) (WritesNumber 1 (2 ^ 42) value.now) }
 {
     number_within(value, 1, 1 << 42)
 }
@@ -32,7 +32,7 @@ pub fn read_buffer(value: &[u8]) -> Option<u64>
 /// None exactly where the value isn't such a number in decimal digits.
 pub fn read_startup(value: &[u8]) -> Option<u64>
     ensures { MatchOption result ((n : ℕ) →
-        ¬ IsWithin 0 10000 value.now n) (IsWithin 0 10000 value.now) }
+        ¬ WritesNumber 0 10000 value.now n) (WritesNumber 0 10000 value.now) }
 {
     number_within(value, 0, 10_000)
 }
@@ -42,7 +42,7 @@ pub fn read_startup(value: &[u8]) -> Option<u64>
 /// None exactly where the value isn't such a number in decimal digits.
 pub fn read_wait(value: &[u8]) -> Option<u64>
     ensures { MatchOption result ((n : ℕ) →
-        ¬ IsWithin 0 255 value.now n) (IsWithin 0 255 value.now) }
+        ¬ WritesNumber 0 255 value.now n) (WritesNumber 0 255 value.now) }
 {
     number_within(value, 0, 255)
 }

@@ -3,7 +3,7 @@ use Rattle.std.specs.Prelude.{ℕ, ◌≡◌, ◌-◌, ◌⊎◌, true, List, []
 use Rattle.std.specs.Prelude.{codes, string_bytes}
 use Rattle.rtsp_text.specs.Fields.{header_value}
 use Rattle.rtsp_text.specs.Replies.{reply_front}
-use Rattle.rtsp_fields.specs.Values.{IsWithin}
+use Rattle.rtsp_fields.specs.Values.{WritesNumber}
 use Rattle.early_start.specs.Offered.{Offers}
 use Rattle.rtsp_text.specs.declared.requests.Request.{Request}
 use Rattle.film_frames.specs.declared.stores.Stored.{Stored}
@@ -201,7 +201,7 @@ Pauses (Stopping setup stop) old sequence ask new = ⊥
 -- for its start
 abbrev pub IsWaitOf : Option (List ℕ) → ℕ → Type 0
 IsWaitOf None wait = ⊥
-IsWaitOf (Some value) wait = IsWithin 0 255 value wait
+IsWaitOf (Some value) wait = WritesNumber 0 255 value wait
 
 abbrev pub HasWait : List ℕ → ℕ → Type 0
 HasWait head wait = IsWaitOf (header_value head (codes "x-Wait")) wait

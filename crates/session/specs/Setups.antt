@@ -3,7 +3,7 @@
 use Rattle.std.specs.Prelude.{ℕ, ◌≡◌, ◌^◌, ◌⊎◌, List, Option, Some, None, Result, Ok, Err, codes}
 use Rattle.rtsp_text.specs.Fields.{header_value}
 use Rattle.rtsp_fields.specs.Transports.{IsTransport}
-use Rattle.rtsp_fields.specs.Values.{IsWithin}
+use Rattle.rtsp_fields.specs.Values.{WritesNumber}
 use Rattle.rtsp_fields.specs.declared.transports.Channels.{Channels}
 use Rattle.session.specs.declared.settings.Settings.{Settings}
 use Rattle.session.specs.declared.states.Setup.{Setup}
@@ -25,7 +25,7 @@ HasChannels head channels = AreChannelsOf (header_value head (codes "Transport")
 -- field
 abbrev pub IsChosen : Option (List ℕ) → ℕ → ℕ → ℕ → ℕ → Type 0
 IsChosen None own least most number = number ≡ own
-IsChosen (Some value) own least most number = IsWithin least most value number
+IsChosen (Some value) own least most number = WritesNumber least most value number
 
 -- the client's buffer in bytes, and the slots before the first picture is used
 abbrev pub IsBuffer : Settings → List ℕ → ℕ → Type 0

@@ -58,7 +58,8 @@ pub fn law_slots_missed()
 pub fn law_play_done()
     ensures done { (old : Standing) (setup : Setup) (play : Played) →
         old.state ≡ Playing setup play → 0 < play.pacer.passed →
-        play.pacer.sent ≡ play.pacer.keep → awaited_answer (after_play old) ≡ HaltAnswer play.pacer.keep }
+        play.pacer.sent ≡ play.pacer.keep
+        → awaited_answer (after_play old) ≡ HaltAnswer play.pacer.keep }
     ensures going { (old : Standing) (setup : Setup) (play : Played) →
         old.state ≡ Playing setup play → play.pacer.sent < play.pacer.keep →
         after_play old ≡ old }

@@ -4,8 +4,8 @@ use Rattle.film_run.proofs.seeks.group_by.Goals as goal
 
 pub returns-then-units-unit_time-clause-found : goal.returns-then-units-unit_time-clause-found
 returns-then-units-unit_time-clause-found c =
-    c.units_before-begin.ensures.whole.by_then (length c.args.units.now * c.args.unit_time)
-    (begins-small (length c.args.units.now) c.args.unit_time c.requires.few c.requires.fits) (omega arith)
+    c.units_before-begin.ensures.whole.by_then (length c.args.units.now * c.args.picture_units)
+    (begins-small (length c.args.units.now) c.args.picture_units c.requires.few c.requires.fits) (omega arith)
 
 pub returns-clause-found : goal.returns-clause-found
 returns-clause-found c =
@@ -14,6 +14,6 @@ returns-clause-found c =
 
 pub returns-clause-rest : goal.returns-clause-rest
 returns-clause-rest c = λ by_then.
-    let small = begins-small (length c.args.units.now) c.args.unit_time c.requires.few c.requires.fits in
-    let within = c.units_before-begin.ensures.whole.all (length c.args.units.now * c.args.unit_time) small by_then in
+    let small = begins-small (length c.args.units.now) c.args.picture_units c.requires.few c.requires.fits in
+    let within = c.units_before-begin.ensures.whole.all (length c.args.units.now * c.args.picture_units) small by_then in
     omega arith

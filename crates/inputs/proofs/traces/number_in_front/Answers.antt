@@ -1,5 +1,5 @@
 use Rattle.std.proofs.Common.{◌≡◌, ◌<◌, length, arith, sym, ◌∙◌, true, get_or}
-use Rattle.inputs.specs.Traces.{is_blank}
+use Rattle.inputs.specs.Traces.{is_white_space}
 use Rattle.inputs.proofs.Words.{DigitsInFront, no_digits, not_whole, too_large, whole_word}
 use Rattle.inputs.proofs.traces.number_in_front.Goals as goal
 use Rattle.inputs.proofs.traces.number_in_front.Goals.{then-number-eq0-via-then-number-eq0, then-number-eq0-via-else-number-eq0+then-number-gt-MOST_SIZE}
@@ -22,16 +22,16 @@ returns-then-not-is_blank c = λ size written.
     let number = c.digits_in_front-number.result in
     let read = c.digits_in_front-number.ensures in
     let front : DigitsInFront c.args.rest.now number.len number.value = record { digits = read.digits; value_is = read.value } in
-    not_whole front (omega (arith, c.if-number-rest.true)) (sym c.is_blank.ensures ∙ c.if-not-is_blank.true) read.ends written
+    not_whole front (omega (arith, c.if-number-rest.true)) (sym c.is_white_space.ensures ∙ c.if-not-is_blank.true) read.ends written
 
 pub returns : goal.returns
 returns c =
     let number = c.digits_in_front-number.result in
     let read = c.digits_in_front-number.ensures in
     let front : DigitsInFront c.args.rest.now number.len number.value = record { digits = read.digits; value_is = read.value } in
-    let ends : number.len < length c.args.rest.now → is_blank (get_or c.args.rest.now number.len 0) ≡ true = λ inside.
+    let ends : number.len < length c.args.rest.now → is_white_space (get_or c.args.rest.now number.len 0) ≡ true = λ inside.
     elim c.else-number-rest.branch [
-      | else-number-rest-via-then-number-rest+else-not-is_blank w ↦ sym w.is_blank.ensures ∙ w.if-not-is_blank.false
+      | else-number-rest-via-then-number-rest+else-not-is_blank w ↦ sym w.is_white_space.ensures ∙ w.if-not-is_blank.false
       | else-number-rest-via-else-number-rest w ↦ absurd (omega (arith, w.if-number-rest.false, inside))
     ] in
     whole_word front (omega (arith, c.if-number-eq0.false)) read.within (omega (arith, c.if-number-gt-MOST_SIZE.false)) ends
