@@ -2,6 +2,7 @@ pub mod Digits
 pub mod FileSearch
 pub mod FirstBytes
 pub mod Giving
+pub mod HandingOut
 pub mod LineText
 pub mod Noting
 pub mod Telling

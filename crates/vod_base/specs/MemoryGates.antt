@@ -1,8 +1,11 @@
 -- A gate in memory as contracts see it.
-use Rattle.std.specs.Prelude.{ℕ, Bool, List, [], map, drop, slice_index_or, Option, Some, None}
+use Rattle.std.specs.Prelude.{ℕ, Bool, true, List, [], ◌∷◌, map, drop, slice_index_or}
+use Rattle.std.specs.Prelude.{Option, Some, None}
 use Rattle.vod_base.specs.Outside.{one_more}
 use Rattle.vod_base.specs.MemoryLinks.{LinkState}
 use Rattle.vod_base.specs.Gates.{LastTake, NoneYet, Gave, NoMore, Failed, Returned, Part, Content}
+use Rattle.vod_base.specs.Gates.{new_part}
+use Rattle.vod_base.specs.declared.memory_gates.MemoryPart.{MemoryPart}
 use Rattle.vod_base.specs.declared.shares.Last.{Last}
 use Rattle.vod_base.specs.declared.shares.Last.TheVariants.{Nothing, Link, NoLink, Fault}
 use Rattle.vod_base.specs.declared.shares.Share.{Share}
@@ -26,11 +29,20 @@ part_of share = record {
   last = last_of share.last;
 }
 
--- what is told, how many links are still to give, whether it is a part, the failing calls, and the
--- counts
+-- what a part is to give: its links, and which of its calls fail
+pub record PartScript : Type 0 where
+  pub links : List LinkState
+  pub failing : List ℕ
+
+abbrev pub script_of : MemoryPart → PartScript
+script_of part = record { links = part.links.items; failing = part.failing.items }
+
+-- what is told, the scripts of the parts that are still to be split off, the links that are still
+-- to be given, whether it is a part, the failing calls, and the counts
 pub record GateState : Type 0 where
   pub content : Content
-  pub waiting : ℕ
+  pub scripts : List PartScript
+  pub waiting : List LinkState
   pub is_part : Bool
   pub failing : List ℕ
   pub calls : ℕ
@@ -42,6 +54,23 @@ gate_called s = record s { calls = one_more s.calls }
 
 abbrev pub gate_failed : GateState → GateState
 gate_failed s = record s { calls = one_more s.calls; faults = one_more s.faults }
+
+-- the script of the next part: the first that is left, or no link and no failing call
+abbrev pub first_script : List PartScript → PartScript
+first_script [] = record { links = []; failing = [] }
+first_script (script ∷ scripts) = script
+
+-- the part that is split off a gate
+abbrev pub part_split_off : GateState → GateState
+part_split_off s = record {
+  content = new_part s.content;
+  scripts = [];
+  waiting = (first_script s.scripts).links;
+  is_part = true;
+  failing = (first_script s.scripts).failing;
+  calls = 0;
+  faults = 0;
+}
 
 -- those that came back of a part that is back
 abbrev pub back_of_part : Option Part → List Returned

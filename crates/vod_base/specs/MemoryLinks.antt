@@ -1,16 +1,21 @@
 -- A link in memory as contracts see it.
-use Rattle.std.specs.Prelude.{ℕ, Bool, ◌||◌, List, [], ◌∷◌, nat_le, slice_index_or, slice_range}
+use Rattle.std.specs.Prelude.{ℕ, Bool, ◌||◌, List, [], ◌∷◌, map, take, drop, nat_le}
+use Rattle.std.specs.Prelude.{slice_index_or, slice_range}
 use Rattle.vod_base.specs.Memory.{call_fails}
 use Rattle.vod_base.specs.Links.{Doing, HeardBytes, HeardSlot, HeardEnd, Sent}
 use Rattle.vod_base.specs.declared.memory_links.Event.{Event}
 use Rattle.vod_base.specs.declared.memory_links.Event.TheVariants.{Bytes, Slot, End}
+use Rattle.vod_base.specs.declared.memory_links.Front.{Front}
 use Rattle.vod_base.specs.declared.memory_links.Noted.{Noted}
 use Rattle.vod_base.specs.declared.memory_links.Noted.TheVariants.{Came, Began, Ended, Gone}
 
--- what was done, how many events were handed out, the most of them and of the bytes, the failing
--- calls, and the counts
+-- what was done, all events that the link was made from, those that are left, how many were handed
+-- out, the most of them and of the bytes, the failing calls, and the counts. An event stands here
+-- as what is done where it is heard whole
 pub record LinkState : Type 0 where
   pub told : List Doing
+  pub script : List Doing
+  pub left : List Doing
   pub events : ℕ
   pub room : ℕ
   pub failing_sends : List ℕ
@@ -40,6 +45,57 @@ doing_noted events (Came event from to) =
 doing_noted events (Began slot) = HeardSlot slot
 doing_noted events Ended = HeardEnd
 doing_noted events (Gone byte) = Sent byte
+
+-- an event as what is done where it is heard whole
+abbrev pub heard_whole : Event → Doing
+heard_whole (Bytes bytes) = HeardBytes bytes.items
+heard_whole (Slot slot) = HeardSlot slot
+heard_whole End = HeardEnd
+
+-- the same events, where so many bytes of the first were handed out
+abbrev pub shortened : ℕ → List Doing → List Doing
+shortened count (HeardBytes bytes ∷ events) = HeardBytes (drop count bytes) ∷ events
+shortened count events = events
+
+-- the events from a front on
+abbrev pub left_from : List Event → Front → List Doing
+left_from events front = shortened front.offset (drop front.event (map heard_whole events))
+
+-- events of no bytes in front are passed over
+abbrev pub passed_over : List Doing → List Doing
+passed_over (HeardBytes [] ∷ events) = passed_over events
+passed_over events = events
+
+-- of bytes as many as there is room for are handed out, a slot or an end whole; after the last
+-- event the peer ends
+abbrev pub first_out : ℕ → List Doing → Doing
+first_out room [] = HeardEnd
+first_out room (HeardBytes bytes ∷ events) = HeardBytes (take room bytes)
+first_out room (event ∷ events) = event
+
+-- the rest of the bytes stays in front, as no bytes where there is none; a slot or an end is gone
+abbrev pub rest_left : ℕ → List Doing → List Doing
+rest_left room [] = []
+rest_left room (HeardBytes bytes ∷ events) = HeardBytes (drop room bytes) ∷ events
+rest_left room (event ∷ events) = events
+
+-- what a call with so much room hands out of the events that are left, and which are left after it
+abbrev pub handed : ℕ → List Doing → Doing
+handed room left = first_out room (passed_over left)
+
+abbrev pub left_after : ℕ → List Doing → List Doing
+left_after room left = rest_left room (passed_over left)
+
+-- begun anew: all events are left, nothing was done, and no call was made
+abbrev pub begun : LinkState → LinkState
+begun s = record s {
+  told = [];
+  left = s.script;
+  events = 0;
+  sends = 0;
+  nexts = 0;
+  faults = 0;
+}
 
 -- whether the next call of `next` fails: its number is named, or all events were handed out that
 -- there is room for

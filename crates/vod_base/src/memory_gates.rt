@@ -1,17 +1,17 @@
 //! A gate in memory.
 
-ghost use Rattle.std.specs.Prelude.{◌≡◌, ◌-◌, ◌↔◌, ◌||◌, true, false, Some, None, [], if◌then◌else◌};
-ghost use Rattle.std.specs.Prelude.{nat_lt, map, IfSome, IfOk, IsNone, OnOk, OnErr, is_err};
-ghost use Rattle.std.specs.Prelude.{◌<◌, remove, slice_index_or, vec_len};
+ghost use Rattle.std.specs.Prelude.{◌≡◌, ◌||◌, true, false, Some, None, [], if◌then◌else◌, nat_lt};
+ghost use Rattle.std.specs.Prelude.{map, drop, slice_get, option_map, IfSome, IfOk, OnOk, OnErr};
+ghost use Rattle.std.specs.Prelude.{is_err, vec_len};
 ghost use Rattle.vod_base.specs.Outside.{one_more};
 ghost use Rattle.vod_base.specs.Gates.{NoMore, Failed, MaySplit, IsOut, HasOut, after_open};
-ghost use Rattle.vod_base.specs.Gates.{split_off};
-ghost use Rattle.vod_base.specs.Gates.{new_part, after_take, after_empty_take, after_return};
+ghost use Rattle.vod_base.specs.Gates.{split_off, after_take, after_empty_take, after_return};
 ghost use Rattle.vod_base.specs.Gates.{after_rejoin, fresh_part};
 ghost use Rattle.vod_base.specs.Memory.{call_fails};
-ghost use Rattle.vod_base.specs.MemoryGates.{returned_of, part_of, back_of};
-ghost use Rattle.vod_base.specs.MemoryGates.{gate_called};
+ghost use Rattle.vod_base.specs.MemoryGates.{returned_of, part_of, back_of, script_of};
+ghost use Rattle.vod_base.specs.MemoryGates.{first_script, part_split_off, gate_called};
 ghost use Rattle.vod_base.specs.MemoryGates.{gate_failed};
+ghost use Rattle.vod_base.specs.MemoryLinks.{begun};
 
 use crate::gates::{Gate, Opening};
 use crate::memory_libraries::counted_call;
@@ -54,9 +54,9 @@ pub struct MemoryGate {
 }
 
 impl Model for MemoryGate {
-    ghost use Rattle.std.specs.Prelude.{◌≡◌, ◌+◌, ◌-◌, ◌≤◌, true, false, None, map, option_map};
+    ghost use Rattle.std.specs.Prelude.{◌≡◌, ◌+◌, ◌≤◌, true, false, None, map, option_map, take};
     ghost use Rattle.std.specs.Prelude.{vec_len, vec_capacity};
-    ghost use Rattle.vod_base.specs.MemoryGates.{GateState, part_of};
+    ghost use Rattle.vod_base.specs.MemoryGates.{GateState, part_of, script_of};
 
     ghost Value = { GateState };
 
@@ -68,7 +68,8 @@ impl Model for MemoryGate {
             parts = map (option_map part_of) g.parts.items;
             own = part_of g.own;
           };
-          waiting = g.own.waiting;
+          scripts = map script_of g.scripts.items;
+          waiting = take g.own.waiting g.own.links.items;
           is_part = g.is_part;
           failing = g.failing.items;
           calls = g.calls;
@@ -93,7 +94,8 @@ impl MemoryGate {
         ensures { IfOk result (λ gate. gate ≡
             record {
               content = record { openings = 0; opening = None; parts = []; own = fresh_part 0 };
-              waiting = 0;
+              scripts = map script_of parts.items;
+              waiting = [];
               is_part = false;
               failing = failing.items;
               calls = 0;
@@ -119,7 +121,8 @@ impl MemoryGate {
     fn part(alloc: Global, number: usize, script: MemoryPart) -> MemoryGate
         ensures { result ≡ record {
           content = record { openings = 0; opening = None; parts = []; own = fresh_part number };
-          waiting = vec_len script.links;
+          scripts = [];
+          waiting = script.links.items;
           is_part = true;
           failing = script.failing.items;
           calls = 0;
@@ -200,9 +203,11 @@ impl Gate for MemoryGate {
         requires may { MaySplit self.old.content }
         ensures fails { is_err result ≡ call_fails self.old.failing self.old.calls }
         ensures split { OnOk result (self.new ≡
-            record (gate_called self.old) { content = split_off self.old.content }) }
-        ensures part { IfOk result (λ part. (part.content ≡ new_part self.old.content)
-            × (part.calls ≡ 0) × (part.faults ≡ 0)) }
+            record (gate_called self.old) {
+              content = split_off self.old.content;
+              scripts = drop 1 self.old.scripts;
+            }) }
+        ensures part { IfOk result (λ part. part ≡ part_split_off self.old) }
         ensures lost { OnErr result (self.new ≡ gate_failed self.old) }
     {
         if self.call() {
@@ -224,14 +229,13 @@ impl Gate for MemoryGate {
             IfSome taken (λ link. self.new ≡
             record (gate_called self.old) {
               content = after_take self.old.content;
-              waiting = self.old.waiting - 1;
+              waiting = drop 1 self.old.waiting;
             })) }
-        ensures fresh { IfOk result (λ taken.
-            IfSome taken (λ link. (link.told ≡ []) × (link.faults ≡ 0))) }
+        ensures first { IfOk result (λ taken.
+            taken ≡ option_map begun (slice_get self.old.waiting 0)) }
         ensures none { IfOk result (λ taken. taken ≡ None →
             self.new ≡ record
             (gate_called self.old) { content = after_empty_take NoMore self.old.content }) }
-        ensures last { IfOk result (λ taken. IsNone taken ↔ (self.old.waiting ≡ 0)) }
         ensures lost { OnErr result (self.new ≡
             record (gate_failed self.old) { content = after_empty_take Failed self.old.content }) }
     {
@@ -280,10 +284,8 @@ impl Gate for MemoryGate {
 
 /// What the next part is to give: the first script that is left, or no link.
 fn next_script(alloc: Global, scripts: &mut Vec<MemoryPart>) -> MemoryPart
-    ensures first { 0 < vec_len scripts.old → (result ≡ slice_index_or scripts.old.items 0 result)
-        × (scripts.new.items ≡ remove scripts.old.items 0) }
-    ensures none { vec_len scripts.old ≡ 0 →
-        (result.links.items ≡ []) × (result.failing.items ≡ []) }
+    ensures first { script_of result ≡ first_script (map script_of scripts.old.items) }
+    ensures rest { map script_of scripts.new.items ≡ drop 1 (map script_of scripts.old.items) }
 {
     if scripts.is_empty() {
         MemoryPart {

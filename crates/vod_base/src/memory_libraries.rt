@@ -1,7 +1,7 @@
 //! A library in memory.
 
-ghost use Rattle.std.specs.Prelude.{◌≡◌, ◌≤◌, ℕ, List, Option, Some, length, map, option_map};
-ghost use Rattle.std.specs.Prelude.{string_bytes, if◌then◌else◌, IfOk, OnOk, OnErr, is_err};
+ghost use Rattle.std.specs.Prelude.{◌≡◌, ◌-◌, ◌≤◌, ℕ, List, Option, Some, length, map, option_map};
+ghost use Rattle.std.specs.Prelude.{min, string_bytes, if◌then◌else◌, IfOk, OnOk, OnErr, is_err};
 ghost use Rattle.vod_base.specs.Outside.{File, HasRisen, file_named, bytes_named, IsRead, one_more};
 ghost use Rattle.vod_base.specs.Memory.{LibraryState, library_called, call_fails};
 
@@ -104,6 +104,9 @@ impl Library for MemoryLibrary {
         ensures fails { is_err result ≡ call_fails self.old.failing self.old.calls }
         ensures bytes { IfOk result (λ n.
             IsRead (bytes_named self.old.files name.now) at n into.new) }
+        ensures most { IfOk result (λ n. n ≡
+            min (length into.new) (length (bytes_named self.old.files name.now) - at)) }
+        ensures untouched { OnErr result (into.new ≡ into.old) }
     {
         if self.call() {
             return Err(StoreFault);
@@ -126,7 +129,8 @@ pub(crate) fn counted_call(calls: &mut u64, failing: &[u64]) -> bool
 
 /// Copies what stands at `at` to the front of `into`, as much as fits, and answers how much.
 pub(crate) fn copy_from(bytes: &[u8], at: u64, into: &mut [u8]) -> usize
-    ensures { IsRead bytes.now at result into.new }
+    ensures read { IsRead bytes.now at result into.new }
+    ensures most { result ≡ min (length into.new) (length bytes.now - at) }
 {
     if at >= bytes.len() as u64 {
         return 0;

@@ -1,12 +1,13 @@
 //! A link in memory.
 
-ghost use Rattle.std.specs.Prelude.{◌≡◌, ◌+◌, ◌<◌, ◌≤◌, ◌++◌, ◌∷◌, [], ◌||◌, length, map, nat_lt};
-ghost use Rattle.std.specs.Prelude.{vec_len, vec_capacity, IfOk, OnOk, OnErr, is_err};
+ghost use Rattle.std.specs.Prelude.{◌≡◌, ◌+◌, ◌-◌, ◌^◌, ◌<◌, ◌≤◌, ◌++◌, ◌∷◌, [], ◌||◌, length, map};
+ghost use Rattle.std.specs.Prelude.{nat_lt, vec_len, vec_capacity, IfOk, OnOk, OnErr, is_err};
 ghost use Rattle.vod_base.specs.Links.{Sent, doing_of, IsWithin, sends};
 ghost use Rattle.vod_base.specs.Memory.{call_fails};
 ghost use Rattle.vod_base.specs.Outside.{one_more};
 ghost use Rattle.vod_base.specs.declared.memory_links.Noted.TheVariants.{Gone};
-ghost use Rattle.vod_base.specs.MemoryLinks.{sent_of, doing_noted, next_fails};
+ghost use Rattle.vod_base.specs.MemoryLinks.{sent_of, doing_noted, next_fails, heard_whole};
+ghost use Rattle.vod_base.specs.MemoryLinks.{left_from, handed, left_after, begun};
 
 use crate::links::{Heard, Link};
 use crate::memory_libraries::{copy_from, counted_call};
@@ -57,13 +58,16 @@ pub struct MemoryLink {
 
 impl Model for MemoryLink {
     ghost use Rattle.std.specs.Prelude.{◌≡◌, ◌+◌, ◌≤◌, map, vec_len, vec_capacity};
-    ghost use Rattle.vod_base.specs.MemoryLinks.{LinkState, sent_of, doing_noted};
+    ghost use Rattle.vod_base.specs.MemoryLinks.{LinkState, sent_of, doing_noted, heard_whole};
+    ghost use Rattle.vod_base.specs.MemoryLinks.{left_from};
 
     ghost Value = { LinkState };
 
     ghost view = { λ l.
         record {
           told = map (doing_noted l.events.items) l.notes.items;
+          script = map heard_whole l.events.items;
+          left = left_from l.events.items l.front;
           events = l.handed_out;
           room = l.room;
           failing_sends = l.failing_sends.items;
@@ -94,6 +98,8 @@ impl MemoryLink {
         ensures { IfOk result (λ link. link ≡
             record {
               told = [];
+              script = map heard_whole events.items;
+              left = map heard_whole events.items;
               events = 0;
               room = room;
               failing_sends = failing_sends.items;
@@ -110,10 +116,7 @@ impl MemoryLink {
         let sent = Vec::with_capacity(alloc, room)?;
         Ok(MemoryLink {
             events,
-            front: Front {
-                event: 0,
-                offset: 0,
-            },
+            front: Front::FIRST,
             notes,
             sent,
             handed_out: 0,
@@ -133,15 +136,11 @@ impl MemoryLink {
         self.sent.as_slice()
     }
 
-    /// Begins anew: nothing was done yet, and no call failed.
+    /// Begins anew: all events are still to be handed out, and nothing was done yet.
     pub(crate) fn begin(&mut self)
-        ensures told { self.new.told ≡ [] }
-        ensures faults { self.new.faults ≡ 0 }
+        ensures { self.new ≡ begun self.old }
     {
-        self.front = Front {
-            event: 0,
-            offset: 0,
-        };
+        self.front = Front::FIRST;
         self.notes.clear();
         self.sent.clear();
         self.handed_out = 0;
@@ -163,17 +162,21 @@ impl Link for MemoryLink {
         requires some { 0 < length into.now }
         ensures fails { is_err result ≡ next_fails self.old }
         ensures within { IfOk result (λ heard. IsWithin heard (length into.new)) }
+        ensures front { IfOk result (λ heard.
+            doing_of heard into.new ≡ handed (length into.new) self.old.left) }
         ensures heard { IfOk result (λ heard. self.new ≡
             record self.old {
               nexts = one_more self.old.nexts;
               events = self.old.events + 1;
               told = self.old.told ++ doing_of heard into.new ∷ [];
+              left = left_after (length into.new) self.old.left;
             }) }
         ensures lost { OnErr result (self.new ≡
             record self.old {
               nexts = one_more self.old.nexts;
               faults = one_more self.old.faults;
             }) }
+        ensures untouched { OnErr result (into.new ≡ into.old) }
     {
         let failed = counted_call(&mut self.nexts, &self.failing_nexts);
         if failed || self.handed_out >= self.room {
@@ -223,6 +226,24 @@ struct Front {
     offset: usize,
 }
 
+impl Front {
+    /// Where the first event stands.
+    const FIRST: Front = Front {
+        event: 0,
+        offset: 0,
+    };
+
+    /// Goes to the event after this one.
+    fn pass(&mut self)
+        requires { self.old.event < 2 ^ 64 - 1 }
+        ensures event { self.new.event ≡ self.old.event + 1 }
+        ensures offset { self.new.offset ≡ 0 }
+    {
+        self.event += 1;
+        self.offset = 0;
+    }
+}
+
 /// Notes each byte as sent.
 fn note_sent(notes: &mut Vec<Noted>, bytes: &[u8])
     requires { vec_len notes.old + length bytes.now ≤ vec_capacity notes.old }
@@ -243,14 +264,14 @@ fn hand_out(events: &[Event], front: &mut Front, into: &mut [u8]) -> (Noted, Hea
     requires { 0 < length into.old }
     ensures within { IsWithin result.1 (length into.new) }
     ensures noted { doing_noted events.now result.0 ≡ doing_of result.1 into.new }
+    ensures front { let left = left_from events.now front.old in
+        (doing_of result.1 into.new ≡ handed (length into.new) left)
+        × (left_from events.now front.new ≡ left_after (length into.new) left) }
 {
     while let Some(Event::Bytes(bytes)) = events.get(front.event)
         && front.offset >= bytes.len()
     {
-        *front = Front {
-            event: front.event + 1,
-            offset: 0,
-        };
+        front.pass();
     }
     let event = front.event;
     match events.get(event) {
@@ -261,11 +282,11 @@ fn hand_out(events: &[Event], front: &mut Front, into: &mut [u8]) -> (Noted, Hea
             (Noted::Came(event, from, from + count), Heard::Bytes(count))
         }
         Some(Event::Slot(slot)) => {
-            front.event += 1;
+            front.pass();
             (Noted::Began(*slot), Heard::Slot(*slot))
         }
         Some(Event::End) => {
-            front.event += 1;
+            front.pass();
             (Noted::Ended, Heard::End)
         }
         None => (Noted::Ended, Heard::End),

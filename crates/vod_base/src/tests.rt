@@ -221,6 +221,33 @@ fn gives_and_gets_back(rt: HostRuntime) -> Result<(), Fail> {
     Ok(())
 }
 
+// A link that was heard before hears all of its events again once a part gives it, and a part that
+// is split off past the last script gives none.
+#[test]
+fn gives_links_anew(rt: HostRuntime) -> Result<(), Fail> {
+    let alloc = rt.alloc();
+    let mut heard = link(alloc, vec![in alloc; Event::Slot(7)]?, &[])?;
+    let rows: [(Result<Heard, LinkFault>, &[u8]); 2] = [
+        (Ok(Heard::Slot(7)), b""),
+        (Ok(Heard::End), b""),
+    ];
+    hear(&rt, &mut heard, &rows);
+    let mut gate = gate(alloc, vec![in alloc; heard]?, &[], &[])?;
+    assert_eq!(rt; gate.open(&OPENING), Ok(()));
+    let Ok(mut part) = gate.split() else {
+        panic!(rt; "the first split failed");
+    };
+    let Ok(mut past) = gate.split() else {
+        panic!(rt; "the second split failed");
+    };
+    let Ok(Some(mut given)) = part.take() else {
+        panic!(rt; "the part has a link");
+    };
+    hear(&rt, &mut given, &rows);
+    assert!(rt; past.take().is_ok_and(|taken| taken.is_none()));
+    Ok(())
+}
+
 #[test]
 fn fails_at_its_numbers(rt: HostRuntime) -> Result<(), Fail> {
     let alloc = rt.alloc();

@@ -1,0 +1,110 @@
+-- What a link in memory hands out, by the front that it keeps.
+use Rattle.std.proofs.Common.{◌≡◌, ℕ, ◌+◌, ◌-◌, ◌<◌, ◌≤◌, min, List, [], ◌∷◌, length, take, drop, get_or, map, refl, sym, ap, ◌∙◌, Vec, Global}
+use Rattle.std.proofs.lemmas.List.{drop_more, drop_all, drop-drop, length-drop, length-map, get_or-map, take_min, drop_min}
+use Rattle.vod_base.specs.declared.memory_links.Event.{Event}
+use Rattle.vod_base.specs.declared.memory_links.Event.TheVariants.{Bytes, Slot, End}
+use Rattle.vod_base.specs.declared.memory_links.Front.{Front}
+use Rattle.vod_base.specs.Links.{Doing, HeardBytes, HeardSlot, HeardEnd, Sent}
+use Rattle.vod_base.specs.MemoryLinks.{heard_whole, shortened, left_from, passed_over, first_out, rest_left, handed, left_after}
+
+whole : (events : List Doing) → shortened 0 events ≡ events
+whole [] = refl
+whole (HeardBytes bytes ∷ events) = refl
+whole (HeardSlot slot ∷ events) = refl
+whole (HeardEnd ∷ events) = refl
+whole (Sent byte ∷ events) = refl
+
+-- the events after the one in front
+abbrev pub rest_from : List Event → Front → List Doing
+rest_from events front = drop (front.event + 1) (map heard_whole events)
+
+-- the event at a place
+pub record IsAt (events : List Event) (place : ℕ) (event : Event) : Type 0 where
+  pub inside : place < length events
+  pub is : event ≡ get_or events place event
+
+-- the event in front, and the rest
+left_here : (events : List Event) (front : Front) (event : Event) → IsAt events front.event event →
+    left_from events front ≡ shortened front.offset (heard_whole event ∷ rest_from events front)
+left_here events front event at =
+    let all : List Doing = map heard_whole events in
+    ap (shortened front.offset)
+    (drop_more all front.event (heard_whole event) (rw length-map at.inside)
+    ∙ ap (λ d. d ∷ rest_from events front)
+    (get_or-map heard_whole events front.event event (heard_whole event) at.inside ∙ ap heard_whole (sym at.is)))
+
+-- a front that was passed
+pub record IsPassed (front new : Front) : Type 0 where
+  pub event : new.event ≡ front.event + 1
+  pub offset : new.offset ≡ 0
+
+left_passed : (events : List Event) (front new : Front) → IsPassed front new → left_from events new ≡ rest_from events front
+left_passed events front new passed =
+    rw (passed.event, passed.offset) (whole (rest_from events front))
+
+-- an event of which no bytes are left is passed over
+pub empty_passed : (events : List Event) (front new : Front) (bytes : Vec ℕ Global) → IsAt events front.event (Bytes bytes) →
+    length bytes.items ≤ front.offset → IsPassed front new → passed_over (left_from events new) ≡ passed_over (left_from events front)
+empty_passed events front new bytes is none passed =
+    ap passed_over (left_passed events front new passed)
+    ∙ sym (ap passed_over (left_here events front (Bytes bytes) is)
+    ∙ ap (λ (bs : List ℕ). passed_over (HeardBytes bs ∷ rest_from events front)) (drop_all front.offset bytes.items none))
+
+-- what stands in front once events of no bytes were passed over
+pub record IsInFront (events : List Event) (first front : Front) (event : Event) : Type 0 where
+  pub passed : passed_over (left_from events front) ≡ passed_over (left_from events first)
+  pub is : IsAt events front.event event
+
+in_front : (events : List Event) (first front : Front) (event : Event) → IsInFront events first front event →
+    passed_over (left_from events first) ≡ passed_over (shortened front.offset (heard_whole event ∷ rest_from events front))
+in_front events first front event at = sym at.passed ∙ ap passed_over (left_here events front event at.is)
+
+pub slot_out : (events : List Event) (first front new : Front) (slot room : ℕ) → IsInFront events first front (Slot slot) → IsPassed front new →
+    (HeardSlot slot ≡ handed room (left_from events first)) × (left_from events new ≡ left_after room (left_from events first))
+slot_out events first front new slot room at passed =
+    let here = in_front events first front (Slot slot) at in
+    (sym (ap (first_out room) here), left_passed events front new passed ∙ sym (ap (rest_left room) here))
+
+pub end_out : (events : List Event) (first front new : Front) (room : ℕ) → IsInFront events first front End → IsPassed front new →
+    (HeardEnd ≡ handed room (left_from events first)) × (left_from events new ≡ left_after room (left_from events first))
+end_out events first front new room at passed =
+    let here = in_front events first front End at in
+    (sym (ap (first_out room) here), left_passed events front new passed ∙ sym (ap (rest_left room) here))
+
+-- a front of some of which so many bytes were handed out
+pub record IsFrontOut (bytes into : List ℕ) (offset count : ℕ) : Type 0 where
+  pub some : offset < length bytes
+  pub most : count ≡ min (length into) (length bytes - offset)
+  pub front : take count into ≡ take count (drop offset bytes)
+
+some_passed : (bytes : List ℕ) (offset : ℕ) (rest : List Doing) → offset < length bytes →
+    passed_over (HeardBytes (drop offset bytes) ∷ rest) ≡ HeardBytes (drop offset bytes) ∷ rest
+some_passed bytes offset rest some = rw (drop_more bytes offset 0 some) refl
+
+pub bytes_out : (events : List Event) (first front : Front) (bytes : Vec ℕ Global) (into : List ℕ) (count : ℕ) →
+    IsInFront events first front (Bytes bytes) → IsFrontOut bytes.items into front.offset count →
+    (HeardBytes (take count into) ≡ handed (length into) (left_from events first))
+    × (left_from events (record { event = front.event; offset = front.offset + count }) ≡ left_after (length into) (left_from events first))
+bytes_out events first front bytes into count at out =
+    let left : List ℕ = drop front.offset bytes.items in
+    let rest : List Doing = rest_from events front in
+    let here : passed_over (left_from events first) ≡ HeardBytes left ∷ rest =
+    in_front events first front (Bytes bytes) at ∙ some_passed bytes.items front.offset rest out.some in
+    let most : min (length into) (length left) ≡ count = rw (length-drop front.offset bytes.items) (sym out.most) in
+    let handed_out : take count into ≡ take (length into) left =
+    out.front ∙ ap (λ n. take n left) (sym most) ∙ take_min (length into) left in
+    let stays : drop (front.offset + count) bytes.items ≡ drop (length into) left =
+    sym (drop-drop count front.offset bytes.items) ∙ ap (λ n. drop n left) (sym most) ∙ drop_min (length into) left in (
+      ap HeardBytes handed_out ∙ sym (ap (first_out (length into)) here),
+      left_here events (record { event = front.event; offset = front.offset + count }) (Bytes bytes) at.is
+          ∙ ap (λ (bs : List ℕ). HeardBytes bs ∷ rest) stays ∙ sym (ap (rest_left (length into)) here),
+    )
+
+-- after the last event
+pub none_out : (events : List Event) (first front : Front) (room : ℕ) → passed_over (left_from events front) ≡ passed_over (left_from events first) →
+    length events ≤ front.event →
+    (HeardEnd ≡ handed room (left_from events first)) × (left_from events front ≡ left_after room (left_from events first))
+none_out events first front room passed past =
+    let left : left_from events front ≡ [] = ap (shortened front.offset) (drop_all front.event (map heard_whole events) (rw length-map past)) in
+    let none : passed_over (left_from events first) ≡ [] = sym passed ∙ ap passed_over left in
+    (sym (ap (first_out room) none), left ∙ sym (ap (rest_left room) none))
