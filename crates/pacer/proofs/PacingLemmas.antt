@@ -98,7 +98,8 @@ due-of-both plan a b keep due is =
 pub step-failed : {stop : Bool} {slot : ℕ} {old : Pacing} {to whole : ℕ} {told_old told_new : Option (List Doing)}
     (pacing : Pacing)
     → pacing ≡ at_slot slot old → to ≡ step_end stop pacing → pacing.sent ≤ to
-    → HasStopped (bytes_between pacing.pieces (pacing.before + pacing.sent) (pacing.before + to)) told_old told_new whole
+    → HasStopped (λ place. IsBoundary pacing.pieces (pacing.before + pacing.sent + place))
+    (bytes_between pacing.pieces (pacing.before + pacing.sent) (pacing.before + to)) told_old told_new whole
     → HasFailed stop slot old (record pacing { sent = pacing.sent + whole }) told_old told_new
 step-failed {stop} {slot} {old} {to} {whole} {told_old} pacing are end order stopped =
     let pieces = pacing.pieces in
@@ -117,6 +118,10 @@ step-failed {stop} {slot} {old} {to} {whole} {told_old} pacing are end order sto
       out = sent + stopped.out;
       out_least = omega (arith, stopped.out_least);
       out_most = omega (arith, stopped.out_most, size, order, ends);
+      one_piece = λ place boundary less.
+          let same : before + place ≡ before + sent + (place - sent) = omega (arith, less) in
+          let there = subst (λ (p : Pacing). IsBoundary p.pieces (p.before + place)) (sym are) boundary in
+          omega (arith, less, stopped.one_send (place - sent) (subst (IsBoundary pieces) same there) (omega (arith, less)));
       told = stopped.told ∙ ap (λ (l : List ℕ). told_more told_old (sends l)) cut
           ∙ ap (λ (p : Pacing). told_more told_old (sends (bytes_between p.pieces (p.before + p.sent) (p.before + (sent + stopped.out))))) are;
     }

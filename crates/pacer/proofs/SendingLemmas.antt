@@ -4,7 +4,7 @@ use Rattle.std.proofs.lemmas.List.{append-nil}
 use Rattle.std.proofs.lemmas.List.{take-append-le, take-take, take_all, length-take, length-append, length-drop, drop-drop, map-append}
 use Rattle.std.proofs.Math.Seq.{take-append-add, take-add}
 use Rattle.std.proofs.lemmas.Bool.{cases_lt}
-use Rattle.film_frames.specs.Tracks.{framed_bytes, IsNext}
+use Rattle.film_frames.specs.Tracks.{framed_bytes, IsBoundary, IsNext}
 use Rattle.vod_base.specs.Links.{Doing, Sent, told_more, sends, IsFrontTold}
 use Rattle.pacer.specs.Boundaries.{bytes_between}
 use Rattle.pacer.specs.Sending.{HasStopped}
@@ -40,31 +40,41 @@ pub both-sent : {middle new : Option (List Doing)} {all : List ℕ} (old : Optio
 both-sent {new} {all} old first then are one other =
     sends-more old first then one other ∙ ap (λ (l : List ℕ). told_more old (sends l)) (sym are)
 
--- the first of the two failed
-pub first-stopped : {old new : Option (List Doing)} {all : List ℕ} (first then : List ℕ) → all ≡ first ++ then → IsFrontTold old new first → 0 < length first
-    → HasStopped all old new 0
-first-stopped {old} {new} {all} first then are front some =
+-- the head's send failed
+pub head-stopped : {old new : Option (List Doing)} {first then : List ℕ} (most : ℕ) (head payload : List ℕ)
+    → first ≡ take most head → then ≡ take (most - length first) payload → IsFrontTold old new first → 0 < length first
+    → HasStopped (λ place. place ≡ length head) (take most (head ++ payload)) old new 0
+head-stopped {old} {new} {first} {then} most head payload first_is then_is front some =
     let out = front.0 in
-    let size : length all ≡ length first + length then = ap length are ∙ length-append first then in
+    let are = take-both most head payload first_is then_is in
+    let size : length (take most (head ++ payload)) ≡ length first + length then = ap length are ∙ length-append first then in
+    let within : length first ≤ length head = omega (arith, ap length first_is, length-take most head) in
     record {
       before_end = omega (arith, size, some);
       out = out;
       out_least = omega arith;
       out_most = omega (arith, front.1.0, size);
+      one_send = λ seam is less. omega (arith, is, front.1.0, within);
       told = front.1.1 ∙ ap (λ (l : List ℕ). told_more old (sends l)) (sym (take-append-le out first then front.1.0) ∙ ap (λ (l : List ℕ). take out l) (sym are));
     }
 
--- the second of the two failed
-pub then-stopped : {old middle new : Option (List Doing)} {all : List ℕ} (first then : List ℕ) → all ≡ first ++ then → middle ≡ told_more old (sends first)
-    → IsFrontTold middle new then → 0 < length then → HasStopped all old new (length first)
-then-stopped {old} {new} {all} first then are one front some =
+-- the payload's send failed: then the head was sent to its end
+pub payload-stopped : {old middle new : Option (List Doing)} {first then : List ℕ} (most : ℕ) (head payload : List ℕ)
+    → first ≡ take most head → then ≡ take (most - length first) payload → middle ≡ told_more old (sends first)
+    → IsFrontTold middle new then → 0 < length then
+    → HasStopped (λ place. place ≡ length head) (take most (head ++ payload)) old new (length first)
+payload-stopped {old} {new} {first} {then} most head payload first_is then_is one front some =
     let out = front.0 in
-    let size : length all ≡ length first + length then = ap length are ∙ length-append first then in
+    let are = take-both most head payload first_is then_is in
+    let size : length (take most (head ++ payload)) ≡ length first + length then = ap length are ∙ length-append first then in
+    let all : length head ≤ length first =
+    omega (arith, some, ap length first_is, length-take most head, ap length then_is, length-take (most - length first) payload) in
     record {
       before_end = omega (arith, size, some);
       out = length first + out;
       out_least = omega arith;
       out_most = omega (arith, front.1.0, size);
+      one_send = λ seam is less. absurd (omega (arith, is, less, all));
       told = sends-more old first (take out then) one front.1.1
           ∙ ap (λ (l : List ℕ). told_more old (sends l)) (sym (take-append-add first then out) ∙ ap (λ (l : List ℕ). take (length first + out) l) (sym are));
     }
@@ -110,9 +120,10 @@ more-sent {pieces} {at} {next} {new} {from} most old is order first then =
 
 -- a part failed
 pub part-stopped : {pieces : List (List ℕ)} {at : ℕ} {next : List ℕ} {old middle new : Option (List Doing)}
-    {whole from to : ℕ} → IsNext pieces at next → from ≤ at → at ≤ to
-    → to ≤ length (framed_bytes pieces) → middle ≡ told_more old (sends (bytes_between pieces from at)) → HasStopped (take (to - at) next) middle new whole
-    → HasStopped (bytes_between pieces from to) old new (at - from + whole)
+    {whole from to : ℕ} {IsSeam : ℕ → Type 0} → IsNext pieces at next → from ≤ at → at ≤ to
+    → to ≤ length (framed_bytes pieces) → middle ≡ told_more old (sends (bytes_between pieces from at))
+    → HasStopped IsSeam (take (to - at) next) middle new whole
+    → HasStopped (λ place. IsBoundary pieces (from + place)) (bytes_between pieces from to) old new (at - from + whole)
 part-stopped {pieces} {at} {next} {old} {new} {whole} {from} {to} is order then within first stopped =
     let most = to - at in
     let end = at + min (length next) most in
@@ -131,6 +142,8 @@ part-stopped {pieces} {at} {next} {old} {new} {whole} {from} {to} is order then 
       out = at - from + out;
       out_least = omega (arith, stopped.out_least);
       out_most = omega (arith, stopped.out_most, size, all, order, then);
+      one_send = λ place boundary less.
+          omega (arith, is.one_piece (from + place) boundary (omega (arith, order, less)), stopped.out_most, length-take most next, order);
       told = sends-more old (bytes_between pieces from at) (take out (take most next)) first stopped.told ∙ ap (λ (l : List ℕ). told_more old (sends l)) joined;
     }
 

@@ -130,7 +130,8 @@ impl<T: Track> Pacer<T> {
     /// # Errors
     ///
     /// [`LinkFault`] only where the link's count of faults rose. What is due was raised; `sent`
-    /// counts the bytes of the sends that succeeded.
+    /// counts the bytes of the sends that succeeded. What the failed one brought out after them is
+    /// of one frame or report.
     pub fn step<K: Link>(
         &mut self,
         slot: u64,

@@ -2,7 +2,7 @@
 ghost use Rattle.std.specs.Prelude.{◌≡◌, ◌++◌, ◌+◌, ◌≤◌, ◌<◌, length, take, min, MatchResult, IfOk};
 ghost use Rattle.std.specs.Prelude.{IfErr, OnErr, OnOk};
 ghost use Rattle.vod_base.specs.Outside.{HasRisen};
-ghost use Rattle.film_frames.specs.Tracks.{framed_bytes};
+ghost use Rattle.film_frames.specs.Tracks.{IsBoundary, framed_bytes};
 ghost use Rattle.vod_base.specs.Links.{told_more, sends, IsFrontTold};
 ghost use Rattle.pacer.specs.Boundaries.{bytes_between};
 ghost use Rattle.pacer.specs.Sending.{HasStopped};
@@ -29,7 +29,8 @@ pub(crate) fn send_between<T: Track, K: Link>(
     ensures whole { OnOk result (K.told link.new ≡ told_more (K.told link.old)
         (sends (bytes_between (T.pieces track.now) from to))) }
     ensures stopped { IfErr result (λ stopped.
-        HasStopped (bytes_between (T.pieces track.now) from to) (K.told link.old) (K.told link.new)
+        HasStopped (λ place. IsBoundary (T.pieces track.now) (from + place))
+        (bytes_between (T.pieces track.now) from to) (K.told link.old) (K.told link.new)
         stopped.0) }
 {
     let mut head = [0; 52];
@@ -80,8 +81,8 @@ fn send_part<K: Link>(head: &[u8], payload: &[u8], most: u64, link: &mut K) -> R
     ensures whole { OnOk result
         (K.told link.new
         ≡ told_more (K.told link.old) (sends (take most (head.now ++ payload.now)))) }
-    ensures stopped { IfErr result (λ stopped. HasStopped (take most (head.now ++ payload.now))
-        (K.told link.old) (K.told link.new) stopped.0) }
+    ensures stopped { IfErr result (λ stopped. HasStopped (λ place. place ≡ length head.now)
+        (take most (head.now ++ payload.now)) (K.told link.old) (K.told link.new) stopped.0) }
 {
     let head = front(head, most);
     let head_bytes = head.len() as u64;
