@@ -23,10 +23,10 @@ use std::sync::Wait;
 use vod_base::Link;
 
 /// The most bytes that are heard at once.
-const MOST_HEARD: usize = 16_384;
+const MAX_HEARD: usize = 16_384;
 
 /// The most events of a connection.
-const MOST_EVENTS: u64 = 1 << 40;
+const MAX_EVENTS: u64 = 1 << 40;
 
 /// Serves a connection from its first event to its end.
 ///
@@ -99,8 +99,8 @@ fn hear_all<R: Wait, K: Link>(
     ensures course { HasCourse result (sight connection.old (K.told link.old) seat.old)
         (sight connection.new (K.told link.new) seat.new) }
 {
-    let mut into = [0; MOST_HEARD];
-    'events: for _event in 0..MOST_EVENTS {
+    let mut into = [0; MAX_HEARD];
+    'events: for _event in 0..MAX_EVENTS {
         let Ok(heard) = link.next(&mut into) else {
             return ConnEnd::LinkFault;
         };

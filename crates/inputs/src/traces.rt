@@ -13,13 +13,13 @@ use std::alloc::Global;
 use thiserror::Error;
 
 /// The most pictures of a trace.
-const MOST_PICTURES: usize = 1_000_000;
+const MAX_PICTURES: usize = 1_000_000;
 
 /// The most bytes of one picture.
-const MOST_SIZE: u64 = 1 << 32;
+const MAX_SIZE: u64 = 1 << 32;
 
 /// The most bytes of all pictures together.
-const MOST_TOTAL: u64 = 1 << 40;
+const MAX_TOTAL: u64 = 1 << 40;
 
 /// Why a text gives no trace.
 #[derive(Clone, Copy, Debug, PartialEq, Eq, Error)]
@@ -39,7 +39,7 @@ pub fn read_trace(alloc: Global, text: &[u8]) -> Result<Vec<u64>, TraceRefused>
     ensures trace { IfOk result (λ sizes. IsTraceText text.now sizes.items) }
     ensures refused { IfErr result (IsTraceRefused text.now) }
 {
-    let most = (text.len() / 2 + 1).min(MOST_PICTURES);
+    let most = (text.len() / 2 + 1).min(MAX_PICTURES);
     let Ok(mut sizes) = Vec::with_capacity(alloc, most) else {
         return Err(TraceRefused::NoMemory);
     };
@@ -100,7 +100,7 @@ fn next_place(text: &[u8], at: usize) -> Option<usize>
 }
 
 #[tactic(auto, using(crate::proofs::SmallNumbers::digit_steps))]
-/// The digits in front, as far as they write a number up to [`MOST_SIZE`] or the first above it.
+/// The digits in front, as far as they write a number up to [`MAX_SIZE`] or the first above it.
 #[inline(always)]
 fn digits_in_front(rest: &[u8]) -> Number
     ensures within { result.len ≤ length rest.now }
@@ -111,7 +111,7 @@ fn digits_in_front(rest: &[u8]) -> Number
 {
     let mut value = 0u64;
     for (place, byte) in rest.iter().enumerate() {
-        if !byte.is_ascii_digit() || value > MOST_SIZE {
+        if !byte.is_ascii_digit() || value > MAX_SIZE {
             return Number { value, len: place };
         }
         value = value * 10 + u64::from(*byte - b'0');
@@ -129,7 +129,7 @@ fn number_in_front(rest: &[u8]) -> Option<Number>
         (λ number. (number.len ≡ word_length rest.now) × WritesSize rest.now number.value) }
 {
     let number = digits_in_front(rest);
-    if number.len == 0 || number.value > MOST_SIZE {
+    if number.len == 0 || number.value > MAX_SIZE {
         return None;
     }
     if number.len < rest.len() && !is_white_space(rest[number.len]) {
@@ -148,7 +148,7 @@ fn next_size(rest: &[u8], count: usize, total: u64) -> Option<Number>
         × AddsSize (first_word rest.now) count total number.value) }
 {
     let number = number_in_front(rest)?;
-    if count < MOST_PICTURES && total + number.value <= MOST_TOTAL {
+    if count < MAX_PICTURES && total + number.value <= MAX_TOTAL {
         Some(number)
     } else {
         None

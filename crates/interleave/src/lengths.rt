@@ -9,7 +9,7 @@ use vod_base::{NumberFault, line_end, read_number, trim};
 const CONTENT_LENGTH: &[u8; 15] = b"Content-Length:";
 
 /// The most bytes of a body.
-const LONGEST_BODY: u64 = 65_536;
+const MAX_BODY: u64 = 65_536;
 
 /// The length of the body of a message with this head, or None where it is above 65,536.
 pub(crate) fn body_length(head: &[u8]) -> Option<usize>
@@ -30,7 +30,7 @@ fn length_of_value(value: &[u8]) -> Option<usize>
         × (n ≡ written_length value.now)) }
 {
     match read_number(value) {
-        Ok(length) if length <= LONGEST_BODY => Some(length as usize),
+        Ok(length) if length <= MAX_BODY => Some(length as usize),
         Ok(_) | Err(NumberFault::TooLarge) => None,
         Err(_) => Some(0),
     }

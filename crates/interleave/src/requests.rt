@@ -19,7 +19,7 @@ pub(crate) enum Known {
 }
 
 /// The most bytes of a head, with its empty line.
-const LONGEST_HEAD: usize = 16_384;
+const MAX_HEAD: usize = 16_384;
 
 /// Learns what the waiting bytes tell of the request in front.
 pub(crate) fn learn(bytes: &[u8], known: Known) -> Result<Known, DemuxFault>
@@ -30,10 +30,10 @@ pub(crate) fn learn(bytes: &[u8], known: Known) -> Result<Known, DemuxFault>
     let Known::Searched(from) = known else {
         return Ok(known);
     };
-    let to = bytes.len().min(LONGEST_HEAD);
+    let to = bytes.len().min(MAX_HEAD);
     match find_head(bytes, from, to) {
         Some(head) => length_with_head(bytes, head),
-        None if to == LONGEST_HEAD => Err(DemuxFault::HeadTooLong),
+        None if to == MAX_HEAD => Err(DemuxFault::HeadTooLong),
         None => Ok(Known::Searched(to)),
     }
 }

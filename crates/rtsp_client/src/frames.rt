@@ -9,7 +9,7 @@ use mpeg_scan::picture_units;
 use rtp_pack::Head;
 
 /// The most pictures of a film.
-const MOST_UNITS: u128 = 4_194_304;
+const MAX_UNITS: u128 = 4_194_304;
 
 /// What the frames so far say of their film.
 #[derive(Clone, Copy)]
@@ -41,7 +41,7 @@ impl Source {
         }
         let picture_units = picture_units(payload[7] % 16);
         let units = units_until(end_ms, picture_units);
-        if units < 1 || units > MOST_UNITS {
+        if units < 1 || units > MAX_UNITS {
             return None;
         }
         Some(Source {

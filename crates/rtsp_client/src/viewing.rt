@@ -16,10 +16,10 @@ use std::alloc::Global;
 use vod_base::{Link, Sink};
 
 /// The most bytes that are heard at once.
-const MOST_HEARD: usize = 16_384;
+const MAX_HEARD: usize = 16_384;
 
 /// The most events that are heard.
-const MOST_EVENTS: u64 = 1 << 40;
+const MAX_EVENTS: u64 = 1 << 40;
 
 /// Watches a film over a link and hands its bytes on to `out`.
 ///
@@ -65,8 +65,8 @@ fn hear_all<K: Link, O: Sink>(
     ensures cause { HasCause result (K.faults link.old) (K.faults link.new) (O.faults out.old)
         (O.faults out.new) }
 {
-    let mut into = [0; MOST_HEARD];
-    'events: for _event in 0..MOST_EVENTS {
+    let mut into = [0; MAX_HEARD];
+    'events: for _event in 0..MAX_EVENTS {
         let Ok(heard) = link.next(&mut into) else {
             return WatchEnd::LinkFault;
         };

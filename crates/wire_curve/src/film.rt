@@ -16,7 +16,7 @@ use std::error::Error;
 use std::fmt;
 
 /// The most slots that a plan may have.
-const MOST_SLOTS: u64 = 1_000_000;
+const MAX_SLOTS: u64 = 1_000_000;
 
 /// When pictures are used and what the client can hold.
 ///
@@ -112,7 +112,7 @@ pub fn film_curves(alloc: Global, sizes: &[u64], timing: &Timing) -> Result<Curv
         return Err(CurveRefused::Fault(CurveFault::NoPictures));
     };
     let slots = due_slot(timing, last as u64) + 1;
-    if slots > MOST_SLOTS {
+    if slots > MAX_SLOTS {
         return Err(CurveRefused::Fault(CurveFault::TooManySlots { slots }));
     }
     let uses = uses_of_slots(alloc, sizes, timing, slots as usize)?;

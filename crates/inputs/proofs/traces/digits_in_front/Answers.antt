@@ -12,5 +12,5 @@ loop-place-preserved c =
     record {
       value = omega (arith, more.0, more.1, c.loop-place.invariant.value, c.from.ensures);
       digits = digits_more text i c.loop-place-test.true c.loop-place.invariant.digits digit;
-      small = omega (arith, more.1, more.2, c.if-value-gt-MOST_SIZE.false, c.from.ensures);
+      small = omega (arith, more.1, more.2, c.if-value-gt-MAX_SIZE.false, c.from.ensures);
     }

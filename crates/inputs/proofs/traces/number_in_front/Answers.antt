@@ -2,7 +2,7 @@ use Rattle.std.proofs.Common.{◌≡◌, ◌<◌, length, arith, sym, ◌∙◌,
 use Rattle.inputs.specs.Traces.{is_white_space}
 use Rattle.inputs.proofs.Words.{DigitsInFront, no_digits, not_whole, too_large, whole_word}
 use Rattle.inputs.proofs.traces.number_in_front.Goals as goal
-use Rattle.inputs.proofs.traces.number_in_front.Goals.{then-number-eq0-via-then-number-eq0, then-number-eq0-via-else-number-eq0+then-number-gt-MOST_SIZE}
+use Rattle.inputs.proofs.traces.number_in_front.Goals.{then-number-eq0-via-then-number-eq0, then-number-eq0-via-else-number-eq0+then-number-gt-MAX_SIZE}
 use Rattle.inputs.proofs.traces.number_in_front.Goals.{else-number-rest-via-then-number-rest+else-not-is_blank, else-number-rest-via-else-number-rest}
 
 pub returns-then-number-eq0 : goal.returns-then-number-eq0
@@ -13,8 +13,8 @@ returns-then-number-eq0 c = λ size written.
     elim c.then-number-eq0.branch [
       | then-number-eq0-via-then-number-eq0 w ↦
           no_digits front (omega (arith, w.if-number-eq0.true)) read.ends written
-      | then-number-eq0-via-else-number-eq0+then-number-gt-MOST_SIZE w ↦
-          too_large front read.within (omega (arith, w.if-number-gt-MOST_SIZE.true)) written
+      | then-number-eq0-via-else-number-eq0+then-number-gt-MAX_SIZE w ↦
+          too_large front read.within (omega (arith, w.if-number-gt-MAX_SIZE.true)) written
     ]
 
 pub returns-then-not-is_blank : goal.returns-then-not-is_blank
@@ -34,4 +34,4 @@ returns c =
       | else-number-rest-via-then-number-rest+else-not-is_blank w ↦ sym w.is_white_space.ensures ∙ w.if-not-is_blank.false
       | else-number-rest-via-else-number-rest w ↦ absurd (omega (arith, w.if-number-rest.false, inside))
     ] in
-    whole_word front (omega (arith, c.if-number-eq0.false)) read.within (omega (arith, c.if-number-gt-MOST_SIZE.false)) ends
+    whole_word front (omega (arith, c.if-number-eq0.false)) read.within (omega (arith, c.if-number-gt-MAX_SIZE.false)) ends
