@@ -35,7 +35,7 @@ pub fn run_between(film: &Film, from: u128, to: Option<u128>) -> Option<Run>
     }
     let time = picture_time(film);
     let units = film.units.as_slice();
-    let first_unit = group_by(units, time, from)?;
+    let first_unit = last_group_by(units, time, from)?;
     let end_unit = end_of(units, time, to, first_unit);
     Some(new_run(first_unit, end_unit))
 }
@@ -116,7 +116,7 @@ fn picture_time(film: &Film) -> u64
 
 /// The last group that begins at or before a time in nanoseconds. None exactly where the units have
 /// ended then.
-fn group_by(units: &[Unit], picture_units: u64, time: u128) -> Option<usize>
+fn last_group_by(units: &[Unit], picture_units: u64, time: u128) -> Option<usize>
     requires few { length units.now ≤ 4194304 }
     requires some { 1 ≤ picture_units }
     requires fits { picture_units ≤ 360000 }

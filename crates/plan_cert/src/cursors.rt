@@ -38,7 +38,7 @@ impl PlanCursor {
     {
         PlanCursor {
             plan,
-            passed: Passed::none(),
+            passed: Passed::new(),
         }
     }
 

@@ -102,7 +102,7 @@ impl Plan {
     pub fn sum_at(&self, slot: u64) -> u64
         ensures { result ≡ sum_through self.now slot }
     {
-        sum_after(self.segments.as_slice(), &mut Passed::none(), slot)
+        sum_after(self.segments.as_slice(), &mut Passed::new(), slot)
     }
 
     /// The bytes that it sends in this slot; 0 past its end. One pass over the segments, and none
@@ -110,7 +110,7 @@ impl Plan {
     pub fn slot_bytes(&self, slot: u64) -> u64
         ensures { result ≡ slice_index (plan_slots self.now) slot }
     {
-        slot_after(self.segments.as_slice(), &mut Passed::none(), slot)
+        slot_after(self.segments.as_slice(), &mut Passed::new(), slot)
     }
 
     /// Another plan of the same segments.

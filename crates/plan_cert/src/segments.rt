@@ -39,7 +39,7 @@ pub(crate) struct Passed {
 
 impl Passed {
     /// No segments.
-    pub(crate) fn none() -> Passed
+    pub(crate) fn new() -> Passed
         ensures segments { result.segments ≡ 0 }
         ensures slots { result.slots ≡ 0 }
         ensures bytes { result.bytes ≡ 0 }
@@ -63,7 +63,7 @@ pub(crate) fn place_after(segments: &[Segment], passed: &mut Passed, slot: u64) 
         (λ place. IsPlace segments.now slot place.segment place.passed place.before) }
 {
     if slot < passed.slots {
-        *passed = Passed::none();
+        *passed = Passed::new();
     }
     while passed.segments < segments.len() {
         let segment = segments[passed.segments];

@@ -164,8 +164,8 @@ impl Ring {
         ensures settled { self.new.stale ≡ None }
         ensures empty { (t : ℕ) → total_of self.new t ≡ 0 }
     {
-        empty(&mut self.places);
-        empty(&mut self.tops);
+        fill_with_zeros(&mut self.places);
+        fill_with_zeros(&mut self.tops);
         self.stale = None;
         self.first = now;
     }
@@ -189,7 +189,7 @@ impl Ring {
 }
 
 /// The greatest of some numbers.
-fn greatest(numbers: &[u64]) -> u64
+fn greatest_of(numbers: &[u64]) -> u64
     requires { 0 < length numbers.now }
     ensures { IsGreatest numbers.now result }
 {
@@ -209,7 +209,7 @@ fn settle_block(places: &[u64], tops: &mut Vec<u64>, stale: Option<usize>)
 {
     if let Some(block) = stale {
         let from = block * BLOCK as usize;
-        tops[block] = greatest(&places[from..from + BLOCK as usize]);
+        tops[block] = greatest_of(&places[from..from + BLOCK as usize]);
     }
 }
 
@@ -235,7 +235,7 @@ fn zeros(alloc: Global, count: usize) -> Result<Vec<u64>, NoMemory>
 }
 
 /// Makes all numbers 0.
-fn empty(numbers: &mut Vec<u64>)
+fn fill_with_zeros(numbers: &mut Vec<u64>)
     ensures { AreZeros numbers.new.items (length numbers.old.items) }
 {
     numbers.fill(0);

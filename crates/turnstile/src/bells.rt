@@ -20,7 +20,7 @@ impl Bells {
     }
 
     /// The bell at which a pass with this ticket sleeps.
-    pub(crate) fn of(&self, ticket: u64) -> &EventCount {
+    pub(crate) fn bell_of(&self, ticket: u64) -> &EventCount {
         &self.bells[(ticket % BELLS) as usize]
     }
 }

@@ -35,7 +35,7 @@ pub(crate) fn take<B: Kept, R: Wait>(
     ensures terms { B.terms result.value ≡ place.me.0.terms }
 {
     let ticket = draw(top, &mut place);
-    wait(rt, top, bells.of(ticket), &mut place, ticket);
+    wait(rt, top, bells.bell_of(ticket), &mut place, ticket);
     let slot = top.exchange(&mut place, VALUE, None);
     let Some(value) = slot else { unreachable!() };
     Turn::begin(place, value)

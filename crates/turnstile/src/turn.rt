@@ -77,7 +77,7 @@ impl<B: Kept> Turn<B> {
         let None = empty else { unreachable!() };
         settle(top, &mut seat, grown);
         let served = give_back(top, &mut seat);
-        bells.of(served.wrapping_add(1)).notify_all();
+        bells.bell_of(served.wrapping_add(1)).notify_all();
         seat
     }
 

@@ -7,5 +7,5 @@ pub returns-in-Some : goal.returns-in-Some
 returns-in-Some c =
     let b = c.in-Some.block in
     let width : b * 1024 + 1024 - b * 1024 ≡ 1024 = omega arith in
-    let P : ℕ → Type 0 = λ n. IsGreatest (take n (drop (b * 1024) c.args.places.now)) c.greatest.result in
-    topped-settle c.requires c.in-Some.is (subst P width c.greatest.ensures)
+    let P : ℕ → Type 0 = λ n. IsGreatest (take n (drop (b * 1024) c.args.places.now)) c.greatest_of.result in
+    topped-settle c.requires c.in-Some.is (subst P width c.greatest_of.ensures)

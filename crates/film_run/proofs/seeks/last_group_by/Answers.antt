@@ -1,6 +1,6 @@
 use Rattle.std.proofs.Common.{◌*◌, length, arith}
 use Rattle.film_run.proofs.SeekLaws.{begins-small, group-by}
-use Rattle.film_run.proofs.seeks.group_by.Goals as goal
+use Rattle.film_run.proofs.seeks.last_group_by.Goals as goal
 
 pub returns-then-units-unit_time-clause-found : goal.returns-then-units-unit_time-clause-found
 returns-then-units-unit_time-clause-found c =
