@@ -1,16 +1,15 @@
 -- Words with a meaning have the form of their command.
-use Rattle.std.proofs.Common.{◌≡◌, ℕ, ◌+◌, ◌^◌, ◌-◌, ◌<◌, ◌≤◌, ◌&&◌, ◌||◌, ◌==◌, All, List, [], ◌∷◌, ◌++◌, length, sym, ap, ◌∙◌, arith, Option, Some, None, Bool, true, false, refl, codes, if◌then◌else◌, nat_le, nat_lt, get_or, not, inl, inr, zero, suc}
-use Rattle.std.specs.List.{after_first, before_first, list_all, list_any, position_or_len}
+use Rattle.std.proofs.Common.{◌≡◌, ℕ, ◌+◌, ◌^◌, ◌-◌, ◌<◌, ◌≤◌, ◌&&◌, ◌==◌, All, List, [], ◌∷◌, ◌++◌, length, sym, ap, ◌∙◌, arith, Option, Some, None, Bool, true, false, refl, codes, if◌then◌else◌, nat_lt, get_or, inl, inr}
+use Rattle.std.specs.List.{after_first, before_first, list_all, position_or_len}
 use Rattle.std.specs.Option.{is_some, option_and_then}
 use Rattle.std.specs.Prelude.{option_map}
 use Rattle.std.specs.Str.{bytes_eq}
-use Rattle.std.proofs.lemmas.Bool.{and_parts, cases_Bool, cond-false, cond-true, eqb-true, leb-true, ltb-true}
+use Rattle.std.proofs.lemmas.Bool.{and_parts, cases_Bool, cond-false, cond-true, eqb-true, ltb-true}
 use Rattle.std.proofs.lemmas.List.Elements.{All-cons, All-nil}
 use Rattle.std.proofs.lemmas.List.Folds.{Any-from_list_any}
 use Rattle.std.proofs.lemmas.List.Sums.{passes_at_first, split_at_first}
 use Rattle.std.proofs.lemmas.Slice.Eq.{bytes_eq-Decides}
 use Rattle.std.proofs.lemmas.Option.{none-some}
-use Rattle.vod_base.specs.Names.{is_good_name}
 use Rattle.slot_calendar.specs.declared.profiles.CapStep.{CapStep}
 use Rattle.command_words.specs.Settings.{number_or, one_name, one_number, setting_value, values_of}
 use Rattle.command_words.specs.Capacities.{one_capacity}
@@ -18,22 +17,27 @@ use Rattle.command_words.specs.Keys.{Made, film_given, cert_given, script_given,
 use Rattle.command_words.specs.Commands.{command_named, is_word_of, keys_of}
 use Rattle.command_words.specs.declared.commands.Command.{Command}
 use Rattle.command_words.specs.declared.commands.Command.TheVariants.{Plan, Check, Scan, Make, Day, Fair, Serve, Watch}
-use Rattle.command_words.specs.Forms.{AreApart, HasFilms, HasSource, HaveForm, HaveMeaning, IsOneSource, IsSettingOf, most_times, needed_keys, times}
-use Rattle.command_words.specs.Spelling.{word_of}
-use Rattle.command_words.specs.Words.{Source, Viewer, Pace, Listening, Order, help, version, plan_of, check_of, scan_of, day_of, fair_of, serve_of, watch_of, are_distinct, are_films, are_names, command_order, lone_order, source_of, source_given, viewer_given, script_run_given, fair_run_given, listening_given, pace_given, serving_given, watching_given, order_given, meaning}
+use Rattle.command_words.specs.Forms.{HasFilms, HasSource, HaveForm, HaveMeaning, IsOneSource, IsSettingOf, most_times, needed_keys, times}
+use Rattle.command_words.specs.Spelling.{AreApart, word_of}
+use Rattle.command_words.specs.Words.{Source, Viewer, Pace, Listening, Order, help, version, plan_of, check_of, scan_of, day_of, fair_of, serve_of, watch_of, are_films, command_order, lone_order, source_of, source_given, viewer_given, script_run_given, fair_run_given, listening_given, pace_given, serving_given, watching_given, order_given, meaning}
+use Rattle.command_words.proofs.FilmLemmas.{films_asked}
 use Rattle.command_words.proofs.MeaningLemmas.{meaning_of}
 
+-- what two readings alike found
+pub some_one : {A : Type 0} (a b : A) → Some a ≡ Some b → a ≡ b
+some_one a b e = cc
+
 -- what a step of a reading found, and the rest of it
-step_found : {A B : Type 0} (f : A → Option B) (o : Option A) (b : B) → option_and_then f o ≡ Some b → (a : A) × (o ≡ Some a) × (f a ≡ Some b)
+pub step_found : {A B : Type 0} (f : A → Option B) (o : Option A) (b : B) → option_and_then f o ≡ Some b → (a : A) × (o ≡ Some a) × (f a ≡ Some b)
 step_found f None b e = absurd (none-some _ e)
 step_found f (Some a) b e = (a, refl, e)
 
-last_step_found : {A B : Type 0} (f : A → B) (o : Option A) (b : B) → option_map f o ≡ Some b → (a : A) × (o ≡ Some a)
+pub last_step_found : {A B : Type 0} (f : A → B) (o : Option A) (b : B) → option_map f o ≡ Some b → (a : A) × (o ≡ Some a) × (f a ≡ b)
 last_step_found f None b e = absurd (none-some _ e)
-last_step_found f (Some a) b e = (a, refl)
+last_step_found f (Some a) b e = (a, refl, some_one _ _ e)
 
 -- a value that a test lets through
-test_passes : {A : Type 0} (t : Bool) (o : Option A) (a : A) → (if t then o else None) ≡ Some a → (t ≡ true) × (o ≡ Some a)
+pub test_passes : {A : Type 0} (t : Bool) (o : Option A) (a : A) → (if t then o else None) ≡ Some a → (t ≡ true) × (o ≡ Some a)
 test_passes true o a e = (refl, e)
 test_passes false o a e = absurd (none-some _ e)
 
@@ -292,44 +296,12 @@ watch_form words order e =
       source = tt;
     }
 
--- ---- no two films are alike
-or_true : (b : Bool) → (b || true) ≡ true
-or_true true = refl
-or_true false = refl
-
-any_at : (test : List ℕ → Bool) (names : List (List ℕ)) (k : ℕ) → k < length names → test (get_or names k []) ≡ true → list_any test names ≡ true
-any_at test [] k inside e = absurd (omega (arith, inside))
-any_at test (name ∷ names) zero inside e = ap (λ (b : Bool). b || list_any test names) e
-any_at test (name ∷ names) (suc k) inside e = ap (λ (b : Bool). test name || b) (any_at test names k (omega (arith, inside)) e) ∙ or_true (test name)
-
-apart : (names : List (List ℕ)) → are_distinct names ≡ true → AreApart names
-apart [] e i j order inside = absurd (omega (arith, inside))
-apart (name ∷ names) e zero zero order inside = absurd (omega (arith, order))
-apart (name ∷ names) e zero (suc j) order inside = λ same.
-    let parts = and_parts (not (list_any (bytes_eq name) names)) (are_distinct names) e in
-    let found : list_any (bytes_eq name) names ≡ true = any_at (bytes_eq name) names j (omega (arith, inside))
-    ((bytes_eq-Decides name (get_or names j [])).1 same) in
-    let bad : false ≡ true = sym (ap not found) ∙ parts.0 in cc
-apart (name ∷ names) e (suc i) zero order inside = absurd (omega (arith, order))
-apart (name ∷ names) e (suc i) (suc j) order inside =
-    apart names (and_parts (not (list_any (bytes_eq name) names)) (are_distinct names) e).1 i j (omega (arith, order)) (omega (arith, inside))
-
--- the names that a server is given: one at least, 64 at most, and no two alike
-films_named : (films : List (List ℕ)) → are_films films ≡ true → (1 ≤ length films) × (length films ≤ 64) × AreApart films
-films_named films pass =
-    let some = and_parts (nat_le 1 (length films)) (nat_le (length films) 64 && are_names films) pass in
-    let few = and_parts (nat_le (length films) 64) (are_names films) some.1 in (
-      leb-true 1 (length films) some.0,
-      leb-true (length films) 64 few.0,
-      apart films (and_parts (list_all is_good_name films) (are_distinct films) few.1).1,
-    )
-
 serve_form : (words : List (List ℕ)) (order : Order) → order_given Serve words ≡ Some order → HaveKeys Serve words
 serve_form words order e =
     let serving = last_step_found serve_of (serving_given words) order e in
     let films = values_of (codes "film") words in
     let films_pass = test_passes (are_films films) _ serving.0 serving.1 in
-    let named = films_named films films_pass.0 in
+    let named = films_asked films films_pass.0 in
     let capacity = step_found _ (capacity_given words) serving.0 films_pass.1 in
     let journal = step_found _ (journal_given words) serving.0 capacity.2 in
     let found_listening = step_found _ (listening_given words) serving.0 journal.2 in
@@ -340,7 +312,7 @@ serve_form words order e =
     record {
       few = All-cons P (codes "film")
           (codes "port" ∷ codes "bind" ∷ codes "capacity" ∷ codes "buffer" ∷ codes "startup" ∷ codes "slot" ∷ codes "journal" ∷ codes "workers" ∷ codes "connections" ∷ [])
-          named.1
+          named.few
           (All-cons P (codes "port") (codes "bind" ∷ codes "capacity" ∷ codes "buffer" ∷ codes "startup" ∷ codes "slot" ∷ codes "journal" ∷ codes "workers" ∷ codes "connections" ∷ []) listening.port
           (All-cons P (codes "bind") (codes "capacity" ∷ codes "buffer" ∷ codes "startup" ∷ codes "slot" ∷ codes "journal" ∷ codes "workers" ∷ codes "connections" ∷ []) listening.bind
           (All-cons P (codes "capacity") (codes "buffer" ∷ codes "startup" ∷ codes "slot" ∷ codes "journal" ∷ codes "workers" ∷ codes "connections" ∷ [])
@@ -351,7 +323,7 @@ serve_form words order e =
           (All-cons P (codes "journal") (codes "workers" ∷ codes "connections" ∷ []) (few_of_number 65536 2 1048576 journal.0 (values_of (codes "journal") words) journal.1)
           (All-cons P (codes "workers") (codes "connections" ∷ []) listening.workers
           (All-cons P (codes "connections") [] listening.connections (All-nil P))))))))));
-      needed = All-cons (IsGivenBy words) (codes "film") [] named.0 (All-nil (IsGivenBy words));
+      needed = All-cons (IsGivenBy words) (codes "film") [] named.some (All-nil (IsGivenBy words));
       source = tt;
     }
 
@@ -369,7 +341,7 @@ films_apart : (words : List (List ℕ)) (order : Order) → order_given Serve wo
 films_apart words order e =
     let serving = last_step_found serve_of (serving_given words) order e in
     let films = values_of (codes "film") words in
-    (films_named films (test_passes (are_films films) _ serving.0 serving.1).0).2
+    (films_asked films (test_passes (are_films films) _ serving.0 serving.1).0).apart
 
 films_form : (command : Command) (words : List (List ℕ)) (order : Order) → order_given command words ≡ Some order → HasFilms command words
 films_form Plan words order e = tt

@@ -2,8 +2,10 @@ pub mod WordLemmas
 pub mod CapacityLemmas
 pub mod SettingLemmas
 pub mod SpellingLemmas
+pub mod FilmLemmas
 pub mod ReadBack
 pub mod MeaningLemmas
 pub mod OrderLemmas
 pub mod DefaultLemmas
 pub mod FormLemmas
+pub mod AskedLemmas

@@ -1,5 +1,5 @@
 -- The words of an order mean that order.
-use Rattle.std.proofs.Common.{◌≡◌, ℕ, ◌-◌, ◌<◌, ◌^◌, List, [], ◌∷◌, map, ap, ◌∙◌, arith, Option, Some, None, Bool, true, false, refl, codes, decimal, if◌then◌else◌}
+use Rattle.std.proofs.Common.{◌≡◌, ℕ, ◌<◌, ◌^◌, List, [], ◌∷◌, map, ap, ◌∙◌, arith, Option, Some, None, Bool, true, false, refl, codes, decimal, if◌then◌else◌}
 use Rattle.std.specs.Option.{option_and_then}
 use Rattle.std.specs.Prelude.{option_map}
 use Rattle.std.specs.Str.{bytes_eq}
@@ -12,7 +12,8 @@ use Rattle.command_words.specs.Commands.{keys_of}
 use Rattle.command_words.specs.declared.commands.Command.{Command}
 use Rattle.command_words.specs.declared.commands.Command.TheVariants.{Plan, Check, Scan, Make, Day, Fair, Serve, Watch}
 use Rattle.command_words.specs.Words.{Source, trace_source, film_source, Viewer, Listening, Pace, Serving, ScriptRun, FairRun, Watching, Order, help, version, plan_of, check_of, scan_of, make_of, day_of, fair_of, serve_of, watch_of, source_of, source_given, viewer_given, check_given, make_given, script_run_given, fair_run_given, listening_given, pace_given, serving_given, watching_given, order_given, command_order, meaning}
-use Rattle.command_words.specs.Spelling.{Setting, word_of, settings_of, words_of, film_setting, server_settings, viewer_settings, made_text, bind_text, steps_text, IsWithin, IsCapacity, MayBeSource, MayBeViewer, MayBePace, MayListen, MayServe, MayRun, MayDraw, MayWatch, MayBeAsked}
+use Rattle.command_words.specs.Spelling.{Setting, word_of, settings_of, words_of, film_setting, server_settings, viewer_settings, made_text, bind_text, steps_text, IsBetween, IsCapacity, MayBeSlot, MayBeJournal, MayBeSource, MayBeViewer, MayBePace, MayListen, MayServe, MayRun, MayDraw, MayWatch, MayBeAsked}
+use Rattle.command_words.proofs.FilmLemmas.{films_back}
 use Rattle.command_words.proofs.SettingLemmas.{picked, are_plain, are_among, values_read, words_read, films_plain, films_among, picked_films, picked_past}
 use Rattle.command_words.proofs.SpellingLemmas.{key_or, key_one, name_back, capacity_back}
 
@@ -30,7 +31,7 @@ pub record GivesPace (words : List (List ℕ)) (bytes slots : ℕ) : Type 0 wher
   pub startup : startup_given words ≡ Some slots
 
 pace_read : {buffer startup : ℕ} (settings : List Setting) → are_plain settings ≡ true → picked (codes "buffer") settings ≡ decimal buffer ∷ [] →
-    picked (codes "startup") settings ≡ decimal startup ∷ [] → IsWithin 1 (2 ^ 42) buffer → IsWithin 0 10000 startup → GivesPace (given settings) buffer startup
+    picked (codes "startup") settings ≡ decimal startup ∷ [] → IsBetween 1 (2 ^ 42) buffer → IsBetween 0 10000 startup → GivesPace (given settings) buffer startup
 pace_read {buffer} {startup} settings plain b s some few =
     record {
       buffer = key_or 1048576 (values_read (codes "buffer") settings plain ∙ b) some (omega (arith, some.1));
@@ -38,12 +39,12 @@ pace_read {buffer} {startup} settings plain b s some few =
     }
 
 slot_read : (settings : List Setting) (slot : ℕ) → are_plain settings ≡ true → picked (codes "slot") settings ≡ decimal slot ∷ [] →
-    IsWithin 360 360000 slot → slot_given (given settings) ≡ Some slot
+    MayBeSlot slot → slot_given (given settings) ≡ Some slot
 slot_read settings slot plain s within =
     key_or 14400 (values_read (codes "slot") settings plain ∙ s) within (omega (arith, within.1))
 
 journal_read : (settings : List Setting) (journal : ℕ) → are_plain settings ≡ true → picked (codes "journal") settings ≡ decimal journal ∷ [] →
-    IsWithin 2 1048576 journal → journal_given (given settings) ≡ Some journal
+    MayBeJournal journal → journal_given (given settings) ≡ Some journal
 journal_read settings journal plain j within =
     key_or 65536 (values_read (codes "journal") settings plain ∙ j) within (omega (arith, within.1))
 
@@ -53,7 +54,7 @@ capacity_read settings steps plain c capacity =
     capacity_back steps (values_of (codes "capacity") (given settings)) (values_read (codes "capacity") settings plain ∙ c) capacity
 
 port_read : (settings : List Setting) (port : ℕ) → are_plain settings ≡ true → picked (codes "port") settings ≡ decimal port ∷ [] →
-    IsWithin 1 65535 port → port_given (given settings) ≡ Some port
+    IsBetween 1 65535 port → port_given (given settings) ≡ Some port
 port_read settings port plain p within =
     key_or 8554 (values_read (codes "port") settings plain ∙ p) within (omega (arith, within.1))
 
@@ -73,7 +74,7 @@ record PicksFilm (settings : List Setting) (name : List ℕ) (slot : ℕ) : Type
   slot_is : picked (codes "slot") settings ≡ decimal slot ∷ []
 
 film_read : {name : List ℕ} {slot : ℕ} (settings : List Setting) → are_plain settings ≡ true → PicksFilm settings name slot →
-    is_good_name name ≡ true → IsWithin 360 360000 slot →
+    is_good_name name ≡ true → MayBeSlot slot →
     source_given (given settings) ≡ Some (film_source name slot)
 film_read {name} {slot} settings plain picks good within =
     ap (λ (vs : List (List ℕ)). source_of vs (values_of (codes "film") (given settings)) (values_of (codes "slot") (given settings)))
@@ -89,7 +90,7 @@ viewer_is words source buffer startup from pace = rw from (rw pace.buffer (rw pa
 viewer_read : (viewer : Viewer) → MayBeViewer viewer → viewer_given (given (viewer_settings viewer)) ≡ Some viewer
 viewer_read viewer may = by viewer.source viewer.buffer viewer.startup may.source may.buffer may.startup
   where
-    by : (source : Source) (buffer startup : ℕ) → MayBeSource source → IsWithin 1 (2 ^ 42) buffer → IsWithin 0 10000 startup →
+    by : (source : Source) (buffer startup : ℕ) → MayBeSource source → IsBetween 1 (2 ^ 42) buffer → IsBetween 0 10000 startup →
         viewer_given (given (viewer_settings (record { source = source; buffer = buffer; startup = startup }))) ≡ Some (record { source = source; buffer = buffer; startup = startup })
     by (trace_source name) buffer startup good some few =
         let settings = viewer_settings (record { source = trace_source name; buffer = buffer; startup = startup }) in
@@ -103,7 +104,7 @@ check_read : (viewer : Viewer) (cert : List ℕ) → MayBeViewer viewer → is_g
     check_given (given (settings_of (check_of viewer cert))) ≡ Some (check_of viewer cert)
 check_read viewer cert may good = by viewer.source viewer.buffer viewer.startup may.source may.buffer may.startup
   where
-    by : (source : Source) (buffer startup : ℕ) → MayBeSource source → IsWithin 1 (2 ^ 42) buffer → IsWithin 0 10000 startup →
+    by : (source : Source) (buffer startup : ℕ) → MayBeSource source → IsBetween 1 (2 ^ 42) buffer → IsBetween 0 10000 startup →
         check_given (given (settings_of (check_of (record { source = source; buffer = buffer; startup = startup }) cert))) ≡ Some (check_of (record { source = source; buffer = buffer; startup = startup }) cert)
     by (trace_source name) buffer startup named some few =
         let viewer : Viewer = record { source = trace_source name; buffer = buffer; startup = startup } in
@@ -120,7 +121,7 @@ check_read viewer cert may good = by viewer.source viewer.buffer viewer.startup 
         then_is (λ (v : Viewer). option_map (λ (c : List ℕ). check_of v c) (cert_given (given settings))) (viewer_given (given settings)) viewer (Some (check_of viewer cert)) found
         (ap (option_map (λ (c : List ℕ). check_of viewer c)) (name_back cert (values_of (codes "cert") (given settings)) (values_read (codes "cert") settings refl) good))
 
-make_read : (kind : Made) (seed pictures : ℕ) → seed < 2 ^ 64 → IsWithin 1 100000 pictures →
+make_read : (kind : Made) (seed pictures : ℕ) → seed < 2 ^ 64 → IsBetween 1 100000 pictures →
     make_given (given (settings_of (make_of kind seed pictures))) ≡ Some (make_of kind seed pictures)
 make_read kind seed pictures small within =
     let settings = settings_of (make_of kind seed pictures) in
@@ -214,7 +215,7 @@ serving_read serving may =
       connections = past (codes "connections") refl;
     }) may.listening in
     let pace = whole_pace settings plain (past (codes "buffer") refl) (past (codes "startup") refl) (past (codes "slot") refl) may.pace in
-    rw films (rw may.films (rw capacity (rw journal (rw listening (rw pace refl)))))
+    rw films (rw (films_back serving.films may.films) (rw capacity (rw journal (rw listening (rw pace refl)))))
 
 -- the settings of a client are words of `plan` and `check`
 viewer_plain : (viewer : Viewer) → are_plain (viewer_settings viewer) ≡ true

@@ -19,24 +19,24 @@ use Rattle.slot_calendar.specs.declared.profiles.CapStep.{CapStep}
 use Rattle.slot_calendar.specs.Profiles.{no_step, step_at}
 use Rattle.command_words.specs.Settings.{one_name, in_range, one_number, number_or}
 use Rattle.command_words.specs.Capacities.{step_of, stands_after, may_follow, step_more, part_more, steps_of, one_capacity}
-use Rattle.command_words.specs.Spelling.{IsWithin, IsCapacity, step_text, steps_text}
+use Rattle.command_words.specs.Spelling.{IsBetween, IsCapacity, step_text, steps_text}
 use Rattle.command_words.proofs.SettingLemmas.{has_no, inside_of, before_of, after_of}
 
 own : IsNumeralModel (λ ds. list_all is_ascii_digit ds ≡ true) (digits_value 10)
 own = numerals_by_value (λ ds. list_all is_ascii_digit ds ≡ true) (search rules)
 
 -- a number in its range
-pub number_back : (least most n : ℕ) → IsWithin least most n → n < 2 ^ 64 → in_range least most (number_of (decimal n)) ≡ Some n
+pub number_back : (least most n : ℕ) → IsBetween least most n → n < 2 ^ 64 → in_range least most (number_of (decimal n)) ≡ Some n
 number_back least most n within small =
     ap (in_range least most) (decimal_read n small)
     ∙ ap (λ (b : Bool). if b && nat_le n most then Some n else None) (le-leb least n within.0)
     ∙ ap (λ (b : Bool). if b then Some n else None) (le-leb n most within.1)
 
-pub key_or : {least most n : ℕ} {values : List (List ℕ)} (default : ℕ) → values ≡ decimal n ∷ [] → IsWithin least most n → n < 2 ^ 64 →
+pub key_or : {least most n : ℕ} {values : List (List ℕ)} (default : ℕ) → values ≡ decimal n ∷ [] → IsBetween least most n → n < 2 ^ 64 →
     number_or default least most values ≡ Some n
 key_or {least} {most} {n} default given within small = ap (number_or default least most) given ∙ number_back least most n within small
 
-pub key_one : {least most n : ℕ} {values : List (List ℕ)} → values ≡ decimal n ∷ [] → IsWithin least most n → n < 2 ^ 64 →
+pub key_one : {least most n : ℕ} {values : List (List ℕ)} → values ≡ decimal n ∷ [] → IsBetween least most n → n < 2 ^ 64 →
     one_number least most values ≡ Some n
 key_one {least} {most} {n} given within small = ap (one_number least most) given ∙ number_back least most n within small
 

@@ -1,12 +1,12 @@
 -- The words of a command, each by its key: which it needs, which it may leave out, and what holds
 -- then.
-use Rattle.std.specs.Prelude.{ℕ, ◌≡◌, ◌≢◌, ◌<◌, ◌≤◌, ◌⊎◌, ◌+◌, if◌then◌else◌, All, List, [], ◌∷◌}
-use Rattle.std.specs.Prelude.{length, slice_index_or, Some, None, codes}
+use Rattle.std.specs.Prelude.{ℕ, ◌≡◌, ◌<◌, ◌≤◌, ◌⊎◌, ◌+◌, if◌then◌else◌, All, List, [], ◌∷◌}
+use Rattle.std.specs.Prelude.{length, Some, None, codes}
 use Rattle.std.specs.List.{Contains}
 use Rattle.std.specs.Str.{bytes_eq}
 use Rattle.command_words.specs.Settings.{setting_value, values_of}
 use Rattle.command_words.specs.Commands.{command_named, keys_of}
-use Rattle.command_words.specs.Spelling.{Setting, text_setting, word_of}
+use Rattle.command_words.specs.Spelling.{AreApart, Setting, text_setting, word_of}
 use Rattle.command_words.specs.declared.commands.Command.{Command}
 use Rattle.command_words.specs.declared.commands.Command.TheVariants.{Plan, Check, Scan, Make, Day}
 use Rattle.command_words.specs.declared.commands.Command.TheVariants.{Fair, Serve, Watch}
@@ -68,11 +68,6 @@ abbrev pub HasSource : Command → List (List ℕ) → Type 0
 HasSource Plan words = IsOneSource words
 HasSource Check words = IsOneSource words
 HasSource _ words = Unit {0}
-
--- no two of these are alike
-abbrev pub AreApart : List (List ℕ) → Type 0
-AreApart names = (i j : ℕ) → i < j → j < length names →
-    slice_index_or names i [] ≢ slice_index_or names j []
 
 -- the films of a server have names of their own
 abbrev pub HasFilms : Command → List (List ℕ) → Type 0

@@ -1,4 +1,4 @@
--- The ranges of the numbers in an order.
+-- What is known of an order that was read: good names of files, and numbers in their ranges.
 use Rattle.std.specs.Prelude.{◌≡◌, ◌≤◌, ◌^◌, true, codes}
 use Rattle.vod_base.specs.Names.{is_good_name}
 use Rattle.slot_calendar.specs.Profiles.{IsProfile}
@@ -18,8 +18,9 @@ use Rattle.command_words.specs.declared.orders.FairRun.{FairRun}
 use Rattle.command_words.specs.declared.orders.Watching.{Watching}
 
 abbrev pub IsSourceInRange : Source → Type 0
-IsSourceInRange (Trace name) = Unit {0}
-IsSourceInRange (Film name slot) = (360 ≤ slot) × (slot ≤ 360000)
+IsSourceInRange (Trace name) = is_good_name name.now ≡ true
+IsSourceInRange (Film name slot) =
+    (is_good_name name.now ≡ true) × (360 ≤ slot) × (slot ≤ 360000)
 
 pub record IsViewerInRange (viewer : Viewer) : Type 0 where
   pub source : IsSourceInRange viewer.source
@@ -49,6 +50,7 @@ pub record IsServingInRange (serving : Serving) : Type 0 where
   pub pace : IsPaceInRange serving.pace
 
 pub record IsScriptRunInRange (run : ScriptRun) : Type 0 where
+  pub named : is_good_name run.script.now ≡ true
   pub profile : IsProfile run.capacity
   pub some_journal : 2 ≤ run.journal
   pub journal_fits : run.journal ≤ 1048576
@@ -70,8 +72,8 @@ abbrev pub IsOrderInRange : Order → Type 0
 IsOrderInRange Help = Unit {0}
 IsOrderInRange Version = Unit {0}
 IsOrderInRange (Plan viewer) = IsViewerInRange viewer
-IsOrderInRange (Check viewer cert) = IsViewerInRange viewer
-IsOrderInRange (Scan film) = Unit {0}
+IsOrderInRange (Check viewer cert) = IsViewerInRange viewer × (is_good_name cert.now ≡ true)
+IsOrderInRange (Scan film) = is_good_name film.now ≡ true
 IsOrderInRange (Make kind seed pictures) = (1 ≤ pictures) × (pictures ≤ 100000)
 IsOrderInRange (Day run) = IsScriptRunInRange run
 IsOrderInRange (Fair run) = IsFairRunInRange run

@@ -1,6 +1,6 @@
 -- How an order is written: a command, and each of its settings with its key; and what may be asked.
-use Rattle.std.specs.Prelude.{ℕ, ◌≡◌, ◌^◌, ◌<◌, ◌≤◌, Bool, true, false, List, [], ◌∷◌, ◌++◌, All}
-use Rattle.std.specs.Prelude.{map, codes, decimal}
+use Rattle.std.specs.Prelude.{ℕ, ◌≡◌, ◌≢◌, ◌^◌, ◌<◌, ◌≤◌, Bool, true, false, List, [], ◌∷◌, ◌++◌}
+use Rattle.std.specs.Prelude.{All, length, slice_index_or, map, codes, decimal}
 use Rattle.vod_base.specs.Names.{is_good_name}
 use Rattle.slot_calendar.specs.declared.profiles.CapStep.{CapStep}
 use Rattle.slot_calendar.specs.Profiles.{IsProfile}
@@ -8,7 +8,7 @@ use Rattle.command_words.specs.Keys.{Made, made_film, made_trace, made_system}
 use Rattle.command_words.specs.Words.{Source, trace_source, film_source, Viewer, Listening, Pace}
 use Rattle.command_words.specs.Words.{Serving, ScriptRun, FairRun, Watching, Order, help, version}
 use Rattle.command_words.specs.Words.{plan_of, check_of, scan_of, make_of, day_of, fair_of}
-use Rattle.command_words.specs.Words.{serve_of, watch_of, are_films}
+use Rattle.command_words.specs.Words.{serve_of, watch_of}
 
 -- a key and the value that it is given
 pub record Setting : Type 0 where
@@ -112,53 +112,78 @@ name_of (watch_of watching) = codes "watch"
 abbrev pub words_of : Order → List (List ℕ)
 words_of order = name_of order ∷ map word_of (settings_of order)
 
--- what may be asked: good names, and each number in its range
-abbrev pub IsWithin : ℕ → ℕ → ℕ → Type 0
-IsWithin least most number = (least ≤ number) × (number ≤ most)
+-- ---- what may be asked: each file by a good name, and each number in its range
 
+abbrev pub IsBetween : ℕ → ℕ → ℕ → Type 0
+IsBetween least most number = (least ≤ number) × (number ≤ most)
+
+-- no two of these are alike
+abbrev pub AreApart : List (List ℕ) → Type 0
+AreApart names = (i j : ℕ) → i < j → j < length names →
+    slice_index_or names i [] ≢ slice_index_or names j []
+
+-- the films of a server: 1 to 64, each by a good name, no two alike
+pub record MayBeFilms (names : List (List ℕ)) : Type 0 where
+  pub some : 1 ≤ length names
+  pub few : length names ≤ 64
+  pub good : All (λ name. is_good_name name ≡ true) names
+  pub apart : AreApart names
+
+-- the capacity of a link, whose steps begin at slots up to 2^62
 abbrev pub IsCapacity : List CapStep → Type 0
 IsCapacity steps = IsProfile steps × All (λ step. step.from ≤ 2 ^ 62) steps
 
+-- the length of a slot, in 1/360,000 second
+abbrev pub MayBeSlot : ℕ → Type 0
+MayBeSlot slot = IsBetween 360 360000 slot
+
 abbrev pub MayBeSource : Source → Type 0
 MayBeSource (trace_source name) = is_good_name name ≡ true
-MayBeSource (film_source name slot) = (is_good_name name ≡ true) × IsWithin 360 360000 slot
+MayBeSource (film_source name slot) = (is_good_name name ≡ true) × MayBeSlot slot
 
+-- a buffer in bytes, and a start delay in slots
 pub record MayBeViewer (viewer : Viewer) : Type 0 where
   pub source : MayBeSource viewer.source
-  pub buffer : IsWithin 1 (2 ^ 42) viewer.buffer
-  pub startup : IsWithin 0 10000 viewer.startup
+  pub buffer : IsBetween 1 (2 ^ 42) viewer.buffer
+  pub startup : IsBetween 0 10000 viewer.startup
 
 pub record MayBePace (pace : Pace) : Type 0 where
-  pub buffer : IsWithin 1 (2 ^ 42) pace.buffer
-  pub startup : IsWithin 0 10000 pace.startup
-  pub slot : IsWithin 360 360000 pace.slot
+  pub buffer : IsBetween 1 (2 ^ 42) pace.buffer
+  pub startup : IsBetween 0 10000 pace.startup
+  pub slot : MayBeSlot pace.slot
 
+-- a port, how many workers there are, and how many connections each of them takes
 pub record MayListen (listening : Listening) : Type 0 where
-  pub port : IsWithin 1 65535 listening.port
-  pub workers : IsWithin 1 256 listening.workers
+  pub port : IsBetween 1 65535 listening.port
+  pub workers : IsBetween 1 256 listening.workers
   pub connections : listening.connections < 2 ^ 64
 
+-- a journal, by the most entries that it has
+abbrev pub MayBeJournal : ℕ → Type 0
+MayBeJournal entries = IsBetween 2 1048576 entries
+
 pub record MayServe (serving : Serving) : Type 0 where
-  pub films : are_films serving.films ≡ true
+  pub films : MayBeFilms serving.films
   pub capacity : IsCapacity serving.capacity
-  pub journal : IsWithin 2 1048576 serving.journal
+  pub journal : MayBeJournal serving.journal
   pub listening : MayListen serving.listening
   pub pace : MayBePace serving.pace
 
 pub record MayRun (run : ScriptRun) : Type 0 where
   pub script : is_good_name run.script ≡ true
   pub capacity : IsCapacity run.capacity
-  pub journal : IsWithin 2 1048576 run.journal
-  pub slot : IsWithin 360 360000 run.slot
+  pub journal : MayBeJournal run.journal
+  pub slot : MayBeSlot run.slot
 
+-- the number that a generator begins with, and how many turns are drawn
 pub record MayDraw (run : FairRun) : Type 0 where
   pub seed : run.seed < 2 ^ 64
-  pub plays : IsWithin 1 100000 run.plays
+  pub plays : IsBetween 1 100000 run.plays
   pub capacity : IsCapacity run.capacity
 
 pub record MayWatch (watching : Watching) : Type 0 where
   pub film : is_good_name watching.film ≡ true
-  pub port : IsWithin 1 65535 watching.port
+  pub port : IsBetween 1 65535 watching.port
   pub pace : MayBePace watching.pace
 
 abbrev pub MayBeAsked : Order → Type 0
@@ -167,7 +192,7 @@ MayBeAsked version = Unit {0}
 MayBeAsked (plan_of viewer) = MayBeViewer viewer
 MayBeAsked (check_of viewer cert) = MayBeViewer viewer × (is_good_name cert ≡ true)
 MayBeAsked (scan_of film) = is_good_name film ≡ true
-MayBeAsked (make_of kind seed pictures) = (seed < 2 ^ 64) × IsWithin 1 100000 pictures
+MayBeAsked (make_of kind seed pictures) = (seed < 2 ^ 64) × IsBetween 1 100000 pictures
 MayBeAsked (day_of run) = MayRun run
 MayBeAsked (fair_of run) = MayDraw run
 MayBeAsked (serve_of serving) = MayServe serving

@@ -27,14 +27,16 @@ pub(crate) fn film_given<'a>(words: &'a [String]) -> Option<&'a str>
 
 /// The certificate.
 pub(crate) fn cert_given<'a>(words: &'a [String]) -> Option<&'a str>
-    ensures { option_copied result ≡ cert_given (texts words.entry.now) }
+    ensures name { option_copied result ≡ cert_given (texts words.entry.now) }
+    ensures good { IfSome result (λ name. is_good_name name.now ≡ true) }
 {
     one_name(words, "cert")
 }
 
 /// The script.
 pub(crate) fn script_given<'a>(words: &'a [String]) -> Option<&'a str>
-    ensures { option_copied result ≡ script_given (texts words.entry.now) }
+    ensures name { option_copied result ≡ script_given (texts words.entry.now) }
+    ensures good { IfSome result (λ name. is_good_name name.now ≡ true) }
 {
     one_name(words, "script")
 }

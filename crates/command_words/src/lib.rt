@@ -16,7 +16,7 @@ mod words;
 pub use capacities::profile_of;
 pub use commands::{Command, command_named, keys_of};
 pub use films::film_named;
-pub use laws::{law_defaults, law_order_is_free, law_words_have_form};
+pub use laws::{law_defaults, law_order_is_free, law_orders_may_be_asked, law_words_have_form};
 pub use orders::{
     FairRun, Listening, Made, Order, Pace, ScriptRun, Serving, Source, Viewer, Watching,
 };
