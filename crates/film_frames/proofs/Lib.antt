@@ -15,3 +15,4 @@ pub mod ReportNumbers
 pub mod PlaceLemmas
 pub mod StandLemmas
 pub mod FrameFacts
+pub mod HeadLemmas

@@ -1,7 +1,7 @@
 -- What a track is: the pieces that it is sent by, in order, and the boundaries between them. A
 -- piece is the bytes of one frame or one report.
 use Rattle.std.specs.Prelude.{ℕ, ◌+◌, ◌-◌, ◌<◌, ◌≤◌, ◌≡◌, ◌^◌, List, [], ◌∷◌, length, take, drop}
-use Rattle.std.specs.Prelude.{map, flat_map, replicate, get_or}
+use Rattle.std.specs.Prelude.{map, flat_map, replicate, get_or, ◌≢◌, ◌↔◌}
 
 -- all bytes of pieces, one piece after another
 abbrev pub framed_bytes : List (List ℕ) → List ℕ
@@ -28,6 +28,28 @@ pub record IsNext (pieces : List (List ℕ)) (at : ℕ) (bytes : List ℕ) : Typ
   pub some : 1 ≤ length bytes
   pub bytes_are : bytes ≡ take (length bytes) (drop at (framed_bytes pieces))
   pub one_piece : (other : ℕ) → IsBoundary pieces other → at < other → at + length bytes ≤ other
+
+-- a piece that is a frame with a payload: an interleaved packet of RTP, which isn't the sender
+-- report (packet type 200) that begins a piece of RTCP. Its heads take 20 bytes: 4 of the
+-- interleaved one, 12 of the RTP header and 4 of the video header.
+pub record HasHeads (piece : List ℕ) : Type 0 where
+  pub interleaved : get_or piece 0 0 ≡ 36
+  pub no_report : get_or piece 5 0 ≢ 200
+  pub payload : 20 < length piece
+
+-- where a frame's heads end and its payload begins
+pub record IsHeadEnd (pieces : List (List ℕ)) (place : ℕ) : Type 0 where
+  pub number : ℕ
+  pub among : number < length pieces
+  pub frame : HasHeads (get_or pieces number [])
+  pub place_is : place ≡ begin_of pieces number + 20
+
+-- the next bytes from `at` on, so many of a head and then so many of a payload, are split where the
+-- heads of a frame end, and nowhere else
+abbrev pub IsSplit : List (List ℕ) → ℕ → ℕ → ℕ → Type 0
+IsSplit pieces at head payload =
+    (place : ℕ) → at < place → place < at + head + payload
+    → IsHeadEnd pieces place ↔ (place ≡ at + head)
 
 -- frames of zero bytes, of these sizes
 abbrev pub zero_frames : List ℕ → List (List ℕ)

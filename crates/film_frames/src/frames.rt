@@ -9,7 +9,7 @@ ghost use Rattle.film_frames.specs.Runs.{payload, piece_bytes};
 ghost use Rattle.film_frames.specs.Runs.{run_of, run_pieces, pieces_in};
 ghost use Rattle.film_frames.specs.Tables.{IsCutPacket, IsSound};
 ghost use Rattle.film_frames.specs.declared.pieces.Piece.TheVariants.{Frame, Report};
-ghost use Rattle.film_frames.specs.Tracks.{IsBoundary, IsNext, begin_of, framed_bytes};
+ghost use Rattle.film_frames.specs.Tracks.{IsBoundary, IsNext, IsSplit, begin_of, framed_bytes};
 
 use crate::heads::{put_frame_heads, report_block};
 use crate::pieces::Piece;
@@ -211,6 +211,8 @@ impl Track for Frames<'_> {
         ensures within { result.head_to ≤ 52 }
         ensures bytes { IsNext (run_pieces self.now) at
             (slice_range head.new result.head_from result.head_to ++ result.payload.now) }
+        ensures heads { IsSplit (run_pieces self.now) at (result.head_to - result.head_from)
+            (length result.payload.now) }
         ensures whole { IsBoundary (run_pieces self.now)
             (at + (result.head_to - result.head_from) + length result.payload.now) }
         ensures report { (unit : PictureUnit) →

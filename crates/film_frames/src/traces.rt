@@ -1,7 +1,7 @@
 //! The track of a trace, whose frames are zero bytes.
 ghost use Rattle.std.specs.Prelude.{◌≡◌, ◌++◌, ◌+◌, ◌-◌, ◌^◌, ◌<◌, ◌≤◌, List, ℕ, length, min};
 ghost use Rattle.std.specs.Prelude.{replicate, slice_range, sum, Ok};
-ghost use Rattle.film_frames.specs.Tracks.{IsBoundaryAfter, IsNext, framed_bytes, zero_frames};
+ghost use Rattle.film_frames.specs.Tracks.{IsBoundaryAfter, IsNext, IsSplit, framed_bytes, zero_frames};
 
 use crate::searches::ends_below;
 use crate::tracks::{Part, Track};
@@ -74,6 +74,8 @@ impl Track for TraceTrack {
         ensures within { result.head_to ≤ 52 }
         ensures bytes { IsNext (zero_frames self.now) at
             (slice_range _head.new result.head_from result.head_to ++ result.payload.now) }
+        ensures heads { IsSplit (zero_frames self.now) at (result.head_to - result.head_from)
+            (length result.payload.now) }
         ensures no_head { result.head_from ≡ result.head_to }
         ensures most { length result.payload.now ≤ 1024 }
         ensures full { (end : ℕ) → IsBoundaryAfter (zero_frames self.now) (at + 1) end

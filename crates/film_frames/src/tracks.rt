@@ -1,6 +1,6 @@
 //! What a track is: bytes that are sent frame by frame.
-ghost use Rattle.std.specs.Prelude.{◌≡◌, ◌<◌, ◌≤◌, ◌++◌, ℕ, List, length, slice_range};
-ghost use Rattle.film_frames.specs.Tracks.{IsBoundaryAfter, IsNext, framed_bytes};
+ghost use Rattle.std.specs.Prelude.{◌≡◌, ◌<◌, ◌≤◌, ◌-◌, ◌++◌, ℕ, List, length, slice_range};
+ghost use Rattle.film_frames.specs.Tracks.{IsBoundaryAfter, IsNext, IsSplit, framed_bytes};
 
 /// The next bytes of a track: a range of a head that was written, and then a payload.
 #[derive(Debug, Drop)]
@@ -29,11 +29,14 @@ pub trait Track {
 
     /// The bytes from `at` on: at least one, and none after the end of the piece.
     ///
-    /// They are `head[head_from..head_to]` and then the payload.
+    /// They are `head[head_from..head_to]` and then the payload. Between the two a frame's heads
+    /// end, and heads end nowhere else among these bytes.
     fn part(&self, at: u64, head: &mut [u8; 52]) -> Part<'_>
         requires { at < length (framed_bytes (pieces self.now)) }
         ensures order { result.head_from ≤ result.head_to }
         ensures within { result.head_to ≤ 52 }
         ensures bytes { IsNext (pieces self.now) at
-            (slice_range head.new result.head_from result.head_to ++ result.payload.now) };
+            (slice_range head.new result.head_from result.head_to ++ result.payload.now) }
+        ensures heads { IsSplit (pieces self.now) at (result.head_to - result.head_from)
+            (length result.payload.now) };
 }

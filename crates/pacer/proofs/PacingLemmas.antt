@@ -4,13 +4,13 @@ use Rattle.std.proofs.lemmas.List.{length-append, length-take, take-take}
 use Rattle.std.proofs.lemmas.List.Concat.{flat_map-cons}
 use Rattle.std.proofs.lemmas.List.Sums.{sum_by-take-le}
 use Rattle.std.proofs.lemmas.Bool.{cases_lt, eqb-true, eqb-false}
-use Rattle.film_frames.specs.Tracks.{framed_bytes, begin_of, IsBoundary, IsBoundaryAfter}
+use Rattle.film_frames.specs.Tracks.{framed_bytes, begin_of, IsBoundary, IsBoundaryAfter, IsHeadEnd}
 use Rattle.film_frames.proofs.TrackLemmas.{boundary-zero, begin-all}
 use Rattle.plan_cert.specs.declared.Segment.{Segment}
 use Rattle.plan_cert.specs.Plan.{IsPlan}
 use Rattle.plan_cert.specs.Slots.{plan_slots, total_bytes}
 use Rattle.vod_base.specs.Links.{Doing, told_more, sends}
-use Rattle.pacer.specs.Boundaries.{boundary_from, bytes_between}
+use Rattle.pacer.specs.Boundaries.{IsSeam, boundary_from, bytes_between}
 use Rattle.pacer.specs.Sending.{HasStopped}
 use Rattle.pacer.specs.Pacings.{IsPacing, Pacing, pacing_of, first_slots, at_slot, step_end}
 use Rattle.pacer.specs.Steps.{HasFailed}
@@ -98,7 +98,7 @@ due-of-both plan a b keep due is =
 pub step-failed : {stop : Bool} {slot : ℕ} {old : Pacing} {to whole : ℕ} {told_old told_new : Option (List Doing)}
     (pacing : Pacing)
     → pacing ≡ at_slot slot old → to ≡ step_end stop pacing → pacing.sent ≤ to
-    → HasStopped (λ place. IsBoundary pacing.pieces (pacing.before + pacing.sent + place))
+    → HasStopped (λ place. IsSeam pacing.pieces (pacing.before + pacing.sent + place))
     (bytes_between pacing.pieces (pacing.before + pacing.sent) (pacing.before + to)) told_old told_new whole
     → HasFailed stop slot old (record pacing { sent = pacing.sent + whole }) told_old told_new
 step-failed {stop} {slot} {old} {to} {whole} {told_old} pacing are end order stopped =
@@ -121,7 +121,11 @@ step-failed {stop} {slot} {old} {to} {whole} {told_old} pacing are end order sto
       one_piece = λ place boundary less.
           let same : before + place ≡ before + sent + (place - sent) = omega (arith, less) in
           let there = subst (λ (p : Pacing). IsBoundary p.pieces (p.before + place)) (sym are) boundary in
-          omega (arith, less, stopped.one_send (place - sent) (subst (IsBoundary pieces) same there) (omega (arith, less)));
+          omega (arith, less, stopped.one_send (place - sent) (inl (subst (IsBoundary pieces) same there)) (omega (arith, less)));
+      one_send = λ place head less.
+          let same : before + place ≡ before + sent + (place - sent) = omega (arith, less) in
+          let there = subst (λ (p : Pacing). IsHeadEnd p.pieces (p.before + place)) (sym are) head in
+          omega (arith, less, stopped.one_send (place - sent) (inr (subst (IsHeadEnd pieces) same there)) (omega (arith, less)));
       told = stopped.told ∙ ap (λ (l : List ℕ). told_more told_old (sends l)) cut
           ∙ ap (λ (p : Pacing). told_more told_old (sends (bytes_between p.pieces (p.before + p.sent) (p.before + (sent + stopped.out))))) are;
     }

@@ -4,9 +4,9 @@ use Rattle.std.proofs.lemmas.List.{append-nil}
 use Rattle.std.proofs.lemmas.List.{take-append-le, take-take, take_all, length-take, length-append, length-drop, drop-drop, map-append}
 use Rattle.std.proofs.Math.Seq.{take-append-add, take-add}
 use Rattle.std.proofs.lemmas.Bool.{cases_lt}
-use Rattle.film_frames.specs.Tracks.{framed_bytes, IsBoundary, IsNext}
+use Rattle.film_frames.specs.Tracks.{framed_bytes, IsNext, IsSplit}
 use Rattle.vod_base.specs.Links.{Doing, Sent, told_more, sends, IsFrontTold}
-use Rattle.pacer.specs.Boundaries.{bytes_between}
+use Rattle.pacer.specs.Boundaries.{IsSeam, bytes_between}
 use Rattle.pacer.specs.Sending.{HasStopped}
 
 told-more-twice : (told : Option (List Doing)) (a b : List Doing) → told_more (told_more told a) b ≡ told_more told (a ++ b)
@@ -119,12 +119,14 @@ more-sent {pieces} {at} {next} {new} {from} most old is order first then =
     ∙ between-join pieces from at (at + min (length next) most) order (omega arith))
 
 -- a part failed
-pub part-stopped : {pieces : List (List ℕ)} {at : ℕ} {next : List ℕ} {old middle new : Option (List Doing)}
-    {whole from to : ℕ} {IsSeam : ℕ → Type 0} → IsNext pieces at next → from ≤ at → at ≤ to
+pub part-stopped : {pieces : List (List ℕ)} {at head_bytes : ℕ} {old middle new : Option (List Doing)}
+    {whole from to : ℕ} (head payload : List ℕ) → IsNext pieces at (head ++ payload) → IsSplit pieces at head_bytes (length payload) → length head ≡ head_bytes
+    → from ≤ at → at ≤ to
     → to ≤ length (framed_bytes pieces) → middle ≡ told_more old (sends (bytes_between pieces from at))
-    → HasStopped IsSeam (take (to - at) next) middle new whole
-    → HasStopped (λ place. IsBoundary pieces (from + place)) (bytes_between pieces from to) old new (at - from + whole)
-part-stopped {pieces} {at} {next} {old} {new} {whole} {from} {to} is order then within first stopped =
+    → HasStopped (λ place. place ≡ length head) (take (to - at) (head ++ payload)) middle new whole
+    → HasStopped (λ place. IsSeam pieces (from + place)) (bytes_between pieces from to) old new (at - from + whole)
+part-stopped {pieces} {at} {head_bytes} {old} {new} {whole} {from} {to} head payload is split long order then within first stopped =
+    let next = head ++ payload in
     let most = to - at in
     let end = at + min (length next) most in
     let are = next-are pieces at most next is in
@@ -142,8 +144,18 @@ part-stopped {pieces} {at} {next} {old} {new} {whole} {from} {to} is order then 
       out = at - from + out;
       out_least = omega (arith, stopped.out_least);
       out_most = omega (arith, stopped.out_most, size, all, order, then);
-      one_send = λ place boundary less.
-          omega (arith, is.one_piece (from + place) boundary (omega (arith, order, less)), stopped.out_most, length-take most next, order);
+      one_send = λ place seam less. elim seam [
+        | inl boundary ↦
+            omega (arith, is.one_piece (from + place) boundary (omega (arith, order, less)), stopped.out_most, length-take most next, order)
+        | inr end ↦
+            elim (cases_lt (from + place) (at + head_bytes + length payload)) [
+              | inl l ↦
+                  let here : from + place ≡ at + head_bytes = (split (from + place) (omega (arith, order, less)) l).0 end in
+                  omega (arith, here, order, long, stopped.one_send (length head) refl (omega (arith, here, order, long, less)))
+              | inr g ↦
+                  omega (arith, g, order, long, length-append head payload, stopped.out_most, length-take most next)
+            ]
+      ];
       told = sends-more old (bytes_between pieces from at) (take out (take most next)) first stopped.told ∙ ap (λ (l : List ℕ). told_more old (sends l)) joined;
     }
 

@@ -1,7 +1,7 @@
 -- What a step answers, and what it leaves where a send failed.
 use Rattle.std.specs.Prelude.{ℕ, ◌≡◌, ◌+◌, ◌-◌, ◌≤◌, ◌<◌, Bool, Option, List}
 use Rattle.vod_base.specs.Links.{Doing, told_more, sends}
-use Rattle.film_frames.specs.Tracks.{IsBoundary}
+use Rattle.film_frames.specs.Tracks.{IsBoundary, IsHeadEnd}
 use Rattle.pacer.specs.declared.pacers.Stepped.{Stepped}
 use Rattle.pacer.specs.Pacings.{Pacing, at_slot, plan_bytes, step_end}
 
@@ -11,8 +11,9 @@ pub record IsStepped (old new : Pacing) (step : Stepped) : Type 0 where
   pub left : step.left ≡ new.due - new.sent
 
 -- A step that failed. What is due is that of the whole step. What was sent are whole sends, none
--- past the step's end; and the front of one more went out, which is of one frame or report. So all
--- frames and reports that went out before that one count as sent.
+-- past the step's end; and the front of one more went out, which is of one report, or of the heads
+-- or the payload of one frame. So all that went out before counts as sent: whole frames and
+-- reports, and the heads of a frame whose payload's send failed.
 pub record HasFailed (stop : Bool) (slot : ℕ) (old new : Pacing)
     (told_old told_new : Option (List Doing)) : Type 0 where
   pub state : new ≡ record (at_slot slot old) { sent = new.sent }
@@ -23,5 +24,8 @@ pub record HasFailed (stop : Bool) (slot : ℕ) (old new : Pacing)
   pub out_most : out ≤ step_end stop (at_slot slot old)
   -- what went out past `sent` ends by the next boundary past it
   pub one_piece : (place : ℕ) → IsBoundary old.pieces (old.before + place) → new.sent < place
+      → out ≤ place
+  -- and by the end of a frame's heads, where it began in them
+  pub one_send : (place : ℕ) → IsHeadEnd old.pieces (old.before + place) → new.sent < place
       → out ≤ place
   pub told : told_new ≡ told_more told_old (sends (plan_bytes old old.sent out))

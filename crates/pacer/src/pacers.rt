@@ -130,8 +130,9 @@ impl<T: Track> Pacer<T> {
     /// # Errors
     ///
     /// [`LinkFault`] only where the link's count of faults rose. What is due was raised; `sent`
-    /// counts the bytes of the sends that succeeded. What the failed one brought out after them is
-    /// of one frame or report.
+    /// counts the bytes of the sends that succeeded, also of a frame's heads where the send of its
+    /// payload failed. What the failed one brought out after them is a front of one send: of one
+    /// report, or of the heads or the payload of one frame.
     pub fn step<K: Link>(
         &mut self,
         slot: u64,

@@ -2,9 +2,9 @@
 ghost use Rattle.std.specs.Prelude.{◌≡◌, ◌++◌, ◌+◌, ◌≤◌, ◌<◌, length, take, min, MatchResult, IfOk};
 ghost use Rattle.std.specs.Prelude.{IfErr, OnErr, OnOk};
 ghost use Rattle.vod_base.specs.Outside.{HasRisen};
-ghost use Rattle.film_frames.specs.Tracks.{IsBoundary, framed_bytes};
+ghost use Rattle.film_frames.specs.Tracks.{framed_bytes};
 ghost use Rattle.vod_base.specs.Links.{told_more, sends, IsFrontTold};
-ghost use Rattle.pacer.specs.Boundaries.{bytes_between};
+ghost use Rattle.pacer.specs.Boundaries.{IsSeam, bytes_between};
 ghost use Rattle.pacer.specs.Sending.{HasStopped};
 
 use film_frames::Track;
@@ -15,7 +15,7 @@ use vod_base::{Link, LinkFault};
 pub(crate) struct Stopped(pub(crate) u64);
 
 /// Sends the bytes of a track from one place up to another, in at most two sends for each of its
-/// parts.
+/// parts: no send reaches across a boundary or from a frame's heads into its payload.
 pub(crate) fn send_between<T: Track, K: Link>(
     track: &T,
     from: u64,
@@ -29,7 +29,7 @@ pub(crate) fn send_between<T: Track, K: Link>(
     ensures whole { OnOk result (K.told link.new ≡ told_more (K.told link.old)
         (sends (bytes_between (T.pieces track.now) from to))) }
     ensures stopped { IfErr result (λ stopped.
-        HasStopped (λ place. IsBoundary (T.pieces track.now) (from + place))
+        HasStopped (λ place. IsSeam (T.pieces track.now) (from + place))
         (bytes_between (T.pieces track.now) from to) (K.told link.old) (K.told link.new)
         stopped.0) }
 {

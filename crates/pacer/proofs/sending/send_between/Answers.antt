@@ -1,5 +1,6 @@
-use Rattle.std.proofs.Common.{◌≡◌, ◌+◌, ◌-◌, ◌++◌, length, min, arith, subst, sym, ℕ}
+use Rattle.std.proofs.Common.{◌≡◌, ◌+◌, ◌-◌, ◌++◌, drop, length, min, arith, subst, sym, ℕ}
 use Rattle.std.specs.Prelude.{slice_range}
+use Rattle.std.proofs.lemmas.List.{length-drop, length-take-le}
 use Rattle.vod_base.specs.Links.{told_more, sends}
 use Rattle.pacer.specs.Boundaries.{bytes_between}
 use Rattle.pacer.proofs.SendingLemmas.{more-sent, part-stopped}
@@ -18,5 +19,10 @@ loop-at-preserved g c = record {
 
 pub returns-in-Err-clause-stopped : goal.returns-in-Err-clause-stopped
 returns-in-Err-clause-stopped g c =
-    part-stopped c.part-part.ensures.bytes
+    let part = c.part-part.ensures in
+    let its = c.part-part.result in
+    let block = c.part-part.new.head in
+    let rest = drop its.head_from block in
+    let long = length-take-le (its.head_to - its.head_from) rest (omega (arith, length-drop its.head_from block, part.within, c.part-part.array_long)) in
+    part-stopped (slice_range block its.head_from its.head_to) its.payload.now part.bytes part.heads long
     c.loop-at.invariant.least c.loop-at.invariant.most c.requires.within c.loop-at.invariant.told c.in-Err.ensures.stopped

@@ -1,6 +1,7 @@
 use Rattle.std.proofs.Common.{◌≡◌, ◌+◌, ◌-◌, ℕ, List, ◌∙◌, ap, arith, refl, get_or, length}
 use Rattle.std.proofs.lemmas.List.{length-replicate}
 use Rattle.film_frames.specs.Tracks.{zero_frames}
+use Rattle.film_frames.proofs.HeadLemmas.{zeros-split}
 use Rattle.film_frames.proofs.TrackLemmas.{boundary-found, ends-rise, found}
 use Rattle.film_frames.proofs.TraceLemmas.{ZerosTaken, trace-track, trace-total, zeros-next}
 use Rattle.film_frames.proofs.traces.TraceTrackTrack.part.Goals as goal
@@ -40,6 +41,9 @@ returns-clause-bytes c =
       zeros = c.zeros.ensures;
     } in
     zeros-next c.args.self.now are taken
+
+pub returns-clause-heads : goal.returns-clause-heads
+returns-clause-heads c = zeros-split c.args.self.now _ _ _ (omega arith)
 
 pub returns-clause-full : goal.returns-clause-full
 returns-clause-full c = λ end is.
