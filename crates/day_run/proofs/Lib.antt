@@ -24,6 +24,7 @@ pub mod Balances
 pub mod BalancedSlots
 pub mod BalancedLines
 pub mod SourceReels
+pub mod PlayableReels
 pub mod TraceReels
 pub mod SlotSums
 pub mod Drawn

@@ -5,6 +5,7 @@ use Rattle.std.proofs.lemmas.List.{length-append, take-append-le, take_at, get_o
 use Rattle.std.proofs.lemmas.List.Sums.{fold_push}
 use Rattle.day_run.specs.declared.scripts.Line.{Line}
 use Rattle.day_run.specs.declared.scripts.Line.TheVariants.{Play, Pause, Resume, Look, Slot, Offer}
+use Rattle.day_run.specs.DayLaws.{AreClients, IsClient}
 use Rattle.day_run.specs.Scripts.{AreLines, IsWish, StandsAfter, latest_slot, slot_after}
 
 pub latest-push : (lines : List Line) (line : Line) → latest_slot (lines ++ line ∷ []) ≡ slot_after (latest_slot lines) line
@@ -40,5 +41,20 @@ lines-more {n} {m} {lines} line le are stands =
             let last : get_or (lines ++ line ∷ []) i none ≡ line =
             get_or-append_right lines (line ∷ []) i i none at (omega arith) ∙ ap (λ k. get_or (line ∷ []) k none) zero-left in
             subst F (sym (take_at lines (line ∷ []) i at)) (subst G (sym last) stands)
+      ];
+    }
+
+-- the clients of one line more
+pub clients-more : {lines : List Line} (line : Line) → AreClients lines → IsClient line → AreClients (lines ++ line ∷ [])
+clients-more {lines} line are client =
+    record {
+      each = λ i none inside. elim (cases_lt i (length lines)) [
+        | inl before ↦ subst IsClient (sym (get_or_append_left lines (line ∷ []) none i before)) (are.each i none before)
+        | inr past ↦
+            let at : length lines ≡ i = omega (arith, past, inside, length-append lines (line ∷ [])) in
+            let zero-left : i - i ≡ 0 = omega arith in
+            let last : get_or (lines ++ line ∷ []) i none ≡ line =
+            get_or-append_right lines (line ∷ []) i i none at (omega arith) ∙ ap (λ k. get_or (line ∷ []) k none) zero-left in
+            subst IsClient (sym last) client
       ];
     }

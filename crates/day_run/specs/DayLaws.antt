@@ -19,9 +19,10 @@ use Rattle.film_frames.specs.Tracks.{IsBoundary}
 use Rattle.film_run.specs.Plans.{CanPlay, IsPlanOf}
 use Rattle.day_run.specs.ClientStates.{ClientState, Idle, Playing, Pausing, Paused}
 use Rattle.day_run.specs.ClientStates.{Play as ClientPlay, Rest}
-use Rattle.day_run.specs.ClientStates.{ReelContent}
+use Rattle.day_run.specs.ClientStates.{ReelContent, source_content}
 use Rattle.day_run.specs.FairDays.{Turn, at_later, made_of}
 use Rattle.day_run.specs.Prints.{fair_text, start_words, tried_text}
+use Rattle.day_run.specs.declared.reels.Source.{Source}
 use Rattle.day_run.specs.declared.scripts.Line.{Line}
 use Rattle.day_run.specs.declared.scripts.Line.TheVariants.{Play, Pause, Resume, Look, Slot, Offer}
 
@@ -42,6 +43,11 @@ pub record IsReel (reel : ReelContent) : Type 0 where
   pub sizes : IsTrace reel.sizes
   pub some_picture_units : 1 ≤ reel.picture_units
   pub picture_units_fit : reel.picture_units ≤ 360000
+
+-- a film or trace that can be played, in slots from 1/360,000 s to 1 s
+abbrev pub IsPlayable : Source → Type 0
+IsPlayable source = (slot_units : ℕ) → 1 ≤ slot_units → slot_units ≤ 360000 →
+    IsReel (source_content slot_units source)
 
 -- a link whose slots are from 1/360,000 s to 1 s, and whose reels can be played
 pub record IsLink (link : Link) : Type 0 where

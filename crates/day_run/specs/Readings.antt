@@ -21,6 +21,7 @@ use Rattle.day_run.specs.declared.reading.Draft.{Draft}
 use Rattle.day_run.specs.Lines.{is_space, lines_of_script}
 use Rattle.day_run.specs.Sayings.{saying_in}
 use Rattle.day_run.specs.Scripts.{AreLines, latest_slot}
+use Rattle.day_run.specs.DayLaws.{AreClients}
 
 -- a film or trace by its name
 pub record Name : Type 0 where
@@ -121,9 +122,11 @@ abbrev pub IsTaken : Bool → Reading → Option Reading → Type 0
 IsTaken true new read = read ≡ Some new
 IsTaken false new read = read ≡ None
 
--- its lines are those of a script with its names, and the slot is that of their last `slot` line
+-- its lines are those of a script with its names and 256 clients, and the slot is that of their last
+-- `slot` line
 pub record IsDraft (draft : Draft) : Type 0 where
   pub lines : AreLines (length draft.named.items) draft.lines.items
+  pub clients : AreClients draft.lines.items
   pub slot_is : draft.slot ≡ latest_slot draft.lines.items
 
 -- a text is this script

@@ -5,6 +5,7 @@ ghost use Rattle.admission.specs.Histories.{IsLegal};
 ghost use Rattle.report.specs.JournalTexts.{journal_text};
 ghost use Rattle.day_run.specs.Days.{IsDay, IsLine, last_journal, last_lines, link_of};
 ghost use Rattle.day_run.specs.Days.{first_moment};
+ghost use Rattle.day_run.specs.DayLaws.{IsLink};
 ghost use Rattle.day_run.specs.Runners.{HasRun, IsKept, IsPrinted, IsRunner, link_on, moment_of};
 ghost use Rattle.day_run.specs.Runners.{offer_lines, told_text};
 ghost use Rattle.day_run.specs.Scripts.{AreLines, StandsAfter, slot_after};
@@ -57,6 +58,7 @@ pub fn run_script(
         IsDay (link_of profile limit slot_units sources.now) script.now.lines.items
         day.text.items day.journal.items) }
     ensures legal { IfOk result (λ day. IsLegal profile day.journal.items) }
+    ensures link { OnOk result (IsLink (link_of profile limit slot_units sources.now)) }
 {
     let reels = reels_of(alloc, sources)?;
     let mut runner = Runner::new(alloc, &reels, profile, limit, slot_units)?;

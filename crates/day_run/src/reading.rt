@@ -4,6 +4,7 @@ ghost use Rattle.std.specs.Prelude.{◌≡◌, ◌+◌, ◌<◌, ◌≤◌, [], 
 ghost use Rattle.std.specs.Prelude.{IfSome, IfNone, OnOk, MatchOption, slice_index_or};
 ghost use Rattle.std.specs.Prelude.{string_bytes};
 ghost use Rattle.vod_base.specs.Names.{is_good_name};
+ghost use Rattle.day_run.specs.DayLaws.{AreClients, IsClient};
 ghost use Rattle.day_run.specs.Lines.{texts_at};
 ghost use Rattle.day_run.specs.Sayings.{IsInRange};
 ghost use Rattle.day_run.specs.Scripts.{AreLines, StandsAfter, latest_slot, slot_after};
@@ -34,6 +35,7 @@ pub fn read_script(alloc: Global, text: &[u8]) -> Result<Script, ScriptRefused>
     ensures refused { IfErr result (IsRefused text.now) }
     ensures lines { IfOk result (λ script.
         AreLines (length script.named.items) script.lines.items) }
+    ensures clients { IfOk result (λ script. AreClients script.lines.items) }
 {
     let mut draft = Draft::new(alloc);
     let mut words = Vec::new(alloc);
@@ -86,6 +88,8 @@ impl Draft {
     /// Takes in a line that may stand there.
     fn add(&mut self, line: Line) -> Result<(), NoMemory>
         requires lines { AreLines (length self.old.named.items) self.old.lines.items }
+        requires clients { AreClients self.old.lines.items }
+        requires client { IsClient line }
         requires stands { StandsAfter (latest_slot self.old.lines.items)
             (length self.old.named.items) line }
         requires slot { self.old.slot ≡ slot_after (latest_slot self.old.lines.items) line }
@@ -129,6 +133,7 @@ impl Draft {
         ensures stands { IfOk result (λ found. IfSome found
             (λ line. StandsAfter (latest_slot self.old.lines.items)
             (length self.new.named.items) line)) }
+        ensures client { IfOk result (λ found. IfSome found IsClient) }
         ensures slot { IfOk result (λ found. IfSome found
             (λ line. self.new.slot ≡ slot_after (latest_slot self.old.lines.items) line)) }
         ensures longer { OnOk result (length self.old.named.items ≤ length self.new.named.items) }

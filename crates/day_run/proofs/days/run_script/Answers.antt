@@ -6,6 +6,7 @@ use Rattle.day_run.specs.Runners.{HasRun, link_on, moment_of}
 use Rattle.day_run.specs.ClientStates.{ReelContent}
 use Rattle.day_run.specs.ReelContents.{reel_content}
 use Rattle.day_run.proofs.DayRuns.{day-of}
+use Rattle.day_run.proofs.PlayableReels.{link-playable}
 use Rattle.day_run.proofs.days.run_script.Goals as goal
 
 pub returns-clause-day : goal.returns-clause-day
@@ -21,3 +22,7 @@ returns-clause-day c =
     c.in_ok-runner.ensures.link ∙ ap (λ (l : List Reel). on (map (reel_content units) l)) c.deref.ensures.value ∙ ap on (c.in_ok-reels.ensures.contents units) in
     day-of same
     (subst R c.deref-2.ensures.value c.in_ok-run_lines.ensures.run) c.in_ok-run_end.ensures.text (c.into_entries.ensures.value ∙ c.in_ok-run_end.ensures.journal)
+
+pub returns-clause-link : goal.returns-clause-link
+returns-clause-link c =
+    link-playable c.args.sources.now c.requires.some_slot_units c.requires.slot_units_fit c.in_ok-reels.ensures.playable

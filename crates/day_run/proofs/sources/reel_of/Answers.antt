@@ -1,6 +1,14 @@
 use Rattle.day_run.proofs.SourceReels.{trace-reel}
+use Rattle.day_run.proofs.PlayableReels.{film-playable, trace-playable}
 use Rattle.day_run.proofs.sources.reel_of.Goals as goal
 
-pub returns-in-Trace : goal.returns-in-Trace
-returns-in-Trace c =
+pub returns-in-Film-clause-playable : goal.returns-in-Film-clause-playable
+returns-in-Film-clause-playable c =
+    film-playable c.in-Film.stored c.in-Film.is c.law_film.ensures.slowest c.law_film.ensures.fastest c.law_film.ensures.units c.law_wire_sizes.ensures.all
+
+pub returns-in-Trace-clause-content : goal.returns-in-Trace-clause-content
+returns-in-Trace-clause-content c =
     trace-reel c.trace.result c.in-Trace.is c.deref.ensures.value c.trace.ensures.content
+
+pub returns-in-Trace-clause-playable : goal.returns-in-Trace-clause-playable
+returns-in-Trace-clause-playable c = trace-playable c.trace.result c.in-Trace.is c.requires

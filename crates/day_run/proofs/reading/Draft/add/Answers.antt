@@ -1,7 +1,8 @@
 use Rattle.std.proofs.Common.{arith, sym, subst, ap, ◌∙◌, List, length}
 use Rattle.day_run.specs.declared.scripts.Line.{Line}
 use Rattle.day_run.specs.Scripts.{AreLines, latest_slot}
-use Rattle.day_run.proofs.ScriptLines.{latest-push, lines-more}
+use Rattle.day_run.specs.DayLaws.{AreClients}
+use Rattle.day_run.proofs.ScriptLines.{clients-more, latest-push, lines-more}
 use Rattle.day_run.proofs.reading.Draft.add.Goals as goal
 
 pub returns-clause-draft : goal.returns-clause-draft
@@ -11,5 +12,6 @@ returns-clause-draft c =
     let A : List Line → Type 0 = λ l. AreLines (length old.named.items) l in
     record {
       lines = subst A (sym e) (lines-more c.args.line (omega arith) c.requires.lines c.requires.stands);
+      clients = subst AreClients (sym e) (clients-more c.args.line c.requires.clients c.requires.client);
       slot_is = c.requires.slot ∙ sym (latest-push old.lines.items c.args.line) ∙ sym (ap latest_slot e);
     }
