@@ -1,7 +1,7 @@
 -- Texts that are cut at a byte, against their lines and words.
-use Rattle.std.proofs.Common.{◌≡◌, ◌≢◌, ◌<◌, ℕ, false, List, [], ◌∷◌, ◌++◌, All, length, map, arith, refl, sym, ap, ◌∙◌, ne_eqb, Bor}
+use Rattle.std.proofs.Common.{◌≡◌, ◌≢◌, ℕ, false, List, [], ◌∷◌, ◌++◌, All, map, refl, sym, ap, ◌∙◌, ne_eqb, Bor}
 use Rattle.std.proofs.lemmas.Bool.{cond-false}
-use Rattle.std.proofs.lemmas.List.{append_assoc, length-append, map-append}
+use Rattle.std.proofs.lemmas.List.{append_assoc, map-append}
 use Rattle.std.proofs.lemmas.List.Elements.{All-head, All-tail}
 use Rattle.std.specs.List.{slice_split, onto_first}
 use Rattle.vod_base.specs.Splits.{IsSplitAtFirst}
@@ -25,9 +25,6 @@ words-none (x ∷ text) none =
     let other : is_space x ≡ false = ne_eqb x 32 (All-head (λ b. b ≢ 32) x text none) in
     cond-false (is_space x) ([] ∷ slice_split is_space text) (onto_first x (slice_split is_space text)) other
     ∙ ap (onto_first x) (words-none text (All-tail (λ b. b ≢ 32) x text none))
-
-pub cut-shorter : (c : ℕ) (text front after : List ℕ) → IsSplitAtFirst c text front after → length after < length text
-cut-shorter c text front after cut = omega (arith, ap length cut.parts, length-append front (c ∷ after))
 
 -- a line, LF and more lines
 pub script-line : (line after : List ℕ) → All (λ b. b ≢ 10) line → lines_of_script (line ++ 10 ∷ after) ≡ without_return line ∷ lines_of_script after

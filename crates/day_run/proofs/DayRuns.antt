@@ -1,14 +1,12 @@
 -- Lines of a script, one after the other.
-use Rattle.std.proofs.Common.{◌≡◌, ◌+◌, ℕ, suc, List, [], ◌∷◌, ◌++◌, length, take, drop, get_or, refl, sym, ap, subst, ◌∙◌}
+use Rattle.std.proofs.Common.{◌≡◌, ◌+◌, ℕ, suc, List, [], ◌∷◌, ◌++◌, length, take, get_or, refl, sym, ap, subst, ◌∙◌}
 use Rattle.std.specs.Prelude.{flat_map}
 use Rattle.std.proofs.lemmas.Grind.{flat_map-append}
-use Rattle.std.proofs.lemmas.List.{append-nil, append_assoc, take_more}
+use Rattle.std.proofs.lemmas.List.{append-nil, take_more}
 use Rattle.admission.specs.declared.entries.Entry.{Entry}
 use Rattle.day_run.specs.declared.scripts.Line.{Line}
-use Rattle.report.specs.JournalTexts.{journal_text}
-use Rattle.day_run.specs.Days.{AreRun, IsDay, IsLine, Link, Moment, halts_at, last_journal, last_lines, first_moment}
+use Rattle.day_run.specs.Days.{AreRun, IsDay, IsLine, Link, Moment, last_journal, last_lines, first_moment}
 use Rattle.day_run.specs.Runners.{HasRun, IsPrinted}
-use Rattle.day_run.proofs.LineSteps.{more-entries}
 use Rattle.day_run.proofs.Takings.{Place}
 
 -- the last line, after the others
@@ -53,20 +51,6 @@ run-next {link} {here} {before} {after} {old} {new} lines place same run printed
     subst L (sym (take_more lines i none inside)) (run-push (get_or lines i none) run (subst P same printed))
   where
     open place use {index as i, none, inside}
-
--- the halts of a slot are those that were noted from a place on
-pub record HaltsNoted (old : Moment) (slot from : ℕ) (ys : List Entry) : Type 0 where
-  pub from_is : from ≡ length old.entries
-  pub entries_are : ys ≡ old.entries ++ halts_at old slot
-
--- the text of a slot
-pub slot-printed : {old : Moment} {slot from : ℕ} {ys : List Entry} {middle after : List ℕ} (before sent-text : List ℕ)
-    → HaltsNoted old slot from ys → middle ≡ before ++ sent-text → after ≡ middle ++ journal_text from (drop from ys)
-    → after ≡ before ++ (sent-text ++ journal_text (length old.entries) (halts_at old slot))
-slot-printed {old} {slot} {from} {ys} before sent-text noted m a =
-    a ∙ ap (λ l. l ++ journal_text from (drop from ys)) m ∙ ap (λ n. (before ++ sent-text) ++ journal_text n (drop n ys)) noted.from_is
-    ∙ ap (λ es. (before ++ sent-text) ++ journal_text (length old.entries) es) (more-entries old.entries ys (halts_at old slot) noted.entries_are)
-    ∙ append_assoc before sent-text (journal_text (length old.entries) (halts_at old slot))
 
 -- a whole day
 pub day-of : {link here : Link} {lines : List Line} {text whole : List ℕ} {m : Moment} {journal : List Entry} → here ≡ link → HasRun here lines text m

@@ -1,17 +1,12 @@
 -- Traces that are drawn one after the other.
-use Rattle.std.proofs.Common.{◌≡◌, ◌+◌, ◌%◌, ℕ, List, [], ◌∷◌, ◌++◌, map, take, get_or, add-one, arith, refl, sym, ap, ◌∙◌}
+use Rattle.std.proofs.Common.{◌≡◌, ◌+◌, ◌%◌, ℕ, List, [], ◌∷◌, ◌++◌, add-one, arith, refl, sym, ap, ◌∙◌}
 use Rattle.std.specs.Global.{Vec}
-use Rattle.std.proofs.lemmas.List.{map-append, map_more}
+use Rattle.std.proofs.lemmas.List.{map-append}
 use Rattle.std.proofs.lemmas.List.FromFn.{map-range_with_len_more}
 use Rattle.film_make.specs.Generator.{after}
 use Rattle.film_make.specs.Trace.{sizes_of}
-use Rattle.day_run.specs.declared.reels.Reel.{Reel}
 use Rattle.day_run.specs.FairDays.{after_traces, picture_count, trace_drawn, traces_drawn}
 use Rattle.day_run.specs.Fairs.{sizes_in}
-use Rattle.day_run.specs.ClientStates.{trace_content}
-use Rattle.day_run.specs.ReelContents.{reel_content}
-use Rattle.day_run.proofs.SourceReels.{NextReel}
-use Rattle.day_run.proofs.Takings.{Place}
 
 -- the trace that is drawn by the next words
 pub record TraceDrawn (left : ℕ → ℕ) (pictures : ℕ) (words : ℕ → ℕ) (k : ℕ) (trace : Vec ℕ) : Type 0 where
@@ -43,17 +38,3 @@ left-next {left} {next} {pictures} words k l m p n =
 pub left-none : (words : ℕ → ℕ) → words ≡ after_traces 0 words
 unfolding after_traces
 left-none words = refl
-
--- one reel more
-pub reels-next : {more : List Reel} (next : NextReel more) (traces : List (Vec ℕ)) (place : Place traces)
-    → reel_content 14400 next.reel ≡ trace_content 14400 (get_or traces place.index place.none).items
-    → map (reel_content 14400) next.reels ≡ map (trace_content 14400) (sizes_in (take place.index traces))
-    → map (reel_content 14400) more ≡ map (trace_content 14400) (sizes_in (take (place.index + 1) traces))
-reels-next next traces place own before =
-    ap (map (reel_content 14400)) m ∙ map-append (reel_content 14400) reels (reel ∷ []) ∙ ap (λ ts. ts ++ reel_content 14400 reel ∷ []) before
-    ∙ ap (λ t. map (trace_content 14400) (sizes_in (take i traces)) ++ t ∷ []) own
-    ∙ sym (map-append (trace_content 14400) (sizes_in (take i traces)) ((get_or traces i none).items ∷ []))
-    ∙ ap (map (trace_content 14400)) (sym (map_more (λ (v : Vec ℕ). v.items) traces i none inside))
-  where
-    open next use {reels, reel, after_are as m}
-    open place use {index as i, none, inside}

@@ -1,8 +1,7 @@
 -- Turns of a large day, one after the other.
-use Rattle.std.proofs.Common.{◌≡◌, ◌<◌, ◌+◌, ◌-◌, ◌^◌, ◌%◌, ◌==◌, ℕ, max, Bool, false, cond, List, [], ◌∷◌, ◌++◌, length, map, get_or, arith, Result, Ok, Err, IfOk, refl, sym, ap, subst, ◌∙◌, inl, inr}
+use Rattle.std.proofs.Common.{◌≡◌, ◌<◌, ◌+◌, ◌-◌, ◌^◌, ◌%◌, ℕ, max, Bool, cond, List, [], ◌∷◌, ◌++◌, length, map, get_or, arith, Result, Ok, Err, IfOk, refl, sym, ap, subst, ◌∙◌}
 use Rattle.std.specs.Prelude.{OnOk, count_by, sum_by}
 use Rattle.std.specs.List.{fold, range_with_len}
-use Rattle.std.proofs.lemmas.Bool.{cases_Bool, cond-false, eqb-true}
 use Rattle.std.proofs.lemmas.List.{length-append, map-append}
 use Rattle.std.proofs.lemmas.List.Sums.{sum_by_push}
 use Rattle.film_make.proofs.GeneratorLemmas.{after-after, after-at, after-zero}
@@ -16,7 +15,7 @@ use Rattle.day_run.specs.declared.counts.Made.{Made}
 use Rattle.day_run.specs.declared.clients.Client.{Client}
 use Rattle.day_run.specs.Clients.{state_of}
 use Rattle.day_run.specs.Balanced.{IsReady}
-use Rattle.day_run.specs.Days.{Link, Moment, at_slot, last_journal, IsPlayLine, first_moment, rest_at, state_at}
+use Rattle.day_run.specs.Days.{Link, Moment, last_journal, IsPlayLine, first_moment, rest_at, state_at}
 use Rattle.day_run.specs.FairDays.{AreTurns, IsDone, IsTurn, Turn, after_traces, after_turn, at_later, counts_of, fair_link, IsFair, is_full_line, is_refused, made_of, turn_booked, turn_peak, turn_sent, words_for}
 use Rattle.day_run.specs.Fairs.{HasCome, HasTurned, after_turns, with_slot, with_turn}
 use Rattle.day_run.specs.Prints.{fair_text}
@@ -39,20 +38,6 @@ done-ready {c} {state = Idle} step words own is ready =
 done-ready {c} {state = Playing play} step words own is ready = pause-ready step (record { client = own.client; at = refl }) is ready
 done-ready {c} {state = Pausing stop rest} step words own is ready = ready-kept step.old step.new is.kept ready
 done-ready {c} {state = Paused rest} step words own is ready = resume-ready step (record { client = own.client; at = refl }) is ready
-
--- ---- a slot, or none
-pub later-none : (old new : Moment) (later : ℕ) → later ≡ 0 → new ≡ old → new ≡ at_later old later
-later-none old new later none kept =
-    let P : ℕ → Type 0 = λ n. new ≡ at_later old n in
-    subst P (sym none) kept
-
-pub later-some : (old new : Moment) (later : ℕ) → 0 < later → new ≡ at_slot old (old.heard + later) → new ≡ at_later old later
-later-some old new later some is =
-    let other : (later == 0) ≡ false = elim (cases_Bool (later == 0)) [
-      | inl same ↦ absurd (omega (arith, eqb-true later 0 same, some))
-      | inr other ↦ other
-    ] in
-    is ∙ sym (cond-false (later == 0) old (at_slot old (old.heard + later)) other)
 
 plain-counts : {c : Counts} {last s b p : ℕ} → c.last ≡ last → s ≡ 0 → b ≡ 0 → p ≡ 0
     → c ≡ record { turns = c.turns; full = c.full; last = last; sent = c.sent + s; booked = c.booked + b; peak = max c.peak p }

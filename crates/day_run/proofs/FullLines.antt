@@ -1,5 +1,5 @@
 -- Which of the texts that clients are told say that the journal is full.
-use Rattle.std.proofs.Common.{◌≡◌, ◌<◌, ◌+◌, ◌^◌, ℕ, true, false, ◌&&◌, ◌==◌, List, [], ◌∷◌, ◌++◌, take, length, arith, refl, ap, ◌∙◌, inl, inr, append_assoc}
+use Rattle.std.proofs.Common.{◌≡◌, ◌<◌, ◌+◌, ◌^◌, ℕ, false, ◌&&◌, ◌==◌, List, [], ◌∷◌, ◌++◌, take, length, arith, refl, ap, ◌∙◌, inl, inr, append_assoc}
 use Rattle.std.specs.Prelude.{codes, decimal}
 use Rattle.std.specs.Str.{bytes_eq}
 use Rattle.std.proofs.lemmas.Bool.{cases_Bool, eqb-true}
@@ -7,14 +7,10 @@ use Rattle.std.proofs.lemmas.Fmt.{decimal_is_IsNumeral}
 use Rattle.std.proofs.lemmas.Str.Parse.{digit_from_value}
 use Rattle.std.specs.Str.Parse.{AllDigits}
 use Rattle.admission.specs.declared.entries.Entry.{Entry}
-use Rattle.admission.specs.declared.entries.Full.{Full}
-use Rattle.wire_curve.specs.declared.film.CurveFault.{CurveFault}
-use Rattle.wire_curve.specs.declared.film.CurveFault.TheVariants.{NoPictures, TooManySlots, BufferTooSmall}
 use Rattle.report.specs.EntryLines.{answer_words, command_words, entry_line}
 use Rattle.report.specs.Fields.{field}
 use Rattle.report.specs.JournalTexts.{journal_text}
 use Rattle.day_run.specs.FairDays.{is_full_line}
-use Rattle.day_run.specs.Prints.{fault_text, full_text, state_text}
 
 digit-other : (c : ℕ) → c < 58 → (c == 114) ≡ false
 digit-other c digit = elim (cases_Bool (c == 114)) [
@@ -44,14 +40,3 @@ entry-other place entry rest small =
 pub entries-other : (place : ℕ) (entries : List Entry) → place < 2 ^ 64 → is_full_line (journal_text place entries) ≡ false
 entries-other place [] small = refl
 entries-other place (e ∷ es) small = entry-other place e (journal_text (place + 1) es) small
-
-pub fault-other : (fault : CurveFault) → is_full_line (fault_text fault) ≡ false
-fault-other NoPictures = refl
-fault-other (TooManySlots slots) = refl
-fault-other (BufferTooSmall slot used least) = refl
-
-pub state-other : is_full_line state_text ≡ false
-state-other = refl
-
-pub full-told : (full : Full) → is_full_line (full_text full) ≡ true
-full-told full = refl

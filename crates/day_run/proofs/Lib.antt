@@ -6,7 +6,6 @@ pub mod ScriptLines
 pub mod Bookings
 pub mod Pausing
 pub mod DaySteps
-pub mod Idles
 pub mod Sweeps
 pub mod Timings
 pub mod LineSteps

@@ -1,9 +1,7 @@
 -- What the lines of a script make of a day.
-use Rattle.std.proofs.Common.{◌≡◌, ◌<◌, ◌+◌, ◌-◌, ℕ, true, false, List, [], ◌∷◌, ◌++◌, length, map, drop, set, replicate, Result, Ok, Err, IfOk, arith, refl, sym, ap, subst, ◌∙◌}
-use Rattle.std.specs.Prelude.{OnOk}
-use Rattle.std.proofs.lemmas.List.{append-nil, drop_at, ext_get_or, get_or-replicate, length-drop, length-map, length-take}
+use Rattle.std.proofs.Common.{◌≡◌, ◌<◌, ◌+◌, ℕ, false, List, [], ◌∷◌, ◌++◌, length, map, drop, set, replicate, Result, Ok, Err, IfOk, arith, refl, sym, ap, subst, ◌∙◌}
+use Rattle.std.proofs.lemmas.List.{append-nil, drop_at, ext_get_or, get_or-replicate, length-map}
 use Rattle.plan_cert.specs.declared.Segment.{Segment}
-use Rattle.film_run.specs.Runs.{sizes_between}
 use Rattle.admission.specs.declared.entries.Answer.{Answer}
 use Rattle.admission.specs.declared.entries.Answer.TheVariants.{Admitted, Overflow, Halted, Looked}
 use Rattle.admission.specs.declared.entries.Command.TheVariants as commands
@@ -26,7 +24,7 @@ use Rattle.day_run.specs.Clients.{AreIdle, IsPauseOf, IsQuiet, IsTimed, play_of,
 use Rattle.report.specs.JournalTexts.{journal_text}
 use Rattle.day_run.specs.Days.{IsAsked, IsFull, IsNoted, IsPauseLine, IsPlayLine, IsTold, Link, Moment, done_halt, entry_by, halt_entries, with_play}
 use Rattle.day_run.specs.Prints.{full_text, state_text}
-use Rattle.day_run.specs.Runners.{IsPrinted, told_text}
+use Rattle.day_run.specs.Runners.{told_text}
 use Rattle.day_run.specs.ClientStates.{Idle, Playing, Pausing, Paused, Rest, ClientState, after_sending, is_busy}
 use Rattle.day_run.proofs.Sweeps.{state-at, states-set}
 use Rattle.day_run.proofs.Takings.{ClientAsks}
@@ -178,13 +176,6 @@ play-line {c} {new} {text} (Playing play) free asked = cc free
 play-line {c} {new} {text} (Pausing stop left) free asked = cc free
 play-line {c} {new} {text} (Paused left) free asked = asked
 
-pub no-play : {old new : Moment} {text : List ℕ} (link : Link) (c : ℕ) (rest : Rest) (state : ClientState) → is_busy state ≡ true
-    → IsTold state_text old new text → IsPlayLine link c rest state old new text
-no-play {new} {text} link c rest Idle busy told = cc busy
-no-play {new} {text} link c rest (Playing play) busy told = told
-no-play {new} {text} link c rest (Pausing stop left) busy told = told
-no-play {new} {text} link c rest (Paused left) busy told = cc busy
-
 pub play-asked : {link : Link} {c : ℕ} {one rest : Rest} {own state : ClientState} {old new : Moment} {text : List ℕ} → one ≡ rest → own ≡ state → is_busy own ≡ false
     → IsAsked link c one old new text → IsPlayLine link c rest state old new text
 play-asked {link} {c} {one} {own} {state} {old} {new} {text} r s free asked =
@@ -199,16 +190,6 @@ pub play-ok : {one rest : Rest} {own state : ClientState} (r : Result Told NoMem
 play-ok {one} (Ok told) asks r s free asked =
     play-asked r s free asked
 play-ok {one} (Err e) asks r s free asked = tt
-
--- a line's text was printed
-pub printed : {text : List ℕ} (r : Result (Unit {0}) NoMemory) (before after : List ℕ) (Is : List ℕ → Type 0) → Is text → OnOk r (after ≡ before ++ text)
-    → OnOk r (IsPrinted before after Is)
-printed {text} (Ok u) before after Is is e = record { text = text; after_is = e; is = is }
-printed {text} (Err f) before after Is is e = tt
-
--- all of a source that has no picture
-pub none-left : (sizes : List ℕ) → length sizes ≡ 0 → length (sizes_between sizes 0 (length sizes)) ≡ 0
-none-left sizes none = omega (arith, none, length-take (length sizes - 0) (drop 0 sizes), length-drop 0 sizes)
 
 -- the halts after a sending
 pub halt_entries-sent : (slot k : ℕ) (states : List ClientState) → halt_entries (done_halt slot) k (map (after_sending slot) states) ≡ halt_entries (done_halt slot) k states

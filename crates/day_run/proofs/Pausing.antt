@@ -1,5 +1,5 @@
 -- What a pause keeps of a play.
-use Rattle.std.proofs.Common.{◌≡◌, ◌^◌, ◌<◌, ◌≤◌, ◌+◌, ◌-◌, ◌&&◌, ◌==◌, ℕ, min, false, T, List, Option, None, Some, arith, sym, ap, subst, ◌∙◌, inl, inr}
+use Rattle.std.proofs.Common.{◌≡◌, ◌<◌, ◌≤◌, ◌+◌, ◌-◌, ◌&&◌, ◌==◌, ℕ, min, false, T, List, Option, None, Some, arith, sym, ap, subst, ◌∙◌, inl, inr}
 use Rattle.std.proofs.lemmas.Bool.{cases_lt, lt-ltb}
 use Rattle.std.proofs.Math.Dec.{eqb_refl}
 use Rattle.plan_cert.specs.declared.Segment.{Segment}
@@ -10,37 +10,11 @@ use Rattle.film_frames.specs.Tracks.{IsBoundary, IsBoundaryAfter}
 use Rattle.film_run.specs.declared.runs.Run.{Run}
 use Rattle.film_run.specs.Pauses.{IsHalt, IsLeft}
 use Rattle.film_run.specs.Runs.{Fits, IsRun}
-use Rattle.pacer.specs.Pacings.{IsPacing, Pacing, first_slots, is_done, slots_through, after_step}
+use Rattle.pacer.specs.Pacings.{IsPacing, Pacing, first_slots, is_done, slots_through}
 use Rattle.day_run.specs.declared.clients.Play.{Play}
 use Rattle.day_run.specs.declared.clients.Rest.{Rest}
-use Rattle.day_run.specs.declared.clients.Stop.{Stop}
 use Rattle.day_run.specs.Clients.{IsPlaying, IsRest, IsStopping}
 use Rattle.day_run.specs.Reels.{reel_pieces, reel_sizes}
-
--- a slot was stepped, and what was due in it was sent
-pub playing-stepped : (slot : ℕ) (play : Play) (p : Pacing) → p ≡ after_step false slot play.pacer → IsPacing p → IsPlaying play → IsPlaying (record play { pacer = p })
-playing-stepped slot play p e pacing playing = record {
-  rest = playing.rest;
-  plan = playing.plan;
-  plan_is = ap (λ (q : Pacing). q.plan) e ∙ playing.plan_is;
-  pieces_are = ap (λ (q : Pacing). q.pieces) e ∙ playing.pieces_are;
-  before_is = ap (λ (q : Pacing). q.before) e ∙ playing.before_is;
-  whole = ap (λ (q : Pacing). q.keep) e ∙ playing.whole;
-  pacing = pacing;
-  all_sent = ap (λ (q : Pacing). q.sent) e ∙ sym (ap (λ (q : Pacing). q.due) e);
-}
-
-pub stopping-stepped : (slot : ℕ) (stop : Stop) (p : Pacing) → p ≡ after_step false slot stop.pacer → IsPacing p → IsStopping stop → IsStopping (record stop { pacer = p })
-stopping-stepped slot stop p e pacing stopping = record {
-  rest = stopping.rest;
-  keep_is = ap (λ (q : Pacing). q.keep) e ∙ stopping.keep_is;
-  pacing = pacing;
-  all_sent = ap (λ (q : Pacing). q.sent) e ∙ sym (ap (λ (q : Pacing). q.due) e);
-}
-
--- no more is sent in a step than a plan has
-pub few-sent : (p old : Pacing) → IsPacing p → p.sent - old.sent ≤ 2 ^ 42
-few-sent p old pacing = omega (arith, pacing.sent, pacing.due, pacing.most, pacing.plan.few_bytes)
 
 undone-apart : (p : Pacing) → is_done p ≡ false → 0 < p.passed → p.sent ≡ p.keep → ⊥
 undone-apart p undone some same =

@@ -1,5 +1,5 @@
 -- Films and traces that can be played.
-use Rattle.std.proofs.Common.{◌≡◌, ◌≤◌, ◌<◌, ◌+◌, ◌^◌, ◌∷◌, ◌++◌, [], ℕ, zero, suc, List, length, map, sum, take, get_or, Result, Ok, Err, arith, refl, sym, ap, subst, ◌∙◌, lit≤}
+use Rattle.std.proofs.Common.{◌≡◌, ◌≤◌, ◌+◌, ◌^◌, ◌∷◌, [], ℕ, zero, suc, List, length, sum, take, get_or, Result, Ok, Err, arith, sym, subst, lit≤}
 use Rattle.std.specs.Prelude.{All, OnOk}
 use Rattle.std.specs.Global.{Vec}
 use Rattle.std.proofs.lemmas.List.{length-map, take_more}

@@ -55,10 +55,6 @@ film-back : (film : Bool) → film_in (kind_text film) ≡ Some film
 film-back true = refl
 film-back false = refl
 
--- ---- words
-small-of : (n most : ℕ) → n ≤ most → most < 2 ^ 64 → n < 2 ^ 64
-small-of n most le small = omega (arith, le, small)
-
 pub in-words : (heard : ℕ) (names : List Name) (line : Line) → MayStand heard names line → IsInWords names line
 in-words heard names (Play client source buffer delay) may = record {
   client_small = omega (arith, may.client_fits);

@@ -119,10 +119,6 @@ pub record AreTimedTo (upto slot heard : ℕ) (clients : List Client) : Type 0 w
   pub past : (c : ℕ) (none : Client) → c < upto → c < length clients → IsTimed slot (get_or clients c none)
   pub later : (c : ℕ) (none : Client) → upto ≤ c → c < length clients → IsTimed heard (get_or clients c none)
 
-pub timed-none : (slot heard : ℕ) (cs : List Client) → AreTimed heard cs → AreTimedTo 0 slot heard cs
-timed-none slot heard cs timed =
-    record { past = λ c none before inside. absurd (omega (arith, before)); later = λ c none from inside. timed.each c none inside }
-
 pub timed-all : (n slot heard : ℕ) (cs : List Client) → length cs ≤ n → AreTimedTo n slot heard cs → AreTimed slot cs
 timed-all n slot heard cs most to = record { each = λ c none inside. to.past c none (omega (arith, inside, most)) inside }
 
@@ -149,10 +145,6 @@ pub record AreStepsTo (upto heard slot : ℕ) (old new : List Client) (sent : �
   pub timed : AreTimedTo upto slot heard new
   pub sent_is : sent ≡ sum_by (sent_between heard slot) (take upto (map state_of old))
   pub swept : IsSwept (after_sending slot) upto (map state_of old) (map state_of new)
-
-pub steps-none : (heard slot : ℕ) (old : List Client) → AreTimed heard old → AreStepsTo 0 heard slot old old 0
-steps-none heard slot old timed =
-    record { timed = timed-none slot heard old timed; sent_is = refl; swept = swept-none (after_sending slot) (map state_of old) }
 
 -- the place of a client in the words of a day
 pub swept-at : {f : ClientState → ClientState} {i : ℕ} (old cs : List Client) (none : Client) → i < length cs → IsSwept f i (map state_of old) (map state_of cs)
@@ -197,11 +189,6 @@ pub record AreEndedTo (f : ℕ → ClientState → List Entry) (g : ClientState 
   pub timed : AreTimed slot new
   pub entries_are : entries ≡ begun ++ halt_entries f 0 (take upto (map state_of old))
   pub swept : IsSwept g upto (map state_of old) (map state_of new)
-
-pub ended-none : (f : ℕ → ClientState → List Entry) (g : ClientState → ClientState) (slot : ℕ) (begun : List Entry) (old : List Client) → AreTimed slot old
-    → AreEndedTo f g slot 0 begun begun old old
-ended-none f g slot begun old timed =
-    record { timed = timed; entries_are = sym (append-nil begun); swept = swept-none g (map state_of old) }
 
 -- a halt is what a sweep asks for, and it is noted
 pub record SweptHalt (f : ℕ → ClientState → List Entry) (g : ClientState → ClientState) (slot i : ℕ) (xs ys : List Entry)
@@ -249,13 +236,6 @@ ended-next {f} {g} {slot} {i} {begun} {ys} {old} {cs} none (Some halt) inside ha
           subst S (sym (states-set cs i clients.Idle))
           (swept-set within (sym (ap g at ∙ halts.goes timed)) to.swept);
     })
-
-pub ended-entries : {f : ℕ → ClientState → List Entry} {g : ClientState → ClientState} {slot n : ℕ} {begun entries : List Entry}
-    {old new : List Client} → length new ≤ n
-    → AreEndedTo f g slot n begun entries old new → entries ≡ begun ++ halt_entries f 0 (map state_of old)
-ended-entries {f} {slot} {n} {begun} {old} {new} most to =
-    let few : length (map state_of old) ≤ n = omega (arith, most, to.swept.count, length-map new state_of) in
-    to.entries_are ∙ ap (λ l. begun ++ halt_entries f 0 l) (take_all n (map state_of old) few)
 
 pub ended-states : {f : ℕ → ClientState → List Entry} {g : ClientState → ClientState} {slot n : ℕ} {begun entries : List Entry}
     {old new : List Client} → length new ≤ n

@@ -1,20 +1,16 @@
 -- What a client's pacer has sent, in the words of a day.
-use Rattle.std.proofs.Common.{◌≡◌, ◌<◌, ◌≤◌, ◌+◌, ◌-◌, ◌==◌, ◌&&◌, ℕ, min, nat_lt, nat_le, true, false, Bool, cond, List, [], Option, Some, None, arith, refl, sym, ap, subst, ◌∙◌, inl, inr}
+use Rattle.std.proofs.Common.{◌≡◌, ◌<◌, ◌≤◌, ◌+◌, ◌-◌, ◌==◌, ℕ, min, nat_lt, nat_le, true, false, Bool, cond, List, [], Option, Some, None, arith, refl, sym, ap, subst, ◌∙◌, inl, inr}
 use Rattle.std.proofs.lemmas.Bool.{cases_lt, cond-true, cond-false, lt-ltb}
-use Rattle.plan_cert.specs.Slots.{total_bytes}
-use Rattle.pacer.specs.Pacings.{IsPacing, Pacing, first_slots, after_step, slots_through, is_done as is_pacing_done}
+use Rattle.pacer.specs.Pacings.{IsPacing, Pacing, first_slots, slots_through}
 use Rattle.film_frames.specs.Tracks.{IsBoundaryAfter}
 use Rattle.film_run.specs.declared.runs.Run.{Run}
 use Rattle.film_run.specs.Pauses.{IsLeft}
 use Rattle.slot_calendar.specs.Plays.{Play as Booked, cut_play}
-use Rattle.day_run.specs.declared.clients.Client.TheVariants as clients
 use Rattle.day_run.specs.declared.clients.Play.{Play}
-use Rattle.day_run.specs.declared.clients.Stop.{Stop}
-use Rattle.day_run.specs.declared.clients.Halt.{Halt}
-use Rattle.day_run.specs.Clients.{IsPlaying, IsStopping, IsStep, halts_of, play_of, rest_of, state_of}
-use Rattle.day_run.specs.Days.{done_halt, open_halt, halt_by}
+use Rattle.day_run.specs.Clients.{IsPlaying, play_of, rest_of}
+use Rattle.day_run.specs.Days.{done_halt}
 use Rattle.day_run.specs.Reels.{reel_pieces, reel_sizes}
-use Rattle.day_run.specs.ClientStates.{Idle, Playing, Pausing, Paused, IsPause, Rest, ClientState, after_play, after_sending, booking_of, growth, is_done, pausing_state, sent_between, sent_by, slot_sent}
+use Rattle.day_run.specs.ClientStates.{Idle, Playing, Pausing, Paused, IsPause, Rest, ClientState, after_sending, booking_of, pausing_state, sent_by, slot_sent}
 
 -- what a pacer sends, as a booking
 abbrev pub paced : Pacing → Booked
@@ -24,96 +20,15 @@ paced p = cut_play p.start p.plan p.keep
 pub due-at : (p : Pacing) (heard : ℕ) → IsPacing p → p.passed ≡ heard + 1 - p.start → p.due ≡ sent_by (paced p) heard
 due-at p heard pacing timed = pacing.due ∙ ap (λ n. min (first_slots p.plan n) p.keep) timed
 
-pub passed-step : {q : Pacing} (p : Pacing) (heard slot : ℕ) → q ≡ after_step false slot p → heard ≤ slot → p.passed ≡ heard + 1 - p.start → q.passed ≡ slot + 1 - q.start
-passed-step p heard slot e le timed =
-    omega (arith, ap (λ (x : Pacing). x.passed) e, ap (λ (x : Pacing). x.start) e, timed, le)
-
-pub paced-step : (p q : Pacing) (slot : ℕ) → q ≡ after_step false slot p → paced q ≡ paced p
-paced-step p q slot e = ap paced e
-
--- a pacer comes from one heard slot to another
-pub record PacerStep (p q : Pacing) (heard slot : ℕ) : Type 0 where
-  pub new_is : q ≡ after_step false slot p
-  pub pacing : IsPacing q
-  pub later : heard ≤ slot
-  pub timed : p.passed ≡ heard + 1 - p.start
-
-pub sent-step : {p q : Pacing} {heard slot : ℕ} → PacerStep p q heard slot → IsPacing p → p.sent ≡ p.due
-    → q.sent - p.sent ≡ growth heard slot (paced p)
-sent-step {p} {q} {heard} {slot} step was all =
-    let q-all : q.sent ≡ q.due = ap (λ (x : Pacing). x.sent) e ∙ sym (ap (λ (x : Pacing). x.due) e) in
-    let q-due : q.due ≡ sent_by (paced p) slot =
-    due-at q slot is (passed-step p heard slot e le timed) ∙ ap (λ (b : Booked). sent_by b slot) (paced-step p q slot e) in
-    let p-due : p.due ≡ sent_by (paced p) heard = due-at p heard was timed in
-    omega (arith, q-all, q-due, p-due, all)
-  where
-    open step use {new_is as e, pacing as is, later as le, timed}
-
 -- a play's pacer sends what the play books
 pub whole-paced : (play : Play) → IsPlaying play → paced play.pacer ≡ booking_of (play_of play)
 whole-paced play playing =
     ap (λ s. cut_play play.pacer.start s play.pacer.keep) playing.plan_is ∙ ap (λ n. cut_play play.pacer.start play.plan n) playing.whole
 
-pub stop-paced : (stop : Stop) → IsStopping stop → paced stop.pacer ≡ cut_play stop.pacer.start stop.pacer.plan stop.keep
-stop-paced stop stopping = ap (λ n. cut_play stop.pacer.start stop.pacer.plan n) stopping.keep_is
-
 pub sent-at : (play : Play) (heard : ℕ) → IsPlaying play → play.pacer.passed ≡ heard + 1 - play.pacer.start
     → play.pacer.sent ≡ sent_by (booking_of (play_of play)) heard
 sent-at play heard playing timed =
     playing.all_sent ∙ due-at play.pacer heard playing.pacing timed ∙ ap (λ (b : Booked). sent_by b heard) (whole-paced play playing)
-
--- a play was stepped
-pub playing-step : {play : Play} {q : Pacing} {heard slot sent : ℕ} → IsPlaying play
-    → PacerStep play.pacer q heard slot → sent ≡ q.sent - play.pacer.sent
-    → IsStep heard slot (clients.Playing play) (clients.Playing (record play { pacer = q })) sent
-playing-step {play} {heard} {slot} playing step is = record {
-  timed = passed-step play.pacer heard slot step.new_is step.later step.timed;
-  sent_is =
-      is ∙ sent-step step playing.pacing playing.all_sent
-      ∙ ap (growth heard slot) (whole-paced play playing);
-  state = ap (λ n. Playing (record { number = play.number; rest = rest_of play.rest; plan = play.plan; start = n })) (ap (λ (x : Pacing). x.start) step.new_is);
-}
-
--- a play that was halted was stepped: all that it keeps was sent, or not yet
-pub stop-sent : {stop : Stop} {q : Pacing} {sent heard slot : ℕ} → IsStopping stop → PacerStep stop.pacer q heard slot
-    → sent ≡ q.sent - stop.pacer.sent → sent ≡ sent_between heard slot (state_of (clients.Pausing stop))
-stop-sent {stop} {heard} {slot} stopping step is =
-    is ∙ sent-step step stopping.pacing stopping.all_sent ∙ ap (growth heard slot) (stop-paced stop stopping)
-
-pub stop-all : {stop : Stop} {q : Pacing} {heard slot : ℕ} → IsStopping stop → PacerStep stop.pacer q heard slot
-    → q.sent ≡ sent_by (cut_play stop.pacer.start stop.pacer.plan stop.keep) slot
-stop-all {stop} {q} {heard} {slot} stopping step =
-    ap (λ (x : Pacing). x.sent) e ∙ sym (ap (λ (x : Pacing). x.due) e) ∙ due-at q slot pacing (passed-step stop.pacer heard slot e le timed)
-    ∙ ap (λ (b : Booked). sent_by b slot) (paced-step stop.pacer q slot e ∙ stop-paced stop stopping)
-  where
-    open step use {new_is as e, pacing, later as le, timed}
-
-pub paused-step : {stop : Stop} {q : Pacing} {heard slot sent : ℕ} → IsStopping stop
-    → PacerStep stop.pacer q heard slot → sent ≡ q.sent - stop.pacer.sent → (q.sent == stop.keep) ≡ true
-    → IsStep heard slot (clients.Pausing stop) (clients.Paused stop.rest) sent
-paused-step {stop} {heard} {slot} stopping step is all =
-    let b = cut_play stop.pacer.start stop.pacer.plan stop.keep in
-    let test : (sent_by b slot == stop.keep) ≡ true = ap (λ n. n == stop.keep) (sym (stop-all stopping step)) ∙ all in
-    record {
-      timed = tt;
-      sent_is = stop-sent stopping step is;
-      state = sym (cond-true (sent_by b slot == stop.keep) (Paused (rest_of stop.rest)) (Pausing b (rest_of stop.rest)) test);
-    }
-
-pub stopping-step : {stop : Stop} {q : Pacing} {heard slot sent : ℕ} → IsStopping stop
-    → PacerStep stop.pacer q heard slot → sent ≡ q.sent - stop.pacer.sent → (q.sent == stop.keep) ≡ false
-    → IsStep heard slot (clients.Pausing stop) (clients.Pausing (record stop { pacer = q })) sent
-stopping-step {stop} {q} {heard} {slot} stopping step is not =
-    let b = cut_play stop.pacer.start stop.pacer.plan stop.keep in
-    let test : (sent_by b slot == stop.keep) ≡ false = ap (λ n. n == stop.keep) (sym (stop-all stopping step)) ∙ not in
-    let same : cut_play q.start q.plan stop.keep ≡ b = ap (λ (x : Pacing). cut_play x.start x.plan stop.keep) step.new_is in
-    record {
-      timed = passed-step stop.pacer heard slot step.new_is step.later step.timed;
-      sent_is = stop-sent stopping step is;
-      state =
-          ap (λ (x : Booked). Pausing x (rest_of stop.rest)) same
-          ∙ sym (cond-false (sent_by b slot == stop.keep) (Paused (rest_of stop.rest)) (Pausing b (rest_of stop.rest)) test);
-    }
 
 -- whether a play is done
 begun : (start slot : ℕ) → nat_lt 0 (slot + 1 - start) ≡ nat_le start slot
@@ -122,50 +37,10 @@ begun start slot = elim (cases_lt slot start) [
   | inr from ↦ grind (arith, from)
 ]
 
-pub done-at : (play : Play) (slot : ℕ) → IsPlaying play → play.pacer.passed ≡ slot + 1 - play.pacer.start
-    → is_pacing_done play.pacer ≡ is_done slot (play_of play)
-done-at play slot playing timed =
-    let first : nat_lt 0 play.pacer.passed ≡ nat_le play.pacer.start slot = ap (nat_lt 0) timed ∙ begun play.pacer.start slot in
-    let all : (play.pacer.sent == play.pacer.keep) ≡ (sent_by (booking_of (play_of play)) slot == total_bytes play.plan) =
-    ap (λ n. n == play.pacer.keep) (sent-at play slot playing timed) ∙ ap (λ n. sent_by (booking_of (play_of play)) slot == n) playing.whole in
-    ap (λ b. b && (play.pacer.sent == play.pacer.keep)) first ∙ ap (λ b. nat_le play.pacer.start slot && b) all
-
 -- a play that has come to a slot
 pub record TimedPlay (play : Play) (slot : ℕ) : Type 0 where
   pub playing : IsPlaying play
   pub timed : play.pacer.passed ≡ slot + 1 - play.pacer.start
-
--- the halt of a play that is done
-pub done-halt : {play : Play} {slot : ℕ} (client : ℕ) (halt : Halt) → TimedPlay play slot → is_pacing_done play.pacer ≡ true
-    → halt.number ≡ play.number → halt.keep ≡ play.pacer.keep
-    → done_halt slot client (state_of (clients.Playing play)) ≡ halts_of client (Some halt)
-done-halt {play} {slot} client halt own done number keep =
-    cond-true (is_done slot (play_of play)) (halt_by client play.number (total_bytes play.plan)) [] (sym (done-at play slot playing timed) ∙ done)
-    ∙ ap (λ n. halt_by client n (total_bytes play.plan)) (sym number) ∙ ap (halt_by client halt.number) (sym (keep ∙ playing.whole))
-  where
-    open own use {playing, timed}
-
-pub not-done : (play : Play) (slot client : ℕ) → IsPlaying play → play.pacer.passed ≡ slot + 1 - play.pacer.start → is_pacing_done play.pacer ≡ false
-    → done_halt slot client (state_of (clients.Playing play)) ≡ []
-not-done play slot client playing timed done =
-    cond-false (is_done slot (play_of play)) (halt_by client play.number (total_bytes play.plan)) [] (sym (done-at play slot playing timed) ∙ done)
-
-pub done-left : (play : Play) (slot : ℕ) → IsPlaying play → play.pacer.passed ≡ slot + 1 - play.pacer.start → is_pacing_done play.pacer ≡ true
-    → after_play slot (state_of (clients.Playing play)) ≡ Idle
-done-left play slot playing timed done =
-    cond-true (is_done slot (play_of play)) Idle (Playing (play_of play)) (sym (done-at play slot playing timed) ∙ done)
-
-pub not-left : (play : Play) (slot : ℕ) → IsPlaying play → play.pacer.passed ≡ slot + 1 - play.pacer.start → is_pacing_done play.pacer ≡ false
-    → after_play slot (state_of (clients.Playing play)) ≡ state_of (clients.Playing play)
-not-left play slot playing timed done =
-    cond-false (is_done slot (play_of play)) Idle (Playing (play_of play)) (sym (done-at play slot playing timed) ∙ done)
-
-pub open-at : {play : Play} (heard client : ℕ) (halt : Halt) → TimedPlay play heard → halt.number ≡ play.number
-    → halt.keep ≡ play.pacer.due
-    → open_halt heard client (state_of (clients.Playing play)) ≡ halts_of client (Some halt)
-open-at {play} heard client halt own number keep =
-    ap (λ n. halt_by client n (sent_by (booking_of (play_of play)) heard)) (sym number)
-    ∙ ap (halt_by client halt.number) (sym (keep ∙ sym own.playing.all_sent ∙ sent-at play heard own.playing own.timed))
 
 -- a sweep's halts don't see what a slot makes of pauses
 quiet-pause : (b : Bool) (slot client : ℕ) (stop : Booked) (rest : Rest) → done_halt slot client (cond b (Paused rest) (Pausing stop rest)) ≡ []
