@@ -22,6 +22,7 @@ pub mod FairLines
 pub mod Balances
 pub mod BalancedSlots
 pub mod BalancedLines
+pub mod DayFronts
 pub mod SourceReels
 pub mod PlayableReels
 pub mod TraceReels

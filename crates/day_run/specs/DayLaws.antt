@@ -1,6 +1,7 @@
 -- What holds of every day.
 use Rattle.std.specs.Prelude.{ℕ, ◌≡◌, ◌+◌, ◌-◌, ◌*◌, ◌<◌, ◌≤◌, ◌⊎◌, ◌++◌, List, [], Option, Some}
 use Rattle.std.specs.Prelude.{None, codes, flat_map, fold, length, map, max, slice_index_or, sum_by}
+use Rattle.std.specs.Prelude.{take}
 use Rattle.std.specs.List.{range_with_len}
 use Rattle.admission.specs.Histories.{booked_after, state_after}
 use Rattle.admission.specs.Machine.{start_after}
@@ -14,7 +15,8 @@ use Rattle.admission.specs.declared.entries.Entry.{Entry}
 use Rattle.day_run.specs.declared.counts.Counts.{Counts}
 use Rattle.plan_cert.specs.Slots.{sum_through, total_bytes}
 use Rattle.film_run.specs.Units.{IsTrace}
-use Rattle.day_run.specs.Days.{IsLine, IsTold, Link, Moment}
+use Rattle.day_run.specs.Days.{AreRun, IsLine, IsTold, Link, Moment, booked_up_to, first_moment}
+use Rattle.day_run.specs.Days.{sent_up_to}
 use Rattle.film_frames.specs.Tracks.{IsBoundary}
 use Rattle.film_run.specs.Plans.{CanPlay, IsPlanOf}
 use Rattle.day_run.specs.ClientStates.{ClientState, Idle, Playing, Pausing, Paused}
@@ -73,6 +75,17 @@ IsSoundClient heard Idle = Unit {0}
 IsSoundClient heard (Playing play) = IsSoundPlay heard play
 IsSoundClient heard (Pausing stop rest) = IsSoundRest rest
 IsSoundClient heard (Paused rest) = IsSoundRest rest
+
+-- A day's moment after so many of its lines: what the clients are sent in the slots up to any later
+-- one, after the slot that was heard last, is what is booked there, and within the capacity of those
+-- slots.
+pub record KeepsAfter (link : Link) (lines : List Line) (count : ℕ) : Type 0 where
+  pub texts : List (List ℕ)
+  pub moment : Moment
+  pub run : AreRun link (take count lines) texts first_moment moment
+  pub sent : (slot : ℕ) → moment.heard ≤ slot → sent_up_to moment slot ≡ booked_up_to moment slot
+  pub within : (slot : ℕ) → moment.heard ≤ slot → sent_up_to moment slot ≤
+      sum_by (capacity_at link.steps) (range_with_len (moment.heard + 1) (slot - moment.heard))
 
 -- a plan that begins in a slot has room in each slot, beside all that is booked at a moment
 abbrev pub HasRoomFor : Link → Moment → List Segment → ℕ → Type 0

@@ -12,7 +12,7 @@ ghost use Rattle.admission.specs.Histories.{IsLegal, booked_after, state_after};
 ghost use Rattle.day_run.specs.Balanced.{share_of};
 ghost use Rattle.day_run.specs.Clients.{after_open};
 ghost use Rattle.day_run.specs.DayLaws.{AreClients, IsClient, IsDrawnTurn, IsFairLine, IsLink};
-ghost use Rattle.day_run.specs.DayLaws.{IsOfferTold, IsSoundClient};
+ghost use Rattle.day_run.specs.DayLaws.{IsOfferTold, IsSoundClient, KeepsAfter};
 ghost use Rattle.day_run.specs.Days.{AreRun, IsDay, IsFaulty, IsLine, Link, Moment, booked_up_to};
 ghost use Rattle.day_run.specs.Days.{last_journal, first_moment, rest_at, state_at, sent_up_to};
 ghost use Rattle.day_run.specs.FairDays.{IsFair, IsTurn, Turn};
@@ -41,6 +41,15 @@ pub fn law_capacity_kept()
         AreRun link lines texts first_moment moment → IsLegal link.steps moment.entries →
         moment.heard ≤ slot → sent_up_to moment slot ≤ sum_by (capacity_at link.steps)
         (range_with_len (moment.heard + 1) (slot - moment.heard)) }
+{}
+
+/// A script's day, whose journal is legal, comes to a moment after each of its lines: what the
+/// clients are sent in the slots up to any later one, after the slot that was heard last, is what
+/// is booked there, and no more than the capacity of those slots.
+pub fn law_each_line()
+    ensures { (link : Link) (sources count : ℕ) (lines : List Line) (text : List ℕ)
+        (journal : List Entry) → AreClients lines → AreLines sources lines →
+        IsDay link lines text journal → IsLegal link.steps journal → KeepsAfter link lines count }
 {}
 
 /// A day prints one text for each line of its script.
