@@ -72,9 +72,6 @@ held_push {held} {named} {sources} {one} {i} source e next are own =
 pub held_whole : (held : List File) (named : List Named) (sources : List Source) → length sources ≡ length named → AreHeldFront held named sources → AreHeldAs held named sources
 held_whole held named sources long are = record { count = long; each = λ k name none inside. are.each k name none (omega (arith, inside, long)) }
 
-pub held_none : (held : List File) (named : List Named) → AreHeldFront held named []
-held_none held named = record { each = λ k name none inside. absurd (omega (arith, inside)) }
-
 -- one of a list that has that many
 first_of : {A : Type 0} (xs : List A) (k : ℕ) → k < length xs → A
 first_of [] k inside = absurd (omega (arith, inside))

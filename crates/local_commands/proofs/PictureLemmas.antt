@@ -3,7 +3,6 @@ use Rattle.std.proofs.Common.{◌≡◌, ℕ, zero, suc, ◌≤◌, ◌^◌, Lis
 use Rattle.mpeg_scan.specs.Rates.{picture_time}
 use Rattle.wire_curve.specs.FilmCurves.{IsWithinLimits}
 use Rattle.inputs.specs.Sizes.{AreSizesWithin}
-use Rattle.inputs.specs.Traces.{IsTraceText}
 use Rattle.command_words.specs.Words.{Viewer}
 use Rattle.local_commands.specs.Pictures.{AreWithinLimits}
 use Rattle.local_commands.specs.Plans.{Pictures, timing_of}
@@ -45,16 +44,6 @@ film_limits rate slot sizes within some fits =
       some_slot = omega (arith, some);
       slot_fits = fits;
     }
-
-pub trace_limits : (text sizes : List ℕ) → IsTraceText text sizes → AreWithinLimits (record { sizes = sizes; picture = 1; slot = 1 })
-trace_limits text sizes trace = record {
-  few = omega (arith, trace.few);
-  few_bytes = omega (arith, trace.few_bytes);
-  some_picture = omega arith;
-  picture_fits = omega arith;
-  some_slot = omega arith;
-  slot_fits = omega arith;
-}
 
 pub limits_of : (viewer : Viewer) (pictures : Pictures) → AreWithinLimits pictures → 1 ≤ viewer.buffer → viewer.buffer ≤ 2 ^ 42 → viewer.startup ≤ 10000 →
     IsWithinLimits pictures.sizes (timing_of viewer pictures)

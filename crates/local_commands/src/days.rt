@@ -1,10 +1,11 @@
 //! What `day` and `fair` read and run.
 
-ghost use Rattle.std.specs.Prelude.{◌≡◌, ◌≤◌, Some, List, ℕ, length, IfOk, IfErr};
+ghost use Rattle.std.specs.Prelude.{◌≡◌, ◌≤◌, Some, List, ℕ, length, IfOk, IfErr, OnOk};
 ghost use Rattle.std.specs.List.{Contains};
 ghost use Rattle.vod_base.specs.Outside.{File};
 ghost use Rattle.admission.specs.Histories.{IsLegal};
 ghost use Rattle.command_words.specs.Ranges.{IsFairRunInRange, IsScriptRunInRange};
+ghost use Rattle.day_run.specs.DayLaws.{AreClients, IsLink};
 ghost use Rattle.day_run.specs.Days.{IsDay, link_of};
 ghost use Rattle.day_run.specs.FairDays.{IsFair};
 ghost use Rattle.day_run.specs.Scripts.{AreLines};
@@ -36,6 +37,7 @@ pub fn load_script<'a, L: Library>(
         (L.faults library.new) }
     ensures lines { IfOk result (λ script.
         AreLines (length script.named.items) script.lines.items) }
+    ensures clients { IfOk result (λ script. AreClients script.lines.items) }
     ensures held { (held : List File) → L.files library.old ≡ Some held →
         IfOk result (HoldsScript held name.entry.now) }
     ensures trouble { IfErr result (IsReadTrouble (IsNamed name.entry.now) IsScriptRefused
@@ -71,10 +73,7 @@ pub fn load_sources<'a, L: Library>(
     let mut sources = Vec::new(alloc);
     for one in named {
         let source = load_source(alloc, library, one)?;
-        match sources.push(source) {
-            Ok(()) => {}
-            Err(_) => return Err(Trouble::NoMemory),
-        }
+        sources.push(source)?;
     }
     Ok(sources)
 }
@@ -93,6 +92,8 @@ pub fn run_day(
         IsDay (link_of run.now.capacity run.now.journal run.now.slot sources.now)
         script.now.lines.items day.text.items day.journal.items) }
     ensures legal { IfOk result (λ day. IsLegal run.now.capacity day.journal.items) }
+    ensures link { OnOk result
+        (IsLink (link_of run.now.capacity run.now.journal run.now.slot sources.now)) }
 {
     let profile = profile_of(alloc, run.capacity.as_slice())?;
     run_script(alloc, script, sources, profile, run.journal, run.slot)
