@@ -10,7 +10,7 @@ use Rattle.film_frames.specs.Tracks.{framed_bytes}
 use Rattle.film_run.specs.declared.plans.Playback.{Playback}
 use Rattle.film_run.specs.Laws.{IsSending}
 use Rattle.film_run.specs.Plans.{IsBestPlanOf}
-use Rattle.film_run.specs.Units.{IsTrace, stored_sizes}
+use Rattle.film_run.specs.Units.{AreUnitSizes, stored_sizes}
 use Rattle.admission.specs.Histories.{is_admission}
 use Rattle.pacer.specs.Pacings.{first_slots}
 use Rattle.session.specs.declared.states.Play.{Play as Played}
@@ -28,7 +28,7 @@ use Rattle.conn.specs.Films.{IsBetween}
 
 -- what holds of each film: its units are those of a trace, and a picture's time is in its range
 pub record IsShown (stored : Stored) : Type 0 where
-  pub sizes : IsTrace (stored_sizes stored)
+  pub sizes : AreUnitSizes (stored_sizes stored)
   pub some_time : 1 ≤ picture_time stored.film.rate
   pub time_fits : picture_time stored.film.rate ≤ 360000
 

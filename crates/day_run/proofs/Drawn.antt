@@ -8,7 +8,7 @@ use Rattle.std.proofs.lemmas.List.Sums.{sum_by-cons}
 use Rattle.std.proofs.lemmas.List.FromFn.{length-range_with_len, length-map-range_with_len}
 use Rattle.film_make.specs.Trace.{sizes_of, trace_size}
 use Rattle.film_make.proofs.TraceLemmas.{trace_size-range}
-use Rattle.film_run.specs.Units.{IsTrace}
+use Rattle.film_run.specs.Units.{AreUnitSizes}
 use Rattle.day_run.specs.Fairs.{AreTraces}
 
 sum-most : (words : ℕ → ℕ) (ks : List ℕ) → sum (map (trace_size words) ks) ≤ length ks * 7996
@@ -18,7 +18,7 @@ sum-most words (k ∷ ks) =
     sum_by-cons (λ x. x) (trace_size words k) (map (trace_size words) ks) in
     omega (arith, e, (trace_size-range words k).1, sum-most words ks)
 
-pub drawn-trace : (words : ℕ → ℕ) (n : ℕ) → n ≤ 200 → IsTrace (sizes_of words n)
+pub drawn-trace : (words : ℕ → ℕ) (n : ℕ) → n ≤ 200 → AreUnitSizes (sizes_of words n)
 drawn-trace words n few = record {
   few = omega (arith, length-map-range_with_len (trace_size words) 0 n);
   small = omega (arith, sum-most words (range_with_len 0 n), length-range_with_len 0 n);
@@ -27,10 +27,10 @@ drawn-trace words n few = record {
 pub traces-none : AreTraces []
 traces-none = record { each = λ i none inside. absurd (omega (arith, inside)) }
 
-pub traces-push : (traces after : List (Vec ℕ)) (trace : Vec ℕ) → after ≡ traces ++ trace ∷ [] → IsTrace trace.items → AreTraces traces → AreTraces after
+pub traces-push : (traces after : List (Vec ℕ)) (trace : Vec ℕ) → after ≡ traces ++ trace ∷ [] → AreUnitSizes trace.items → AreTraces traces → AreTraces after
 traces-push traces after trace e own are =
     let A : List (Vec ℕ) → Type 0 = λ l. AreTraces l in
-    let T : Vec ℕ → Type 0 = λ v. IsTrace v.items in
+    let T : Vec ℕ → Type 0 = λ v. AreUnitSizes v.items in
     subst A (sym e) (record {
       each = λ i none inside. elim (cases_lt i (length traces)) [
         | inl before ↦ subst T (sym (get_or_append_left traces (trace ∷ []) none i before)) (are.each i none before)

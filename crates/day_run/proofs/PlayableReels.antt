@@ -8,7 +8,7 @@ use Rattle.mpeg_scan.specs.Rates.{picture_time}
 use Rattle.slot_calendar.specs.declared.profiles.CapStep.{CapStep}
 use Rattle.film_frames.specs.declared.stores.Stored.{Stored}
 use Rattle.film_frames.specs.Pieces.{wire_size}
-use Rattle.film_run.specs.Units.{IsTrace, stored_sizes}
+use Rattle.film_run.specs.Units.{AreUnitSizes, stored_sizes}
 use Rattle.vod_base.specs.declared.outside.NoMemory.{NoMemory}
 use Rattle.day_run.specs.declared.reels.Reel.{Reel}
 use Rattle.day_run.specs.declared.reels.Source.{Source}
@@ -41,7 +41,7 @@ pub film-playable : {source : Source} (stored : Stored) → source ≡ Film stor
     → length stored.film.units.items ≤ 4194304 → sum (stored_sizes stored) ≤ 2 ^ 42 → IsPlayable source
 film-playable stored is low high few small =
     let time = time-fits stored.film.rate low high in
-    let sizes : IsTrace (stored_sizes stored) = record {
+    let sizes : AreUnitSizes (stored_sizes stored) = record {
       few = omega (arith, few, length-map stored.film.units.items (wire_size stored.film.slice_starts.items));
       small = small;
     } in
@@ -49,7 +49,7 @@ film-playable stored is low high few small =
 
 trace-fits : {source : Source} (sizes : Vec ℕ) → source ≡ Trace sizes → IsSource source → IsPlayable source
 trace-fits sizes is trace =
-    let kept : IsTrace sizes.items = subst IsSource is trace in
+    let kept : AreUnitSizes sizes.items = subst IsSource is trace in
     subst IsPlayable (sym is) (λ units some fit. record { sizes = kept; some_picture_units = some; picture_units_fit = fit })
 
 -- a trace whose reel was made

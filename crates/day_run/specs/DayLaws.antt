@@ -14,7 +14,7 @@ use Rattle.slot_calendar.specs.Profiles.{capacity_at}
 use Rattle.admission.specs.declared.entries.Entry.{Entry}
 use Rattle.day_run.specs.declared.counts.Counts.{Counts}
 use Rattle.plan_cert.specs.Slots.{sum_through, total_bytes}
-use Rattle.film_run.specs.Units.{IsTrace}
+use Rattle.film_run.specs.Units.{AreUnitSizes}
 use Rattle.day_run.specs.Days.{AreRun, IsLine, IsTold, Link, Moment, booked_up_to, first_moment}
 use Rattle.day_run.specs.Days.{sent_up_to}
 use Rattle.film_frames.specs.Tracks.{IsBoundary}
@@ -42,7 +42,7 @@ pub record AreClients (lines : List Line) : Type 0 where
 
 -- a reel that can be played: its sizes are those of a trace, and its pictures have a time
 pub record IsReel (reel : ReelContent) : Type 0 where
-  pub sizes : IsTrace reel.sizes
+  pub sizes : AreUnitSizes reel.sizes
   pub some_picture_units : 1 ≤ reel.picture_units
   pub picture_units_fit : reel.picture_units ≤ 360000
 

@@ -2,7 +2,7 @@
 use Rattle.std.specs.Prelude.{ℕ, ◌≡◌, ◌+◌, ◌*◌, ◌^◌, ◌<◌, ◌≤◌, max, if◌then◌else◌, List, [], ◌∷◌}
 use Rattle.std.specs.Prelude.{length, map, slice_index_or, Option, Some, None}
 use Rattle.std.specs.Global.{Vec}
-use Rattle.film_run.specs.Units.{IsTrace}
+use Rattle.film_run.specs.Units.{AreUnitSizes}
 use Rattle.admission.specs.declared.entries.Entry.{Entry}
 use Rattle.day_run.specs.declared.counts.Counts.{Counts}
 use Rattle.day_run.specs.declared.runners.Told.{Told}
@@ -13,7 +13,7 @@ use Rattle.day_run.specs.Runners.{told_text}
 
 pub record AreTraces (traces : List (Vec ℕ)) : Type 0 where
   pub each : (i : ℕ) (none : Vec ℕ) → i < length traces →
-      IsTrace (slice_index_or traces i none).items
+      AreUnitSizes (slice_index_or traces i none).items
 
 -- the sizes of traces
 abbrev pub sizes_in : List (Vec ℕ) → List (List ℕ)

@@ -3,7 +3,7 @@
 ghost use Rattle.std.specs.Prelude.{◌≡◌, ◌+◌, ◌*◌, ◌^◌, ◌≤◌, ◌<◌, ◌%◌, List, false, if◌then◌else◌};
 ghost use Rattle.std.specs.Prelude.{length, map, IfOk, OnOk};
 ghost use Rattle.film_make.specs.Generator.{after, words_left};
-ghost use Rattle.film_run.specs.Units.{IsTrace};
+ghost use Rattle.film_run.specs.Units.{AreUnitSizes};
 ghost use Rattle.admission.specs.declared.entries.Entry.{Entry};
 ghost use Rattle.admission.specs.Histories.{IsLegal};
 ghost use Rattle.day_run.specs.Balanced.{IsReady};

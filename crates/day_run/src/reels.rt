@@ -2,7 +2,7 @@
 
 ghost use Rattle.std.specs.Prelude.{ℕ, ◌≡◌, ◌^◌, ◌≤◌, ◌<◌, length, sum, IfOk};
 ghost use Rattle.film_frames.specs.Tracks.{framed_bytes};
-ghost use Rattle.film_run.specs.Units.{IsTrace};
+ghost use Rattle.film_run.specs.Units.{AreUnitSizes};
 ghost use Rattle.day_run.specs.Reels.{reel_pieces, reel_sizes, sending_pieces};
 ghost use Rattle.day_run.specs.ReelContents.{reel_content, reel_units};
 ghost use Rattle.day_run.specs.ClientStates.{trace_content};
@@ -52,7 +52,7 @@ pub(crate) enum Sending<'r> {
 impl<'s> Reel<'s> {
     /// A trace as it is played.
     pub(crate) fn trace(alloc: Global, sizes: &'s [u64]) -> Result<Reel<'s>, NoMemory>
-        requires { IsTrace sizes.now }
+        requires { AreUnitSizes sizes.now }
         ensures sizes { IfOk result (λ reel. reel_sizes reel ≡ sizes.now) }
         ensures content { IfOk result (λ reel. (slot_units : ℕ) →
             reel_content slot_units reel ≡ trace_content slot_units sizes.now) }

@@ -10,7 +10,7 @@ use Rattle.std.proofs.lemmas.List.Sums.{sum_by-cons, sum_by-take-le, sum_by_more
 use Rattle.std.proofs.lemmas.Bool.{cases_lt, cases_eq}
 use Rattle.film_frames.proofs.TrackLemmas.{AreEnds, begin-all, begin-none, begin-more, found-begins}
 use Rattle.film_frames.proofs.TrackLemmas.{next-found}
-use Rattle.film_frames.specs.Tracks.{framed_bytes, begin_of, IsNext, IsTrace, zero_frames, differences}
+use Rattle.film_frames.specs.Tracks.{framed_bytes, begin_of, IsNext, AreRunningSums, zero_frames, differences}
 use Rattle.film_frames.specs.Tracks.{running_sums}
 
 pub length-zeros : (sizes : List ℕ) → length (framed_bytes (zero_frames sizes)) ≡ sum sizes
@@ -44,7 +44,7 @@ ends-zeros sizes = record {
   each = λ k h. omega (arith, running_sums-at 0 sizes k (omega (arith, h, length-running_sums 0 sizes)), begin-zeros sizes (k + 1));
 }
 
-pub trace-ends : (ends : List ℕ) → IsTrace ends → AreEnds 0 (zero_frames (differences 0 ends)) ends
+pub trace-ends : (ends : List ℕ) → AreRunningSums ends → AreEnds 0 (zero_frames (differences 0 ends)) ends
 trace-ends ends is = subst (λ (l : List ℕ). AreEnds 0 (zero_frames (differences 0 ends)) l) is.rising (ends-zeros (differences 0 ends))
 
 -- numbers that are the sums so far are the running sums
@@ -53,20 +53,20 @@ running_sums-is sizes now count each = same_lists now (running_sums 0 sizes) (co
     get_or_default now k d 0 h ∙ each k (omega (arith, h, count)) ∙ let e : sum (take (k + 1) sizes) ≡ get_or (running_sums 0 sizes) k 0 = omega (arith, running_sums-at 0 sizes k (omega (arith, h, count))) in
     e ∙ get_or_default (running_sums 0 sizes) k 0 d (omega (arith, h, count, length-running_sums 0 sizes)))
 
-pub trace-is : (sizes : List ℕ) → sum sizes ≤ 2 ^ 42 → IsTrace (running_sums 0 sizes)
+pub trace-is : (sizes : List ℕ) → sum sizes ≤ 2 ^ 42 → AreRunningSums (running_sums 0 sizes)
 trace-is sizes most = record {
   rising = ap (λ (l : List ℕ). running_sums 0 l) (differences-running_sums 0 sizes);
   most = λ k h. omega (arith, running_sums-at 0 sizes k (omega (arith, h, length-running_sums 0 sizes)), sum_by-take-le (λ x. x) sizes (k + 1), most);
 }
 
 -- the ends of a trace that is seen as these sizes
-pub trace-track : (ends now sizes : List ℕ) → now ≡ ends → differences 0 ends ≡ sizes → IsTrace ends → AreEnds 0 (zero_frames sizes) now
+pub trace-track : (ends now sizes : List ℕ) → now ≡ ends → differences 0 ends ≡ sizes → AreRunningSums ends → AreEnds 0 (zero_frames sizes) now
 trace-track ends now sizes same seen is =
     let P : List ℕ → Type 0 = λ l. AreEnds 0 (zero_frames sizes) l in
     let Q : List ℕ → Type 0 = λ l. AreEnds 0 (zero_frames l) ends in
     subst P (sym same) (subst Q seen (trace-ends ends is))
 
-pub trace-total : (ends sizes : List ℕ) → differences 0 ends ≡ sizes → IsTrace ends → length (framed_bytes (zero_frames sizes)) ≤ 2 ^ 42
+pub trace-total : (ends sizes : List ℕ) → differences 0 ends ≡ sizes → AreRunningSums ends → length (framed_bytes (zero_frames sizes)) ≤ 2 ^ 42
 trace-total ends sizes seen is =
     let are = trace-track ends ends sizes refl seen is in
     let all = begin-all (zero_frames sizes) in
@@ -79,7 +79,7 @@ trace-total ends sizes seen is =
     ]
 
 -- the last end is the length of all
-pub trace-last-now : {kept ends sizes : List ℕ} → ends ≡ kept → differences 0 kept ≡ sizes → IsTrace kept → 0 < length ends → get_or ends (length ends - 1) 0 ≡ length (framed_bytes (zero_frames sizes))
+pub trace-last-now : {kept ends sizes : List ℕ} → ends ≡ kept → differences 0 kept ≡ sizes → AreRunningSums kept → 0 < length ends → get_or ends (length ends - 1) 0 ≡ length (framed_bytes (zero_frames sizes))
 trace-last-now {kept} {ends} {sizes} now seen is some =
     let are = trace-track kept ends sizes now seen is in
     let last = length ends - 1 in

@@ -66,6 +66,6 @@ running_sums from [] = []
 running_sums from (size ∷ sizes) = (from + size) ∷ running_sums (from + size) sizes
 
 -- the running sums that are kept of a trace: they don't fall, and the last is at most 2^42
-pub record IsTrace (ends : List ℕ) : Type 0 where
+pub record AreRunningSums (ends : List ℕ) : Type 0 where
   pub rising : running_sums 0 (differences 0 ends) ≡ ends
   pub most : (k : ℕ) → k < length ends → get_or ends k 0 ≤ 2 ^ 42

@@ -25,11 +25,11 @@ impl Model for TraceTrack {
 
     ghost Value = { List ℕ };
 
-    ghost use Rattle.film_frames.specs.Tracks.{IsTrace, differences};
+    ghost use Rattle.film_frames.specs.Tracks.{AreRunningSums, differences};
 
     ghost view = { λ t. differences 0 t.ends.items };
 
-    ghost invariant = { λ t. IsTrace t.ends.items };
+    ghost invariant = { λ t. AreRunningSums t.ends.items };
 }
 
 impl TraceTrack {

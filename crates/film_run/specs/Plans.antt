@@ -10,7 +10,7 @@ use Rattle.cert_check.specs.Fault.{IsTaut}
 use Rattle.cert_check.specs.Best.{IsBestPlan}
 use Rattle.film_run.specs.declared.runs.Run.{Run}
 use Rattle.film_run.specs.declared.plans.Playback.{Playback}
-use Rattle.film_run.specs.Units.{IsTrace}
+use Rattle.film_run.specs.Units.{AreUnitSizes}
 use Rattle.film_run.specs.Runs.{Fits, IsRun, sizes_between}
 
 -- the ranges of a client's values
@@ -64,7 +64,7 @@ IsBestPlanOf sizes playback run plan =
 
 -- a client can play a run of units of these sizes
 pub record CanPlay (sizes : List ℕ) (playback : Playback) (run : Run) : Type 0 where
-  pub sizes_are : IsTrace sizes
+  pub sizes_are : AreUnitSizes sizes
   pub playback_is : IsPlayback playback
   pub run_is : IsRun sizes run
   pub fits : Fits playback.buffer run

@@ -12,6 +12,6 @@ abbrev pub stored_sizes : Stored → List ℕ
 stored_sizes stored = film_sizes stored.film.slice_starts.items stored.film.units.items
 
 -- what a trace keeps to
-pub record IsTrace (sizes : List ℕ) : Type 0 where
+pub record AreUnitSizes (sizes : List ℕ) : Type 0 where
   pub few : length sizes ≤ 4194304
   pub small : sum sizes ≤ 2 ^ 42

@@ -48,21 +48,21 @@ pub struct Trace<'a> {
 
 impl<'a> Model for Trace<'a> {
     ghost use Rattle.std.specs.Prelude.{List, ℕ};
-    ghost use Rattle.film_run.specs.Units.{IsTrace};
+    ghost use Rattle.film_run.specs.Units.{AreUnitSizes};
 
     ghost Value = { List ℕ };
 
     ghost view = { λ t. t.sizes.now };
 
-    ghost invariant = { λ t. IsTrace t.sizes.now };
+    ghost invariant = { λ t. AreUnitSizes t.sizes.now };
 }
 
 impl<'a> Trace<'a> {
-    ghost use Rattle.film_run.specs.Units.{IsTrace};
+    ghost use Rattle.film_run.specs.Units.{AreUnitSizes};
 
     /// The trace of these sizes: at most 4,194,304, which add up to at most 2^42.
     pub fn new(sizes: &'a [u64]) -> Trace<'a>
-        requires { IsTrace sizes.now }
+        requires { AreUnitSizes sizes.now }
         ensures { result ≡ sizes.now }
     {
         Trace { sizes }

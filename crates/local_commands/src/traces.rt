@@ -2,7 +2,7 @@
 
 ghost use Rattle.std.specs.Prelude.{◌≡◌, Some, List, IfOk, IfErr};
 ghost use Rattle.vod_base.specs.Outside.{File};
-ghost use Rattle.film_run.specs.Units.{IsTrace};
+ghost use Rattle.film_run.specs.Units.{AreUnitSizes};
 ghost use Rattle.inputs.specs.Files.{IsNamed};
 ghost use Rattle.troubles.specs.Causes.{IsReadOnly, IsReadTrouble};
 ghost use Rattle.local_commands.specs.Plans.{HoldsTrace, IsTraceRefused};
@@ -20,7 +20,7 @@ pub(crate) fn load_trace<'a, L: Library>(
 ) -> Result<Vec<u64>, Trouble<'a>>
     ensures library { IsReadOnly (L.files library.old) (L.files library.new)
         (L.faults library.old) (L.faults library.new) }
-    ensures limits { IfOk result (λ sizes. IsTrace sizes.items) }
+    ensures limits { IfOk result (λ sizes. AreUnitSizes sizes.items) }
     ensures held { (held : List File) → L.files library.old ≡ Some held →
         IfOk result (λ sizes. HoldsTrace held name.entry.now sizes.items) }
     ensures trouble { IfErr result (IsReadTrouble (IsNamed name.entry.now) IsTraceRefused

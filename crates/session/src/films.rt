@@ -7,7 +7,7 @@ ghost use Rattle.mpeg_scan.specs.Rates.{picture_time};
 ghost use Rattle.film_frames.specs.Runs.{run_pieces};
 ghost use Rattle.film_frames.specs.Tracks.{framed_bytes};
 ghost use Rattle.film_run.specs.Runs.{bytes_between};
-ghost use Rattle.film_run.specs.Units.{IsTrace, stored_sizes};
+ghost use Rattle.film_run.specs.Units.{AreUnitSizes, stored_sizes};
 ghost use Rattle.session.specs.Films.{IsFilmAt, counts_after, identity_of, length_ms};
 ghost use Rattle.session.specs.Films.{milliseconds_at, sending_of, timestamp_at};
 ghost use Rattle.session.specs.Ranges.{AreFilms};
@@ -24,7 +24,7 @@ pub(crate) fn stored_at(films: &[Stored], film: usize) -> &Stored
     requires within { film < length films.now }
     ensures film { IsFilmAt films.now film result.now }
     ensures good { is_good_name (string_bytes result.now.name) ≡ true }
-    ensures sizes { IsTrace (stored_sizes result.now) }
+    ensures sizes { AreUnitSizes (stored_sizes result.now) }
 {
     let stored = &films[film];
     law_film(&stored.film);

@@ -2,7 +2,7 @@ use Rattle.std.proofs.Common.{◌≤◌, ◌+◌, ◌∷◌, [], List, ℕ, leng
 use Rattle.std.proofs.lemmas.List.{length-append}
 use Rattle.std.specs.Global.{Vec}
 use Rattle.day_run.specs.Fairs.{AreTraces, sizes_in}
-use Rattle.film_run.specs.Units.{IsTrace}
+use Rattle.film_run.specs.Units.{AreUnitSizes}
 use Rattle.film_make.specs.Generator.{words_left}
 use Rattle.film_make.specs.Trace.{sizes_of}
 use Rattle.day_run.proofs.Drawn.{drawn-trace, traces-none, traces-push}
@@ -25,7 +25,7 @@ loop-trace-preserved c =
     let words = words_left c.args.draws.now in
     let trace = c.in_ok-draw_sizes.field-0 in
     let e = c.in_ok-push.ensures.items in
-    let I : List ℕ → Type 0 = λ l. IsTrace l in
+    let I : List ℕ → Type 0 = λ l. AreUnitSizes l in
     let few : 100 + c.draw-pictures.result ≤ 200 = omega (arith, c.draw-pictures.ensures.value) in
     let own = subst I (sym c.in_ok-draw_sizes.ensures.sizes) (drawn-trace _ (100 + c.draw-pictures.result) few) in
     record {

@@ -1,5 +1,5 @@
 use Rattle.std.proofs.Common.{arith, sym, ap, ◌∙◌, subst, List, ℕ, Ok}
-use Rattle.film_frames.specs.Tracks.{IsTrace, differences}
+use Rattle.film_frames.specs.Tracks.{AreRunningSums, differences}
 use Rattle.film_frames.proofs.TraceLemmas.{summed-more, running_sums-is, trace-is}
 use Rattle.film_frames.proofs.TraceLemmas.{differences-running_sums}
 use Rattle.film_frames.proofs.traces.TraceTrack.new.Goals as goal
@@ -21,7 +21,7 @@ loop-number-preserved c =
 pub invariant_of-result : goal.invariant_of-result
 invariant_of-result c =
     let now = running_sums-is c.args.sizes.items c.loop-number.sizes.items c.loop-number.invariant.len (λ k h. c.loop-number.invariant.done k (omega (arith, h, c.loop-number-test.false, c.len-number-end.ensures, c.args.sizes.ok))) in
-    let P : List ℕ → Type 0 = λ l. IsTrace l in
+    let P : List ℕ → Type 0 = λ l. AreRunningSums l in
     subst P (sym now) (trace-is c.args.sizes.items c.requires)
 
 pub returns : goal.returns
