@@ -72,15 +72,17 @@ impl FrameTable {
         ensures firsts { (starts : List ℕ) (units : List PictureUnit)
             → IfOk result (λ table. AreFirsts starts units 0 table.firsts.items) }
     {
-        let mut table = FrameTable {
-            places: Vec::with_capacity(alloc, pieces + 1)?,
-            rows: Vec::with_capacity(alloc, pieces)?,
+        let mut places = Vec::with_capacity(alloc, pieces + 1)?;
+        let rows = Vec::with_capacity(alloc, pieces)?;
+        let mut firsts = Vec::with_capacity(alloc, units + 1)?;
+        push(&mut places, 0)?;
+        push(&mut firsts, 0)?;
+        Ok(FrameTable {
+            places,
+            rows,
             reports: Vec::new(alloc),
-            firsts: Vec::with_capacity(alloc, units + 1)?,
-        };
-        push(&mut table.places, 0)?;
-        push(&mut table.firsts, 0)?;
-        Ok(table)
+            firsts,
+        })
     }
 
     /// Appends a piece of the unit of that number.

@@ -81,12 +81,14 @@ impl<'a, R: Net + Clock> TcpLink<'a, R> {
             Token(0),
             Interest::READABLE | Interest::WRITABLE,
         )?;
+        let events = Events::with_capacity(alloc, 4)?;
+        let gathered = Gathered::new(alloc)?;
         Ok(TcpLink {
             rt,
             socket,
             poll,
-            events: Events::with_capacity(alloc, 4)?,
-            gathered: Gathered::new(alloc)?,
+            events,
+            gathered,
             clock,
             slot: None,
             readable: true,

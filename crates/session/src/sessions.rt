@@ -102,6 +102,9 @@ impl<'a> Session<'a> {
         ensures offers { IfOk result (λ session. session.offers ≡ []) }
         ensures late { IfOk result (λ session. session.late ≡ 0) }
     {
+        let reply = Reply::new(alloc)?;
+        let body = Text::new(alloc)?;
+        let log = Log::new(alloc)?;
         Ok(Session {
             alloc,
             films,
@@ -111,8 +114,8 @@ impl<'a> Session<'a> {
             state: State::Init,
             counts: NOTHING_SENT,
             awaited: Awaited::Nothing,
-            reply: Reply::new(alloc)?,
-            body: Text::new(alloc)?,
+            reply,
+            body,
             waits: false,
             tearing: false,
             torn: false,
@@ -120,7 +123,7 @@ impl<'a> Session<'a> {
             heard: 0,
             late: 0,
             looks_left: LOOKS,
-            log: Log::new(alloc)?,
+            log,
         })
     }
 

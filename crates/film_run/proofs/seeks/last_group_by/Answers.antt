@@ -2,8 +2,8 @@ use Rattle.std.proofs.Common.{◌*◌, length, arith}
 use Rattle.film_run.proofs.SeekLaws.{begins-small, group-by}
 use Rattle.film_run.proofs.seeks.last_group_by.Goals as goal
 
-pub returns-then-units-unit_time-clause-found : goal.returns-then-units-unit_time-clause-found
-returns-then-units-unit_time-clause-found c =
+pub returns-then-units-picture_units-clause-found : goal.returns-then-units-picture_units-clause-found
+returns-then-units-picture_units-clause-found c =
     c.units_before-begin.ensures.whole.by_then (length c.args.units.now * c.args.picture_units)
     (begins-small (length c.args.units.now) c.args.picture_units c.requires.few c.requires.fits) (omega arith)
 
