@@ -57,18 +57,18 @@ head-here {pieces} {place} part past before is =
 -- the bytes of a frame from a place on are split at the end of its heads
 pub frame-split : {pieces : List (List ℕ)} {at k : ℕ} (head payload : ℕ) → IsPart pieces k at (head + payload) → HasHeads (get_or pieces k [])
     → head ≡ 20 - min (at - begin_of pieces k) 20 → IsSplit pieces at head payload
-frame-split {k} head payload part heads is = λ place past before. (
-  λ end. omega (arith, (head-here part past (omega (arith, before)) end).1, is, part.begins, past),
-  λ end. record { number = k; among = part.among; frame = heads; place_is = omega (arith, end, is, part.begins, past) },
-)
+frame-split {k} head payload part heads is = record {
+  ends = λ some more. record { number = k; among = part.among; frame = heads; place_is = omega (arith, is, part.begins, some) };
+  only = λ place end past before. omega (arith, (head-here part past (omega (arith, before)) end).1, is, part.begins, past);
+}
 
 -- those of a report are all in the head
 pub report-split : {pieces : List (List ℕ)} {at k : ℕ} (head payload : ℕ) → IsPart pieces k at (head + payload)
     → (HasHeads (get_or pieces k []) → ⊥) → payload ≡ 0 → IsSplit pieces at head payload
-report-split head payload part none is = λ place past before. (
-  λ end. absurd (none (head-here part past (omega (arith, before)) end).0),
-  λ end. absurd (omega (arith, end, before, is)),
-)
+report-split head payload part none is = record {
+  ends = λ some more. absurd (omega (arith, more, is));
+  only = λ place end past before. absurd (none (head-here part past (omega (arith, before)) end).0);
+}
 
 -- zero bytes have no heads
 zeros-heads : (sizes : List ℕ) (number : ℕ) → number < length (zero_frames sizes) → HasHeads (get_or (zero_frames sizes) number []) → ⊥
@@ -81,7 +81,7 @@ zeros-heads sizes number among heads =
     omega (arith, its.interleaved, get_or-replicate {A = ℕ} size 0 0 0 some)
 
 pub zeros-split : (sizes : List ℕ) (at head payload : ℕ) → head ≡ 0 → IsSplit (zero_frames sizes) at head payload
-zeros-split sizes at head payload none = λ place past before. (
-  λ end. absurd (zeros-heads sizes end.number end.among end.frame),
-  λ end. absurd (omega (arith, end, past, none)),
-)
+zeros-split sizes at head payload none = record {
+  ends = λ some more. absurd (omega (arith, some, none));
+  only = λ place end past before. absurd (zeros-heads sizes end.number end.among end.frame);
+}

@@ -1,7 +1,7 @@
 -- What a track is: the pieces that it is sent by, in order, and the boundaries between them. A
 -- piece is the bytes of one frame or one report.
 use Rattle.std.specs.Prelude.{ℕ, ◌+◌, ◌-◌, ◌<◌, ◌≤◌, ◌≡◌, ◌^◌, List, [], ◌∷◌, length, take, drop}
-use Rattle.std.specs.Prelude.{map, flat_map, replicate, get_or, ◌≢◌, ◌↔◌}
+use Rattle.std.specs.Prelude.{map, flat_map, replicate, get_or, ◌≢◌}
 
 -- all bytes of pieces, one piece after another
 abbrev pub framed_bytes : List (List ℕ) → List ℕ
@@ -46,10 +46,10 @@ pub record IsHeadEnd (pieces : List (List ℕ)) (place : ℕ) : Type 0 where
 
 -- the next bytes from `at` on, so many of a head and then so many of a payload, are split where the
 -- heads of a frame end, and nowhere else
-abbrev pub IsSplit : List (List ℕ) → ℕ → ℕ → ℕ → Type 0
-IsSplit pieces at head payload =
-    (place : ℕ) → at < place → place < at + head + payload
-    → IsHeadEnd pieces place ↔ (place ≡ at + head)
+pub record IsSplit (pieces : List (List ℕ)) (at head payload : ℕ) : Type 0 where
+  pub ends : 0 < head → 0 < payload → IsHeadEnd pieces (at + head)
+  pub only : (place : ℕ) → IsHeadEnd pieces place → at < place → place < at + head + payload
+      → place ≡ at + head
 
 -- frames of zero bytes, of these sizes
 abbrev pub zero_frames : List ℕ → List (List ℕ)

@@ -1,7 +1,8 @@
 //! The track of a trace, whose frames are zero bytes.
 ghost use Rattle.std.specs.Prelude.{◌≡◌, ◌++◌, ◌+◌, ◌-◌, ◌^◌, ◌<◌, ◌≤◌, List, ℕ, length, min};
 ghost use Rattle.std.specs.Prelude.{replicate, slice_range, sum, Ok};
-ghost use Rattle.film_frames.specs.Tracks.{IsBoundaryAfter, IsNext, IsSplit, framed_bytes, zero_frames};
+ghost use Rattle.film_frames.specs.Tracks.{IsBoundaryAfter, IsNext, IsSplit, framed_bytes};
+ghost use Rattle.film_frames.specs.Tracks.{zero_frames};
 
 use crate::searches::ends_below;
 use crate::tracks::{Part, Track};

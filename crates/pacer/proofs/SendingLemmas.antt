@@ -150,7 +150,7 @@ part-stopped {pieces} {at} {head_bytes} {old} {new} {whole} {from} {to} head pay
         | inr end ↦
             elim (cases_lt (from + place) (at + head_bytes + length payload)) [
               | inl l ↦
-                  let here : from + place ≡ at + head_bytes = (split (from + place) (omega (arith, order, less)) l).0 end in
+                  let here : from + place ≡ at + head_bytes = split.only (from + place) end (omega (arith, order, less)) l in
                   omega (arith, here, order, long, stopped.one_send (length head) refl (omega (arith, here, order, long, less)))
               | inr g ↦
                   omega (arith, g, order, long, length-append head payload, stopped.out_most, length-take most next)

@@ -1,5 +1,6 @@
 -- Boundaries of a track as a number, and the seams between its sends.
-use Rattle.std.specs.Prelude.{ℕ, ◌+◌, ◌-◌, ◌==◌, ◌⊎◌, if◌then◌else◌, List, [], ◌∷◌, length, take, drop}
+use Rattle.std.specs.Prelude.{ℕ, ◌+◌, ◌-◌, ◌==◌, ◌⊎◌, if◌then◌else◌, List, [], ◌∷◌}
+use Rattle.std.specs.Prelude.{length, take, drop}
 use Rattle.film_frames.specs.Tracks.{IsBoundary, IsHeadEnd, framed_bytes}
 
 -- the least boundary at or after a place, which counts from where the first piece begins

@@ -13,7 +13,7 @@ pub record IsStepped (old new : Pacing) (step : Stepped) : Type 0 where
 -- A step that failed. What is due is that of the whole step. What was sent are whole sends, none
 -- past the step's end; and the front of one more went out, which is of one report, or of the heads
 -- or the payload of one frame. So all that went out before counts as sent: whole frames and
--- reports, and the heads of a frame whose payload's send failed.
+-- reports, and the heads of a frame of whose payload some went out.
 pub record HasFailed (stop : Bool) (slot : ℕ) (old new : Pacing)
     (told_old told_new : Option (List Doing)) : Type 0 where
   pub state : new ≡ record (at_slot slot old) { sent = new.sent }
