@@ -1,6 +1,5 @@
 -- Facts on what a call answered.
-use Rattle.std.proofs.Common.{◌≡◌, true, false, Result, Ok, Err, OnOk, OnErr, IfErr, is_err, sym}
-use Rattle.std.proofs.lemmas.Bool.{true≢false}
+use Rattle.std.proofs.Common.{Result, Ok, Err, OnOk, IfErr}
 
 pub on-ok : {A E P Q R : Type 0} (r : Result A E) → OnOk r P → OnOk r Q → (P → Q → R) → OnOk r R
 on-ok (Ok a) p q f = f p q

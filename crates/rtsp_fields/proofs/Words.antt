@@ -1,6 +1,6 @@
 -- Words in any case.
-use Rattle.std.proofs.Common.{◌≡◌, ℕ, ◌↔◌, List, [], length, take, sym, ◌∙◌}
-use Rattle.std.proofs.lemmas.List.{take-map, nil_from_length}
+use Rattle.std.proofs.Common.{◌≡◌, ℕ, ◌↔◌, List, length, take, sym, ◌∙◌}
+use Rattle.std.proofs.lemmas.List.{take-map}
 use Rattle.std.specs.Char.{to_ascii_lowercase}
 use Rattle.rtsp_fields.specs.Pieces.{Begins, lower}
 

@@ -6,7 +6,7 @@ use Rattle.std.proofs.lemmas.Bool.{cases_eq, and_from, and_parts}
 use Rattle.std.proofs.lemmas.List.{take_at, drop_at, length-map, length-append}
 use Rattle.vod_base.specs.Numbers.{is_decimal}
 use Rattle.vod_base.specs.Splits.{IsSplitAtFirst}
-use Rattle.rtsp_text.specs.Grammar.{is_token_byte, is_token, is_url_byte, is_value_byte, IsRtspUrl, IsUrl, IsVersion, AreVersionNumbers, IsRequestLine, IsHeaderLine}
+use Rattle.rtsp_text.specs.Grammar.{is_token_byte, is_token, is_url_byte, is_value_byte, IsRtspUrl, AreVersionNumbers, IsRequestLine, IsHeaderLine}
 use Rattle.rtsp_text.proofs.Cuts.{is_other, other_is, cut_once, all_other}
 
 -- a token has no byte that isn't a token's

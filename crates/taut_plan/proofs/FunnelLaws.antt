@@ -6,7 +6,7 @@ use Rattle.taut_plan.specs.declared.points.Side.{Side}
 use Rattle.taut_plan.specs.declared.points.Side.TheVariants.{Lower, Upper}
 use Rattle.taut_plan.specs.Slopes.{IsWithin, IsInside, other_side}
 use Rattle.taut_plan.specs.Chain.{on_curve, IsChain}
-use Rattle.taut_plan.specs.Funnel.{IsBand, IsCrossing, IsCrossed, IsUncrossed, FirstIsBetween, IsFunnel, curve_on, others_known}
+use Rattle.taut_plan.specs.Funnel.{IsBand, IsCrossing, IsCrossed, IsUncrossed, IsFunnel, curve_on, others_known}
 use Rattle.taut_plan.specs.Path.{IsPath, segment_to}
 use Rattle.taut_plan.proofs.BendLaws.{IsOrdered, corner_of, crossing_moves, apart_again}
 use Rattle.taut_plan.proofs.CornerLaws.{IsNewPlace, corner_rises, path_bends}
