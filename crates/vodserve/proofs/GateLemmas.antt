@@ -3,7 +3,7 @@ use Rattle.std.proofs.Common.{◌≡◌, ◌∙◌, ◌+◌, ◌<◌, ◌≤◌,
 use Rattle.std.specs.Prelude.{IfSome, All, option_map, slice_index_or}
 use Rattle.std.specs.List.{remove}
 use Rattle.std.proofs.lemmas.Bool.{cases_lt}
-use Rattle.std.proofs.lemmas.List.{append-nil, append_assoc}
+use Rattle.std.proofs.lemmas.List.{append_assoc}
 use Rattle.std.proofs.lemmas.List.Elements.{All-head, All-tail}
 use Rattle.vod_base.specs.Outside.{HasRisen}
 use Rattle.vod_base.specs.Gates.{Content, Failed, Part, IsOpen, new_part, after_empty_take, after_open, after_rejoin, split_off, told_rejoined}
@@ -22,10 +22,6 @@ first_split (y ∷ ys) x some is = ap (λ (z : _). z ∷ ys) (sym is)
 
 pub one_done : {A : Type 0} (all done rest : List A) (x : A) → all ≡ done ++ rest → rest ≡ x ∷ remove rest 0 → all ≡ (done ++ x ∷ []) ++ remove rest 0
 one_done all done rest x whole split = whole ∙ ap (λ (r : List _). done ++ r) split ∙ sym (append_assoc done (x ∷ []) (remove rest 0))
-
-pub all_done : {A : Type 0} (all done rest : List A) → all ≡ done ++ rest → length rest ≡ 0 → done ≡ all
-all_done all done [] whole none = sym (whole ∙ append-nil done)
-all_done all done (x ∷ rest) whole none = absurd (omega (arith, none))
 
 -- so many parts are in the gate
 pub counted_parts : (from count workers : ℕ) (gate : Option Content) → IfSome gate (AreOut from count) → count ≡ workers → HasParts workers gate

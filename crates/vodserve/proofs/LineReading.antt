@@ -12,9 +12,9 @@ use Rattle.rtsp_client.specs.declared.wishes.Wish.{Wish}
 use Rattle.troubles.specs.Said.{with_label}
 use Rattle.troubles.proofs.WordLemmas.{none_by}
 use Rattle.local_commands.specs.TextLaws.{GivesOnce, words_in}
-use Rattle.vodserve.specs.TextLaws.{IsShortWatched, TellsPlay, TellsServed}
+use Rattle.vodserve.specs.TextLaws.{TellsPlay, TellsServed}
 use Rattle.vodserve.specs.Served.{served_text}
-use Rattle.vodserve.specs.Watches.{watched_text}
+use Rattle.vodserve.specs.Watches.{IsShortWatched, watched_text}
 use Rattle.vodserve.proofs.TextReading.{last_clean, last_line_of}
 use Rattle.local_commands.proofs.LineWords.{IsWord, is-word, number-word, AreWords, all-words, line_rest, ended, unended, line-values}
 

@@ -26,6 +26,7 @@ use Rattle.vod_base.specs.Gates.{Content}
 use Rattle.vod_base.specs.declared.gates.Opening.{Opening}
 use Rattle.slot_calendar.specs.declared.profiles.CapStep.{CapStep}
 use Rattle.admission.specs.declared.entries.Entry.{Entry}
+use Rattle.admission.specs.Books.{places_taken}
 use Rattle.admission.specs.Histories.{IsLegal}
 use Rattle.admission.specs.Makers.{made_by}
 use Rattle.station.specs.Seats.{Hall, Sitting, IsJournalOf}
@@ -206,9 +207,10 @@ newly_open_as how (Some c) is = is.0
 -- the journal of a station that was closed
 pub closed_journal : {G : Type 0} {told : G → Option Content} {serving : Serving} {hall : Hall}
     {workers : List (Worker G)} {seat : Sitting} {gate : Option Content} {entries : List Entry} → AreJoined told hall (length workers) workers seat gate → IsJournalOf seat entries → hall.steps ≡ serving.capacity →
-    length workers ≡ serving.listening.workers → IsJournal serving entries
-closed_journal {entries} back whole steps count = record {
+    places_taken entries ≤ serving.journal → length workers ≡ serving.listening.workers → IsJournal serving entries
+closed_journal {entries} back whole steps few count = record {
   legal = subst (λ (s : List CapStep). IsLegal s entries) (back.steps ∙ steps) whole.legal;
+  few = few;
   halts = whole.halts;
   first = ap (λ (n : ℕ). made_by n entries) (sym back.number) ∙ sym whole.mine ∙ back.mine;
   others = λ maker high. whole.others maker (omega (arith, back.splits, count, high));

@@ -9,7 +9,7 @@ use Rattle.std.proofs.lemmas.Bool.{cases_lt}
 use Rattle.std.proofs.lemmas.List.{append-nil, append_assoc, get_or-set_other, get_or-set_same, map-append}
 use Rattle.std.proofs.lemmas.List.Elements.{All-append, All-cons, All-head, All-nil, All-tail}
 use Rattle.vod_base.specs.Outside.{HasRisen}
-use Rattle.vod_base.specs.Gates.{Content, Part, IsOut, after_rejoin, split_off, told_rejoined}
+use Rattle.vod_base.specs.Gates.{Content, Part, after_rejoin, split_off, told_rejoined}
 use Rattle.film_frames.specs.declared.stores.Stored.{Stored}
 use Rattle.admission.specs.declared.entries.Entry.{Entry}
 use Rattle.admission.specs.Makers.{made_by}
@@ -95,10 +95,6 @@ same_workers from (first ∷ workers) (other ∷ after) all same each = (
   where
     open same use {long, numbers}
 
-length_removed : {G : Type 0} (workers : List (Worker G)) → 0 < length workers → length (remove workers 0) + 1 ≡ length workers
-length_removed [] some = absurd (omega (arith, some))
-length_removed (first ∷ workers) some = omega arith
-
 number_of : (part : Option Content) (number from : ℕ) → IfSome part (λ content. content.own.number ≡ number) → number ≡ from → IfSome part (λ content. content.own.number ≡ from)
 number_of None number from is same = tt
 number_of (Some p) number from is same = is ∙ same
@@ -138,15 +134,6 @@ pub record PartOut (from count : ℕ) (part gate : Option Content) : Type 0 wher
   pub inside : from < count
   pub number : IfSome part (λ content. content.own.number ≡ from)
   pub out : IfSome gate (AreOut from count)
-
-pub may_rejoin : {from count : ℕ} (part gate : Option Content) → PartOut from count part gate →
-    IfSome gate (λ c. IfSome part (λ p. IsOut p.own.number c))
-may_rejoin part None out_part = tt
-may_rejoin None (Some c) out_part = tt
-may_rejoin {from} (Some p) (Some c) out_part =
-    (omega (arith, number, short, are.counted), ap (λ (k : ℕ). slice_index_or c.parts k None) number ∙ are.out from (omega arith) short)
-  where
-    open out_part use {inside as short, number, out as are}
 
 -- one more of which something holds
 pub all_push : {A : Type 0} (P : A → Type 0) (items : List A) (item : A) → All P items → P item → All P (items ++ item ∷ [])
@@ -325,14 +312,6 @@ left_more {parts} {end} {end'} part left worse = record {
     | inl none ↦ inl (worse.memory (inl none))
     | inr all ↦ inr (ap (λ (rs : List ConnReport). rs ++ part.reports.items) all ∙ sym (reports_push parts part))
   ];
-}
-
-pub left_short : (parts : List PartReport) (reports : List ConnReport) → AreLeft parts NoMemory reports
-left_short parts reports = record {
-  taken = λ e. let bad : ⊥ = cc in absurd bad;
-  failed = λ e. let bad : ⊥ = cc in absurd bad;
-  memory = inl refl;
-  whole = inl refl;
 }
 
 -- a station has the capacity and the limit that the words say

@@ -20,10 +20,12 @@ use Rattle.conn.specs.declared.reports.ConnReport.{ConnReport}
 use Rattle.conn.specs.declared.reports.PartReport.{PartReport}
 use Rattle.inputs.specs.Films.{IsHeldRefused}
 use Rattle.troubles.specs.declared.faults.Fault.{Fault}
-use Rattle.command_words.specs.Words.{Serving}
+use Rattle.command_words.specs.Words.{ScriptRun, Serving}
+use Rattle.day_run.specs.DayLaws.{KeepsAfter}
+use Rattle.day_run.specs.Days.{link_of}
 use Rattle.vodserve.specs.Worked.{AreLoaded, IsOpenedOnce, all_reports, opening_of, settings_of}
 use Rattle.vodserve.specs.Worked.{terms_for}
-use Rattle.vodserve.specs.Run.{HasServedNothing, Serves, World}
+use Rattle.vodserve.specs.Run.{HasRunScript, HasServedNothing, Seen, Serves, World}
 use Rattle.vodserve.specs.Served.{IsJournal}
 use Rattle.vodserve.specs.declared.run.Ended.{Ended}
 
@@ -167,3 +169,11 @@ ServesEach =
     (before after : World) (seed : List ℕ) (serving : Serving) (ended : Ended) (gate : Content) →
     Serves before after seed serving ended → after.gate.told ≡ Some gate →
     HaveRun serving ended gate → HasServedAll before seed serving ended gate
+
+-- a script that ran: after each of its lines what the clients are sent in the slots up to any later
+-- one is what is booked there, and within the capacity
+abbrev pub KeepsEachLine : Type 0
+KeepsEachLine =
+    (store : Seen (List File)) (out out' err err' : Seen (List ℕ)) (run : ScriptRun)
+    (ended : Ended) (ran : HasRunScript store out out' err err' run ended) (count : ℕ) →
+    KeepsAfter (link_of run.capacity run.journal run.slot ran.sources) ran.script.lines.items count

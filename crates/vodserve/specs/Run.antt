@@ -1,7 +1,7 @@
 -- What a run of the program did: it carried out what the words ask for, or it said what kept it
 -- from that.
-use Rattle.std.specs.Prelude.{◌≡◌, ℕ, ◌≤◌, Bool, List, [], length, Option, Some, None, Result, Ok}
-use Rattle.std.specs.Prelude.{Err, IfSome, ◌⊎◌}
+use Rattle.std.specs.Prelude.{◌≡◌, ℕ, ◌≤◌, ◌<◌, ◌^◌, Bool, List, [], length, Option, Some, None}
+use Rattle.std.specs.Prelude.{Result, Ok, Err, IfSome, ◌⊎◌}
 use Rattle.vod_base.specs.Outside.{File, HasRisen, told_more, IsFrontMore}
 use Rattle.plan_cert.specs.declared.Segment.{Segment}
 use Rattle.slot_calendar.specs.declared.profiles.CapStep.{CapStep}
@@ -9,7 +9,9 @@ use Rattle.admission.specs.Histories.{IsLegal}
 use Rattle.admission.specs.declared.entries.Entry.{Entry}
 use Rattle.day_run.specs.declared.reels.Source.{Source}
 use Rattle.day_run.specs.declared.scripts.Script.{Script}
+use Rattle.day_run.specs.DayLaws.{AreClients, IsLink}
 use Rattle.day_run.specs.Days.{IsDay, link_of}
+use Rattle.day_run.specs.Scripts.{AreLines}
 use Rattle.day_run.specs.FairDays.{IsFair}
 use Rattle.local_commands.specs.Days.{AreHeldAs, HoldsScript, IsDayInput, IsDayRefused}
 use Rattle.rtsp_client.specs.declared.wishes.Wish.{Wish}
@@ -34,7 +36,7 @@ use Rattle.troubles.specs.declared.faults.Trouble.TheVariants.{SinkFault, NoMemo
 use Rattle.troubles.specs.declared.faults.Trouble.TheVariants.{LinkFault}
 use Rattle.troubles.specs.declared.faults.Fault.TheVariants.{NoConnection}
 use Rattle.vodserve.specs.Watches.{HasHeardFilm, HasPart, IsWishOf, idle_part, opening_at}
-use Rattle.vodserve.specs.Watches.{refusal_of, watched_text}
+use Rattle.vodserve.specs.Watches.{IsShortWatched, refusal_of, watched_text}
 use Rattle.vod_base.specs.Gates.{Content}
 use Rattle.film_frames.specs.declared.stores.Stored.{Stored}
 use Rattle.conn.specs.Parts.{Outlet, outlet}
@@ -151,13 +153,15 @@ Ends out out' err err' text end ended =
     × Fails err err' trouble ended))
 
 -- a server that served: the films as they were loaded, the journal, what the workers did over the
--- one opening of the gate, and the text that tells of it; where a worker ended by a fault of the
--- gate, the gate counted one
+-- one opening of the gate, and the text that tells of it, whose counts are numbers of 64 bits; where
+-- a worker ended by a fault of the gate, the gate counted one
 pub record HasServed (before after : World) (seed : List ℕ) (serving : Serving) (ended : Ended)
     : Type 0 where
   pub films : List Stored
   pub loaded : AreLoaded before.store.told serving.films films
   pub journal : IsJournal serving ended.journal.items
+  pub entries_short : length ended.journal.items < 2 ^ 64
+  pub connections_short : length ended.reports.items < 2 ^ 64
   pub end : PartEnd
   pub worked : HaveWorked films seed serving ended.journal.items before.gate after.gate end
       ended.reports.items
@@ -207,13 +211,17 @@ HasNotRun out out' err err' IsWhy ended =
     (trouble : Trouble)
     × (IsWhy trouble × (out' ≡ out) × HasServedNothing ended × Fails err err' trouble ended)
 
--- a script that ran, with its films and traces, as the library holds them
+-- a script that ran, with its films and traces, as the library holds them: its lines ask for one of
+-- the 256 clients and for what it names, and all of that can be played
 pub record HasRunScript (store : Seen (List File)) (out out' err err' : Seen (List ℕ))
     (run : ScriptRun) (ended : Ended) : Type 0 where
   pub script : Script
   pub sources : List Source
   pub read : IfTold store.told (λ held. HoldsScript held run.script script)
   pub loaded : IfTold store.told (λ held. AreHeldAs held script.named.items sources)
+  pub clients : AreClients script.lines.items
+  pub lines : AreLines (length sources) script.lines.items
+  pub link : IsLink (link_of run.capacity run.journal run.slot sources)
   pub ran : HasRun out out' err err' run.capacity
       (IsDay (link_of run.capacity run.journal run.slot sources) script.lines.items) ended
 
@@ -253,10 +261,12 @@ abbrev pub IsRefusalOf : List ℕ → WatchFault → Trouble → Type 0
 IsRefusalOf film fault (Refused name refusal) = (name.now ≡ film) × (refusal ≡ refusal_of fault)
 IsRefusalOf film fault _ = ⊥
 
--- what the meter of the client's buffer read was said, or after a fault there a front of it
+-- what the meter of the client's buffer read, in numbers of 64 bits, was said, or after a fault
+-- there a front of it
 pub record SaysWatched (err err' : Seen (List ℕ)) (watched : Watched) (ended : Ended) : Type 0 where
   pub status : ended.status ≡ 0
   pub no_plan : ended.plan ≡ None
+  pub short : IsShortWatched watched
   pub whole : Bool
   pub said : IsSaid err.faults err'.faults err.told err'.told (watched_text watched) whole
 

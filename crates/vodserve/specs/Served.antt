@@ -1,11 +1,12 @@
 -- What a server prints and leaves.
-use Rattle.std.specs.Prelude.{◌≡◌, ◌≢◌, ◌⊎◌, ℕ, ◌<◌, List, [], ◌∷◌, ◌++◌, length, codes, decimal}
-use Rattle.std.specs.Prelude.{All, Option, Some, None, IfSome}
+use Rattle.std.specs.Prelude.{◌≡◌, ◌≢◌, ◌⊎◌, ℕ, ◌<◌, ◌≤◌, List, [], ◌∷◌, ◌++◌, length, codes}
+use Rattle.std.specs.Prelude.{decimal, All, Option, Some, None, IfSome}
 use Rattle.std.specs.List.{Contains}
 use Rattle.vod_base.specs.Outside.{File, HasRisen, IsFrontMore, told_more}
 use Rattle.vod_base.specs.Gates.{Content}
 use Rattle.vod_base.specs.declared.gates.Opening.{Opening}
 use Rattle.admission.specs.declared.entries.Entry.{Entry}
+use Rattle.admission.specs.Books.{places_taken}
 use Rattle.admission.specs.Machine.{booked_in}
 use Rattle.admission.specs.Histories.{IsLegal, state_after}
 use Rattle.admission.specs.Makers.{AreHaltsOwn, made_by}
@@ -39,9 +40,11 @@ served_text entries connections =
     ++ last_line connections (length entries)
 
 -- the journal of a closed server: a legal history over its capacity, in which each play is halted
--- by its own maker, with entries of the seats 1 up to that of the last worker alone
+-- by its own maker, with entries of the seats 1 up to that of the last worker alone; its entries,
+-- with one for the halt of each open play, are no more than the words allow
 pub record IsJournal (serving : Serving) (entries : List Entry) : Type 0 where
   pub legal : IsLegal serving.capacity entries
+  pub few : places_taken entries ≤ serving.journal
   pub halts : AreHaltsOwn entries
   pub first : made_by 0 entries ≡ []
   pub others : (maker : ℕ) → serving.listening.workers < maker → made_by maker entries ≡ []

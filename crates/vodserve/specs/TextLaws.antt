@@ -1,21 +1,10 @@
 -- What a reader of the output of a server or a client can tell from it.
-use Rattle.std.specs.Prelude.{ℕ, ◌≡◌, ◌≢◌, ◌<◌, ◌^◌, List, ◌∷◌, ◌++◌, All}
+use Rattle.std.specs.Prelude.{ℕ, ◌≡◌, ◌≢◌, List, ◌∷◌, ◌++◌, All}
 use Rattle.std.specs.Prelude.{codes, length}
 use Rattle.rtsp_client.specs.Meters.{count_over, count_under, most_waiting}
 use Rattle.rtsp_client.specs.Moments.{History, frames, payloads, reports, sizes}
-use Rattle.rtsp_client.specs.declared.wishes.Watched.{Watched}
 use Rattle.rtsp_client.specs.declared.wishes.Wish.{Wish}
 use Rattle.local_commands.specs.TextLaws.{GivesOnce}
-
--- numbers of 64 bits, as those of every watching
-pub record IsShortWatched (watched : Watched) : Type 0 where
-  pub units_short : watched.units < 2 ^ 64
-  pub bytes_short : watched.bytes < 2 ^ 64
-  pub frames_short : watched.frames < 2 ^ 64
-  pub reports_short : watched.reports < 2 ^ 64
-  pub most_short : watched.most < 2 ^ 64
-  pub over_short : watched.over < 2 ^ 64
-  pub under_short : watched.under < 2 ^ 64
 
 -- What a line tells of a client's play: the pictures that came whole, the film's bytes that were
 -- handed on, the frames and reports that came; the most bytes that waited to be played, at how many

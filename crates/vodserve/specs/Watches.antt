@@ -1,6 +1,6 @@
 -- What a client that watches a film comes to.
-use Rattle.std.specs.Prelude.{◌≡◌, ℕ, false, List, [], ◌∷◌, ◌++◌, codes, option_map, slice_index_or}
-use Rattle.std.specs.Prelude.{string_bytes, Option, Some, None, IfSome}
+use Rattle.std.specs.Prelude.{◌≡◌, ◌<◌, ◌^◌, ℕ, false, List, [], ◌∷◌, ◌++◌, codes, option_map}
+use Rattle.std.specs.Prelude.{slice_index_or, string_bytes, Option, Some, None, IfSome}
 use Rattle.vod_base.specs.Outside.{HasRisen}
 use Rattle.vod_base.specs.Links.{Doing}
 use Rattle.vod_base.specs.declared.gates.Opening.{Opening}
@@ -53,6 +53,16 @@ watched_text w =
     ++ with_label (codes "frames") w.frames ++ with_label (codes "reports") w.reports
     ++ with_label (codes "most") w.most ++ with_label (codes "over") w.over
     ++ with_label (codes "under") w.under ++ codes "\n"
+
+-- numbers of 64 bits, as those of every watching
+pub record IsShortWatched (watched : Watched) : Type 0 where
+  pub units_short : watched.units < 2 ^ 64
+  pub bytes_short : watched.bytes < 2 ^ 64
+  pub frames_short : watched.frames < 2 ^ 64
+  pub reports_short : watched.reports < 2 ^ 64
+  pub most_short : watched.most < 2 ^ 64
+  pub over_short : watched.over < 2 ^ 64
+  pub under_short : watched.under < 2 ^ 64
 
 -- a part that gave no connection, and one that gave one and got it back
 abbrev pub idle_part : Part

@@ -48,10 +48,7 @@ fn program_words(rt: &(impl Env + AllocGlobal)) -> Result<Vec<String>, AllocErro
 
 /// Whether a client is asked for, which makes a connection where a server waits for them.
 fn is_watch(words: &[String]) -> bool {
-    match words.first() {
-        Some(word) => word.as_str() == "watch",
-        None => false,
-    }
+    words.first().is_some_and(|word| word.as_str() == "watch")
 }
 
 /// Carries out the words of the command line, over a gate of the kind that they ask for.

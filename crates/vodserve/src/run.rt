@@ -14,8 +14,8 @@ ghost use Rattle.local_commands.specs.Carrying.{IsPlanned, IsRead, IsViewerRefus
 ghost use Rattle.command_words.specs.Orders.{serving_of};
 ghost use Rattle.command_words.specs.Ranges.{IsServingInRange};
 ghost use Rattle.vodserve.specs.Served.{served_text};
-ghost use Rattle.vodserve.specs.Laws.{GivesEachBack, LeavesNoneOut, ServesEach, ServesNoRefused};
-ghost use Rattle.vodserve.specs.Laws.{ServesWhatItMay, TellsItsJournal};
+ghost use Rattle.vodserve.specs.Laws.{GivesEachBack, KeepsEachLine, LeavesNoneOut, ServesEach};
+ghost use Rattle.vodserve.specs.Laws.{ServesNoRefused, ServesWhatItMay, TellsItsJournal};
 ghost use Rattle.vodserve.specs.Run.{Ends, Fails, HasServedNothing, Printed, Ran, Serves};
 ghost use Rattle.vodserve.specs.Run.{gate_seen, sight_of, world};
 
@@ -116,6 +116,12 @@ pub fn law_one_verdict()
     ensures not_refused { (held : List File) (viewer : Viewer) (cert : List ℕ) (status : ℕ)
         (text name : List ℕ) (fault : Fault) → IsChecked held viewer cert status text →
         IsInputRefused (check_of viewer cert) held name fault → ⊥ }
+{}
+
+/// A law: a script's day comes to a moment after each of its lines. What the clients are sent from
+/// there up to any later slot is what is booked in those slots, and no more than their capacity.
+pub fn law_day_keeps()
+    ensures { KeepsEachLine }
 {}
 
 /// Ends a server: prints its journal, what is still booked and a last line, and hands journal and

@@ -69,6 +69,12 @@ file cut smooth 1|slots 4|
 2 vodserve: usage|
 > plan trace=.even
 2 vodserve: usage|
+> check trace=even cert=.cert
+2 vodserve: usage|
+> scan film=.film
+2 vodserve: usage|
+> day script=.script
+2 vodserve: usage|
 > plan trace
 2 vodserve: usage|
 > check trace=even

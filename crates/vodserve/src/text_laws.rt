@@ -6,9 +6,8 @@ ghost use Rattle.vodserve.specs.Served.{served_text};
 ghost use Rattle.rtsp_client.specs.Meters.{watched_in};
 ghost use Rattle.rtsp_client.specs.Moments.{History};
 ghost use Rattle.rtsp_client.specs.declared.wishes.Wish.{Wish};
-ghost use Rattle.vodserve.specs.TextLaws.{IsShortWatched};
 ghost use Rattle.vodserve.specs.TextLaws.{TellsPlay, TellsServed};
-ghost use Rattle.vodserve.specs.Watches.{watched_text};
+ghost use Rattle.vodserve.specs.Watches.{IsShortWatched, watched_text};
 
 /// A law: the text of a server tells, in its last line, how many connections were served and how
 /// many entries its journal has.

@@ -10,7 +10,8 @@ ghost use Rattle.conn.specs.Parts.{IsUntouched};
 ghost use Rattle.troubles.specs.Said.{IsSaid};
 ghost use Rattle.vodserve.specs.Run.{EndsWatch, HasServedNothing, SaysWatched, Watches, gate_seen};
 ghost use Rattle.vodserve.specs.Run.{sight_of};
-ghost use Rattle.vodserve.specs.Watches.{Hears, HearsPart, IsSameOutput, IsWishOf, opening_at};
+ghost use Rattle.vodserve.specs.Watches.{Hears, HearsPart, IsSameOutput, IsShortWatched};
+ghost use Rattle.vodserve.specs.Watches.{IsWishOf, opening_at};
 ghost use Rattle.vodserve.specs.Watches.{refusal_of, watched_text};
 ghost use Rattle.vodserve.specs.Worked.{HasTooFew, IsOpenAs, IsOpenedOnce};
 
@@ -73,22 +74,20 @@ fn wish_of(alloc: Global, watching: &Watching<'_>) -> Result<Wish, NoMemory>
     ensures wish { IfOk result IsWish }
     ensures words { IfOk result (IsWishOf (watching_of watching.entry.now)) }
 {
-    match String::from_str(alloc, watching.film) {
-        Ok(name) => Ok(Wish {
-            name,
-            port: watching.port,
-            buffer: watching.pace.buffer,
-            startup: watching.pace.startup,
-            slot_units: watching.pace.slot,
-        }),
-        Err(_) => Err(NoMemory),
-    }
+    Ok(Wish {
+        name: String::from_str(alloc, watching.film)?,
+        port: watching.port,
+        buffer: watching.pace.buffer,
+        startup: watching.pace.startup,
+        slot_units: watching.pace.slot,
+    })
 }
 
 /// Says what the meter of the client's buffer read.
-fn say_watched<E: Sink>(err: &mut E, watched: &Watched) -> bool
-    ensures { IsSaid (E.faults err.old) (E.faults err.new) (E.written err.old) (E.written err.new)
-        (watched_text watched.now) result }
+fn say_watched<E: Sink>(err: &mut E, watched: Watched) -> bool
+    ensures said { IsSaid (E.faults err.old) (E.faults err.new) (E.written err.old)
+        (E.written err.new) (watched_text watched) result }
+    ensures short { IsShortWatched watched }
 {
     let word = add(err, true, b"watched");
     let units = add_count(err, word, "units", watched.units);
@@ -163,11 +162,11 @@ fn watch_gate<O: Sink, G: Gate + Drop>(
 }
 
 /// Ends with what the meter of the client's buffer read.
-fn end_watched<E: Sink>(alloc: Global, err: &mut E, watched: &Watched) -> Ended
+fn end_watched<E: Sink>(alloc: Global, err: &mut E, watched: Watched) -> Ended
     ensures nothing { HasServedNothing result }
     ensures says { SaysWatched
         (sight_of E.faults E.written err.old) (sight_of E.faults E.written err.new)
-        watched.now result }
+        watched result }
 {
     let _ = say_watched(err, watched);
     Ended {
@@ -186,7 +185,7 @@ fn end_watch<E: Sink>(alloc: Global, err: &mut E, film: &str, end: WatchEnd) -> 
         film.entry.now end result }
 {
     match end {
-        WatchEnd::Done(watched) => end_watched(alloc, err, &watched),
+        WatchEnd::Done(watched) => end_watched(alloc, err, watched),
         WatchEnd::Fault(fault) => {
             let refusal = refusal_of(fault);
             end_with(alloc, err, Trouble::Refused(film, refusal))

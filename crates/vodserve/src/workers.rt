@@ -188,7 +188,7 @@ fn work<R: Wait, G: Gate>(rt: &R, alloc: Global, service: Service<'_>, worker: &
 }
 
 /// The worse of two ends: want of memory before a fault of the gate.
-fn worse(one: PartEnd, other: PartEnd) -> PartEnd
+fn worse_end(one: PartEnd, other: PartEnd) -> PartEnd
     ensures { IsWorse one other result }
 {
     match (one, other) {
@@ -209,7 +209,7 @@ fn add_reports(end: PartEnd, report: PartReport, reports: &mut Vec<ConnReport>) 
         reports: mut more,
     } = report;
     match reports.append(&mut more) {
-        Ok(()) => worse(end, other),
+        Ok(()) => worse_end(end, other),
         Err(_) => PartEnd::NoMemory,
     }
 }

@@ -1,5 +1,6 @@
-use Rattle.std.proofs.Common.{◌∙◌, Vec, Global, inl, inr, refl, sym, subst, arith}
+use Rattle.std.proofs.Common.{◌∙◌, ℕ, Vec, Global, inl, inr, refl, sym, ap, subst, length, arith}
 use Rattle.day_run.specs.Days.{IsDay, link_of}
+use Rattle.day_run.specs.Scripts.{AreLines}
 use Rattle.admission.specs.Histories.{IsLegal}
 use Rattle.admission.specs.declared.entries.Entry.{Entry}
 use Rattle.std.specs.List.{Contains}
@@ -82,6 +83,10 @@ returns-in-Ok-run_day-clause-runs g c = inr (record {
   sources = c.in-Ok-load_sources.sources.items;
   read = λ held told. (c.in-Ok.ensures {u = tt}).held held told;
   loaded = λ held told. rw c.deref.ensures.value at ((c.in-Ok-load_sources.ensures {u = tt}).held held (c.load_script.ensures.library.kept ∙ told));
+  clients = (c.in-Ok.ensures {u = tt}).clients;
+  lines = subst (λ (n : ℕ). AreLines n c.in-Ok.script.lines.items) (sym ((c.in-Ok-load_sources.ensures {u = tt}).count ∙ ap length c.deref.ensures.value))
+      ((c.in-Ok.ensures {u = tt}).lines);
+  link = rw c.deref-2.ensures.value at (c.in-Ok-run_day.ensures {u = tt}).link;
   ran = record {
     legal = subst (λ (v : Vec Entry Global). IsLegal c.args.run.now.capacity v.items) (sym c.end_day.ensures.journal) ((c.in-Ok-run_day.ensures {u = tt}).legal);
     no_reports = c.end_day.ensures.reports;

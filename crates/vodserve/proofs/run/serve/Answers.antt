@@ -1,4 +1,4 @@
-use Rattle.std.proofs.Common.{◌≡◌, ◌∙◌, ℕ, List, length, inl, inr, refl, sym, ap, subst}
+use Rattle.std.proofs.Common.{◌≡◌, ◌∙◌, ℕ, List, length, inl, inr, refl, sym, ap, subst, arith}
 use Rattle.admission.specs.declared.entries.Entry.{Entry}
 use Rattle.conn.specs.Parts.{Outlet}
 use Rattle.conn.specs.declared.reports.ConnReport.{ConnReport}
@@ -37,6 +37,8 @@ returns-in-Ok-run_server-clause-serves g c =
       films = c.in-Ok.prepared.films.items;
       loaded = (c.in-Ok.ensures {u = tt}).loaded;
       journal = subst (λ (es : List Entry). IsJournal serving es) (sym c.end_server.ensures.journal) ((c.in-Ok-run_server.ensures {u = tt}).closed);
+      entries_short = omega (arith, c.end_server.result.journal.ok);
+      connections_short = omega (arith, c.end_server.result.reports.ok);
       end = c.in-Ok-run_server.closed.end;
       worked = worked;
       once = once_since before.told opened.told after.told ((c.in-Ok.ensures {u = tt}).once) c.run_server.ensures.since;

@@ -1,4 +1,4 @@
-use Rattle.std.proofs.Common.{◌∙◌, ℕ, List, subst}
+use Rattle.std.proofs.Common.{◌∙◌, ℕ, List, subst, arith}
 use Rattle.std.specs.Prelude.{All}
 use Rattle.film_frames.specs.declared.stores.Stored.{Stored}
 use Rattle.command_words.specs.Words.{Serving}
@@ -36,6 +36,7 @@ pub returns-clause-closed : goal.returns-clause-closed
 returns-clause-closed g c =
     closed_journal
     c.join_workers-end.ensures.joined c.close-book.ensures.whole c.requires.steps
+    (omega (arith, c.entries-within.ensures.within, c.close-book.ensures.limit, c.join_workers-end.ensures.joined.limit, c.requires.limit))
     (c.run_workers.ensures.count ∙ (c.in-Ok.ensures {u = tt}).made)
 
 pub returns-clause-worked : goal.returns-clause-worked

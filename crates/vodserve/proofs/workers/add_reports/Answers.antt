@@ -11,6 +11,6 @@ returns-in-Ok c =
     subst (λ r. c.append.new.self.items ≡ (if is_ok r then c.args.reports.now.items ++ c.args.report.reports.items else c.args.reports.now.items)) c.in-Ok.is
     c.append.ensures.items in
     record {
-      left = λ parts left. subst (λ (rs : List ConnReport). AreLeft (parts ++ c.args.report ∷ []) c.worse.result rs) (sym items)
-          (left_more c.args.report left c.worse.ensures);
+      left = λ parts left. subst (λ (rs : List ConnReport). AreLeft (parts ++ c.args.report ∷ []) c.worse_end.result rs) (sym items)
+          (left_more c.args.report left c.worse_end.ensures);
     }
