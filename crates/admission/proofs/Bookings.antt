@@ -25,7 +25,8 @@ use Rattle.admission.proofs.Runs.{PlayAdmitted, legal-at, legal-take, no_entry, 
 abbrev entry_of : ℕ → Command → Answer → Entry
 entry_of maker command answer = record { maker = maker; command = command; answer = answer }
 
-after_entry : (xs : List Entry) (e : Entry) (t : ℕ) → booked_after (xs ++ e ∷ []) t ≡ booked_in (next_state (state_after xs) (length xs) e.command e.answer) t
+after_entry : (xs : List Entry) (e : Entry) (t : ℕ)
+    → booked_after (xs ++ e ∷ []) t ≡ booked_in (next_state (state_after xs) (length xs) e.command e.answer) t
 after_entry xs e t = ap (λ (s : State). booked_in s t) (state-push xs e)
 
 pub booked_admitted : {segments : List Segment} (xs : List Entry) (maker slot start t : ℕ) → IsPlan segments
@@ -47,7 +48,8 @@ halted_state {number} {start} {segments} state keep t plan is =
     let back = map play_of parts.after in
     let becomes : map play_of (with_halted number keep state.held) ≡ front ++ cut_play start segments keep ∷ back =
     ap (map play_of) (parts.becomes keep) ∙ plays-split parts.before parts.after (halted_play keep h) in
-    ap (λ (l : List Booked). booked_by l t + cut_at segments start keep t) becomes ∙ booked-cut front back (cut_play start segments keep) t plan
+    ap (λ (l : List Booked). booked_by l t + cut_at segments start keep t) becomes
+    ∙ booked-cut front back (cut_play start segments keep) t plan
     ∙ ap (λ (l : List Booked). booked_by l t) (sym (plays-around state number start segments is refl))
 
 pub booked_halted : {steps : List CapStep} {xs : List Entry} {number start : ℕ} {segments : List Segment} (maker keep t : ℕ)
@@ -73,8 +75,11 @@ other_state state place (Play slot segments) (Looked now at booked) t none = ref
 other_state state place (Halt number keep) answer t none = absurd (false≢true (sym none.unhalted))
 other_state state place (Look slot) answer t none = refl
 
-pub booked_other : (xs : List Entry) (e : Entry) (t : ℕ) → is_admission e.answer ≡ false → is_halt e.command ≡ false → booked_after (xs ++ e ∷ []) t ≡ booked_after xs t
-booked_other xs e t unopened unhalted = after_entry xs e t ∙ other_state (state_after xs) (length xs) e.command e.answer t (record { unopened = unopened; unhalted = unhalted })
+pub booked_other : (xs : List Entry) (e : Entry) (t : ℕ) → is_admission e.answer ≡ false
+    → is_halt e.command ≡ false → booked_after (xs ++ e ∷ []) t ≡ booked_after xs t
+booked_other xs e t unopened unhalted =
+    after_entry xs e t
+    ∙ other_state (state_after xs) (length xs) e.command e.answer t (record { unopened = unopened; unhalted = unhalted })
 
 -- ---- where a play begins
 pub start_is : {steps : List CapStep} {xs : List Entry} {number start : ℕ} {segments : List Segment}
@@ -95,8 +100,10 @@ start_is {steps} {xs} {number} {start} {segments} admitted =
     omega (arith, answered.0, now_is, slot_is, latest)
 
 -- ---- what a look tells
-pub look_is : {steps : List CapStep} {xs : List Entry} {slot now at booked : ℕ} (place : ℕ) (none : Entry) → IsLegal steps xs → place < length xs → (get_or xs place none).command ≡ Look slot →
-    (get_or xs place none).answer ≡ Looked now at booked → (now ≡ latest_asked (take place xs)) × (at ≡ max now slot) × (booked ≡ booked_after (take place xs) at)
+pub look_is : {steps : List CapStep} {xs : List Entry} {slot now at booked : ℕ} (place : ℕ) (none : Entry) →
+    IsLegal steps xs → place < length xs → (get_or xs place none).command ≡ Look slot →
+    (get_or xs place none).answer ≡ Looked now at booked
+    → (now ≡ latest_asked (take place xs)) × (at ≡ max now slot) × (booked ≡ booked_after (take place xs) at)
 look_is {steps} {xs} {slot} {at} place none legal inside command_is answer_is =
     let state = state_after (take place xs) in
     let C : Command → Type 0 = λ c. IsAnswer steps state c (get_or xs place none).answer in

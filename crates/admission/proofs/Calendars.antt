@@ -16,12 +16,16 @@ use Rattle.admission.specs.Kept.{Follows}
 use Rattle.admission.proofs.Halts.{play_of, plays-split, split}
 
 -- before its start a plan fits, since nothing is booked above capacity
-fits-early : {steps : List CapStep} {state : State} {start u : ℕ} (segments : List Segment) → IsNeverOverbooked steps state → u < start → Fits (booked_in state) (capacity_at steps) start segments u
+fits-early : {steps : List CapStep} {state : State} {start u : ℕ} (segments : List Segment)
+    → IsNeverOverbooked steps state → u < start → Fits (booked_in state) (capacity_at steps) start segments u
 fits-early {steps} {start} {u} segments within early = omega (arith, within.each u, asked-before segments start u early)
 
 -- what the calendar has booked from now on is what the state has booked
-fits-each : {steps : List CapStep} {calendar : Calendar} {state : State} {start u : ℕ} (segments : List Segment) → IsNeverOverbooked steps state → StandsFor calendar (plays_of state) →
-    calendar.first < start → (calendar.first ≤ u → Fits (booked_at calendar) (capacity_at steps) start segments u) → Fits (booked_in state) (capacity_at steps) start segments u
+fits-each : {steps : List CapStep} {calendar : Calendar} {state : State} {start u : ℕ}
+    (segments : List Segment) → IsNeverOverbooked steps state → StandsFor calendar (plays_of state) →
+    calendar.first < start
+    → (calendar.first ≤ u → Fits (booked_at calendar) (capacity_at steps) start segments u)
+    → Fits (booked_in state) (capacity_at steps) start segments u
 fits-each {steps} {calendar} {state} {start} {u} segments within stands after fits = elim (cases_lt u calendar.first) [
   | inl early ↦ fits-early segments within (omega (arith, early, after))
   | inr since ↦ omega (arith, stands.each u since, fits since)
@@ -30,7 +34,8 @@ fits-each {steps} {calendar} {state} {start} {u} segments within stands after fi
 -- room from now on is room everywhere
 pub room-everywhere : {steps : List CapStep} {calendar : Calendar} {state : State} {start : ℕ}
     {segments : List Segment} → IsNeverOverbooked steps state → StandsFor calendar (plays_of state) →
-    calendar.first < start → HasRoom calendar.first (booked_at calendar) (capacity_at steps) start segments → HasRoom 0 (booked_in state) (capacity_at steps) start segments
+    calendar.first < start → HasRoom calendar.first (booked_at calendar) (capacity_at steps) start segments
+    → HasRoom 0 (booked_in state) (capacity_at steps) start segments
 room-everywhere {steps} {start} {segments} within stands after room = record {
   each = λ u _. fits-each segments within stands after (λ since. room.each u since);
 }
@@ -38,7 +43,8 @@ room-everywhere {steps} {start} {segments} within stands after room = record {
 -- the first overflow from now on is the first one
 pub overflow-everywhere : {steps : List CapStep} {calendar : Calendar} {state : State} {start : ℕ}
     {segments : List Segment} {over : Overflow} → IsNeverOverbooked steps state →
-    StandsFor calendar (plays_of state) → calendar.first < start → IsFirstOverflow calendar.first (booked_at calendar) (capacity_at steps) start segments over →
+    StandsFor calendar (plays_of state) → calendar.first < start →
+    IsFirstOverflow calendar.first (booked_at calendar) (capacity_at steps) start segments over →
     IsFirstOverflow 0 (booked_in state) (capacity_at steps) start segments over
 overflow-everywhere {steps} {start} {segments} {over} within stands after first = record {
   begun = omega arith;
@@ -49,17 +55,22 @@ overflow-everywhere {steps} {start} {segments} {over} within stands after first 
 }
 
 -- a play more
-pub stands-opened : (calendar : Calendar) (held : List Held) (number start : ℕ) (segments : List Segment) → StandsFor calendar (map play_of held ++ whole_play start segments ∷ []) →
+pub stands-opened : (calendar : Calendar) (held : List Held) (number start : ℕ) (segments : List Segment) →
+    StandsFor calendar (map play_of held ++ whole_play start segments ∷ []) →
     StandsFor calendar (map play_of (held ++ admitted_play number start segments ∷ []))
-stands-opened calendar held number start segments stands = subst (StandsFor calendar) (sym (map_push play_of held (admitted_play number start segments))) stands
+stands-opened calendar held number start segments stands =
+    subst (StandsFor calendar) (sym (map_push play_of held (admitted_play number start segments))) stands
 
 -- the plays around one that stands whole
 pub plays-around : {h : Held} (state : State) (number start : ℕ) (segments : List Segment)
     (is : held_as number state.held ≡ Some h) → h.play ≡ whole_play start segments →
-    plays_of state ≡ map play_of (split number state.held h is).before ++ whole_play start segments ∷ map play_of (split number state.held h is).after
+    plays_of state
+    ≡ map play_of (split number state.held h is).before ++ whole_play start segments
+    ∷ map play_of (split number state.held h is).after
 plays-around {h} state number start segments is play_is =
     let parts = split number state.held h is in
-    ap (map play_of) parts.was ∙ plays-split parts.before parts.after h ∙ ap (λ p. map play_of parts.before ++ p ∷ map play_of parts.after) play_is
+    ap (map play_of) parts.was ∙ plays-split parts.before parts.after h
+    ∙ ap (λ p. map play_of parts.before ++ p ∷ map play_of parts.after) play_is
 
 -- the state holds a play whole
 pub record HoldsWhole (state : State) (number start : ℕ) (segments : List Segment) : Type 0 where
@@ -70,16 +81,19 @@ pub record HoldsWhole (state : State) (number start : ℕ) (segments : List Segm
 -- it may be cut
 pub cut-allowed : {calendar : Calendar} {state : State} {number start : ℕ} {segments : List Segment} (keep : ℕ)
     → HoldsWhole state number start segments → StandsFor calendar (plays_of state)
-    → ((before after : List Booked) → StandsFor calendar (before ++ whole_play start segments ∷ after) → (t : ℕ) → calendar.first ≤ t → cut_at segments start keep t ≤ booked_at calendar t)
+    → ((before after : List Booked) → StandsFor calendar (before ++ whole_play start segments ∷ after) → (t : ℕ)
+    → calendar.first ≤ t → cut_at segments start keep t ≤ booked_at calendar t)
     → (t : ℕ) → calendar.first ≤ t → cut_at segments start keep t ≤ booked_at calendar t
 cut-allowed {calendar} {state} {number} {start} {segments} keep whole stands law =
     let parts = split number state.held whole.held whole.is in
-    law (map play_of parts.before) (map play_of parts.after) (subst (StandsFor calendar) (plays-around state number start segments whole.is whole.play_is) stands)
+    law (map play_of parts.before) (map play_of parts.after)
+    (subst (StandsFor calendar) (plays-around state number start segments whole.is whole.play_is) stands)
 
 -- once it is cut, the calendar stands for the plays with that one halted
 pub stands-halted : {old new : Calendar} {state : State} {number start : ℕ} {segments : List Segment} (keep : ℕ)
     → HoldsWhole state number start segments → StandsFor old (plays_of state)
-    → ((before after : List Booked) → StandsFor old (before ++ whole_play start segments ∷ after) → StandsFor new (before ++ cut_play start segments keep ∷ after))
+    → ((before after : List Booked) → StandsFor old (before ++ whole_play start segments ∷ after)
+    → StandsFor new (before ++ cut_play start segments keep ∷ after))
     → StandsFor new (map play_of (with_halted number keep state.held))
 stands-halted {old} {new} {state} {number} {start} {segments} keep whole stands cut =
     let h = whole.held in
@@ -87,11 +101,17 @@ stands-halted {old} {new} {state} {number} {start} {segments} keep whole stands 
     let front = map play_of parts.before in
     let back = map play_of parts.after in
     let becomes : map play_of (with_halted number keep state.held) ≡ front ++ cut_play start segments keep ∷ back =
-    ap (map play_of) (parts.becomes keep) ∙ plays-split parts.before parts.after (halted_play keep h) ∙ ap (λ (p : Booked). front ++ cut_play p.start p.segments keep ∷ back) whole.play_is in
-    subst (StandsFor new) (sym becomes) (cut front back (subst (StandsFor old) (plays-around state number start segments whole.is whole.play_is) stands))
+    ap (map play_of) (parts.becomes keep) ∙ plays-split parts.before parts.after (halted_play keep h)
+    ∙ ap (λ (p : Booked). front ++ cut_play p.start p.segments keep ∷ back) whole.play_is in
+    subst (StandsFor new) (sym becomes)
+    (cut front back (subst (StandsFor old) (plays-around state number start segments whole.is whole.play_is) stands))
 
 -- what a look tells
-pub look-answer : {calendar : Calendar} {state : State} {now at booked : ℕ} (steps : List CapStep) (slot : ℕ) → Follows calendar state → now ≡ calendar.first → at ≡ max now slot →
+pub look-answer : {calendar : Calendar} {state : State} {now at booked : ℕ} (steps : List CapStep) (slot : ℕ) →
+    Follows calendar state → now ≡ calendar.first → at ≡ max now slot →
     booked ≡ booked_at calendar at → IsAnswer steps state (Look slot) (Looked now at booked)
-look-answer {at} steps slot follows now_is at_is booked_is =
-    (now_is ∙ follows.now, omega (arith, at_is, now_is, follows.now), booked_is ∙ follows.stands.each at (omega (arith, at_is, now_is)))
+look-answer {at} steps slot follows now_is at_is booked_is = (
+  now_is ∙ follows.now,
+  omega (arith, at_is, now_is, follows.now),
+  booked_is ∙ follows.stands.each at (omega (arith, at_is, now_is)),
+)

@@ -11,52 +11,68 @@ use Rattle.admission.specs.Machine.{State, Held, halted_play, with_halted, held_
 use Rattle.admission.specs.Histories.{Halts}
 
 -- a play more
-pub found-push : (number : ℕ) (held : List Held) (h new : Held) → held_as number held ≡ Some h → held_as number (held ++ new ∷ []) ≡ Some h
+pub found-push : (number : ℕ) (held : List Held) (h new : Held) → held_as number held ≡ Some h
+    → held_as number (held ++ new ∷ []) ≡ Some h
 found-push number [] h new is = let bad : ⊥ = cc in absurd bad
 found-push number (x ∷ rest) h new is = elim (cases_Bool (eqb x.number number)) [
-  | inl found ↦ cond-true (eqb x.number number) (Some x) (held_as number (rest ++ new ∷ [])) found ∙ sym (cond-true (eqb x.number number) (Some x) (held_as number rest) found) ∙ is
+  | inl found ↦ cond-true (eqb x.number number) (Some x) (held_as number (rest ++ new ∷ [])) found
+      ∙ sym (cond-true (eqb x.number number) (Some x) (held_as number rest) found) ∙ is
   | inr other ↦ cond-false (eqb x.number number) (Some x) (held_as number (rest ++ new ∷ [])) other
       ∙ found-push number rest h new (sym (cond-false (eqb x.number number) (Some x) (held_as number rest) other) ∙ is)
 ]
 
 -- a new number is found at the end
-pub found-new : (number start : ℕ) (segments : List Segment) (held : List Held) → All (λ h. h.number < number) held → held_as number (held ++ admitted_play number start segments ∷ []) ≡ Some (admitted_play number start segments)
+pub found-new : (number start : ℕ) (segments : List Segment) (held : List Held)
+    → All (λ h. h.number < number) held
+    → held_as number (held ++ admitted_play number start segments ∷ []) ≡ Some (admitted_play number start segments)
 found-new number start segments [] all =
     cond-true (eqb number number) (Some (admitted_play number start segments)) (held_as number []) (eq-eqb number number refl)
 found-new number start segments (x ∷ rest) all =
     let less : x.number < number = All-head (λ h. h.number < number) x rest all in
-    cond-false (eqb x.number number) (Some x) (held_as number (rest ++ admitted_play number start segments ∷ [])) (ne_eqb x.number number (λ e. omega (arith, e, less)))
+    cond-false (eqb x.number number) (Some x)
+    (held_as number (rest ++ admitted_play number start segments ∷ [])) (ne_eqb x.number number (λ e. omega (arith, e, less)))
     ∙ found-new number start segments rest (All-tail (λ h. h.number < number) x rest all)
 
 -- a halt of another play leaves it
-pub found-other : (number other keep : ℕ) (held : List Held) → (other ≡ number → ⊥) → held_as number (with_halted other keep held) ≡ held_as number held
+pub found-other : (number other keep : ℕ) (held : List Held) → (other ≡ number → ⊥)
+    → held_as number (with_halted other keep held) ≡ held_as number held
 found-other number other keep [] apart = refl
 found-other number other keep (x ∷ rest) apart = elim (cases_Bool (eqb x.number other)) [
   | inl that ↦ (
       let no : eqb x.number number ≡ false = ne_eqb x.number number (λ e. apart (sym (eqb-true x.number other that) ∙ e)) in
       ap (held_as number) (cond-true (eqb x.number other) (halted_play keep x ∷ rest) (x ∷ with_halted other keep rest) that)
-      ∙ cond-false (eqb x.number number) (Some (halted_play keep x)) (held_as number rest) no ∙ sym (cond-false (eqb x.number number) (Some x) (held_as number rest) no)
+      ∙ cond-false (eqb x.number number) (Some (halted_play keep x)) (held_as number rest) no
+      ∙ sym (cond-false (eqb x.number number) (Some x) (held_as number rest) no)
       )
-  | inr this ↦ ap (held_as number) (cond-false (eqb x.number other) (halted_play keep x ∷ rest) (x ∷ with_halted other keep rest) this) ∙ found-under number x (with_halted other keep rest) rest (found-other number other keep rest apart)
+  | inr this ↦
+      ap (held_as number)
+      (cond-false (eqb x.number other) (halted_play keep x ∷ rest) (x ∷ with_halted other keep rest) this)
+      ∙ found-under number x (with_halted other keep rest) rest (found-other number other keep rest apart)
 ]
   where
-    found-under : (number : ℕ) (x : Held) (xs ys : List Held) → held_as number xs ≡ held_as number ys → held_as number (x ∷ xs) ≡ held_as number (x ∷ ys)
+    found-under : (number : ℕ) (x : Held) (xs ys : List Held) → held_as number xs ≡ held_as number ys
+        → held_as number (x ∷ xs) ≡ held_as number (x ∷ ys)
     found-under number x xs ys same = elim (cases_Bool (eqb x.number number)) [
-      | inl here ↦ cond-true (eqb x.number number) (Some x) (held_as number xs) here ∙ sym (cond-true (eqb x.number number) (Some x) (held_as number ys) here)
-      | inr later ↦ cond-false (eqb x.number number) (Some x) (held_as number xs) later ∙ same ∙ sym (cond-false (eqb x.number number) (Some x) (held_as number ys) later)
+      | inl here ↦ cond-true (eqb x.number number) (Some x) (held_as number xs) here
+          ∙ sym (cond-true (eqb x.number number) (Some x) (held_as number ys) here)
+      | inr later ↦ cond-false (eqb x.number number) (Some x) (held_as number xs) later ∙ same
+          ∙ sym (cond-false (eqb x.number number) (Some x) (held_as number ys) later)
     ]
 
 -- the halt of it closes it
-pub found-closed : (number keep : ℕ) (held : List Held) (h : Held) → held_as number held ≡ Some h → held_as number (with_halted number keep held) ≡ Some (halted_play keep h)
+pub found-closed : (number keep : ℕ) (held : List Held) (h : Held) → held_as number held ≡ Some h
+    → held_as number (with_halted number keep held) ≡ Some (halted_play keep h)
 found-closed number keep [] h is = let bad : ⊥ = cc in absurd bad
 found-closed number keep (x ∷ rest) h is = elim (cases_Bool (eqb x.number number)) [
   | inl here ↦ (
       let same : Some x ≡ Some h = sym (cond-true (eqb x.number number) (Some x) (held_as number rest) here) ∙ is in
       let that : x ≡ h = cc in
       ap (held_as number) (cond-true (eqb x.number number) (halted_play keep x ∷ rest) (x ∷ with_halted number keep rest) here)
-      ∙ cond-true (eqb x.number number) (Some (halted_play keep x)) (held_as number rest) here ∙ ap (λ (y : Held). Some (halted_play keep y)) that
+      ∙ cond-true (eqb x.number number) (Some (halted_play keep x)) (held_as number rest) here
+      ∙ ap (λ (y : Held). Some (halted_play keep y)) that
       )
-  | inr later ↦ ap (held_as number) (cond-false (eqb x.number number) (halted_play keep x ∷ rest) (x ∷ with_halted number keep rest) later)
+  | inr later ↦
+      ap (held_as number) (cond-false (eqb x.number number) (halted_play keep x ∷ rest) (x ∷ with_halted number keep rest) later)
       ∙ cond-false (eqb x.number number) (Some x) (held_as number (with_halted number keep rest)) later
       ∙ found-closed number keep rest h (sym (cond-false (eqb x.number number) (Some x) (held_as number rest) later) ∙ is)
 ]
@@ -69,7 +85,8 @@ pub record IsUntouched (state : State) (number : ℕ) (h : Held) (command : Comm
 -- the step leaves it
 pub found-next : {state : State} {number : ℕ} {h : Held} (place : ℕ) (command : Command) (answer : Answer)
     → IsUntouched state number h command → held_as number (next_state state place command answer).held ≡ Some h
-found-next {state} {number} {h} place (Play slot segments) (Admitted start) held = found-push number state.held h (admitted_play place start segments) held.is
+found-next {state} {number} {h} place (Play slot segments) (Admitted start) held =
+    found-push number state.held h (admitted_play place start segments) held.is
 found-next place (Play slot segments) (Overflow over booked asked) held = held.is
 found-next place (Play slot segments) Halted held = held.is
 found-next place (Play slot segments) (Looked now at booked) held = held.is

@@ -43,7 +43,8 @@ split number (x ∷ rest) h is =
             before = [];
             after = rest;
             was = ap (λ (y : Held). y ∷ rest) here;
-            becomes = λ keep. cond-true (eqb x.number number) (halted_play keep x ∷ rest) (x ∷ with_halted number keep rest) found ∙ ap (λ (y : Held). halted_play keep y ∷ rest) here;
+            becomes = λ keep. cond-true (eqb x.number number) (halted_play keep x ∷ rest)
+                (x ∷ with_halted number keep rest) found ∙ ap (λ (y : Held). halted_play keep y ∷ rest) here;
             number_is = sym (ap (λ (y : Held). y.number) here) ∙ eqb-true x.number number found;
           }
           )
@@ -53,7 +54,8 @@ split number (x ∷ rest) h is =
             before = x ∷ later.before;
             after = later.after;
             was = ap (λ l. x ∷ l) later.was;
-            becomes = λ keep. cond-false (eqb x.number number) (halted_play keep x ∷ rest) (x ∷ with_halted number keep rest) other ∙ ap (λ l. x ∷ l) (later.becomes keep);
+            becomes = λ keep. cond-false (eqb x.number number) (halted_play keep x ∷ rest)
+                (x ∷ with_halted number keep rest) other ∙ ap (λ l. x ∷ l) (later.becomes keep);
             number_is = later.number_is;
           }
           )
@@ -77,14 +79,19 @@ all-halted {state} {number} {keep} P halt here all =
     let S : List Held → Type 0 = λ l. All P l in
     let all' : All P (parts.before ++ h ∷ parts.after) = subst S parts.was all in
     let front : All P parts.before =
-    subst S (take_at parts.before (h ∷ parts.after) (length parts.before) refl) (All-take P (length parts.before) (parts.before ++ h ∷ parts.after) all') in
+    subst S (take_at parts.before (h ∷ parts.after) (length parts.before) refl)
+    (All-take P (length parts.before) (parts.before ++ h ∷ parts.after) all') in
     let back : All P (h ∷ parts.after) =
-    subst S (drop_at parts.before (h ∷ parts.after) (length parts.before) refl) (All-drop P (length parts.before) (parts.before ++ h ∷ parts.after) all') in
-    subst S (sym (parts.becomes keep)) (All-append P parts.before (halted_play keep h ∷ parts.after) front (All-cons P (halted_play keep h) parts.after here (All-tail P h parts.after back)))
+    subst S (drop_at parts.before (h ∷ parts.after) (length parts.before) refl)
+    (All-drop P (length parts.before) (parts.before ++ h ∷ parts.after) all') in
+    subst S (sym (parts.becomes keep))
+    (All-append P parts.before (halted_play keep h ∷ parts.after) front
+    (All-cons P (halted_play keep h) parts.after here (All-tail P h parts.after back)))
 
 abbrev pub play_of : Held → Booked
 play_of h = h.play
 
 -- what the plays book, in the same parts
-pub plays-split : (before after : List Held) (h : Held) → map play_of (before ++ h ∷ after) ≡ map play_of before ++ h.play ∷ map play_of after
+pub plays-split : (before after : List Held) (h : Held)
+    → map play_of (before ++ h ∷ after) ≡ map play_of before ++ h.play ∷ map play_of after
 plays-split before after h = map-append play_of before (h ∷ after)

@@ -29,19 +29,22 @@ opens-most (Looked now at booked) = omega arith
 pub open-asked : (m : Machine) (place slot : ℕ) (segments : List Segment) (answer : Answer)
     → IsAnswer m.steps m.state (Play slot segments) answer
     → open_plays (next_state m.state place (Play slot segments) answer) ≡ open_plays m.state + cond (is_admission answer) 1 0
-open-asked m place slot segments (Admitted start) is = sum_by_push (λ (h : Held). cond h.is_open 1 0) m.state.held (admitted_play place start segments)
+open-asked m place slot segments (Admitted start) is =
+    sum_by_push (λ (h : Held). cond h.is_open 1 0) m.state.held (admitted_play place start segments)
 open-asked m place slot segments (Overflow over booked asked) is = omega arith
 open-asked m place slot segments Halted is = absurd is
 open-asked m place slot segments (Looked now at booked) is = absurd is
 
 -- a play that is halted
-pub open-halted : (state : State) (place number keep : ℕ) → CanHalt state number keep → open_plays (next_state state place (Halt number keep) Halted) + 1 ≡ open_plays state
+pub open-halted : (state : State) (place number keep : ℕ) → CanHalt state number keep
+    → open_plays (next_state state place (Halt number keep) Halted) + 1 ≡ open_plays state
 open-halted state place number keep can =
     let h = halting state number keep can in
     let parts = split number state.held h.held h.is in
     let f : Held → ℕ = λ x. cond x.is_open 1 0 in
     let one : f h.held ≡ 1 = ap (λ b. cond b 1 0) h.is_open in
-    let old = ap (λ l. sum_by f l) parts.was ∙ sum_by-append f parts.before (h.held ∷ parts.after) ∙ ap (λ n. sum_by f parts.before + n) (sum_by-cons f h.held parts.after) in
+    let old = ap (λ l. sum_by f l) parts.was ∙ sum_by-append f parts.before (h.held ∷ parts.after)
+    ∙ ap (λ n. sum_by f parts.before + n) (sum_by-cons f h.held parts.after) in
     let new = ap (λ l. sum_by f l) (parts.becomes keep) ∙ sum_by-append f parts.before (halted_play keep h.held ∷ parts.after)
     ∙ ap (λ n. sum_by f parts.before + n) (sum_by-cons f (halted_play keep h.held) parts.after) in
     omega (arith, old, new, one)
@@ -84,7 +87,9 @@ pub record IsNotedAfter (xs ys : List Entry) (e : Entry) (noted : Noted) : Type 
 
 pub noted-push : {steps same : List CapStep} {maker : ℕ} {xs ys : List Entry} {command : Command} {answer : Answer}
     {noted : Noted} (limit : ℕ) → IsLegal steps xs → IsAnswer steps (state_after xs) command answer →
-    IsNotedAfter xs ys (record { maker = maker; command = command; answer = answer }) noted → same ≡ steps → IsNoted (record { steps = steps; limit = limit; entries = xs }) maker command noted (record { steps = same; limit = limit; entries = ys })
+    IsNotedAfter xs ys (record { maker = maker; command = command; answer = answer }) noted → same ≡ steps
+    → IsNoted (record { steps = steps; limit = limit; entries = xs }) maker command noted
+    (record { steps = same; limit = limit; entries = ys })
 noted-push {steps} {same} {maker} {xs} {ys} {command} {answer} limit legal is after steps_are =
     let told = after.answer_is in
     let entries = after.entries_are in

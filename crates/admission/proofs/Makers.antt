@@ -37,15 +37,29 @@ all-made place maker (e ∷ rest) =
     let here : Placed = record { place = place; entry = e } in
     elim (cases_Bool (eqb e.maker maker)) [
       | inl his ↦ (
-          let first : P here = record { at = 0; inside = omega arith; place_is = omega arith; entry_is = refl; maker_is = eqb-true e.maker maker his } in
-          subst (All P) (sym (cond-true (eqb e.maker maker) (here ∷ made_from (place + 1) maker rest) (made_from (place + 1) maker rest) his))
+          let first : P here =
+          record {
+            at = 0;
+            inside = omega arith;
+            place_is = omega arith;
+            entry_is = refl;
+            maker_is =
+                eqb-true e.maker maker his;
+          } in
+          subst (All P)
+          (sym (cond-true (eqb e.maker maker) (here ∷ made_from (place + 1) maker rest)
+          (made_from (place + 1) maker rest) his))
           (All-cons P here (made_from (place + 1) maker rest) first later)
           )
-      | inr other ↦ subst (All P) (sym (cond-false (eqb e.maker maker) (here ∷ made_from (place + 1) maker rest) (made_from (place + 1) maker rest) other)) later
+      | inr other ↦
+          subst (All P)
+          (sym (cond-false (eqb e.maker maker) (here ∷ made_from (place + 1) maker rest)
+          (made_from (place + 1) maker rest) other)) later
     ]
 
 -- the entries alone, and where each stands
-pub made_entries : (place maker : ℕ) (xs : List Entry) → map (λ p. p.entry) (made_from place maker xs) ≡ filter (λ e. eqb e.maker maker) xs
+pub made_entries : (place maker : ℕ) (xs : List Entry)
+    → map (λ p. p.entry) (made_from place maker xs) ≡ filter (λ e. eqb e.maker maker) xs
 made_entries place maker [] = refl
 made_entries place maker (e ∷ rest) =
     let more = made_from (place + 1) maker rest in
@@ -59,7 +73,8 @@ made_entries place maker (e ∷ rest) =
           ∙ later ∙ sym (cond-false (eqb e.maker maker) (e ∷ others) others other)
     ]
 
-pub made_places : (maker : ℕ) (xs : List Entry) → All (λ p. (p.place < length xs) × ((none : Entry) → get_or xs p.place none ≡ p.entry)) (made_by maker xs)
+pub made_places : (maker : ℕ) (xs : List Entry)
+    → All (λ p. (p.place < length xs) × ((none : Entry) → get_or xs p.place none ≡ p.entry)) (made_by maker xs)
 made_places maker xs =
     All-weaker (IsMade 0 maker xs) (λ p. (p.place < length xs) × ((none : Entry) → get_or xs p.place none ≡ p.entry)) (λ p made. (
       omega (arith, made.place_is, made.inside),
@@ -81,13 +96,19 @@ one-made {maker} P place (e ∷ rest) zero all made =
     let here : Placed = record { place = place; entry = e } in
     let at : place ≡ place + 0 = omega arith in
     let Q : ℕ → Type 0 = λ n. P (record { place = n; entry = e }) in
-    let all' = subst (All P) (cond-true (eqb e.maker maker) (here ∷ made_from (place + 1) maker rest) (made_from (place + 1) maker rest) (eq-eqb e.maker maker made.own)) all in
+    let all' = subst (All P)
+    (cond-true (eqb e.maker maker) (here ∷ made_from (place + 1) maker rest)
+    (made_from (place + 1) maker rest) (eq-eqb e.maker maker made.own)) all in
     subst Q at (All-head P here (made_from (place + 1) maker rest) all')
 one-made {maker} P place (e ∷ rest) (suc i) all made =
     let here : Placed = record { place = place; entry = e } in
     let later : All P (made_from (place + 1) maker rest) = elim (cases_Bool (eqb e.maker maker)) [
-      | inl his ↦ All-tail P here (made_from (place + 1) maker rest) (subst (All P) (cond-true (eqb e.maker maker) (here ∷ made_from (place + 1) maker rest) (made_from (place + 1) maker rest) his) all)
-      | inr other ↦ subst (All P) (cond-false (eqb e.maker maker) (here ∷ made_from (place + 1) maker rest) (made_from (place + 1) maker rest) other) all
+      | inl his ↦ All-tail P here (made_from (place + 1) maker rest)
+          (subst (All P)
+          (cond-true (eqb e.maker maker) (here ∷ made_from (place + 1) maker rest) (made_from (place + 1) maker rest) his) all)
+      | inr other ↦
+          subst (All P)
+          (cond-false (eqb e.maker maker) (here ∷ made_from (place + 1) maker rest) (made_from (place + 1) maker rest) other) all
     ] in
     let at : place + 1 + i ≡ place + suc i = omega arith in
     let Q : ℕ → Type 0 = λ n. P (record { place = n; entry = get_or rest i no_entry }) in
@@ -100,7 +121,8 @@ halt_is number (Play slot segments) same = absurd same
 halt_is number (Look slot) same = absurd same
 
 -- a play that is open among its maker's entries is open in the history
-pub open-own : {xs : List Entry} {number keep : ℕ} (steps : List CapStep) (maker : ℕ) → AreHaltsOwn xs → IsOpenAmong (made_by maker xs) number keep → IsStillOpen xs number keep
+pub open-own : {xs : List Entry} {number keep : ℕ} (steps : List CapStep) (maker : ℕ) → AreHaltsOwn xs
+    → IsOpenAmong (made_by maker xs) number keep → IsStillOpen xs number keep
 open-own {xs} {number} steps maker own open_ =
     let none : Placed = record { place = 0; entry = no_entry } in
     let made = all-made 0 maker xs open_.index none open_.inside in
@@ -109,7 +131,8 @@ open-own {xs} {number} steps maker own open_ =
     let A : Entry → Type 0 = λ e. play_admitted e.command e.answer ≡ Some (whole_play open_.start open_.segments) in
     let inside : number < length xs = omega (arith, at, made.inside) in
     let entry : get_or xs made.at no_entry ≡ get_or xs number no_entry = ap (λ n. get_or xs n no_entry) at in
-    let maker_is : (get_or xs number no_entry).maker ≡ maker = ap (λ (e : Entry). e.maker) (sym (made.entry_is ∙ entry)) ∙ made.maker_is in
+    let maker_is : (get_or xs number no_entry).maker ≡ maker =
+    ap (λ (e : Entry). e.maker) (sym (made.entry_is ∙ entry)) ∙ made.maker_is in
     record {
       start = open_.start;
       segments = open_.segments;
@@ -123,7 +146,8 @@ open-own {xs} {number} steps maker own open_ =
             let halts' = subst H (get_or_default xs i d no_entry within) halts in
             let is = halt_is number (get_or xs i no_entry).command halts' in
             let C : Entry → Type 0 = λ e. e.command ≡ Halt number is.0 in
-            let halt : IsHalt xs i number is.0 = record { inside = within; command_is = λ f. subst C (get_or_default xs i no_entry f within) is.1 } in
+            let halt : IsHalt xs i number is.0 =
+            record { inside = within; command_is = λ f. subst C (get_or_default xs i no_entry f within) is.1 } in
             one-made (λ p. ¬ Halts number p.entry.command) 0 xs i open_.unhalted
             (record { inside = within; own = own.each i number is.0 no_entry halt ∙ maker_is }) halts'
             );

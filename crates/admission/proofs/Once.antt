@@ -16,7 +16,8 @@ use Rattle.admission.specs.Machine.{IsAnswer, booked_in}
 use Rattle.admission.specs.Histories.{IsLegal, state_after}
 use Rattle.admission.proofs.Runs.{Machine, machine_after, legal-at, no_entry}
 
-same-overflow : {booked capacity : ℕ → ℕ} {start : ℕ} {segments : List Segment} {a b : Over} → IsFirstOverflow 0 booked capacity start segments a →
+same-overflow : {booked capacity : ℕ → ℕ} {start : ℕ} {segments : List Segment} {a b : Over} →
+    IsFirstOverflow 0 booked capacity start segments a →
     IsFirstOverflow 0 booked capacity start segments b → Overflow a.slot a.booked a.asked ≡ Overflow b.slot b.booked b.asked
 same-overflow {booked} {capacity} {start} {segments} {a} {b} x y =
     ap (λ (over : Over). Overflow over.slot over.booked over.asked) (one-overflow x y)
@@ -74,7 +75,8 @@ at_map : {Y : Type 0} (f : Entry → Y) (xs ys : List Entry) (n : ℕ) → map f
     → f (get_or xs n no_entry) ≡ f (get_or ys n no_entry)
 at_map f xs ys n same inside =
     let within : n < length ys = omega (arith, inside, long_map f xs ys same) in
-    sym (get_or-map f xs n no_entry (f no_entry) inside) ∙ ap (λ l. get_or l n (f no_entry)) same ∙ get_or-map f ys n no_entry (f no_entry) within
+    sym (get_or-map f xs n no_entry (f no_entry) inside) ∙ ap (λ l. get_or l n (f no_entry)) same
+    ∙ get_or-map f ys n no_entry (f no_entry) within
 
 -- two histories of the same commands by the same makers
 pub record HaveSameCommands (xs ys : List Entry) : Type 0 where
@@ -96,7 +98,8 @@ same-front {steps} {xs} {ys} (suc n) legal other same few =
     let S : List Entry → Type 0 = λ l. IsAnswer steps (state_after l) a.command a.answer in
     let C : Command → Type 0 = λ k. IsAnswer steps (state_after (take n ys)) k a.answer in
     let here = subst C command (subst S before (legal-at steps xs n legal inside)) in
-    let answer = answer-once (machine_after steps (take n ys)) b.command a.answer b.answer here (legal-at steps ys n other within) in
+    let answer =
+    answer-once (machine_after steps (take n ys)) b.command a.answer b.answer here (legal-at steps ys n other within) in
     let at : n + 1 ≡ suc n = omega arith in
     let T : ℕ → Type 0 = λ k. take k xs ≡ take k ys in
     subst T at (take_more_same xs ys n no_entry inside within before (entry-same a b maker command answer))
@@ -105,4 +108,5 @@ pub history-once : {steps : List CapStep} {xs ys : List Entry} → IsLegal steps
     → HaveSameCommands xs ys → xs ≡ ys
 history-once {xs} {ys} legal other same =
     let long = long_map (λ (e : Entry). e.maker) xs ys same.makers in
-    sym (take_all (length xs) xs (omega arith)) ∙ same-front (length xs) legal other same (omega arith) ∙ take_all (length xs) ys (omega (arith, long))
+    sym (take_all (length xs) xs (omega arith)) ∙ same-front (length xs) legal other same (omega arith)
+    ∙ take_all (length xs) ys (omega (arith, long))

@@ -17,7 +17,8 @@ use Rattle.admission.specs.Histories.{IsLegal, is_admission, is_halt, state_afte
 use Rattle.admission.proofs.Counts.{admissions_of, tally, halts_of}
 use Rattle.admission.proofs.Runs.{legal-take}
 
-admits-none : (steps : List CapStep) (state : State) (command : Command) (answer : Answer) → IsAnswer steps state command answer → is_halt command ≡ true → is_admission answer ≡ false
+admits-none : (steps : List CapStep) (state : State) (command : Command) (answer : Answer)
+    → IsAnswer steps state command answer → is_halt command ≡ true → is_admission answer ≡ false
 admits-none steps state (Halt number keep) Halted is halt = refl
 admits-none steps state (Halt number keep) (Admitted start) is halt = absurd is
 admits-none steps state (Halt number keep) (Overflow over booked asked) is halt = absurd is
@@ -35,36 +36,47 @@ all-counted : (more : List Entry) → ByRecursion (λ (e : Entry). is_halt e.com
 all-counted [] all = refl
 all-counted (e ∷ more) all =
     let first : cond {A = ℕ} (is_halt e.command) 1 0 ≡ 1 = ap (λ (b : Bool). cond {A = ℕ} b 1 0) all.0 in
-    let step : halts_of (e ∷ more) ≡ cond {A = ℕ} (is_halt e.command) 1 0 + halts_of more = sum_by-cons (λ (x : Entry). cond (is_halt x.command) 1 0) e more in
+    let step : halts_of (e ∷ more) ≡ cond {A = ℕ} (is_halt e.command) 1 0 + halts_of more =
+    sum_by-cons (λ (x : Entry). cond (is_halt x.command) 1 0) e more in
     omega (arith, first, step, all-counted more all.1)
 
 none-counted : (more : List Entry) → ByRecursion (λ (e : Entry). is_admission e.answer ≡ false) more → admissions_of more ≡ 0
 none-counted [] all = refl
 none-counted (e ∷ more) all =
     let first : cond {A = ℕ} (is_admission e.answer) 1 0 ≡ 0 = ap (λ (b : Bool). cond {A = ℕ} b 1 0) all.0 in
-    let step : admissions_of (e ∷ more) ≡ cond {A = ℕ} (is_admission e.answer) 1 0 + admissions_of more = sum_by-cons (λ (x : Entry). cond (is_admission x.answer) 1 0) e more in
+    let step : admissions_of (e ∷ more) ≡ cond {A = ℕ} (is_admission e.answer) 1 0 + admissions_of more =
+    sum_by-cons (λ (x : Entry). cond (is_admission x.answer) 1 0) e more in
     omega (arith, first, step, none-counted more all.1)
 
-none-admitted : (steps : List CapStep) (entries more : List Entry) → IsLegal steps (entries ++ more) → All (λ (e : Entry). is_halt e.command ≡ true) more → All (λ (e : Entry). is_admission e.answer ≡ false) more
+none-admitted : (steps : List CapStep) (entries more : List Entry) → IsLegal steps (entries ++ more)
+    → All (λ (e : Entry). is_halt e.command ≡ true) more → All (λ (e : Entry). is_admission e.answer ≡ false) more
 none-admitted steps entries more legal halts = λ k d inside.
     let i = length entries + k in
     let at : get_or (entries ++ more) i d ≡ get_or more k d =
-    get_or-append_right entries more (length entries) i d refl (omega arith) ∙ (let back : i - length entries ≡ k = omega arith in ap (λ (j : ℕ). get_or more j d) back) in
+    get_or-append_right entries more (length entries) i d refl (omega arith)
+    ∙ (let back : i - length entries ≡ k = omega arith in ap (λ (j : ℕ). get_or more j d) back) in
     let long = length-append entries more in
     let answered = legal.each i d (omega (arith, long, inside)) in
     let is : IsAnswer steps (state_after (take i (entries ++ more))) (get_or more k d).command (get_or more k d).answer =
     subst (λ (e : Entry). IsAnswer steps (state_after (take i (entries ++ more))) e.command e.answer) at answered in
-    admits-none steps (state_after (take i (entries ++ more))) (get_or more k d).command (get_or more k d).answer is (halts k d inside)
+    admits-none steps (state_after (take i (entries ++ more))) (get_or more k d).command
+    (get_or more k d).answer is (halts k d inside)
 
 pub halts-fit : {steps : List CapStep} (entries more : List Entry) (limit : ℕ) → IsLegal steps (entries ++ more)
     → All (λ (e : Entry). is_halt e.command ≡ true) more → places_taken entries ≤ limit
     → length (entries ++ more) ≤ limit
 halts-fit {steps} entries more limit legal halts few =
-    let front : take (length entries) (entries ++ more) ≡ entries = take-append-le (length entries) entries more (omega arith) ∙ take_all (length entries) entries (omega arith) in
+    let front : take (length entries) (entries ++ more) ≡ entries =
+    take-append-le (length entries) entries more (omega arith) ∙ take_all (length entries) entries (omega arith) in
     let first : IsLegal steps entries = subst (IsLegal steps) front (legal-take steps (entries ++ more) (length entries) legal) in
     let before = (tally steps entries first).0 in let after = (tally steps (entries ++ more) legal).0 in
-    let all : halts_of more ≡ length more = all-counted more (recursion_from_All (λ (e : Entry). is_halt e.command ≡ true) more halts) in
-    let none : admissions_of more ≡ 0 = none-counted more (recursion_from_All (λ (e : Entry). is_admission e.answer ≡ false) more (none-admitted steps entries more legal halts)) in
-    let halted : halts_of (entries ++ more) ≡ halts_of entries + halts_of more = sum_by-append (λ (e : Entry). cond (is_halt e.command) 1 0) entries more in
-    let admitted : admissions_of (entries ++ more) ≡ admissions_of entries + admissions_of more = sum_by-append (λ (e : Entry). cond (is_admission e.answer) 1 0) entries more in
+    let all : halts_of more ≡ length more =
+    all-counted more (recursion_from_All (λ (e : Entry). is_halt e.command ≡ true) more halts) in
+    let none : admissions_of more ≡ 0 =
+    none-counted more
+    (recursion_from_All (λ (e : Entry). is_admission e.answer ≡ false) more (none-admitted steps entries more legal halts)) in
+    let halted : halts_of (entries ++ more) ≡ halts_of entries + halts_of more =
+    sum_by-append (λ (e : Entry). cond (is_halt e.command) 1 0) entries more in
+    let admitted : admissions_of (entries ++ more) ≡ admissions_of entries + admissions_of more =
+    sum_by-append (λ (e : Entry). cond (is_admission e.answer) 1 0) entries more in
     omega (arith, before, after, all, none, halted, admitted, few, length-append entries more)

@@ -30,7 +30,8 @@ pub record PlayAdmitted (steps : List CapStep) (entries : List Entry) (number st
 abbrev pub next_of : State → ℕ → Entry → State
 next_of state place e = next_state state place e.command e.answer
 
-from-push : (state : State) (place : ℕ) (xs : List Entry) (e : Entry) → state_from state place (xs ++ e ∷ []) ≡ next_of (state_from state place xs) (place + length xs) e
+from-push : (state : State) (place : ℕ) (xs : List Entry) (e : Entry)
+    → state_from state place (xs ++ e ∷ []) ≡ next_of (state_from state place xs) (place + length xs) e
 from-push state place [] e = let at : place ≡ place + 0 = omega arith in ap (λ n. next_of state n e) at
 from-push state place (x ∷ xs) e =
     let at : place + 1 + length xs ≡ place + length (x ∷ xs) = omega arith in
@@ -38,15 +39,19 @@ from-push state place (x ∷ xs) e =
 
 -- one entry more
 pub state-push : (xs : List Entry) (e : Entry) → state_after (xs ++ e ∷ []) ≡ next_of (state_after xs) (length xs) e
-state-push xs e = let at : 0 + length xs ≡ length xs = omega arith in from-push beginning 0 xs e ∙ ap (λ n. next_of (state_after xs) n e) at
+state-push xs e = let at : 0 + length xs ≡ length xs =
+    omega arith in from-push beginning 0 xs e ∙ ap (λ n. next_of (state_after xs) n e) at
 
-pub state-next : (xs : List Entry) (n : ℕ) → n < length xs → state_after (take (suc n) xs) ≡ next_of (state_after (take n xs)) n (get_or xs n no_entry)
+pub state-next : (xs : List Entry) (n : ℕ) → n < length xs
+    → state_after (take (suc n) xs) ≡ next_of (state_after (take n xs)) n (get_or xs n no_entry)
 state-next xs n inside =
     let at : suc n ≡ n + 1 = omega arith in
-    ap (λ k. state_after (take k xs)) at ∙ ap state_after (take_more xs n no_entry inside) ∙ state-push (take n xs) (get_or xs n no_entry)
+    ap (λ k. state_after (take k xs)) at ∙ ap state_after (take_more xs n no_entry inside)
+    ∙ state-push (take n xs) (get_or xs n no_entry)
     ∙ ap (λ k. next_of (state_after (take n xs)) k (get_or xs n no_entry)) (length-take-le n xs (omega arith))
 
-pub legal-push : (steps : List CapStep) (xs : List Entry) (e : Entry) → IsLegal steps xs → IsAnswered steps (state_after xs) e → IsLegal steps (xs ++ e ∷ [])
+pub legal-push : (steps : List CapStep) (xs : List Entry) (e : Entry) → IsLegal steps xs
+    → IsAnswered steps (state_after xs) e → IsLegal steps (xs ++ e ∷ [])
 legal-push steps xs e legal answered = record {
   each = λ i none below. elim (cases_order i (length xs)) [
     | inl same ↦ (
@@ -57,7 +62,8 @@ legal-push steps xs e legal answered = record {
     | inr (inl less) ↦ (
         let S : List Entry → Type 0 = λ l. IsAnswered steps (state_after l) (get_or (xs ++ e ∷ []) i none) in
         let E : Entry → Type 0 = λ x. IsAnswered steps (state_after (take i xs)) x in
-        subst S (sym (take-append-le i xs (e ∷ []) (omega arith))) (subst E (sym (get_or_append_left xs (e ∷ []) none i less)) (legal.each i none less))
+        subst S (sym (take-append-le i xs (e ∷ []) (omega arith)))
+        (subst E (sym (get_or_append_left xs (e ∷ []) none i less)) (legal.each i none less))
         )
     | inr (inr more) ↦ (let bad : ⊥ = omega (arith, more, below, length-append xs (e ∷ [])) in absurd bad)
   ];
@@ -70,10 +76,12 @@ legal-take steps xs n legal = record {
       let few = length-take n xs in
       let S : List Entry → Type 0 = λ l. IsAnswered steps (state_after l) (get_or (take n xs) i none) in
       let E : Entry → Type 0 = λ x. IsAnswered steps (state_after (take i xs)) x in
-      subst S (sym (take-take i n xs (omega (arith, few, below)))) (subst E (sym (get_or-take n xs i none (omega (arith, few, below)))) (legal.each i none (omega (arith, few, below))))
+      subst S (sym (take-take i n xs (omega (arith, few, below))))
+      (subst E (sym (get_or-take n xs i none (omega (arith, few, below)))) (legal.each i none (omega (arith, few, below))))
       );
 }
 
 -- its entry at a place is answered in the state before it
-pub legal-at : (steps : List CapStep) (xs : List Entry) (n : ℕ) → IsLegal steps xs → n < length xs → IsAnswered steps (state_after (take n xs)) (get_or xs n no_entry)
+pub legal-at : (steps : List CapStep) (xs : List Entry) (n : ℕ) → IsLegal steps xs → n < length xs
+    → IsAnswered steps (state_after (take n xs)) (get_or xs n no_entry)
 legal-at steps xs n legal inside = legal.each n no_entry inside

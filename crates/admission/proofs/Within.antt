@@ -26,7 +26,8 @@ pub record IsWhole (h : Held) : Type 0 where
 pub whole-next : (m : Machine) (place : ℕ) (command : Command) (answer : Answer)
     → IsAnswer m.steps m.state command answer → All IsWhole m.state.held
     → All IsWhole (next_state m.state place command answer).held
-whole-next m place (Play slot segments) (Admitted start) is all = All-push IsWhole m.state.held (admitted_play place start segments) all (record { whole = λ _. refl })
+whole-next m place (Play slot segments) (Admitted start) is all =
+    All-push IsWhole m.state.held (admitted_play place start segments) all (record { whole = λ _. refl })
 whole-next m place (Play slot segments) (Overflow over booked asked) is all = all
 whole-next m place (Play slot segments) Halted is all = absurd is
 whole-next m place (Play slot segments) (Looked now at booked) is all = absurd is
@@ -47,33 +48,43 @@ min_parts : (a b k m : ℕ) → a ≤ b → k ≤ m → min b k - min a k ≤ mi
 min_parts a b k m rises less = omega arith
 
 -- a play that is cut sends no more in a slot
-pub share-less : (segments : List Segment) (start keep more t : ℕ) → keep ≤ more → share_at t (cut_play start segments keep) ≤ share_at t (cut_play start segments more)
+pub share-less : (segments : List Segment) (start keep more t : ℕ) → keep ≤ more
+    → share_at t (cut_play start segments keep) ≤ share_at t (cut_play start segments more)
 share-less segments start keep more t less =
-    min_parts (sent_before segments start t) (sent_before segments start (t + 1)) keep more (sent-rises segments start t (t + 1) (omega arith)) less
+    min_parts (sent_before segments start t) (sent_before segments start (t + 1)) keep more
+    (sent-rises segments start t (t + 1) (omega arith)) less
 
 booked-around : (before after : List Held) (h : Held) (t : ℕ) →
-    booked_by (map play_of (before ++ h ∷ after)) t ≡ booked_by (map play_of before) t + (share_at t h.play + booked_by (map play_of after) t)
+    booked_by (map play_of (before ++ h ∷ after)) t
+    ≡ booked_by (map play_of before) t + (share_at t h.play + booked_by (map play_of after) t)
 booked-around before after h t =
-    ap (λ l. booked_by l t) (plays-split before after h) ∙ sum_by-append (share_at t) (map play_of before) (h.play ∷ map play_of after)
+    ap (λ l. booked_by l t) (plays-split before after h)
+    ∙ sum_by-append (share_at t) (map play_of before) (h.play ∷ map play_of after)
     ∙ ap (λ n. booked_by (map play_of before) t + n) (sum_by-cons (share_at t) h.play (map play_of after))
 
 pub booked-halted : {h : Held} (state : State) (number keep t : ℕ) → held_as number state.held ≡ Some h → keep ≤ h.play.keep →
     booked_by (map play_of (with_halted number keep state.held)) t ≤ booked_in state t
 booked-halted {h} state number keep t is less =
     let parts = split number state.held h is in
-    let old : booked_in state t ≡ booked_by (map play_of parts.before) t + (share_at t h.play + booked_by (map play_of parts.after) t) =
+    let old : booked_in state t
+    ≡ booked_by (map play_of parts.before) t + (share_at t h.play + booked_by (map play_of parts.after) t) =
     ap (λ l. booked_by (map play_of l) t) parts.was ∙ booked-around parts.before parts.after h t in
-    let new = ap (λ l. booked_by (map play_of l) t) (parts.becomes keep) ∙ booked-around parts.before parts.after (halted_play keep h) t in
+    let new = ap (λ l. booked_by (map play_of l) t) (parts.becomes keep)
+    ∙ booked-around parts.before parts.after (halted_play keep h) t in
     omega (arith, old, new, share-less h.play.segments h.play.start keep h.play.keep t less)
 
 pub booked-opened : (state : State) (number start t : ℕ) (segments : List Segment) →
-    booked_by (map play_of (state.held ++ admitted_play number start segments ∷ [])) t ≤ booked_in state t + asked_at segments start t
+    booked_by (map play_of (state.held ++ admitted_play number start segments ∷ [])) t
+    ≤ booked_in state t + asked_at segments start t
 booked-opened state number start t segments =
-    let new : booked_by (map play_of (state.held ++ admitted_play number start segments ∷ [])) t ≡ booked_in state t + share_at t (whole_play start segments) =
-    ap (λ l. booked_by l t) (map-append play_of state.held (admitted_play number start segments ∷ [])) ∙ sum_by_push (share_at t) (plays_of state) (whole_play start segments) in
+    let new : booked_by (map play_of (state.held ++ admitted_play number start segments ∷ [])) t
+    ≡ booked_in state t + share_at t (whole_play start segments) =
+    ap (λ l. booked_by l t) (map-append play_of state.held (admitted_play number start segments ∷ []))
+    ∙ sum_by_push (share_at t) (plays_of state) (whole_play start segments) in
     omega (arith, new, share-cut segments start (total_bytes segments) t)
 
-pub within-next : {steps : List CapStep} {state : State} (place : ℕ) (command : Command) (answer : Answer) → IsAnswer steps state command answer → All IsWhole state.held →
+pub within-next : {steps : List CapStep} {state : State} (place : ℕ) (command : Command) (answer : Answer) →
+    IsAnswer steps state command answer → All IsWhole state.held →
     IsNeverOverbooked steps state → IsNeverOverbooked steps (next_state state place command answer)
 within-next {steps} {state} place (Play slot segments) (Admitted start) is all within = record {
   each = λ t. omega (arith, booked-opened state place start t segments, is.1.each t (omega arith));
@@ -100,7 +111,8 @@ pub record IsSound (steps : List CapStep) (state : State) : Type 0 where
   pub whole : All IsWhole state.held
   pub within : IsNeverOverbooked steps state
 
-sound-at : (steps : List CapStep) (xs : List Entry) (n : ℕ) → IsLegal steps xs → n ≤ length xs → IsSound steps (state_after (take n xs))
+sound-at : (steps : List CapStep) (xs : List Entry) (n : ℕ) → IsLegal steps xs → n ≤ length xs
+    → IsSound steps (state_after (take n xs))
 sound-at steps xs zero legal few = record { whole = All-nil IsWhole; within = record { each = λ t. omega arith } }
 sound-at steps xs (suc n) legal few =
     let before = sound-at steps xs n legal (omega (arith, few)) in

@@ -23,9 +23,11 @@ use Rattle.cert_check.proofs.TautForms.{AreClosed, bound_after, slots_are, runs_
 -- a segment that stays between curves has slots
 no_empties : (lo hi : ℕ → ℕ) (k v : ℕ) (segments : List Segment) → RunsTaut lo hi k v segments → All (λ s. 1 ≤ s.slots) segments
 no_empties lo hi k v [] runs = All-nil (λ s. 1 ≤ s.slots)
-no_empties lo hi k v (s ∷ rest) runs = All-cons (λ x. 1 ≤ x.slots) s rest runs.0.some (no_empties lo hi (k + s.slots) (v + s.bytes) rest runs.2)
+no_empties lo hi k v (s ∷ rest) runs =
+    All-cons (λ x. 1 ≤ x.slots) s rest runs.0.some (no_empties lo hi (k + s.slots) (v + s.bytes) rest runs.2)
 
-keeps_at : {from : ℕ} {segments : List Segment} (low up : List ℕ) → RunsTaut (bound_at from low) (bound_at from up) 0 from segments →
+keeps_at : {from : ℕ} {segments : List Segment} (low up : List ℕ) →
+    RunsTaut (bound_at from low) (bound_at from up) 0 from segments →
     (t : ℕ) → t < total_slots segments → KeepsAt (bound_at from low) (bound_at from up) 0 from (t + 1) segments
 keeps_at {from} {segments = []} low up runs t few = absurd (omega (arith, few))
 keeps_at {from} {segments = s ∷ rest} low up runs t few = line_keeps runs (omega arith)
@@ -36,7 +38,8 @@ feasible from low up segments slots runs = record {
   same_length = length-plan_slots segments ∙ slots;
   above = λ t inside.
       let keeps = keeps_at low up runs t (omega (arith, slots)) in
-      let at : bound_at from low (0 + (t + 1)) ≡ slice_index low t = ap (bound_at from low) (omega arith) ∙ bound_after from low t in
+      let at : bound_at from low (0 + (t + 1)) ≡ slice_index low t =
+      ap (bound_at from low) (omega arith) ∙ bound_after from low t in
       omega (arith, keeps.above, at);
   below = λ t inside.
       let keeps = keeps_at low up runs t (omega (arith, slots)) in
@@ -45,7 +48,8 @@ feasible from low up segments slots runs = record {
 }
 
 -- a feasible list in m-ths keeps between the curves by places
-keeps_from_feasible : (m from : ℕ) (low up y : List ℕ) → IsFeasibleIn m from low up y → KeepsBetween m (bound_at from low) (bound_at from up) 0 (m * from) y
+keeps_from_feasible : (m from : ℕ) (low up y : List ℕ) → IsFeasibleIn m from low up y
+    → KeepsBetween m (bound_at from low) (bound_at from up) 0 (m * from) y
 keeps_from_feasible m from low up y fine = record {
   above = λ j few. elim (cases_lt 0 j) [
     | inr start ↦ (
@@ -56,8 +60,10 @@ keeps_from_feasible m from low up y fine = record {
     | inl later ↦ (
         let t = j - 1 in
         let is : t + 1 ≡ j = omega arith in
-        let at : m * bound_at from low (0 + (t + 1)) ≡ m * slice_index low t = ap (λ x. m * x) (ap (bound_at from low) (omega arith) ∙ bound_after from low t) in
-        let h : m * bound_at from low (0 + (t + 1)) ≤ m * from + sum (take (t + 1) y) = omega (arith, fine.above t (omega (arith, fine.same_length)), at) in
+        let at : m * bound_at from low (0 + (t + 1)) ≡ m * slice_index low t =
+        ap (λ x. m * x) (ap (bound_at from low) (omega arith) ∙ bound_after from low t) in
+        let h : m * bound_at from low (0 + (t + 1)) ≤ m * from + sum (take (t + 1) y) =
+        omega (arith, fine.above t (omega (arith, fine.same_length)), at) in
         subst (λ c. m * bound_at from low (0 + c) ≤ m * from + sum (take c y)) is h
         )
   ];
@@ -70,8 +76,10 @@ keeps_from_feasible m from low up y fine = record {
     | inl later ↦ (
         let t = j - 1 in
         let is : t + 1 ≡ j = omega arith in
-        let at : m * bound_at from up (0 + (t + 1)) ≡ m * slice_index up t = ap (λ x. m * x) (ap (bound_at from up) (omega arith) ∙ bound_after from up t) in
-        let h : m * from + sum (take (t + 1) y) ≤ m * bound_at from up (0 + (t + 1)) = omega (arith, fine.below t (omega (arith, fine.same_length)), at) in
+        let at : m * bound_at from up (0 + (t + 1)) ≡ m * slice_index up t =
+        ap (λ x. m * x) (ap (bound_at from up) (omega arith) ∙ bound_after from up t) in
+        let h : m * from + sum (take (t + 1) y) ≤ m * bound_at from up (0 + (t + 1)) =
+        omega (arith, fine.below t (omega (arith, fine.same_length)), at) in
         subst (λ c. m * from + sum (take c y) ≤ m * bound_at from up (0 + c)) is h
         )
   ];
@@ -92,10 +100,13 @@ over_in_parts {from} {low} {up} {segments} closed taut {m} {y} fine p =
     let slots : total_slots segments ≡ length low = slots_are from low up segments taut in
     let runs = runs_from_taut from low up segments closed taut in
     let ends = ends_from_taut from low up segments closed taut in
-    let ends' : bound_at from low (total_slots segments) ≡ from + total_bytes segments = ap (bound_at from low) (omega arith) ∙ ends.low in
-    let line : over p (plan_slots segments) ≡ line_over p segments = over-plan_slots p segments (no_empties (bound_at from low) (bound_at from up) 0 from segments runs) in
+    let ends' : bound_at from low (total_slots segments) ≡ from + total_bytes segments =
+    ap (bound_at from low) (omega arith) ∙ ends.low in
+    let line : over p (plan_slots segments) ≡ line_over p segments =
+    over-plan_slots p segments (no_empties (bound_at from low) (bound_at from up) 0 from segments runs) in
     let most : m * line_over p segments ≤ over (m * p) y =
-    least p from segments (record { runs = runs; ends = ends'; same_length = fine.same_length ∙ sym slots }) (keeps_from_feasible m from low up y fine) in
+    least p from segments (record { runs = runs; ends = ends'; same_length = fine.same_length ∙ sym slots })
+    (keeps_from_feasible m from low up y fine) in
     rw line most
 
 -- in whole bytes
@@ -117,18 +128,25 @@ excess_any {from} {low} {segments} closed taut {y} fine p q some =
     let rate : e + r ≡ q = omega arith in
     let split : p / q * q + p % q ≡ p = div-add-mod' p q in
     let rate' : (e + r) * a + r ≡ p = ap (λ c. c * a + r) rate ∙ omega (arith, split) in
-    let mine : excess (plan_slots segments) ((e + r) * a + r) (e + r) ≡ e * over a (plan_slots segments) + r * over (a + 1) (plan_slots segments) = excess-between a e r (plan_slots segments) (omega arith) in
+    let mine : excess (plan_slots segments) ((e + r) * a + r) (e + r)
+    ≡ e * over a (plan_slots segments) + r * over (a + 1) (plan_slots segments) =
+    excess-between a e r (plan_slots segments) (omega arith) in
     let theirs : excess y ((e + r) * a + r) (e + r) ≡ e * over a y + r * over (a + 1) y = excess-between a e r y (omega arith) in
     let one : e * over a (plan_slots segments) ≤ e * over a y = mul-le-mul_left e (over_whole closed taut fine a) in
-    let two : r * over (a + 1) (plan_slots segments) ≤ r * over (a + 1) y = mul-le-mul_left r (over_whole closed taut fine (a + 1)) in
-    let both : excess (plan_slots segments) ((e + r) * a + r) (e + r) ≤ excess y ((e + r) * a + r) (e + r) = omega (arith, mine, theirs, one, two) in
-    let at_rate : excess (plan_slots segments) p (e + r) ≤ excess y p (e + r) = subst (λ c. excess (plan_slots segments) c (e + r) ≤ excess y c (e + r)) rate' both in
+    let two : r * over (a + 1) (plan_slots segments) ≤ r * over (a + 1) y =
+    mul-le-mul_left r (over_whole closed taut fine (a + 1)) in
+    let both : excess (plan_slots segments) ((e + r) * a + r) (e + r) ≤ excess y ((e + r) * a + r) (e + r) =
+    omega (arith, mine, theirs, one, two) in
+    let at_rate : excess (plan_slots segments) p (e + r) ≤ excess y p (e + r) =
+    subst (λ c. excess (plan_slots segments) c (e + r) ≤ excess y c (e + r)) rate' both in
     subst (λ c. excess (plan_slots segments) p c ≤ excess y p c) rate at_rate
 
-pub best : (from : ℕ) (low up : List ℕ) (segments : List Segment) → AreClosed low up → IsTaut from low up segments → IsBestPlan from low up segments
+pub best : (from : ℕ) (low up : List ℕ) (segments : List Segment) → AreClosed low up
+    → IsTaut from low up segments → IsBestPlan from low up segments
 best from low up segments closed taut = record {
   taut = taut;
-  feasible = feasible from low up segments (slots_are from low up segments taut) (runs_from_taut from low up segments closed taut);
+  feasible = feasible from low up segments (slots_are from low up segments taut)
+      (runs_from_taut from low up segments closed taut);
   least_excess = λ y fine. excess_any closed taut fine;
   least_excess_in_parts = λ m y fine p.
       let h : m * over p (plan_slots segments) ≤ over (m * p) y = over_in_parts closed taut fine p in
@@ -143,7 +161,9 @@ best from low up segments closed taut = record {
 }
 
 -- so a verdict without a fault says that the list is best
-pub best_where_ok : {low up : List ℕ} (from : ℕ) (segments : List Segment) → AreClosed low up → {X : Type 0} (verdict : Result X CertFault) →
-    MatchResult verdict (λ _. IsTaut from low up segments) (λ fault. IsFirstFault from low up segments fault) → OnOk verdict (IsBestPlan from low up segments)
+pub best_where_ok : {low up : List ℕ} (from : ℕ) (segments : List Segment) → AreClosed low up →
+    {X : Type 0} (verdict : Result X CertFault) →
+    MatchResult verdict (λ _. IsTaut from low up segments) (λ fault. IsFirstFault from low up segments fault)
+    → OnOk verdict (IsBestPlan from low up segments)
 best_where_ok {low} {up} from segments closed (Ok done) taut = best from low up segments closed taut
 best_where_ok {low} from segments closed (Err fault) first = tt

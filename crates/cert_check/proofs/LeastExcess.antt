@@ -25,8 +25,10 @@ sum-take-drop : (n j : ℕ) (ys : List ℕ) → n + j ≤ length ys → sum (tak
 sum-take-drop n j ys fits =
     let first : length (take n ys) ≡ n = length-take-le n ys (omega arith) in
     let joined : take n ys ++ drop n ys ≡ ys = take-append-drop n ys in
-    let seam : take (length (take n ys) + j) (take n ys ++ drop n ys) ≡ take n ys ++ take j (drop n ys) = take-append-add (take n ys) (drop n ys) j in
-    let seam' : take (n + j) ys ≡ take n ys ++ take j (drop n ys) = ap (λ c. take (c + j) ys) (sym first) ∙ ap (λ zs. take (length (take n ys) + j) zs) (sym joined) ∙ seam in
+    let seam : take (length (take n ys) + j) (take n ys ++ drop n ys) ≡ take n ys ++ take j (drop n ys) =
+    take-append-add (take n ys) (drop n ys) j in
+    let seam' : take (n + j) ys ≡ take n ys ++ take j (drop n ys) =
+    ap (λ c. take (c + j) ys) (sym first) ∙ ap (λ zs. take (length (take n ys) + j) zs) (sym joined) ∙ seam in
     sym (ap sum seam' ∙ sum_by-append (λ b. b) (take n ys) (take j (drop n ys)))
 
 -- what is left after n numbers keeps between the curves from there
@@ -155,21 +157,28 @@ bounds {m} {p} {lo} {k} {v} {held} {segments = []} runs ends same keeps = record
 bounds {m} {p} {lo} {hi} {k} {v} {held} {segments = s ∷ rest} {ys} runs ends same keeps =
     let slots : total_slots (s ∷ rest) ≡ s.slots + total_slots rest = sum_by-cons (λ x. x.slots) s rest in
     let bytes : total_bytes (s ∷ rest) ≡ s.bytes + total_bytes rest = sum_by-cons (λ x. x.bytes) s rest in
-    let line : line_over p (s ∷ rest) ≡ (s.bytes - s.slots * p) + line_over p rest = sum_by-cons (λ x. x.bytes - x.slots * p) s rest in
+    let line : line_over p (s ∷ rest) ≡ (s.bytes - s.slots * p) + line_over p rest =
+    sum_by-cons (λ x. x.bytes - x.slots * p) s rest in
     let fits : s.slots ≤ length ys = omega (arith, same, slots) in
     let left : length (drop s.slots ys) ≡ length ys - s.slots = length-drop s.slots ys in
     let same' : length (drop s.slots ys) ≡ total_slots rest = omega (arith, left, same, slots) in
     let keeps' = keeps_on s.slots fits keeps in
     let place : k + total_slots (s ∷ rest) ≡ k + s.slots + total_slots rest = omega (arith, slots) in
-    let ends' : lo (k + s.slots + total_slots rest) ≡ v + s.bytes + total_bytes rest = ap lo (sym place) ∙ ends ∙ omega (arith, bytes) in
+    let ends' : lo (k + s.slots + total_slots rest) ≡ v + s.bytes + total_bytes rest =
+    ap lo (sym place) ∙ ends ∙ omega (arith, bytes) in
     let rest' : Bounds m p (v + s.bytes) (held + sum (take s.slots ys)) rest (drop s.slots ys) =
-    bounds {m = m} {p = p} {lo = lo} {hi = hi} {k = k + s.slots} {v = v + s.bytes} {held = held + sum (take s.slots ys)} {segments = rest} {ys = drop s.slots ys} runs.2 ends' same' keeps' in
-    let joined : over (m * p) (take s.slots ys ++ drop s.slots ys) ≡ over (m * p) (take s.slots ys) + over (m * p) (drop s.slots ys) =
+    bounds {m = m} {p = p} {lo = lo} {hi = hi} {k = k + s.slots} {v = v + s.bytes}
+    {held = held + sum (take s.slots ys)} {segments = rest} {ys = drop s.slots ys} runs.2 ends' same' keeps' in
+    let joined : over (m * p) (take s.slots ys ++ drop s.slots ys)
+    ≡ over (m * p) (take s.slots ys) + over (m * p) (drop s.slots ys) =
     sum_by-append (λ b. b - m * p) (take s.slots ys) (drop s.slots ys) in
-    let whole : over (m * p) ys ≡ over (m * p) (take s.slots ys) + over (m * p) (drop s.slots ys) = ap (over (m * p)) (sym (take-append-drop s.slots ys)) ∙ joined in
+    let whole : over (m * p) ys ≡ over (m * p) (take s.slots ys) + over (m * p) (drop s.slots ys) =
+    ap (over (m * p)) (sym (take-append-drop s.slots ys)) ∙ joined in
     let count : length (take s.slots ys) ≡ s.slots = length-take-le s.slots ys fits in
-    let few : sum (take s.slots ys) ≤ over (m * p) (take s.slots ys) + length (take s.slots ys) * (m * p) = sum-le-over (m * p) (take s.slots ys) in
-    let few' : sum (take s.slots ys) ≤ over (m * p) (take s.slots ys) + s.slots * (m * p) = subst (λ c. sum (take s.slots ys) ≤ over (m * p) (take s.slots ys) + c * (m * p)) count few in
+    let few : sum (take s.slots ys) ≤ over (m * p) (take s.slots ys) + length (take s.slots ys) * (m * p) =
+    sum-le-over (m * p) (take s.slots ys) in
+    let few' : sum (take s.slots ys) ≤ over (m * p) (take s.slots ys) + s.slots * (m * p) =
+    subst (λ c. sum (take s.slots ys) ≤ over (m * p) (take s.slots ys) + c * (m * p)) count few in
     record {
       hot = λ is_hot.
           let here : HotSegment m p v held = record {
@@ -199,7 +208,8 @@ pub record IsTautBeside (lo hi : ℕ → ℕ) (v : ℕ) (segments : List Segment
 pub least : {m : ℕ} {lo hi : ℕ → ℕ} {ys : List ℕ} (p v : ℕ) (segments : List Segment) → IsTautBeside lo hi v segments ys →
     KeepsBetween m lo hi 0 (m * v) ys → m * line_over p segments ≤ over (m * p) ys
 least {m} {lo} {ys} p v segments line keeps =
-    let ends' : lo (0 + total_slots segments) ≡ v + total_bytes segments = subst (λ c. lo c ≡ v + total_bytes segments) (omega arith) line.ends in
+    let ends' : lo (0 + total_slots segments) ≡ v + total_bytes segments =
+    subst (λ c. lo c ≡ v + total_bytes segments) (omega arith) line.ends in
     let both : Bounds m p v (m * v) segments ys = bounds line.runs ends' line.same_length keeps in
     from_both segments both
   where
@@ -207,6 +217,7 @@ least {m} {lo} {ys} p v segments line keeps =
     from_both [] both = both.cold tt
     from_both (s ∷ rest) both =
         elim (cases_lt (s.slots * p) s.bytes) [
-          | inl is_hot ↦ (let h : m * line_over p (s ∷ rest) + m * v ≤ over (m * p) ys + m * v = both.hot is_hot in omega (arith, h))
+          | inl is_hot ↦
+              (let h : m * line_over p (s ∷ rest) + m * v ≤ over (m * p) ys + m * v = both.hot is_hot in omega (arith, h))
           | inr is_cold ↦ both.cold is_cold
         ]

@@ -48,7 +48,8 @@ line_keeps {lo} {hi} {k} {v} {s} {rest = []} runs {t} few =
 line_keeps {lo} {hi} {k} {v} {s} {rest = next ∷ rest} runs {t} few =
     elim (cases_lt s.slots t) [
       | inr within ↦ (
-          let here : sum (take t (plan_slots (s ∷ next ∷ rest))) ≡ t * s.bytes / s.slots = sum-take-in s (next ∷ rest) t runs.0.some within in
+          let here : sum (take t (plan_slots (s ∷ next ∷ rest))) ≡ t * s.bytes / s.slots =
+          sum-take-in s (next ∷ rest) t runs.0.some within in
           record {
             above = rw here (floor_above v s t (lo (k + t)) runs.0.some (runs.0.above t within));
             below = rw here (floor_below v s t (hi (k + t)) runs.0.some (runs.0.below t within));
@@ -57,10 +58,16 @@ line_keeps {lo} {hi} {k} {v} {s} {rest = next ∷ rest} runs {t} few =
       | inl past ↦ (
           let d = t - s.slots in
           let is : t ≡ s.slots + d = omega arith in
-          let slots : total_slots (s ∷ next ∷ rest) ≡ s.slots + total_slots (next ∷ rest) = sum_by-cons (λ x. x.slots) s (next ∷ rest) in
-          let after : KeepsAt lo hi (k + s.slots) (v + s.bytes) d (next ∷ rest) = line_keeps {lo = lo} {hi = hi} {k = k + s.slots} {v = v + s.bytes} {s = next} {rest = rest} runs.2 {t = d} (omega (arith, few, slots)) in
-          let joined : sum (take (s.slots + d) (plan_slots (s ∷ next ∷ rest))) ≡ s.bytes + sum (take d (plan_slots (next ∷ rest))) = sum-take-past s (next ∷ rest) d runs.0.some in
-          let whole : sum (take t (plan_slots (s ∷ next ∷ rest))) ≡ s.bytes + sum (take d (plan_slots (next ∷ rest))) = ap (λ n. sum (take n (plan_slots (s ∷ next ∷ rest)))) is ∙ joined in
+          let slots : total_slots (s ∷ next ∷ rest) ≡ s.slots + total_slots (next ∷ rest) =
+          sum_by-cons (λ x. x.slots) s (next ∷ rest) in
+          let after : KeepsAt lo hi (k + s.slots) (v + s.bytes) d (next ∷ rest) =
+          line_keeps {lo = lo} {hi = hi} {k = k + s.slots} {v = v + s.bytes} {s = next} {rest = rest} runs.2
+          {t = d} (omega (arith, few, slots)) in
+          let joined : sum (take (s.slots + d) (plan_slots (s ∷ next ∷ rest)))
+          ≡ s.bytes + sum (take d (plan_slots (next ∷ rest))) = sum-take-past s (next ∷ rest) d runs.0.some in
+          let whole : sum (take t (plan_slots (s ∷ next ∷ rest)))
+          ≡ s.bytes + sum (take d (plan_slots (next ∷ rest))) =
+          ap (λ n. sum (take n (plan_slots (s ∷ next ∷ rest)))) is ∙ joined in
           let place : k + s.slots + d ≡ k + t = omega (arith, is) in
           let low : lo (k + s.slots + d) ≡ lo (k + t) = ap lo place in
           let high : hi (k + s.slots + d) ≡ hi (k + t) = ap hi place in

@@ -89,12 +89,14 @@ cut_bends at split [] some bend = tt
 cut_bends at split (next ∷ rest) some bend =
     elim bend [
       | inl rise ↦ inl (
-        at_most_below (record { first = slope_of split.last; between = slope_of split.whole; last = slope_of next; some_slot = some })
+        at_most_below
+            (record { first = slope_of split.last; between = slope_of split.whole; last = slope_of next; some_slot = some })
             split.some (le_of_eq (sym (level_last split))) rise.0,
         rise.1,
       )
       | inr fall ↦ inr (
-        below_at_most (record { first = slope_of next; between = slope_of split.whole; last = slope_of split.last; some_slot = some })
+        below_at_most
+            (record { first = slope_of next; between = slope_of split.whole; last = slope_of split.last; some_slot = some })
             split.some fall.0 (le_of_eq (level_last split)),
         fall.1,
       )
@@ -112,13 +114,16 @@ part_line {lo} {hi} {k} {v} split ys line =
     let bend' : Bends lo hi (k + s.slots + n') (v + s.bytes + b') part ys =
     subst (λ c. Bends lo hi c (v + s.bytes + b') part ys) place (subst (λ c. Bends lo hi (k + t.slots) c part ys) height bend) in
     let rest' : RunsTaut lo hi (k + s.slots + n') (v + s.bytes + b') ys =
-    subst (λ c. RunsTaut lo hi c (v + s.bytes + b') ys) place (subst (λ c. RunsTaut lo hi (k + t.slots) c ys) height line.runs.2) in
+    subst (λ c. RunsTaut lo hi c (v + s.bytes + b') ys) place
+    (subst (λ c. RunsTaut lo hi (k + t.slots) c ys) height line.runs.2) in
     let slots_t : total_slots (t ∷ ys) ≡ t.slots + total_slots ys = sum_by-cons (λ x. x.slots) t ys in
     let bytes_t : total_bytes (t ∷ ys) ≡ t.bytes + total_bytes ys = sum_by-cons (λ x. x.bytes) t ys in
     let slots_p : total_slots (part ∷ ys) ≡ n' + total_slots ys = sum_by-cons (λ x. x.slots) part ys in
     let bytes_p : total_bytes (part ∷ ys) ≡ b' + total_bytes ys = sum_by-cons (λ x. x.bytes) part ys in
-    let place' : k + s.slots + total_slots (part ∷ ys) ≡ k + total_slots (t ∷ ys) = omega (arith, slots_t, slots_p, split.slots) in
-    let height' : v + total_bytes (t ∷ ys) ≡ v + s.bytes + total_bytes (part ∷ ys) = omega (arith, bytes_t, bytes_p, split.bytes) in
+    let place' : k + s.slots + total_slots (part ∷ ys) ≡ k + total_slots (t ∷ ys) =
+    omega (arith, slots_t, slots_p, split.slots) in
+    let height' : v + total_bytes (t ∷ ys) ≡ v + s.bytes + total_bytes (part ∷ ys) =
+    omega (arith, bytes_t, bytes_p, split.bytes) in
     record {
       runs = (stays, bend', rest');
       ends = record { low = ap lo place' ∙ line.ends.low ∙ height'; high = ap hi place' ∙ line.ends.high ∙ height' };
@@ -132,7 +137,13 @@ no_part : {lo hi : ℕ → ℕ} {k v : ℕ} (split : SplitSegment) (next : Segme
 no_part split next xs ys line other =
     let level_n : next.bytes * part.slots ≡ part.bytes * next.slots = one_slope (line_on line) (part_line split ys other) in
     let level_ns : next.bytes * s.slots ≡ s.bytes * next.slots =
-    level_trans (record { first = slope_of next; between = slope_of part; last = slope_of s; some_slot = split.some }) level_n (sym (level_first split)) in
+    level_trans (record {
+      first = slope_of next;
+      between = slope_of part;
+      last = slope_of s;
+      some_slot =
+          split.some;
+    }) level_n (sym (level_first split)) in
     elim line.runs.1 [
       | inl rise ↦ omega (arith, rise.0, level_ns)
       | inr fall ↦ omega (arith, fall.0, level_ns)
@@ -167,7 +178,8 @@ same_segment : (s t : Segment) → s.slots ≡ t.slots → 1 ≤ s.slots → s.b
 same_segment s t slots some level =
     let pos : 0 < s.slots = omega arith in
     let cross : s.bytes * s.slots ≡ t.bytes * s.slots = ap (λ x. s.bytes * x) slots ∙ level in
-    let bytes : s.bytes ≡ t.bytes = le_antisymm (le_of_mul-le-mul_right (le_of_eq cross) pos) (le_of_mul-le-mul_right (le_of_eq (sym cross)) pos) in
+    let bytes : s.bytes ≡ t.bytes =
+    le_antisymm (le_of_mul-le-mul_right (le_of_eq cross) pos) (le_of_mul-le-mul_right (le_of_eq (sym cross)) pos) in
     ap (λ n. segment n s.bytes) slots ∙ ap (λ b. segment t.slots b) bytes
 
 -- the whole list
@@ -189,8 +201,11 @@ one_list {lo} {hi} {k} {v} {xs = s ∷ xs} {ys = t ∷ ys} line other same =
     elim (cases_order s.slots t.slots) [
       | inl one ↦ (
           let first : s ≡ t = same_segment s t one line.runs.0.some level in
-          let other' : IsTautLine lo hi (k + s.slots) (v + s.bytes) ys = subst (λ x. IsTautLine lo hi (k + x.slots) (v + x.bytes) ys) (sym first) (line_on other) in
-          let others : xs ≡ ys = one_list {lo = lo} {hi = hi} {k = k + s.slots} {v = v + s.bytes} {xs = xs} {ys = ys} (line_on line) other' (omega (arith, same, slots_s, slots_t, one)) in
+          let other' : IsTautLine lo hi (k + s.slots) (v + s.bytes) ys =
+          subst (λ x. IsTautLine lo hi (k + x.slots) (v + x.bytes) ys) (sym first) (line_on other) in
+          let others : xs ≡ ys =
+          one_list {lo = lo} {hi = hi} {k = k + s.slots} {v = v + s.bytes} {xs = xs} {ys = ys}
+          (line_on line) other' (omega (arith, same, slots_s, slots_t, one)) in
           ap (λ x. x ∷ xs) first ∙ ap (λ zs. t ∷ zs) others
           )
       | inr differs ↦ elim differs [

@@ -17,18 +17,25 @@ pub record Faultless (lo hi : ℕ → ℕ) (k v : ℕ) (segments : List Segment)
   pub start_below : v ≤ hi k
   pub above : (j : ℕ) → 1 ≤ j → j ≤ total_slots segments → lo (k + j) * line_under segments j ≤ line_top v segments j
   pub below : (j : ℕ) → 1 ≤ j → j ≤ total_slots segments → line_top v segments j ≤ hi (k + j) * line_under segments j
-  pub no_equal : (i : ℕ) → i + 1 < length segments → IsLevel (slope_of (segment_at segments i)) (slope_of (segment_at segments (i + 1))) → ⊥
-  pub rises_on_upper : (i : ℕ) → i + 1 < length segments → IsBelow (slope_of (segment_at segments i)) (slope_of (segment_at segments (i + 1))) →
+  pub no_equal : (i : ℕ) → i + 1 < length segments
+      → IsLevel (slope_of (segment_at segments i)) (slope_of (segment_at segments (i + 1))) → ⊥
+  pub rises_on_upper : (i : ℕ) → i + 1 < length segments →
+      IsBelow (slope_of (segment_at segments i)) (slope_of (segment_at segments (i + 1))) →
       v + total_bytes (take (i + 1) segments) ≡ hi (k + total_slots (take (i + 1) segments))
-  pub falls_on_lower : (i : ℕ) → i + 1 < length segments → IsBelow (slope_of (segment_at segments (i + 1))) (slope_of (segment_at segments i)) →
+  pub falls_on_lower : (i : ℕ) → i + 1 < length segments →
+      IsBelow (slope_of (segment_at segments (i + 1))) (slope_of (segment_at segments i)) →
       v + total_bytes (take (i + 1) segments) ≡ lo (k + total_slots (take (i + 1) segments))
 
 -- sums over the first i + 1 segments, after the first one
-slots_after : (s : Segment) (rest : List Segment) (i : ℕ) → total_slots (take (i + 1 + 1) (s ∷ rest)) ≡ s.slots + total_slots (take (i + 1) rest)
-slots_after s rest i = ap (λ n. total_slots (take n (s ∷ rest))) (add-one (i + 1)) ∙ sum_by-cons (λ x. x.slots) s (take (i + 1) rest)
+slots_after : (s : Segment) (rest : List Segment) (i : ℕ)
+    → total_slots (take (i + 1 + 1) (s ∷ rest)) ≡ s.slots + total_slots (take (i + 1) rest)
+slots_after s rest i =
+    ap (λ n. total_slots (take n (s ∷ rest))) (add-one (i + 1)) ∙ sum_by-cons (λ x. x.slots) s (take (i + 1) rest)
 
-bytes_after : (s : Segment) (rest : List Segment) (i : ℕ) → total_bytes (take (i + 1 + 1) (s ∷ rest)) ≡ s.bytes + total_bytes (take (i + 1) rest)
-bytes_after s rest i = ap (λ n. total_bytes (take n (s ∷ rest))) (add-one (i + 1)) ∙ sum_by-cons (λ x. x.bytes) s (take (i + 1) rest)
+bytes_after : (s : Segment) (rest : List Segment) (i : ℕ)
+    → total_bytes (take (i + 1 + 1) (s ∷ rest)) ≡ s.bytes + total_bytes (take (i + 1) rest)
+bytes_after s rest i =
+    ap (λ n. total_bytes (take n (s ∷ rest))) (add-one (i + 1)) ∙ sum_by-cons (λ x. x.bytes) s (take (i + 1) rest)
 
 at_after : (s : Segment) (rest : List Segment) (i : ℕ) → segment_at (s ∷ rest) (i + 1) ≡ segment_at rest i
 at_after s rest i = ap (segment_at (s ∷ rest)) (add-one i)
@@ -40,14 +47,16 @@ first_bytes : (s : Segment) (rest : List Segment) → total_bytes (take (0 + 1) 
 first_bytes s rest = omega (arith, sum_by-cons (λ x. x.bytes) s [])
 
 -- the first segment of a faultless list
-first_stays : {lo hi : ℕ → ℕ} {k v : ℕ} {s : Segment} {rest : List Segment} → Faultless lo hi k v (s ∷ rest) → StaysBetween lo hi k v s
+first_stays : {lo hi : ℕ → ℕ} {k v : ℕ} {s : Segment} {rest : List Segment} → Faultless lo hi k v (s ∷ rest)
+    → StaysBetween lo hi k v s
 first_stays {lo} {hi} {k} {v} {s} {rest} clean =
     let slots : total_slots (s ∷ rest) ≡ s.slots + total_slots rest = sum_by-cons (λ x. x.slots) s rest in
     record {
       some = clean.no_empty 0 (omega arith);
       above = λ j few. elim (cases_lt 0 j) [
         | inl later ↦ (
-            let h : lo (k + j) * line_under (s ∷ rest) j ≤ line_top v (s ∷ rest) j = clean.above j later (omega (arith, slots, few)) in
+            let h : lo (k + j) * line_under (s ∷ rest) j ≤ line_top v (s ∷ rest) j =
+            clean.above j later (omega (arith, slots, few)) in
             rw (line_under-in s rest j few, line_top-in v s rest j few) at h
             )
         | inr start ↦ (
@@ -59,7 +68,8 @@ first_stays {lo} {hi} {k} {v} {s} {rest} clean =
       ];
       below = λ j few. elim (cases_lt 0 j) [
         | inl later ↦ (
-            let h : line_top v (s ∷ rest) j ≤ hi (k + j) * line_under (s ∷ rest) j = clean.below j later (omega (arith, slots, few)) in
+            let h : line_top v (s ∷ rest) j ≤ hi (k + j) * line_under (s ∷ rest) j =
+            clean.below j later (omega (arith, slots, few)) in
             rw (line_under-in s rest j few, line_top-in v s rest j few) at h
             )
         | inr start ↦ (
@@ -73,7 +83,8 @@ first_stays {lo} {hi} {k} {v} {s} {rest} clean =
     }
 
 -- what a faultless list leaves after its first segment is faultless from there
-rest_faultless : {lo hi : ℕ → ℕ} {k v : ℕ} {s : Segment} {rest : List Segment} → Faultless lo hi k v (s ∷ rest) → StaysBetween lo hi k v s →
+rest_faultless : {lo hi : ℕ → ℕ} {k v : ℕ} {s : Segment} {rest : List Segment} →
+    Faultless lo hi k v (s ∷ rest) → StaysBetween lo hi k v s →
     Faultless lo hi (k + s.slots) (v + s.bytes) rest
 rest_faultless {lo} {hi} {k} {v} {s} {rest} clean stays =
     let slots : total_slots (s ∷ rest) ≡ s.slots + total_slots rest = sum_by-cons (λ x. x.slots) s rest in
@@ -89,12 +100,17 @@ rest_faultless {lo} {hi} {k} {v} {s} {rest} clean stays =
           let all : (v + s.bytes) * s.slots ≤ hi (k + s.slots) * s.slots = omega (arith, h) in
           le_of_mul-le-mul_right all pos;
       above = λ j later few.
-          let h : lo (k + (s.slots + j)) * line_under (s ∷ rest) (s.slots + j) ≤ line_top v (s ∷ rest) (s.slots + j) = clean.above (s.slots + j) (omega arith) (omega (arith, slots, few)) in
-          let h' : lo (k + (s.slots + j)) * line_under rest j ≤ line_top (v + s.bytes) rest j = rw (line_under-past s rest j later, line_top-past v s rest j later) at h in
+          let h : lo (k + (s.slots + j)) * line_under (s ∷ rest) (s.slots + j)
+          ≤ line_top v (s ∷ rest) (s.slots + j) = clean.above (s.slots + j) (omega arith) (omega (arith, slots, few)) in
+          let h' : lo (k + (s.slots + j)) * line_under rest j ≤ line_top (v + s.bytes) rest j =
+          rw (line_under-past s rest j later, line_top-past v s rest j later) at h in
           subst (λ c. lo c * line_under rest j ≤ line_top (v + s.bytes) rest j) (same_place k s.slots j) h';
       below = λ j later few.
-          let h : line_top v (s ∷ rest) (s.slots + j) ≤ hi (k + (s.slots + j)) * line_under (s ∷ rest) (s.slots + j) = clean.below (s.slots + j) (omega arith) (omega (arith, slots, few)) in
-          let h' : line_top (v + s.bytes) rest j ≤ hi (k + (s.slots + j)) * line_under rest j = rw (line_under-past s rest j later, line_top-past v s rest j later) at h in
+          let h : line_top v (s ∷ rest) (s.slots + j)
+          ≤ hi (k + (s.slots + j)) * line_under (s ∷ rest) (s.slots + j) =
+          clean.below (s.slots + j) (omega arith) (omega (arith, slots, few)) in
+          let h' : line_top (v + s.bytes) rest j ≤ hi (k + (s.slots + j)) * line_under rest j =
+          rw (line_under-past s rest j later, line_top-past v s rest j later) at h in
           subst (λ c. line_top (v + s.bytes) rest j ≤ hi c * line_under rest j) (same_place k s.slots j) h';
       no_equal = λ i inside level.
           clean.no_equal (i + 1) (omega (arith, inside))
@@ -104,15 +120,19 @@ rest_faultless {lo} {hi} {k} {v} {s} {rest} clean stays =
           let h = clean.rises_on_upper (i + 1) (omega (arith, inside))
           (subst (λ a. IsBelow (slope_of a) (slope_of (segment_at (s ∷ rest) (i + 1 + 1)))) (sym (at_after s rest i))
           (subst (λ a. IsBelow (slope_of (segment_at rest i)) (slope_of a)) (sym (at_after s rest (i + 1))) rise)) in
-          let height : v + total_bytes (take (i + 1 + 1) (s ∷ rest)) ≡ v + s.bytes + total_bytes (take (i + 1) rest) = omega (arith, bytes_after s rest i) in
-          let place : k + total_slots (take (i + 1 + 1) (s ∷ rest)) ≡ k + s.slots + total_slots (take (i + 1) rest) = omega (arith, slots_after s rest i) in
+          let height : v + total_bytes (take (i + 1 + 1) (s ∷ rest))
+          ≡ v + s.bytes + total_bytes (take (i + 1) rest) = omega (arith, bytes_after s rest i) in
+          let place : k + total_slots (take (i + 1 + 1) (s ∷ rest))
+          ≡ k + s.slots + total_slots (take (i + 1) rest) = omega (arith, slots_after s rest i) in
           sym height ∙ h ∙ ap hi place;
       falls_on_lower = λ i inside fall.
           let h = clean.falls_on_lower (i + 1) (omega (arith, inside))
           (subst (λ a. IsBelow (slope_of (segment_at (s ∷ rest) (i + 1 + 1))) (slope_of a)) (sym (at_after s rest i))
           (subst (λ a. IsBelow (slope_of a) (slope_of (segment_at rest i))) (sym (at_after s rest (i + 1))) fall)) in
-          let height : v + total_bytes (take (i + 1 + 1) (s ∷ rest)) ≡ v + s.bytes + total_bytes (take (i + 1) rest) = omega (arith, bytes_after s rest i) in
-          let place : k + total_slots (take (i + 1 + 1) (s ∷ rest)) ≡ k + s.slots + total_slots (take (i + 1) rest) = omega (arith, slots_after s rest i) in
+          let height : v + total_bytes (take (i + 1 + 1) (s ∷ rest))
+          ≡ v + s.bytes + total_bytes (take (i + 1) rest) = omega (arith, bytes_after s rest i) in
+          let place : k + total_slots (take (i + 1 + 1) (s ∷ rest))
+          ≡ k + s.slots + total_slots (take (i + 1) rest) = omega (arith, slots_after s rest i) in
           sym height ∙ h ∙ ap lo place;
     }
   where
@@ -120,7 +140,8 @@ rest_faultless {lo} {hi} {k} {v} {s} {rest} clean stays =
     same_place k n j = omega arith
 
 -- the bend after the first segment of a faultless list
-first_bends : {lo hi : ℕ → ℕ} {k v : ℕ} {s : Segment} {rest : List Segment} → Faultless lo hi k v (s ∷ rest) → Bends lo hi (k + s.slots) (v + s.bytes) s rest
+first_bends : {lo hi : ℕ → ℕ} {k v : ℕ} {s : Segment} {rest : List Segment} → Faultless lo hi k v (s ∷ rest)
+    → Bends lo hi (k + s.slots) (v + s.bytes) s rest
 first_bends {lo} {s} {rest = []} clean = tt
 first_bends {lo} {hi} {k} {v} {s} {rest = next ∷ rest} clean =
     let height : v + total_bytes (take (0 + 1) (s ∷ next ∷ rest)) ≡ v + s.bytes = omega (arith, first_bytes s (next ∷ rest)) in
@@ -133,14 +154,16 @@ first_bends {lo} {hi} {k} {v} {s} {rest = next ∷ rest} clean =
       ]
     ]
 
-pub runs_from_faultless : (lo hi : ℕ → ℕ) (k v : ℕ) (segments : List Segment) → Faultless lo hi k v segments → RunsTaut lo hi k v segments
+pub runs_from_faultless : (lo hi : ℕ → ℕ) (k v : ℕ) (segments : List Segment) → Faultless lo hi k v segments
+    → RunsTaut lo hi k v segments
 runs_from_faultless lo hi k v [] clean = tt
 runs_from_faultless lo hi k v (s ∷ rest) clean =
     let stays = first_stays clean in
     (stays, first_bends clean, runs_from_faultless lo hi (k + s.slots) (v + s.bytes) rest (rest_faultless clean stays))
 
 -- and back, one segment put in front
-front_faultless : {lo hi : ℕ → ℕ} {k v : ℕ} {s : Segment} {rest : List Segment} → StaysBetween lo hi k v s → Bends lo hi (k + s.slots) (v + s.bytes) s rest →
+front_faultless : {lo hi : ℕ → ℕ} {k v : ℕ} {s : Segment} {rest : List Segment} → StaysBetween lo hi k v s →
+    Bends lo hi (k + s.slots) (v + s.bytes) s rest →
     Faultless lo hi (k + s.slots) (v + s.bytes) rest → Faultless lo hi k v (s ∷ rest)
 front_faultless {lo} {hi} {k} {v} {s} {rest} stays bend after =
     let slots : total_slots (s ∷ rest) ≡ s.slots + total_slots rest = sum_by-cons (λ x. x.slots) s rest in
@@ -162,11 +185,15 @@ front_faultless {lo} {hi} {k} {v} {s} {rest} stays bend after =
         | inl past ↦ (
             let d = j - s.slots in
             let is : s.slots + d ≡ j = omega arith in
-            let h : lo (k + s.slots + d) * line_under rest d ≤ line_top (v + s.bytes) rest d = after.above d (omega arith) (omega (arith, slots, few)) in
+            let h : lo (k + s.slots + d) * line_under rest d ≤ line_top (v + s.bytes) rest d =
+            after.above d (omega arith) (omega (arith, slots, few)) in
             let place : k + s.slots + d ≡ k + j = omega (arith, is) in
-            let top : line_top v (s ∷ rest) j ≡ line_top (v + s.bytes) rest d = ap (line_top v (s ∷ rest)) (sym is) ∙ line_top-past v s rest d (omega arith) in
-            let under : line_under (s ∷ rest) j ≡ line_under rest d = ap (line_under (s ∷ rest)) (sym is) ∙ line_under-past s rest d (omega arith) in
-            let h' : lo (k + j) * line_under rest d ≤ line_top (v + s.bytes) rest d = subst (λ c. lo c * line_under rest d ≤ line_top (v + s.bytes) rest d) place h in
+            let top : line_top v (s ∷ rest) j ≡ line_top (v + s.bytes) rest d =
+            ap (line_top v (s ∷ rest)) (sym is) ∙ line_top-past v s rest d (omega arith) in
+            let under : line_under (s ∷ rest) j ≡ line_under rest d =
+            ap (line_under (s ∷ rest)) (sym is) ∙ line_under-past s rest d (omega arith) in
+            let h' : lo (k + j) * line_under rest d ≤ line_top (v + s.bytes) rest d =
+            subst (λ c. lo c * line_under rest d ≤ line_top (v + s.bytes) rest d) place h in
             rw (top, under) h'
             )
       ];
@@ -175,11 +202,15 @@ front_faultless {lo} {hi} {k} {v} {s} {rest} stays bend after =
         | inl past ↦ (
             let d = j - s.slots in
             let is : s.slots + d ≡ j = omega arith in
-            let h : line_top (v + s.bytes) rest d ≤ hi (k + s.slots + d) * line_under rest d = after.below d (omega arith) (omega (arith, slots, few)) in
+            let h : line_top (v + s.bytes) rest d ≤ hi (k + s.slots + d) * line_under rest d =
+            after.below d (omega arith) (omega (arith, slots, few)) in
             let place : k + s.slots + d ≡ k + j = omega (arith, is) in
-            let top : line_top v (s ∷ rest) j ≡ line_top (v + s.bytes) rest d = ap (line_top v (s ∷ rest)) (sym is) ∙ line_top-past v s rest d (omega arith) in
-            let under : line_under (s ∷ rest) j ≡ line_under rest d = ap (line_under (s ∷ rest)) (sym is) ∙ line_under-past s rest d (omega arith) in
-            let h' : line_top (v + s.bytes) rest d ≤ hi (k + j) * line_under rest d = subst (λ c. line_top (v + s.bytes) rest d ≤ hi c * line_under rest d) place h in
+            let top : line_top v (s ∷ rest) j ≡ line_top (v + s.bytes) rest d =
+            ap (line_top v (s ∷ rest)) (sym is) ∙ line_top-past v s rest d (omega arith) in
+            let under : line_under (s ∷ rest) j ≡ line_under rest d =
+            ap (line_under (s ∷ rest)) (sym is) ∙ line_under-past s rest d (omega arith) in
+            let h' : line_top (v + s.bytes) rest d ≤ hi (k + j) * line_under rest d =
+            subst (λ c. line_top (v + s.bytes) rest d ≤ hi c * line_under rest d) place h in
             rw (top, under) h'
             )
       ];
@@ -192,53 +223,72 @@ front_faultless {lo} {hi} {k} {v} {s} {rest} stays bend after =
     empties zero inside = stays.some
     empties (suc i) inside = after.no_empty i (omega (arith, inside))
 
-    no_level : (rest : List Segment) → Bends lo hi (k + s.slots) (v + s.bytes) s rest → Faultless lo hi (k + s.slots) (v + s.bytes) rest →
-        (i : ℕ) → i + 1 < length (s ∷ rest) → IsLevel (slope_of (segment_at (s ∷ rest) i)) (slope_of (segment_at (s ∷ rest) (i + 1))) → ⊥
+    no_level : (rest : List Segment) → Bends lo hi (k + s.slots) (v + s.bytes) s rest →
+        Faultless lo hi (k + s.slots) (v + s.bytes) rest →
+        (i : ℕ) → i + 1 < length (s ∷ rest)
+        → IsLevel (slope_of (segment_at (s ∷ rest) i)) (slope_of (segment_at (s ∷ rest) (i + 1))) → ⊥
     no_level [] bend after i inside level = omega (arith, inside)
-    no_level (next ∷ others) bend after zero inside level = elim bend [ inl rise ↦ omega (arith, rise.0, level) | inr fall ↦ omega (arith, fall.0, level) ]
+    no_level (next ∷ others) bend after zero inside level =
+        elim bend [ inl rise ↦ omega (arith, rise.0, level) | inr fall ↦ omega (arith, fall.0, level) ]
     no_level (next ∷ others) bend after (suc i) inside level =
         after.no_equal i (omega (arith, inside))
-        (subst (λ a. IsLevel (slope_of (segment_at (next ∷ others) i)) (slope_of a)) (ap (segment_at (s ∷ next ∷ others)) (add-one (suc i)) ∙ ap (segment_at (next ∷ others)) (sym (add-one i))) level)
+        (subst (λ a. IsLevel (slope_of (segment_at (next ∷ others) i)) (slope_of a))
+        (ap (segment_at (s ∷ next ∷ others)) (add-one (suc i)) ∙ ap (segment_at (next ∷ others)) (sym (add-one i))) level)
 
-    rises : (rest : List Segment) → Bends lo hi (k + s.slots) (v + s.bytes) s rest → Faultless lo hi (k + s.slots) (v + s.bytes) rest →
-        (i : ℕ) → i + 1 < length (s ∷ rest) → IsBelow (slope_of (segment_at (s ∷ rest) i)) (slope_of (segment_at (s ∷ rest) (i + 1))) →
+    rises : (rest : List Segment) → Bends lo hi (k + s.slots) (v + s.bytes) s rest →
+        Faultless lo hi (k + s.slots) (v + s.bytes) rest →
+        (i : ℕ) → i + 1 < length (s ∷ rest) →
+        IsBelow (slope_of (segment_at (s ∷ rest) i)) (slope_of (segment_at (s ∷ rest) (i + 1))) →
         v + total_bytes (take (i + 1) (s ∷ rest)) ≡ hi (k + total_slots (take (i + 1) (s ∷ rest)))
     rises [] bend after i inside rise = absurd (omega (arith, inside))
     rises (next ∷ others) bend after zero inside rise =
-        let height : v + total_bytes (take (0 + 1) (s ∷ next ∷ others)) ≡ v + s.bytes = omega (arith, first_bytes s (next ∷ others)) in
-        let place : k + total_slots (take (0 + 1) (s ∷ next ∷ others)) ≡ k + s.slots = omega (arith, first_slots s (next ∷ others)) in
+        let height : v + total_bytes (take (0 + 1) (s ∷ next ∷ others)) ≡ v + s.bytes =
+        omega (arith, first_bytes s (next ∷ others)) in
+        let place : k + total_slots (take (0 + 1) (s ∷ next ∷ others)) ≡ k + s.slots =
+        omega (arith, first_slots s (next ∷ others)) in
         elim bend [ inl up ↦ height ∙ up.1 ∙ ap hi (sym place) | inr down ↦ absurd (omega (arith, down.0, rise)) ]
     rises (next ∷ others) bend after (suc i) inside rise =
         let h = after.rises_on_upper i (omega (arith, inside))
-        (subst (λ a. IsBelow (slope_of (segment_at (next ∷ others) i)) (slope_of a)) (ap (segment_at (s ∷ next ∷ others)) (add-one (suc i)) ∙ ap (segment_at (next ∷ others)) (sym (add-one i))) rise) in
+        (subst (λ a. IsBelow (slope_of (segment_at (next ∷ others) i)) (slope_of a))
+        (ap (segment_at (s ∷ next ∷ others)) (add-one (suc i)) ∙ ap (segment_at (next ∷ others)) (sym (add-one i))) rise) in
         let count : suc i + 1 ≡ i + 1 + 1 = omega arith in
-        let height : v + total_bytes (take (suc i + 1) (s ∷ next ∷ others)) ≡ v + s.bytes + total_bytes (take (i + 1) (next ∷ others)) =
+        let height : v + total_bytes (take (suc i + 1) (s ∷ next ∷ others))
+        ≡ v + s.bytes + total_bytes (take (i + 1) (next ∷ others)) =
         ap (λ c. v + total_bytes (take c (s ∷ next ∷ others))) count ∙ omega (arith, bytes_after s (next ∷ others) i) in
-        let place : k + total_slots (take (suc i + 1) (s ∷ next ∷ others)) ≡ k + s.slots + total_slots (take (i + 1) (next ∷ others)) =
+        let place : k + total_slots (take (suc i + 1) (s ∷ next ∷ others))
+        ≡ k + s.slots + total_slots (take (i + 1) (next ∷ others)) =
         ap (λ c. k + total_slots (take c (s ∷ next ∷ others))) count ∙ omega (arith, slots_after s (next ∷ others) i) in
         height ∙ h ∙ ap hi (sym place)
 
-    falls : (rest : List Segment) → Bends lo hi (k + s.slots) (v + s.bytes) s rest → Faultless lo hi (k + s.slots) (v + s.bytes) rest →
-        (i : ℕ) → i + 1 < length (s ∷ rest) → IsBelow (slope_of (segment_at (s ∷ rest) (i + 1))) (slope_of (segment_at (s ∷ rest) i)) →
+    falls : (rest : List Segment) → Bends lo hi (k + s.slots) (v + s.bytes) s rest →
+        Faultless lo hi (k + s.slots) (v + s.bytes) rest →
+        (i : ℕ) → i + 1 < length (s ∷ rest) →
+        IsBelow (slope_of (segment_at (s ∷ rest) (i + 1))) (slope_of (segment_at (s ∷ rest) i)) →
         v + total_bytes (take (i + 1) (s ∷ rest)) ≡ lo (k + total_slots (take (i + 1) (s ∷ rest)))
     falls [] bend after i inside fall = absurd (omega (arith, inside))
     falls (next ∷ others) bend after zero inside fall =
-        let height : v + total_bytes (take (0 + 1) (s ∷ next ∷ others)) ≡ v + s.bytes = omega (arith, first_bytes s (next ∷ others)) in
-        let place : k + total_slots (take (0 + 1) (s ∷ next ∷ others)) ≡ k + s.slots = omega (arith, first_slots s (next ∷ others)) in
+        let height : v + total_bytes (take (0 + 1) (s ∷ next ∷ others)) ≡ v + s.bytes =
+        omega (arith, first_bytes s (next ∷ others)) in
+        let place : k + total_slots (take (0 + 1) (s ∷ next ∷ others)) ≡ k + s.slots =
+        omega (arith, first_slots s (next ∷ others)) in
         elim bend [ inl up ↦ absurd (omega (arith, up.0, fall)) | inr down ↦ height ∙ down.1 ∙ ap lo (sym place) ]
     falls (next ∷ others) bend after (suc i) inside fall =
         let h = after.falls_on_lower i (omega (arith, inside))
-        (subst (λ a. IsBelow (slope_of a) (slope_of (segment_at (next ∷ others) i))) (ap (segment_at (s ∷ next ∷ others)) (add-one (suc i)) ∙ ap (segment_at (next ∷ others)) (sym (add-one i))) fall) in
+        (subst (λ a. IsBelow (slope_of a) (slope_of (segment_at (next ∷ others) i)))
+        (ap (segment_at (s ∷ next ∷ others)) (add-one (suc i)) ∙ ap (segment_at (next ∷ others)) (sym (add-one i))) fall) in
         let count : suc i + 1 ≡ i + 1 + 1 = omega arith in
-        let height : v + total_bytes (take (suc i + 1) (s ∷ next ∷ others)) ≡ v + s.bytes + total_bytes (take (i + 1) (next ∷ others)) =
+        let height : v + total_bytes (take (suc i + 1) (s ∷ next ∷ others))
+        ≡ v + s.bytes + total_bytes (take (i + 1) (next ∷ others)) =
         ap (λ c. v + total_bytes (take c (s ∷ next ∷ others))) count ∙ omega (arith, bytes_after s (next ∷ others) i) in
-        let place : k + total_slots (take (suc i + 1) (s ∷ next ∷ others)) ≡ k + s.slots + total_slots (take (i + 1) (next ∷ others)) =
+        let place : k + total_slots (take (suc i + 1) (s ∷ next ∷ others))
+        ≡ k + s.slots + total_slots (take (i + 1) (next ∷ others)) =
         ap (λ c. k + total_slots (take c (s ∷ next ∷ others))) count ∙ omega (arith, slots_after s (next ∷ others) i) in
         height ∙ h ∙ ap lo (sym place)
 
 -- the line's end on both curves starts the induction
 pub faultless_from_runs : {lo hi : ℕ → ℕ} {k v : ℕ} {segments : List Segment} → RunsTaut lo hi k v segments →
-    lo (k + total_slots segments) ≤ v + total_bytes segments → v + total_bytes segments ≤ hi (k + total_slots segments) → Faultless lo hi k v segments
+    lo (k + total_slots segments) ≤ v + total_bytes segments
+    → v + total_bytes segments ≤ hi (k + total_slots segments) → Faultless lo hi k v segments
 faultless_from_runs {lo} {hi} {k} {segments = []} runs under over = record {
   no_empty = λ i inside. absurd (omega (arith, inside));
   start_above = let e : lo (k + 0) ≡ lo k = ap lo (add-zero k) in omega (arith, under, e);
@@ -256,4 +306,5 @@ faultless_from_runs {lo} {hi} {k} {v} {segments = s ∷ rest} runs under over =
     let low : lo (k + total_slots (s ∷ rest)) ≡ lo (k + s.slots + total_slots rest) = ap lo place in
     let high : hi (k + total_slots (s ∷ rest)) ≡ hi (k + s.slots + total_slots rest) = ap hi place in
     front_faultless runs.0 runs.1
-    (faultless_from_runs {lo = lo} {hi = hi} {k = k + s.slots} {v = v + s.bytes} {segments = rest} runs.2 (omega (arith, under, low, bytes)) (omega (arith, over, high, bytes)))
+    (faultless_from_runs {lo = lo} {hi = hi} {k = k + s.slots} {v = v + s.bytes} {segments = rest} runs.2
+    (omega (arith, under, low, bytes)) (omega (arith, over, high, bytes)))

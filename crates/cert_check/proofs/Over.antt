@@ -13,7 +13,8 @@ over p xs = sum_by (λ b. b - p) xs
 -- sums by functions that agree
 pub sum_by-agree : {X : Type 0} (f g : X → ℕ) (xs : List X) → ((x : X) → f x ≡ g x) → sum_by f xs ≡ sum_by g xs
 sum_by-agree f g xs same =
-    le_antisymm (sum_by-le-sum_by f g xs (λ x. let e : f x ≡ g x = same x in omega arith)) (sum_by-le-sum_by g f xs (λ x. let e : f x ≡ g x = same x in omega arith))
+    le_antisymm (sum_by-le-sum_by f g xs (λ x. let e : f x ≡ g x = same x in omega arith))
+    (sum_by-le-sum_by g f xs (λ x. let e : f x ≡ g x = same x in omega arith))
 
 -- what isn't over the threshold is at most the threshold for each number
 pub sum-le-over : (p : ℕ) (ys : List ℕ) → sum ys ≤ over p ys + length ys * p
@@ -70,7 +71,9 @@ between_thresholds a e r b some =
 pub excess-between : (a e r : ℕ) (ys : List ℕ) → 1 ≤ e → excess ys ((e + r) * a + r) (e + r) ≡ e * over a ys + r * over (a + 1) ys
 excess-between a e r [] some = omega arith
 excess-between a e r (y ∷ ys) some =
-    let whole : excess (y ∷ ys) ((e + r) * a + r) (e + r) ≡ ((e + r) * y - ((e + r) * a + r)) + excess ys ((e + r) * a + r) (e + r) = sum_by-cons (λ b. (e + r) * b - ((e + r) * a + r)) y ys in
+    let whole : excess (y ∷ ys) ((e + r) * a + r) (e + r)
+    ≡ ((e + r) * y - ((e + r) * a + r)) + excess ys ((e + r) * a + r) (e + r) =
+    sum_by-cons (λ b. (e + r) * b - ((e + r) * a + r)) y ys in
     let under : over a (y ∷ ys) ≡ (y - a) + over a ys = sum_by-cons (λ b. b - a) y ys in
     let beyond : over (a + 1) (y ∷ ys) ≡ (y - (a + 1)) + over (a + 1) ys = sum_by-cons (λ b. b - (a + 1)) y ys in
     let first : (e + r) * y - ((e + r) * a + r) ≡ e * (y - a) + r * (y - (a + 1)) = between_thresholds a e r y some in

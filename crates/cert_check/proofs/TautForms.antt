@@ -26,10 +26,12 @@ bound_end from curve n some = ap (bound_at from curve) (omega arith) ∙ bound_a
 not_different : (a b : ℕ) → (a ≢ b → ⊥) → a ≡ b
 not_different a b h = elim (cases_eq a b) [ inl same ↦ same | inr other ↦ absurd (h other) ]
 
-pub slots_are : (from : ℕ) (low up : List ℕ) (segments : List Segment) → IsTaut from low up segments → total_slots segments ≡ length low
+pub slots_are : (from : ℕ) (low up : List ℕ) (segments : List Segment) → IsTaut from low up segments
+    → total_slots segments ≡ length low
 slots_are from low up segments taut = not_different (total_slots segments) (length low) taut.right_length
 
-pub total_is : (from : ℕ) (low up : List ℕ) (segments : List Segment) → IsTaut from low up segments → from + total_bytes segments ≡ slice_index up (length up - 1)
+pub total_is : (from : ℕ) (low up : List ℕ) (segments : List Segment) → IsTaut from low up segments
+    → from + total_bytes segments ≡ slice_index up (length up - 1)
 total_is from low up segments taut = not_different (from + total_bytes segments) (slice_index up (length up - 1)) taut.right_total
 
 faultless : (from : ℕ) (low up : List ℕ) (segments : List Segment) → AreClosed low up → IsTaut from low up segments →
@@ -46,9 +48,14 @@ faultless from low up segments closed taut =
       above = λ j later few.
           let t = j - 1 in
           let is : t + 1 ≡ j = omega arith in
-          let at : bound_at from low (0 + j) ≡ slice_index low t = ap (bound_at from low) (omega arith) ∙ bound_after from low t in
+          let at : bound_at from low (0 + j) ≡ slice_index low t =
+          ap (bound_at from low) (omega arith) ∙ bound_after from low t in
           elim (cases_lt (line_top from segments j) (slice_index low t * line_under segments j)) [
-            | inl below ↦ absurd (taut.above t (omega (arith, slots, few), subst (λ c. line_top from segments c < slice_index low t * line_under segments c) (sym is) below))
+            | inl below ↦
+                absurd (taut.above t (
+                  omega (arith, slots, few),
+                  subst (λ c. line_top from segments c < slice_index low t * line_under segments c) (sym is) below,
+                ))
             | inr fine ↦ rw at fine
           ];
       below = λ j later few.
@@ -56,15 +63,21 @@ faultless from low up segments closed taut =
           let is : t + 1 ≡ j = omega arith in
           let at : bound_at from up (0 + j) ≡ slice_index up t = ap (bound_at from up) (omega arith) ∙ bound_after from up t in
           elim (cases_lt (slice_index up t * line_under segments j) (line_top from segments j)) [
-            | inl above ↦ absurd (taut.below t (omega (arith, slots, few, closed.same_length), subst (λ c. slice_index up t * line_under segments c < line_top from segments c) (sym is) above))
+            | inl above ↦
+                absurd (taut.below t (
+                  omega (arith, slots, few, closed.same_length),
+                  subst (λ c. slice_index up t * line_under segments c < line_top from segments c) (sym is) above,
+                ))
             | inr fine ↦ rw at fine
           ];
       no_equal = λ i inside level. taut.no_equal i (inside, level);
       rises_on_upper = λ i inside rise.
-          not_different (from + total_bytes (take (i + 1) segments)) (bound_at from up (total_slots (take (i + 1) segments))) (λ off. taut.no_rise_off i (inside, rise, off))
+          not_different (from + total_bytes (take (i + 1) segments))
+          (bound_at from up (total_slots (take (i + 1) segments))) (λ off. taut.no_rise_off i (inside, rise, off))
           ∙ ap (bound_at from up) (omega arith);
       falls_on_lower = λ i inside fall.
-          not_different (from + total_bytes (take (i + 1) segments)) (bound_at from low (total_slots (take (i + 1) segments))) (λ off. taut.no_fall_off i (inside, fall, off))
+          not_different (from + total_bytes (take (i + 1) segments))
+          (bound_at from low (total_slots (take (i + 1) segments))) (λ off. taut.no_fall_off i (inside, fall, off))
           ∙ ap (bound_at from low) (omega arith);
     }
 
@@ -79,7 +92,8 @@ pub ends_from_taut : (from : ℕ) (low up : List ℕ) (segments : List Segment) 
     EndsOn (bound_at from low) (bound_at from up) 0 from segments
 ends_from_taut from low up segments closed taut =
     let slots : total_slots segments ≡ length low = slots_are from low up segments taut in
-    let total : from + total_bytes segments ≡ slice_index up (length low - 1) = total_is from low up segments taut ∙ ap (λ n. slice_index up (n - 1)) closed.same_length in
+    let total : from + total_bytes segments ≡ slice_index up (length low - 1) =
+    total_is from low up segments taut ∙ ap (λ n. slice_index up (n - 1)) closed.same_length in
     let place : 0 + total_slots segments ≡ length low = omega (arith, slots) in
     record {
       low = ap (bound_at from low) place ∙ bound_end from low (length low) closed.some_slot ∙ closed.meet ∙ sym total;
@@ -104,17 +118,23 @@ taut_from_runs {low} {up} from segments closed runs slots total =
     let clean : Faultless (bound_at from low) (bound_at from up) 0 from segments =
     faultless_from_runs runs (omega (arith, low_end)) (omega (arith, high_end)) in
     record {
-      no_empty = λ i empty. let some : 1 ≤ (segment_at segments i).slots = clean.no_empty i empty.0 in omega (arith, some, empty.1);
+      no_empty = λ i empty. let some : 1 ≤ (segment_at segments i).slots =
+          clean.no_empty i empty.0 in omega (arith, some, empty.1);
       right_length = λ off. off slots;
       right_total = λ off. off (total ∙ ap (λ n. slice_index up (n - 1)) (sym closed.same_length));
       above = λ t fault.
-          let h : bound_at from low (0 + (t + 1)) * line_under segments (t + 1) ≤ line_top from segments (t + 1) = clean.above (t + 1) (omega arith) (omega (arith, slots, fault.0)) in
-          let at : bound_at from low (0 + (t + 1)) ≡ slice_index low t = ap (bound_at from low) (omega arith) ∙ bound_after from low t in
+          let h : bound_at from low (0 + (t + 1)) * line_under segments (t + 1)
+          ≤ line_top from segments (t + 1) = clean.above (t + 1) (omega arith) (omega (arith, slots, fault.0)) in
+          let at : bound_at from low (0 + (t + 1)) ≡ slice_index low t =
+          ap (bound_at from low) (omega arith) ∙ bound_after from low t in
           let h' : slice_index low t * line_under segments (t + 1) ≤ line_top from segments (t + 1) = rw at at h in
           omega (arith, h', fault.1);
       below = λ t fault.
-          let h : line_top from segments (t + 1) ≤ bound_at from up (0 + (t + 1)) * line_under segments (t + 1) = clean.below (t + 1) (omega arith) (omega (arith, slots, fault.0, closed.same_length)) in
-          let at : bound_at from up (0 + (t + 1)) ≡ slice_index up t = ap (bound_at from up) (omega arith) ∙ bound_after from up t in
+          let h : line_top from segments (t + 1)
+          ≤ bound_at from up (0 + (t + 1)) * line_under segments (t + 1) =
+          clean.below (t + 1) (omega arith) (omega (arith, slots, fault.0, closed.same_length)) in
+          let at : bound_at from up (0 + (t + 1)) ≡ slice_index up t =
+          ap (bound_at from up) (omega arith) ∙ bound_after from up t in
           let h' : line_top from segments (t + 1) ≤ slice_index up t * line_under segments (t + 1) = rw at at h in
           omega (arith, h', fault.1);
       no_equal = λ i fault. clean.no_equal i fault.0 fault.1;

@@ -8,10 +8,12 @@ use Rattle.cert_check.specs.Line.{segment_at, end_place, end_height}
 use Rattle.cert_check.proofs.TautForms.{bound_end}
 
 -- segment i ends within the slots of the whole list
-pub ends_within : (segments : List Segment) (i : ℕ) → i < length segments → total_slots (take i segments) + (segment_at segments i).slots ≤ total_slots segments
+pub ends_within : (segments : List Segment) (i : ℕ) → i < length segments
+    → total_slots (take i segments) + (segment_at segments i).slots ≤ total_slots segments
 ends_within segments i inside = sum_by_more_le (λ s. s.slots) segments i (record { slots = 0; bytes = 0 }) inside
 
-pub end_place_is : (segments : List Segment) (i : ℕ) → i < length segments → end_place segments i ≡ total_slots (take i segments) + (segment_at segments i).slots
+pub end_place_is : (segments : List Segment) (i : ℕ) → i < length segments
+    → end_place segments i ≡ total_slots (take i segments) + (segment_at segments i).slots
 end_place_is segments i inside = sum_by_more (λ s. s.slots) segments i (record { slots = 0; bytes = 0 }) inside
 
 pub end_height_is : (from : ℕ) (segments : List Segment) (i : ℕ) → i < length segments →
@@ -21,8 +23,10 @@ end_height_is from segments i inside =
     omega (arith, e)
 
 -- the curve at the end of segment i, by the slot before that place
-pub curve_there : (from : ℕ) (curve : List ℕ) (segments : List Segment) (i : ℕ) → i < length segments → 1 ≤ (segment_at segments i).slots →
-    bound_at from curve (end_place segments i) ≡ slice_index curve (total_slots (take i segments) + (segment_at segments i).slots - 1)
+pub curve_there : (from : ℕ) (curve : List ℕ) (segments : List Segment) (i : ℕ) → i < length segments →
+    1 ≤ (segment_at segments i).slots →
+    bound_at from curve (end_place segments i)
+    ≡ slice_index curve (total_slots (take i segments) + (segment_at segments i).slots - 1)
 curve_there from curve segments i inside some =
     ap (bound_at from curve) (end_place_is segments i inside)
     ∙ bound_end from curve (total_slots (take i segments) + (segment_at segments i).slots) (omega arith)

@@ -152,7 +152,8 @@ high_further {lo} {hi} {k} {v} {s} next stays some flatter meets =
     }
 
 -- what is left after the first segment ends on both curves too
-pub ends_on : {lo hi : ℕ → ℕ} {k v : ℕ} {s : Segment} {rest : List Segment} → EndsOn lo hi k v (s ∷ rest) → EndsOn lo hi (k + s.slots) (v + s.bytes) rest
+pub ends_on : {lo hi : ℕ → ℕ} {k v : ℕ} {s : Segment} {rest : List Segment} → EndsOn lo hi k v (s ∷ rest)
+    → EndsOn lo hi (k + s.slots) (v + s.bytes) rest
 ends_on {lo} {hi} {k} {v} {s} {rest} ends =
     let slots : total_slots (s ∷ rest) ≡ s.slots + total_slots rest = sum_by-cons (λ x. x.slots) s rest in
     let bytes : total_bytes (s ∷ rest) ≡ s.bytes + total_bytes rest = sum_by-cons (λ x. x.bytes) s rest in

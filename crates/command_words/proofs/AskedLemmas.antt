@@ -36,7 +36,8 @@ one_between least most n [] e = absurd (none-some _ e)
 one_between least most n (value ∷ []) e = between_found least most n (number_of value) e
 one_between least most n (value ∷ other ∷ others) e = absurd (none-some _ e)
 
-or_between : {default least most n : ℕ} (values : List (List ℕ)) → IsBetween least most default → number_or default least most values ≡ Some n → IsBetween least most n
+or_between : {default least most n : ℕ} (values : List (List ℕ)) → IsBetween least most default
+    → number_or default least most values ≡ Some n → IsBetween least most n
 or_between {default} {least} {most} {n} [] inside e = subst (IsBetween least most) (some_one default n e) inside
 or_between {default} {least} {most} {n} (value ∷ values) inside e = one_between least most n (value ∷ values) e
 
@@ -66,7 +67,8 @@ none_read = record {
 
 one_read : (steps : List CapStep) (step : CapStep) → AreRead steps → may_follow steps step ≡ true → AreRead (steps ++ step ∷ [])
 one_read steps step read may =
-    let all = and_parts (nat_lt (length steps) 64) (stands_after steps step.from && (nat_le step.from (2 ^ 62) && nat_le step.bytes (2 ^ 42))) may in
+    let all = and_parts (nat_lt (length steps) 64)
+    (stands_after steps step.from && (nat_le step.from (2 ^ 62) && nat_le step.bytes (2 ^ 42))) may in
     let rest = and_parts (stands_after steps step.from) (nat_le step.from (2 ^ 62) && nat_le step.bytes (2 ^ 42)) all.1 in
     let small = and_parts (nat_le step.from (2 ^ 62)) (nat_le step.bytes (2 ^ 42)) rest.1 in
     record {
@@ -83,17 +85,20 @@ none_after [] steps e = none-some _ e
 none_after (part ∷ parts) steps e = none_after parts steps e
 
 -- the step of a part that others follow
-part_found : (front : List CapStep) (o : Option CapStep) (parts : List (List ℕ)) (steps : List CapStep) → fold part_more (step_more front o) parts ≡ Some steps →
+part_found : (front : List CapStep) (o : Option CapStep) (parts : List (List ℕ)) (steps : List CapStep) →
+    fold part_more (step_more front o) parts ≡ Some steps →
     (step : CapStep) × (may_follow front step ≡ true) × (fold part_more (Some (front ++ step ∷ [])) parts ≡ Some steps)
 part_found front None parts steps e = absurd (none_after parts steps e)
 part_found front (Some step) parts steps e = by (may_follow front step) refl e
   where
-    by : (taken : Bool) → may_follow front step ≡ taken → fold part_more (if taken then Some (front ++ step ∷ []) else None) parts ≡ Some steps →
+    by : (taken : Bool) → may_follow front step ≡ taken →
+        fold part_more (if taken then Some (front ++ step ∷ []) else None) parts ≡ Some steps →
         (s : CapStep) × (may_follow front s ≡ true) × (fold part_more (Some (front ++ s ∷ [])) parts ≡ Some steps)
     by false may e = absurd (none_after parts steps e)
     by true may e = (step, may, e)
 
-parts_read : (front : List CapStep) (parts : List (List ℕ)) (steps : List CapStep) → AreRead front → fold part_more (Some front) parts ≡ Some steps →
+parts_read : (front : List CapStep) (parts : List (List ℕ)) (steps : List CapStep) → AreRead front →
+    fold part_more (Some front) parts ≡ Some steps →
     AreRead steps × (length front + length parts ≤ length steps)
 parts_read front [] steps read e =
     subst (λ (ss : List CapStep). AreRead ss × (length front + 0 ≤ length ss)) (some_one front steps e) (read, omega arith)
@@ -109,12 +114,15 @@ steps_read text steps e =
 
 flat_capacity : (bytes : ℕ) → bytes ≤ 2 ^ 42 → IsCapacity (flat_steps bytes)
 flat_capacity bytes fits =
-    some_read (flat_steps bytes) (one_read [] (record { from = 0; bytes = bytes }) none_read (le-leb bytes (2 ^ 42) fits)) (omega arith)
+    some_read (flat_steps bytes)
+    (one_read [] (record { from = 0; bytes = bytes }) none_read (le-leb bytes (2 ^ 42) fits)) (omega arith)
 
 text_capacity : (text : List ℕ) (steps : List CapStep) → capacity_of text ≡ Some steps → IsCapacity steps
 text_capacity text steps e = by (nat_lt (position_or_len (λ b. b == 58) text) (length text)) e
   where
-    by : (many : Bool) → (if many then steps_of text else option_map flat_steps (in_range 1 (2 ^ 42) (number_of text))) ≡ Some steps → IsCapacity steps
+    by : (many : Bool)
+        → (if many then steps_of text else option_map flat_steps (in_range 1 (2 ^ 42) (number_of text)))
+        ≡ Some steps → IsCapacity steps
     by true e = steps_read text steps e
     by false e =
         let bytes = last_step_found flat_steps (in_range 1 (2 ^ 42) (number_of text)) steps e in
@@ -126,7 +134,8 @@ capacity_asked steps (value ∷ []) e = text_capacity value steps e
 capacity_asked steps (value ∷ other ∷ others) e = absurd (none-some _ e)
 
 -- ---- a group of keys
-source_asked : (traces films slots : List (List ℕ)) (source : Source) → source_of traces films slots ≡ Some source → MayBeSource source
+source_asked : (traces films slots : List (List ℕ)) (source : Source)
+    → source_of traces films slots ≡ Some source → MayBeSource source
 source_asked [] films slots source e =
     let film = step_found _ (one_name films) source e in
     let slot = last_step_found (λ (slot : ℕ). film_source film.0 slot) (number_or 14400 360 360000 slots) source film.2 in
@@ -158,7 +167,8 @@ viewer_asked words viewer e =
     let buffer = step_found _ (buffer_given words) viewer source.2 in
     let startup = last_step_found _ (startup_given words) viewer buffer.2 in
     subst MayBeViewer startup.2 (record {
-      source = source_asked (values_of (codes "trace") words) (values_of (codes "film") words) (values_of (codes "slot") words) source.0 source.1;
+      source = source_asked (values_of (codes "trace") words) (values_of (codes "film") words)
+          (values_of (codes "slot") words) source.0 source.1;
       buffer = buffer_asked words buffer.0 buffer.1;
       startup = startup_asked words startup.0 startup.1;
     })
@@ -251,9 +261,11 @@ make_asked words order e =
     let seed = step_found _ (seed_given words) order kind.2 in
     let pictures = last_step_found (λ (pictures : ℕ). make_of kind.0 seed.0 pictures) (pictures_given words) order seed.2 in
     let most = (one_between 0 (2 ^ 64 - 1) seed.0 (values_of (codes "seed") words) seed.1).1 in
-    subst MayBeAsked pictures.2 (omega (arith, most), one_between 1 100000 pictures.0 (values_of (codes "pictures") words) pictures.1)
+    subst MayBeAsked pictures.2
+    (omega (arith, most), one_between 1 100000 pictures.0 (values_of (codes "pictures") words) pictures.1)
 
-given_asked : (command : Command) (words : List (List ℕ)) (order : Order) → order_given command words ≡ Some order → MayBeAsked order
+given_asked : (command : Command) (words : List (List ℕ)) (order : Order)
+    → order_given command words ≡ Some order → MayBeAsked order
 given_asked Plan words order e =
     let viewer = last_step_found plan_of (viewer_given words) order e in
     subst MayBeAsked viewer.2 (viewer_asked words viewer.0 viewer.1)
@@ -275,14 +287,17 @@ given_asked Watch words order e =
     let watching = last_step_found watch_of (watching_given words) order e in
     subst MayBeAsked watching.2 (watching_asked words watching.0 watching.1)
 
-lone_asked : (lone : Order) (words : List (List ℕ)) (order : Order) → MayBeAsked lone → lone_order lone words ≡ Some order → MayBeAsked order
+lone_asked : (lone : Order) (words : List (List ℕ)) (order : Order) → MayBeAsked lone
+    → lone_order lone words ≡ Some order → MayBeAsked order
 lone_asked lone [] order may e = subst MayBeAsked (some_one lone order e) may
 lone_asked lone (word ∷ words) order may e = absurd (none-some _ e)
 
-command_asked : (first : List ℕ) (words : List (List ℕ)) (order : Order) → option_and_then (command_order words) (command_named first) ≡ Some order → MayBeAsked order
+command_asked : (first : List ℕ) (words : List (List ℕ)) (order : Order)
+    → option_and_then (command_order words) (command_named first) ≡ Some order → MayBeAsked order
 command_asked first words order e =
     let command = step_found (command_order words) (command_named first) order e in
-    given_asked command.0 words order (test_passes (list_all (is_word_of command.0) words) (order_given command.0 words) order command.2).1
+    given_asked command.0 words order
+    (test_passes (list_all (is_word_of command.0) words) (order_given command.0 words) order command.2).1
 
 -- what words mean may be asked
 pub order_asked : (words : List (List ℕ)) (order : Order) → meaning words ≡ Some order → MayBeAsked order
@@ -290,7 +305,8 @@ order_asked [] order e = absurd (none-some _ e)
 order_asked (first ∷ words) order e = by (bytes_eq first (codes "--help")) (bytes_eq first (codes "--version")) e
   where
     by : (helps tells : Bool) →
-        (if helps then lone_order help words else if tells then lone_order version words else option_and_then (command_order words) (command_named first)) ≡ Some order →
+        (if helps then lone_order help words else if tells then lone_order version words else option_and_then
+        (command_order words) (command_named first)) ≡ Some order →
         MayBeAsked order
     by true tells e = lone_asked help words order tt e
     by false true e = lone_asked version words order tt e

@@ -21,14 +21,16 @@ pub record Follows (steps : List CapStep) (step : CapStep) : Type 0 where
 at_start : (steps : List CapStep) (slot : ℕ) → stands_after steps slot ≡ true → length steps ≡ 0 → slot ≡ 0
 at_start steps slot e none = eqb-true slot 0 (rw (eq-eqb (length steps) 0 none) at e)
 
-after_last : (steps : List CapStep) (slot : ℕ) → stands_after steps slot ≡ true → 0 < length steps → (step_at steps (length steps - 1)).from < slot
+after_last : (steps : List CapStep) (slot : ℕ) → stands_after steps slot ≡ true → 0 < length steps
+    → (step_at steps (length steps - 1)).from < slot
 after_last steps slot e some =
     let apart : (length steps == 0) ≡ false = ne_eqb (length steps) 0 (λ none. omega (arith, some, none)) in
     ltb-true (step_at steps (length steps - 1)).from slot (rw apart at e)
 
 follows : (steps : List CapStep) (step : CapStep) → may_follow steps step ≡ true → Follows steps step
 follows steps step e =
-    let all = and_parts (nat_lt (length steps) 64) (stands_after steps step.from && (nat_le step.from (2 ^ 62) && nat_le step.bytes (2 ^ 42))) e in
+    let all = and_parts (nat_lt (length steps) 64)
+    (stands_after steps step.from && (nat_le step.from (2 ^ 62) && nat_le step.bytes (2 ^ 42))) e in
     let rest = and_parts (stands_after steps step.from) (nat_le step.from (2 ^ 62) && nat_le step.bytes (2 ^ 42)) all.1 in
     let small = and_parts (nat_le step.from (2 ^ 62)) (nat_le step.bytes (2 ^ 42)) rest.1 in
     record {
@@ -45,13 +47,15 @@ old_step steps step i inside = get_or-append steps (step ∷ []) no_step i insid
 new_step : (steps : List CapStep) (step : CapStep) (i : ℕ) → i ≡ length steps → step_at (steps ++ step ∷ []) i ≡ step
 new_step steps step i last = ap (step_at (steps ++ step ∷ [])) last ∙ get_or-append_seam steps step [] no_step
 
-first_more : (steps : List CapStep) (step : CapStep) → IsFront steps → Follows steps step → (step_at (steps ++ step ∷ []) 0).from ≡ 0
+first_more : (steps : List CapStep) (step : CapStep) → IsFront steps → Follows steps step
+    → (step_at (steps ++ step ∷ []) 0).from ≡ 0
 first_more steps step front more = elim (cases_lt 0 (length steps)) [
   | inl some ↦ ap (λ (s : CapStep). s.from) (old_step steps step 0 some) ∙ front.first some
   | inr none ↦ ap (λ (s : CapStep). s.from) (new_step steps step 0 (omega (arith, none))) ∙ more.first (omega (arith, none))
 ]
 
-ascend_more : (steps : List CapStep) (step : CapStep) → IsFront steps → Follows steps step → (i : ℕ) → i + 1 < length (steps ++ step ∷ []) →
+ascend_more : (steps : List CapStep) (step : CapStep) → IsFront steps → Follows steps step → (i : ℕ) →
+    i + 1 < length (steps ++ step ∷ []) →
     (step_at (steps ++ step ∷ []) i).from < (step_at (steps ++ step ∷ []) (i + 1)).from
 ascend_more steps step front more i inside = elim (cases_lt (i + 1) (length steps)) [
   | inl before ↦
@@ -68,7 +72,8 @@ ascend_more steps step front more i inside = elim (cases_lt (i + 1) (length step
       rw here (rw next below)
 ]
 
-small_more : (steps : List CapStep) (step : CapStep) → IsFront steps → Follows steps step → (i : ℕ) → i < length (steps ++ step ∷ []) →
+small_more : (steps : List CapStep) (step : CapStep) → IsFront steps → Follows steps step → (i : ℕ) →
+    i < length (steps ++ step ∷ []) →
     (step_at (steps ++ step ∷ []) i).bytes ≤ 2 ^ 42
 small_more steps step front more i inside = elim (cases_lt i (length steps)) [
   | inl before ↦ rw (old_step steps step i before) (front.small i before)
@@ -77,7 +82,8 @@ small_more steps step front more i inside = elim (cases_lt i (length steps)) [
       rw (new_step steps step i (omega (arith, inside, last, long))) more.small
 ]
 
-pub front_more : (steps : List CapStep) (step : CapStep) → IsFront steps → may_follow steps step ≡ true → IsFront (steps ++ step ∷ [])
+pub front_more : (steps : List CapStep) (step : CapStep) → IsFront steps → may_follow steps step ≡ true
+    → IsFront (steps ++ step ∷ [])
 front_more steps step front may =
     let more : Follows steps step = follows steps step may in
     let long : length (steps ++ step ∷ []) ≡ length steps + 1 = length-append steps (step ∷ []) in
@@ -106,10 +112,12 @@ none_more (part ∷ parts) = none_more parts
 -- a part before a comma: what is read of it decides, with the rest
 pub part_first : {part rest : List ℕ} (steps : List CapStep) (text : List ℕ) → position_or_len (λ b. b == 44) text < length text →
     part ≡ before_first (λ b. b == 44) text → rest ≡ after_first (λ b. b == 44) text →
-    fold part_more (Some steps) (slice_split (λ b. b == 44) text) ≡ fold part_more (step_more steps (step_of part)) (slice_split (λ b. b == 44) rest)
+    fold part_more (Some steps) (slice_split (λ b. b == 44) text)
+    ≡ fold part_more (step_more steps (step_of part)) (slice_split (λ b. b == 44) rest)
 part_first {part} steps text inside before after =
     ap (fold part_more (Some steps)) (slice_split_first (λ b. b == 44) text 0 inside)
-    ∙ ap (λ (p : List ℕ). fold part_more (step_more steps (step_of p)) (slice_split (λ b. b == 44) (after_first (λ b. b == 44) text))) (sym before)
+    ∙ ap (λ (p : List ℕ). fold part_more (step_more steps (step_of p))
+    (slice_split (λ b. b == 44) (after_first (λ b. b == 44) text))) (sym before)
     ∙ ap (λ (r : List ℕ). fold part_more (step_more steps (step_of part)) (slice_split (λ b. b == 44) r)) (sym after)
 
 -- the last part

@@ -19,7 +19,8 @@ use Rattle.command_words.proofs.MeaningLemmas.{GiveSame, meaning_same}
 use Rattle.command_words.proofs.SettingLemmas.{has_no, one_read, setting_read}
 
 -- what a test of each default says of one of them
-default_passes : (test : Setting → Bool) (default : Setting) → Contains defaults default → list_all test defaults ≡ true → test default ≡ true
+default_passes : (test : Setting → Bool) (default : Setting) → Contains defaults default
+    → list_all test defaults ≡ true → test default ≡ true
 default_passes test default stands all = All-contains (λ d. test d ≡ true) defaults default (by defaults all) stands
   where
     by : (ds : List Setting) → list_all test ds ≡ true → All (λ d. test d ≡ true) ds
@@ -33,30 +34,39 @@ key_is_plain default stands = default_passes (λ d. has_no 61 d.key) default sta
 
 -- what the word of a default gives to a key, in front of others
 word_gives : (key : List ℕ) (default : Setting) (words : List (List ℕ)) → Contains defaults default →
-    values_of key (word_of default ∷ words) ≡ option_to_list (if bytes_eq default.key key then Some default.value else None) ++ values_of key words
+    values_of key (word_of default ∷ words)
+    ≡ option_to_list (if bytes_eq default.key key then Some default.value else None) ++ values_of key words
 word_gives key default words stands =
-    ap (λ (o : Option (List ℕ)). option_to_list o ++ values_of key words) (setting_read key default.key default.value (key_is_plain default stands))
+    ap (λ (o : Option (List ℕ)). option_to_list o ++ values_of key words)
+    (setting_read key default.key default.value (key_is_plain default stands))
 
 -- a key that has no default
-other_key : (key : List ℕ) (default : Setting) (words : List (List ℕ)) → list_all (λ d. not (bytes_eq d.key key)) defaults ≡ true → Contains defaults default →
+other_key : (key : List ℕ) (default : Setting) (words : List (List ℕ)) →
+    list_all (λ d. not (bytes_eq d.key key)) defaults ≡ true → Contains defaults default →
     values_of key words ≡ values_of key (word_of default ∷ words)
 other_key key default words none stands =
-    let apart : bytes_eq default.key key ≡ false = not-true (bytes_eq default.key key) (default_passes (λ d. not (bytes_eq d.key key)) default stands none) in
-    sym (word_gives key default words stands ∙ ap (λ (b : Bool). option_to_list (if b then Some default.value else None) ++ values_of key words) apart)
+    let apart : bytes_eq default.key key ≡ false =
+    not-true (bytes_eq default.key key) (default_passes (λ d. not (bytes_eq d.key key)) default stands none) in
+    sym (word_gives key default words stands
+    ∙ ap (λ (b : Bool). option_to_list (if b then Some default.value else None) ++ values_of key words) apart)
 
 -- a key with this default is given the same, or nothing and then its default
 abbrev IsAdded : List ℕ → List ℕ → Setting → List (List ℕ) → List (List ℕ) → Type 0
 IsAdded key value default values values' =
     (values ≡ values') ⊎ ((default.key ≡ key) × (values ≡ []) × (values' ≡ value ∷ []))
 
-own_key : {key value : List ℕ} {default : Setting} (words : List (List ℕ)) → list_all (λ d. not (bytes_eq d.key key) || bytes_eq d.value value) defaults ≡ true →
-    Contains defaults default → values_of default.key words ≡ [] → IsAdded key value default (values_of key words) (values_of key (word_of default ∷ words))
+own_key : {key value : List ℕ} {default : Setting} (words : List (List ℕ)) →
+    list_all (λ d. not (bytes_eq d.key key) || bytes_eq d.value value) defaults ≡ true →
+    Contains defaults default → values_of default.key words ≡ []
+    → IsAdded key value default (values_of key words) (values_of key (word_of default ∷ words))
 own_key {key} {value} {default} words one stands absent = elim (cases_Bool (bytes_eq default.key key)) [
   | inl same ↦ inr (
       let key_is : default.key ≡ key = (bytes_eq-Decides default.key key).0 same in
       let none : values_of key words ≡ [] = ap (λ (k : List ℕ). values_of k words) (sym key_is) ∙ absent in
       let value_is : default.value ≡ value =
-      (bytes_eq-Decides default.value value).0 (sym (ap (λ (b : Bool). not b || bytes_eq default.value value) same) ∙ default_passes (λ d. not (bytes_eq d.key key) || bytes_eq d.value value) default stands one) in (
+      (bytes_eq-Decides default.value value).0
+      (sym (ap (λ (b : Bool). not b || bytes_eq default.value value) same)
+      ∙ default_passes (λ d. not (bytes_eq d.key key) || bytes_eq d.value value) default stands one) in (
         key_is,
         none,
         word_gives key default words stands
@@ -65,7 +75,9 @@ own_key {key} {value} {default} words one stands absent = elim (cases_Bool (byte
             ∙ ap (λ (v : List ℕ). v ∷ []) value_is,
       )
       )
-  | inr apart ↦ inl (sym (word_gives key default words stands ∙ ap (λ (b : Bool). option_to_list (if b then Some default.value else None) ++ values_of key words) apart))
+  | inr apart ↦
+      inl (sym (word_gives key default words stands
+      ∙ ap (λ (b : Bool). option_to_list (if b then Some default.value else None) ++ values_of key words) apart))
 ]
 
 -- where a value is read so, what is given before is given after
@@ -99,12 +111,16 @@ source_same {traces} {films} {traces'} {slots} {slots'} default trace film slot 
     slot_left_out : (films : List (List ℕ)) → source_of [] films [] ≡ source_of [] films (codes "14400" ∷ [])
     slot_left_out films = refl
 
-give_same : (command : Command) (words : List (List ℕ)) (default : Setting) → IsLeftOut command words default → GiveSame words (word_of default ∷ words)
+give_same : (command : Command) (words : List (List ℕ)) (default : Setting) → IsLeftOut command words default
+    → GiveSame words (word_of default ∷ words)
 give_same command words default left =
     let words' = word_of default ∷ words in
     let stands = left.listed in
-    let other : (key : List ℕ) → list_all (λ d. not (bytes_eq d.key key)) defaults ≡ true → values_of key words ≡ values_of key words' = λ key none. other_key key default words none stands in
-    let own : (key value : List ℕ) → list_all (λ d. not (bytes_eq d.key key) || bytes_eq d.value value) defaults ≡ true → IsAdded key value default (values_of key words) (values_of key words') =
+    let other : (key : List ℕ) → list_all (λ d. not (bytes_eq d.key key)) defaults ≡ true
+    → values_of key words ≡ values_of key words' = λ key none. other_key key default words none stands in
+    let own : (key value : List ℕ)
+    → list_all (λ d. not (bytes_eq d.key key) || bytes_eq d.value value) defaults ≡ true
+    → IsAdded key value default (values_of key words) (values_of key words') =
     λ key value one. own_key words one stands left.absent in
     record {
       films = other (codes "film") refl;
@@ -141,10 +157,12 @@ key_found : (key : List ℕ) (keys : List (List ℕ)) → Contains keys key → 
 key_found key keys stands =
     list_any-from_Any (λ k. bytes_eq key k) keys (stands.0, key, stands.1, stands.2, (bytes_eq-Decides key key).1 refl)
 
-pub default_same : (name : List ℕ) (command : Command) (words : List (List ℕ)) (default : Setting) → command_named name ≡ Some command → IsLeftOut command words default →
+pub default_same : (name : List ℕ) (command : Command) (words : List (List ℕ)) (default : Setting) →
+    command_named name ≡ Some command → IsLeftOut command words default →
     meaning (name ∷ word_of default ∷ words) ≡ meaning (name ∷ words)
 default_same name command words default named left =
     let taken : is_word_of command (word_of default) ≡ true =
-    one_read (keys_of command) default.key default.value (key_is_plain default left.listed) ∙ key_found default.key (keys_of command) left.taken in
+    one_read (keys_of command) default.key default.value (key_is_plain default left.listed)
+    ∙ key_found default.key (keys_of command) left.taken in
     sym (meaning_same name named
     (sym (ap (λ (b : Bool). b && list_all (is_word_of command) words) taken)) (give_same command words default left))

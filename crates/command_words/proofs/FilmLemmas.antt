@@ -21,7 +21,8 @@ apart (name ∷ names) e zero (suc j) order inside = λ same.
     let bad : false ≡ true = sym (ap not found) ∙ parts.0 in cc
 apart (name ∷ names) e (suc i) zero order inside = absurd (omega (arith, order))
 apart (name ∷ names) e (suc i) (suc j) order inside =
-    apart names (and_parts (not (list_any (bytes_eq name) names)) (are_distinct names) e).1 i j (omega (arith, order)) (omega (arith, inside))
+    apart names (and_parts (not (list_any (bytes_eq name) names)) (are_distinct names) e).1 i j
+    (omega (arith, order)) (omega (arith, inside))
 
 differ : (a b : List ℕ) → a ≢ b → bytes_eq a b ≡ false
 differ a b other = elim (cases_Bool (bytes_eq a b)) [
@@ -53,4 +54,5 @@ pub films_back : (films : List (List ℕ)) → MayBeFilms films → are_films fi
 films_back films may =
     and_from (nat_le 1 (length films)) (nat_le (length films) 64 && are_names films) (le-leb 1 (length films) may.some)
     (and_from (nat_le (length films) 64) (are_names films) (le-leb (length films) 64 may.few)
-    (and_from (list_all is_good_name films) (are_distinct films) (list_all-from_AllPass is_good_name films may.good) (distinct films may.apart)))
+    (and_from (list_all is_good_name films) (are_distinct films)
+    (list_all-from_AllPass is_good_name films may.good) (distinct films may.apart)))

@@ -28,11 +28,13 @@ pub some_one : {A : Type 0} (a b : A) → Some a ≡ Some b → a ≡ b
 some_one a b e = cc
 
 -- what a step of a reading found, and the rest of it
-pub step_found : {A B : Type 0} (f : A → Option B) (o : Option A) (b : B) → option_and_then f o ≡ Some b → (a : A) × (o ≡ Some a) × (f a ≡ Some b)
+pub step_found : {A B : Type 0} (f : A → Option B) (o : Option A) (b : B) → option_and_then f o ≡ Some b
+    → (a : A) × (o ≡ Some a) × (f a ≡ Some b)
 step_found f None b e = absurd (none-some _ e)
 step_found f (Some a) b e = (a, refl, e)
 
-pub last_step_found : {A B : Type 0} (f : A → B) (o : Option A) (b : B) → option_map f o ≡ Some b → (a : A) × (o ≡ Some a) × (f a ≡ b)
+pub last_step_found : {A B : Type 0} (f : A → B) (o : Option A) (b : B) → option_map f o ≡ Some b
+    → (a : A) × (o ≡ Some a) × (f a ≡ b)
 last_step_found f None b e = absurd (none-some _ e)
 last_step_found f (Some a) b e = (a, refl, some_one _ _ e)
 
@@ -47,7 +49,8 @@ one_of_number least most n [] e = absurd (none-some _ e)
 one_of_number least most n (value ∷ []) e = refl
 one_of_number least most n (value ∷ other ∷ others) e = absurd (none-some _ e)
 
-few_of_number : (default least most n : ℕ) (values : List (List ℕ)) → number_or default least most values ≡ Some n → length values ≤ 1
+few_of_number : (default least most n : ℕ) (values : List (List ℕ))
+    → number_or default least most values ≡ Some n → length values ≤ 1
 few_of_number default least most n [] e = omega arith
 few_of_number default least most n (value ∷ values) e = omega (arith, one_of_number least most n (value ∷ values) e)
 
@@ -76,7 +79,8 @@ pub record HasClient (words : List (List ℕ)) : Type 0 where
   pub buffer : times (codes "buffer") words ≤ 1
   pub startup : times (codes "startup") words ≤ 1
 
-client_form : (words : List (List ℕ)) (bytes slots : ℕ) → buffer_given words ≡ Some bytes → startup_given words ≡ Some slots → HasClient words
+client_form : (words : List (List ℕ)) (bytes slots : ℕ) → buffer_given words ≡ Some bytes
+    → startup_given words ≡ Some slots → HasClient words
 client_form words bytes slots buffer startup = record {
   buffer = few_of_number 1048576 1 (2 ^ 42) bytes (values_of (codes "buffer") words) buffer;
   startup = few_of_number 25 0 10000 slots (values_of (codes "startup") words) startup;
@@ -121,7 +125,8 @@ pub record HasOneSource (traces films slots : List (List ℕ)) : Type 0 where
   pub slot : 0 < length slots → length traces ≡ 0
   pub few : length slots ≤ 1
 
-source_form : (traces films slots : List (List ℕ)) (source : Source) → source_of traces films slots ≡ Some source → HasOneSource traces films slots
+source_form : (traces films slots : List (List ℕ)) (source : Source)
+    → source_of traces films slots ≡ Some source → HasOneSource traces films slots
 source_form [] films slots source e =
     let film = step_found _ (one_name films) source e in
     let slot = last_step_found _ (number_or 14400 360 360000 slots) source film.2 in
@@ -150,7 +155,8 @@ viewer_form words viewer e =
     let buffer = step_found _ (buffer_given words) viewer source.2 in
     let startup = last_step_found _ (startup_given words) viewer buffer.2 in
     record {
-      source = source_form (values_of (codes "trace") words) (values_of (codes "film") words) (values_of (codes "slot") words) source.0 source.1;
+      source = source_form (values_of (codes "trace") words) (values_of (codes "film") words)
+          (values_of (codes "slot") words) source.0 source.1;
       client = client_form words buffer.0 startup.0 buffer.1 startup.1;
     }
 
@@ -193,7 +199,8 @@ plan_form words order e =
     let viewer = viewer_form words found_viewer.0 found_viewer.1 in
     let P = IsFew Plan words in
     record {
-      few = All-cons P (codes "trace") (codes "film" ∷ codes "buffer" ∷ codes "startup" ∷ codes "slot" ∷ []) (omega (arith, viewer.source.one))
+      few = All-cons P (codes "trace") (codes "film" ∷ codes "buffer" ∷ codes "startup" ∷ codes "slot" ∷ [])
+          (omega (arith, viewer.source.one))
           (All-cons P (codes "film") (codes "buffer" ∷ codes "startup" ∷ codes "slot" ∷ []) (omega (arith, viewer.source.one))
           (All-cons P (codes "buffer") (codes "startup" ∷ codes "slot" ∷ []) viewer.client.buffer
           (All-cons P (codes "startup") (codes "slot" ∷ []) viewer.client.startup
@@ -204,14 +211,18 @@ plan_form words order e =
 
 check_form : (words : List (List ℕ)) (order : Order) → order_given Check words ≡ Some order → HaveKeys Check words
 check_form words order e =
-    let found_viewer = step_found (λ (viewer : Viewer). option_map (λ (cert : List ℕ). check_of viewer cert) (cert_given words)) (viewer_given words) order e in
+    let found_viewer =
+    step_found (λ (viewer : Viewer). option_map (λ (cert : List ℕ). check_of viewer cert)
+    (cert_given words)) (viewer_given words) order e in
     let viewer = viewer_form words found_viewer.0 found_viewer.1 in
     let cert = last_step_found (λ (cert : List ℕ). check_of found_viewer.0 cert) (cert_given words) order found_viewer.2 in
     let one = one_of_name cert.0 (values_of (codes "cert") words) cert.1 in
     let P = IsFew Check words in
     record {
-      few = All-cons P (codes "trace") (codes "film" ∷ codes "cert" ∷ codes "buffer" ∷ codes "startup" ∷ codes "slot" ∷ []) (omega (arith, viewer.source.one))
-          (All-cons P (codes "film") (codes "cert" ∷ codes "buffer" ∷ codes "startup" ∷ codes "slot" ∷ []) (omega (arith, viewer.source.one))
+      few = All-cons P (codes "trace")
+          (codes "film" ∷ codes "cert" ∷ codes "buffer" ∷ codes "startup" ∷ codes "slot" ∷ []) (omega (arith, viewer.source.one))
+          (All-cons P (codes "film") (codes "cert" ∷ codes "buffer" ∷ codes "startup" ∷ codes "slot" ∷ [])
+          (omega (arith, viewer.source.one))
           (All-cons P (codes "cert") (codes "buffer" ∷ codes "startup" ∷ codes "slot" ∷ []) (omega (arith, one))
           (All-cons P (codes "buffer") (codes "startup" ∷ codes "slot" ∷ []) viewer.client.buffer
           (All-cons P (codes "startup") (codes "slot" ∷ []) viewer.client.startup
@@ -251,9 +262,12 @@ day_form words order e =
     let P = IsFew Day words in
     record {
       few = All-cons P (codes "script") (codes "capacity" ∷ codes "journal" ∷ codes "slot" ∷ []) (omega (arith, one))
-          (All-cons P (codes "capacity") (codes "journal" ∷ codes "slot" ∷ []) (few_of_capacity capacity.0 (values_of (codes "capacity") words) capacity.1)
-          (All-cons P (codes "journal") (codes "slot" ∷ []) (few_of_number 65536 2 1048576 journal.0 (values_of (codes "journal") words) journal.1)
-          (All-cons P (codes "slot") [] (few_of_number 14400 360 360000 slot.0 (values_of (codes "slot") words) slot.1) (All-nil P))));
+          (All-cons P (codes "capacity") (codes "journal" ∷ codes "slot" ∷ [])
+          (few_of_capacity capacity.0 (values_of (codes "capacity") words) capacity.1)
+          (All-cons P (codes "journal") (codes "slot" ∷ [])
+          (few_of_number 65536 2 1048576 journal.0 (values_of (codes "journal") words) journal.1)
+          (All-cons P (codes "slot") []
+          (few_of_number 14400 360 360000 slot.0 (values_of (codes "slot") words) slot.1) (All-nil P))));
       needed = All-cons (IsGivenBy words) (codes "script") [] (omega (arith, one)) (All-nil (IsGivenBy words));
       source = tt;
     }
@@ -271,7 +285,8 @@ fair_form words order e =
     record {
       few = All-cons P (codes "seed") (codes "plays" ∷ codes "capacity" ∷ []) (omega (arith, one_seed))
           (All-cons P (codes "plays") (codes "capacity" ∷ []) (omega (arith, one_count))
-          (All-cons P (codes "capacity") [] (few_of_capacity capacity.0 (values_of (codes "capacity") words) capacity.1) (All-nil P)));
+          (All-cons P (codes "capacity") []
+          (few_of_capacity capacity.0 (values_of (codes "capacity") words) capacity.1) (All-nil P)));
       needed = All-cons Q (codes "seed") (codes "plays" ∷ []) (omega (arith, one_seed))
           (All-cons Q (codes "plays") [] (omega (arith, one_count)) (All-nil Q));
       source = tt;
@@ -288,7 +303,8 @@ watch_form words order e =
     let P = IsFew Watch words in
     record {
       few = All-cons P (codes "film") (codes "port" ∷ codes "buffer" ∷ codes "startup" ∷ codes "slot" ∷ []) (omega (arith, one))
-          (All-cons P (codes "port") (codes "buffer" ∷ codes "startup" ∷ codes "slot" ∷ []) (few_of_number 8554 1 65535 port.0 (values_of (codes "port") words) port.1)
+          (All-cons P (codes "port") (codes "buffer" ∷ codes "startup" ∷ codes "slot" ∷ [])
+          (few_of_number 8554 1 65535 port.0 (values_of (codes "port") words) port.1)
           (All-cons P (codes "buffer") (codes "startup" ∷ codes "slot" ∷ []) pace.client.buffer
           (All-cons P (codes "startup") (codes "slot" ∷ []) pace.client.startup
           (All-cons P (codes "slot") [] pace.slot (All-nil P)))));
@@ -311,23 +327,33 @@ serve_form words order e =
     let P = IsFew Serve words in
     record {
       few = All-cons P (codes "film")
-          (codes "port" ∷ codes "bind" ∷ codes "capacity" ∷ codes "buffer" ∷ codes "startup" ∷ codes "slot" ∷ codes "journal" ∷ codes "workers" ∷ codes "connections" ∷ [])
+          (codes "port" ∷ codes "bind" ∷ codes "capacity" ∷ codes "buffer" ∷ codes "startup" ∷ codes "slot"
+          ∷ codes "journal" ∷ codes "workers" ∷ codes "connections" ∷ [])
           named.few
-          (All-cons P (codes "port") (codes "bind" ∷ codes "capacity" ∷ codes "buffer" ∷ codes "startup" ∷ codes "slot" ∷ codes "journal" ∷ codes "workers" ∷ codes "connections" ∷ []) listening.port
-          (All-cons P (codes "bind") (codes "capacity" ∷ codes "buffer" ∷ codes "startup" ∷ codes "slot" ∷ codes "journal" ∷ codes "workers" ∷ codes "connections" ∷ []) listening.bind
-          (All-cons P (codes "capacity") (codes "buffer" ∷ codes "startup" ∷ codes "slot" ∷ codes "journal" ∷ codes "workers" ∷ codes "connections" ∷ [])
+          (All-cons P (codes "port")
+          (codes "bind" ∷ codes "capacity" ∷ codes "buffer" ∷ codes "startup" ∷ codes "slot"
+          ∷ codes "journal" ∷ codes "workers" ∷ codes "connections" ∷ []) listening.port
+          (All-cons P (codes "bind")
+          (codes "capacity" ∷ codes "buffer" ∷ codes "startup" ∷ codes "slot" ∷ codes "journal"
+          ∷ codes "workers" ∷ codes "connections" ∷ []) listening.bind
+          (All-cons P (codes "capacity")
+          (codes "buffer" ∷ codes "startup" ∷ codes "slot" ∷ codes "journal" ∷ codes "workers" ∷ codes "connections" ∷ [])
           (few_of_capacity capacity.0 (values_of (codes "capacity") words) capacity.1)
-          (All-cons P (codes "buffer") (codes "startup" ∷ codes "slot" ∷ codes "journal" ∷ codes "workers" ∷ codes "connections" ∷ []) pace.client.buffer
-          (All-cons P (codes "startup") (codes "slot" ∷ codes "journal" ∷ codes "workers" ∷ codes "connections" ∷ []) pace.client.startup
+          (All-cons P (codes "buffer")
+          (codes "startup" ∷ codes "slot" ∷ codes "journal" ∷ codes "workers" ∷ codes "connections" ∷ []) pace.client.buffer
+          (All-cons P (codes "startup")
+          (codes "slot" ∷ codes "journal" ∷ codes "workers" ∷ codes "connections" ∷ []) pace.client.startup
           (All-cons P (codes "slot") (codes "journal" ∷ codes "workers" ∷ codes "connections" ∷ []) pace.slot
-          (All-cons P (codes "journal") (codes "workers" ∷ codes "connections" ∷ []) (few_of_number 65536 2 1048576 journal.0 (values_of (codes "journal") words) journal.1)
+          (All-cons P (codes "journal") (codes "workers" ∷ codes "connections" ∷ [])
+          (few_of_number 65536 2 1048576 journal.0 (values_of (codes "journal") words) journal.1)
           (All-cons P (codes "workers") (codes "connections" ∷ []) listening.workers
           (All-cons P (codes "connections") [] listening.connections (All-nil P))))))))));
       needed = All-cons (IsGivenBy words) (codes "film") [] named.some (All-nil (IsGivenBy words));
       source = tt;
     }
 
-keys_form : (command : Command) (words : List (List ℕ)) (order : Order) → order_given command words ≡ Some order → HaveKeys command words
+keys_form : (command : Command) (words : List (List ℕ)) (order : Order) → order_given command words ≡ Some order
+    → HaveKeys command words
 keys_form Plan words order e = plan_form words order e
 keys_form Check words order e = check_form words order e
 keys_form Scan words order e = scan_form words order e
@@ -337,13 +363,15 @@ keys_form Fair words order e = fair_form words order e
 keys_form Serve words order e = serve_form words order e
 keys_form Watch words order e = watch_form words order e
 
-films_apart : (words : List (List ℕ)) (order : Order) → order_given Serve words ≡ Some order → AreApart (values_of (codes "film") words)
+films_apart : (words : List (List ℕ)) (order : Order) → order_given Serve words ≡ Some order
+    → AreApart (values_of (codes "film") words)
 films_apart words order e =
     let serving = last_step_found serve_of (serving_given words) order e in
     let films = values_of (codes "film") words in
     (films_asked films (test_passes (are_films films) _ serving.0 serving.1).0).apart
 
-films_form : (command : Command) (words : List (List ℕ)) (order : Order) → order_given command words ≡ Some order → HasFilms command words
+films_form : (command : Command) (words : List (List ℕ)) (order : Order)
+    → order_given command words ≡ Some order → HasFilms command words
 films_form Plan words order e = tt
 films_form Check words order e = tt
 films_form Scan words order e = tt
@@ -355,13 +383,15 @@ films_form Watch words order e = tt
 
 -- ---- each word
 -- a value that a word gives to a key stands after it and `=`
-value_after : (key word : List ℕ) → is_some (setting_value key word) ≡ true → (value : List ℕ) × (word ≡ word_of (record { key = key; value = value }))
+value_after : (key word : List ℕ) → is_some (setting_value key word) ≡ true
+    → (value : List ℕ) × (word ≡ word_of (record { key = key; value = value }))
 value_after key word e =
     let inside = nat_lt (position_or_len (λ b. b == 61) word) (length word) in
     let same = bytes_eq (before_first (λ b. b == 61) word) key in
     let parts = and_parts inside same (tests (inside && same) (after_first (λ b. b == 61) word) e) in
     let before = ltb-true (position_or_len (λ b. b == 61) word) (length word) parts.0 in
-    let equals = eqb-true (get_or word (position_or_len (λ b. b == 61) word) 0) 61 (passes_at_first (λ b. b == 61) word 0 before) in
+    let equals =
+    eqb-true (get_or word (position_or_len (λ b. b == 61) word) 0) 61 (passes_at_first (λ b. b == 61) word 0 before) in
     let front = (bytes_eq-Decides (before_first (λ b. b == 61) word) key).0 parts.1 in (
       after_first (λ b. b == 61) word,
       split_at_first (λ b. b == 61) word 0 before
@@ -383,18 +413,28 @@ word_form command word e =
       word_is = read.1;
     }
 
-each_word : (command : Command) (words : List (List ℕ)) → list_all (is_word_of command) words ≡ true → All (IsSettingOf command) words
+each_word : (command : Command) (words : List (List ℕ)) → list_all (is_word_of command) words ≡ true
+    → All (IsSettingOf command) words
 each_word command [] e = All-nil (IsSettingOf command)
 each_word command (word ∷ words) e =
     let parts = and_parts (is_word_of command word) (list_all (is_word_of command) words) e in
     All-cons (IsSettingOf command) word words (word_form command word parts.0) (each_word command words parts.1)
 
-words_form : (name : List ℕ) (command : Command) (words : List (List ℕ)) (order : Order) → command_named name ≡ Some command → meaning (name ∷ words) ≡ Some order →
+words_form : (name : List ℕ) (command : Command) (words : List (List ℕ)) (order : Order) →
+    command_named name ≡ Some command → meaning (name ∷ words) ≡ Some order →
     HaveForm command words
 words_form name command words order named e =
-    let mine = test_passes (list_all (is_word_of command) words) (order_given command words) order (sym (meaning_of name command words named) ∙ e) in
+    let mine = test_passes (list_all (is_word_of command) words) (order_given command words) order
+    (sym (meaning_of name command words named) ∙ e) in
     let keys = keys_form command words order mine.1 in
-    record { each = each_word command words mine.0; few = keys.few; needed = keys.needed; source = keys.source; films = films_form command words order mine.1 }
+    record {
+      each = each_word command words mine.0;
+      few = keys.few;
+      needed = keys.needed;
+      source =
+          keys.source;
+      films = films_form command words order mine.1;
+    }
 
 -- ---- words with a meaning
 alone : (lone : Order) (words : List (List ℕ)) (order : Order) → lone_order lone words ≡ Some order → words ≡ []
@@ -410,7 +450,8 @@ meaning_form (first ∷ words) order e =
     elim (cases_Bool (bytes_eq first (codes "--help"))) [
       | inl is ↦ (
           let name = (bytes_eq-Decides first (codes "--help")).0 is in
-          let none = alone help words order (sym (cond-true helps (lone_order help words) (if tells then lone_order version words else command) is) ∙ e) in
+          let none = alone help words order
+          (sym (cond-true helps (lone_order help words) (if tells then lone_order version words else command) is) ∙ e) in
           inl (ap (λ (w : List ℕ). w ∷ words) name ∙ ap (λ (ws : List (List ℕ)). codes "--help" ∷ ws) none)
           )
       | inr not_help ↦ (
@@ -423,7 +464,8 @@ meaning_form (first ∷ words) order e =
                 inr (inl (ap (λ (w : List ℕ). w ∷ words) name ∙ ap (λ (ws : List (List ℕ)). codes "--version" ∷ ws) none))
                 )
             | inr not_version ↦ (
-                let named = step_found (command_order words) (command_named first) order (sym (cond-false tells (lone_order version words) command not_version) ∙ more) in
+                let named = step_found (command_order words) (command_named first) order
+                (sym (cond-false tells (lone_order version words) command not_version) ∙ more) in
                 inr (inr (record {
                   name = first;
                   rest = words;

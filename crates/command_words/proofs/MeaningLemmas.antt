@@ -16,8 +16,10 @@ use Rattle.command_words.specs.Words.{Order, lone_order, help, version, order_gi
 pub meaning_of : (name : List ℕ) (command : Command) (words : List (List ℕ)) → command_named name ≡ Some command →
     meaning (name ∷ words) ≡ command_order words command
 meaning_of name command words named =
-    ap (λ (b : Bool). if b then lone_order help words else if bytes_eq name (codes "--version") then lone_order version words else option_and_then (command_order words) (command_named name)) (other (codes "--help") refl)
-    ∙ ap (λ (b : Bool). if b then lone_order version words else option_and_then (command_order words) (command_named name)) (other (codes "--version") refl)
+    ap (λ (b : Bool). if b then lone_order help words else if bytes_eq name (codes "--version") then lone_order
+    version words else option_and_then (command_order words) (command_named name)) (other (codes "--help") refl)
+    ∙ ap (λ (b : Bool). if b then lone_order version words else option_and_then (command_order words)
+    (command_named name)) (other (codes "--version") refl)
     ∙ ap (option_and_then (command_order words)) named
   where
     absent : None ≡ Some command → ⊥
@@ -58,7 +60,8 @@ pace_same words words' same = rw same.buffer (rw same.startup (rw same.slot refl
 listening_same : (words words' : List (List ℕ)) → GiveSame words words' → listening_given words ≡ listening_given words'
 listening_same words words' same = rw same.port (rw same.bind (rw same.workers (rw same.connections refl)))
 
-pub order_same : (command : Command) (words words' : List (List ℕ)) → GiveSame words words' → order_given command words ≡ order_given command words'
+pub order_same : (command : Command) (words words' : List (List ℕ)) → GiveSame words words'
+    → order_given command words ≡ order_given command words'
 order_same Plan words words' same = rw (viewer_same words words' same) refl
 order_same Check words words' same = rw (viewer_same words words' same) (rw same.cert refl)
 order_same Scan words words' same = rw same.films refl
@@ -66,7 +69,8 @@ order_same Make words words' same = rw same.kind (rw same.seed (rw same.pictures
 order_same Day words words' same = rw same.script (rw same.capacity (rw same.journal (rw same.slot refl)))
 order_same Fair words words' same = rw same.seed (rw same.plays (rw same.capacity refl))
 order_same Serve words words' same =
-    rw same.films (rw same.capacity (rw same.journal (rw (listening_same words words' same) (rw (pace_same words words' same) refl))))
+    rw same.films
+    (rw same.capacity (rw same.journal (rw (listening_same words words' same) (rw (pace_same words words' same) refl))))
 order_same Watch words words' same = rw same.films (rw same.port (rw (pace_same words words' same) refl))
 
 -- words that are of the same command, and give the same, mean the same

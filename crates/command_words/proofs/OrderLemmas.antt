@@ -19,9 +19,12 @@ HaveSameValues words words' = (key : List ℕ) → values_of key words ≡ value
 give_same : (words words' : List (List ℕ)) → HaveSameValues words words' → GiveSame words words'
 give_same words words' same = record {
   films = same (codes "film");
-  source = ap (λ (vs : List (List ℕ)). source_of vs (values_of (codes "film") words) (values_of (codes "slot") words)) (same (codes "trace"))
-      ∙ ap (λ (vs : List (List ℕ)). source_of (values_of (codes "trace") words') vs (values_of (codes "slot") words)) (same (codes "film"))
-      ∙ ap (λ (vs : List (List ℕ)). source_of (values_of (codes "trace") words') (values_of (codes "film") words') vs) (same (codes "slot"));
+  source = ap (λ (vs : List (List ℕ)). source_of vs (values_of (codes "film") words)
+      (values_of (codes "slot") words)) (same (codes "trace"))
+      ∙ ap (λ (vs : List (List ℕ)). source_of (values_of (codes "trace") words') vs
+      (values_of (codes "slot") words)) (same (codes "film"))
+      ∙ ap (λ (vs : List (List ℕ)). source_of (values_of (codes "trace") words')
+      (values_of (codes "film") words') vs) (same (codes "slot"));
   cert = same (codes "cert");
   script = same (codes "script");
   kind = same (codes "kind");
@@ -79,7 +82,8 @@ all_free p two =
     ∙ ap (λ (b : Bool). list_all p two.front && b) (and_swapped (p two.word) (p two.other) (list_all p two.rest))
     ∙ sym (list_all-append p two.front (two.other ∷ two.word ∷ two.rest))
 
-pub order_free : {command : Command} (name : List ℕ) (two : Neighbours) → command_named name ≡ Some command → HaveOtherKeys two.word two.other →
+pub order_free : {command : Command} (name : List ℕ) (two : Neighbours) → command_named name ≡ Some command →
+    HaveOtherKeys two.word two.other →
     meaning (name ∷ in_order two) ≡ meaning (name ∷ exchanged two)
 order_free {command} name two named apart =
     meaning_same name named (all_free (is_word_of command) two) (give_same (in_order two) (exchanged two) (values_free two apart))

@@ -30,40 +30,50 @@ pub record GivesPace (words : List (List ℕ)) (bytes slots : ℕ) : Type 0 wher
   pub buffer : buffer_given words ≡ Some bytes
   pub startup : startup_given words ≡ Some slots
 
-pace_read : {buffer startup : ℕ} (settings : List Setting) → are_plain settings ≡ true → picked (codes "buffer") settings ≡ decimal buffer ∷ [] →
-    picked (codes "startup") settings ≡ decimal startup ∷ [] → IsBetween 1 (2 ^ 42) buffer → IsBetween 0 10000 startup → GivesPace (given settings) buffer startup
+pace_read : {buffer startup : ℕ} (settings : List Setting) → are_plain settings ≡ true →
+    picked (codes "buffer") settings ≡ decimal buffer ∷ [] →
+    picked (codes "startup") settings ≡ decimal startup ∷ [] → IsBetween 1 (2 ^ 42) buffer
+    → IsBetween 0 10000 startup → GivesPace (given settings) buffer startup
 pace_read {buffer} {startup} settings plain b s some few =
     record {
       buffer = key_or 1048576 (values_read (codes "buffer") settings plain ∙ b) some (omega (arith, some.1));
       startup = key_or 25 (values_read (codes "startup") settings plain ∙ s) few (omega (arith, few.1));
     }
 
-slot_read : (settings : List Setting) (slot : ℕ) → are_plain settings ≡ true → picked (codes "slot") settings ≡ decimal slot ∷ [] →
+slot_read : (settings : List Setting) (slot : ℕ) → are_plain settings ≡ true →
+    picked (codes "slot") settings ≡ decimal slot ∷ [] →
     MayBeSlot slot → slot_given (given settings) ≡ Some slot
 slot_read settings slot plain s within =
     key_or 14400 (values_read (codes "slot") settings plain ∙ s) within (omega (arith, within.1))
 
-journal_read : (settings : List Setting) (journal : ℕ) → are_plain settings ≡ true → picked (codes "journal") settings ≡ decimal journal ∷ [] →
+journal_read : (settings : List Setting) (journal : ℕ) → are_plain settings ≡ true →
+    picked (codes "journal") settings ≡ decimal journal ∷ [] →
     MayBeJournal journal → journal_given (given settings) ≡ Some journal
 journal_read settings journal plain j within =
     key_or 65536 (values_read (codes "journal") settings plain ∙ j) within (omega (arith, within.1))
 
-capacity_read : (settings : List Setting) (steps : List CapStep) → are_plain settings ≡ true → picked (codes "capacity") settings ≡ steps_text steps ∷ [] →
+capacity_read : (settings : List Setting) (steps : List CapStep) → are_plain settings ≡ true →
+    picked (codes "capacity") settings ≡ steps_text steps ∷ [] →
     IsCapacity steps → capacity_given (given settings) ≡ Some steps
 capacity_read settings steps plain c capacity =
-    capacity_back steps (values_of (codes "capacity") (given settings)) (values_read (codes "capacity") settings plain ∙ c) capacity
+    capacity_back steps (values_of (codes "capacity") (given settings))
+    (values_read (codes "capacity") settings plain ∙ c) capacity
 
-port_read : (settings : List Setting) (port : ℕ) → are_plain settings ≡ true → picked (codes "port") settings ≡ decimal port ∷ [] →
+port_read : (settings : List Setting) (port : ℕ) → are_plain settings ≡ true →
+    picked (codes "port") settings ≡ decimal port ∷ [] →
     IsBetween 1 65535 port → port_given (given settings) ≡ Some port
 port_read settings port plain p within =
     key_or 8554 (values_read (codes "port") settings plain ∙ p) within (omega (arith, within.1))
 
 -- a source, by what its keys are given
 trace_read : {name : List ℕ} (settings : List Setting) → are_plain settings ≡ true → picked (codes "trace") settings ≡ name ∷ [] →
-    picked (codes "film") settings ≡ [] → picked (codes "slot") settings ≡ [] → is_good_name name ≡ true → source_given (given settings) ≡ Some (trace_source name)
+    picked (codes "film") settings ≡ [] → picked (codes "slot") settings ≡ [] → is_good_name name ≡ true
+    → source_given (given settings) ≡ Some (trace_source name)
 trace_read {name} settings plain t f s good =
-    ap (λ (vs : List (List ℕ)). source_of vs (values_of (codes "film") (given settings)) (values_of (codes "slot") (given settings))) (values_read (codes "trace") settings plain ∙ t)
-    ∙ ap (λ (vs : List (List ℕ)). source_of (name ∷ []) vs (values_of (codes "slot") (given settings))) (values_read (codes "film") settings plain ∙ f)
+    ap (λ (vs : List (List ℕ)). source_of vs (values_of (codes "film") (given settings))
+    (values_of (codes "slot") (given settings))) (values_read (codes "trace") settings plain ∙ t)
+    ∙ ap (λ (vs : List (List ℕ)). source_of (name ∷ []) vs (values_of (codes "slot") (given settings)))
+    (values_read (codes "film") settings plain ∙ f)
     ∙ ap (λ (vs : List (List ℕ)). source_of (name ∷ []) [] vs) (values_read (codes "slot") settings plain ∙ s)
     ∙ ap (option_map trace_source) (name_back name (name ∷ []) refl good)
 
@@ -77,13 +87,17 @@ film_read : {name : List ℕ} {slot : ℕ} (settings : List Setting) → are_pla
     is_good_name name ≡ true → MayBeSlot slot →
     source_given (given settings) ≡ Some (film_source name slot)
 film_read {name} {slot} settings plain picks good within =
-    ap (λ (vs : List (List ℕ)). source_of vs (values_of (codes "film") (given settings)) (values_of (codes "slot") (given settings)))
+    ap (λ (vs : List (List ℕ)). source_of vs (values_of (codes "film") (given settings))
+    (values_of (codes "slot") (given settings)))
     (values_read (codes "trace") settings plain ∙ picks.trace)
-    ∙ then_is (λ (n : List ℕ). option_map (λ (k : ℕ). film_source n k) (number_or 14400 360 360000 (values_of (codes "slot") (given settings)))) (one_name (values_of (codes "film") (given settings))) name (Some (film_source name slot))
+    ∙ then_is (λ (n : List ℕ). option_map (λ (k : ℕ). film_source n k)
+    (number_or 14400 360 360000 (values_of (codes "slot") (given settings))))
+    (one_name (values_of (codes "film") (given settings))) name (Some (film_source name slot))
     (name_back name (values_of (codes "film") (given settings)) (values_read (codes "film") settings plain ∙ picks.film) good)
     (ap (option_map (λ (k : ℕ). film_source name k)) (slot_read settings slot plain picks.slot_is within))
 
-viewer_is : (words : List (List ℕ)) (source : Source) (buffer startup : ℕ) → source_given words ≡ Some source → GivesPace words buffer startup →
+viewer_is : (words : List (List ℕ)) (source : Source) (buffer startup : ℕ) → source_given words ≡ Some source →
+    GivesPace words buffer startup →
     viewer_given words ≡ Some (record { source = source; buffer = buffer; startup = startup })
 viewer_is words source buffer startup from pace = rw from (rw pace.buffer (rw pace.startup refl))
 
@@ -91,41 +105,52 @@ viewer_read : (viewer : Viewer) → MayBeViewer viewer → viewer_given (given (
 viewer_read viewer may = by viewer.source viewer.buffer viewer.startup may.source may.buffer may.startup
   where
     by : (source : Source) (buffer startup : ℕ) → MayBeSource source → IsBetween 1 (2 ^ 42) buffer → IsBetween 0 10000 startup →
-        viewer_given (given (viewer_settings (record { source = source; buffer = buffer; startup = startup }))) ≡ Some (record { source = source; buffer = buffer; startup = startup })
+        viewer_given (given (viewer_settings (record { source = source; buffer = buffer; startup = startup })))
+        ≡ Some (record { source = source; buffer = buffer; startup = startup })
     by (trace_source name) buffer startup good some few =
         let settings = viewer_settings (record { source = trace_source name; buffer = buffer; startup = startup }) in
-        viewer_is (given settings) (trace_source name) buffer startup (trace_read settings refl refl refl refl good) (pace_read settings refl refl refl some few)
+        viewer_is (given settings) (trace_source name) buffer startup
+        (trace_read settings refl refl refl refl good) (pace_read settings refl refl refl some few)
     by (film_source name slot) buffer startup good some few =
         let settings = viewer_settings (record { source = film_source name slot; buffer = buffer; startup = startup }) in
         viewer_is (given settings) (film_source name slot) buffer startup
-        (film_read settings refl (record { trace = refl; film = refl; slot_is = refl }) good.0 good.1) (pace_read settings refl refl refl some few)
+        (film_read settings refl (record { trace = refl; film = refl; slot_is = refl }) good.0 good.1)
+        (pace_read settings refl refl refl some few)
 
 check_read : (viewer : Viewer) (cert : List ℕ) → MayBeViewer viewer → is_good_name cert ≡ true →
     check_given (given (settings_of (check_of viewer cert))) ≡ Some (check_of viewer cert)
 check_read viewer cert may good = by viewer.source viewer.buffer viewer.startup may.source may.buffer may.startup
   where
     by : (source : Source) (buffer startup : ℕ) → MayBeSource source → IsBetween 1 (2 ^ 42) buffer → IsBetween 0 10000 startup →
-        check_given (given (settings_of (check_of (record { source = source; buffer = buffer; startup = startup }) cert))) ≡ Some (check_of (record { source = source; buffer = buffer; startup = startup }) cert)
+        check_given (given
+        (settings_of (check_of (record { source = source; buffer = buffer; startup = startup }) cert)))
+        ≡ Some (check_of (record { source = source; buffer = buffer; startup = startup }) cert)
     by (trace_source name) buffer startup named some few =
         let viewer : Viewer = record { source = trace_source name; buffer = buffer; startup = startup } in
         let settings = settings_of (check_of viewer cert) in
-        let found = viewer_is (given settings) (trace_source name) buffer startup (trace_read settings refl refl refl refl named) (pace_read settings refl refl refl some few) in
-        then_is (λ (v : Viewer). option_map (λ (c : List ℕ). check_of v c) (cert_given (given settings))) (viewer_given (given settings)) viewer (Some (check_of viewer cert)) found
-        (ap (option_map (λ (c : List ℕ). check_of viewer c)) (name_back cert (values_of (codes "cert") (given settings)) (values_read (codes "cert") settings refl) good))
+        let found = viewer_is (given settings) (trace_source name) buffer startup
+        (trace_read settings refl refl refl refl named) (pace_read settings refl refl refl some few) in
+        then_is (λ (v : Viewer). option_map (λ (c : List ℕ). check_of v c) (cert_given (given settings)))
+        (viewer_given (given settings)) viewer (Some (check_of viewer cert)) found
+        (ap (option_map (λ (c : List ℕ). check_of viewer c))
+        (name_back cert (values_of (codes "cert") (given settings)) (values_read (codes "cert") settings refl) good))
     by (film_source name slot) buffer startup named some few =
         let viewer : Viewer = record { source = film_source name slot; buffer = buffer; startup = startup } in
         let settings = settings_of (check_of viewer cert) in
         let found = viewer_is (given settings) (film_source name slot) buffer startup
         (film_read settings refl (record { trace = refl; film = refl; slot_is = refl }) named.0 named.1)
         (pace_read settings refl refl refl some few) in
-        then_is (λ (v : Viewer). option_map (λ (c : List ℕ). check_of v c) (cert_given (given settings))) (viewer_given (given settings)) viewer (Some (check_of viewer cert)) found
-        (ap (option_map (λ (c : List ℕ). check_of viewer c)) (name_back cert (values_of (codes "cert") (given settings)) (values_read (codes "cert") settings refl) good))
+        then_is (λ (v : Viewer). option_map (λ (c : List ℕ). check_of v c) (cert_given (given settings)))
+        (viewer_given (given settings)) viewer (Some (check_of viewer cert)) found
+        (ap (option_map (λ (c : List ℕ). check_of viewer c))
+        (name_back cert (values_of (codes "cert") (given settings)) (values_read (codes "cert") settings refl) good))
 
 make_read : (kind : Made) (seed pictures : ℕ) → seed < 2 ^ 64 → IsBetween 1 100000 pictures →
     make_given (given (settings_of (make_of kind seed pictures))) ≡ Some (make_of kind seed pictures)
 make_read kind seed pictures small within =
     let settings = settings_of (make_of kind seed pictures) in
-    let kinds : one_kind (values_of (codes "kind") (given settings)) ≡ Some kind = ap one_kind (values_read (codes "kind") settings refl) ∙ kind_back kind in
+    let kinds : one_kind (values_of (codes "kind") (given settings)) ≡ Some kind =
+    ap one_kind (values_read (codes "kind") settings refl) ∙ kind_back kind in
     let seeds : seed_given (given settings) ≡ Some seed =
     key_one (values_read (codes "seed") settings refl) (omega arith, omega (arith, small)) small in
     let all : pictures_given (given settings) ≡ Some pictures =
@@ -140,7 +165,9 @@ make_read kind seed pictures small within =
 run_read : (run : ScriptRun) → MayRun run → script_run_given (given (settings_of (day_of run))) ≡ Some run
 run_read run may =
     let settings = settings_of (day_of run) in
-    let script : script_given (given settings) ≡ Some run.script = name_back run.script (values_of (codes "script") (given settings)) (values_read (codes "script") settings refl) may.script in
+    let script : script_given (given settings) ≡ Some run.script =
+    name_back run.script (values_of (codes "script") (given settings))
+    (values_read (codes "script") settings refl) may.script in
     let capacity = capacity_read settings run.capacity refl refl may.capacity in
     let journal = journal_read settings run.journal refl refl may.journal in
     let slot = slot_read settings run.slot refl refl may.slot in
@@ -157,18 +184,22 @@ draw_read run may =
     rw seed (rw plays (rw capacity refl))
 
 -- the client and the slot length that settings give
-whole_pace : {pace : Pace} (settings : List Setting) → are_plain settings ≡ true → picked (codes "buffer") settings ≡ decimal pace.buffer ∷ [] →
-    picked (codes "startup") settings ≡ decimal pace.startup ∷ [] → picked (codes "slot") settings ≡ decimal pace.slot ∷ [] → MayBePace pace →
+whole_pace : {pace : Pace} (settings : List Setting) → are_plain settings ≡ true →
+    picked (codes "buffer") settings ≡ decimal pace.buffer ∷ [] →
+    picked (codes "startup") settings ≡ decimal pace.startup ∷ [] →
+    picked (codes "slot") settings ≡ decimal pace.slot ∷ [] → MayBePace pace →
     pace_given (given settings) ≡ Some pace
 whole_pace {pace} settings plain b s k may =
     let gives : GivesPace (given settings) pace.buffer pace.startup = pace_read settings plain b s may.buffer may.startup in
     let slot = slot_read settings pace.slot plain k may.slot in
     rw gives.buffer (rw gives.startup (rw slot refl))
 
-watching_read : (watching : Watching) → MayWatch watching → watching_given (given (settings_of (watch_of watching))) ≡ Some watching
+watching_read : (watching : Watching) → MayWatch watching
+    → watching_given (given (settings_of (watch_of watching))) ≡ Some watching
 watching_read watching may =
     let settings = settings_of (watch_of watching) in
-    let film : film_given (given settings) ≡ Some watching.film = name_back watching.film (values_of (codes "film") (given settings)) (values_read (codes "film") settings refl) may.film in
+    let film : film_given (given settings) ≡ Some watching.film =
+    name_back watching.film (values_of (codes "film") (given settings)) (values_read (codes "film") settings refl) may.film in
     let port = port_read settings watching.port refl refl may.port in
     let pace = whole_pace settings refl refl refl refl may.pace in
     rw film (rw port (rw pace refl))
@@ -180,7 +211,8 @@ record PicksListening (settings : List Setting) (listening : Listening) : Type 0
   workers : picked (codes "workers") settings ≡ decimal listening.workers ∷ []
   connections : picked (codes "connections") settings ≡ decimal listening.connections ∷ []
 
-listening_read : {listening : Listening} (settings : List Setting) → are_plain settings ≡ true → PicksListening settings listening →
+listening_read : {listening : Listening} (settings : List Setting) → are_plain settings ≡ true →
+    PicksListening settings listening →
     MayListen listening →
     listening_given (given settings) ≡ Some listening
 listening_read {listening} settings plain picks may =
@@ -203,7 +235,8 @@ serving_read serving may =
     let settings = settings_of (serve_of serving) in
     let others = server_settings serving in
     let plain : are_plain settings ≡ true = films_plain serving.films others refl in
-    let past : (asked : List ℕ) → bytes_eq (codes "film") asked ≡ false → picked asked settings ≡ picked asked others = λ asked. picked_past asked serving.films others in
+    let past : (asked : List ℕ) → bytes_eq (codes "film") asked ≡ false
+    → picked asked settings ≡ picked asked others = λ asked. picked_past asked serving.films others in
     let films : values_of (codes "film") (given settings) ≡ serving.films =
     values_read (codes "film") settings plain ∙ picked_films serving.films others ∙ append-nil serving.films in
     let capacity = capacity_read settings serving.capacity plain (past (codes "capacity") refl) may.capacity in
@@ -214,21 +247,24 @@ serving_read serving may =
       workers = past (codes "workers") refl;
       connections = past (codes "connections") refl;
     }) may.listening in
-    let pace = whole_pace settings plain (past (codes "buffer") refl) (past (codes "startup") refl) (past (codes "slot") refl) may.pace in
+    let pace = whole_pace settings plain (past (codes "buffer") refl) (past (codes "startup") refl)
+    (past (codes "slot") refl) may.pace in
     rw films (rw (films_back serving.films may.films) (rw capacity (rw journal (rw listening (rw pace refl)))))
 
 -- the settings of a client are words of `plan` and `check`
 viewer_plain : (viewer : Viewer) → are_plain (viewer_settings viewer) ≡ true
 viewer_plain viewer = by viewer.source viewer.buffer viewer.startup
   where
-    by : (source : Source) (buffer startup : ℕ) → are_plain (viewer_settings (record { source = source; buffer = buffer; startup = startup })) ≡ true
+    by : (source : Source) (buffer startup : ℕ)
+        → are_plain (viewer_settings (record { source = source; buffer = buffer; startup = startup })) ≡ true
     by (trace_source name) buffer startup = refl
     by (film_source name slot) buffer startup = refl
 
 viewer_among : (viewer : Viewer) → are_among (keys_of Plan) (viewer_settings viewer) ≡ true
 viewer_among viewer = by viewer.source viewer.buffer viewer.startup
   where
-    by : (source : Source) (buffer startup : ℕ) → are_among (keys_of Plan) (viewer_settings (record { source = source; buffer = buffer; startup = startup })) ≡ true
+    by : (source : Source) (buffer startup : ℕ)
+        → are_among (keys_of Plan) (viewer_settings (record { source = source; buffer = buffer; startup = startup })) ≡ true
     by (trace_source name) buffer startup = refl
     by (film_source name slot) buffer startup = refl
 
@@ -238,33 +274,47 @@ check_plain viewer cert = viewer_plain viewer
 check_among : (viewer : Viewer) (cert : List ℕ) → are_among (keys_of Check) (settings_of (check_of viewer cert)) ≡ true
 check_among viewer cert = by viewer.source viewer.buffer viewer.startup
   where
-    by : (source : Source) (buffer startup : ℕ) → are_among (keys_of Check) (settings_of (check_of (record { source = source; buffer = buffer; startup = startup }) cert)) ≡ true
+    by : (source : Source) (buffer startup : ℕ)
+        → are_among (keys_of Check)
+        (settings_of (check_of (record { source = source; buffer = buffer; startup = startup }) cert)) ≡ true
     by (trace_source name) buffer startup = refl
     by (film_source name slot) buffer startup = refl
 
 -- a command whose words are its own
-command_read : (command : Command) (settings : List Setting) (order : Order) → are_plain settings ≡ true → are_among (keys_of command) settings ≡ true →
+command_read : (command : Command) (settings : List Setting) (order : Order) → are_plain settings ≡ true →
+    are_among (keys_of command) settings ≡ true →
     order_given command (given settings) ≡ Some order → command_order (given settings) command ≡ Some order
 command_read command settings order plain among read =
-    ap (λ (b : Bool). if b then order_given command (given settings) else None) (words_read (keys_of command) settings plain among) ∙ read
+    ap (λ (b : Bool). if b then order_given command (given settings) else None)
+    (words_read (keys_of command) settings plain among) ∙ read
 
 -- the words of an order mean that order
 pub order_back : (order : Order) → MayBeAsked order → meaning (words_of order) ≡ Some order
 order_back help may = refl
 order_back version may = refl
 order_back (plan_of viewer) may =
-    command_read Plan (viewer_settings viewer) (plan_of viewer) (viewer_plain viewer) (viewer_among viewer) (ap (option_map plan_of) (viewer_read viewer may))
+    command_read Plan (viewer_settings viewer) (plan_of viewer) (viewer_plain viewer) (viewer_among viewer)
+    (ap (option_map plan_of) (viewer_read viewer may))
 order_back (check_of viewer cert) may =
-    command_read Check (settings_of (check_of viewer cert)) (check_of viewer cert) (check_plain viewer cert) (check_among viewer cert) (check_read viewer cert may.0 may.1)
+    command_read Check (settings_of (check_of viewer cert)) (check_of viewer cert) (check_plain viewer cert)
+    (check_among viewer cert) (check_read viewer cert may.0 may.1)
 order_back (scan_of film) may =
     command_read Scan (film_setting film ∷ []) (scan_of film) refl refl
-    (ap (option_map scan_of) (name_back film (values_of (codes "film") (given (film_setting film ∷ []))) (values_read (codes "film") (film_setting film ∷ []) refl) may))
+    (ap (option_map scan_of)
+    (name_back film (values_of (codes "film") (given (film_setting film ∷ [])))
+    (values_read (codes "film") (film_setting film ∷ []) refl) may))
 order_back (make_of kind seed pictures) may =
-    command_read Make (settings_of (make_of kind seed pictures)) (make_of kind seed pictures) refl refl (make_read kind seed pictures may.0 may.1)
-order_back (day_of run) may = command_read Day (settings_of (day_of run)) (day_of run) refl refl (ap (option_map day_of) (run_read run may))
-order_back (fair_of run) may = command_read Fair (settings_of (fair_of run)) (fair_of run) refl refl (ap (option_map fair_of) (draw_read run may))
+    command_read Make (settings_of (make_of kind seed pictures)) (make_of kind seed pictures) refl refl
+    (make_read kind seed pictures may.0 may.1)
+order_back (day_of run) may =
+    command_read Day (settings_of (day_of run)) (day_of run) refl refl (ap (option_map day_of) (run_read run may))
+order_back (fair_of run) may =
+    command_read Fair (settings_of (fair_of run)) (fair_of run) refl refl (ap (option_map fair_of) (draw_read run may))
 order_back (serve_of serving) may =
-    command_read Serve (settings_of (serve_of serving)) (serve_of serving) (films_plain serving.films (server_settings serving) refl)
-    (films_among (keys_of Serve) serving.films (server_settings serving) refl refl) (ap (option_map serve_of) (serving_read serving may))
+    command_read Serve (settings_of (serve_of serving)) (serve_of serving)
+    (films_plain serving.films (server_settings serving) refl)
+    (films_among (keys_of Serve) serving.films (server_settings serving) refl refl)
+    (ap (option_map serve_of) (serving_read serving may))
 order_back (watch_of watching) may =
-    command_read Watch (settings_of (watch_of watching)) (watch_of watching) refl refl (ap (option_map watch_of) (watching_read watching may))
+    command_read Watch (settings_of (watch_of watching)) (watch_of watching) refl refl
+    (ap (option_map watch_of) (watching_read watching may))

@@ -13,7 +13,8 @@ abbrev pub has_no : ℕ → List ℕ → Bool
 has_no c text = list_all (λ b. not (b == c)) text
 
 -- the byte stands first after such a text
-pub place_of : (c : ℕ) (key value : List ℕ) → (c == c) ≡ true → has_no c key ≡ true → position_or_len (λ b. b == c) (key ++ c ∷ value) ≡ length key
+pub place_of : (c : ℕ) (key value : List ℕ) → (c == c) ≡ true → has_no c key ≡ true
+    → position_or_len (λ b. b == c) (key ++ c ∷ value) ≡ length key
 place_of c [] value same plain = rw same refl
 place_of c (b ∷ key) value same plain =
     let parts = and_parts (not (b == c)) (has_no c key) plain in
@@ -36,11 +37,13 @@ inside_of c key value same plain =
     rw (place_of c key value same plain)
     (lt-ltb (length key) (length (key ++ c ∷ value)) (omega (arith, length-append key (c ∷ value))))
 
-pub before_of : (c : ℕ) (key value : List ℕ) → (c == c) ≡ true → has_no c key ≡ true → before_first (λ b. b == c) (key ++ c ∷ value) ≡ key
+pub before_of : (c : ℕ) (key value : List ℕ) → (c == c) ≡ true → has_no c key ≡ true
+    → before_first (λ b. b == c) (key ++ c ∷ value) ≡ key
 before_of c key value same plain =
     ap (λ (n : ℕ). take n (key ++ c ∷ value)) (place_of c key value same plain) ∙ front_of key (c ∷ value)
 
-pub after_of : (c : ℕ) (key value : List ℕ) → (c == c) ≡ true → has_no c key ≡ true → after_first (λ b. b == c) (key ++ c ∷ value) ≡ value
+pub after_of : (c : ℕ) (key value : List ℕ) → (c == c) ≡ true → has_no c key ≡ true
+    → after_first (λ b. b == c) (key ++ c ∷ value) ≡ value
 after_of c key value same plain =
     ap (λ (n : ℕ). drop (n + 1) (key ++ c ∷ value)) (place_of c key value same plain) ∙ rest_of key value c
 
@@ -48,9 +51,13 @@ after_of c key value same plain =
 pub setting_read : (asked key value : List ℕ) → has_no 61 key ≡ true →
     setting_value asked (key ++ (codes "=" ++ value)) ≡ (if bytes_eq key asked then Some value else None)
 setting_read asked key value plain =
-    ap (λ (b : Bool). if b && bytes_eq (before_first (λ b. b == 61) (key ++ 61 ∷ value)) asked then Some (after_first (λ b. b == 61) (key ++ 61 ∷ value)) else None)
+    ap (λ (b : Bool). if b
+    && bytes_eq (before_first (λ b. b == 61) (key ++ 61 ∷ value)) asked
+    then Some (after_first (λ b. b == 61) (key ++ 61 ∷ value)) else None)
     (inside_of 61 key value refl plain)
-    ∙ ap (λ (front : List ℕ). if true && bytes_eq front asked then Some (after_first (λ b. b == 61) (key ++ 61 ∷ value)) else None) (before_of 61 key value refl plain)
+    ∙ ap (λ (front : List ℕ). if true
+    && bytes_eq front asked then Some (after_first (λ b. b == 61) (key ++ 61 ∷ value)) else None)
+    (before_of 61 key value refl plain)
     ∙ ap (λ (rest : List ℕ). if bytes_eq key asked then Some rest else None) (after_of 61 key value refl plain)
 
 -- the values of a key among settings
@@ -68,8 +75,10 @@ pub values_read : (asked : List ℕ) (settings : List Setting) → are_plain set
 values_read asked [] plain = refl
 values_read asked (s ∷ settings) plain =
     let parts = and_parts (has_no 61 s.key) (are_plain settings) plain in
-    ap (λ (o : Option (List ℕ)). option_to_list o ++ values_of asked (map word_of settings)) (setting_read asked s.key s.value parts.0)
-    ∙ ap (λ (vs : List (List ℕ)). option_to_list (if bytes_eq s.key asked then Some s.value else None) ++ vs) (values_read asked settings parts.1)
+    ap (λ (o : Option (List ℕ)). option_to_list o ++ values_of asked (map word_of settings))
+    (setting_read asked s.key s.value parts.0)
+    ∙ ap (λ (vs : List (List ℕ)). option_to_list (if bytes_eq s.key asked then Some s.value else None) ++ vs)
+    (values_read asked settings parts.1)
 
 -- the keys of settings are among these
 abbrev pub are_among : List (List ℕ) → List Setting → Bool
@@ -98,11 +107,13 @@ words_read keys (s ∷ settings) plain among =
     (one_read keys s.key s.value parts.0 ∙ all.0) (words_read keys settings parts.1 all.1)
 
 -- films in front of other settings
-pub films_plain : (films : List (List ℕ)) (settings : List Setting) → are_plain settings ≡ true → are_plain (map film_setting films ++ settings) ≡ true
+pub films_plain : (films : List (List ℕ)) (settings : List Setting) → are_plain settings ≡ true
+    → are_plain (map film_setting films ++ settings) ≡ true
 films_plain [] settings plain = plain
 films_plain (film ∷ films) settings plain = films_plain films settings plain
 
-pub films_among : (keys : List (List ℕ)) (films : List (List ℕ)) (settings : List Setting) → list_any (λ key. bytes_eq (codes "film") key) keys ≡ true →
+pub films_among : (keys : List (List ℕ)) (films : List (List ℕ)) (settings : List Setting) →
+    list_any (λ key. bytes_eq (codes "film") key) keys ≡ true →
     are_among keys settings ≡ true → are_among keys (map film_setting films ++ settings) ≡ true
 films_among keys [] settings film among = among
 films_among keys (name ∷ films) settings film among = rw film (films_among keys films settings film among)

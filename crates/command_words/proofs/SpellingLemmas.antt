@@ -32,15 +32,18 @@ number_back least most n within small =
     ∙ ap (λ (b : Bool). if b && nat_le n most then Some n else None) (le-leb least n within.0)
     ∙ ap (λ (b : Bool). if b then Some n else None) (le-leb n most within.1)
 
-pub key_or : {least most n : ℕ} {values : List (List ℕ)} (default : ℕ) → values ≡ decimal n ∷ [] → IsBetween least most n → n < 2 ^ 64 →
+pub key_or : {least most n : ℕ} {values : List (List ℕ)} (default : ℕ) → values ≡ decimal n ∷ [] →
+    IsBetween least most n → n < 2 ^ 64 →
     number_or default least most values ≡ Some n
-key_or {least} {most} {n} default given within small = ap (number_or default least most) given ∙ number_back least most n within small
+key_or {least} {most} {n} default given within small =
+    ap (number_or default least most) given ∙ number_back least most n within small
 
 pub key_one : {least most n : ℕ} {values : List (List ℕ)} → values ≡ decimal n ∷ [] → IsBetween least most n → n < 2 ^ 64 →
     one_number least most values ≡ Some n
 key_one {least} {most} {n} given within small = ap (one_number least most) given ∙ number_back least most n within small
 
-pub name_back : (name : List ℕ) (values : List (List ℕ)) → values ≡ name ∷ [] → is_good_name name ≡ true → one_name values ≡ Some name
+pub name_back : (name : List ℕ) (values : List (List ℕ)) → values ≡ name ∷ [] → is_good_name name ≡ true
+    → one_name values ≡ Some name
 name_back name values given good = ap one_name given ∙ ap (λ (b : Bool). if b then Some name else None) good
 
 -- no digit is another byte
@@ -90,9 +93,11 @@ step_text_is : (step : CapStep) → step_text step ≡ decimal step.from ++ 58 �
 step_text_is step = append_assoc (decimal step.from) (codes ":") (decimal step.bytes)
 
 step_of_cut : (text front rest : List ℕ) → nat_lt (position_or_len (λ b. b == 58) text) (length text) ≡ true →
-    before_first (λ b. b == 58) text ≡ front → after_first (λ b. b == 58) text ≡ rest → step_of text ≡ step_from (number_of front) (number_of rest)
+    before_first (λ b. b == 58) text ≡ front → after_first (λ b. b == 58) text ≡ rest
+    → step_of text ≡ step_from (number_of front) (number_of rest)
 step_of_cut text front rest inside before after =
-    ap (λ (b : Bool). if b then step_from (number_of (before_first (λ b. b == 58) text)) (number_of (after_first (λ b. b == 58) text)) else None) inside
+    ap (λ (b : Bool). if b then step_from (number_of (before_first (λ b. b == 58) text))
+    (number_of (after_first (λ b. b == 58) text)) else None) inside
     ∙ ap (λ (f : List ℕ). step_from (number_of f) (number_of (after_first (λ b. b == 58) text))) before
     ∙ ap (λ (r : List ℕ). step_from (number_of front) (number_of r)) after
 
@@ -102,7 +107,8 @@ step_back step short =
     let plain : has_no 58 (decimal step.from) ≡ true = decimal_has_no 58 step.from refl short.from in
     ap step_of (step_text_is step)
     ∙ step_of_cut (decimal step.from ++ 58 ∷ decimal step.bytes) (decimal step.from) (decimal step.bytes)
-    (inside_of 58 (decimal step.from) (decimal step.bytes) refl plain) (before_of 58 (decimal step.from) (decimal step.bytes) refl plain)
+    (inside_of 58 (decimal step.from) (decimal step.bytes) refl plain)
+    (before_of 58 (decimal step.from) (decimal step.bytes) refl plain)
     (after_of 58 (decimal step.from) (decimal step.bytes) refl plain)
     ∙ ap (λ (o : Option ℕ). step_from o (number_of (decimal step.bytes))) (decimal_read step.from short.from)
     ∙ ap (λ (o : Option ℕ). step_from (Some step.from) o) (decimal_read step.bytes short.bytes)
@@ -115,7 +121,8 @@ step_one step short =
     (decimal_has_no 44 step.bytes refl short.bytes)
 
 -- the step that stands after others in a capacity may follow them
-step_may : (front : List CapStep) (step : CapStep) (rest : List CapStep) → IsCapacity (front ++ step ∷ rest) → may_follow front step ≡ true
+step_may : (front : List CapStep) (step : CapStep) (rest : List CapStep) → IsCapacity (front ++ step ∷ rest)
+    → may_follow front step ≡ true
 step_may front step rest capacity =
     let profile = capacity.0 in
     let long = length-append front (step ∷ rest) in
@@ -126,7 +133,8 @@ step_may front step rest capacity =
     let small : nat_le step.bytes (2 ^ 42) ≡ true = le-leb step.bytes (2 ^ 42)
     (subst (λ (s : CapStep). s.bytes ≤ 2 ^ 42) here (profile.small (length front) (omega (arith, long)))) in
     let stands : stands_after front step.from ≡ true = stands_here front step rest capacity here in
-    and_from (nat_lt (length front) 64) (stands_after front step.from && (nat_le step.from (2 ^ 62) && nat_le step.bytes (2 ^ 42))) few
+    and_from (nat_lt (length front) 64)
+    (stands_after front step.from && (nat_le step.from (2 ^ 62) && nat_le step.bytes (2 ^ 42))) few
     (and_from (stands_after front step.from) (nat_le step.from (2 ^ 62) && nat_le step.bytes (2 ^ 42)) stands
     (and_from (nat_le step.from (2 ^ 62)) (nat_le step.bytes (2 ^ 42)) late small))
   where
@@ -138,17 +146,20 @@ step_may front step rest capacity =
         let long = length-append steps (step ∷ rest) in
         let inside : (length steps - 1) + 1 < length (steps ++ step ∷ rest) = omega (arith, long) in
         let place : (length steps - 1) + 1 ≡ length steps = omega arith in
-        let before : step_at (steps ++ step ∷ rest) (length steps - 1) ≡ step_at steps (length steps - 1) = get_or-append steps (step ∷ rest) no_step (length steps - 1) (omega arith) in
+        let before : step_at (steps ++ step ∷ rest) (length steps - 1) ≡ step_at steps (length steps - 1) =
+        get_or-append steps (step ∷ rest) no_step (length steps - 1) (omega arith) in
         let rises : (step_at steps (length steps - 1)).from < step.from =
         subst (λ (t : CapStep). t.from < step.from) before
         (subst (λ (t : CapStep). (step_at (steps ++ step ∷ rest) (length steps - 1)).from < t.from) here
-        (subst (λ (i : ℕ). (step_at (steps ++ step ∷ rest) (length steps - 1)).from < (step_at (steps ++ step ∷ rest) i).from) place (capacity.0.ascend (length steps - 1) inside))) in
+        (subst (λ (i : ℕ). (step_at (steps ++ step ∷ rest) (length steps - 1)).from
+        < (step_at (steps ++ step ∷ rest) i).from) place (capacity.0.ascend (length steps - 1) inside))) in
         let some : (length steps == 0) ≡ false = ne_eqb (length steps) 0 (λ none. omega (arith, none)) in
         ap (λ (b : Bool). if b then step.from == 0 else nat_lt (step_at steps (length steps - 1)).from step.from) some
         ∙ lt-ltb (step_at steps (length steps - 1)).from step.from rises
 
 -- a step that may follow is taken
-pub step_taken : (front : List CapStep) (step : CapStep) (rest : List CapStep) → IsCapacity (front ++ step ∷ rest) → IsShort step →
+pub step_taken : (front : List CapStep) (step : CapStep) (rest : List CapStep) →
+    IsCapacity (front ++ step ∷ rest) → IsShort step →
     part_more (Some front) (step_text step) ≡ Some (front ++ step ∷ [])
 step_taken front step rest capacity short =
     ap (step_more front) (step_back step short)
@@ -159,8 +170,10 @@ short_step : (front : List CapStep) (step : CapStep) (rest : List CapStep) → I
 short_step front step rest capacity =
     let long = length-append front (step ∷ rest) in
     let here : step_at (front ++ step ∷ rest) (length front) ≡ step = get_or-append_seam front step rest no_step in
-    let late : step.from ≤ 2 ^ 62 = subst (λ (s : CapStep). s.from ≤ 2 ^ 62) here (capacity.1 (length front) no_step (omega (arith, long))) in
-    let small : step.bytes ≤ 2 ^ 42 = subst (λ (s : CapStep). s.bytes ≤ 2 ^ 42) here (capacity.0.small (length front) (omega (arith, long))) in
+    let late : step.from ≤ 2 ^ 62 =
+    subst (λ (s : CapStep). s.from ≤ 2 ^ 62) here (capacity.1 (length front) no_step (omega (arith, long))) in
+    let small : step.bytes ≤ 2 ^ 42 =
+    subst (λ (s : CapStep). s.bytes ≤ 2 ^ 42) here (capacity.0.small (length front) (omega (arith, long))) in
     record { from = omega (arith, late); bytes = omega (arith, small) }
 
 -- one step more in front
@@ -172,7 +185,8 @@ pub steps_back : (front : List CapStep) (step : CapStep) (rest : List CapStep) �
     fold part_more (Some front) (slice_split (λ b. b == 44) (steps_text (step ∷ rest))) ≡ Some (front ++ step ∷ rest)
 steps_back front step [] capacity =
     let short = short_step front step [] capacity in
-    ap (fold part_more (Some front)) (slice_split_none (λ b. b == 44) (step_text step) (all_fail 44 (step_text step) (step_one step short)))
+    ap (fold part_more (Some front))
+    (slice_split_none (λ b. b == 44) (step_text step) (all_fail 44 (step_text step) (step_one step short)))
     ∙ step_taken front step [] capacity short
 steps_back front step (next ∷ rest) capacity =
     let short = short_step front step (next ∷ rest) capacity in
@@ -180,8 +194,11 @@ steps_back front step (next ∷ rest) capacity =
     let text : steps_text (step ∷ next ∷ rest) ≡ step_text step ++ 44 ∷ steps_text (next ∷ rest) =
     append_assoc (step_text step) (codes ",") (steps_text (next ∷ rest)) in
     ap (λ (t : List ℕ). fold part_more (Some front) (slice_split (λ b. b == 44) t)) text
-    ∙ ap (fold part_more (Some front)) (slice_split_at (λ b. b == 44) (step_text step) 44 (steps_text (next ∷ rest)) (all_fail 44 (step_text step) (step_one step short)) refl)
-    ∙ ap (λ (o : Option (List CapStep)). fold part_more o (slice_split (λ b. b == 44) (steps_text (next ∷ rest)))) (step_taken front step (next ∷ rest) capacity short)
+    ∙ ap (fold part_more (Some front))
+    (slice_split_at (λ b. b == 44) (step_text step) 44 (steps_text (next ∷ rest))
+    (all_fail 44 (step_text step) (step_one step short)) refl)
+    ∙ ap (λ (o : Option (List CapStep)). fold part_more o
+    (slice_split (λ b. b == 44) (steps_text (next ∷ rest)))) (step_taken front step (next ∷ rest) capacity short)
     ∙ steps_back (front ++ step ∷ []) next rest (subst IsCapacity (sym whole) capacity)
     ∙ ap (λ (steps : List CapStep). Some steps) whole
 
@@ -201,10 +218,12 @@ colon_inside step (next ∷ rest) short =
     (inside_of 58 (decimal step.from) (decimal step.bytes ++ tail) refl (decimal_has_no 58 step.from refl short.from))
 
 -- a written capacity is read back
-pub capacity_back : (steps : List CapStep) (values : List (List ℕ)) → values ≡ steps_text steps ∷ [] → IsCapacity steps → one_capacity values ≡ Some steps
+pub capacity_back : (steps : List CapStep) (values : List (List ℕ)) → values ≡ steps_text steps ∷ []
+    → IsCapacity steps → one_capacity values ≡ Some steps
 capacity_back [] values given capacity = absurd (omega (arith, capacity.0.some))
 capacity_back (step ∷ rest) values given capacity =
     ap one_capacity given
-    ∙ ap (λ (b : Bool). if b then steps_of (steps_text (step ∷ rest)) else option_map (λ (n : ℕ). (made_step 0 n) ∷ []) (in_range 1 (2 ^ 42) (number_of (steps_text (step ∷ rest)))))
+    ∙ ap (λ (b : Bool). if b then steps_of (steps_text (step ∷ rest)) else option_map
+    (λ (n : ℕ). (made_step 0 n) ∷ []) (in_range 1 (2 ^ 42) (number_of (steps_text (step ∷ rest)))))
     (colon_inside step rest (short_step [] step rest capacity))
     ∙ steps_back [] step rest capacity

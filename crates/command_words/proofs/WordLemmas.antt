@@ -9,7 +9,8 @@ use Rattle.std.specs.List.{list_all}
 use Rattle.command_words.specs.Settings.{texts, setting_value, values_of}
 
 -- what words in front and the words after them give
-pub values_of-append : (key : List ℕ) (front back : List (List ℕ)) → values_of key (front ++ back) ≡ values_of key front ++ values_of key back
+pub values_of-append : (key : List ℕ) (front back : List (List ℕ))
+    → values_of key (front ++ back) ≡ values_of key front ++ values_of key back
 values_of-append key front back = flat_map-append (λ (word : List ℕ). option_to_list (setting_value key word)) front back
 
 -- the word at a place
@@ -19,16 +20,20 @@ pub record IsWordAt (words : List (String Global)) (i : ℕ) (word : String Glob
 
 -- a word more
 values_of_more : (key : List ℕ) (words : List (String Global)) (i : ℕ) (word : String Global) → IsWordAt words i word →
-    values_of key (texts (take (i + 1) words)) ≡ values_of key (texts (take i words)) ++ option_to_list (setting_value key (string_bytes word))
+    values_of key (texts (take (i + 1) words))
+    ≡ values_of key (texts (take i words)) ++ option_to_list (setting_value key (string_bytes word))
 values_of_more key words i word at =
     ap (λ (ws : List (String Global)). values_of key (texts ws)) (take_more words i word at.inside)
     ∙ ap (values_of key) (map-append string_bytes (take i words) (get_or words i word ∷ []))
     ∙ values_of-append key (texts (take i words)) (string_bytes (get_or words i word) ∷ [])
-    ∙ ap (λ (vs : List (List ℕ)). values_of key (texts (take i words)) ++ vs) (append-nil (option_to_list (setting_value key (string_bytes (get_or words i word)))))
-    ∙ ap (λ (w : String Global). values_of key (texts (take i words)) ++ option_to_list (setting_value key (string_bytes w))) (sym at.is)
+    ∙ ap (λ (vs : List (List ℕ)). values_of key (texts (take i words)) ++ vs)
+    (append-nil (option_to_list (setting_value key (string_bytes (get_or words i word)))))
+    ∙ ap (λ (w : String Global). values_of key (texts (take i words))
+    ++ option_to_list (setting_value key (string_bytes w))) (sym at.is)
 
 -- words in front give no more values than all words
-pub values_of_front : (key : List ℕ) (words : List (String Global)) (i : ℕ) → length (values_of key (texts (take i words))) ≤ length (values_of key (texts words))
+pub values_of_front : (key : List ℕ) (words : List (String Global)) (i : ℕ)
+    → length (values_of key (texts (take i words))) ≤ length (values_of key (texts words))
 values_of_front key words i =
     let whole : values_of key (texts words) ≡ values_of key (texts (take i words)) ++ values_of key (texts (drop i words)) =
     ap (λ (ws : List (String Global)). values_of key (texts ws)) (sym (take-append-drop i words))
@@ -45,13 +50,15 @@ some_found None h = cc
 some_found (Some v) h = refl
 
 -- what the words in front of a word gave to a key, and what that word gives
-pub record IsSearch (key : List ℕ) (words : List (String Global)) (i : ℕ) (word : String Global) (found answer : Option (Bor (List ℕ))) : Type 0 where
+pub record IsSearch (key : List ℕ) (words : List (String Global)) (i : ℕ) (word : String Global)
+    (found answer : Option (Bor (List ℕ))) : Type 0 where
   pub at : IsWordAt words i word
   pub before : values_of key (texts (take i words)) ≡ option_to_list (option_copied found)
   pub says : option_copied answer ≡ setting_value key (string_bytes word)
 
 -- the first word that gives a value
-pub values_of_first : {key : List ℕ} {words : List (String Global)} {i : ℕ} {word : String Global} {found answer found' : Option (Bor (List ℕ))} →
+pub values_of_first : {key : List ℕ} {words : List (String Global)} {i : ℕ} {word : String Global}
+    {found answer found' : Option (Bor (List ℕ))} →
     IsSearch key words i word found answer → is_some found ≡ false → found' ≡ answer →
     values_of key (texts (take (i + 1) words)) ≡ option_to_list (option_copied found')
 values_of_first {key} {words} {i} {word} {found} given none is =
@@ -61,25 +68,37 @@ values_of_first {key} {words} {i} {word} {found} given none is =
     ∙ ap option_to_list (sym given.says) ∙ ap (λ (o : Option (Bor (List ℕ))). option_to_list (option_copied o)) (sym is)
 
 -- a word that gives no value
-pub values_of_none : {key : List ℕ} {words : List (String Global)} {i : ℕ} {word : String Global} {found answer found' : Option (Bor (List ℕ))} →
+pub values_of_none : {key : List ℕ} {words : List (String Global)} {i : ℕ} {word : String Global}
+    {found answer found' : Option (Bor (List ℕ))} →
     IsSearch key words i word found answer → answer ≡ None → found' ≡ found →
     values_of key (texts (take (i + 1) words)) ≡ option_to_list (option_copied found')
 values_of_none {key} {words} {i} {word} given none is =
     values_of_more key words i word given.at
-    ∙ ap (λ (o : Option (List ℕ)). values_of key (texts (take i words)) ++ option_to_list o) (sym given.says ∙ ap option_copied none)
+    ∙ ap (λ (o : Option (List ℕ)). values_of key (texts (take i words)) ++ option_to_list o)
+    (sym given.says ∙ ap option_copied none)
     ∙ append-nil (values_of key (texts (take i words)))
     ∙ given.before ∙ ap (λ (o : Option (Bor (List ℕ))). option_to_list (option_copied o)) (sym is)
 
 -- a second word that gives a value
-pub values_of_again : {key : List ℕ} {words : List (String Global)} {i : ℕ} {word : String Global} {found answer : Option (Bor (List ℕ))} {value : Bor (List ℕ)} →
+pub values_of_again : {key : List ℕ} {words : List (String Global)} {i : ℕ} {word : String Global}
+    {found answer : Option (Bor (List ℕ))} {value : Bor (List ℕ)} →
     IsSearch key words i word found answer → is_some found ≡ true → answer ≡ Some value → 2 ≤ length (values_of key (texts words))
 values_of_again {key} {words} {i} {word} {found} {answer} given some is =
-    let grown : length (values_of key (texts (take (i + 1) words))) ≡ length (values_of key (texts (take i words)) ++ option_to_list (option_copied answer)) =
+    let grown : length (values_of key (texts (take (i + 1) words)))
+    ≡ length (values_of key (texts (take i words)) ++ option_to_list (option_copied answer)) =
     ap length (values_of_more key words i word given.at)
     ∙ ap (λ (o : Option (List ℕ)). length (values_of key (texts (take i words)) ++ option_to_list o)) (sym given.says) in
-    let last : length (option_to_list (option_copied answer)) ≡ 1 = ap (λ (o : Option (Bor (List ℕ))). length (option_to_list (option_copied o))) is in
+    let last : length (option_to_list (option_copied answer)) ≡ 1 =
+    ap (λ (o : Option (Bor (List ℕ))). length (option_to_list (option_copied o))) is in
     let first : length (values_of key (texts (take i words))) ≡ 1 = ap length given.before ∙ some_found found some in
-    omega (arith, grown, length-append (values_of key (texts (take i words))) (option_to_list (option_copied answer)), last, first, values_of_front key words (i + 1))
+    omega (
+      arith,
+      grown,
+      length-append (values_of key (texts (take i words))) (option_to_list (option_copied answer)),
+      last,
+      first,
+      values_of_front key words (i + 1),
+    )
 
 -- a word more that passes
 pub all_more : {words : List (String Global)} {i : ℕ} {word : String Global} (p : List ℕ → Bool) → IsWordAt words i word →

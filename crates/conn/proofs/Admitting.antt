@@ -72,8 +72,10 @@ kept_refused {seat} {next} {before} {refused} heard plan asking is told =
       gone = gone_refused seat next heard plan refused is none told;
     }
 
-pub answered_refused : {plan : List Segment} {seat next : Sitting} {after : Standing} (before : Connection) (refused : PlayRefused) →
-    IsAsking seat next before → IsRefused seat next before.session.heard plan refused → after ≡ after_refusal before.session refused →
+pub answered_refused : {plan : List Segment} {seat next : Sitting} {after : Standing} (before : Connection)
+    (refused : PlayRefused) →
+    IsAsking seat next before → IsRefused seat next before.session.heard plan refused →
+    after ≡ after_refusal before.session refused →
     HasAnswered before.session (AskPlay plan) after seat next
 answered_refused before (JournalFull asked entries live) asking is told = answered_full asking.same is.1 (told, refl)
 answered_refused before (Overflow place slot booked bytes) asking is told =

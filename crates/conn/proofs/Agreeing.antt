@@ -20,48 +20,64 @@ use Rattle.vod_base.proofs.Telling.{told_more-nil}
 use Rattle.conn.proofs.Occasions.{TakenBack}
 
 -- what a connection told at its end is what it told before, and more
-told_after : {session : Standing} {old new : Option (List Doing)} {seat next : Sitting} {report : ConnReport} → HasServedConnection session old new seat next report →
+told_after : {session : Standing} {old new : Option (List Doing)} {seat next : Sitting} {report : ConnReport} →
+    HasServedConnection session old new seat next report →
     (doings : List Doing) × (new ≡ told_more old doings)
 told_after {new} {next} (inl from) =
     (rounds_doings from.course.rounds ++ ending_doings from.course.ending, from.told ∙ from.course.told)
 told_after {old} {new} {next} (inr none) = ([], none.told ∙ sym (told_more-nil old))
 
-fresh_is : (old new : Option (List Doing)) (doings : List Doing) → IfSome old (λ told. told ≡ []) → new ≡ told_more old doings → old ≡ fresh_told new
+fresh_is : (old new : Option (List Doing)) (doings : List Doing) → IfSome old (λ told. told ≡ [])
+    → new ≡ told_more old doings → old ≡ fresh_told new
 fresh_is None new doings fresh is = sym (ap fresh_told is)
 fresh_is (Some told) new doings fresh is = ap Some fresh ∙ sym (ap fresh_told is)
 
 pub served_fresh : {films : List Stored} {settings : Settings} {words : List ℕ} {old new : Option (List Doing)}
-    {before after : ℕ} {seat next : Sitting} {report : ConnReport} → before ≡ 0 → IfSome old (λ told. told ≡ []) → report.words ≡ words →
+    {before after : ℕ} {seat next : Sitting} {report : ConnReport} → before ≡ 0 →
+    IfSome old (λ told. told ≡ []) → report.words ≡ words →
     HasServedConnection (new_standing films settings words) old new seat next report →
     KeepsPromise (new_standing films settings words) old new seat next report → (report.end ≡ LinkFault → HasRisen before after) →
     HasServedOne films settings (record { faults = after; told = new }) report seat next
 served_fresh {films} {settings} {words} {old} {new} {after} {seat} {next} {report} zero fresh is_words served keeps fault =
     let more = told_after served in
     let told : HasServedConnection (new_standing films settings words) (fresh_told new) new seat next report =
-    subst (λ t. HasServedConnection (new_standing films settings words) t new seat next report) (fresh_is old new more.0 fresh more.1) served in
+    subst (λ t. HasServedConnection (new_standing films settings words) t new seat next report)
+    (fresh_is old new more.0 fresh more.1) served in
     let kept : KeepsPromise (new_standing films settings words) (fresh_told new) new seat next report =
-    subst (λ t. KeepsPromise (new_standing films settings words) t new seat next report) (fresh_is old new more.0 fresh more.1) keeps in record {
-      served = subst (λ ws. HasServedConnection (new_standing films settings ws) (fresh_told new) new seat next report) (sym is_words) told;
-      keeps = subst (λ ws. KeepsPromise (new_standing films settings ws) (fresh_told new) new seat next report) (sym is_words) kept;
+    subst (λ t. KeepsPromise (new_standing films settings words) t new seat next report)
+    (fresh_is old new more.0 fresh more.1) keeps in record {
+      served = subst (λ ws. HasServedConnection (new_standing films settings ws) (fresh_told new) new seat next
+          report) (sym is_words) told;
+      keeps = subst (λ ws. KeepsPromise (new_standing films settings ws) (fresh_told new) new seat next report)
+          (sym is_words) kept;
       fault = λ is. subst (λ n. HasRisen n after) zero (fault is);
     }
 
 -- one more connection
 pub served_more : {films : List Stored} {settings : Settings} {mid new : Sitting} {returned : Returned}
     {report : ConnReport} (old : Sitting) (back : List Returned) (reports : List ConnReport) →
-    AreServed films settings old back reports mid → HasServedOne films settings returned report mid new → AreServed films settings old (back ++ returned ∷ []) (reports ++ report ∷ []) new
-served_more {films} {settings} {new} {returned} {report} old [] [] are one = (new, (subst (λ s. HasServedOne films settings returned report s new) are one, refl))
+    AreServed films settings old back reports mid → HasServedOne films settings returned report mid new
+    → AreServed films settings old (back ++ returned ∷ []) (reports ++ report ∷ []) new
+served_more {films} {settings} {new} {returned} {report} old [] [] are one =
+    (new, (subst (λ s. HasServedOne films settings returned report s new) are one, refl))
 served_more {new} {returned} old [] (r ∷ reports) are one = absurd are
 served_more {new} {returned} old (b ∷ back) [] are one = absurd are
-served_more {films} {settings} {mid} {new} {returned} {report} old (b ∷ back) (r ∷ reports) are one =
-    (are.0, (are.1.0, served_more {films = films} {settings = settings} {mid = mid} {new = new} {returned = returned} {report = report} are.0 back reports are.1.1 one))
+served_more {films} {settings} {mid} {new} {returned} {report} old (b ∷ back) (r ∷ reports) are one = (
+  are.0,
+  (
+    are.1.0,
+    served_more {films = films} {settings = settings} {mid = mid} {new = new} {returned = returned}
+        {report = report} are.0 back reports are.1.1 one,
+  ),
+)
 
 -- the same of what is told of the part
 pub told_first : {reports : List ConnReport} (films : List Stored) (settings : Settings) (part : Option Content)
     (seat : Sitting) → IfSome part IsUntouched → reports ≡ [] → AreTold films settings part reports seat seat
 told_first films settings None seat untouched none = tt
 told_first {reports} films settings (Some part) seat untouched none =
-    subst (λ bs. AreServed films settings seat bs reports seat) (sym untouched.back) (subst (λ rs. AreServed films settings seat [] rs seat) (sym none) refl)
+    subst (λ bs. AreServed films settings seat bs reports seat) (sym untouched.back)
+    (subst (λ rs. AreServed films settings seat [] rs seat) (sym none) refl)
 
 pub told_one : {films : List Stored} {settings : Settings} {taken new : Option Content} {between next : Sitting}
     {more : List ConnReport} {returned : Returned} {report : ConnReport} {mid : Option Content} (old : Sitting)
@@ -69,7 +85,8 @@ pub told_one : {films : List Stored} {settings : Settings} {taken new : Option C
     more ≡ reports ++ report ∷ [] → HasServedOne films settings returned report between next →
     AreTold films settings new more old next
 told_one {films} {settings} {taken} {new} {between} {next} {more} {returned} {mid = None} old reports are back items one =
-    subst (λ c. AreTold films settings c more old next) (sym (back.returns ∙ ap (option_map (after_return returned)) back.takes)) tt
+    subst (λ c. AreTold films settings c more old next)
+    (sym (back.returns ∙ ap (option_map (after_return returned)) back.takes)) tt
 told_one {films} {settings} {taken} {new} {between} {next} {more} {returned} {mid = Some mid} old reports are back items one =
     subst (λ c. AreTold films settings c more old next) (sym (back.returns ∙ ap (option_map (after_return returned)) back.takes))
     (subst (λ rs. AreServed films settings old (mid.own.back ++ returned ∷ []) rs next) (sym items)

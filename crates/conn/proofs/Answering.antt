@@ -42,7 +42,8 @@ entry_replied {old} {asking} {placed} entered (Admitted start) new answered =
     let prepared = prepared_of old is.stored is.setup is.planned is.sequence in
     let ready : IsReady is.setup asking.state = subst (IsReady is.setup) (sym (same ∙ is.ready)) refl in
     let begun = play_begins asking placed answered ready is.awaited in
-    let text = ap (λ (s : Standing). s.text) answered.1 ∙ ap (λ (t : List ℕ). started_text t (start - asking.heard)) is.text in record {
+    let text = ap (λ (s : Standing). s.text) answered.1
+    ∙ ap (λ (t : List ℕ). started_text t (start - asking.heard)) is.text in record {
       ok = subst (HasCode 200) (sym text) (front_ok old asking is (start - asking.heard));
       asking = asking;
       asked = is;
@@ -57,20 +58,24 @@ entry_replied {old} {asking} {placed} entered (Admitted start) new answered =
     }
   where
     open entered use {asked as is, same, command}
-entry_replied {asking} entered (Overflow slot booked asked) new answered = (sequence_of asking.awaited, ap (λ (s : Standing). s.text) answered)
+entry_replied {asking} entered (Overflow slot booked asked) new answered =
+    (sequence_of asking.awaited, ap (λ (s : Standing). s.text) answered)
 entry_replied entered Halted new answered = absurd answered
 entry_replied entered (Looked now at booked) new answered = absurd answered
 
-asked_replied : {old asking : Standing} (is : IsPlayAsked old asking) (outcome : Outcome) (new : Standing) → asking.state ≡ old.state → asking.heard ≡ old.heard →
+asked_replied : {old asking : Standing} (is : IsPlayAsked old asking) (outcome : Outcome) (new : Standing) →
+    asking.state ≡ old.state → asking.heard ≡ old.heard →
     IsAnswered asking (AskPlay is.planned.plan) outcome new → IsPlayReplied old outcome new
 asked_replied is Unasked new same heard answered = absurd answered
 asked_replied is (Entered placed) new same heard answered =
     entry_replied (record { asked = is; same = same; command = answered.0 ∙ ap (λ h. play_of h is.planned.plan) heard })
     placed.entry.answer new answered.1
-asked_replied {asking} is (WasFull more entries live) new same heard answered = (sequence_of asking.awaited, ap (λ (s : Standing). s.text) answered.0)
+asked_replied {asking} is (WasFull more entries live) new same heard answered =
+    (sequence_of asking.awaited, ap (λ (s : Standing). s.text) answered.0)
 asked_replied is (Offered at_slot note) new same heard answered = absurd answered
 
-lacks_replied : {old : Standing} {ask : Ask} {asking : Standing} (outcome : Outcome) (new : Standing) → LacksMemory old ask asking →
+lacks_replied : {old : Standing} {ask : Ask} {asking : Standing} (outcome : Outcome) (new : Standing) →
+    LacksMemory old ask asking →
     IsAnswered asking AskReply outcome new → IsPlayReplied old outcome new
 lacks_replied {old} {ask} {asking} Unasked new lacks answered =
     subst (HasCode 500) (sym (ap (λ (s : Standing). s.text) answered)) (memory_code old ask asking lacks)
@@ -78,7 +83,8 @@ lacks_replied {ask} (Entered placed) new lacks answered = absurd answered
 lacks_replied {ask} (WasFull more entries live) new lacks answered = absurd answered
 lacks_replied {ask} (Offered at_slot note) new lacks answered = absurd answered
 
-either_replied : {old : Standing} {ask : Ask} {asking : Standing} (outcome : Outcome) (new : Standing) → AsksOrLacks old ask asking →
+either_replied : {old : Standing} {ask : Ask} {asking : Standing} (outcome : Outcome) (new : Standing) →
+    AsksOrLacks old ask asking →
     ChangesState ask old asking → asking.heard ≡ old.heard → IsAnswered asking ask outcome new → IsPlayReplied old outcome new
 either_replied {old} {ask} {asking} outcome new (inl asks) changes heard answered =
     let state = subst (λ a. ChangesState a old asking) asks.command changes in
@@ -86,8 +92,10 @@ either_replied {old} {ask} {asking} outcome new (inl asks) changes heard answere
 either_replied {ask} {asking} outcome new (inr lacks) changes heard answered =
     lacks_replied outcome new lacks (subst (λ a. IsAnswered asking a outcome new) lacks.refused.0 answered)
 
-pub play_answered : (old new : Standing) (message : List ℕ) (outcome : Outcome) → CanBePlayed old message → HasHeard old message outcome new →
+pub play_answered : (old new : Standing) (message : List ℕ) (outcome : Outcome) → CanBePlayed old message →
+    HasHeard old message outcome new →
     IsPlayReplied old outcome new
 play_answered old new message outcome can heard =
     either_replied outcome new (hears_good old heard.asking message heard.ask heard.hears can)
-    (hears_state old heard.asking message heard.ask heard.hears) (hears_ground old heard.asking message heard.ask heard.hears).heard heard.answered
+    (hears_state old heard.asking message heard.ask heard.hears)
+    (hears_ground old heard.asking message heard.ask heard.hears).heard heard.answered

@@ -9,7 +9,8 @@ use Rattle.conn.specs.Sights.{HasAnswered, HasAsked}
 use Rattle.conn.specs.Turns.{Unasked}
 use Rattle.conn.proofs.Sighting.{noted_unasked}
 
-pub asked_on : {old asking new : Standing} {ask arm : Ask} {message bytes : List ℕ} {seat next : Sitting} → Hears old message ask asking →
+pub asked_on : {old asking new : Standing} {ask arm : Ask} {message bytes : List ℕ} {seat next : Sitting} →
+    Hears old message ask asking →
     message ≡ bytes → ask ≡ arm → HasAnswered asking arm new seat next → HasAsked old bytes new seat next
 asked_on {old} {asking} {ask} {arm} {bytes} hears same is answered = record {
   outcome = answered.outcome;

@@ -29,7 +29,8 @@ new_play prepared place start = record {
   pacer = whole_pacing (run_pieces prepared.frames) prepared.run.sent prepared.paced start;
 }
 
-nothing_sent : (prepared : Prepared) (place start heard : ℕ) → heard < start → IsPacedPlay (new_play prepared place start) → HasSent (new_play prepared place start) heard []
+nothing_sent : (prepared : Prepared) (place start heard : ℕ) → heard < start
+    → IsPacedPlay (new_play prepared place start) → HasSent (new_play prepared place start) heard []
 nothing_sent prepared place start heard later is =
     let none : heard + 1 - start ≡ 0 = omega (arith, later) in record {
       pacing = is.pacing;
@@ -39,7 +40,9 @@ nothing_sent prepared place start heard later is =
       start = refl;
       passed = sym none;
       sent = refl;
-      film_is = ap (λ n. take (first_slots prepared.paced n) (drop prepared.run.sent (framed_bytes (run_pieces prepared.frames)))) (sym none);
+      film_is = ap
+          (λ n. take (first_slots prepared.paced n)
+          (drop prepared.run.sent (framed_bytes (run_pieces prepared.frames)))) (sym none);
     }
 
 admitted_is : (state : State) (setup : Setup) (prepared : Prepared) (place start : ℕ) → IsReady setup state →

@@ -21,7 +21,8 @@ use Rattle.conn.specs.Films.{IsBetween}
 -- no more is used than there is
 used_most : (sizes : List ℕ) (timing : Timing) (t : ℕ) → used_before sizes timing t ≤ total_of sizes timing
 used_most sizes timing t =
-    let below = sum_by-range-le (λ k. cond (ltb (due_slot timing k) t) (get_or sizes k 0) 0) (λ k. get_or sizes k 0) 0 (length sizes)
+    let below = sum_by-range-le (λ k. cond (ltb (due_slot timing k) t) (get_or sizes k 0) 0)
+    (λ k. get_or sizes k 0) 0 (length sizes)
     (λ k l u. cond_le (ltb (due_slot timing k) t) (get_or sizes k 0)) in
     omega (arith, below, sum_by-range-all sizes)
 
@@ -42,7 +43,8 @@ planned_between {sizes} {playback} {run} {plan} {slot} is_plan sending count_is 
       | inr past ↦
           let keeps = sending-keeps sizes playback run plan sending in
           let limits = sending-limits sizes playback run plan sending in
-          let all : total_bytes plan ≡ sum_through plan slot = sum_through-past plan slot is_plan (omega (arith, keeps.slots, past)) in
+          let all : total_bytes plan ≡ sum_through plan slot =
+          sum_through-past plan slot is_plan (omega (arith, keeps.slots, past)) in
           let whole = used_before-all rest timing limits.some_slot_units sending.plan_is.accepted.some_picture in
           let used = used_before_rises rest timing (slot_count rest timing) slot past in
           let most = used_most rest timing (slot + 1) in

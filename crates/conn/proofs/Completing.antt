@@ -35,7 +35,8 @@ entry_decided : {terms : Terms} {journal : List Entry} {old : Standing} {plan : 
 entry_decided {terms} {journal} {old} {plan} {new} placed (Admitted start) room is replied =
     let from : ℕ = start_at journal placed.place old.heard in
     let booked : ℕ → ℕ = booked_after (take placed.place journal) in
-    let fits : HasRoom 0 booked (capacity_at terms.steps) from plan = subst (λ s. HasRoom 0 booked (capacity_at terms.steps) s plan) is.0 is.1 in record {
+    let fits : HasRoom 0 booked (capacity_at terms.steps) from plan =
+    subst (λ s. HasRoom 0 booked (capacity_at terms.steps) s plan) is.0 is.1 in record {
       full = λ no. absurd (omega (arith, no, room));
       over = λ has over first. absurd (no-room first fits);
       admitted = λ has all. (placed, subst (λ s. HasBegunPlay old placed s new) is.0 replied);
@@ -55,7 +56,8 @@ entry_decided {new} placed (Looked now at booked) room is replied = absurd is
 
 entry_turn : {terms : Terms} {journal : List Entry} {from : ℕ} {old asking : Standing} {placed : Placed}
     {new : Standing} (asked : IsPlayAsked old asking) →
-    IsLegal terms.steps journal → StandsIn terms journal from placed → placed.entry.command ≡ play_of old.heard asked.planned.plan →
+    IsLegal terms.steps journal → StandsIn terms journal from placed →
+    placed.entry.command ≡ play_of old.heard asked.planned.plan →
     IsEntryReplied old placed placed.entry.answer new → HasTurn terms journal from old new
 entry_turn {terms} {journal} {from} {asking} {placed} {new} asked legal stands command replied =
     let plan : List Segment = asked.planned.plan in
@@ -77,10 +79,12 @@ entry_turn {terms} {journal} {from} {asking} {placed} {new} asked legal stands c
 -- the journal was full
 full_turn : {terms : Terms} {journal : List Entry} {from : ℕ} {old asking : Standing} {more entries live_plays : ℕ}
     {new : Standing} (asked : IsPlayAsked old asking) →
-    IsFullIn terms.limit journal from more entries live_plays → more ≡ 2 → ((sequence : ℕ) × (new.text ≡ full_text sequence entries live_plays)) →
+    IsFullIn terms.limit journal from more entries live_plays → more ≡ 2 →
+    ((sequence : ℕ) × (new.text ≡ full_text sequence entries live_plays)) →
     HasTurn terms journal from old new
 full_turn {terms} {journal} {from} {asking} {more} {entries} {new} asked full two replied =
-    let over : terms.limit < entries + open_count (take entries journal) + 2 = omega (arith, full.full, full.live_is, two) in record {
+    let over : terms.limit < entries + open_count (take entries journal) + 2 =
+    omega (arith, full.full, full.live_is, two) in record {
       asking = asking;
       asked = asked;
       turn = entries;
@@ -93,7 +97,8 @@ full_turn {terms} {journal} {from} {asking} {more} {entries} {new} asked full tw
       };
     }
 
-asked_completed : {old asking : Standing} {outcome : Outcome} {new : Standing} (asked : IsPlayAsked old asking) → asking.heard ≡ old.heard →
+asked_completed : {old asking : Standing} {outcome : Outcome} {new : Standing}
+    (asked : IsPlayAsked old asking) → asking.heard ≡ old.heard →
     IsAnswered asking (AskPlay asked.planned.plan) outcome new → IsPlayReplied old outcome new → IsPlayCompleted old outcome new
 asked_completed {outcome = Unasked} {new} asked same answered replied = absurd answered
 asked_completed {outcome = Entered placed} {new} asked same answered replied = λ terms journal from legal agree.
@@ -103,22 +108,26 @@ asked_completed {outcome = WasFull more entries live_plays} {new} asked same ans
 asked_completed {outcome = Offered at_slot note} {new} asked same answered replied = absurd answered
 
 -- memory was wanting
-lacks_completed : (old asking : Standing) (outcome : Outcome) (new : Standing) → IsAnswered asking AskReply outcome new → IsPlayReplied old outcome new →
+lacks_completed : (old asking : Standing) (outcome : Outcome) (new : Standing) →
+    IsAnswered asking AskReply outcome new → IsPlayReplied old outcome new →
     IsPlayCompleted old outcome new
 lacks_completed old asking Unasked new answered replied = λ terms journal from legal agree. inr (refl, replied)
 lacks_completed old asking (Entered placed) new answered replied = absurd answered
 lacks_completed old asking (WasFull more entries live_plays) new answered replied = absurd answered
 lacks_completed old asking (Offered at_slot note) new answered replied = absurd answered
 
-either_completed : {old : Standing} {ask : Ask} {asking : Standing} {outcome : Outcome} {new : Standing} → AsksOrLacks old ask asking → asking.heard ≡ old.heard →
+either_completed : {old : Standing} {ask : Ask} {asking : Standing} {outcome : Outcome} {new : Standing} →
+    AsksOrLacks old ask asking → asking.heard ≡ old.heard →
     IsAnswered asking ask outcome new → IsPlayReplied old outcome new → IsPlayCompleted old outcome new
 either_completed {ask} {asking} {outcome} {new} (inl asks) same answered replied =
     asked_completed asks.play same (subst (λ a. IsAnswered asking a outcome new) asks.command answered) replied
 either_completed {old} {ask} {asking} {outcome} {new} (inr lacks) same answered replied =
     lacks_completed old asking outcome new (subst (λ a. IsAnswered asking a outcome new) lacks.refused.0 answered) replied
 
-pub play_completed : (old new : Standing) (message : List ℕ) (outcome : Outcome) → CanBePlayed old message → HasHeard old message outcome new →
+pub play_completed : (old new : Standing) (message : List ℕ) (outcome : Outcome) → CanBePlayed old message →
+    HasHeard old message outcome new →
     IsPlayCompleted old outcome new
 play_completed old new message outcome can heard =
     either_completed (hears_good old heard.asking message heard.ask heard.hears can)
-    (hears_ground old heard.asking message heard.ask heard.hears).heard heard.answered (play_answered old new message outcome can heard)
+    (hears_ground old heard.asking message heard.ask heard.hears).heard heard.answered
+    (play_answered old new message outcome can heard)

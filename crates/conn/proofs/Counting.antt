@@ -15,7 +15,8 @@ risen_on a b c first risen = λ small. omega (arith, first, risen small)
 pub counted_same : (end : Option ConnEnd) (old new : ℕ) → old ≤ new → is_fault end ≡ false → HasCounted end old new
 counted_same end old new count none = record { count = count; fault = λ is. absurd (true≢false (sym is ∙ none)) }
 
-pub counted_end : (fault : DemuxFault) (end : ConnEnd) (old new : ℕ) → IsEndOf fault end → old ≤ new → HasCounted (Some end) old new
+pub counted_end : (fault : DemuxFault) (end : ConnEnd) (old new : ℕ) → IsEndOf fault end → old ≤ new
+    → HasCounted (Some end) old new
 counted_end LongHead end old new is count = counted_same (Some end) old new count (ap (λ e. is_fault (Some e)) is)
 counted_end LongBody end old new is count = counted_same (Some end) old new count (ap (λ e. is_fault (Some e)) is)
 
@@ -23,7 +24,8 @@ pub counted_fault : (old new : ℕ) → old ≤ new → HasRisen old new → Has
 counted_fault old new count risen = record { count = count; fault = λ is. risen }
 
 pub counted_on : (end : Option ConnEnd) (a b c : ℕ) → a ≤ b → HasCounted end b c → HasCounted end a c
-counted_on end a b c first next = record { count = omega (arith, first, next.count); fault = λ is. risen_on a b c first (next.fault is) }
+counted_on end a b c first next =
+    record { count = omega (arith, first, next.count); fault = λ is. risen_on a b c first (next.fault is) }
 
 pub counted_none : (count : ℕ) → HasCounted None count count
 counted_none count = counted_same None count count (omega arith) refl

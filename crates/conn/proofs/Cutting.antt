@@ -15,14 +15,19 @@ pub cuts_none : (input : List ℕ) → CutsOn input input
 cuts_none input = record { each = λ bytes pieces cut. (pieces, cut) }
 
 pub cuts_on : (a b c : List ℕ) → CutsOn a b → CutsOn b c → CutsOn a c
-cuts_on a b c first second = record { each = λ bytes pieces cut. let next = first.each bytes pieces cut in second.each bytes next.0 next.1 }
+cuts_on a b c first second =
+    record { each = λ bytes pieces cut. let next = first.each bytes pieces cut in second.each bytes next.0 next.1 }
 
 -- the piece in front is dropped
-pub cuts_drop : {input rest : List ℕ} {n : ℕ} (step : Step) → IsFirst input (Ok step) → told_length (Ok step) ≡ n → rest ≡ drop n input → CutsOn input rest
+pub cuts_drop : {input rest : List ℕ} {n : ℕ} (step : Step) → IsFirst input (Ok step)
+    → told_length (Ok step) ≡ n → rest ≡ drop n input → CutsOn input rest
 cuts_drop {input} {rest} step first length_is dropped = record {
   each = λ bytes pieces cut.
-      let is : drop (told_length (Ok step)) input ≡ rest = ap (λ k. drop k input) length_is ∙ sym dropped in
-      (pieces ++ told_pieces input (Ok step), subst (λ x. AreCut bytes (pieces ++ told_pieces input (Ok step)) x) is (next_pieces input (Ok step) first bytes pieces cut));
+      let is : drop (told_length (Ok step)) input ≡ rest = ap (λ k. drop k input) length_is ∙ sym dropped in (
+        pieces ++ told_pieces input (Ok step),
+        subst (λ x. AreCut bytes (pieces ++ told_pieces input (Ok step)) x) is
+            (next_pieces input (Ok step) first bytes pieces cut),
+      );
 }
 
 -- bytes came after those that wait
@@ -40,7 +45,8 @@ prefix_none : (a : List Entry) → IsPrefix a a
 prefix_none a = ([], append-nil a)
 
 pub seat_none : (seat : Sitting) → IsSameSeat seat seat
-seat_none seat = record { id = refl; steps = refl; limit = refl; number = refl; splits = refl; joined = refl; longer = prefix_none seat.seen }
+seat_none seat =
+    record { id = refl; steps = refl; limit = refl; number = refl; splits = refl; joined = refl; longer = prefix_none seat.seen }
 
 pub seat_on : (a b c : Sitting) → IsSameSeat a b → IsSameSeat b c → IsSameSeat a c
 seat_on a b c first second = record {

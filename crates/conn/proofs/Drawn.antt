@@ -4,7 +4,8 @@ use Rattle.rand_chacha.specs.Block.{block_word}
 use Rattle.rand_chacha.specs.ChaCha.{key_of}
 use Rattle.conn.specs.Words.{stream_of, words_of}
 
-stream_is : (worker connection : ℕ) → worker < 2 ^ 32 → connection < 2 ^ 32 → stream_of worker connection ≡ worker * 2 ^ 32 + connection
+stream_is : (worker connection : ℕ) → worker < 2 ^ 32 → connection < 2 ^ 32
+    → stream_of worker connection ≡ worker * 2 ^ 32 + connection
 stream_is worker connection small few = omega (arith, small, few)
 
 word_of : (seed : List ℕ) (worker connection place : ℕ) → place < 5
@@ -26,12 +27,15 @@ pub word_drawn : {worker connection : ℕ} (seed : List ℕ) (place : ℕ) → C
     slice_index (words_of seed worker connection) place ≡ block_word 10 (key_of seed) 0 (worker * 2 ^ 32 + connection) place
 word_drawn {worker} {connection} seed place numbers less =
     word_of seed worker connection place less
-    ∙ ap (λ stream. block_word 10 (key_of seed) 0 stream place) (stream_is worker connection numbers.worker_fits numbers.connection_fits)
+    ∙ ap (λ stream. block_word 10 (key_of seed) 0 stream place)
+    (stream_is worker connection numbers.worker_fits numbers.connection_fits)
 
 pub worker_apart : {worker other connection next : ℕ} → ConnectionNumbers worker connection →
     ConnectionNumbers other next → stream_of worker connection ≡ stream_of other next → worker ≡ other
-worker_apart numbers others same = omega (arith, same, numbers.worker_fits, numbers.connection_fits, others.worker_fits, others.connection_fits)
+worker_apart numbers others same =
+    omega (arith, same, numbers.worker_fits, numbers.connection_fits, others.worker_fits, others.connection_fits)
 
 pub connection_apart : {worker other connection next : ℕ} → ConnectionNumbers worker connection →
     ConnectionNumbers other next → stream_of worker connection ≡ stream_of other next → connection ≡ next
-connection_apart numbers others same = omega (arith, same, numbers.worker_fits, numbers.connection_fits, others.worker_fits, others.connection_fits)
+connection_apart numbers others same =
+    omega (arith, same, numbers.worker_fits, numbers.connection_fits, others.worker_fits, others.connection_fits)

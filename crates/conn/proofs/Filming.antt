@@ -26,18 +26,21 @@ sent_through slot p = record (at_slot slot p) { sent = due_by p slot }
 -- the pacing after a slot, in which a reply waits or none, and the bytes of the film that were sent in it
 abbrev pub slot_pacing : Bool → ℕ → Pacing → Pacing
 slot_pacing waits slot p =
-    if waits then (if stands_at_boundary (after_step true slot p) then after_step false slot (after_step true slot p) else after_step true slot p)
+    if waits then (if stands_at_boundary (after_step true slot p) then after_step false slot
+    (after_step true slot p) else after_step true slot p)
     else after_step false slot p
 
 abbrev pub slot_film : Bool → ℕ → Pacing → List ℕ
 slot_film waits slot p =
     if waits then plan_bytes p p.sent (step_end true (at_slot slot p))
     ++ (if stands_at_boundary (after_step true slot p)
-    then plan_bytes (after_step true slot p) (after_step true slot p).sent (step_end false (at_slot slot (after_step true slot p))) else [])
+    then plan_bytes (after_step true slot p) (after_step true slot p).sent
+    (step_end false (at_slot slot (after_step true slot p))) else [])
     else plan_bytes p p.sent (step_end false (at_slot slot p))
 
 pacing_same : {passed due sent passed' due' sent' : ℕ} (p : Pacing) → passed ≡ passed' → due ≡ due' → sent ≡ sent' →
-    pacing_of p.pieces p.before p.plan p.start p.keep passed due sent ≡ pacing_of p.pieces p.before p.plan p.start p.keep passed' due' sent'
+    pacing_of p.pieces p.before p.plan p.start p.keep passed due sent
+    ≡ pacing_of p.pieces p.before p.plan p.start p.keep passed' due' sent'
 pacing_same {passed} {due} {sent} {passed'} {due'} p one two three =
     ap (λ n. pacing_of p.pieces p.before p.plan p.start p.keep n due sent) one
     ∙ ap (λ n. pacing_of p.pieces p.before p.plan p.start p.keep passed' n sent) two
@@ -53,7 +56,8 @@ both_steps slot p =
     (omega arith) again again
 
 -- a step with a stop that ends within a frame has sent all that is due
-stop_inside : (slot : ℕ) (p : Pacing) → IsPacing p → stands_at_boundary (after_step true slot p) ≡ false → step_end true (at_slot slot p) ≡ due_by p slot
+stop_inside : (slot : ℕ) (p : Pacing) → IsPacing p → stands_at_boundary (after_step true slot p) ≡ false
+    → step_end true (at_slot slot p) ≡ due_by p slot
 stop_inside slot p is inside =
     elim (cases_lt (step_end true (at_slot slot p)) (due_by p slot)) [
       | inl less ↦
@@ -65,8 +69,10 @@ stop_inside slot p is inside =
     ]
 
 -- after a slot all that is due was sent, with a reply or none
-pub slot_is : (waits between : Bool) (slot : ℕ) (p : Pacing) → IsPacing p → stands_at_boundary (after_step true slot p) ≡ between →
-    (if waits then (if between then after_step false slot (after_step true slot p) else after_step true slot p) else after_step false slot p) ≡ sent_through slot p
+pub slot_is : (waits between : Bool) (slot : ℕ) (p : Pacing) → IsPacing p →
+    stands_at_boundary (after_step true slot p) ≡ between →
+    (if waits then (if between then after_step false slot (after_step true slot p) else after_step true slot p)
+    else after_step false slot p) ≡ sent_through slot p
 slot_is false between slot p is between_is = refl
 slot_is true true slot p is between_is = both_steps slot p
 slot_is true false slot p is between_is =
@@ -75,13 +81,16 @@ slot_is true false slot p is between_is =
     (stop_inside slot p is between_is)
 
 -- and these are its bytes
-pub slot_bytes : (waits between : Bool) (slot : ℕ) (p : Pacing) → IsPacing p → stands_at_boundary (after_step true slot p) ≡ between →
+pub slot_bytes : (waits between : Bool) (slot : ℕ) (p : Pacing) → IsPacing p →
+    stands_at_boundary (after_step true slot p) ≡ between →
     (if waits then plan_bytes p p.sent (step_end true (at_slot slot p))
-    ++ (if between then plan_bytes (after_step true slot p) (after_step true slot p).sent (step_end false (at_slot slot (after_step true slot p))) else [])
+    ++ (if between then plan_bytes (after_step true slot p) (after_step true slot p).sent
+    (step_end false (at_slot slot (after_step true slot p))) else [])
     else plan_bytes p p.sent (step_end false (at_slot slot p))) ≡ plan_bytes p p.sent (due_by p slot)
 slot_bytes false between slot p is between_is = refl
 slot_bytes true false slot p is between_is =
-    append-nil (plan_bytes p p.sent (step_end true (at_slot slot p))) ∙ ap (plan_bytes p p.sent) (stop_inside slot p is between_is)
+    append-nil (plan_bytes p p.sent (step_end true (at_slot slot p)))
+    ∙ ap (plan_bytes p p.sent) (stop_inside slot p is between_is)
 slot_bytes true true slot p is between_is =
     let due : ℕ = due_by p slot in
     let mid : ℕ = step_end true (at_slot slot p) in

@@ -22,25 +22,30 @@ use Rattle.conn.specs.Keeping.{Broken, open_play_with, open_play_from, open_play
 
 entry_receipts-append : (xs ys : List Receipt) → entry_receipts (xs ++ ys) ≡ entry_receipts xs ++ entry_receipts ys
 entry_receipts-append [] ys = refl
-entry_receipts-append (EntryReceipt place answer ∷ xs) ys = ap (λ rs. EntryReceipt place answer ∷ rs) (entry_receipts-append xs ys)
+entry_receipts-append (EntryReceipt place answer ∷ xs) ys =
+    ap (λ rs. EntryReceipt place answer ∷ rs) (entry_receipts-append xs ys)
 entry_receipts-append (FullReceipt entries live ∷ xs) ys = entry_receipts-append xs ys
 
 -- no entry was made, and the receipts tell none
-pub gone_none : {old new : Business} (full : List Receipt) → new.mine ≡ old.mine → new.booking ≡ old.booking → new.receipts ≡ old.receipts ++ full → entry_receipts full ≡ [] →
+pub gone_none : {old new : Business} (full : List Receipt) → new.mine ≡ old.mine → new.booking ≡ old.booking →
+    new.receipts ≡ old.receipts ++ full → entry_receipts full ≡ [] →
     HasGone old new
 gone_none {old} {new} full mine booking receipts none = record {
   made = [];
   mine_is = mine ∙ sym (append-nil old.mine);
-  receipts_are = ap entry_receipts receipts ∙ entry_receipts-append old.receipts full ∙ ap (λ rs. entry_receipts old.receipts ++ rs) none;
+  receipts_are =
+      ap entry_receipts receipts ∙ entry_receipts-append old.receipts full ∙ ap (λ rs. entry_receipts old.receipts ++ rs) none;
   open_is = ap open_play_of (sym booking);
 }
 
 -- nothing was answered
-pub gone_still : (old new : Business) → new.mine ≡ old.mine → new.booking ≡ old.booking → new.receipts ≡ old.receipts → HasGone old new
+pub gone_still : (old new : Business) → new.mine ≡ old.mine → new.booking ≡ old.booking
+    → new.receipts ≡ old.receipts → HasGone old new
 gone_still old new mine booking receipts = gone_none [] mine booking (receipts ∙ sym (append-nil old.receipts)) refl
 
 -- one entry was made
-pub gone_one : (old new : Business) (placed : Placed) → new.mine ≡ old.mine ++ placed ∷ [] → new.receipts ≡ old.receipts ++ receipt_for placed ∷ [] →
+pub gone_one : (old new : Business) (placed : Placed) → new.mine ≡ old.mine ++ placed ∷ [] →
+    new.receipts ≡ old.receipts ++ receipt_for placed ∷ [] →
     open_play_with (open_play_of old.booking) placed ≡ open_play_of new.booking → HasGone old new
 gone_one old new placed mine receipts opened = record {
   made = placed ∷ [];
@@ -62,7 +67,8 @@ gone_on a b c first second = record {
 }
 
 -- a play stays open as an entry is made that doesn't halt it
-open_among_more : (mine : List Placed) (placed : Placed) (number keep : ℕ) → ¬ Halts number placed.entry.command → IsOpenAmong mine number keep →
+open_among_more : (mine : List Placed) (placed : Placed) (number keep : ℕ) →
+    ¬ Halts number placed.entry.command → IsOpenAmong mine number keep →
     IsOpenAmong (mine ++ placed ∷ []) number keep
 open_among_more mine placed number keep other among = record {
   start = among.start;
@@ -72,21 +78,25 @@ open_among_more mine placed number keep other among = record {
   admission = λ none. subst (λ (p : Placed). Admits p number among.start among.segments)
       (sym (get_or_append_left mine (placed ∷ []) none among.index among.inside)) (among.admission none);
   unhalted = All-append (λ (p : Placed). ¬ Halts number p.entry.command) mine (placed ∷ []) among.unhalted
-      (All-cons (λ (p : Placed). ¬ Halts number p.entry.command) placed [] other (All-nil (λ (p : Placed). ¬ Halts number p.entry.command)));
+      (All-cons (λ (p : Placed). ¬ Halts number p.entry.command) placed [] other
+      (All-nil (λ (p : Placed). ¬ Halts number p.entry.command)));
   small = among.small;
 }
 
 -- a booking is held as a look is noted
-pub held_at_look : {slot : ℕ} (mine : List Placed) (placed : Placed) (booking : Option Booking) (play : Option Open) → placed.entry.command ≡ Look slot →
+pub held_at_look : {slot : ℕ} (mine : List Placed) (placed : Placed) (booking : Option Booking)
+    (play : Option Open) → placed.entry.command ≡ Look slot →
     IsHeld mine booking play → IsHeld (mine ++ placed ∷ []) booking play
 held_at_look {slot} mine placed None None is held = held
 held_at_look {slot} mine placed None (Some play) is held = held
 held_at_look {slot} mine placed (Some booking) None is held = held
 held_at_look {slot} mine placed (Some booking) (Some play) is held =
-    λ keep small. open_among_more mine placed booking.number keep (subst (λ (c : Command). ¬ Halts booking.number c) (sym is) (λ h. h)) (held keep small)
+    λ keep small. open_among_more mine placed booking.number keep
+    (subst (λ (c : Command). ¬ Halts booking.number c) (sym is) (λ h. h)) (held keep small)
 
 -- a booking is held as more of its plan becomes due
-pub held_same : (mine : List Placed) (booking : Option Booking) (old new : Option Open) → IsSameBooking old new → IsHeld mine booking old → IsHeld mine booking new
+pub held_same : (mine : List Placed) (booking : Option Booking) (old new : Option Open) → IsSameBooking old new
+    → IsHeld mine booking old → IsHeld mine booking new
 held_same mine booking None new same held = subst (IsHeld mine booking) (sym same) held
 held_same mine booking (Some old) None same held = absurd same
 held_same mine None (Some old) (Some new) same held = held
@@ -121,7 +131,8 @@ at_look None look = refl
 at_look (Some booking) look = refl
 
 pub gone_look : {old new : Business} {maker place slot now at booked : ℕ} → new.booking ≡ old.booking →
-    HasEntered old new (record { place = place; entry = record { maker = maker; command = Look slot; answer = Looked now at booked } }) →
+    HasEntered old new
+    (record { place = place; entry = record { maker = maker; command = Look slot; answer = Looked now at booked } }) →
     HasGone old new
 gone_look {old} {new} {maker} {place} {slot} {now} {at} {booked} same entered =
     gone_one old new _ entered.mine entered.receipts (at_look old.booking
@@ -129,20 +140,38 @@ gone_look {old} {new} {maker} {place} {slot} {now} {at} {booked} same entered =
 
 pub gone_overflow : {old new : Business} {maker place slot : ℕ} {plan : List Segment} {over booked asked : ℕ} →
     old.booking ≡ None → new.booking ≡ old.booking →
-    HasEntered old new (record { place = place; entry = record { maker = maker; command = Play slot plan; answer = Overflow over booked asked } }) →
+    HasEntered old new
+    (record {
+      place = place;
+      entry =
+          record { maker = maker; command = Play slot plan; answer = Overflow over booked asked };
+    }) →
     HasGone old new
 gone_overflow {old} {new} {maker} {place} {slot} {plan} {over} {booked} {asked} none same entered =
     gone_one old new _ entered.mine entered.receipts (ap (λ b. open_play_with (open_play_of b)
-    (record { place = place; entry = record { maker = maker; command = Play slot plan; answer = Overflow over booked asked } })) none
+    (record {
+      place = place;
+      entry =
+          record { maker = maker; command = Play slot plan; answer = Overflow over booked asked };
+    })) none
     ∙ ap open_play_of (sym (same ∙ none)))
 
 pub gone_play : {old new : Business} {made : Booking} {maker slot : ℕ} {plan : List Segment} → old.booking ≡ None →
     new.booking ≡ Some made →
-    HasEntered old new (record { place = made.number; entry = record { maker = maker; command = Play slot plan; answer = Admitted made.start } }) →
+    HasEntered old new
+    (record {
+      place = made.number;
+      entry =
+          record { maker = maker; command = Play slot plan; answer = Admitted made.start };
+    }) →
     HasGone old new
 gone_play {old} {new} {made} {maker} {slot} {plan} none some entered =
     gone_one old new _ entered.mine entered.receipts (ap (λ b. open_play_with (open_play_of b)
-    (record { place = made.number; entry = record { maker = maker; command = Play slot plan; answer = Admitted made.start } })) none
+    (record {
+      place = made.number;
+      entry =
+          record { maker = maker; command = Play slot plan; answer = Admitted made.start };
+    })) none
     ∙ ap open_play_of (sym some))
 
 at_halt : (number : ℕ) → (if number == number then Closed else Broken) ≡ Closed
@@ -150,7 +179,8 @@ at_halt number = let same : (number == number) ≡ true = grind arith in ap (λ 
 
 pub gone_halt : {old new : Business} {made : Booking} {maker place keep : ℕ} → old.booking ≡ Some made →
     new.booking ≡ None →
-    HasEntered old new (record { place = place; entry = record { maker = maker; command = Halt made.number keep; answer = Halted } }) →
+    HasEntered old new
+    (record { place = place; entry = record { maker = maker; command = Halt made.number keep; answer = Halted } }) →
     HasGone old new
 gone_halt {old} {new} {made} {maker} {place} {keep} some none entered =
     gone_one old new _ entered.mine entered.receipts (ap (λ b. open_play_with (open_play_of b)
@@ -158,6 +188,7 @@ gone_halt {old} {new} {made} {maker} {place} {keep} some none entered =
     ∙ at_halt made.number ∙ ap open_play_of (sym none))
 
 -- no booking is held where the session has none open
-pub held_none : (mine : List Placed) (booking : Option Booking) (play : Option Open) → play ≡ None → IsHeld mine booking play → booking ≡ None
+pub held_none : (mine : List Placed) (booking : Option Booking) (play : Option Open) → play ≡ None
+    → IsHeld mine booking play → booking ≡ None
 held_none mine None play none held = refl
 held_none mine (Some booking) play none held = absurd (subst (IsHeld mine (Some booking)) none held)

@@ -14,7 +14,8 @@ use Rattle.session.specs.Playing.{IsRunOf, playback_of}
 use Rattle.session.specs.Ranges.{AreSettings, IsSetup}
 use Rattle.conn.specs.Plays.{IsShown}
 
-playback_fits : {stored : Stored} {settings : Settings} {setup : Setup} {films : ℕ} → IsShown stored → AreSettings settings → IsSetup films setup →
+playback_fits : {stored : Stored} {settings : Settings} {setup : Setup} {films : ℕ} → IsShown stored →
+    AreSettings settings → IsSetup films setup →
     IsPlayback (playback_of stored.film settings setup)
 playback_fits shown good values = record {
   some_picture_units = shown.some_time;

@@ -35,7 +35,8 @@ abbrev pub AreShown : List Stored → Type 0
 AreShown films = (number : ℕ) → OfFilm films number IsShown
 
 -- a play of a film's run, of which these bytes were sent
-pub record HasPlay (films : List Stored) (source : Source) (settings : Settings) (counts : Counts) (heard : ℕ) (film : List ℕ) (setup : Setup)
+pub record HasPlay (films : List Stored) (source : Source) (settings : Settings) (counts : Counts) (heard : ℕ)
+    (film : List ℕ) (setup : Setup)
     (play : Played) : Type 0 where
   pub stored : Stored
   pub at : IsFilmAt films setup.film stored
@@ -57,7 +58,8 @@ pub record IsWell (s : Standing) (film : List ℕ) : Type 0 where
   pub state : IsStateOf s.films s.source s.settings s.counts s.heard film s.state
 
 -- a play is asked for in Ready
-pub record HasPrepared (films : List Stored) (source : Source) (settings : Settings) (state : State) (awaited : Awaited) : Type 0 where
+pub record HasPrepared (films : List Stored) (source : Source) (settings : Settings) (state : State)
+    (awaited : Awaited) : Type 0 where
   pub setup : Setup
   pub paused : Option Run
   pub prepared : Prepared
@@ -105,7 +107,8 @@ carried : (old new : Standing) (film : List ℕ) → IsWell old film → IsSameG
 carried old new film well same state = record {
   films = subst AreShown (sym same.films) well.films;
   settings = subst AreSettings (sym same.settings) well.settings;
-  state = state_carried old new film same (subst (IsStateOf old.films old.source old.settings old.counts old.heard film) (sym state) well.state);
+  state = state_carried old new film same
+      (subst (IsStateOf old.films old.source old.settings old.counts old.heard film) (sym state) well.state);
 }
 
 -- a SETUP
@@ -118,10 +121,12 @@ set_up_well old new film well same is = record {
 }
 
 -- a PLAY in Ready
-prepared_well : {old new : Standing} {film : List ℕ} → IsWell old film → IsSameGround old new → new.state ≡ old.state → IsPlayAsked old new →
+prepared_well : {old new : Standing} {film : List ℕ} → IsWell old film → IsSameGround old new →
+    new.state ≡ old.state → IsPlayAsked old new →
     HasPrepared new.films new.source new.settings new.state new.awaited
 prepared_well {old} {new} {film} well same state is =
-    let values : IsSetup (length old.films) is.setup = subst (IsStateOf old.films old.source old.settings old.counts old.heard film) is.ready well.state in
+    let values : IsSetup (length old.films) is.setup =
+    subst (IsStateOf old.films old.source old.settings old.counts old.heard film) is.ready well.state in
     let planned = is.planned_is in
     let made : HasPrepared old.films old.source old.settings new.state new.awaited = record {
       setup = is.setup;
@@ -146,10 +151,12 @@ halting_well old new film well same is =
     let was = subst (IsStateOf old.films old.source old.settings old.counts old.heard film) is.was well.state in record {
       films = subst AreShown (sym same.films) well.films;
       settings = subst AreSettings (sym same.settings) well.settings;
-      values = subst (IsSetUpIn (length new.films)) (sym is.now) (subst (λ (f : List Stored). IsSetup (length f) is.setup) (sym same.films) was.0);
+      values = subst (IsSetUpIn (length new.films)) (sym is.now)
+          (subst (λ (f : List Stored). IsSetup (length f) is.setup) (sym same.films) was.0);
     }
 
-asked_well : {old new : Standing} {film : List ℕ} (ask : Ask) → IsWell old film → IsSameGround old new → ChangesState ask old new → IsAskedWell ask new film
+asked_well : {old new : Standing} {film : List ℕ} (ask : Ask) → IsWell old film → IsSameGround old new
+    → ChangesState ask old new → IsAskedWell ask new film
 asked_well {old} {new} {film} AskReply well same (inl state) = carried old new film well same state
 asked_well {old} {new} {film} AskReply well same (inr setup) = set_up_well old new film well same setup
 asked_well {old} {new} {film} (AskPlay plan) well same changes =
@@ -158,7 +165,8 @@ asked_well {old} {new} {film} (AskHalt keep) well same changes = halting_well ol
 asked_well {old} {new} {film} (AskLook slot) well same changes = carried old new film well same changes
 asked_well {old} {new} {film} (AskOffer plan offers) well same changes = carried old new film well same changes
 
-pub hears_well : {old : Standing} {film : List ℕ} (new : Standing) (message : List ℕ) (ask : Ask) → IsWell old film → Hears old message ask new →
+pub hears_well : {old : Standing} {film : List ℕ} (new : Standing) (message : List ℕ) (ask : Ask) →
+    IsWell old film → Hears old message ask new →
     IsAskedWell ask new film
 hears_well {old} new message ask well hears =
     asked_well ask well (hears_ground old new message ask hears) (hears_state old new message ask hears)

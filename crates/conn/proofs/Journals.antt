@@ -50,16 +50,29 @@ agree_lower earlier (Entered placed ∷ outcomes) agree = (
   agree.1,
 )
 agree_lower earlier (WasFull more entries open_count ∷ outcomes) agree = (
-  record { after = omega (arith, earlier.below, agree.0.after); within = agree.0.within; live_is = agree.0.live_is; full = agree.0.full },
+  record {
+    after = omega (arith, earlier.below, agree.0.after);
+    within = agree.0.within;
+    live_is =
+        agree.0.live_is;
+    full = agree.0.full;
+  },
   agree.1,
 )
 agree_lower earlier (Offered at_slot note ∷ outcomes) agree = (
-  record { after = omega (arith, earlier.below, agree.0.after); within = agree.0.within; first_is = agree.0.first_is; offer = agree.0.offer },
+  record {
+    after = omega (arith, earlier.below, agree.0.after);
+    within = agree.0.within;
+    first_is =
+        agree.0.first_is;
+    offer = agree.0.offer;
+  },
   agree.1,
 )
 
 -- with a longer journal
-stands_longer : {terms : Terms} {from : ℕ} {journal longer : List Entry} {placed : Placed} → IsPrefix journal longer → StandsIn terms journal from placed
+stands_longer : {terms : Terms} {from : ℕ} {journal longer : List Entry} {placed : Placed}
+    → IsPrefix journal longer → StandsIn terms journal from placed
     → StandsIn terms longer from placed
 stands_longer {from} {journal} {longer} {placed} prefix stands =
     let inside : placed.place ≤ length journal = omega (arith, stands.within) in
@@ -89,7 +102,8 @@ offered_longer {steps} {from} {slot} {journal} {longer} {note} prefix offered =
       after = offered.after;
       within = omega (arith, offered.within, prefix_length journal longer prefix);
       first_is = offered.first_is ∙ ap (λ (xs : List Entry). start_after (state_after xs) (min slot (2 ^ 62))) (sym same);
-      offer = subst (λ (xs : List Entry). IsOffer 0 (booked_after xs) (capacity_at steps) note.plan note.first note.offers) (sym same) offered.offer;
+      offer = subst (λ (xs : List Entry). IsOffer 0 (booked_after xs) (capacity_at steps) note.plan note.first
+          note.offers) (sym same) offered.offer;
     }
 
 -- a journal and its terms, and a longer journal that begins with it
@@ -154,14 +168,17 @@ terms_same a b same =
     ∙ ap (λ n. terms_with a.steps a.limit n) same.number
 
 -- an entry of the seat's own comes after all that it had seen
-entry_after : {seat next : Sitting} {more : ℕ} {command : Command} {place : ℕ} {answer : Answer} (rest : List Entry) → IsSeat seat → IsSeat next
-    → next.number ≡ seat.number → seat.seen ++ rest ≡ next.seen → Made seat next more command place answer → length seat.seen ≤ place
+entry_after : {seat next : Sitting} {more : ℕ} {command : Command} {place : ℕ} {answer : Answer}
+    (rest : List Entry) → IsSeat seat → IsSeat next
+    → next.number ≡ seat.number → seat.seen ++ rest ≡ next.seen → Made seat next more command place answer
+    → length seat.seen ≤ place
 entry_after {seat} {next} {more} {command} {place} {answer} [] kept also number longer made =
     let seen : next.seen ≡ seat.seen = sym longer ∙ append-nil seat.seen in
     let mine : next.mine ≡ seat.mine =
     also.own ∙ ap (λ n. made_by n next.seen) number ∙ ap (made_by seat.number) seen ∙ sym kept.own in
     let e : Placed = record { place = place; entry = record { maker = seat.number; command = command; answer = answer } } in
-    let long : length seat.mine ≡ length seat.mine + 1 = ap (λ (ps : List Placed). length ps) (sym mine ∙ made.mine) ∙ length-append seat.mine (e ∷ []) in
+    let long : length seat.mine ≡ length seat.mine + 1 =
+    ap (λ (ps : List Placed). length ps) (sym mine ∙ made.mine) ∙ length-append seat.mine (e ∷ []) in
     absurd (omega (arith, long))
 entry_after {seat} {next} {more} {command} {place} {answer} (x ∷ xs) kept also number longer made =
     let all : length seat.seen + length (x ∷ xs) ≡ length next.seen =
@@ -171,7 +188,8 @@ entry_after {seat} {next} {more} {command} {place} {answer} (x ∷ xs) kept also
 take_whole : (entries : List Entry) (n : ℕ) → n ≡ length entries → take n entries ≡ entries
 take_whole entries n is = take_all n entries (omega (arith, is))
 
-pub entry_agrees : {seat next : Sitting} {more : ℕ} {command : Command} {place : ℕ} {answer : Answer} → IsSeat seat → IsSeat next → IsSameSeat seat next
+pub entry_agrees : {seat next : Sitting} {more : ℕ} {command : Command} {place : ℕ} {answer : Answer}
+    → IsSeat seat → IsSeat next → IsSameSeat seat next
     → Made seat next more command place answer → more ≡ entries_needed command
     → AgreeWith (terms_of seat) next.seen (length seat.seen)
     (Entered (record { place = place; entry = record { maker = seat.number; command = command; answer = answer } }) ∷ [])
@@ -192,7 +210,8 @@ entry_agrees {seat} {next} {more} {command} {place} {answer} kept also same made
       omega (arith, last),
     )
 
-pub full_agrees : {seat next : Sitting} {more entries live_plays : ℕ} → IsSameSeat seat next → IsFull seat next more entries live_plays
+pub full_agrees : {seat next : Sitting} {more entries live_plays : ℕ} → IsSameSeat seat next
+    → IsFull seat next more entries live_plays
     → AgreeWith (terms_of seat) next.seen (length seat.seen) (WasFull more entries live_plays ∷ [])
 full_agrees {seat} {next} {more} {entries} same full =
     let far = prefix_length seat.seen next.seen same.longer in (
@@ -216,8 +235,10 @@ offer_agrees {seat} {next} {heard} {plan} {told} {found} same offered =
         after = omega (arith, far, offered.seen_is);
         within = omega (arith, offered.seen_is);
         first_is = offered.first_is ∙ ap (λ (xs : List Entry). start_after (state_after xs) (min heard (2 ^ 62))) (sym whole);
-        offer = subst (λ (xs : List Entry). IsOffer 0 (booked_after xs) (capacity_at seat.steps) plan told.first found) (sym whole)
-            (subst (λ (steps : List CapStep). IsOffer 0 (booked_after next.seen) (capacity_at steps) plan told.first found) same.steps offered.offer);
+        offer = subst (λ (xs : List Entry). IsOffer 0 (booked_after xs) (capacity_at seat.steps) plan told.first
+            found) (sym whole)
+            (subst (λ (steps : List CapStep). IsOffer 0 (booked_after next.seen) (capacity_at steps) plan
+            told.first found) same.steps offered.offer);
       },
       omega (arith, offered.seen_is),
     )

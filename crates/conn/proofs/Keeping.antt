@@ -8,7 +8,8 @@ use Rattle.conn.proofs.Cutting.{seat_none, seat_on}
 use Rattle.conn.proofs.Going.{gone_on, gone_still, held_same}
 
 -- before any call
-pub kept_none : (seat : Sitting) (connection : Connection) → IsQuiet seat.mine connection → KeepsBusiness seat seat connection connection
+pub kept_none : (seat : Sitting) (connection : Connection) → IsQuiet seat.mine connection
+    → KeepsBusiness seat seat connection connection
 kept_none seat connection quiet = record {
   seat = seat_none seat;
   quiet = quiet;
@@ -47,7 +48,8 @@ kept_due {a} {b} seat quiet rest booking opens receipts = record {
 }
 
 -- what a call leaves, after another one that made no entry, or before it
-pub kept_after : {old next : Sitting} {a mid b : Connection} → mid.booking ≡ a.booking → mid.session.receipts ≡ a.session.receipts →
+pub kept_after : {old next : Sitting} {a mid b : Connection} → mid.booking ≡ a.booking →
+    mid.session.receipts ≡ a.session.receipts →
     KeepsBusiness old next mid b → KeepsBusiness old next a b
 kept_after {old} {next} {a} {mid} {b} booking receipts kept = record {
   seat = kept.seat;
@@ -56,7 +58,8 @@ kept_after {old} {next} {a} {mid} {b} booking receipts kept = record {
       (gone_still (business old.mine a) (business old.mine mid) refl booking receipts) kept.gone;
 }
 
-pub kept_then : {old next : Sitting} {a mid b : Connection} → KeepsBusiness old next a mid → IsAtRest b.session → b.booking ≡ mid.booking →
+pub kept_then : {old next : Sitting} {a mid b : Connection} → KeepsBusiness old next a mid →
+    IsAtRest b.session → b.booking ≡ mid.booking →
     open_of b.session ≡ open_of mid.session → b.session.receipts ≡ mid.session.receipts → KeepsBusiness old next a b
 kept_then {old} {next} {a} {mid} {b} kept rest booking opens receipts = record {
   seat = kept.seat;

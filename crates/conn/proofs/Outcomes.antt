@@ -27,7 +27,8 @@ use Rattle.conn.specs.Sights.{HasAnswered}
 pub answered_entry : {old : Standing} {ask : Ask} {new : Standing} {seat next : Sitting} {more : ℕ}
     {command : Command} {place : ℕ} {answer : Answer}
     → IsSeat seat → IsSeat next → IsSameSeat seat next → Made seat next more command place answer → more ≡ entries_needed command
-    → IsAnswered old ask (Entered (record { place = place; entry = record { maker = seat.number; command = command; answer = answer } })) new
+    → IsAnswered old ask
+    (Entered (record { place = place; entry = record { maker = seat.number; command = command; answer = answer } })) new
     → HasAnswered old ask new seat next
 answered_entry {ask} {new} {seat} {next} {more} {command} {place} {answer} kept also same made needed answered = record {
   outcome = Entered (record { place = place; entry = record { maker = seat.number; command = command; answer = answer } });
@@ -35,7 +36,8 @@ answered_entry {ask} {new} {seat} {next} {more} {command} {place} {answer} kept 
   noted = record { mine = made.mine; seat = same; agree = entry_agrees kept also same made needed };
 }
 
-pub answered_full : {old : Standing} {ask : Ask} {new : Standing} {seat next : Sitting} {more entries live : ℕ} → IsSameSeat seat next
+pub answered_full : {old : Standing} {ask : Ask} {new : Standing} {seat next : Sitting} {more entries live : ℕ}
+    → IsSameSeat seat next
     → IsFull seat next more entries live → IsAnswered old ask (WasFull more entries live) new → HasAnswered old ask new seat next
 answered_full {ask} {new} {seat} {next} {more} {entries} {live} same full answered = record {
   outcome = WasFull more entries live;
@@ -54,10 +56,12 @@ answered_offer {ask} {new} {seat} {next} {heard} {plan} {told} {found} same mine
   noted = record { mine = mine ∙ sym (append-nil seat.mine); seat = same; agree = offer_agrees same offered };
 }
 
-pub halted_entry : {old : Standing} {keep : ℕ} {new : Standing} {seat next : Sitting} {number place : ℕ} → IsSeat seat → IsSeat next → IsSameSeat seat next
+pub halted_entry : {old : Standing} {keep : ℕ} {new : Standing} {seat next : Sitting} {number place : ℕ}
+    → IsSeat seat → IsSeat next → IsSameSeat seat next
     → Made seat next 0 (Halt number keep) place Halted → Halts old place new → HasAnswered old (AskHalt keep) new seat next
 halted_entry {keep} {new} {seat} {next} {number} {place} kept also same made halts = record {
-  outcome = Entered (record { place = place; entry = record { maker = seat.number; command = Halt number keep; answer = Halted } });
+  outcome = Entered
+      (record { place = place; entry = record { maker = seat.number; command = Halt number keep; answer = Halted } });
   answered = record { number = number; command = refl; answer = refl; halts = halts };
   noted = record { mine = made.mine; seat = same; agree = entry_agrees kept also same made refl };
 }

@@ -39,13 +39,15 @@ use Rattle.conn.proofs.Filming.{sent_slot as sent_by, sent_through, slot_film, s
 use Rattle.conn.proofs.Occasions.{SlotPacings, PlayGoing, EventCome}
 
 -- a halt is an entry that halts
-no_halt : (old : Standing) (keep : ℕ) (outcome : Outcome) (new : Standing) → IsHalted old keep outcome new → IsUnhalted outcome → ⊥
+no_halt : (old : Standing) (keep : ℕ) (outcome : Outcome) (new : Standing) → IsHalted old keep outcome new
+    → IsUnhalted outcome → ⊥
 no_halt old keep Unasked new halted free = halted
 no_halt old keep (Entered placed) new halted free = subst IsNoHaltMade halted.command free
 no_halt old keep (WasFull more entries live) new halted free = halted
 no_halt old keep (Offered at_slot note) new halted free = halted
 
-finished_same : (asks : Awaits) (old : Standing) (halt : Outcome) (new : Standing) → IsFinished asks old halt new → IsUnhalted halt → new ≡ old
+finished_same : (asks : Awaits) (old : Standing) (halt : Outcome) (new : Standing)
+    → IsFinished asks old halt new → IsUnhalted halt → new ≡ old
 finished_same NoAnswer old Unasked new is free = is
 finished_same NoAnswer old (Entered placed) new is free = absurd is
 finished_same NoAnswer old (WasFull more entries live) new is free = absurd is
@@ -56,7 +58,8 @@ finished_same LookAnswer old halt new is free = absurd is
 finished_same OfferAnswer old halt new is free = absurd is
 
 -- the state and the heard slot, after a slot that is taken up
-pub reply_state : (goes : Bool) (s : Standing) → (if goes then sent_reply s else s).state ≡ (if goes then after_stop s.state else s.state)
+pub reply_state : (goes : Bool) (s : Standing)
+    → (if goes then sent_reply s else s).state ≡ (if goes then after_stop s.state else s.state)
 reply_state true s = refl
 reply_state false s = refl
 
@@ -76,9 +79,11 @@ with_pacer setup play p = Playing setup (record play { pacer = p })
 -- a play's state after a slot, and the film's bytes in it
 state_cases : (waits between : Bool) (pacings : SlotPacings) →
     (if waits && between
-    then after_stop (if waits then (if between then with_pacer pacings.setup pacings.play pacings.both else with_pacer pacings.setup
+    then after_stop
+    (if waits then (if between then with_pacer pacings.setup pacings.play pacings.both else with_pacer pacings.setup
     pacings.play pacings.front) else with_pacer pacings.setup pacings.play pacings.plain)
-    else (if waits then (if between then with_pacer pacings.setup pacings.play pacings.both else with_pacer pacings.setup pacings.play
+    else (if waits
+    then (if between then with_pacer pacings.setup pacings.play pacings.both else with_pacer pacings.setup pacings.play
     pacings.front) else with_pacer pacings.setup pacings.play pacings.plain))
     ≡ with_pacer pacings.setup pacings.play (if waits then (if between then pacings.both else pacings.front) else pacings.plain)
 state_cases false between pacings = refl
@@ -94,7 +99,8 @@ film_cases true true one after plain text = ap (λ bs. one ++ bs) (append-nil af
 
 abbrev state_after : Bool → State → ℕ → State
 state_after waits state slot =
-    if waits && is_between (stepped_in true slot state) then after_stop (due_state waits state slot) else due_state waits state slot
+    if waits && is_between (stepped_in true slot state) then after_stop (due_state waits state slot)
+    else due_state waits state slot
 
 abbrev pub parts_of : Bool → State → List ℕ → ℕ → List Part
 parts_of waits state text slot =
@@ -121,18 +127,21 @@ play_film : (waits : Bool) (setup : Setup) (play : Played) (text : List ℕ) (sl
 play_film waits setup play text slot =
     let p = play.pacer in
     let p' = after_step true slot p in
-    film_cases waits (stands_at_boundary p') (plan_bytes p p.sent (step_end true (at_slot slot p))) (plan_bytes p' p'.sent (step_end false (at_slot slot p')))
+    film_cases waits (stands_at_boundary p') (plan_bytes p p.sent (step_end true (at_slot slot p)))
+    (plan_bytes p' p'.sent (step_end false (at_slot slot p')))
     (plan_bytes p p.sent (step_end false (at_slot slot p))) text
 
 -- a play goes on by a slot that is taken up
-pub taken_slot : {setup : Setup} {play : Played} {film : List ℕ} (old : Standing) (slot : ℕ) → old.state ≡ Playing setup play → HasSent play old.heard film →
+pub taken_slot : {setup : Setup} {play : Played} {film : List ℕ} (old : Standing) (slot : ℕ) →
+    old.state ≡ Playing setup play → HasSent play old.heard film →
     old.heard < slot → HasSentOn setup play (after_play (sent_slot old slot)) (film ++ film_bytes (due_parts old slot))
 taken_slot {setup} {play} {film} old slot is has later =
     let goes : Bool = old.waits && is_between (stepped_in true slot old.state) in
     let s : Standing = sent_slot old slot in
     let now : Played = record play { pacer = slot_pacing old.waits slot play.pacer } in
     let state : (after_play s).state ≡ Playing setup now =
-    finished_state s ∙ reply_state goes (sent_due old slot) ∙ ap (λ st. state_after old.waits st slot) is ∙ play_state old.waits setup play slot in
+    finished_state s ∙ reply_state goes (sent_due old slot) ∙ ap (λ st. state_after old.waits st slot) is
+    ∙ play_state old.waits setup play slot in
     let heard : (after_play s).heard ≡ slot = finished_heard s ∙ reply_heard goes (sent_due old slot) in
     let bytes : film_bytes (due_parts old slot) ≡ slot_film old.waits slot play.pacer =
     ap (λ st. film_bytes (parts_of old.waits st old.text slot)) is ∙ play_film old.waits setup play old.text slot in
@@ -153,7 +162,8 @@ taken_slot {setup} {play} {film} old slot is has later =
     }
 
 -- nothing is sent: the play goes on as it was
-pub as_it_was : (session : Standing) (setup : Setup) (play : Played) (film : List ℕ) → session.state ≡ Playing setup play → HasSent play session.heard film →
+pub as_it_was : (session : Standing) (setup : Setup) (play : Played) (film : List ℕ) →
+    session.state ≡ Playing setup play → HasSent play session.heard film →
     HasSentOn setup play session film
 as_it_was session setup play film is has = record {
   now = play;
@@ -171,8 +181,10 @@ as_it_was session setup play film is has = record {
 pub slot_cases : {taken sending : Bool} {old next : Standing} {setup : Setup} {play : Played} {film : List ℕ}
     (still : Standing) (parts : List Part) → sending ≡ true →
     HasSentOn setup play old film → (taken ≡ true → HasSentOn setup play next (film ++ film_bytes parts)) →
-    HasSentOn setup play (if taken then (if sending then next else still) else old) (film ++ film_bytes (if taken && sending then parts else []))
-slot_cases {taken = false} {old} {next} {setup} {play} {film} still parts sends was goes = subst (HasSentOn setup play old) (sym (append-nil film)) was
+    HasSentOn setup play (if taken then (if sending then next else still) else old)
+    (film ++ film_bytes (if taken && sending then parts else []))
+slot_cases {taken = false} {old} {next} {setup} {play} {film} still parts sends was goes =
+    subst (HasSentOn setup play old) (sym (append-nil film)) was
 slot_cases {taken = true} {sending = true} {next} still parts sends was goes = goes refl
 slot_cases {taken = true} {sending = false} {next} still parts sends was goes = absurd (true≢false (sym sends))
 
@@ -185,7 +197,8 @@ pub play_slot : {new : Standing} {setup : Setup} {play : Played} {film : List �
     IsFinished (awaited_answer (after_slot old slot)) (after_slot old slot) halt new → IsUnhalted halt →
     HasSentOn setup play new (film ++ film_bytes (slot_parts old slot))
 play_slot {new} {setup} {play} {film} {old} slot halt going finishes free =
-    subst (λ s. HasSentOn setup play s (film ++ film_bytes (slot_parts old slot))) (sym (finished_same (awaited_answer (after_slot old slot)) (after_slot old slot) halt new finishes free))
+    subst (λ s. HasSentOn setup play s (film ++ film_bytes (slot_parts old slot)))
+    (sym (finished_same (awaited_answer (after_slot old slot)) (after_slot old slot) halt new finishes free))
     (slot_cases (record old { heard = slot }) (due_parts old slot)
     (ap is_sending is) (as_it_was old setup play film is has)
     (λ taken. taken_slot old slot is has (later_slot old slot taken)))
@@ -213,12 +226,14 @@ goes_on {new} {more} on next = record {
 abbrev pub IsLeft : Standing → Standing → Type 0
 IsLeft old new = (new.state ≡ old.state) × (new.heard ≡ old.heard)
 
-play_admitted : {state : State} {setup : Setup} {play : Played} (awaited : Awaited) (place start : ℕ) → state ≡ Playing setup play →
+play_admitted : {state : State} {setup : Setup} {play : Played} (awaited : Awaited) (place start : ℕ) →
+    state ≡ Playing setup play →
     admitted_in state awaited place start ≡ state
 play_admitted awaited place start is =
     subst (λ st. admitted_in st awaited place start ≡ st) (sym is) refl
 
-play_left : {setup : Setup} {play : Played} (old : Standing) (placed : Placed) (answer : Answer) (new : Standing) → old.state ≡ Playing setup play →
+play_left : {setup : Setup} {play : Played} (old : Standing) (placed : Placed) (answer : Answer)
+    (new : Standing) → old.state ≡ Playing setup play →
     IsPlayAnswered old placed answer new → IsLeft old new
 play_left old placed (Admitted start) new is answered =
     subst (IsLeft old) (sym answered.1) (play_admitted old.awaited placed.place start is, refl)
@@ -226,7 +241,8 @@ play_left old placed (Overflow slot booked asked) new is answered = subst (IsLef
 play_left old placed Halted new is answered = absurd answered
 play_left old placed (Looked now at booked) new is answered = absurd answered
 
-look_left : (old : Standing) (placed : Placed) (answer : Answer) (new : Standing) → IsLookAnswered old placed answer new → IsLeft old new
+look_left : (old : Standing) (placed : Placed) (answer : Answer) (new : Standing)
+    → IsLookAnswered old placed answer new → IsLeft old new
 look_left old placed (Admitted start) new answered = absurd answered
 look_left old placed (Overflow slot booked asked) new answered = absurd answered
 look_left old placed Halted new answered = absurd answered
@@ -244,7 +260,8 @@ answer_left AskReply (Entered placed) is given = absurd given.answered
 answer_left AskReply (WasFull more entries live) is given = absurd given.answered
 answer_left AskReply (Offered at_slot note) is given = absurd given.answered
 answer_left (AskPlay plan) Unasked is given = absurd given.answered
-answer_left {old} {new} (AskPlay plan) (Entered placed) is given = play_left old placed placed.entry.answer new is given.answered.1
+answer_left {old} {new} (AskPlay plan) (Entered placed) is given =
+    play_left old placed placed.entry.answer new is given.answered.1
 answer_left {old} (AskPlay plan) (WasFull more entries live) is given = subst (IsLeft old) (sym given.answered.0) (refl, refl)
 answer_left (AskPlay plan) (Offered at_slot note) is given = absurd given.answered
 answer_left {old} {new} (AskHalt keep) outcome is given = absurd (no_halt old keep outcome new given.answered given.free)
@@ -265,7 +282,8 @@ hears_left : {setup : Setup} {play : Played} (heard : HeardMessage) → heard.ol
 hears_left {setup} {play} heard is free =
     let plays = hears_plays heard setup play is free in (plays.state, plays.heard)
 
-ask_free : (old : Standing) (ask : Ask) (outcome : Outcome) (new : Standing) → IsAnswered old ask outcome new → IsUnhalted outcome → IsNoHalt ask
+ask_free : (old : Standing) (ask : Ask) (outcome : Outcome) (new : Standing) → IsAnswered old ask outcome new
+    → IsUnhalted outcome → IsNoHalt ask
 ask_free old AskReply outcome new answered free = tt
 ask_free old (AskPlay plan) outcome new answered free = tt
 ask_free old (AskHalt keep) outcome new answered free = no_halt old keep outcome new answered free
@@ -276,18 +294,22 @@ pub heard_left : {old : Standing} {message : List ℕ} {outcome : Outcome} {new 
     {play : Played} → HasHeard old message outcome new →
     IsUnhalted outcome → old.state ≡ Playing setup play → IsLeft old new
 heard_left {old} {message} {outcome} {new} heard free is =
-    let asking : IsLeft old heard.asking = hears_left (record { old = old; new = heard.asking; message = message; ask = heard.ask; hears = heard.hears }) is
+    let asking : IsLeft old heard.asking =
+    hears_left (record { old = old; new = heard.asking; message = message; ask = heard.ask; hears = heard.hears }) is
     (ask_free heard.asking heard.ask outcome new heard.answered free) in
-    left_on old heard.asking new asking (answer_left heard.ask outcome (asking.0 ∙ is) (record { answered = heard.answered; free = free }))
+    left_on old heard.asking new asking
+    (answer_left heard.ask outcome (asking.0 ∙ is) (record { answered = heard.answered; free = free }))
 
 settled_play : (state : State) (setup : Setup) (play : Played) → state ≡ Playing setup play → after_stop state ≡ state
 settled_play state setup play is = subst (λ st. after_stop st ≡ st) (sym is) refl
 
-reply_left : (goes : Bool) (s : Standing) (setup : Setup) (play : Played) → s.state ≡ Playing setup play → IsLeft s (if goes then sent_reply s else s)
+reply_left : (goes : Bool) (s : Standing) (setup : Setup) (play : Played) → s.state ≡ Playing setup play
+    → IsLeft s (if goes then sent_reply s else s)
 reply_left true s setup play is = (settled_play s.state setup play is, refl)
 reply_left false s setup play is = (refl, refl)
 
-pub taking_left : {setup : Setup} {play : Played} (old new : Stage) (taking : Taking) → Takes old taking new → AreUnhalted (taking_outcomes taking) →
+pub taking_left : {setup : Setup} {play : Played} (old new : Stage) (taking : Taking) → Takes old taking new →
+    AreUnhalted (taking_outcomes taking) →
     old.session.state ≡ Playing setup play → IsLeft old.session new.session
 taking_left old new (Passed n) takes free is = subst (λ (s : Stage). IsLeft old.session s.session) (sym takes.2) (refl, refl)
 taking_left {setup} {play} old new (Answered message outcome parts) takes free is =
@@ -311,10 +333,12 @@ takes_left old new (taking ∷ takings) takes free is =
     let first : IsLeft old.session takes.0.session = taking_left old takes.0 taking takes.1.0
     (unhalted_front (taking_outcomes taking) (takings_outcomes takings) free) is in
     left_on old.session takes.0.session new.session first
-    (takes_left takes.0 new takings takes.1.1 (unhalted_rest (taking_outcomes taking) (takings_outcomes takings) free) (first.0 ∙ is))
+    (takes_left takes.0 new takings takes.1.1
+    (unhalted_rest (taking_outcomes taking) (takings_outcomes takings) free) (first.0 ∙ is))
 
 -- what was sent of a play stays
-on_left : {setup : Setup} {play : Played} {old new : Standing} {film : List ℕ} → HasSentOn setup play old film → IsLeft old new → HasSentOn setup play new film
+on_left : {setup : Setup} {play : Played} {old new : Standing} {film : List ℕ} → HasSentOn setup play old film
+    → IsLeft old new → HasSentOn setup play new film
 on_left {new} {film} on left = record {
   now = on.now;
   state = left.0 ∙ on.state;
@@ -334,15 +358,18 @@ pub comes_on : {setup : Setup} {play : Played} {film : List ℕ} {old new : Stag
 comes_on {setup} {play} {film} {old} {new} {event = HeardBytes bytes} come free going =
     subst (λ ps. HasSentOn setup play new.session (film ++ film_bytes ps)) (sym come.comes.0)
     (subst (λ (s : Stage). HasSentOn setup play s.session (film ++ [])) (sym come.comes.3)
-    (subst (HasSentOn setup play old.session) (sym (append-nil film)) (as_it_was old.session setup play film going.state going.sent)))
+    (subst (HasSentOn setup play old.session) (sym (append-nil film))
+    (as_it_was old.session setup play film going.state going.sent)))
 comes_on {setup} {play} {film} {new} {event = HeardSlot slot} come free going =
     subst (λ ps. HasSentOn setup play new.session (film ++ film_bytes ps)) (sym come.comes.1.parts_are)
     (play_slot slot come.halt going come.comes.1.finished free)
 comes_on {event = HeardEnd} come free going = absurd come.comes
 comes_on {event = Sent byte} come free going = absurd come.comes
 
-pub round_on : {old new : Stage} {round : Round} {setup : Setup} {play : Played} {film : List ℕ} → Runs old round new → AreUnhalted (round_outcomes round) →
-    old.session.state ≡ Playing setup play → HasSent play old.session.heard film → HasSentOn setup play new.session (film ++ film_bytes round.due)
+pub round_on : {old new : Stage} {round : Round} {setup : Setup} {play : Played} {film : List ℕ} →
+    Runs old round new → AreUnhalted (round_outcomes round) →
+    old.session.state ≡ Playing setup play → HasSent play old.session.heard film
+    → HasSentOn setup play new.session (film ++ film_bytes round.due)
 round_on {old} {new} {round} {setup} {play} {film} runs free is has =
     let opened = runs.opened in
     let on : HasSentOn setup play opened.session (film ++ film_bytes round.due) =
@@ -355,7 +382,8 @@ pub rounds_on : {setup : Setup} {play : Played} {film : List ℕ} (old new : Sta
     HasSentOn setup play new.session (film ++ rounds_film rounds)
 rounds_on {setup} {play} {film} old new [] runs free going =
     subst (λ (s : Stage). HasSentOn setup play s.session (film ++ [])) (sym runs)
-    (subst (HasSentOn setup play old.session) (sym (append-nil film)) (as_it_was old.session setup play film going.state going.sent))
+    (subst (HasSentOn setup play old.session) (sym (append-nil film))
+    (as_it_was old.session setup play film going.state going.sent))
 rounds_on {setup} {play} {film} old new (round ∷ rounds) runs free going =
     let first = round_on runs.1.0 (unhalted_front (round_outcomes round) (rounds_outcomes rounds) free) going.state going.sent in
     let rest = rounds_on {setup = setup} {play = first.now} {film = film ++ film_bytes round.due} runs.0 new rounds runs.1.2

@@ -21,7 +21,8 @@ use Rattle.conn.proofs.Workers.{are_more, are_none, has_none, has_one, served_la
 use Rattle.conn.proofs.Workers.{served_one, told_last}
 
 -- between two connections: each that was given came back, and has its report
-pub record HasServedSoFar (duty : Duty) (old_seat new_seat : Sitting) (old new : Outlet) (reports : List ConnReport) : Type 0 where
+pub record HasServedSoFar (duty : Duty) (old_seat new_seat : Sitting) (old new : Outlet)
+    (reports : List ConnReport) : Type 0 where
   pub seat : IsSameSeat old_seat new_seat
   pub entries : HasServed old_seat.mine reports new_seat.mine
   pub each : AreOf duty.seed duty.worker reports
@@ -30,7 +31,8 @@ pub record HasServedSoFar (duty : Duty) (old_seat new_seat : Sitting) (old new :
   pub count : old.faults ≤ new.faults
 
 -- before the first one
-pub none_served : (duty : Duty) (seat : Sitting) (part : Outlet) (reports : List ConnReport) → IfSome part.told IsUntouched → reports ≡ [] →
+pub none_served : (duty : Duty) (seat : Sitting) (part : Outlet) (reports : List ConnReport) →
+    IfSome part.told IsUntouched → reports ≡ [] →
     HasServedSoFar duty seat seat part part reports
 none_served duty seat part reports untouched none = record {
   seat = seat_none seat;
@@ -42,7 +44,8 @@ none_served duty seat part reports untouched none = record {
 }
 
 -- one connection: its report, and what it was when it came back
-pub record IsOneMore (duty : Duty) (reports : List ConnReport) (mid : Option Content) (report : ConnReport) (returned : Returned) (old_seat new_seat : Sitting) : Type 0 where
+pub record IsOneMore (duty : Duty) (reports : List ConnReport) (mid : Option Content) (report : ConnReport)
+    (returned : Returned) (old_seat new_seat : Sitting) : Type 0 where
   pub seat : IsSameSeat old_seat new_seat
   pub entries : HasGone (at_rest old_seat.mine []) (at_rest new_seat.mine report.receipts.items)
   pub worker : report.worker ≡ duty.worker
@@ -51,10 +54,14 @@ pub record IsOneMore (duty : Duty) (reports : List ConnReport) (mid : Option Con
 
 -- a connection was given, served, and came back
 pub one_served : {duty : Duty} {old_seat mid_seat new_seat : Sitting} {old mid new : Outlet} {taken : Option Content}
-    {reports more : List ConnReport} {report : ConnReport} {returned : Returned} → HasServedSoFar duty old_seat mid_seat old mid reports → IsOneMore duty reports mid.told report returned mid_seat new_seat →
-    taken ≡ option_map after_take mid.told → new.told ≡ option_map (after_return returned) taken → mid.faults ≤ new.faults → more ≡ reports ++ report ∷ [] →
+    {reports more : List ConnReport} {report : ConnReport} {returned : Returned} →
+    HasServedSoFar duty old_seat mid_seat old mid reports →
+    IsOneMore duty reports mid.told report returned mid_seat new_seat →
+    taken ≡ option_map after_take mid.told → new.told ≡ option_map (after_return returned) taken →
+    mid.faults ≤ new.faults → more ≡ reports ++ report ∷ [] →
     HasServedSoFar duty old_seat new_seat old new more
-one_served {duty} {old_seat} {mid_seat} {new_seat} {old} {mid} {new} {taken} {reports} {more} {report} {returned} front one given back count items =
+one_served {duty} {old_seat} {mid_seat} {new_seat} {old} {mid} {new} {taken} {reports} {more} {report}
+    {returned} front one given back count items =
     let size : length reports + 1 ≡ length more = sym (rw items (length-append reports (report ∷ []))) in record {
       seat = seat_on old_seat mid_seat new_seat front.seat one.seat;
       entries = has_one report front.entries one.entries items;
@@ -66,7 +73,8 @@ one_served {duty} {old_seat} {mid_seat} {new_seat} {old} {mid} {new} {taken} {re
     }
 
 -- there was no memory for one more report
-pub ends_early : {duty : Duty} {old_seat new_seat : Sitting} {old new : Outlet} {result : PartReport} → HasServedSoFar duty old_seat new_seat old new result.reports.items →
+pub ends_early : {duty : Duty} {old_seat new_seat : Sitting} {old new : Outlet} {result : PartReport} →
+    HasServedSoFar duty old_seat new_seat old new result.reports.items →
     result.end ≡ NoMemory → HasServedPart duty old_seat new_seat old new result
 ends_early {new} front is = record {
   seat = front.seat;
@@ -81,8 +89,10 @@ ends_early {new} front is = record {
 }
 
 -- the last take gave none: there are no more
-pub ends_taken : {duty : Duty} {old_seat new_seat : Sitting} {old mid new : Outlet} {result : PartReport} → HasServedSoFar duty old_seat new_seat old mid result.reports.items →
-    result.end ≡ AllTaken → new.told ≡ option_map (after_empty_take NoMore) mid.told → mid.faults ≤ new.faults → HasServedPart duty old_seat new_seat old new result
+pub ends_taken : {duty : Duty} {old_seat new_seat : Sitting} {old mid new : Outlet} {result : PartReport} →
+    HasServedSoFar duty old_seat new_seat old mid result.reports.items →
+    result.end ≡ AllTaken → new.told ≡ option_map (after_empty_take NoMore) mid.told → mid.faults ≤ new.faults
+    → HasServedPart duty old_seat new_seat old new result
 ends_taken {duty} {old_seat} {new_seat} {old} {mid} {new} {result} front is last count = record {
   seat = front.seat;
   entries = front.entries;
@@ -102,8 +112,10 @@ ends_taken {duty} {old_seat} {new_seat} {old} {mid} {new} {result} front is last
 }
 
 -- or it failed
-pub ends_failed : {duty : Duty} {old_seat new_seat : Sitting} {old mid new : Outlet} {result : PartReport} → HasServedSoFar duty old_seat new_seat old mid result.reports.items →
-    result.end ≡ GateFault → new.told ≡ option_map (after_empty_take Failed) mid.told → mid.faults ≤ new.faults → HasRisen mid.faults new.faults →
+pub ends_failed : {duty : Duty} {old_seat new_seat : Sitting} {old mid new : Outlet} {result : PartReport} →
+    HasServedSoFar duty old_seat new_seat old mid result.reports.items →
+    result.end ≡ GateFault → new.told ≡ option_map (after_empty_take Failed) mid.told →
+    mid.faults ≤ new.faults → HasRisen mid.faults new.faults →
     HasServedPart duty old_seat new_seat old new result
 ends_failed {duty} {old_seat} {new_seat} {old} {mid} {new} {result} front is last count risen = record {
   seat = front.seat;

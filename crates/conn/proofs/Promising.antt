@@ -75,7 +75,8 @@ slot_heard old slot =
 -- what was sent of a play, by the play as it was and as it is now
 sent_by : {old : Standing} {setup : Setup} {play : Played} {film : List ℕ} {new : Standing} {heard : ℕ}
     {more : List ℕ} →
-    HasPlay old.films old.source old.settings old.counts old.heard film setup play → HasSentOn setup play new more → new.heard ≡ heard →
+    HasPlay old.films old.source old.settings old.counts old.heard film setup play →
+    HasSentOn setup play new more → new.heard ≡ heard →
     (stored : Stored) × IsSentBy old stored setup play heard more
 sent_by {old} {setup} {play} {new} {heard} {more} its on same =
     let stored = its.stored in
@@ -86,7 +87,8 @@ sent_by {old} {setup} {play} {new} {heard} {more} its on same =
     let plan : now.pacer.plan ≡ play.plan = sent.plan ∙ on.plan in
     let is_plan : IsPlan play.plan = subst IsPlan plan sent.pacing.plan in
     let count : length more ≡ first_slots play.plan (heard + 1 - play.start) =
-    film_count now heard more sent ∙ ap (λ p. first_slots p (heard + 1 - now.start)) plan ∙ ap (λ s. first_slots play.plan (heard + 1 - s)) on.start in
+    film_count now heard more sent ∙ ap (λ p. first_slots p (heard + 1 - now.start)) plan
+    ∙ ap (λ s. first_slots play.plan (heard + 1 - s)) on.start in
     let slots : first_slots now.pacer.plan (heard + 1 - now.pacer.start) ≡ length more =
     ap (λ s. first_slots now.pacer.plan (heard + 1 - s)) sent.start ∙ sym (film_count now heard more sent) in
     let before : now.pacer.before ≡ play.run.sent = sent.before ∙ ap (λ (r : Run). r.sent) on.run in
@@ -112,11 +114,13 @@ kept_event : {setup : Setup} {play : Played} {film : List ℕ} {old new : Stage}
     old.session.state ≡ Playing setup play →
     (stored : Stored) × IsSentBy old.session stored setup play (heard_by old.session.heard event) (film ++ film_bytes come.due)
 kept_event {setup} {play} {film} {old} {event = HeardBytes bytes} come its is =
-    subst (λ ps. (stored : Stored) × IsSentBy old.session stored setup play old.session.heard (film ++ film_bytes ps)) (sym come.comes.0)
+    subst (λ ps. (stored : Stored)
+    × IsSentBy old.session stored setup play old.session.heard (film ++ film_bytes ps)) (sym come.comes.0)
     (subst (λ bs. (stored : Stored) × IsSentBy old.session stored setup play old.session.heard bs) (sym (append-nil film))
     (sent_by its (as_it_was old.session setup play film is its.sent) refl))
 kept_event {setup} {play} {film} {old} {event = HeardSlot slot} come its is =
-    subst (λ ps. (stored : Stored) × IsSentBy old.session stored setup play (taken_up old.session.heard slot) (film ++ film_bytes ps))
+    subst (λ ps. (stored : Stored)
+    × IsSentBy old.session stored setup play (taken_up old.session.heard slot) (film ++ film_bytes ps))
     (sym come.comes.1.parts_are)
     (sent_by its
     (slot_play old.session slot is its.sent) (slot_heard old.session slot))
@@ -137,10 +141,12 @@ kept_in {state = Stopping setup stop} come well is = tt
 -- in each course from such a session on
 pub plays_kept : (first : Standing) (rounds : List Round) → IsWell first [] → ArePlaysKept first rounds
 plays_kept first rounds well = λ before round old at.
-    kept_in (record { due = round.due; halt = round.halt; comes = at.comes }) (rounds_well (stage first []) old before [] well at.runs) refl
+    kept_in (record { due = round.due; halt = round.halt; comes = at.comes })
+    (rounds_well (stage first []) old before [] well at.runs) refl
 
 -- no slot is booked above its capacity
-never_overbooked : (seat : Sitting) → IsSeat seat → (n slot : ℕ) → booked_after (take n seat.seen) slot ≤ capacity_at seat.steps slot
+never_overbooked : (seat : Sitting) → IsSeat seat → (n slot : ℕ)
+    → booked_after (take n seat.seen) slot ≤ capacity_at seat.steps slot
 never_overbooked seat is = λ n slot.
     (sound-after seat.steps (take n seat.seen) (legal-take seat.steps seat.seen n is.legal)).within.each slot
 
@@ -160,7 +166,8 @@ keeps_promise {session} {old_seat} {new_seat} {report} well none is served =
       new = served.ended.stage;
       ends = course.ends;
     }) in
-    let mine : new_seat.mine ≡ (old_seat.mine ++ entries_in made) ++ after = served.closes.noted.mine ∙ ap (λ ps. ps ++ after) course.noted.mine in
+    let mine : new_seat.mine ≡ (old_seat.mine ++ entries_in made) ++ after =
+    served.closes.noted.mine ∙ ap (λ ps. ps ++ after) course.noted.mine in
     inl (record {
       served = served;
       booked = record { legal = is.legal; within = never_overbooked new_seat is };

@@ -10,7 +10,8 @@ use Rattle.session.specs.Standings.{Standing}
 use Rattle.conn.specs.Turns.{Entered, IsAnswered, IsPlayAnswered}
 use Rattle.conn.specs.Films.{TellsOverflow}
 
-pub overflow_told : {old new : Standing} {plan : List Segment} {placed : Placed} {over : Over} → IsAnswered old (AskPlay plan) (Entered placed) new →
+pub overflow_told : {old new : Standing} {plan : List Segment} {placed : Placed} {over : Over} →
+    IsAnswered old (AskPlay plan) (Entered placed) new →
     placed.entry.answer ≡ Overflow over.slot over.booked over.asked → TellsOverflow old plan placed over new
 overflow_told {old} {new} {placed} {over} answered is =
     let after = subst (λ (a : Answer). IsPlayAnswered old placed a new) is answered.1 in

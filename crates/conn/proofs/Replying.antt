@@ -28,7 +28,8 @@ use Rattle.conn.proofs.Playing.{unhalted_front, unhalted_rest}
 use Rattle.conn.proofs.Occasions.{SlotBytes, EventCome, PlayGoing}
 
 -- as many bytes were sent as the plan has up to the heard slot
-pub film_count : (play : Played) (heard : ℕ) (film : List ℕ) → HasSent play heard film → length film ≡ first_slots play.pacer.plan (heard + 1 - play.start)
+pub film_count : (play : Played) (heard : ℕ) (film : List ℕ) → HasSent play heard film
+    → length film ≡ first_slots play.pacer.plan (heard + 1 - play.start)
 film_count play heard film has =
     let p = play.pacer in
     let n : ℕ = first_slots p.plan (heard + 1 - p.start) in
@@ -36,12 +37,15 @@ film_count play heard film has =
     let whole : p.before + n ≤ length (framed_bytes p.pieces) = omega (arith, few, has.pacing.whole, has.pacing.most) in
     let exact : (p.before + n) - p.before ≡ n = omega arith in
     ap length has.film_is ∙ ap (λ k. length (take k (drop p.before (framed_bytes p.pieces)))) (sym exact)
-    ∙ between-length p.pieces p.before (p.before + n) (omega arith) whole ∙ exact ∙ ap (λ s. first_slots p.plan (heard + 1 - s)) has.start
+    ∙ between-length p.pieces p.before (p.before + n) (omega arith) whole ∙ exact
+    ∙ ap (λ s. first_slots p.plan (heard + 1 - s)) has.start
 
 -- what was sent of a play ends where its film does
-sent_place : (play : Played) (heard : ℕ) (film : List ℕ) → HasSent play heard film → play.pacer.before + length film ≡ play.pacer.before + play.pacer.sent
+sent_place : (play : Played) (heard : ℕ) (film : List ℕ) → HasSent play heard film
+    → play.pacer.before + length film ≡ play.pacer.before + play.pacer.sent
 sent_place play heard film has =
-    let sent : play.pacer.sent ≡ first_slots play.pacer.plan (heard + 1 - play.start) = has.sent ∙ ap (first_slots play.pacer.plan) has.passed in
+    let sent : play.pacer.sent ≡ first_slots play.pacer.plan (heard + 1 - play.start) =
+    has.sent ∙ ap (first_slots play.pacer.plan) has.passed in
     omega (arith, film_count play heard film has, sent)
 
 -- a pacing that stands at a boundary
@@ -53,7 +57,8 @@ boundary_here p is stands =
     subst (IsBoundary p.pieces) (omega (arith, same, next.after)) next.boundary
 
 -- as far as a step with a stop goes
-stopped_place : (slot : ℕ) (p : Pacing) → IsPacing p → (p.before + p.sent) + length (plan_bytes p p.sent (step_end true (at_slot slot p)))
+stopped_place : (slot : ℕ) (p : Pacing) → IsPacing p
+    → (p.before + p.sent) + length (plan_bytes p p.sent (step_end true (at_slot slot p)))
     ≡ p.before + (after_step true slot p).sent
 stopped_place slot p is =
     let mid : ℕ = step_end true (at_slot slot p) in
@@ -68,13 +73,15 @@ stand-append : (pieces : List (List ℕ)) (place : ℕ) (xs ys : List Part) → 
     StandBetween pieces (place + length (film_bytes xs)) ys → StandBetween pieces place (xs ++ ys)
 stand-append pieces place [] ys first second = subst (λ n. StandBetween pieces n ys) (omega arith) second
 stand-append pieces place (Film bytes ∷ xs) ys first second =
-    stand-append pieces (place + length bytes) xs ys first (subst (λ n. StandBetween pieces n ys) (omega (arith, length-append bytes (film_bytes xs))) second)
+    stand-append pieces (place + length bytes) xs ys first
+    (subst (λ n. StandBetween pieces n ys) (omega (arith, length-append bytes (film_bytes xs))) second)
 stand-append pieces place (Text text ∷ xs) ys first second = (first.0, stand-append pieces place xs ys first.1 second)
 
 -- a slot's parts
 slot_stands : {between : Bool} {pieces : List (List ℕ)} (waits : Bool) (place : ℕ) (bytes : SlotBytes)
     (text : List ℕ) → (between ≡ true → IsBoundary pieces (place + length bytes.before)) →
-    StandBetween pieces place (if waits then Film bytes.before ∷ (if between then Text text ∷ Film bytes.rest ∷ [] else []) else Film
+    StandBetween pieces place
+    (if waits then Film bytes.before ∷ (if between then Text text ∷ Film bytes.rest ∷ [] else []) else Film
     bytes.plain ∷ [])
 slot_stands {between} false place bytes text stands = tt
 slot_stands {between = false} true place bytes text stands = tt
@@ -84,9 +91,12 @@ due_stand : {setup : Setup} {play : Played} {film : List ℕ} (session : Standin
     HasSent play session.heard film → StandBetween play.pacer.pieces (play.pacer.before + length film) (due_parts session slot)
 due_stand {setup} {play} {film} session slot is has =
     let p = play.pacer in
-    let State' : State → Type 0 = λ st. (is_between (stepped_in true slot st) ≡ true → IsBoundary p.pieces ((p.before + length film) + length (step_bytes true slot st))) in
+    let State' : State → Type 0 =
+    λ st. (is_between (stepped_in true slot st) ≡ true
+    → IsBoundary p.pieces ((p.before + length film) + length (step_bytes true slot st))) in
     let stands : State' (Playing setup play) =
-    λ between. subst (IsBoundary p.pieces) (omega (arith, sent_place play session.heard film has, stopped_place slot p has.pacing))
+    λ between. subst (IsBoundary p.pieces)
+    (omega (arith, sent_place play session.heard film has, stopped_place slot p has.pacing))
     (boundary_here (after_step true slot p) (stopped_is slot p has.pacing) between) in
     slot_stands session.waits (p.before + length film) (record {
       before = step_bytes true slot session.state;
@@ -95,7 +105,8 @@ due_stand {setup} {play} {film} session slot is has =
     }) session.text
     (subst State' (sym is) stands)
 
-none_stand : (goes : Bool) (pieces : List (List ℕ)) (place : ℕ) (parts : List Part) → (goes ≡ true → StandBetween pieces place parts) →
+none_stand : (goes : Bool) (pieces : List (List ℕ)) (place : ℕ) (parts : List Part) →
+    (goes ≡ true → StandBetween pieces place parts) →
     StandBetween pieces place (if goes then parts else [])
 none_stand true pieces place parts stands = stands refl
 none_stand false pieces place parts stands = tt
@@ -107,7 +118,8 @@ comes_stand {play} {film} {event = HeardBytes bytes} come going =
     subst (StandBetween play.pacer.pieces (play.pacer.before + length film)) (sym come.comes.0) tt
 comes_stand {play} {film} {old} {event = HeardSlot slot} come going =
     subst (StandBetween play.pacer.pieces (play.pacer.before + length film)) (sym come.comes.1.parts_are)
-    (none_stand (is_taken old.session slot && is_sending old.session.state) play.pacer.pieces (play.pacer.before + length film) (due_parts old.session slot)
+    (none_stand (is_taken old.session slot && is_sending old.session.state) play.pacer.pieces
+    (play.pacer.before + length film) (due_parts old.session slot)
     (λ goes. due_stand old.session slot going.state going.sent))
 comes_stand {event = HeardEnd} come going = absurd come.comes
 comes_stand {event = Sent byte} come going = absurd come.comes
@@ -119,7 +131,8 @@ reply_stands session setup play film is has =
     none_stand (can_reply session) play.pacer.pieces (play.pacer.before + length film) (Text session.text ∷ [])
     (λ can. (
       subst (IsBoundary play.pacer.pieces) (sym (sent_place play session.heard film has))
-          (boundary_here play.pacer has.pacing (subst (λ st. is_between st ≡ true) is (and_parts session.waits (is_between session.state) can).1)),
+          (boundary_here play.pacer has.pacing
+          (subst (λ st. is_between st ≡ true) is (and_parts session.waits (is_between session.state) can).1)),
       tt,
     ))
 
@@ -138,7 +151,8 @@ takings_film old new [] takes = refl
 takings_film old new (Passed n ∷ takings) takes = takings_film takes.0 new takings takes.1.1
 takings_film old new (Answered message outcome parts ∷ takings) takes =
     film_bytes-append parts (takings_parts takings)
-    ∙ ap (λ bs. bs ++ film_bytes (takings_parts takings)) (ap film_bytes takes.1.0.parts_are ∙ no_film (can_reply takes.1.0.answered) takes.1.0.answered.text)
+    ∙ ap (λ bs. bs ++ film_bytes (takings_parts takings))
+    (ap film_bytes takes.1.0.parts_are ∙ no_film (can_reply takes.1.0.answered) takes.1.0.answered.text)
     ∙ takings_film takes.0 new takings takes.1.1
 
 takes_stand : {setup : Setup} {play : Played} {film : List ℕ} (old new : Stage) (takings : List Taking) →
@@ -162,25 +176,32 @@ takes_stand {setup} {play} {film} old new (Answered message outcome parts ∷ ta
     subst (StandBetween play.pacer.pieces place) (sym takes.1.0.parts_are)
     (reply_stands takes.1.0.answered setup play film (heard.0 ∙ is) (subst (λ h. HasSent play h film) (sym heard.1) has)) in
     let rest : StandBetween play.pacer.pieces place (takings_parts takings) =
-    takes_stand takes.0 new takings takes.1.1 free.1 (record { state = left.0 ∙ is; sent = subst (λ h. HasSent play h film) (sym left.1) has }) in
+    takes_stand takes.0 new takings takes.1.1 free.1
+    (record { state = left.0 ∙ is; sent = subst (λ h. HasSent play h film) (sym left.1) has }) in
     stand-append play.pacer.pieces place parts (takings_parts takings) reply
     (subst (λ n. StandBetween play.pacer.pieces n (takings_parts takings)) (omega (arith, ap length none)) rest)
   where
     open going use {state as is, sent as has}
 
-round_stands : {old new : Stage} {round : Round} {setup : Setup} {play : Played} {film : List ℕ} → Runs old round new → AreUnhalted (round_outcomes round) →
+round_stands : {old new : Stage} {round : Round} {setup : Setup} {play : Played} {film : List ℕ} →
+    Runs old round new → AreUnhalted (round_outcomes round) →
     old.session.state ≡ Playing setup play → HasSent play old.session.heard film →
     StandBetween play.pacer.pieces (play.pacer.before + length film) (round_parts round)
 round_stands {old} {new} {round} {play} {film} runs free is has =
     let opened = runs.opened in
-    let on = comes_on (record { due = round.due; halt = round.halt; comes = runs.comes }) free.0 (record { state = is; sent = has }) in
-    let rest : StandBetween on.now.pacer.pieces (on.now.pacer.before + length (film ++ film_bytes round.due)) (takings_parts round.takings) =
+    let on = comes_on (record { due = round.due; halt = round.halt; comes = runs.comes }) free.0
+    (record { state = is; sent = has }) in
+    let rest : StandBetween on.now.pacer.pieces (on.now.pacer.before + length (film ++ film_bytes round.due))
+    (takings_parts round.takings) =
     takes_stand opened new round.takings runs.takes free.1 (record { state = on.state; sent = on.sent }) in
-    let same : StandBetween play.pacer.pieces (on.now.pacer.before + length (film ++ film_bytes round.due)) (takings_parts round.takings) =
-    subst (λ ps. StandBetween ps (on.now.pacer.before + length (film ++ film_bytes round.due)) (takings_parts round.takings)) on.pieces rest in
+    let same : StandBetween play.pacer.pieces (on.now.pacer.before + length (film ++ film_bytes round.due))
+    (takings_parts round.takings) =
+    subst (λ ps. StandBetween ps (on.now.pacer.before + length (film ++ film_bytes round.due))
+    (takings_parts round.takings)) on.pieces rest in
     stand-append play.pacer.pieces (play.pacer.before + length film) round.due (takings_parts round.takings)
     (comes_stand (record { due = round.due; halt = round.halt; comes = runs.comes }) (record { state = is; sent = has }))
-    (subst (λ n. StandBetween play.pacer.pieces n (takings_parts round.takings)) (omega (arith, on.before, length-append film (film_bytes round.due))) same)
+    (subst (λ n. StandBetween play.pacer.pieces n (takings_parts round.takings))
+    (omega (arith, on.before, length-append film (film_bytes round.due))) same)
 
 -- while a play goes on, each reply stands between frames and reports
 pub rounds_stand : {setup : Setup} {play : Played} {film : List ℕ} (old new : Stage) (rounds : List Round) →
@@ -202,7 +223,8 @@ rounds_stand {setup} {play} {film} old new (round ∷ rounds) runs free going =
     ∙ append-nil (film_bytes round.due)) in
     stand-append play.pacer.pieces (play.pacer.before + length film) (round_parts round) (rounds_parts rounds)
     (round_stands runs.1.0 first_free going.state going.sent)
-    (subst (λ n. StandBetween play.pacer.pieces n (rounds_parts rounds)) (omega (arith, on.before, film_is, length-append film (film_bytes round.due))) same)
+    (subst (λ n. StandBetween play.pacer.pieces n (rounds_parts rounds))
+    (omega (arith, on.before, film_is, length-append film (film_bytes round.due))) same)
 
 -- from a play's beginning on
 pub replies_stand : (s : Stretch) → GoesOn s →
@@ -220,4 +242,5 @@ replies_stand s on =
     }) in
     stand-append pieces place (takings_parts s.takings) (rounds_parts s.rounds)
     (takes_stand s.old on.mid s.takings on.takes first (record { state = on.state; sent = on.sent }))
-    (subst (λ n. StandBetween pieces n (rounds_parts s.rounds)) (omega (arith, ap length (takings_film s.old on.mid s.takings on.takes))) rest)
+    (subst (λ n. StandBetween pieces n (rounds_parts s.rounds))
+    (omega (arith, ap length (takings_film s.old on.mid s.takings on.takes))) rest)

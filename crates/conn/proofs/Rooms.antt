@@ -7,7 +7,8 @@ use Rattle.conn.specs.declared.connections.Connection.{Connection}
 use Rattle.conn.specs.Events.{IsWaiting}
 
 -- an interleaved block that isn't whole
-block_few : (bytes : List ℕ) → get_or bytes 2 0 < 256 → get_or bytes 3 0 < 256 → (4 ≤ length bytes → length bytes < block_length bytes) →
+block_few : (bytes : List ℕ) → get_or bytes 2 0 < 256 → get_or bytes 3 0 < 256 →
+    (4 ≤ length bytes → length bytes < block_length bytes) →
     length bytes < 81920
 block_few bytes high low part =
     elim (cases_lt (length bytes) 4) [
@@ -24,7 +25,8 @@ request_few bytes unfinished =
     ]
 
 -- so an event's bytes find no room only while a reply waits
-pub waits_for_room : (c : Connection) (n : ℕ) → (IsFirst c.input (Ok More) → length c.input < 81920) → n ≤ 16384 → 131072 < length c.input + n → IsWaiting c →
+pub waits_for_room : (c : Connection) (n : ℕ) → (IsFirst c.input (Ok More) → length c.input < 81920) →
+    n ≤ 16384 → 131072 < length c.input + n → IsWaiting c →
     c.session.waits ≡ true
 waits_for_room c n few short many waiting =
     elim waiting [

@@ -47,9 +47,11 @@ use Rattle.conn.proofs.Occasions.{RequestInFront}
 pub sent_none : (told : Option (List Doing)) → IsSent told [] told
 sent_none told = sym (told_more-nil told)
 
-pub sent_on : {b c : Option (List Doing)} (a : Option (List Doing)) (xs ys : List ℕ) → IsSent a xs b → IsSent b ys c → IsSent a (xs ++ ys) c
+pub sent_on : {b c : Option (List Doing)} (a : Option (List Doing)) (xs ys : List ℕ) → IsSent a xs b
+    → IsSent b ys c → IsSent a (xs ++ ys) c
 sent_on {c} a xs ys first second =
-    second ∙ ap (λ t. told_more t (sends ys)) first ∙ told_more-append a (sends xs) (sends ys) ∙ ap (told_more a) (sym (map-append Sent xs ys))
+    second ∙ ap (λ t. told_more t (sends ys)) first ∙ told_more-append a (sends xs) (sends ys)
+    ∙ ap (told_more a) (sym (map-append Sent xs ys))
 
 -- what the seat made
 pub entries_in-append : (xs ys : List Outcome) → entries_in (xs ++ ys) ≡ entries_in xs ++ entries_in ys
@@ -68,7 +70,8 @@ noted_on {a} {b} {c} {xs} {ys} first second = record {
   mine = second.mine ∙ ap (λ m. m ++ entries_in ys) first.mine ∙ append_assoc a.mine (entries_in xs) (entries_in ys)
       ∙ ap (λ es. a.mine ++ es) (sym (entries_in-append xs ys));
   seat = seat_on a b c first.seat second.seat;
-  agree = agree_then (record { terms = terms_of a; journal = b.seen; longer = c.seen; prefix = second.seat.longer }) (length a.seen) xs ys
+  agree = agree_then
+      (record { terms = terms_of a; journal = b.seen; longer = c.seen; prefix = second.seat.longer }) (length a.seen) xs ys
       first.agree (subst (λ terms. AgreeWith terms c.seen (length b.seen) ys) (terms_same a b first.seat) second.agree);
 }
 
@@ -88,12 +91,14 @@ takes_on a later (x ∷ xs) first = (first.0, (first.1.0, takes_on first.0 later
 pub takings_bytes-append : (xs ys : List Taking) → takings_bytes (xs ++ ys) ≡ takings_bytes xs ++ takings_bytes ys
 takings_bytes-append [] ys = refl
 takings_bytes-append (x ∷ xs) ys =
-    ap (λ bs. taking_bytes x ++ bs) (takings_bytes-append xs ys) ∙ sym (append_assoc (taking_bytes x) (takings_bytes xs) (takings_bytes ys))
+    ap (λ bs. taking_bytes x ++ bs) (takings_bytes-append xs ys)
+    ∙ sym (append_assoc (taking_bytes x) (takings_bytes xs) (takings_bytes ys))
 
 takings_outcomes-append : (xs ys : List Taking) → takings_outcomes (xs ++ ys) ≡ takings_outcomes xs ++ takings_outcomes ys
 takings_outcomes-append [] ys = refl
 takings_outcomes-append (x ∷ xs) ys =
-    ap (λ os. taking_outcomes x ++ os) (takings_outcomes-append xs ys) ∙ sym (append_assoc (taking_outcomes x) (takings_outcomes xs) (takings_outcomes ys))
+    ap (λ os. taking_outcomes x ++ os) (takings_outcomes-append xs ys)
+    ∙ sym (append_assoc (taking_outcomes x) (takings_outcomes xs) (takings_outcomes ys))
 
 pub taken_none : (a : Sight) → HasTaken a a
 taken_none a = record { takings = []; takes = refl; sent = sent_none a.told; noted = noted_none a.seat }
@@ -110,7 +115,8 @@ taken_one a b taking takes sent noted = record {
 pub taken_on : (a b c : Sight) → HasTaken a b → HasTaken b c → HasTaken a c
 taken_on a b c first second = record {
   takings = first.takings ++ second.takings;
-  takes = takes_on a.stage (record { old = b.stage; new = c.stage; takings = second.takings; takes = second.takes }) first.takings first.takes;
+  takes = takes_on a.stage
+      (record { old = b.stage; new = c.stage; takings = second.takings; takes = second.takes }) first.takings first.takes;
   sent = subst (λ bs. IsSent a.told bs c.told) (sym (takings_bytes-append first.takings second.takings))
       (sent_on a.told (takings_bytes first.takings) (takings_bytes second.takings) first.sent second.sent);
   noted = subst (λ os. AreNoted a.seat c.seat os) (sym (takings_outcomes-append first.takings second.takings))
@@ -138,7 +144,8 @@ up_on (Some end) a b c first up =
     ]
 
 -- an event, and what was taken up after it
-event_round : {event : Doing} {halt : Outcome} {a b c : Sight} (due : List Part) → Comes a.stage event due halt b.stage → IsSent a.told (parts_bytes due) b.told →
+event_round : {event : Doing} {halt : Outcome} {a b c : Sight} (due : List Part) →
+    Comes a.stage event due halt b.stage → IsSent a.told (parts_bytes due) b.told →
     AreNoted a.seat b.seat (halt ∷ []) → HasTaken b c → IsIdle c.stage → HasRound event a c
 event_round {event} {halt} {a} {b} {c} due comes sent noted taken idle = record {
   round = record { event = event; due = due; halt = halt; takings = taken.takings };
@@ -149,8 +156,10 @@ event_round {event} {halt} {a} {b} {c} due comes sent noted taken idle = record 
   noted = noted_on noted taken.noted;
 }
 
-event_stop : {event : Doing} {halt : Outcome} {end : ConnEnd} {count : ℕ} {a b c : Sight} (due : List Part) → Comes a.stage event due halt b.stage →
-    IsSent a.told (parts_bytes due) b.told → AreNoted a.seat b.seat (halt ∷ []) → HasTaken b c → IsStopped end c.stage → HasEnded (event ∷ []) end count a c
+event_stop : {event : Doing} {halt : Outcome} {end : ConnEnd} {count : ℕ} {a b c : Sight} (due : List Part) →
+    Comes a.stage event due halt b.stage →
+    IsSent a.told (parts_bytes due) b.told → AreNoted a.seat b.seat (halt ∷ []) → HasTaken b c
+    → IsStopped end c.stage → HasEnded (event ∷ []) end count a c
 event_stop {event} {halt} {end} {a} {b} {c} due comes sent noted taken stopped = record {
   ending = AtPiece (record { event = event; due = due; halt = halt; takings = taken.takings });
   event_is = refl;
@@ -159,8 +168,10 @@ event_stop {event} {halt} {end} {a} {b} {c} due comes sent noted taken stopped =
   noted = noted_on noted taken.noted;
 }
 
-event_lost : {event : Doing} {halt : Outcome} {end : ConnEnd} {count : ℕ} {a b c : Sight} (due : List Part) → Comes a.stage event due halt b.stage →
-    IsSent a.told (parts_bytes due) b.told → AreNoted a.seat b.seat (halt ∷ []) → end ≡ LinkFault → HasLost b c → HasEnded (event ∷ []) end count a c
+event_lost : {event : Doing} {halt : Outcome} {end : ConnEnd} {count : ℕ} {a b c : Sight} (due : List Part) →
+    Comes a.stage event due halt b.stage →
+    IsSent a.told (parts_bytes due) b.told → AreNoted a.seat b.seat (halt ∷ []) → end ≡ LinkFault → HasLost b c
+    → HasEnded (event ∷ []) end count a c
 event_lost {event} {halt} {end} {a} {b} {c} due comes sent noted is lost =
     let mid = lost.mid in
     let round : Round = record { event = event; due = due; halt = halt; takings = lost.taken.takings } in record {
@@ -219,9 +230,17 @@ bytes_up {b} {a} result c seen up =
     }) result c up
 
 -- a slot began
-pub slot_up : {slot : ℕ} {a b : Sight} (result : Option ConnEnd) (c : Sight) → HasPassed a b slot → HasTakenUp result b c → HasComeTo result (HeardSlot slot) a c
+pub slot_up : {slot : ℕ} {a b : Sight} (result : Option ConnEnd) (c : Sight) → HasPassed a b slot
+    → HasTakenUp result b c → HasComeTo result (HeardSlot slot) a c
 slot_up {slot} {a} {b} result c passed up =
-    event_up (record { due = passed.parts; halt = passed.halt; comes = (passed.input, passed.stepped); sent = passed.sent; noted = passed.noted }) result c up
+    event_up (record {
+      due = passed.parts;
+      halt = passed.halt;
+      comes = (passed.input, passed.stepped);
+      sent =
+          passed.sent;
+      noted = passed.noted;
+    }) result c up
 
 pub slot_broken : (slot : ℕ) (a c : Sight) → HasBroken a c slot → HasComeTo (Some LinkFault) (HeardSlot slot) a c
 slot_broken slot a c broken =
@@ -233,11 +252,19 @@ slot_broken slot a c broken =
       noted = subst (λ s. AreNoted a.seat s []) (sym broken.noted) (noted_none a.seat);
     }
 
-pub overfull : (bytes : List ℕ) (a c : Sight) → 131072 < length a.stage.input + length bytes → a.stage.session.waits ≡ true → c ≡ a →
+pub overfull : (bytes : List ℕ) (a c : Sight) → 131072 < length a.stage.input + length bytes →
+    a.stage.session.waits ≡ true → c ≡ a →
     HasComeTo (Some TooMuchInput) (HeardBytes bytes) a c
 overfull bytes a c many waits is =
     subst (λ s. HasComeTo (Some TooMuchInput) (HeardBytes bytes) a s) (sym is)
-    (λ count. record { ending = Overfull bytes; event_is = refl; ends = (refl, many, waits, refl); sent = sent_none a.told; noted = noted_none a.seat })
+    (λ count. record {
+      ending = Overfull bytes;
+      event_is = refl;
+      ends = (refl, many, waits, refl);
+      sent =
+          sent_none a.told;
+      noted = noted_none a.seat;
+    })
 
 -- the connection goes on
 abbrev GoesOn : Option ConnEnd → Type 0
@@ -255,9 +282,11 @@ goes_on (Bytes n) waiting c has =
     ]
 
 -- events, one after another
-runs_on : {b c : Stage} {round : Round} (a : Stage) (rounds : List Round) → RunsAll a rounds b → Runs b round c → IsIdle c → RunsAll a (rounds ++ round ∷ []) c
+runs_on : {b c : Stage} {round : Round} (a : Stage) (rounds : List Round) → RunsAll a rounds b → Runs b round c
+    → IsIdle c → RunsAll a (rounds ++ round ∷ []) c
 runs_on {c} {round} a [] runs next idle = (c, (subst (λ s. Runs s round c) runs next, idle, refl))
-runs_on {b} {c} {round} a (first ∷ rounds) runs next idle = (runs.0, (runs.1.0, runs.1.1, runs_on {b = b} {c = c} {round = round} runs.0 rounds runs.1.2 next idle))
+runs_on {b} {c} {round} a (first ∷ rounds) runs next idle =
+    (runs.0, (runs.1.0, runs.1.1, runs_on {b = b} {c = c} {round = round} runs.0 rounds runs.1.2 next idle))
 
 rounds_doings-append : (xs ys : List Round) → rounds_doings (xs ++ ys) ≡ rounds_doings xs ++ rounds_doings ys
 rounds_doings-append [] ys = refl
@@ -268,7 +297,8 @@ rounds_doings-append (x ∷ xs) ys =
 rounds_outcomes-append : (xs ys : List Round) → rounds_outcomes (xs ++ ys) ≡ rounds_outcomes xs ++ rounds_outcomes ys
 rounds_outcomes-append [] ys = refl
 rounds_outcomes-append (x ∷ xs) ys =
-    ap (λ os. round_outcomes x ++ os) (rounds_outcomes-append xs ys) ∙ sym (append_assoc (round_outcomes x) (rounds_outcomes xs) (rounds_outcomes ys))
+    ap (λ os. round_outcomes x ++ os) (rounds_outcomes-append xs ys)
+    ∙ sym (append_assoc (round_outcomes x) (rounds_outcomes xs) (rounds_outcomes ys))
 
 pub run_none : (a : Sight) → HasRun 0 a a
 run_none a = record {
@@ -280,9 +310,11 @@ run_none a = record {
 }
 
 -- an event was heard
-heard_sent : {b c : Option (List Doing)} (a : Option (List Doing)) (event : Doing) (bytes : List ℕ) → b ≡ told_more a (event ∷ []) → IsSent b bytes c →
+heard_sent : {b c : Option (List Doing)} (a : Option (List Doing)) (event : Doing) (bytes : List ℕ) →
+    b ≡ told_more a (event ∷ []) → IsSent b bytes c →
     c ≡ told_more a (event ∷ sends bytes)
-heard_sent {c} a event bytes heard sent = sent ∙ ap (λ t. told_more t (sends bytes)) heard ∙ told_more-append a (event ∷ []) (sends bytes)
+heard_sent {c} a event bytes heard sent =
+    sent ∙ ap (λ t. told_more t (sends bytes)) heard ∙ told_more-append a (event ∷ []) (sends bytes)
 
 pub run_on : {count : ℕ} {event : Doing} {a b heard c : Sight} → HasRun count a b → heard.stage ≡ b.stage → heard.seat ≡ b.seat →
     heard.told ≡ told_more b.told (event ∷ []) → HasRound event heard c → HasRun (count + 1) a c
@@ -290,7 +322,8 @@ run_on {a} {b} {heard} {c} run stage_is seat_is told_is next =
     let round = next.round in
     let doings : List Doing = round.event ∷ sends (round_bytes round) in
     let last : rounds_doings (round ∷ []) ≡ doings = append-nil doings in
-    let told : heard.told ≡ told_more b.told (round.event ∷ []) = told_is ∙ ap (λ e. told_more b.told (e ∷ [])) (sym next.event_is) in
+    let told : heard.told ≡ told_more b.told (round.event ∷ []) =
+    told_is ∙ ap (λ e. told_more b.told (e ∷ [])) (sym next.event_is) in
     let outcomes : rounds_outcomes (round ∷ []) ≡ round_outcomes round = append-nil (round_outcomes round) in record {
       rounds = run.rounds ++ round ∷ [];
       count_is = length-append run.rounds (round ∷ []) ∙ ap (λ n. n + 1) run.count_is;
@@ -299,12 +332,14 @@ run_on {a} {b} {heard} {c} run stage_is seat_is told_is next =
           ∙ ap (λ t. told_more t doings) run.told ∙ told_more-append a.told (rounds_doings run.rounds) doings
           ∙ ap (λ ds. told_more a.told (rounds_doings run.rounds ++ ds)) (sym last)
           ∙ ap (told_more a.told) (sym (rounds_doings-append run.rounds (round ∷ [])));
-      noted = subst (λ os. AreNoted a.seat c.seat os) (sym (rounds_outcomes-append run.rounds (round ∷ []) ∙ ap (λ os. rounds_outcomes run.rounds ++ os) outcomes))
+      noted = subst (λ os. AreNoted a.seat c.seat os)
+          (sym (rounds_outcomes-append run.rounds (round ∷ []) ∙ ap (λ os. rounds_outcomes run.rounds ++ os) outcomes))
           (noted_on run.noted (subst (λ s. AreNoted s c.seat (round_outcomes round)) seat_is next.noted));
     }
 
 -- and it was the last
-pub run_end : {count : ℕ} {event : Doing} {end : ConnEnd} {a b heard c : Sight} → HasRun count a b → heard.stage ≡ b.stage → heard.seat ≡ b.seat →
+pub run_end : {count : ℕ} {event : Doing} {end : ConnEnd} {a b heard c : Sight} → HasRun count a b →
+    heard.stage ≡ b.stage → heard.seat ≡ b.seat →
     heard.told ≡ told_more b.told (event ∷ []) → count < 2 ^ 40 → HasEnded (event ∷ []) end count heard c → HasCourse end a c
 run_end {count} {event} {end} {a} {b} {c} run stage_is seat_is told_is more last =
     let ending = last.ending in
@@ -314,10 +349,12 @@ run_end {count} {event} {end} {a} {b} {c} run stage_is seat_is told_is more last
       runs = run.runs;
       ending = ending;
       few = omega (arith, run.count_is, one, more);
-      ends = subst (λ n. Ends b.stage n ending end c.stage) (sym run.count_is) (subst (λ s. Ends s count ending end c.stage) stage_is last.ends);
+      ends = subst (λ n. Ends b.stage n ending end c.stage) (sym run.count_is)
+          (subst (λ s. Ends s count ending end c.stage) stage_is last.ends);
       told = heard_sent b.told event (ending_bytes ending) told_is last.sent
           ∙ ap (λ es. told_more b.told (es ++ sends (ending_bytes ending))) (sym last.event_is)
-          ∙ ap (λ t. told_more t (ending_doings ending)) run.told ∙ told_more-append a.told (rounds_doings run.rounds) (ending_doings ending);
+          ∙ ap (λ t. told_more t (ending_doings ending)) run.told
+          ∙ told_more-append a.told (rounds_doings run.rounds) (ending_doings ending);
       noted = noted_on run.noted (subst (λ s. AreNoted s c.seat (ending_outcomes ending)) seat_is last.noted);
     }
 
@@ -347,12 +384,15 @@ run_over {count} {end} {a} {b} {c} run unheard is =
     })
 
 -- a piece in front that is too long: what was taken up before it stands, and the connection ends
-pub taken_fault : {a b : Sight} (fault : DemuxFault) (end : ConnEnd) → b ≡ a → a.stage.session.torn ≡ false → IsFirst a.stage.input (Err fault)
+pub taken_fault : {a b : Sight} (fault : DemuxFault) (end : ConnEnd) → b ≡ a → a.stage.session.torn ≡ false
+    → IsFirst a.stage.input (Err fault)
     → IsEndOf fault end → HasTaken a b × IsStopped end b.stage
 taken_fault {a} LongHead end same torn first is =
-    subst (λ (s : Sight). HasTaken a s × IsStopped end s.stage) (sym same) (taken_none a, subst (λ e. IsStopped e a.stage) (sym is) (torn, first))
+    subst (λ (s : Sight). HasTaken a s × IsStopped end s.stage) (sym same)
+    (taken_none a, subst (λ e. IsStopped e a.stage) (sym is) (torn, first))
 taken_fault {a} LongBody end same torn first is =
-    subst (λ (s : Sight). HasTaken a s × IsStopped end s.stage) (sym same) (taken_none a, subst (λ e. IsStopped e a.stage) (sym is) (torn, first))
+    subst (λ (s : Sight). HasTaken a s × IsStopped end s.stage) (sym same)
+    (taken_none a, subst (λ e. IsStopped e a.stage) (sym is) (torn, first))
 
 -- what a slot brings is what is sent in it
 due_is : (waits between : Bool) (one plain after text : List ℕ) →
@@ -384,10 +424,12 @@ reply_sent session old new told = told_if (can_reply session) (Text session.text
 pub taken_passed : (a b : Sight) (n : ℕ) → IsPassed a.stage.input n → a.stage.session.torn ≡ false →
     b ≡ record a { stage = stage a.stage.session (drop n a.stage.input) } → HasTaken a b
 taken_passed a b n passed torn is = subst (HasTaken a) (sym is)
-    (taken_one a (record a { stage = stage a.stage.session (drop n a.stage.input) }) (Passed n) (passed, torn, refl) (sent_none a.told) (noted_none a.seat))
+    (taken_one a (record a { stage = stage a.stage.session (drop n a.stage.input) }) (Passed n)
+    (passed, torn, refl) (sent_none a.told) (noted_none a.seat))
 
 -- the request in front, of so many bytes
-next_is : (a : Stage) (n : ℕ) → IsFirst a.input (Ok (Request n)) → a.session.waits ≡ false → a.session.torn ≡ false → IsNext a (take n a.input)
+next_is : (a : Stage) (n : ℕ) → IsFirst a.input (Ok (Request n)) → a.session.waits ≡ false
+    → a.session.torn ≡ false → IsNext a (take n a.input)
 next_is a n first replied torn =
     let is : length (take n a.input) ≡ n = length-take-le n a.input first.2 in record {
       first = subst (λ k. IsFirst a.input (Ok (Request k))) (sym is) first;
@@ -396,8 +438,10 @@ next_is a n first replied torn =
       torn = torn;
     }
 
-pub taken_reply : {a b : Sight} {asked : Standing} {n : ℕ} → IsFirst a.stage.input (Ok (Request n)) → a.stage.session.waits ≡ false → a.stage.session.torn ≡ false →
-    HasAsked a.stage.session (take n a.stage.input) asked a.seat b.seat → b.stage ≡ stage (after_reply asked) (drop n a.stage.input) →
+pub taken_reply : {a b : Sight} {asked : Standing} {n : ℕ} → IsFirst a.stage.input (Ok (Request n)) →
+    a.stage.session.waits ≡ false → a.stage.session.torn ≡ false →
+    HasAsked a.stage.session (take n a.stage.input) asked a.seat b.seat →
+    b.stage ≡ stage (after_reply asked) (drop n a.stage.input) →
     IsTold (can_reply asked) a.told asked.text b.told → HasTaken a b
 taken_reply {a} {b} {asked} {n} first replied torn heard is told =
     let message : List ℕ = take n a.stage.input in
@@ -435,10 +479,12 @@ lost_reply {a} {asked} {n} in_front heard can is told =
     }
 
 -- where a connection stands, by its session and what waits
-pub stage_is : {session is : Standing} {input waits : List ℕ} → session ≡ is → input ≡ waits → stage session input ≡ stage is waits
+pub stage_is : {session is : Standing} {input waits : List ℕ} → session ≡ is → input ≡ waits
+    → stage session input ≡ stage is waits
 stage_is {is} {input} session_is input_is = ap (λ s. stage s input) session_is ∙ ap (stage is) input_is
 
 -- a piece that is too long ends a connection
-pub fault_ends : (fault : DemuxFault) (end : ConnEnd) (c : Connection) → IsEndOf fault end → IsFirst c.input (Err fault) → IsTakenUp (Some end) c
+pub fault_ends : (fault : DemuxFault) (end : ConnEnd) (c : Connection) → IsEndOf fault end
+    → IsFirst c.input (Err fault) → IsTakenUp (Some end) c
 fault_ends LongHead end c is first = subst (λ e. IsTakenUp (Some e) c) (sym is) first
 fault_ends LongBody end c is first = subst (λ e. IsTakenUp (Some e) c) (sym is) first

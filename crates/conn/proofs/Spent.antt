@@ -39,7 +39,8 @@ all_at {end} old new (AtPiece round) ends few all = absurd (omega (arith, few, a
 all_at {end} old new (InSlot slot front) ends few all = absurd (omega (arith, few, all))
 all_at {end} old new (InReply round message outcome front) ends few all = absurd (omega (arith, few, all))
 
-pub all_heard : (end : ConnEnd) (old new : Sight) (course : HasCourse end old new) → length course.rounds ≡ 2 ^ 40 → end ≡ TurnsSpent
+pub all_heard : (end : ConnEnd) (old new : Sight) (course : HasCourse end old new)
+    → length course.rounds ≡ 2 ^ 40 → end ≡ TurnsSpent
 all_heard end old new course all =
     all_at course.mid new.stage course.ending course.ends course.few all
 

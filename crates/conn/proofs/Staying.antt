@@ -54,7 +54,8 @@ use Rattle.conn.proofs.Playing.{as_it_was, later_slot, slot_cases, taken_slot}
 use Rattle.conn.proofs.Occasions.{EventCome}
 
 -- an admitted play is a sending of which nothing was sent
-admitted_well : {old : Standing} {start : ℕ} {new : Standing} {film : List ℕ} (placed : Placed) (plan : List Segment) → IsAskedWell (AskPlay plan) old film →
+admitted_well : {old : Standing} {start : ℕ} {new : Standing} {film : List ℕ} (placed : Placed)
+    (plan : List Segment) → IsAskedWell (AskPlay plan) old film →
     IsPlayAnswered old placed (Admitted start) new → IsWell new []
 admitted_well {old} {start} {new} placed plan well answered =
     let made : Standing = after_admission old placed.place start in
@@ -64,11 +65,14 @@ admitted_well {old} {start} {new} placed plan well answered =
     let begun = play_begins old placed (answered.0, refl, playing) ready asked.awaited_is in
     let counts : counts_of old.awaited old.counts ≡ asked.prepared.counts = ap (λ a. counts_of a old.counts) asked.awaited_is in
     let run = begun.run in
-    let play : HasPlay old.films old.source old.settings (counts_of old.awaited old.counts) old.heard [] asked.setup begun.play = record {
+    let play : HasPlay old.films old.source old.settings (counts_of old.awaited old.counts) old.heard []
+    asked.setup begun.play = record {
       stored = asked.stored;
       at = asked.at;
-      sending = subst (λ (r : Run). IsSending (stored_sizes asked.stored) (playback_of asked.stored.film old.settings asked.setup) r begun.play.plan) (sym run)
-          (subst (λ (p : List Segment). IsSending (stored_sizes asked.stored) (playback_of asked.stored.film old.settings asked.setup) asked.prepared.run p)
+      sending = subst (λ (r : Run). IsSending (stored_sizes asked.stored)
+          (playback_of asked.stored.film old.settings asked.setup) r begun.play.plan) (sym run)
+          (subst (λ (p : List Segment). IsSending (stored_sizes asked.stored)
+          (playback_of asked.stored.film old.settings asked.setup) asked.prepared.run p)
           (sym begun.plan) asked.sending);
       pieces = begun.pieces ∙ ap run_pieces asked.frames
           ∙ ap (λ (r : Run). run_pieces (sending_of asked.stored.film old.source asked.setup asked.prepared.counts r)) (sym run)
@@ -78,11 +82,13 @@ admitted_well {old} {start} {new} placed plan well answered =
     subst (λ s. IsWell s []) (sym answered.1) (record {
       films = well.0.films;
       settings = well.0.settings;
-      state = subst (IsStateOf old.films old.source old.settings (counts_of old.awaited old.counts) old.heard []) (sym begun.state) (asked.values, play);
+      state = subst (IsStateOf old.films old.source old.settings (counts_of old.awaited old.counts) old.heard
+          []) (sym begun.state) (asked.values, play);
     })
 
 play_answered : {old new : Standing} {film : List ℕ} (placed : Placed) (answer : Answer) (plan : List Segment) →
-    IsAskedWell (AskPlay plan) old film → IsPlayAnswered old placed answer new → IsWell new (if is_admission answer then [] else film)
+    IsAskedWell (AskPlay plan) old film → IsPlayAnswered old placed answer new
+    → IsWell new (if is_admission answer then [] else film)
 play_answered {new} placed (Admitted start) plan well answered = admitted_well placed plan well answered
 play_answered {new} {film} placed (Overflow slot booked asked) plan well answered =
     subst (λ s. IsWell s film) (sym answered) (record { films = well.0.films; settings = well.0.settings; state = well.0.state })
@@ -132,7 +138,8 @@ halted_values ground (Playing setup play) awaited values =
     next_values ground play (next_of awaited) values
 halted_values ground (Stopping setup stop) awaited values = values
 
-halted_well : {old new : Standing} {film : List ℕ} (keep : ℕ) (outcome : Outcome) → IsHalting old → IsHalted old keep outcome new → IsWell new film
+halted_well : {old new : Standing} {film : List ℕ} (keep : ℕ) (outcome : Outcome) → IsHalting old
+    → IsHalted old keep outcome new → IsWell new film
 halted_well {new} keep Unasked well halted = absurd halted
 halted_well {old} {new} {film} keep (Entered placed) well halted =
     let made : Standing = after_halt old placed.place in
@@ -167,13 +174,16 @@ answered_well {new} old AskReply (Entered placed) film well answered = absurd an
 answered_well {new} old AskReply (WasFull more entries live) film well answered = absurd answered
 answered_well {new} old AskReply (Offered at_slot note) film well answered = absurd answered
 answered_well {new} old (AskPlay plan) Unasked film well answered = absurd answered
-answered_well {new} old (AskPlay plan) (Entered placed) film well answered = play_answered placed placed.entry.answer plan well answered.1
+answered_well {new} old (AskPlay plan) (Entered placed) film well answered =
+    play_answered placed placed.entry.answer plan well answered.1
 answered_well {new} old (AskPlay plan) (WasFull more entries live) film well answered =
-    subst (λ s. IsWell s film) (sym answered.0) (record { films = well.0.films; settings = well.0.settings; state = well.0.state })
+    subst (λ s. IsWell s film) (sym answered.0)
+    (record { films = well.0.films; settings = well.0.settings; state = well.0.state })
 answered_well {new} old (AskPlay plan) (Offered at_slot note) film well answered = absurd answered
 answered_well {new} old (AskHalt keep) outcome film well answered = halted_well keep outcome well answered
 answered_well {new} old (AskLook slot) Unasked film well answered = absurd answered
-answered_well {new} old (AskLook slot) (Entered placed) film well answered = look_answered placed placed.entry.answer well answered.1
+answered_well {new} old (AskLook slot) (Entered placed) film well answered =
+    look_answered placed placed.entry.answer well answered.1
 answered_well {new} old (AskLook slot) (WasFull more entries live) film well answered =
     subst (λ s. IsWell s film) (sym answered.0) (record { films = well.films; settings = well.settings; state = well.state })
 answered_well {new} old (AskLook slot) (Offered at_slot note) film well answered = absurd answered
@@ -217,7 +227,8 @@ taking_well old new (Answered message outcome parts) film takes well =
     let since : List ℕ = film_since film outcome in
     let heard : IsWell takes.answered since = heard_well well takes.heard in
     let after : IsWell (after_reply takes.answered) since = reply_well (can_reply takes.answered) takes.answered since heard in
-    let none : film_bytes parts ≡ [] = ap film_bytes takes.parts_are ∙ reply_film (can_reply takes.answered) takes.answered.text in
+    let none : film_bytes parts ≡ [] =
+    ap film_bytes takes.parts_are ∙ reply_film (can_reply takes.answered) takes.answered.text in
     let same : since ≡ since ++ film_bytes parts = sym (append-nil since) ∙ ap (λ bs. since ++ bs) (sym none) in
     subst (IsWell new.session) same (subst (λ (s : Stage). IsWell s.session since) (sym takes.new_is) after)
 
@@ -245,7 +256,8 @@ finished_ground : (old s : Standing) → IsSameSession old s → IsSameSession o
 finished_ground old s is = record { films = is.films; source = is.source; settings = is.settings; counts = is.counts }
 
 -- a slot is taken up in a play or its rest, or outside, or not at all
-slot_any : {sending : Bool} {next still old : Standing} (P : Standing → Type 0) (taken : Bool) → (sending ≡ true → P next) → P still → P old →
+slot_any : {sending : Bool} {next still old : Standing} (P : Standing → Type 0) (taken : Bool) →
+    (sending ≡ true → P next) → P still → P old →
     P (if taken then (if sending then next else still) else old)
 slot_any {next} P false goes stays same = same
 slot_any {sending = false} {next} P true goes stays same = stays
@@ -276,7 +288,8 @@ off_state ground (Ready setup paused) off = off
 off_state ground (Playing setup play) off = absurd off
 off_state ground (Stopping setup stop) off = off
 
-off_well : {old new : Standing} {film more : List ℕ} → IsSameSession old new → IsWell old film → IsOff (length old.films) new.state → IsWell new more
+off_well : {old new : Standing} {film more : List ℕ} → IsSameSession old new → IsWell old film
+    → IsOff (length old.films) new.state → IsWell new more
 off_well {new} {more} same well off = record {
   films = subst AreShown (sym same.films) well.films;
   settings = subst AreSettings (sym same.settings) well.settings;
@@ -292,11 +305,13 @@ rest_off false between both one plain values = values
 rest_off true false both one plain values = values
 rest_off true true both one plain values = values
 
-reply_state : (goes : Bool) (s : Standing) → (if goes then sent_reply s else s).state ≡ (if goes then after_stop s.state else s.state)
+reply_state : (goes : Bool) (s : Standing)
+    → (if goes then sent_reply s else s).state ≡ (if goes then after_stop s.state else s.state)
 reply_state true s = refl
 reply_state false s = refl
 
-sent_off : {films : ℕ} {setup : Setup} {stop : Stop} (old : Standing) (slot : ℕ) → old.state ≡ Stopping setup stop → IsSetup films setup →
+sent_off : {films : ℕ} {setup : Setup} {stop : Stop} (old : Standing) (slot : ℕ) →
+    old.state ≡ Stopping setup stop → IsSetup films setup →
     IsOff films (after_play (sent_slot old slot)).state
 sent_off {films} {stop} old slot is values =
     let p = stop.pacer in
@@ -304,24 +319,30 @@ sent_off {films} {stop} old slot is values =
     let one : Stop = record stop { pacer = after_step true slot p } in
     let plain : Stop = record stop { pacer = after_step false slot p } in
     subst (IsOff films) (sym (reply_state (old.waits && is_between (stepped_in true slot old.state)) (sent_due old slot)))
-    (subst (λ st. IsOff films (if old.waits && is_between (stepped_in true slot st) then after_stop (due_state old.waits st slot) else due_state old.waits st slot)) (sym is)
+    (subst (λ st. IsOff films
+    (if old.waits
+    && is_between (stepped_in true slot st) then after_stop (due_state old.waits st slot) else due_state
+    old.waits st slot)) (sym is)
     (rest_off old.waits (stands_at_boundary (after_step true slot p)) both one plain values))
 
 -- a slot
-slot_off : (films : ℕ) (old : Standing) (slot : ℕ) → IsOff films old.state → (is_sending old.state ≡ true → IsOff films (after_play (sent_slot old slot)).state) →
+slot_off : (films : ℕ) (old : Standing) (slot : ℕ) → IsOff films old.state →
+    (is_sending old.state ≡ true → IsOff films (after_play (sent_slot old slot)).state) →
     IsOff films (after_slot old slot).state
 slot_off films old slot off sent =
     slot_any (λ s. IsOff films s.state) (is_taken old slot) sent off off
 
 -- a play goes on by a slot
-pub slot_play : {setup : Setup} {play : Played} {film : List ℕ} (old : Standing) (slot : ℕ) → old.state ≡ Playing setup play → HasSent play old.heard film →
+pub slot_play : {setup : Setup} {play : Played} {film : List ℕ} (old : Standing) (slot : ℕ) →
+    old.state ≡ Playing setup play → HasSent play old.heard film →
     HasSentOn setup play (after_slot old slot) (film ++ film_bytes (slot_parts old slot))
 slot_play {setup} {play} {film} old slot is has =
     slot_cases (record old { heard = slot }) (due_parts old slot)
     (ap is_sending is) (as_it_was old setup play film is has)
     (λ taken. taken_slot old slot is has (later_slot old slot taken))
 
-play_on : {old new : Standing} {setup : Setup} {play : Played} {film more : List ℕ} → IsSameSession old new → IsWell old film → old.state ≡ Playing setup play →
+play_on : {old new : Standing} {setup : Setup} {play : Played} {film more : List ℕ} → IsSameSession old new →
+    IsWell old film → old.state ≡ Playing setup play →
     HasSentOn setup play new more → IsWell new more
 play_on {old} {new} {setup} {play} {film} {more} same well is on =
     let was = subst (IsStateOf old.films old.source old.settings old.counts old.heard film) is well.state in
@@ -329,9 +350,12 @@ play_on {old} {new} {setup} {play} {film} {more} same well is on =
     let its : HasPlay old.films old.source old.settings old.counts new.heard more setup on.now = record {
       stored = stored;
       at = was.1.at;
-      sending = subst (λ (r : Run). IsSending (stored_sizes stored) (playback_of stored.film old.settings setup) r on.now.plan) (sym on.run)
-          (subst (λ (p : List Segment). IsSending (stored_sizes stored) (playback_of stored.film old.settings setup) play.run p) (sym on.plan) was.1.sending);
-      pieces = on.pieces ∙ was.1.pieces ∙ ap (λ (r : Run). run_pieces (sending_of stored.film old.source setup old.counts r)) (sym on.run);
+      sending = subst (λ (r : Run). IsSending (stored_sizes stored) (playback_of stored.film old.settings setup)
+          r on.now.plan) (sym on.run)
+          (subst (λ (p : List Segment). IsSending (stored_sizes stored)
+          (playback_of stored.film old.settings setup) play.run p) (sym on.plan) was.1.sending);
+      pieces = on.pieces ∙ was.1.pieces
+          ∙ ap (λ (r : Run). run_pieces (sending_of stored.film old.source setup old.counts r)) (sym on.run);
       sent = on.sent;
     } in record {
       films = subst AreShown (sym same.films) well.films;
@@ -340,18 +364,21 @@ play_on {old} {new} {setup} {play} {film} {more} same well is on =
           (subst (λ c. IsStateOf new.films new.source new.settings c new.heard more (Playing setup on.now)) (sym same.counts)
           (subst (λ g. IsStateOf new.films new.source g old.counts new.heard more (Playing setup on.now)) (sym same.settings)
           (subst (λ o. IsStateOf new.films o old.settings old.counts new.heard more (Playing setup on.now)) (sym same.source)
-          (subst (λ f. IsStateOf f old.source old.settings old.counts new.heard more (Playing setup on.now)) (sym same.films) (was.0, its)))));
+          (subst (λ f. IsStateOf f old.source old.settings old.counts new.heard more (Playing setup on.now))
+          (sym same.films) (was.0, its)))));
     }
 
 slot_state : (state : State) (old : Standing) (slot : ℕ) (film : List ℕ) → old.state ≡ state → IsWell old film →
     IsWell (after_slot old slot) (film ++ film_bytes (slot_parts old slot))
 slot_state Init old slot film is well =
     off_well (slot_ground old slot) well
-    (slot_off (length old.films) old slot (subst (IsOff (length old.films)) (sym is) tt) (λ sends. absurd (true≢false (sym sends ∙ ap is_sending is))))
+    (slot_off (length old.films) old slot (subst (IsOff (length old.films)) (sym is) tt)
+    (λ sends. absurd (true≢false (sym sends ∙ ap is_sending is))))
 slot_state (Ready setup paused) old slot film is well =
     let values = subst (IsStateOf old.films old.source old.settings old.counts old.heard film) is well.state in
     off_well (slot_ground old slot) well
-    (slot_off (length old.films) old slot (subst (IsOff (length old.films)) (sym is) values) (λ sends. absurd (true≢false (sym sends ∙ ap is_sending is))))
+    (slot_off (length old.films) old slot (subst (IsOff (length old.films)) (sym is) values)
+    (λ sends. absurd (true≢false (sym sends ∙ ap is_sending is))))
 slot_state (Playing setup play) old slot film is well =
     let was = subst (IsStateOf old.films old.source old.settings old.counts old.heard film) is well.state in
     play_on (slot_ground old slot) well is
@@ -359,10 +386,12 @@ slot_state (Playing setup play) old slot film is well =
 slot_state (Stopping setup stop) old slot film is well =
     let values = subst (IsStateOf old.films old.source old.settings old.counts old.heard film) is well.state in
     off_well (slot_ground old slot) well
-    (slot_off (length old.films) old slot (subst (IsOff (length old.films)) (sym is) values) (λ sends. sent_off old slot is values))
+    (slot_off (length old.films) old slot (subst (IsOff (length old.films)) (sym is) values)
+    (λ sends. sent_off old slot is values))
 
 -- a play that is done is halted
-finish_well : {old new : Standing} {film : List ℕ} (asks : Awaits) (halt : Outcome) → IsWell old film → IsFinished asks old halt new → IsWell new film
+finish_well : {old new : Standing} {film : List ℕ} (asks : Awaits) (halt : Outcome) → IsWell old film
+    → IsFinished asks old halt new → IsWell new film
 finish_well {new} {film} NoAnswer Unasked well is = subst (λ s. IsWell s film) (sym is) well
 finish_well {new} NoAnswer (Entered placed) well is = absurd is
 finish_well {new} NoAnswer (WasFull more entries live) well is = absurd is
@@ -377,7 +406,8 @@ comes_well : {film : List ℕ} {old new : Stage} {event : Doing} (come : EventCo
     IsWell old.session film → IsWell new.session (film ++ film_bytes come.due)
 comes_well {film} {old} {new} {event = HeardBytes bytes} come well =
     subst (λ ps. IsWell new.session (film ++ film_bytes ps)) (sym come.comes.0)
-    (subst (λ (s : Stage). IsWell s.session (film ++ [])) (sym come.comes.3) (subst (IsWell old.session) (sym (append-nil film)) well))
+    (subst (λ (s : Stage). IsWell s.session (film ++ [])) (sym come.comes.3)
+    (subst (IsWell old.session) (sym (append-nil film)) well))
 comes_well {film} {old} {new} {event = HeardSlot slot} come well =
     subst (λ ps. IsWell new.session (film ++ film_bytes ps)) (sym come.comes.1.parts_are)
     (finish_well (awaited_answer (after_slot old.session slot)) come.halt
@@ -396,4 +426,5 @@ pub rounds_well : (old new : Stage) (rounds : List Round) (film : List ℕ) → 
     IsWell new.session (film_in film rounds)
 rounds_well old new [] film well runs = subst (λ (s : Stage). IsWell s.session film) (sym runs) well
 rounds_well old new (round ∷ rounds) film well runs =
-    rounds_well runs.0 new rounds (film_taken (film ++ film_bytes round.due) round.takings) (round_well old runs.0 round film well runs.1.0) runs.1.2
+    rounds_well runs.0 new rounds (film_taken (film ++ film_bytes round.due) round.takings)
+    (round_well old runs.0 round film well runs.1.0) runs.1.2

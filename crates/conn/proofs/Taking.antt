@@ -16,7 +16,8 @@ ends_in_front bytes n k within =
     let second : k - 2 < n = omega (arith, within) in
     rw (get_or-take n bytes k 0 within, get_or-take n bytes (k - 1) 0 before, get_or-take n bytes (k - 2) 0 second) refl
 
-pub whole_request : (bytes : List ℕ) (n : ℕ) → IsRequestLength bytes n → n ≤ length bytes → IsRequestLength (take n bytes) (length (take n bytes))
+pub whole_request : (bytes : List ℕ) (n : ℕ) → IsRequestLength bytes n → n ≤ length bytes
+    → IsRequestLength (take n bytes) (length (take n bytes))
 whole_request bytes n is within = record {
   head = is.head;
   body = is.body;

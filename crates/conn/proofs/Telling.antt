@@ -94,7 +94,8 @@ told_plain : (made : List Outcome) (text : List ℕ) → IsNoRefusal text → Is
 told_plain made text plain = record { overflow = λ is. absurd (plain.no_overflow is); full = λ is. absurd (plain.not_full is) }
 
 -- its entry is among others too
-over_among : (mine more : List Placed) (text : List ℕ) (its : TellsOver mine text) → Contains more its.placed → TellsOver more text
+over_among : (mine more : List Placed) (text : List ℕ) (its : TellsOver mine text) → Contains more its.placed
+    → TellsOver more text
 over_among mine more text its made = record {
   placed = its.placed;
   made = made;
@@ -140,12 +141,14 @@ are_both made (Film bytes ∷ xs) ys first second = are_both made xs ys first se
 are_both made (Text text ∷ xs) ys first second = (first.0, are_both made xs ys first.1 second)
 
 -- what the station answers is told
-told_overflow : {slot booked asked : ℕ} (made : List Outcome) (placed : Placed) (sequence : ℕ) → placed.entry.answer ≡ Overflow slot booked asked →
+told_overflow : {slot booked asked : ℕ} (made : List Outcome) (placed : Placed) (sequence : ℕ) →
+    placed.entry.answer ≡ Overflow slot booked asked →
     IsTold (made ++ Entered placed ∷ []) (overflow_text sequence slot booked asked)
 told_overflow {slot} {booked} {asked} made placed sequence answer = record {
   overflow = λ is. record {
     placed = placed;
-    made = subst (λ mine. Contains mine placed) (sym (entries_in-append made (Entered placed ∷ []))) (Contains-push (entries_in made) placed);
+    made = subst (λ mine. Contains mine placed) (sym (entries_in-append made (Entered placed ∷ [])))
+        (Contains-push (entries_in made) placed);
     slot = slot;
     booked = booked;
     asked = asked;
@@ -156,7 +159,8 @@ told_overflow {slot} {booked} {asked} made placed sequence answer = record {
   full = λ is. absurd (overflow_not_full sequence slot booked asked is);
 }
 
-told_full : (made : List Outcome) (more entries live sequence : ℕ) → IsTold (made ++ WasFull more entries live ∷ []) (full_text sequence entries live)
+told_full : (made : List Outcome) (more entries live sequence : ℕ)
+    → IsTold (made ++ WasFull more entries live ∷ []) (full_text sequence entries live)
 told_full made more entries live sequence = record {
   overflow = λ is. absurd (full_not_overflow sequence entries live is);
   full = λ is. record {
@@ -180,7 +184,8 @@ play_told : {answer : Answer} {old : Standing} {placed : Placed} {new : Standing
 play_told {answer = Admitted start} {old} {placed} made plain given =
     subst (IsTold (made ++ Entered placed ∷ [])) (sym (ap (λ (s : Standing). s.text) given.answered.1))
     (told_plain (made ++ Entered placed ∷ []) (started_text old.text (start - old.heard))
-    (subst IsNoRefusal (sym (append_assoc old.text (field_line (field (codes "x-Start") (decimal (start - old.heard)))) (codes "\r\n")))
+    (subst IsNoRefusal
+    (sym (append_assoc old.text (field_line (field (codes "x-Start") (decimal (start - old.heard)))) (codes "\r\n")))
     (plain (field_line (field (codes "x-Start") (decimal (start - old.heard))) ++ codes "\r\n"))))
 play_told {answer = Overflow slot booked asked} {placed} made plain given =
     subst (IsTold (made ++ Entered placed ∷ [])) (sym (ap (λ (s : Standing). s.text) given.answered))
@@ -188,7 +193,8 @@ play_told {answer = Overflow slot booked asked} {placed} made plain given =
 play_told {answer = Halted} made plain given = absurd given.answered
 play_told {answer = Looked now at booked} made plain given = absurd given.answered
 
-look_told : (made : List Outcome) (old : Standing) (placed : Placed) (answer : Answer) (new : Standing) → IsLookAnswered old placed answer new →
+look_told : (made : List Outcome) (old : Standing) (placed : Placed) (answer : Answer) (new : Standing) →
+    IsLookAnswered old placed answer new →
     IsTold (made ++ Entered placed ∷ []) new.text
 look_told made old placed (Admitted start) new answered = absurd answered
 look_told made old placed (Overflow slot booked asked) new answered = absurd answered
@@ -200,10 +206,12 @@ look_told made old placed (Looked now at booked) new answered =
 full_told : {new : Standing} (made : List Outcome) (old : Standing) (more entries live : ℕ) → new ≡ after_full old entries live →
     IsTold (made ++ WasFull more entries live ∷ []) new.text
 full_told {new} made old more entries live is =
-    subst (IsTold (made ++ WasFull more entries live ∷ [])) (sym (ap (λ (s : Standing). s.text) is)) (told_full made more entries live _)
+    subst (IsTold (made ++ WasFull more entries live ∷ [])) (sym (ap (λ (s : Standing). s.text) is))
+    (told_full made more entries live _)
 
 -- a halt leaves the reply
-halted_text : (old : Standing) (keep : ℕ) (outcome : Outcome) (new : Standing) → IsHalted old keep outcome new → new.text ≡ old.text
+halted_text : (old : Standing) (keep : ℕ) (outcome : Outcome) (new : Standing) → IsHalted old keep outcome new
+    → new.text ≡ old.text
 halted_text old keep Unasked new halted = absurd halted
 halted_text old keep (Entered placed) new halted = ap (λ (s : Standing). s.text) halted.halts
 halted_text old keep (WasFull more entries live) new halted = absurd halted
@@ -223,14 +231,16 @@ answered_told made AskReply (Entered placed) given = absurd given.answered
 answered_told made AskReply (WasFull more entries live) given = absurd given.answered
 answered_told made AskReply (Offered at_slot note) given = absurd given.answered
 answered_told made (AskPlay plan) Unasked given = absurd given.answered
-answered_told {old} made (AskPlay plan) (Entered placed) given = play_told {old = old} made given.plain (record { answer_is = refl; answered = given.answered.1 })
+answered_told {old} made (AskPlay plan) (Entered placed) given =
+    play_told {old = old} made given.plain (record { answer_is = refl; answered = given.answered.1 })
 answered_told {old} made (AskPlay plan) (WasFull more entries live) given = full_told made old more entries live given.answered.0
 answered_told made (AskPlay plan) (Offered at_slot note) given = absurd given.answered
 answered_told {old} {new} made (AskHalt keep) outcome given =
     subst (IsTold (made ++ outcome ∷ [])) (sym (halted_text old keep outcome new given.answered))
     (told_plain (made ++ outcome ∷ []) old.text given.plain)
 answered_told made (AskLook slot) Unasked given = absurd given.answered
-answered_told {old} {new} made (AskLook slot) (Entered placed) given = look_told made old placed placed.entry.answer new given.answered.1
+answered_told {old} {new} made (AskLook slot) (Entered placed) given =
+    look_told made old placed placed.entry.answer new given.answered.1
 answered_told {old} made (AskLook slot) (WasFull more entries live) given = full_told made old more entries live given.answered.0
 answered_told made (AskLook slot) (Offered at_slot note) given = absurd given.answered
 answered_told made (AskOffer plan offers) Unasked given = absurd given.answered
@@ -240,13 +250,16 @@ answered_told made (AskOffer plan offers) (Offered at_slot note) given =
     subst (IsTold (made ++ Offered at_slot note ∷ [])) (sym (ap (λ (s : Standing). s.text) given.answered.2))
     (told_plain (made ++ Offered at_slot note ∷ []) _ (ok_plain _ _ _))
 
-heard_told : (made : List Outcome) (old : Standing) (message : List ℕ) (outcome : Outcome) (new : Standing) → HasHeard old message outcome new →
+heard_told : (made : List Outcome) (old : Standing) (message : List ℕ) (outcome : Outcome) (new : Standing) →
+    HasHeard old message outcome new →
     IsTold (made ++ outcome ∷ []) new.text
 heard_told made old message outcome new heard =
-    answered_told made heard.ask outcome (record { plain = hears_text old heard.asking message heard.ask heard.hears; answered = heard.answered })
+    answered_told made heard.ask outcome
+    (record { plain = hears_text old heard.asking message heard.ask heard.hears; answered = heard.answered })
 
 -- a reply that goes out
-reply_told : (made : List Outcome) (goes : Bool) (text : List ℕ) → IsTold made text → AreTold made (if goes then Text text ∷ [] else [])
+reply_told : (made : List Outcome) (goes : Bool) (text : List ℕ) → IsTold made text
+    → AreTold made (if goes then Text text ∷ [] else [])
 reply_told made false text told = tt
 reply_told made true text told = (told, tt)
 
@@ -263,17 +276,22 @@ taking_tells : {old new : Stage} {message : List ℕ} {outcome : Outcome} {parts
     TakesPiece old (Answered message outcome parts) new → Tells (made ++ outcome ∷ []) new.session parts
 taking_tells {old} {new} {message} {outcome} made takes =
     let goes : Bool = can_reply takes.answered in
-    let told : IsTold (made ++ outcome ∷ []) takes.answered.text = heard_told made old.session message outcome takes.answered takes.heard in
-    let text : new.session.text ≡ takes.answered.text = ap (λ (s : Stage). s.session.text) takes.new_is ∙ reply_text_is goes takes.answered in
+    let told : IsTold (made ++ outcome ∷ []) takes.answered.text =
+    heard_told made old.session message outcome takes.answered takes.heard in
+    let text : new.session.text ≡ takes.answered.text =
+    ap (λ (s : Stage). s.session.text) takes.new_is ∙ reply_text_is goes takes.answered in
     record {
       waiting = subst (IsTold (made ++ outcome ∷ [])) (sym text) told;
-      sent = subst (AreTold (made ++ outcome ∷ [])) (sym takes.parts_are) (reply_told (made ++ outcome ∷ []) goes takes.answered.text told);
+      sent = subst (AreTold (made ++ outcome ∷ [])) (sym takes.parts_are)
+          (reply_told (made ++ outcome ∷ []) goes takes.answered.text told);
     }
 
-tells_same : (made made' : List Outcome) (s : Standing) (parts : List Part) → made ≡ made' → Tells made s parts → Tells made' s parts
+tells_same : (made made' : List Outcome) (s : Standing) (parts : List Part) → made ≡ made' → Tells made s parts
+    → Tells made' s parts
 tells_same made made' s parts same tells = subst (λ m. Tells m s parts) same tells
 
-takings_tell : (made : List Outcome) (old new : Stage) (takings : List Taking) → IsTold made old.session.text → TakesAll old takings new →
+takings_tell : (made : List Outcome) (old new : Stage) (takings : List Taking) → IsTold made old.session.text →
+    TakesAll old takings new →
     Tells (made ++ takings_outcomes takings) new.session (takings_parts takings)
 takings_tell made old new [] told takes =
     tells_same made (made ++ []) new.session [] (sym (append-nil made))
@@ -285,7 +303,8 @@ takings_tell made old new (Answered message outcome parts ∷ takings) told take
     let rest = takings_tell (made ++ outcome ∷ []) takes.0 new takings first.waiting takes.1.1 in
     let all : (made ++ outcome ∷ []) ++ takings_outcomes takings ≡ made ++ outcome ∷ takings_outcomes takings =
     append_assoc made (outcome ∷ []) (takings_outcomes takings) in
-    tells_same ((made ++ outcome ∷ []) ++ takings_outcomes takings) (made ++ outcome ∷ takings_outcomes takings) new.session (parts ++ takings_parts takings) all
+    tells_same ((made ++ outcome ∷ []) ++ takings_outcomes takings) (made ++ outcome ∷ takings_outcomes takings)
+    new.session (parts ++ takings_parts takings) all
     (record {
       waiting = rest.waiting;
       sent = are_both ((made ++ outcome ∷ []) ++ takings_outcomes takings) parts (takings_parts takings)
@@ -319,7 +338,8 @@ slot_tells made old slot told =
     due_told (is_taken old slot && is_sending old.state) old.waits (is_between (stepped_in true slot old.state))
     (record { before = _; rest = _; plain = _ }) told
 
-finished_text : (asks : Awaits) (old : Standing) (halt : Outcome) (new : Standing) → IsFinished asks old halt new → new.text ≡ old.text
+finished_text : (asks : Awaits) (old : Standing) (halt : Outcome) (new : Standing)
+    → IsFinished asks old halt new → new.text ≡ old.text
 finished_text NoAnswer old Unasked new is = ap (λ (s : Standing). s.text) is
 finished_text NoAnswer old (Entered placed) new is = absurd is
 finished_text NoAnswer old (WasFull more entries live) new is = absurd is
@@ -329,7 +349,8 @@ finished_text (HaltAnswer keep) old halt new is = halted_text old keep halt new 
 finished_text LookAnswer old halt new is = absurd is
 finished_text OfferAnswer old halt new is = absurd is
 
-comes_tells : {made : List Outcome} {due : List Part} (old new : Stage) (event : Doing) (halt : Outcome) → IsTold made old.session.text →
+comes_tells : {made : List Outcome} {due : List Part} (old new : Stage) (event : Doing) (halt : Outcome) →
+    IsTold made old.session.text →
     Comes old event due halt new → Tells made new.session due
 comes_tells {made} old new (HeardBytes bytes) halt told comes = record {
   waiting = subst (λ (s : Stage). IsTold made s.session.text) (sym comes.3) told;
@@ -337,7 +358,8 @@ comes_tells {made} old new (HeardBytes bytes) halt told comes = record {
 }
 comes_tells {made} old new (HeardSlot slot) halt told comes =
     let s = after_slot old.session slot in
-    let text : new.session.text ≡ old.session.text = finished_text (awaited_answer s) s halt new.session comes.1.finished ∙ slot_text old.session slot in
+    let text : new.session.text ≡ old.session.text =
+    finished_text (awaited_answer s) s halt new.session comes.1.finished ∙ slot_text old.session slot in
     record {
       waiting = subst (IsTold made) (sym text) told;
       sent = subst (AreTold made) (sym comes.1.parts_are) (slot_tells made old.session slot told);
@@ -350,17 +372,20 @@ round_tells : (made : List Outcome) (old new : Stage) (round : Round) → IsTold
     Tells (made ++ round_outcomes round) new.session (round_parts round)
 round_tells made old new round told runs =
     let first = comes_tells old runs.opened round.event round.halt told runs.comes in
-    let opened : IsTold (made ++ round.halt ∷ []) runs.opened.session.text = told_more made (round.halt ∷ []) runs.opened.session.text first.waiting in
+    let opened : IsTold (made ++ round.halt ∷ []) runs.opened.session.text =
+    told_more made (round.halt ∷ []) runs.opened.session.text first.waiting in
     let rest = takings_tell (made ++ round.halt ∷ []) runs.opened new round.takings opened runs.takes in
     let all : (made ++ round.halt ∷ []) ++ takings_outcomes round.takings ≡ made ++ round_outcomes round =
     append_assoc made (round.halt ∷ []) (takings_outcomes round.takings) in
     record {
       waiting = subst (λ m. IsTold m new.session.text) all rest.waiting;
       sent = are_both (made ++ round_outcomes round) round.due (takings_parts round.takings)
-          (are_more made (round_outcomes round) round.due first.sent) (subst (λ m. AreTold m (takings_parts round.takings)) all rest.sent);
+          (are_more made (round_outcomes round) round.due first.sent)
+          (subst (λ m. AreTold m (takings_parts round.takings)) all rest.sent);
     }
 
-rounds_tell : (made : List Outcome) (old new : Stage) (rounds : List Round) → IsTold made old.session.text → RunsAll old rounds new →
+rounds_tell : (made : List Outcome) (old new : Stage) (rounds : List Round) → IsTold made old.session.text →
+    RunsAll old rounds new →
     Tells (made ++ rounds_outcomes rounds) new.session (rounds_parts rounds)
 rounds_tell made old new [] told runs =
     tells_same made (made ++ []) new.session [] (sym (append-nil made))
@@ -368,9 +393,11 @@ rounds_tell made old new [] told runs =
 rounds_tell made old new (round ∷ rounds) told runs =
     let first = round_tells made old runs.0 round told runs.1.0 in
     let rest = rounds_tell (made ++ round_outcomes round) runs.0 new rounds first.waiting runs.1.2 in
-    let all : (made ++ round_outcomes round) ++ rounds_outcomes rounds ≡ made ++ (round_outcomes round ++ rounds_outcomes rounds) =
+    let all : (made ++ round_outcomes round) ++ rounds_outcomes rounds
+    ≡ made ++ (round_outcomes round ++ rounds_outcomes rounds) =
     append_assoc made (round_outcomes round) (rounds_outcomes rounds) in
-    tells_same ((made ++ round_outcomes round) ++ rounds_outcomes rounds) (made ++ (round_outcomes round ++ rounds_outcomes rounds)) new.session
+    tells_same ((made ++ round_outcomes round) ++ rounds_outcomes rounds)
+    (made ++ (round_outcomes round ++ rounds_outcomes rounds)) new.session
     (round_parts round ++ rounds_parts rounds) all
     (record {
       waiting = rest.waiting;
@@ -392,19 +419,22 @@ ending_tells {made} Unheard told ended = tt
 ending_tells {made} PeerEnded told ended = tt
 ending_tells {made} (Overfull bytes) told ended = tt
 ending_tells {made} {old} (AtPiece round) told ended =
-    are_both (made ++ round_outcomes round) (round_parts round) [] (round_tells made old ended.new round told ended.ends.0).sent tt
+    are_both (made ++ round_outcomes round) (round_parts round) []
+    (round_tells made old ended.new round told ended.ends.0).sent tt
 ending_tells {made} (InSlot slot front) told ended = tt
 ending_tells {made} {old} (InReply round message outcome front) told ended =
     let first = round_tells made old ended.ends.1.mid round told ended.ends.1.runs in
     let all : (made ++ round_outcomes round) ++ outcome ∷ [] ≡ made ++ (round_outcomes round ++ outcome ∷ []) =
     append_assoc made (round_outcomes round) (outcome ∷ []) in
     subst (λ m. AreTold m (rounds_parts (round ∷ []))) all
-    (are_more (made ++ round_outcomes round) (outcome ∷ []) (round_parts round ++ []) (are_both (made ++ round_outcomes round) (round_parts round) [] first.sent tt))
+    (are_more (made ++ round_outcomes round) (outcome ∷ []) (round_parts round ++ [])
+    (are_both (made ++ round_outcomes round) (round_parts round) [] first.sent tt))
 
 pub parts-more : (rounds more : List Round) → rounds_parts (rounds ++ more) ≡ rounds_parts rounds ++ rounds_parts more
 parts-more [] more = refl
 parts-more (round ∷ rounds) more =
-    ap (λ ps. round_parts round ++ ps) (parts-more rounds more) ∙ sym (append_assoc (round_parts round) (rounds_parts rounds) (rounds_parts more))
+    ap (λ ps. round_parts round ++ ps) (parts-more rounds more)
+    ∙ sym (append_assoc (round_parts round) (rounds_parts rounds) (rounds_parts more))
 
 no_digits : (a b c : ℕ) → [] ≡ a ∷ b ∷ c ∷ [] → ⊥
 no_digits a b c same = cc
@@ -415,22 +445,29 @@ nothing_told = record { overflow = λ is. absurd (no_digits 52 53 51 is); full =
 
 -- over a whole course
 pub course_tells : {ending : Ending} (old mid : Stage) (rounds : List Round) → old.session.text ≡ [] → RunsAll old rounds mid →
-    CourseEnd mid ending → AreTold (rounds_outcomes rounds ++ ending_outcomes ending) (rounds_parts (rounds ++ ending_rounds ending))
+    CourseEnd mid ending
+    → AreTold (rounds_outcomes rounds ++ ending_outcomes ending) (rounds_parts (rounds ++ ending_rounds ending))
 course_tells {ending} old mid rounds none runs ended =
     let made : List Outcome = rounds_outcomes rounds ++ ending_outcomes ending in
     let first = rounds_tell [] old mid rounds (subst (IsTold []) (sym none) nothing_told) runs in
     let last = ending_tells ending first.waiting ended in
     subst (AreTold made) (sym (parts-more rounds (ending_rounds ending)))
-    (are_both made (rounds_parts rounds) (rounds_parts (ending_rounds ending)) (are_more (rounds_outcomes rounds) (ending_outcomes ending) (rounds_parts rounds) first.sent) last)
+    (are_both made (rounds_parts rounds) (rounds_parts (ending_rounds ending))
+    (are_more (rounds_outcomes rounds) (ending_outcomes ending) (rounds_parts rounds) first.sent) last)
 
 -- more entries of the seat's
-mine_more : (mine after : List Placed) (made : List Outcome) (parts : List Part) → AreRepliesTold mine made parts → AreRepliesTold (mine ++ after) made parts
+mine_more : (mine after : List Placed) (made : List Outcome) (parts : List Part)
+    → AreRepliesTold mine made parts → AreRepliesTold (mine ++ after) made parts
 mine_more mine after made [] told = tt
 mine_more mine after made (Film bytes ∷ parts) told = mine_more mine after made parts told
-mine_more mine after made (Text text ∷ parts) told =
-    (subst (λ m. IsReplyTold (mine ++ after) m text) (append-nil made) (refusal_more mine after made [] text told.0), mine_more mine after made parts told.1)
+mine_more mine after made (Text text ∷ parts) told = (
+  subst (λ m. IsReplyTold (mine ++ after) m text) (append-nil made)
+      (refusal_more mine after made [] text told.0),
+  mine_more mine after made parts told.1,
+)
 
-mine_before : (before mine : List Placed) (made : List Outcome) (parts : List Part) → AreRepliesTold mine made parts → AreRepliesTold (before ++ mine) made parts
+mine_before : (before mine : List Placed) (made : List Outcome) (parts : List Part)
+    → AreRepliesTold mine made parts → AreRepliesTold (before ++ mine) made parts
 mine_before before mine made [] told = tt
 mine_before before mine made (Film bytes ∷ parts) told = mine_before before mine made parts told
 mine_before before mine made (Text text ∷ parts) told = (
@@ -444,8 +481,11 @@ mine_before before mine made (Text text ∷ parts) told = (
 )
 
 -- an entry of a seat's stands in what it has seen, and was answered in the state before it
-overflow_stands : {command : Command} {slot booked asked : ℕ} (steps : List CapStep) (before : Journal) → IsAnswer steps before command (Overflow slot booked asked) →
-    (heard : ℕ) × ((plan : List Segment) × ((command ≡ Play heard plan) × IsFirstOverflow 0 (booked_in before) (capacity_at steps) (start_after before heard) plan
+overflow_stands : {command : Command} {slot booked asked : ℕ} (steps : List CapStep) (before : Journal) →
+    IsAnswer steps before command (Overflow slot booked asked) →
+    (heard : ℕ) ×
+    ((plan : List Segment)
+    × ((command ≡ Play heard plan) × IsFirstOverflow 0 (booked_in before) (capacity_at steps) (start_after before heard) plan
     (record { slot = slot; booked = booked; asked = asked })))
 overflow_stands {command = Play heard plan} {slot} steps before is = (heard, (plan, (refl, is)))
 overflow_stands {command = Halt number keep} {slot} steps before is = absurd is
@@ -455,12 +495,15 @@ overflow_seen : (seat : Sitting) (text : List ℕ) → IsSeat seat → TellsOver
 overflow_seen seat text is told =
     let entry : Entry = told.placed.entry in
     let own : Contains (made_by seat.number seat.seen) told.placed = subst (λ ps. Contains ps told.placed) is.own told.made in
-    let at = All-contains (IsAt 0 seat.number entry seat.seen) (made_by seat.number seat.seen) told.placed (all-at 0 seat.number entry seat.seen) own in
+    let at = All-contains (IsAt 0 seat.number entry seat.seen) (made_by seat.number seat.seen) told.placed
+    (all-at 0 seat.number entry seat.seen) own in
     let place : ℕ = at.at in
-    let read : slice_get seat.seen place ≡ Some (get_or seat.seen place entry) = slice_get-get_or seat.seen place entry at.inside in
+    let read : slice_get seat.seen place ≡ Some (get_or seat.seen place entry) =
+    slice_get-get_or seat.seen place entry at.inside in
     let seen : slice_get seat.seen place ≡ Some entry = read ∙ ap (λ e. Some e) (sym at.entry_is) in
     let answered : IsAnswer seat.steps (state_after (take place seat.seen)) entry.command entry.answer =
-    subst (λ (e : Entry). IsAnswer seat.steps (state_after (take place seat.seen)) e.command e.answer) (sym at.entry_is) (is.legal.each place entry at.inside) in
+    subst (λ (e : Entry). IsAnswer seat.steps (state_after (take place seat.seen)) e.command e.answer)
+    (sym at.entry_is) (is.legal.each place entry at.inside) in
     let over = overflow_stands seat.steps (state_after (take place seat.seen))
     (subst (IsAnswer seat.steps (state_after (take place seat.seen)) entry.command) told.answer answered) in record {
       slot = told.slot;
@@ -481,11 +524,14 @@ overflow_seen seat text is told =
       text_is = told.text_is;
     }
 
-all_seen : (seat : Sitting) (made : List Outcome) (parts : List Part) → IsSeat seat → AreRepliesTold seat.mine made parts → AreRefusalsTold seat made parts
+all_seen : (seat : Sitting) (made : List Outcome) (parts : List Part) → IsSeat seat
+    → AreRepliesTold seat.mine made parts → AreRefusalsTold seat made parts
 all_seen seat made [] is told = tt
 all_seen seat made (Film bytes ∷ parts) is told = all_seen seat made parts is told
-all_seen seat made (Text text ∷ parts) is told =
-    (record { overflow = λ code. overflow_seen seat text is (told.0.overflow code); full = told.0.full }, all_seen seat made parts is told.1)
+all_seen seat made (Text text ∷ parts) is told = (
+  record { overflow = λ code. overflow_seen seat text is (told.0.overflow code); full = told.0.full },
+  all_seen seat made parts is told.1,
+)
 
 -- a seat's own entries: those of these answers, with those before and after them
 pub record SeatEntries (seat : Sitting) (made : List Outcome) : Type 0 where

@@ -28,13 +28,16 @@ pub record RestedBusiness (booking next : Option Booking) (receipts told lists :
 -- a connection from beginning to end: no booking is open before and after
 pub gone_whole : {booking next : Option Booking} {receipts told lists : List Receipt} (mine new : List Placed) →
     RestedBusiness booking next receipts told lists →
-    HasGone (record { mine = mine; booking = booking; receipts = receipts }) (record { mine = new; booking = next; receipts = told }) →
+    HasGone (record { mine = mine; booking = booking; receipts = receipts })
+    (record { mine = new; booking = next; receipts = told }) →
     HasGone (at_rest mine []) (at_rest new lists)
 gone_whole {next} mine new rested gone = record {
   made = gone.made;
   mine_is = gone.mine_is;
-  receipts_are = ap entry_receipts rested.same ∙ gone.receipts_are ∙ ap (λ rs. entry_receipts rs ++ map receipt_for gone.made) rested.none;
-  open_is = ap (λ b. open_play_from (open_play_of b) gone.made) (sym rested.closed) ∙ gone.open_is ∙ ap open_play_of rested.open_none;
+  receipts_are =
+      ap entry_receipts rested.same ∙ gone.receipts_are ∙ ap (λ rs. entry_receipts rs ++ map receipt_for gone.made) rested.none;
+  open_is = ap (λ b. open_play_from (open_play_of b) gone.made) (sym rested.closed) ∙ gone.open_is
+      ∙ ap open_play_of rested.open_none;
 }
 
 pub served_none : (part : Option Content) → IfSome part IsUntouched → IsServed part part 0
@@ -48,7 +51,8 @@ served_none (Some part) untouched = record {
   back = ap length untouched.back;
 }
 
-pub served_out : (old mid new : Option Content) (count : ℕ) → IsServed old mid count → new ≡ option_map after_take mid → IfSome new HasOut
+pub served_out : (old mid new : Option Content) (count : ℕ) → IsServed old mid count
+    → new ≡ option_map after_take mid → IfSome new HasOut
 served_out None mid new count served is = subst (λ c. IfSome c HasOut) (sym (is ∙ ap (option_map after_take) served)) tt
 served_out (Some old) None new count served is = absurd served
 served_out (Some old) (Some mid) new count served is =
@@ -69,7 +73,8 @@ served_one {taken} {new} {mid = Some mid} {conn} (Some old) count served back =
       back = length-append mid.own.back (conn ∷ []) ∙ ap (λ n. n + 1) served.back;
     })
 
-pub served_last : {new : Option Content} (old mid : Option Content) (count : ℕ) (last : LastTake) → IsServed old mid count → new ≡ option_map (after_empty_take last) mid → IsServed old new count
+pub served_last : {new : Option Content} (old mid : Option Content) (count : ℕ) (last : LastTake)
+    → IsServed old mid count → new ≡ option_map (after_empty_take last) mid → IsServed old new count
 served_last {new} None mid count last served is = is ∙ ap (option_map (after_empty_take last)) served
 served_last {new} (Some old) None count last served is = absurd served
 served_last {new} (Some old) (Some mid) count last served is =
@@ -82,7 +87,8 @@ served_last {new} (Some old) (Some mid) count last served is =
       back = served.back;
     })
 
-pub told_last : (mid new : Option Content) (last : LastTake) → new ≡ option_map (after_empty_take last) mid → IfSome new (λ c. c.own.last ≡ last)
+pub told_last : (mid new : Option Content) (last : LastTake) → new ≡ option_map (after_empty_take last) mid
+    → IfSome new (λ c. c.own.last ≡ last)
 told_last None new last is = subst (λ c. IfSome c (λ (p : Content). p.own.last ≡ last)) (sym is) tt
 told_last (Some mid) new last is = subst (λ c. IfSome c (λ (p : Content). p.own.last ≡ last)) (sym is) refl
 
@@ -114,7 +120,8 @@ has_one {mine} {new} {reports} {more} report served gone is = record {
   receipts_are = ap entries_told is ∙ entries_told-append reports (report ∷ [])
       ∙ ap (λ rs. entries_told reports ++ rs) (append-nil (entry_receipts report.receipts.items) ∙ gone.receipts_are)
       ∙ ap (λ rs. rs ++ map receipt_for gone.made) served.receipts_are ∙ sym (map-append receipt_for served.made gone.made);
-  open_is = fold-append open_play_with Closed served.made gone.made ∙ ap (λ play. open_play_from play gone.made) served.open_is ∙ gone.open_is;
+  open_is = fold-append open_play_with Closed served.made gone.made
+      ∙ ap (λ play. open_play_from play gone.made) served.open_is ∙ gone.open_is;
 }
 
 -- something holds of each report of a list, and of one more

@@ -26,13 +26,15 @@ ready-kept old new kept ready =
     let R : Moment → Type 0 = λ m. IsReady m in
     subst R (sym kept) ready
 
-ready-made : {new : Moment} {states : List ClientState} (old : Moment) (e : Entry) → new ≡ record { entries = old.entries ++ e ∷ []; states = states; heard = old.heard }
+ready-made : {new : Moment} {states : List ClientState} (old : Moment) (e : Entry)
+    → new ≡ record { entries = old.entries ++ e ∷ []; states = states; heard = old.heard }
     → length states ≡ 256 → IsBalanced (old.entries ++ e ∷ []) states old.heard → IsReady new
 ready-made {new} old e is count balanced =
     let R : Moment → Type 0 = λ m. IsReady m in
     subst R (sym is) (record { count = count; balanced = balanced })
 
-answered : {old new : Moment} (answer : Answer) (ask : AskedPlay) → ask.c < 256 → ((t : ℕ) → share_of t (get_or old.states ask.c Idle) ≡ 0)
+answered : {old new : Moment} (answer : Answer) (ask : AskedPlay) → ask.c < 256
+    → ((t : ℕ) → share_of t (get_or old.states ask.c Idle) ≡ 0)
     → new ≡ record {
       entries = old.entries ++ entry_by ask.c (commands.Play old.heard ask.plan) answer ∷ [];
       states = with_play ask.c ask.rest ask.plan (length old.entries) answer old.states;
@@ -43,7 +45,14 @@ answered {old} {new} (Admitted start) ask client free is ready =
     let e = entry_by ask.c (commands.Play old.heard ask.plan) (Admitted start) in
     ready-made old e is (length-set old.states ask.c (Playing play) ∙ ready.count)
     (balanced-play
-    (record { play = play; e = e; number = refl; maker = refl; is = ap (λ (s : State). s.held) (state-push old.entries e) }) (omega (arith, client, ready.count)) free ready.balanced)
+    (record {
+      play = play;
+      e = e;
+      number = refl;
+      maker = refl;
+      is =
+          ap (λ (s : State). s.held) (state-push old.entries e);
+    }) (omega (arith, client, ready.count)) free ready.balanced)
 answered {old} {new} (Overflow over booked asked) ask client free is ready =
     let e = entry_by ask.c (commands.Play old.heard ask.plan) (Overflow over booked asked) in
     ready-made old e is ready.count
@@ -57,7 +66,8 @@ answered {old} {new} (Looked now at booked) ask client free is ready =
     ready-made old e is ready.count
     (balanced-same old.entries old.states old.heard e (ap (λ (s : State). s.held) (state-push old.entries e)) ready.balanced)
 
-asked : {link : Link} {c : ℕ} {rest : Rest} {old new : Moment} {text : List ℕ} → c < 256 → ((t : ℕ) → share_of t (get_or old.states c Idle) ≡ 0)
+asked : {link : Link} {c : ℕ} {rest : Rest} {old new : Moment} {text : List ℕ} → c < 256
+    → ((t : ℕ) → share_of t (get_or old.states c Idle) ≡ 0)
     → IsAsked link c rest old new text → IsReady old → IsReady new
 asked {c} {old} {new} {text} client free (inl faulty) ready = ready-kept old new faulty.told.kept ready
 asked {c} {rest} {old} {new} {text} client free (inr planned) ready = elim planned.done [
@@ -83,7 +93,8 @@ shut-pause : (b : Bool) (stop : Booked) (rest : Rest) → IsShut (cond b (Paused
 shut-pause true stop rest = tt
 shut-pause false stop rest = tt
 
-paused : {link : Link} {c : ℕ} {play : Play} {old new : Moment} {text : List ℕ} → c < 256 → get_or old.states c Idle ≡ Playing play
+paused : {link : Link} {c : ℕ} {play : Play} {old new : Moment} {text : List ℕ} → c < 256
+    → get_or old.states c Idle ≡ Playing play
     → IsHaltedPlay link c play old new text → IsReady old → IsReady new
 paused {c} {play} {old} {new} {text} client at is ready =
     let e = entry_by c (commands.Halt play.number is.keep) Halted in
@@ -92,7 +103,8 @@ paused {c} {play} {old} {new} {text} client at is ready =
     let S : ClientState → Type 0 = λ s. IsShut s in
     let shut : IsShut is.state = subst S (sym is.pause.state_is) (shut-pause (sent_by stop old.heard == stop.keep) stop rest) in
     ready-made old e is.noted.new_is (length-set old.states c is.state ∙ ready.count)
-    (balanced-halt c is.keep is.state (record { inside = omega (arith, client, ready.count); at = at; balanced = ready.balanced }) shut
+    (balanced-halt c is.keep is.state
+    (record { inside = omega (arith, client, ready.count); at = at; balanced = ready.balanced }) shut
     (λ t later. ap (share_of t) is.pause.state_is ∙ pausing-share t old.heard stop rest later))
 
 pub pause-ready : {c : ℕ} {state : ClientState} (step : LineStep) → ClientOf step.old c state
@@ -103,17 +115,24 @@ pause-ready {c} {state = Pausing stop rest} step own is ready = ready-kept step.
 pause-ready {c} {state = Paused rest} step own is ready = ready-kept step.old step.new is.kept ready
 
 looked : (answer : Answer) (slot : ℕ) (old new : Moment)
-    → new ≡ record { entries = old.entries ++ entry_by 0 (commands.Look slot) answer ∷ []; states = old.states; heard = old.heard } → IsReady old → IsReady new
+    → new ≡ record {
+      entries = old.entries ++ entry_by 0 (commands.Look slot) answer ∷ [];
+      states =
+          old.states;
+      heard = old.heard;
+    } → IsReady old → IsReady new
 looked answer slot old new is ready =
     let e = entry_by 0 (commands.Look slot) answer in
     ready-made old e is ready.count
     (balanced-same old.entries old.states old.heard e (ap (λ (s : State). s.held) (state-push old.entries e)) ready.balanced)
 
-look-ready : {link : Link} {slot : ℕ} {old new : Moment} {text : List ℕ} → IsLookLine link slot old new text → IsReady old → IsReady new
+look-ready : {link : Link} {slot : ℕ} {old new : Moment} {text : List ℕ} → IsLookLine link slot old new text
+    → IsReady old → IsReady new
 look-ready {slot} {old} {new} {text} (inl full) ready = ready-kept old new full.told.kept ready
 look-ready {slot} {old} {new} {text} (inr made) ready = looked made.answer slot old new made.noted.new_is ready
 
-offer-ready : {link : Link} {rest : Rest} {wait : ℕ} {old new : Moment} {text : List ℕ} → IsOfferLine link rest wait old new text → IsReady old → IsReady new
+offer-ready : {link : Link} {rest : Rest} {wait : ℕ} {old new : Moment} {text : List ℕ}
+    → IsOfferLine link rest wait old new text → IsReady old → IsReady new
 offer-ready {old} {new} {text} (inl faulty) ready = ready-kept old new faulty.told.kept ready
 offer-ready {old} {new} {text} (inr offered) ready = ready-kept old new offered.told.kept ready
 
@@ -121,7 +140,8 @@ pub slot-ready : (old new : Moment) (slot : ℕ) → old.heard ≤ slot → new 
 slot-ready old new slot le is ready =
     let R : Moment → Type 0 = λ m. IsReady m in
     subst R (sym is) (record {
-      count = length-map (map (after_sending slot) old.states) (after_play slot) ∙ length-map old.states (after_sending slot) ∙ ready.count;
+      count = length-map (map (after_sending slot) old.states) (after_play slot)
+          ∙ length-map old.states (after_sending slot) ∙ ready.count;
       balanced = balanced-slot old slot le ready.balanced;
     })
 
@@ -132,7 +152,8 @@ line-ready step (lines.Play c source buffer delay) standing is ready =
 line-ready step (lines.Pause c) standing is ready = pause-ready step (record { client = standing.client; at = refl }) is ready
 line-ready step (lines.Resume c) standing is ready = resume-ready step (record { client = standing.client; at = refl }) is ready
 line-ready step (lines.Look slot) standing is ready = look-ready is ready
-line-ready step (lines.Slot slot) standing is ready = slot-ready step.old step.new slot (omega (arith, standing.stands.0)) is.0 ready
+line-ready step (lines.Slot slot) standing is ready =
+    slot-ready step.old step.new slot (omega (arith, standing.stands.0)) is.0 ready
 line-ready step (lines.Offer c source buffer delay wait) standing is ready =
     offer-ready is ready
 
@@ -158,7 +179,8 @@ morning-ready = record {
 pub ready-sent : (m : Moment) (slot : ℕ) → m.heard ≤ slot → IsReady m → sent_up_to m slot ≡ booked_up_to m slot
 ready-sent m slot le ready = balanced-sent m.entries m.states m.heard slot le ready.balanced
 
-asked-heard : {link : Link} {c : ℕ} {rest : Rest} {old new : Moment} {text : List ℕ} → IsAsked link c rest old new text → new.heard ≡ old.heard
+asked-heard : {link : Link} {c : ℕ} {rest : Rest} {old new : Moment} {text : List ℕ}
+    → IsAsked link c rest old new text → new.heard ≡ old.heard
 asked-heard {c} {new} {text} (inl faulty) = ap (λ (m : Moment). m.heard) faulty.told.kept
 asked-heard {c} {new} {text} (inr planned) = elim planned.done [
   | inl full ↦ ap (λ (m : Moment). m.heard) full.told.kept
@@ -186,24 +208,28 @@ pause-heard step c (Playing play) is = ap (λ (m : Moment). m.heard) is.noted.ne
 pause-heard step c (Pausing stop rest) is = ap (λ (m : Moment). m.heard) is.kept
 pause-heard step c (Paused rest) is = ap (λ (m : Moment). m.heard) is.kept
 
-look-heard : (link : Link) (slot : ℕ) (old new : Moment) (text : List ℕ) → IsLookLine link slot old new text → new.heard ≡ old.heard
+look-heard : (link : Link) (slot : ℕ) (old new : Moment) (text : List ℕ) → IsLookLine link slot old new text
+    → new.heard ≡ old.heard
 look-heard link slot old new text (inl full) = ap (λ (m : Moment). m.heard) full.told.kept
 look-heard link slot old new text (inr made) = ap (λ (m : Moment). m.heard) made.noted.new_is
 
-offer-heard : {link : Link} {rest : Rest} {wait : ℕ} {old new : Moment} {text : List ℕ} → IsOfferLine link rest wait old new text → new.heard ≡ old.heard
+offer-heard : {link : Link} {rest : Rest} {wait : ℕ} {old new : Moment} {text : List ℕ}
+    → IsOfferLine link rest wait old new text → new.heard ≡ old.heard
 offer-heard {new} {text} (inl faulty) = ap (λ (m : Moment). m.heard) faulty.told.kept
 offer-heard {new} {text} (inr offered) = ap (λ (m : Moment). m.heard) offered.told.kept
 
 pub heard-after : (step : LineStep) (line : Line) → IsLine step.link line step.old step.new step.text
     → step.new.heard ≡ slot_after step.old.heard line
-heard-after step (lines.Play c source buffer delay) is = play-heard step c (rest_at step.link source buffer delay) (state_at step.old c) is
+heard-after step (lines.Play c source buffer delay) is =
+    play-heard step c (rest_at step.link source buffer delay) (state_at step.old c) is
 heard-after step (lines.Pause c) is = pause-heard step c (state_at step.old c) is
 heard-after step (lines.Resume c) is = resume-heard step c (state_at step.old c) is
 heard-after step (lines.Look slot) is = look-heard step.link _ step.old step.new step.text is
 heard-after step (lines.Slot slot) is = ap (λ (m : Moment). m.heard) is.0
 heard-after step (lines.Offer c source buffer delay wait) is = offer-heard is
 
-pub run-ready : {old new : Moment} {n : ℕ} (link : Link) (lines : List Line) (texts : List (List ℕ)) → StandingLines old.heard n lines
+pub run-ready : {old new : Moment} {n : ℕ} (link : Link) (lines : List Line) (texts : List (List ℕ))
+    → StandingLines old.heard n lines
     → AreRun link lines texts old new → IsReady old → IsReady new
 run-ready {old} {new} link [] [] standing run ready = ready-kept old new run ready
 run-ready {new} link [] (t ∷ texts) standing run ready = absurd run

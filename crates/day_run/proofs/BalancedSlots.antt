@@ -21,13 +21,16 @@ use Rattle.day_run.proofs.Sweeps.{IsSwept, entries-more, swept-all, swept-none, 
 use Rattle.day_run.proofs.Balances.{BalancedClient, balanced-halt, booked-halted, share-done}
 
 -- ---- a slot comes
-pause-share : (b : Bool) (t : ℕ) (stop : Booked) (rest : Rest) → (b ≡ true → share_at t stop ≡ 0) → share_of t (cond b (Paused rest) (Pausing stop rest)) ≡ share_at t stop
+pause-share : (b : Bool) (t : ℕ) (stop : Booked) (rest : Rest) → (b ≡ true → share_at t stop ≡ 0)
+    → share_of t (cond b (Paused rest) (Pausing stop rest)) ≡ share_at t stop
 pause-share true t stop rest none = sym (none refl)
 pause-share false t stop rest none = refl
 
-pub pausing-share : (t slot : ℕ) (stop : Booked) (rest : Rest) → slot < t → share_of t (pausing_state slot stop rest) ≡ share_at t stop
+pub pausing-share : (t slot : ℕ) (stop : Booked) (rest : Rest) → slot < t
+    → share_of t (pausing_state slot stop rest) ≡ share_at t stop
 pausing-share t slot stop rest later =
-    pause-share (sent_by stop slot == stop.keep) t stop rest (λ all. share-done t slot stop later (eqb-true (sent_by stop slot) stop.keep all))
+    pause-share (sent_by stop slot == stop.keep) t stop rest
+    (λ all. share-done t slot stop later (eqb-true (sent_by stop slot) stop.keep all))
 
 sending-share : (t slot : ℕ) (state : ClientState) → slot < t → share_of t (after_sending slot state) ≡ share_of t state
 sending-share t slot Idle later = refl
@@ -35,7 +38,8 @@ sending-share t slot (Playing play) later = refl
 sending-share t slot (Pausing stop rest) later = pausing-share t slot stop rest later
 sending-share t slot (Paused rest) later = refl
 
-sending-shares : (t slot : ℕ) (states : List ClientState) → slot < t → sum_by (share_of t) (map (after_sending slot) states) ≡ sum_by (share_of t) states
+sending-shares : (t slot : ℕ) (states : List ClientState) → slot < t
+    → sum_by (share_of t) (map (after_sending slot) states) ≡ sum_by (share_of t) states
 sending-shares t slot [] later = refl
 sending-shares t slot (state ∷ states) later =
     omega (
@@ -46,34 +50,41 @@ sending-shares t slot (state ∷ states) later =
       sum_by-cons (share_of t) (after_sending slot state) (map (after_sending slot) states),
     )
 
-pause-held : (b : Bool) (entries : List Entry) (c : ℕ) (stop : Booked) (rest : Rest) → AreHeldOf entries c (cond b (Paused rest) (Pausing stop rest))
+pause-held : (b : Bool) (entries : List Entry) (c : ℕ) (stop : Booked) (rest : Rest)
+    → AreHeldOf entries c (cond b (Paused rest) (Pausing stop rest))
 pause-held true entries c stop rest = tt
 pause-held false entries c stop rest = tt
 
-sending-held : (entries : List Entry) (c slot : ℕ) (state : ClientState) → AreHeldOf entries c state → AreHeldOf entries c (after_sending slot state)
+sending-held : (entries : List Entry) (c slot : ℕ) (state : ClientState) → AreHeldOf entries c state
+    → AreHeldOf entries c (after_sending slot state)
 sending-held entries c slot Idle its = tt
 sending-held entries c slot (Playing play) its = its
 sending-held entries c slot (Pausing stop rest) its = pause-held (sent_by stop slot == stop.keep) entries c stop rest
 sending-held entries c slot (Paused rest) its = tt
 
-pub balanced-sending : (entries : List Entry) (states : List ClientState) (heard slot : ℕ) → heard ≤ slot → IsBalanced entries states heard
+pub balanced-sending : (entries : List Entry) (states : List ClientState) (heard slot : ℕ) → heard ≤ slot
+    → IsBalanced entries states heard
     → IsBalanced entries (map (after_sending slot) states) slot
 balanced-sending entries states heard slot le balanced = record {
   each = λ t later. balanced.each t (omega (arith, le, later)) ∙ sym (sending-shares t slot states later);
   held = λ c within.
       let inside : c < length states = omega (arith, within, length-map states (after_sending slot)) in
       let C : ClientState → Type 0 = λ x. AreHeldOf entries c x in
-      subst C (sym (get_or-map (after_sending slot) states c Idle Idle inside)) (sending-held entries c slot (get_or states c Idle) (balanced.held c inside));
+      subst C (sym (get_or-map (after_sending slot) states c Idle Idle inside))
+      (sending-held entries c slot (get_or states c Idle) (balanced.held c inside));
   fresh = balanced.fresh;
 }
 
 -- a play that is done is halted
-done-shares : (t slot : ℕ) (play : Play) → slot < t → is_done slot play ≡ true → share_of t Idle ≡ share_at t (cut_play play.start play.plan (total_bytes play.plan))
+done-shares : (t slot : ℕ) (play : Play) → slot < t → is_done slot play ≡ true
+    → share_of t Idle ≡ share_at t (cut_play play.start play.plan (total_bytes play.plan))
 done-shares t slot play later done =
-    let all : (sent_by (booking_of play) slot == total_bytes play.plan) ≡ true = (and_parts (nat_le play.start slot) (sent_by (booking_of play) slot == total_bytes play.plan) done).1 in
+    let all : (sent_by (booking_of play) slot == total_bytes play.plan) ≡ true =
+    (and_parts (nat_le play.start slot) (sent_by (booking_of play) slot == total_bytes play.plan) done).1 in
     sym (share-done t slot (booking_of play) later (eqb-true (sent_by (booking_of play) slot) (total_bytes play.plan) all))
 
-left-alone : {slot : ℕ} {entries : List Entry} {states : List ClientState} {state : ClientState} (c : ℕ) → get_or states c Idle ≡ state → IsBalanced entries states slot
+left-alone : {slot : ℕ} {entries : List Entry} {states : List ClientState} {state : ClientState} (c : ℕ)
+    → get_or states c Idle ≡ state → IsBalanced entries states slot
     → IsBalanced (entries ++ []) (set states c state) slot
 left-alone {slot} {entries} {states} {state} c at balanced =
     let E : List Entry → Type 0 = λ es. IsBalanced es (set states c state) slot in
@@ -120,24 +131,29 @@ record IsStep (slot : ℕ) (old new : List Entry) (states : List ClientState) : 
   balanced : IsBalanced new states slot
   stays : Stays slot old new
 
-kept-step : {slot : ℕ} {entries : List Entry} {states : List ClientState} {state : ClientState} (c : ℕ) → get_or states c Idle ≡ state → IsBalanced entries states slot
+kept-step : {slot : ℕ} {entries : List Entry} {states : List ClientState} {state : ClientState} (c : ℕ)
+    → get_or states c Idle ≡ state → IsBalanced entries states slot
     → IsStep slot entries (entries ++ []) (set states c state)
 kept-step {slot} {entries} c at balanced =
     record { balanced = left-alone c at balanced; stays = stays-none slot entries }
 
-pub its-held : {entries : List Entry} {states : List ClientState} {heard : ℕ} {play : Play} (c : ℕ) → c < length states → get_or states c Idle ≡ Playing play → IsBalanced entries states heard
+pub its-held : {entries : List Entry} {states : List ClientState} {heard : ℕ} {play : Play} (c : ℕ)
+    → c < length states → get_or states c Idle ≡ Playing play → IsBalanced entries states heard
     → held_as play.number (state_after entries).held ≡ Some (admitted_play play.number play.start play.plan)
 its-held {entries} {play} c inside at balanced =
     let H : ClientState → Type 0 = λ s. AreHeldOf entries c s in
     let its : IsHeld entries c play = subst H at (balanced.held c inside) in
     its.held
 
-step-play : {slot : ℕ} {entries : List Entry} {states : List ClientState} {play : Play} {done : Bool} (c : ℕ) → is_done slot play ≡ done
+step-play : {slot : ℕ} {entries : List Entry} {states : List ClientState} {play : Play} {done : Bool} (c : ℕ)
+    → is_done slot play ≡ done
     → BalancedClient slot c entries states (Playing play)
-    → IsStep slot entries (entries ++ cond done (halt_by c play.number (total_bytes play.plan)) []) (set states c (cond done Idle (Playing play)))
+    → IsStep slot entries (entries ++ cond done (halt_by c play.number (total_bytes play.plan)) [])
+    (set states c (cond done Idle (Playing play)))
 step-play {slot} {entries} {play} {done = true} c done own = record {
   balanced = balanced-halt c (total_bytes play.plan) Idle own tt (λ t later. done-shares t slot play later done);
-  stays = stays-halt entries c (total_bytes play.plan) play (its-held c own.inside own.at own.balanced) (record { sent = omega arith; most = omega arith });
+  stays = stays-halt entries c (total_bytes play.plan) play (its-held c own.inside own.at own.balanced)
+      (record { sent = omega arith; most = omega arith });
 }
 step-play {slot} {done = false} c done own = kept-step c own.at own.balanced
 
@@ -159,7 +175,8 @@ open-state {slot} c entries states (Playing play) own =
       balanced =
           balanced-halt c keep Idle own tt
           (λ t later. sym (share-done t slot (cut_play play.start play.plan keep) later (omega arith)));
-      stays = stays-halt entries c keep play (its-held c own.inside own.at own.balanced) (record { sent = omega arith; most = omega arith });
+      stays = stays-halt entries c keep play (its-held c own.inside own.at own.balanced)
+          (record { sent = omega arith; most = omega arith });
     }
 open-state {slot} c entries states (Pausing stop rest) own = kept-step c own.at own.balanced
 open-state {slot} c entries states (Paused rest) own = kept-step c own.at own.balanced
@@ -169,7 +186,8 @@ IsStepOf slot halt after =
     (c : ℕ) (entries : List Entry) (states : List ClientState) (state : ClientState) → BalancedClient slot c entries states state
     → IsStep slot entries (entries ++ halt c state) (set states c (after state))
 
-record Ending (slot n : ℕ) (halt : ℕ → ClientState → List Entry) (after : ClientState → ClientState) (begun : List Entry) (old : List ClientState) : Type 0 where
+record Ending (slot n : ℕ) (halt : ℕ → ClientState → List Entry) (after : ClientState → ClientState)
+    (begun : List Entry) (old : List ClientState) : Type 0 where
   entries : List Entry
   states : List ClientState
   swept : IsSwept after n old states
@@ -177,7 +195,8 @@ record Ending (slot n : ℕ) (halt : ℕ → ClientState → List Entry) (after 
   balanced : IsBalanced entries states slot
   stays : Stays slot begun entries
 
-ending : {slot : ℕ} {halt : ℕ → ClientState → List Entry} {after : ClientState → ClientState} {begun : List Entry} {old : List ClientState}
+ending : {slot : ℕ} {halt : ℕ → ClientState → List Entry} {after : ClientState → ClientState}
+    {begun : List Entry} {old : List ClientState}
     {n : ℕ} → IsStepOf slot halt after → n ≤ length old
     → IsBalanced begun old slot → Ending slot n halt after begun old
 ending {slot} {halt} {after} {begun} {old} {n = zero} step most balanced = record {
@@ -189,7 +208,8 @@ ending {slot} {halt} {after} {begun} {old} {n = zero} step most balanced = recor
   stays = λ t past. refl;
 }
 ending {slot} {halt} {after} {begun} {old} {n = suc n} step most balanced =
-    let e = ending {slot = slot} {halt = halt} {after = after} {begun = begun} {old = old} {n = n} step (omega (arith, most)) balanced in
+    let e = ending {slot = slot} {halt = halt} {after = after} {begun = begun} {old = old} {n = n} step
+    (omega (arith, most)) balanced in
     let state = get_or old n Idle in
     let one : n + 1 ≡ suc n = omega arith in
     let inside : n < length old = omega (arith, most) in
@@ -203,7 +223,9 @@ ending {slot} {halt} {after} {begun} {old} {n = suc n} step most balanced =
       entries = e.entries ++ halt n state;
       states = set e.states n (after state);
       swept = swept-set {f = after} {i = n} {old = old} {new = e.states} {state = after state} inside refl e.swept;
-      entries_are = entries-more {i = n} {before = e.entries} {after = e.entries ++ halt n state} {more = halt n state} halt old begun inside
+      entries_are =
+          entries-more {i = n} {before = e.entries} {after = e.entries ++ halt n state} {more = halt n state}
+          halt old begun inside
           (record { before_is = e.entries_are; after_is = refl; here = refl });
       balanced = next.balanced;
       stays = λ t past. next.stays t past ∙ e.stays t past;
@@ -214,7 +236,8 @@ pub balanced-slot : (old : Moment) (slot : ℕ) → old.heard ≤ slot → IsBal
 balanced-slot old slot le balanced =
     let sent = map (after_sending slot) old.states in
     let n = length sent in
-    let e = ending {slot = slot} {halt = done_halt slot} {after = after_play slot} {begun = old.entries} {old = sent} {n = n} step-state (omega arith) (balanced-sending old.entries old.states old.heard slot le balanced) in
+    let e = ending {slot = slot} {halt = done_halt slot} {after = after_play slot} {begun = old.entries}
+    {old = sent} {n = n} step-state (omega arith) (balanced-sending old.entries old.states old.heard slot le balanced) in
     let states : e.states ≡ map (after_play slot) sent = swept-all (after_play slot) n sent e.states (omega arith) e.swept in
     let entries : e.entries ≡ old.entries ++ halt_entries (done_halt slot) 0 old.states =
     e.entries_are ∙ ap (λ l. old.entries ++ halt_entries (done_halt slot) 0 l) (take_all n sent (omega arith))
@@ -228,7 +251,8 @@ pub slot-stays : (old : Moment) (slot t : ℕ) → old.heard ≤ slot → t ≤ 
 slot-stays old slot t le past balanced =
     let sent = map (after_sending slot) old.states in
     let n = length sent in
-    let e = ending {slot = slot} {halt = done_halt slot} {after = after_play slot} {begun = old.entries} {old = sent} {n = n} step-state (omega arith) (balanced-sending old.entries old.states old.heard slot le balanced) in
+    let e = ending {slot = slot} {halt = done_halt slot} {after = after_play slot} {begun = old.entries}
+    {old = sent} {n = n} step-state (omega arith) (balanced-sending old.entries old.states old.heard slot le balanced) in
     let entries : e.entries ≡ old.entries ++ halt_entries (done_halt slot) 0 old.states =
     e.entries_are ∙ ap (λ l. old.entries ++ halt_entries (done_halt slot) 0 l) (take_all n sent (omega arith))
     ∙ ap (λ es. old.entries ++ es) (halt_entries-sent slot 0 old.states) in
@@ -239,8 +263,10 @@ pub last-stays : (m : Moment) (t : ℕ) → t ≤ m.heard → IsBalanced m.entri
     → booked_in (state_after (last_journal m)) t ≡ booked_in (state_after m.entries) t
 last-stays m t past balanced =
     let n = length m.states in
-    let e = ending {slot = m.heard} {halt = open_halt m.heard} {after = after_open} {begun = m.entries} {old = m.states} {n = n} open-state (omega arith) balanced in
-    let entries : e.entries ≡ last_journal m = e.entries_are ∙ ap (λ l. m.entries ++ halt_entries (open_halt m.heard) 0 l) (take_all n m.states (omega arith)) in
+    let e = ending {slot = m.heard} {halt = open_halt m.heard} {after = after_open} {begun = m.entries}
+    {old = m.states} {n = n} open-state (omega arith) balanced in
+    let entries : e.entries ≡ last_journal m =
+    e.entries_are ∙ ap (λ l. m.entries ++ halt_entries (open_halt m.heard) 0 l) (take_all n m.states (omega arith)) in
     sym (ap (λ es. booked_in (state_after es) t) entries) ∙ e.stays t past
 
 -- the entry of a play that begins
@@ -258,8 +284,10 @@ play-stays entries heard t begun early past =
     let held = (state_after entries).held in
     let none : t + 1 - start ≡ 0 = omega (arith, early, past) in
     let sent : sent_before plan start (t + 1) ≡ 0 = ap (λ n. sum (take n (plan_slots plan))) none in
-    let b : booked_in (state_after (entries ++ e ∷ [])) t ≡ booked_in (state_after entries) t + share_at t (whole_play start plan) =
-    ap (λ hs. sum_by (share_at t) (map (λ (x : Held). x.play) hs)) is ∙ ap (sum_by (share_at t)) (map-append (λ (x : Held). x.play) held (admitted_play number start plan ∷ []))
+    let b : booked_in (state_after (entries ++ e ∷ [])) t
+    ≡ booked_in (state_after entries) t + share_at t (whole_play start plan) =
+    ap (λ hs. sum_by (share_at t) (map (λ (x : Held). x.play) hs)) is
+    ∙ ap (sum_by (share_at t)) (map-append (λ (x : Held). x.play) held (admitted_play number start plan ∷ []))
     ∙ sum_by_push (share_at t) (map (λ (x : Held). x.play) held) (whole_play start plan) in
     omega (arith, b, sent)
   where
@@ -269,7 +297,9 @@ pub last-later : (m : Moment) (t : ℕ) → m.heard < t → IsBalanced m.entries
     → booked_in (state_after (last_journal m)) t ≡ sum_by (share_of t) (map after_open m.states)
 last-later m t later balanced =
     let n = length m.states in
-    let e = ending {slot = m.heard} {halt = open_halt m.heard} {after = after_open} {begun = m.entries} {old = m.states} {n = n} open-state (omega arith) balanced in
-    let entries : e.entries ≡ last_journal m = e.entries_are ∙ ap (λ l. m.entries ++ halt_entries (open_halt m.heard) 0 l) (take_all n m.states (omega arith)) in
+    let e = ending {slot = m.heard} {halt = open_halt m.heard} {after = after_open} {begun = m.entries}
+    {old = m.states} {n = n} open-state (omega arith) balanced in
+    let entries : e.entries ≡ last_journal m =
+    e.entries_are ∙ ap (λ l. m.entries ++ halt_entries (open_halt m.heard) 0 l) (take_all n m.states (omega arith)) in
     let states : e.states ≡ map after_open m.states = swept-all after_open n m.states e.states (omega arith) e.swept in
     sym (ap (λ es. booked_in (state_after es) t) entries) ∙ e.balanced.each t later ∙ ap (sum_by (share_of t)) states

@@ -24,7 +24,8 @@ use Rattle.day_run.proofs.SlotSums.{sum-slots}
 
 -- ---- plays slot by slot
 -- one slot more
-pub growth-more : (heard slot : ℕ) (play : Booked) → heard ≤ slot → growth heard (slot + 1) play ≡ growth heard slot play + share_at (slot + 1) play
+pub growth-more : (heard slot : ℕ) (play : Booked) → heard ≤ slot
+    → growth heard (slot + 1) play ≡ growth heard slot play + share_at (slot + 1) play
 growth-more heard slot play le =
     omega (
       arith,
@@ -42,7 +43,8 @@ share-done t heard play later all =
       sent-rises play.segments play.start (heard + 1) (t + 1) (omega (arith, later)),
     )
 
-between-more : (heard slot : ℕ) (state : ClientState) → heard ≤ slot → sent_between heard (slot + 1) state ≡ sent_between heard slot state + share_of (slot + 1) state
+between-more : (heard slot : ℕ) (state : ClientState) → heard ≤ slot
+    → sent_between heard (slot + 1) state ≡ sent_between heard slot state + share_of (slot + 1) state
 between-more heard slot Idle le = omega arith
 between-more heard slot (Playing play) le = growth-more heard slot (booking_of play) le
 between-more heard slot (Pausing stop rest) le = growth-more heard slot stop le
@@ -55,7 +57,8 @@ between-none heard (Pausing stop rest) = omega arith
 between-none heard (Paused rest) = refl
 
 sum-between : (heard slot : ℕ) (states : List ClientState) → heard ≤ slot
-    → sum_by (sent_between heard (slot + 1)) states ≡ sum_by (sent_between heard slot) states + sum_by (share_of (slot + 1)) states
+    → sum_by (sent_between heard (slot + 1)) states
+    ≡ sum_by (sent_between heard slot) states + sum_by (share_of (slot + 1)) states
 sum-between heard slot [] le = omega arith
 sum-between heard slot (state ∷ states) le =
     omega (
@@ -69,10 +72,12 @@ sum-between heard slot (state ∷ states) le =
 
 pub sum-none : (heard : ℕ) (states : List ClientState) → sum_by (sent_between heard heard) states ≡ 0
 sum-none heard [] = refl
-sum-none heard (state ∷ states) = omega (arith, between-none heard state, sum-none heard states, sum_by-cons (sent_between heard heard) state states)
+sum-none heard (state ∷ states) =
+    omega (arith, between-none heard state, sum-none heard states, sum_by-cons (sent_between heard heard) state states)
 
 -- what is sent in the slots after one is what the clients book there
-sent-booked : (booked : ℕ → ℕ) (heard n : ℕ) (states : List ClientState) → ((t : ℕ) → heard < t → booked t ≡ sum_by (share_of t) states)
+sent-booked : (booked : ℕ → ℕ) (heard n : ℕ) (states : List ClientState)
+    → ((t : ℕ) → heard < t → booked t ≡ sum_by (share_of t) states)
     → sum_by (sent_between heard (heard + n)) states ≡ sum_by booked (range_with_len (heard + 1) n)
 sent-booked booked heard zero states each =
     let e : heard + 0 ≡ heard = omega arith in
@@ -81,20 +86,25 @@ sent-booked booked heard (suc n) states each =
     let e : heard + suc n ≡ heard + n + 1 = omega arith in
     let f : suc n ≡ n + 1 = omega arith in
     let g : heard + 1 + n ≡ heard + n + 1 = omega arith in
-    let s : sum_by (sent_between heard (heard + n + 1)) states ≡ sum_by (sent_between heard (heard + n)) states + sum_by (share_of (heard + n + 1)) states =
+    let s : sum_by (sent_between heard (heard + n + 1)) states
+    ≡ sum_by (sent_between heard (heard + n)) states + sum_by (share_of (heard + n + 1)) states =
     sum-between heard (heard + n) states (omega arith) in
-    let b : sum_by booked (range_with_len (heard + 1) (n + 1)) ≡ sum_by booked (range_with_len (heard + 1) n) + booked (heard + n + 1) =
+    let b : sum_by booked (range_with_len (heard + 1) (n + 1))
+    ≡ sum_by booked (range_with_len (heard + 1) n) + booked (heard + n + 1) =
     sum-slots booked (heard + 1) n ∙ ap (λ k. sum_by booked (range_with_len (heard + 1) n) + booked k) g in
     let here : booked (heard + n + 1) ≡ sum_by (share_of (heard + n + 1)) states = each (heard + n + 1) (omega arith) in
     let whole : sum_by (sent_between heard (heard + n + 1)) states ≡ sum_by booked (range_with_len (heard + 1) (n + 1)) =
     omega (arith, s, b, here, sent-booked booked heard n states each) in
     ap (λ k. sum_by (sent_between heard k) states) e ∙ whole ∙ sym (ap (λ k. sum_by booked (range_with_len (heard + 1) k)) f)
 
-pub balanced-sent : (entries : List Entry) (states : List ClientState) (heard slot : ℕ) → heard ≤ slot → IsBalanced entries states heard
-    → sum_by (sent_between heard slot) states ≡ sum_by (booked_in (state_after entries)) (range_with_len (heard + 1) (slot - heard))
+pub balanced-sent : (entries : List Entry) (states : List ClientState) (heard slot : ℕ) → heard ≤ slot
+    → IsBalanced entries states heard
+    → sum_by (sent_between heard slot) states
+    ≡ sum_by (booked_in (state_after entries)) (range_with_len (heard + 1) (slot - heard))
 balanced-sent entries states heard slot le balanced =
     let e : heard + (slot - heard) ≡ slot = omega (arith, le) in
-    sym (ap (λ s. sum_by (sent_between heard s) states) e) ∙ sent-booked (booked_in (state_after entries)) heard (slot - heard) states balanced.each
+    sym (ap (λ s. sum_by (sent_between heard s) states) e)
+    ∙ sent-booked (booked_in (state_after entries)) heard (slot - heard) states balanced.each
 
 -- ---- one entry more
 -- a client has no play that is open
@@ -111,7 +121,8 @@ shut-held entries c (Pausing stop rest) shut = tt
 shut-held entries c (Paused rest) shut = tt
 
 maker-more : (entries : List Entry) (e : Entry) (c : ℕ) (play : Play) → IsHeld entries c play
-    → held_as play.number (state_after (entries ++ e ∷ [])).held ≡ Some (admitted_play play.number play.start play.plan) → IsHeld (entries ++ e ∷ []) c play
+    → held_as play.number (state_after (entries ++ e ∷ [])).held
+    ≡ Some (admitted_play play.number play.start play.plan) → IsHeld (entries ++ e ∷ []) c play
 maker-more entries e c play its held = record {
   inside = omega (arith, its.inside, length-append entries (e ∷ []));
   maker = λ none. ap (λ (x : Entry). x.maker) (get_or_append_left entries (e ∷ []) none play.number its.inside) ∙ its.maker none;
@@ -120,11 +131,13 @@ maker-more entries e c play its held = record {
 
 sum-split : (t : ℕ) (before after : List Held) (h : Held)
     → sum_by (share_at t) (map (λ (x : Held). x.play) (before ++ h ∷ after))
-    ≡ sum_by (share_at t) (map (λ (x : Held). x.play) before) + (share_at t h.play + sum_by (share_at t) (map (λ (x : Held). x.play) after))
+    ≡ sum_by (share_at t) (map (λ (x : Held). x.play) before)
+    + (share_at t h.play + sum_by (share_at t) (map (λ (x : Held). x.play) after))
 sum-split t before after h =
     ap (sum_by (share_at t)) (plays-split before after h)
     ∙ sum_by-append (share_at t) (map (λ (x : Held). x.play) before) (h.play ∷ map (λ (x : Held). x.play) after)
-    ∙ ap (λ k. sum_by (share_at t) (map (λ (x : Held). x.play) before) + k) (sum_by-cons (share_at t) h.play (map (λ (x : Held). x.play) after))
+    ∙ ap (λ k. sum_by (share_at t) (map (λ (x : Held). x.play) before) + k)
+    (sum_by-cons (share_at t) h.play (map (λ (x : Held). x.play) after))
 
 -- a play that the machine holds
 pub record HeldPlay (entries : List Entry) : Type 0 where
@@ -161,9 +174,11 @@ other-halted : {entries : List Entry} {c d : ℕ} {play : Play} (number keep : �
     → IsHeld entries d play → IsHeld (entries ++ halt_by c number keep) d play
 other-halted {entries} {c} {d} {play} number keep halted its =
     let e = entry_by c (commands.Halt number keep) Halted in
-    let apart : number ≡ play.number → ⊥ = λ same. halted.other (sym (its.maker e) ∙ ap (λ k. (get_or entries k e).maker) (sym same) ∙ halted.maker e) in
+    let apart : number ≡ play.number → ⊥ =
+    λ same. halted.other (sym (its.maker e) ∙ ap (λ k. (get_or entries k e).maker) (sym same) ∙ halted.maker e) in
     maker-more entries e d play its
-    (ap (λ (x : State). held_as play.number x.held) (state-push entries e) ∙ found-other play.number number keep (state_after entries).held apart ∙ its.held)
+    (ap (λ (x : State). held_as play.number x.held) (state-push entries e)
+    ∙ found-other play.number number keep (state_after entries).held apart ∙ its.held)
 
 others-halted : {c d : ℕ} (entries : List Entry) (number keep : ℕ) (state : ClientState)
     → HaltedApart c d entries number → AreHeldOf entries d state
@@ -173,7 +188,8 @@ others-halted {c} entries number keep (Playing play) apart its = other-halted nu
 others-halted {c} entries number keep (Pausing stop rest) apart its = tt
 others-halted {c} entries number keep (Paused rest) apart its = tt
 
-fresh-halted : (number keep n : ℕ) (held : List Held) → All (λ (h : Held). h.number < n) held → All (λ (h : Held). h.number < n) (with_halted number keep held)
+fresh-halted : (number keep n : ℕ) (held : List Held) → All (λ (h : Held). h.number < n) held
+    → All (λ (h : Held). h.number < n) (with_halted number keep held)
 fresh-halted number keep n [] all = all
 fresh-halted number keep n (x ∷ held) all =
     let P : Held → Type 0 = λ h. h.number < n in
@@ -184,7 +200,8 @@ fresh-halted number keep n (x ∷ held) all =
           (All-cons P (halted_play keep x) held (All-head P x held all) (All-tail P x held all))
       | inr other ↦
           subst A (sym (cond-false (x.number == number) (halted_play keep x ∷ held) (x ∷ with_halted number keep held) other))
-          (All-cons P x (with_halted number keep held) (All-head P x held all) (fresh-halted number keep n held (All-tail P x held all)))
+          (All-cons P x (with_halted number keep held) (All-head P x held all)
+          (fresh-halted number keep n held (All-tail P x held all)))
     ]
 
 fresh-more : (n m : ℕ) (held : List Held) → n ≤ m → All (λ (h : Held). h.number < n) held → All (λ (h : Held). h.number < m) held
@@ -208,7 +225,8 @@ balanced-halt {entries} {states} {play} c keep next own shut shares =
     let its : IsHeld entries c play = subst H at (balanced.held c inside) in
     record {
       each = λ t later.
-          let b = booked-halted entries c (record { number = play.number; start = play.start; plan = play.plan; held = its.held }) keep t in
+          let b = booked-halted entries c
+          (record { number = play.number; start = play.start; plan = play.plan; held = its.held }) keep t in
           let s = sum_by-set (share_of t) states c next Idle inside in
           let was : share_of t (get_or states c Idle) ≡ share_at t (whole_play play.start play.plan) = ap (share_of t) at in
           omega (arith, b, s, was, shares t later, balanced.each t later);
@@ -216,31 +234,38 @@ balanced-halt {entries} {states} {play} c keep next own shut shares =
         | inl same ↦
             let B : ℕ → Type 0 = λ n. AreHeldOf (entries ++ halt_by c play.number keep) n (get_or (set states c next) n Idle) in
             let C : ClientState → Type 0 = λ x. AreHeldOf (entries ++ halt_by c play.number keep) c x in
-            subst B (sym same) (subst C (sym (get_or-set_same states c next Idle inside)) (shut-held (entries ++ halt_by c play.number keep) c next shut))
+            subst B (sym same)
+            (subst C (sym (get_or-set_same states c next Idle inside))
+            (shut-held (entries ++ halt_by c play.number keep) c next shut))
         | inr other ↦
             let C : ClientState → Type 0 = λ x. AreHeldOf (entries ++ halt_by c play.number keep) d x in
             subst C (sym (get_or-set_other states c d next Idle other))
-            (others-halted entries play.number keep (get_or states d Idle) (record { inside = its.inside; maker = its.maker; other = other })
+            (others-halted entries play.number keep (get_or states d Idle)
+            (record { inside = its.inside; maker = its.maker; other = other })
             (balanced.held d (omega (arith, within, length-set states c next))))
       ];
       fresh =
           let A : State → Type 0 = λ s. All (λ (h : Held). h.number < length (entries ++ halt_by c play.number keep)) s.held in
           subst A (sym (state-push entries e))
-          (fresh-more (length entries) (length (entries ++ halt_by c play.number keep)) (with_halted play.number keep (state_after entries).held)
-          (omega (arith, length-append entries (e ∷ []))) (fresh-halted play.number keep (length entries) (state_after entries).held balanced.fresh));
+          (fresh-more (length entries) (length (entries ++ halt_by c play.number keep))
+          (with_halted play.number keep (state_after entries).held)
+          (omega (arith, length-append entries (e ∷ [])))
+          (fresh-halted play.number keep (length entries) (state_after entries).held balanced.fresh));
     }
   where
     open own use {inside, at, balanced}
 
 -- an entry that leaves the plays of the machine as they are
-same-held : (entries : List Entry) (e : Entry) (c : ℕ) (state : ClientState) → (state_after (entries ++ e ∷ [])).held ≡ (state_after entries).held
+same-held : (entries : List Entry) (e : Entry) (c : ℕ) (state : ClientState)
+    → (state_after (entries ++ e ∷ [])).held ≡ (state_after entries).held
     → AreHeldOf entries c state → AreHeldOf (entries ++ e ∷ []) c state
 same-held entries e c Idle same its = tt
 same-held entries e c (Playing play) same its = maker-more entries e c play its (ap (held_as play.number) same ∙ its.held)
 same-held entries e c (Pausing stop rest) same its = tt
 same-held entries e c (Paused rest) same its = tt
 
-pub balanced-same : (entries : List Entry) (states : List ClientState) (heard : ℕ) (e : Entry) → (state_after (entries ++ e ∷ [])).held ≡ (state_after entries).held
+pub balanced-same : (entries : List Entry) (states : List ClientState) (heard : ℕ) (e : Entry)
+    → (state_after (entries ++ e ∷ [])).held ≡ (state_after entries).held
     → IsBalanced entries states heard → IsBalanced (entries ++ e ∷ []) states heard
 balanced-same entries states heard e same balanced = record {
   each = λ t later. ap (λ hs. sum_by (share_at t) (map (λ (x : Held). x.play) hs)) same ∙ balanced.each t later;
@@ -248,7 +273,8 @@ balanced-same entries states heard e same balanced = record {
   fresh =
       let A : List Held → Type 0 = λ l. All (λ (h : Held). h.number < length (entries ++ e ∷ [])) l in
       subst A (sym same)
-      (fresh-more (length entries) (length (entries ++ e ∷ [])) (state_after entries).held (omega (arith, length-append entries (e ∷ []))) balanced.fresh);
+      (fresh-more (length entries) (length (entries ++ e ∷ [])) (state_after entries).held
+      (omega (arith, length-append entries (e ∷ []))) balanced.fresh);
 }
 
 -- an entry by which the machine holds one play more
@@ -262,7 +288,8 @@ push-held : (entries : List Entry) (next : NextHeld entries) (c : ℕ) (state : 
 push-held entries next c Idle its = tt
 push-held entries next c (Playing play) its =
     maker-more entries e c play its
-    (ap (held_as play.number) is ∙ found-push play.number (state_after entries).held (admitted_play play.number play.start play.plan) new its.held)
+    (ap (held_as play.number) is
+    ∙ found-push play.number (state_after entries).held (admitted_play play.number play.start play.plan) new its.held)
   where
     open next use {e, new, is}
 push-held entries next c (Pausing stop rest) its = tt
@@ -274,7 +301,8 @@ pub record ClientPlayed (entries : List Entry) (c : ℕ) : Type 0 where
   pub e : Entry
   pub number : play.number ≡ length entries
   pub maker : e.maker ≡ c
-  pub is : (state_after (entries ++ e ∷ [])).held ≡ (state_after entries).held ++ admitted_play play.number play.start play.plan ∷ []
+  pub is : (state_after (entries ++ e ∷ [])).held
+      ≡ (state_after entries).held ++ admitted_play play.number play.start play.plan ∷ []
 
 -- a client's play was admitted, which booked nothing before
 pub balanced-play : {entries : List Entry} {states : List ClientState} {heard c : ℕ} (played : ClientPlayed entries c)
@@ -289,15 +317,18 @@ balanced-play {entries} {states} {c} played inside free balanced =
       maker = λ none.
           let z : play.number - play.number ≡ 0 = omega arith in
           ap (λ (x : Entry). x.maker)
-          (get_or-append_right entries (e ∷ []) play.number play.number none (sym number) (omega arith) ∙ ap (λ k. get_or (e ∷ []) k none) z) ∙ maker;
+          (get_or-append_right entries (e ∷ []) play.number play.number none (sym number) (omega arith)
+          ∙ ap (λ k. get_or (e ∷ []) k none) z) ∙ maker;
       held =
           let A : ℕ → Type 0 = λ k. All (λ (h : Held). h.number < k) held in
           ap (held_as play.number) is ∙ found-new play.number play.start play.plan held (subst A (sym number) balanced.fresh);
     } in
     record {
       each = λ t later.
-          let b : booked_in (state_after (entries ++ e ∷ [])) t ≡ booked_in (state_after entries) t + share_at t (whole_play play.start play.plan) =
-          ap (λ hs. sum_by (share_at t) (map (λ (x : Held). x.play) hs)) is ∙ ap (sum_by (share_at t)) (map-append (λ (x : Held). x.play) held (new ∷ []))
+          let b : booked_in (state_after (entries ++ e ∷ [])) t
+          ≡ booked_in (state_after entries) t + share_at t (whole_play play.start play.plan) =
+          ap (λ hs. sum_by (share_at t) (map (λ (x : Held). x.play) hs)) is
+          ∙ ap (sum_by (share_at t)) (map-append (λ (x : Held). x.play) held (new ∷ []))
           ∙ sum_by_push (share_at t) (map (λ (x : Held). x.play) held) (whole_play play.start play.plan) in
           let s = sum_by-set (share_of t) states c (Playing play) Idle inside in
           omega (arith, b, s, free t, balanced.each t later);
@@ -316,7 +347,9 @@ balanced-play {entries} {states} {c} played inside free balanced =
           let P : Held → Type 0 = λ h. h.number < length (entries ++ e ∷ []) in
           let A : List Held → Type 0 = λ l. All P l in
           subst A (sym is)
-          (All-push P held new (fresh-more (length entries) (length (entries ++ e ∷ [])) held (omega (arith, n)) balanced.fresh) (omega (arith, number, n)));
+          (All-push P held new
+          (fresh-more (length entries) (length (entries ++ e ∷ [])) held (omega (arith, n)) balanced.fresh)
+          (omega (arith, number, n)));
     }
   where
     open played use {play, e, number, maker, is}

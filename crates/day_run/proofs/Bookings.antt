@@ -35,7 +35,8 @@ open-push {xs} {c} {number} {bytes} e its apart =
 pub record HaltsNone (xs : List Entry) (client : ℕ) (e : Entry) : Type 0 where
   pub apart : (number : ℕ) → Halts number e.command → ((none : Entry) → (get_or xs number none).maker ≡ client) → ⊥
 
-booked-push : (xs : List Entry) (c : ℕ) (client : Client) (e : Entry) → HaltsNone xs c e → IsBooked xs c client → IsBooked (xs ++ e ∷ []) c client
+booked-push : (xs : List Entry) (c : ℕ) (client : Client) (e : Entry) → HaltsNone xs c e → IsBooked xs c client
+    → IsBooked (xs ++ e ∷ []) c client
 booked-push xs c Idle e none booked = tt
 booked-push xs c (Playing play) e none booked =
     open-push e booked (λ halts. none.apart play.number halts booked.maker)
@@ -43,10 +44,15 @@ booked-push xs c (Pausing stop) e none booked = tt
 booked-push xs c (Paused rest) e none booked = tt
 
 -- an entry that halts nothing
-pub booked-more : (xs : List Entry) (clients : List Client) (e : Entry) → ((number : ℕ) → Halts number e.command → ⊥) → AreBooked xs clients
+pub booked-more : (xs : List Entry) (clients : List Client) (e : Entry)
+    → ((number : ℕ) → Halts number e.command → ⊥) → AreBooked xs clients
     → AreBooked (xs ++ e ∷ []) clients
 booked-more xs clients e none booked =
-    record { each = λ c d inside. booked-push xs c (get_or clients c d) e (record { apart = λ number halts _. none number halts }) (booked.each c d inside) }
+    record {
+      each =
+          λ c d inside. booked-push xs c (get_or clients c d) e
+          (record { apart = λ number halts _. none number halts }) (booked.each c d inside);
+    }
 
 -- a client is put in the place of one, whose play alone an entry may halt
 pub booked-set : {xs : List Entry} {clients : List Client} {c : ℕ} {e : Entry} (client : Client)
@@ -63,7 +69,8 @@ booked-set {xs} {clients} {c} {e} client others own booked =
         | inr other ↦
             let within : d < length clients = omega (arith, inside, length-set clients c client) in
             let C : Client → Type 0 = λ x. IsBooked (xs ++ e ∷ []) d x in
-            subst C (sym (get_or-set_other clients c d client none other)) (booked-push xs d (get_or clients d none) e (others d other) (booked.each d none within))
+            subst C (sym (get_or-set_other clients c d client none other))
+            (booked-push xs d (get_or clients d none) e (others d other) (booked.each d none within))
       ];
     }
 
@@ -88,7 +95,8 @@ booked-halt {xs} {c} {number} client e is its quiet booked =
     (quiet-booked (xs ++ e ∷ []) c client quiet) booked
 
 -- one client is put in the place of another
-pub going-set : (clients : List Client) (c : ℕ) (client : Client) → IsGoing client → AreGoing clients → AreGoing (set clients c client)
+pub going-set : (clients : List Client) (c : ℕ) (client : Client) → IsGoing client → AreGoing clients
+    → AreGoing (set clients c client)
 going-set clients c client own going =
     record {
       each = λ d none inside. elim (cases_eq d c) [
@@ -104,7 +112,8 @@ going-set clients c client own going =
       ];
     }
 
-pub undone-set : {upto : ℕ} {clients : List Client} (c : ℕ) (client : Client) → c < length clients → IsUndone client → AreUndone upto clients
+pub undone-set : {upto : ℕ} {clients : List Client} (c : ℕ) (client : Client) → c < length clients
+    → IsUndone client → AreUndone upto clients
     → AreUndone upto (set clients c client)
 undone-set {clients} c client within own undone =
     record {
@@ -119,7 +128,8 @@ undone-set {clients} c client within own undone =
       ];
     }
 
-pub booked-same : (xs : List Entry) (clients : List Client) (c : ℕ) (client : Client) → IsBooked xs c client → AreBooked xs clients → AreBooked xs (set clients c client)
+pub booked-same : (xs : List Entry) (clients : List Client) (c : ℕ) (client : Client) → IsBooked xs c client
+    → AreBooked xs clients → AreBooked xs (set clients c client)
 booked-same xs clients c client own booked =
     record {
       each = λ d none inside. elim (cases_eq d c) [

@@ -37,29 +37,34 @@ grows-on {old} one other = record {
 told-grows : {told text : List ℕ} {old new : Moment} → IsTold told old new text → Grows old new
 told-grows is = grows-same is.kept
 
-noted-grows : {link : Link} {entry : Entry} {states : List ClientState} {old new : Moment} {text : List ℕ} → IsNoted link entry states old new text → Grows old new
+noted-grows : {link : Link} {entry : Entry} {states : List ClientState} {old new : Moment} {text : List ℕ}
+    → IsNoted link entry states old new text → Grows old new
 noted-grows {entry} is = record { more = entry ∷ []; is = ap (λ (m : Moment). m.entries) is.new_is }
 
-asked-grows : {link : Link} {c : ℕ} {rest : Rest} {old new : Moment} {text : List ℕ} → IsAsked link c rest old new text → Grows old new
+asked-grows : {link : Link} {c : ℕ} {rest : Rest} {old new : Moment} {text : List ℕ}
+    → IsAsked link c rest old new text → Grows old new
 asked-grows (inl faulty) = told-grows faulty.told
 asked-grows (inr planned) = elim planned.done [
   | inl full ↦ told-grows full.told
   | inr answered ↦ noted-grows answered.noted
 ]
 
-play-grows : (link : Link) (c : ℕ) (rest : Rest) (text : List ℕ) {old new : Moment} (state : ClientState) → IsPlayLine link c rest state old new text → Grows old new
+play-grows : (link : Link) (c : ℕ) (rest : Rest) (text : List ℕ) {old new : Moment} (state : ClientState)
+    → IsPlayLine link c rest state old new text → Grows old new
 play-grows link c rest text Idle is = asked-grows is
 play-grows link c rest text (Playing play) is = told-grows is
 play-grows link c rest text (Pausing stop left) is = told-grows is
 play-grows link c rest text (Paused left) is = asked-grows is
 
-resume-grows : (link : Link) (c : ℕ) (text : List ℕ) {old new : Moment} (state : ClientState) → IsResumeLine link c state old new text → Grows old new
+resume-grows : (link : Link) (c : ℕ) (text : List ℕ) {old new : Moment} (state : ClientState)
+    → IsResumeLine link c state old new text → Grows old new
 resume-grows link c text Idle is = told-grows is
 resume-grows link c text (Playing play) is = told-grows is
 resume-grows link c text (Pausing stop rest) is = told-grows is
 resume-grows link c text (Paused rest) is = asked-grows is
 
-pause-grows : (link : Link) (c : ℕ) (text : List ℕ) {old new : Moment} (state : ClientState) → IsPauseLine link c state old new text → Grows old new
+pause-grows : (link : Link) (c : ℕ) (text : List ℕ) {old new : Moment} (state : ClientState)
+    → IsPauseLine link c state old new text → Grows old new
 pause-grows link c text Idle is = told-grows is
 pause-grows link c text (Playing play) is = noted-grows is.noted
 pause-grows link c text (Pausing stop rest) is = told-grows is
@@ -69,12 +74,14 @@ look-grows : {link : Link} {slot : ℕ} {old new : Moment} {text : List ℕ} →
 look-grows (inl full) = told-grows full.told
 look-grows (inr answered) = noted-grows answered.noted
 
-offer-grows : {link : Link} {rest : Rest} {wait : ℕ} {old new : Moment} {text : List ℕ} → IsOfferLine link rest wait old new text → Grows old new
+offer-grows : {link : Link} {rest : Rest} {wait : ℕ} {old new : Moment} {text : List ℕ}
+    → IsOfferLine link rest wait old new text → Grows old new
 offer-grows (inl faulty) = told-grows faulty.told
 offer-grows (inr offered) = told-grows offered.told
 
 line-grows : (link : Link) (text : List ℕ) {old new : Moment} (line : Line) → IsLine link line old new text → Grows old new
-line-grows link text {old} (Play client source buffer delay) is = play-grows link client (rest_at link source buffer delay) text (state_at old client) is
+line-grows link text {old} (Play client source buffer delay) is =
+    play-grows link client (rest_at link source buffer delay) text (state_at old client) is
 line-grows link text {old} (Pause client) is = pause-grows link client text (state_at old client) is
 line-grows link text {old} (Resume client) is = resume-grows link client text (state_at old client) is
 line-grows link text (Look slot) is = look-grows is
@@ -85,7 +92,8 @@ run-grows : (link : Link) (ls : List Line) (ts : List (List ℕ)) {old new : Mom
 run-grows link [] [] run = grows-same run
 run-grows link [] (t ∷ ts) run = absurd run
 run-grows link (l ∷ ls) [] run = absurd run
-run-grows link (l ∷ ls) (t ∷ ts) {old} {new} run = grows-on (line-grows link t l run.1.0) (run-grows link ls ts {old = run.0} {new = new} run.1.1)
+run-grows link (l ∷ ls) (t ∷ ts) {old} {new} run =
+    grows-on (line-grows link t l run.1.0) (run-grows link ls ts {old = run.0} {new = new} run.1.1)
 
 -- the moment after so many lines of a run
 record FrontOf (link : Link) (ls : List Line) (count : ℕ) (old new : Moment) : Type 0 where
@@ -94,7 +102,8 @@ record FrontOf (link : Link) (ls : List Line) (count : ℕ) (old new : Moment) :
   front : AreRun link (take count ls) texts old moment
   grows : Grows moment new
 
-run-front : (link : Link) (ls : List Line) (ts : List (List ℕ)) (count : ℕ) {old new : Moment} → AreRun link ls ts old new → FrontOf link ls count old new
+run-front : (link : Link) (ls : List Line) (ts : List (List ℕ)) (count : ℕ) {old new : Moment}
+    → AreRun link ls ts old new → FrontOf link ls count old new
 run-front link ls ts zero {old} run = record { texts = []; moment = old; front = refl; grows = run-grows link ls ts run }
 run-front link [] [] (suc count) {old} run = record { texts = []; moment = old; front = refl; grows = grows-same run }
 run-front link [] (t ∷ ts) (suc count) run = absurd run
@@ -107,7 +116,8 @@ clients-take : {ls : List Line} (count : ℕ) → AreClients ls → AreClients (
 clients-take {ls} count are = record {
   each = λ i none below.
       let few = length-take count ls in
-      subst IsClient (sym (get_or-take count ls i none (omega (arith, few, below)))) (are.each i none (omega (arith, few, below)));
+      subst IsClient (sym (get_or-take count ls i none (omega (arith, few, below))))
+      (are.each i none (omega (arith, few, below)));
 }
 
 lines-take : {n : ℕ} {ls : List Line} (count : ℕ) → AreLines n ls → AreLines n (take count ls)
@@ -127,8 +137,10 @@ front-legal {steps} xs ys legal =
     subst L (take_at xs ys (length xs) refl) (legal-take steps (xs ++ ys) (length xs) legal)
 
 -- what is sent is within the capacity
-pub day-within : {link : Link} {n : ℕ} (taken : LinesTaken link n) (slot : ℕ) → IsLegal link.steps taken.moment.entries → taken.moment.heard ≤ slot
-    → sent_up_to taken.moment slot ≤ sum_by (capacity_at link.steps) (range_with_len (taken.moment.heard + 1) (slot - taken.moment.heard))
+pub day-within : {link : Link} {n : ℕ} (taken : LinesTaken link n) (slot : ℕ)
+    → IsLegal link.steps taken.moment.entries → taken.moment.heard ≤ slot
+    → sent_up_to taken.moment slot
+    ≤ sum_by (capacity_at link.steps) (range_with_len (taken.moment.heard + 1) (slot - taken.moment.heard))
 day-within {link} taken slot legal later =
     let slots = range_with_len (taken.moment.heard + 1) (slot - taken.moment.heard) in
     let S : ℕ → Type 0 = λ sent. sent ≤ sum_by (capacity_at link.steps) slots in
@@ -136,7 +148,8 @@ day-within {link} taken slot legal later =
     subst S (sym (day-sent taken slot later))
     (sum_by-le-sum_by (booked_in (state_after taken.moment.entries)) (capacity_at link.steps) slots (λ t. within.each t))
 
-pub day-keeps : {link : Link} {n : ℕ} {lines : List Line} {text : List ℕ} {journal : List Entry} (count : ℕ) → AreClients lines → AreLines n lines
+pub day-keeps : {link : Link} {n : ℕ} {lines : List Line} {text : List ℕ} {journal : List Entry} (count : ℕ)
+    → AreClients lines → AreLines n lines
     → IsDay link lines text journal → IsLegal link.steps journal → KeepsAfter link lines count
 day-keeps {link} {n} {lines} count clients are day legal =
     let L : List Entry → Type 0 = λ l. IsLegal link.steps l in

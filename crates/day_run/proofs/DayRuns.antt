@@ -29,16 +29,20 @@ run-more last (l ∷ lines) [] old run = absurd run
 run-more last (l ∷ lines) (t ∷ texts) old run =
     (run.0, (run.1.0, run-more last lines texts run.0 run.1.1))
 
-flat-push : (texts : List (List ℕ)) (text : List ℕ) → flat_map (λ (t : List ℕ). t) (texts ++ text ∷ []) ≡ flat_map (λ (t : List ℕ). t) texts ++ text
+flat-push : (texts : List (List ℕ)) (text : List ℕ)
+    → flat_map (λ (t : List ℕ). t) (texts ++ text ∷ []) ≡ flat_map (λ (t : List ℕ). t) texts ++ text
 flat-push texts text =
     flat_map-append (λ (t : List ℕ). t) texts (text ∷ []) ∙ ap (λ l. flat_map (λ (t : List ℕ). t) texts ++ l) (append-nil text)
 
-pub run-push : {link : Link} {lines : List Line} {before after : List ℕ} {old new : Moment} (line : Line) → HasRun link lines before old
+pub run-push : {link : Link} {lines : List Line} {before after : List ℕ} {old new : Moment} (line : Line)
+    → HasRun link lines before old
     → IsPrinted before after (IsLine link line old new) → HasRun link (lines ++ line ∷ []) after new
 run-push {link} {lines} {old} {new} line run printed = record {
   texts = run.texts ++ printed.text ∷ [];
   text_is = printed.after_is ∙ ap (λ l. l ++ printed.text) run.text_is ∙ sym (flat-push run.texts printed.text);
-  run = run-more (record { link = link; line = line; text = printed.text; old = old; new = new; is = printed.is }) lines run.texts first_moment run.run;
+  run = run-more
+      (record { link = link; line = line; text = printed.text; old = old; new = new; is = printed.is }) lines
+      run.texts first_moment run.run;
 }
 
 pub run-next : {link here : Link} {before after : List ℕ} {old new : Moment} (lines : List Line) (place : Place lines)
@@ -53,7 +57,8 @@ run-next {link} {here} {before} {after} {old} {new} lines place same run printed
     open place use {index as i, none, inside}
 
 -- a whole day
-pub day-of : {link here : Link} {lines : List Line} {text whole : List ℕ} {m : Moment} {journal : List Entry} → here ≡ link → HasRun here lines text m
+pub day-of : {link here : Link} {lines : List Line} {text whole : List ℕ} {m : Moment} {journal : List Entry}
+    → here ≡ link → HasRun here lines text m
     → whole ≡ text ++ last_lines m → journal ≡ last_journal m → IsDay link lines whole journal
 day-of {here} {lines} {text} {whole} {m} same run w j =
     let A : Link → Type 0 = λ l. AreRun l lines run.texts first_moment m in
@@ -66,7 +71,8 @@ day-of {here} {lines} {text} {whole} {m} same run w j =
     }
 
 -- a text for each line
-pub day-lines : (link : Link) (lines : List Line) (texts : List (List ℕ)) (old new : Moment) → AreRun link lines texts old new → length texts ≡ length lines
+pub day-lines : (link : Link) (lines : List Line) (texts : List (List ℕ)) (old new : Moment)
+    → AreRun link lines texts old new → length texts ≡ length lines
 day-lines link [] [] old new run = refl
 day-lines link [] (t ∷ texts) old new run = absurd run
 day-lines link (l ∷ ls) [] old new run = absurd run

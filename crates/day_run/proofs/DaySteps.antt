@@ -21,34 +21,41 @@ use Rattle.day_run.specs.Runners.{IsSoundDay}
 use Rattle.day_run.proofs.Sweeps.{timed-set}
 use Rattle.day_run.proofs.Bookings.{booked-halt, booked-more, booked-set, going-set, undone-set}
 
-now-halt : (state : State) (place number keep : ℕ) (answer : Answer) → (next_state state place (Halt number keep) answer).now ≡ state.now
+now-halt : (state : State) (place number keep : ℕ) (answer : Answer)
+    → (next_state state place (Halt number keep) answer).now ≡ state.now
 now-halt state place number keep (Admitted start) = refl
 now-halt state place number keep (Overflow over booked asked) = refl
 now-halt state place number keep Halted = refl
 now-halt state place number keep (Looked now at booked) = refl
 
-now-play : (state : State) (place slot : ℕ) (segments : List Segment) (answer : Answer) → (next_state state place (Play slot segments) answer).now ≤ max state.now slot
+now-play : (state : State) (place slot : ℕ) (segments : List Segment) (answer : Answer)
+    → (next_state state place (Play slot segments) answer).now ≤ max state.now slot
 now-play state place slot segments (Admitted start) = omega arith
 now-play state place slot segments (Overflow over booked asked) = omega arith
 now-play state place slot segments Halted = omega arith
 now-play state place slot segments (Looked now at booked) = omega arith
 
 -- the machine's now after an entry of a halt
-pub halted-now : (xs : List Entry) (e : Entry) (number keep : ℕ) → e.command ≡ Halt number keep → (state_after (xs ++ e ∷ [])).now ≡ (state_after xs).now
+pub halted-now : (xs : List Entry) (e : Entry) (number keep : ℕ) → e.command ≡ Halt number keep
+    → (state_after (xs ++ e ∷ [])).now ≡ (state_after xs).now
 halted-now xs e number keep is =
     ap (λ (s : State). s.now) (state-push xs e)
-    ∙ ap (λ (x : Command). (next_state (state_after xs) (length xs) x e.answer).now) is ∙ now-halt (state_after xs) (length xs) number keep e.answer
+    ∙ ap (λ (x : Command). (next_state (state_after xs) (length xs) x e.answer).now) is
+    ∙ now-halt (state_after xs) (length xs) number keep e.answer
 
 pub played-now : (xs : List Entry) (e : Entry) (slot : ℕ) (segments : List Segment) → e.command ≡ Play slot segments
     → (state_after (xs ++ e ∷ [])).now ≤ max (state_after xs).now slot
 played-now xs e slot segments is =
     let n : (state_after (xs ++ e ∷ [])).now ≡ (next_state (state_after xs) (length xs) (Play slot segments) e.answer).now =
-    ap (λ (s : State). s.now) (state-push xs e) ∙ ap (λ (x : Command). (next_state (state_after xs) (length xs) x e.answer).now) is in
+    ap (λ (s : State). s.now) (state-push xs e)
+    ∙ ap (λ (x : Command). (next_state (state_after xs) (length xs) x e.answer).now) is in
     omega (arith, n, now-play (state_after xs) (length xs) slot segments e.answer)
 
-pub looked-now : (xs : List Entry) (e : Entry) (slot : ℕ) → e.command ≡ Look slot → (state_after (xs ++ e ∷ [])).now ≡ (state_after xs).now
+pub looked-now : (xs : List Entry) (e : Entry) (slot : ℕ) → e.command ≡ Look slot
+    → (state_after (xs ++ e ∷ [])).now ≡ (state_after xs).now
 looked-now xs e slot is =
-    ap (λ (s : State). s.now) (state-push xs e) ∙ ap (λ (x : Command). (next_state (state_after xs) (length xs) x e.answer).now) is
+    ap (λ (s : State). s.now) (state-push xs e)
+    ∙ ap (λ (x : Command). (next_state (state_after xs) (length xs) x e.answer).now) is
 
 can-fewer : (state : State) (number bytes keep : ℕ) → keep ≤ bytes → CanHalt state number bytes → CanHalt state number keep
 can-fewer state number bytes keep le can =
@@ -62,7 +69,8 @@ fewer {xs} {c} {number} {bytes} {keep} le its =
     record { inside = its.inside; maker = its.maker; can = can-fewer (state_after xs) number bytes keep le its.can }
 
 -- the play of a client that is halted so
-pub open-halt : {xs : List Entry} {c : ℕ} {halt : ClientHalt} (client : Client) → IsGoing client → IsBooked xs c client → IsHaltOf client halt
+pub open-halt : {xs : List Entry} {c : ℕ} {halt : ClientHalt} (client : Client) → IsGoing client
+    → IsBooked xs c client → IsHaltOf client halt
     → IsOpenOf xs c halt.number halt.keep
 open-halt {c} {halt} clients.Idle going booked is = absurd is
 open-halt {xs} {c} {halt} (clients.Playing play) going booked is =
@@ -87,7 +95,8 @@ pub record HaltedClient (heard : ℕ) (client : Client) : Type 0 where
 
 -- a client's play was halted
 pub day-halted : {slot_units heard : ℕ} {xs ys : List Entry} {cs ds : List Client} {c number bytes keep : ℕ} {e : Entry}
-    (client : Client) → IsSoundDay slot_units heard xs cs → HaltEntered xs ys cs ds c number keep client e → IsOpenOf xs c number bytes
+    (client : Client) → IsSoundDay slot_units heard xs cs → HaltEntered xs ys cs ds c number keep client e
+    → IsOpenOf xs c number bytes
     → c < length cs → HaltedClient heard client → IsSoundDay slot_units heard ys ds
 day-halted {slot_units} {heard} {xs} {ys} {cs} {c} {number} {keep} {e} client day entered its inside next =
     let D : List Client → Type 0 = λ l. IsSoundDay slot_units heard ys l in
@@ -108,7 +117,8 @@ day-halted {slot_units} {heard} {xs} {ys} {cs} {c} {number} {keep} {e} client da
     open next use {going, undone, quiet, timed}
 
 -- an entry was made that halts no play
-pub day-noted : {slot_units heard : ℕ} {xs ys : List Entry} {cs : List Client} (e : Entry) → IsSoundDay slot_units heard xs cs → ys ≡ xs ++ e ∷ []
+pub day-noted : {slot_units heard : ℕ} {xs ys : List Entry} {cs : List Client} (e : Entry)
+    → IsSoundDay slot_units heard xs cs → ys ≡ xs ++ e ∷ []
     → ((number : ℕ) → Halts number e.command → ⊥) → (state_after (xs ++ e ∷ [])).now ≤ heard → IsSoundDay slot_units heard ys cs
 day-noted {slot_units} {heard} {xs} {cs} e day y none now =
     let Y : List Entry → Type 0 = λ l. IsSoundDay slot_units heard l cs in
@@ -143,7 +153,8 @@ pub record BegunClient (heard : ℕ) (play : ClientPlay) : Type 0 where
 
 -- a client's play was admitted
 pub day-played : {slot_units heard : ℕ} {xs ys : List Entry} {cs ds : List Client} {c slot : ℕ} {segments : List Segment}
-    {play : ClientPlay} (e : Entry) → IsSoundDay slot_units heard xs cs → PlayEntered heard xs ys cs ds c slot segments play e → c < length cs
+    {play : ClientPlay} (e : Entry) → IsSoundDay slot_units heard xs cs
+    → PlayEntered heard xs ys cs ds c slot segments play e → c < length cs
     → BegunClient heard play → IsSoundDay slot_units heard ys ds
 day-played {slot_units} {heard} {xs} {ys} {cs} {c} {slot} {segments} {play} e day entered inside next =
     let D : List Client → Type 0 = λ l. IsSoundDay slot_units heard ys l in
@@ -165,7 +176,8 @@ day-played {slot_units} {heard} {xs} {ys} {cs} {c} {slot} {segments} {play} e da
       heard_fits = day.heard_fits;
       now_heard = omega (arith, played-now xs e slot segments is, day.now_heard, le);
       going = going-set cs c (clients.Playing play) next.playing day.going;
-      undone = subst U (sym (length-set cs c (clients.Playing play))) (undone-set c (clients.Playing play) inside next.undone day.undone);
+      undone = subst U (sym (length-set cs c (clients.Playing play)))
+          (undone-set c (clients.Playing play) inside next.undone day.undone);
       booked = booked-set (clients.Playing play) (λ d other. record { apart = λ n halts _. none n halts }) its day.booked;
       timed = timed-set heard cs c (clients.Playing play) next.timed day.timed;
     }))

@@ -27,7 +27,8 @@ drawn-trace words n few = record {
 pub traces-none : AreTraces []
 traces-none = record { each = λ i none inside. absurd (omega (arith, inside)) }
 
-pub traces-push : (traces after : List (Vec ℕ)) (trace : Vec ℕ) → after ≡ traces ++ trace ∷ [] → AreUnitSizes trace.items → AreTraces traces → AreTraces after
+pub traces-push : (traces after : List (Vec ℕ)) (trace : Vec ℕ) → after ≡ traces ++ trace ∷ []
+    → AreUnitSizes trace.items → AreTraces traces → AreTraces after
 traces-push traces after trace e own are =
     let A : List (Vec ℕ) → Type 0 = λ l. AreTraces l in
     let T : Vec ℕ → Type 0 = λ v. AreUnitSizes v.items in
@@ -37,6 +38,7 @@ traces-push traces after trace e own are =
         | inr past ↦
             let at : length traces ≡ i = omega (arith, past, inside, length-append traces (trace ∷ [])) in
             let z : i - i ≡ 0 = omega arith in
-            subst T (sym (get_or-append_right traces (trace ∷ []) i i none at (omega arith) ∙ ap (λ k. get_or (trace ∷ []) k none) z)) own
+            subst T (sym
+            (get_or-append_right traces (trace ∷ []) i i none at (omega arith) ∙ ap (λ k. get_or (trace ∷ []) k none) z)) own
       ];
     })

@@ -20,7 +20,10 @@ drawn-done {client} {new} {text} words Idle small is =
     let source = mod_below (words 0) 16 (omega arith) in
     let buffer = mod_below (words 1) 16384 (omega arith) in
     let delay = mod_below (words 2) 26 (omega arith) in
-    inr (Play client (words 0 % 16) (16384 + words 1 % 16384) (words 2 % 26), ((small, source, omega arith, omega (arith, buffer), omega (arith, delay)), is))
+    inr (
+      Play client (words 0 % 16) (16384 + words 1 % 16384) (words 2 % 26),
+      ((small, source, omega arith, omega (arith, buffer), omega (arith, delay)), is),
+    )
 drawn-done {client} {new} {text} words (Playing play) small is = inr (Pause client, (small, is))
 drawn-done {new} {text} words (Pausing stop rest) small is = inl is
 drawn-done {client} {new} {text} words (Paused rest) small is = inr (Resume client, (small, is))

@@ -42,12 +42,14 @@ turn-ready link words turn is ready =
     done-ready (record { link = link; old = turn.mid; new = turn.new; text = turn.text }) (after 2 words)
     (record { client = omega arith; at = refl }) is.done mid
 
-turn-balanced : (link : Link) (words : ℕ → ℕ) (turn : Turn) → IsTurn link words turn → IsReady turn.old → turn_sent turn ≡ turn_booked turn
+turn-balanced : (link : Link) (words : ℕ → ℕ) (turn : Turn) → IsTurn link words turn → IsReady turn.old
+    → turn_sent turn ≡ turn_booked turn
 turn-balanced link words turn is ready =
     let M : Moment → Type 0 = λ m. turn.old.heard ≤ m.heard in
     ready-sent turn.old turn.mid.heard (subst M (sym is.slot) (later-heard turn.old (words 0 % 4))) ready
 
-pub turns-balanced : {old : Moment} (link : Link) (words : ℕ → ℕ) (turns : List Turn) (new : Moment) → AreTurns link words turns old new → IsReady old
+pub turns-balanced : {old : Moment} (link : Link) (words : ℕ → ℕ) (turns : List Turn) (new : Moment)
+    → AreTurns link words turns old new → IsReady old
     → sum_by turn_sent turns ≡ sum_by turn_booked turns
 turns-balanced link words [] new run ready = refl
 turns-balanced link words (turn ∷ turns) new run ready =
@@ -71,9 +73,14 @@ kept-grown old new kept = record { made = []; new_is = ap (λ (m : Moment). m.en
 
 grown-on : (a b c : List Entry) → HasGrown a b → HasGrown b c → HasGrown a c
 grown-on a b c one two =
-    record { made = one.made ++ two.made; new_is = two.new_is ∙ ap (λ l. l ++ two.made) one.new_is ∙ append_assoc a one.made two.made }
+    record {
+      made = one.made ++ two.made;
+      new_is =
+          two.new_is ∙ ap (λ l. l ++ two.made) one.new_is ∙ append_assoc a one.made two.made;
+    }
 
-asked-grown : {link : Link} {c : ℕ} {rest : Rest} {old new : Moment} {text : List ℕ} → IsAsked link c rest old new text → HasGrown old.entries new.entries
+asked-grown : {link : Link} {c : ℕ} {rest : Rest} {old new : Moment} {text : List ℕ}
+    → IsAsked link c rest old new text → HasGrown old.entries new.entries
 asked-grown {c} {old} {new} {text} (inl faulty) = kept-grown old new faulty.told.kept
 asked-grown {c} {old} {new} {text} (inr planned) = elim planned.done [
   | inl full ↦ kept-grown old new full.told.kept
@@ -120,9 +127,11 @@ turn-grown : (link : Link) (words : ℕ → ℕ) (turn : Turn) → IsTurn link w
 turn-grown link words turn is =
     let G : Moment → Type 0 = λ m. HasGrown turn.old.entries m.entries in
     grown-on turn.old.entries turn.mid.entries turn.new.entries (subst G (sym is.slot) (later-grown turn.old (words 0 % 4)))
-    (done-grown (record { link = link; old = turn.mid; new = turn.new; text = turn.text }) (after 2 words) (client_of words) _ is.done)
+    (done-grown (record { link = link; old = turn.mid; new = turn.new; text = turn.text }) (after 2 words)
+    (client_of words) _ is.done)
 
-turns-grown : (link : Link) (words : ℕ → ℕ) (turns : List Turn) (old new : Moment) → AreTurns link words turns old new → HasGrown old.entries new.entries
+turns-grown : (link : Link) (words : ℕ → ℕ) (turns : List Turn) (old new : Moment)
+    → AreTurns link words turns old new → HasGrown old.entries new.entries
 turns-grown link words [] old new run = kept-grown old new run
 turns-grown link words (turn ∷ turns) old new run =
     let G : Moment → Type 0 = λ m. HasGrown m.entries new.entries in
@@ -140,14 +149,22 @@ pub record GrownJournal (steps : List CapStep) (journal : List Entry) (moment : 
   pub grown : HasGrown moment.entries journal
   pub capacity : (t : ℕ) → capacity_at steps t ≤ most
 
-moment-within : {steps : List CapStep} {journal : List Entry} {m : Moment} {most : ℕ} (slot : ℕ) → GrownJournal steps journal m most
+moment-within : {steps : List CapStep} {journal : List Entry} {m : Moment} {most : ℕ} (slot : ℕ)
+    → GrownJournal steps journal m most
     → most_up_to m slot ≤ most
 moment-within {steps} {journal} {m} {most} slot given =
     most-of (booked_in (state_after m.entries)) most 0 (range_with_len (m.heard + 1) (slot - m.heard)) (omega arith)
     (λ t.
-    let front : take (length m.entries) journal ≡ m.entries = ap (take (length m.entries)) grown.new_is ∙ take_at m.entries grown.made (length m.entries) refl in
+    let front : take (length m.entries) journal ≡ m.entries =
+    ap (take (length m.entries)) grown.new_is ∙ take_at m.entries grown.made (length m.entries) refl in
     let E : List Entry → Type 0 = λ es. booked_after es t ≤ capacity_at steps t in
-    omega (arith, subst E front ((sound-after steps (take (length m.entries) journal) (legal-take steps journal (length m.entries) legal)).within.each t), capacity t))
+    omega (
+      arith,
+      subst E front
+          ((sound-after steps (take (length m.entries) journal)
+          (legal-take steps journal (length m.entries) legal)).within.each t),
+      capacity t,
+    ))
   where
     open given use {legal, grown, capacity}
 
@@ -166,7 +183,9 @@ turns-within {journal} {most} (turn ∷ turns) come top given small =
     let is = run.1.0 in
     let later : TurnRun turns = record { link = link; words = after_turn words turn; old = turn.new; new = new; run = run.1.1 } in
     let rest = turns-grown link (after_turn words turn) turns turn.new new run.1.1 in
-    let from-old = grown-on turn.old.entries turn.new.entries journal (turn-grown link words turn is) (grown-on turn.new.entries new.entries journal rest given.grown) in
+    let from-old =
+    grown-on turn.old.entries turn.new.entries journal (turn-grown link words turn is)
+    (grown-on turn.new.entries new.entries journal rest given.grown) in
     let here : turn_peak turn ≤ most =
     moment-within {m = turn.old} turn.mid.heard (record { legal = given.legal; grown = from-old; capacity = given.capacity }) in
     turns-within turns later (max top (turn_peak turn)) given (omega (arith, small, here))
@@ -192,7 +211,8 @@ later-most old later = most-if (later == 0)
     most-if true = omega arith
     most-if false = omega arith
 
-pub turns-heard : (link : Link) (words : ℕ → ℕ) (turns : List Turn) (old new : Moment) → AreTurns link words turns old new → new.heard ≤ old.heard + 3 * length turns
+pub turns-heard : (link : Link) (words : ℕ → ℕ) (turns : List Turn) (old new : Moment)
+    → AreTurns link words turns old new → new.heard ≤ old.heard + 3 * length turns
 turns-heard link words [] old new run = omega (arith, ap (λ (m : Moment). m.heard) run)
 turns-heard link words (turn ∷ turns) old new run =
     let is = run.1.0 in
@@ -201,11 +221,13 @@ turns-heard link words (turn ∷ turns) old new run =
       arith,
       ap (λ (m : Moment). m.heard) run.0,
       subst M (sym is.slot) (later-most turn.old (words 0 % 4)),
-      done-heard (record { link = link; old = turn.mid; new = turn.new; text = turn.text }) (after 2 words) (client_of words) _ is.done,
+      done-heard (record { link = link; old = turn.mid; new = turn.new; text = turn.text }) (after 2 words)
+          (client_of words) _ is.done,
       turns-heard link (after_turn words turn) turns turn.new new run.1.1,
     )
 
-pub turns-ready : {old new : Moment} (link : Link) (words : ℕ → ℕ) (turns : List Turn) → AreTurns link words turns old new → IsReady old → IsReady new
+pub turns-ready : {old new : Moment} (link : Link) (words : ℕ → ℕ) (turns : List Turn)
+    → AreTurns link words turns old new → IsReady old → IsReady new
 turns-ready {new} link words [] run ready =
     let R : Moment → Type 0 = λ m. IsReady m in
     subst R (sym run) ready

@@ -31,7 +31,13 @@ fair-line {number} steps plays text journal fair legal =
       booked_is = past.sum_is ∙ ap (λ k. sum_by (booked_after journal) (range_with_len 1 k)) whole;
       peak_is = past.peak_is ∙ ap (λ k. fold max 0 (map (booked_after journal) (range_with_len 1 k))) whole;
       within = λ most capacity.
-          let come : TurnRun turns = record { link = link; words = words; old = first_moment; new = fair.evening; run = fair.run } in
+          let come : TurnRun turns =
+          record { link = link; words = words; old = first_moment; new = fair.evening; run = fair.run } in
           turns-within turns come 0
-          (record { legal = legal; grown = evening-grown fair.evening journal fair.journal_is; capacity = capacity }) (omega arith);
+          (record {
+            legal = legal;
+            grown = evening-grown fair.evening journal fair.journal_is;
+            capacity =
+                capacity;
+          }) (omega arith);
     }

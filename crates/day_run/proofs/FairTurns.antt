@@ -35,9 +35,11 @@ pub done-ready : {c : ℕ} {state : ClientState} (step : LineStep) (words : ℕ 
 done-ready {c} {state = Idle} step words own is ready =
     play-ready step (rest_at step.link (words 0 % 16) (16384 + words 1 % 16384) (words 2 % 26))
     (record { client = own.client; at = refl }) is ready
-done-ready {c} {state = Playing play} step words own is ready = pause-ready step (record { client = own.client; at = refl }) is ready
+done-ready {c} {state = Playing play} step words own is ready =
+    pause-ready step (record { client = own.client; at = refl }) is ready
 done-ready {c} {state = Pausing stop rest} step words own is ready = ready-kept step.old step.new is.kept ready
-done-ready {c} {state = Paused rest} step words own is ready = resume-ready step (record { client = own.client; at = refl }) is ready
+done-ready {c} {state = Paused rest} step words own is ready =
+    resume-ready step (record { client = own.client; at = refl }) is ready
 
 plain-counts : {c : Counts} {last s b p : ℕ} → c.last ≡ last → s ≡ 0 → b ≡ 0 → p ≡ 0
     → c ≡ record { turns = c.turns; full = c.full; last = last; sent = c.sent + s; booked = c.booked + b; peak = max c.peak p }
@@ -71,7 +73,16 @@ pub record TurnSteps (link here : Link) (w w1 w2 w3 : ℕ → ℕ) (later client
   pub left : w3 ≡ after (words_for (state_at turn.mid client)) w2
   pub counted : c1 ≡ with_slot c turn.old turn.mid.heard
   pub told : is_full_line turn.text ≡ full
-  pub counts_are : c2 ≡ record { turns = c1.turns + 1; full = c1.full + cond full 1 0; last = c1.last; sent = c1.sent; booked = c1.booked; peak = c1.peak }
+  pub counts_are : c2
+      ≡ record {
+        turns = c1.turns + 1;
+        full = c1.full + cond full 1 0;
+        last = c1.last;
+        sent = c1.sent;
+        booked =
+            c1.booked;
+        peak = c1.peak;
+      }
 
 -- ---- one turn
 pub turn-of : {link here : Link} {w w1 w2 w3 : ℕ → ℕ} {later client : ℕ} {c c1 c2 : Counts} {full : Bool} (turn : Turn)
@@ -88,46 +99,93 @@ turn-of {here} {w} {w2} {later} {client} {c} {full} turn steps =
       new_is = refl;
       turn_is = record { slot = slot ∙ ap (at_later turn.old) l; done = subst L same (subst W second (subst D who-is done)) };
       left_is =
-          left ∙ ap (λ k. after (words_for (state_at turn.mid k)) w2) who-is ∙ ap (after (words_for (state_at turn.mid (w 1 % 256)))) second
+          left ∙ ap (λ k. after (words_for (state_at turn.mid k)) w2) who-is
+          ∙ ap (after (words_for (state_at turn.mid (w 1 % 256)))) second
           ∙ after-after (words_for (state_at turn.mid (w 1 % 256))) 2 w;
       counts_are =
-          m ∙ ap (λ (x : Counts). record { turns = x.turns + 1; full = x.full + cond full 1 0; last = x.last; sent = x.sent; booked = x.booked; peak = x.peak }) n
+          m ∙ ap (λ (x : Counts).
+          record {
+            turns = x.turns + 1;
+            full = x.full + cond full 1 0;
+            last = x.last;
+            sent =
+                x.sent;
+            booked = x.booked;
+            peak = x.peak;
+          }) n
           ∙ ap (λ b. record (with_turn c turn) { full = c.full + cond b 1 0 }) (sym told);
     }
   where
     open steps use {same, one, two, later_is as l, who, slot, done, left, counted as n, told, counts_are as m}
 
 -- ---- turns
-turns-more : {link : Link} {turn : Turn} {mid : Moment} (words : ℕ → ℕ) (turns : List Turn) (old : Moment) → AreTurns link words turns old mid → turn.old ≡ mid
+turns-more : {link : Link} {turn : Turn} {mid : Moment} (words : ℕ → ℕ) (turns : List Turn) (old : Moment)
+    → AreTurns link words turns old mid → turn.old ≡ mid
     → IsTurn link (after_turns words turns) turn → AreTurns link words (turns ++ turn ∷ []) old turn.new
 turns-more words [] old run at is = (at ∙ run, (is, refl))
 turns-more {link} {turn} {mid} words (t ∷ turns) old run at is =
     (run.0, (run.1.0, turns-more {link = link} {turn = turn} {mid = mid} (after_turn words t) turns t.new run.1.1 at is))
 
-after-more : (words : ℕ → ℕ) (turns : List Turn) (turn : Turn) → after_turns words (turns ++ turn ∷ []) ≡ after_turn (after_turns words turns) turn
+after-more : (words : ℕ → ℕ) (turns : List Turn) (turn : Turn)
+    → after_turns words (turns ++ turn ∷ []) ≡ after_turn (after_turns words turns) turn
 after-more words [] turn = refl
 after-more words (t ∷ turns) turn = after-more (after_turn words t) turns turn
 
-counts-more : (turns : List Turn) (turn : Turn) (old new : Moment) → turn.mid.heard ≡ new.heard → with_turn (counts_of turns old) turn ≡ counts_of (turns ++ turn ∷ []) new
+counts-more : (turns : List Turn) (turn : Turn) (old new : Moment) → turn.mid.heard ≡ new.heard
+    → with_turn (counts_of turns old) turn ≡ counts_of (turns ++ turn ∷ []) new
 counts-more turns turn old new heard =
     let all = turns ++ turn ∷ [] in
     let n : length turns + 1 ≡ length all = sym (length-append turns (turn ∷ [])) in
     let full = sym (sum_by_push (λ t. cond (is_refused t) 1 0) turns turn) in
-    let peak = sym (ap (fold max 0) (map-append turn_peak turns (turn ∷ [])) ∙ peak-push (map turn_peak turns) (turn_peak turn)) in
+    let peak = sym
+    (ap (fold max 0) (map-append turn_peak turns (turn ∷ [])) ∙ peak-push (map turn_peak turns) (turn_peak turn)) in
     let c = with_turn (counts_of turns old) turn in
     ap (λ k. record { turns = k; full = c.full; last = c.last; sent = c.sent; booked = c.booked; peak = c.peak }) n
     ∙ ap (λ k. record { turns = length all; full = k; last = c.last; sent = c.sent; booked = c.booked; peak = c.peak }) full
-    ∙ ap (λ k. record { turns = length all; full = count_by is_refused all; last = k; sent = c.sent; booked = c.booked; peak = c.peak }) heard
-    ∙ ap (λ k. record { turns = length all; full = count_by is_refused all; last = new.heard; sent = k; booked = c.booked; peak = c.peak }) (sym (sum_by_push turn_sent turns turn))
-    ∙ ap (λ k. record { turns = length all; full = count_by is_refused all; last = new.heard; sent = sum_by turn_sent all; booked = k; peak = c.peak }) (sym (sum_by_push turn_booked turns turn))
-    ∙ ap (λ k. record { turns = length all; full = count_by is_refused all; last = new.heard; sent = sum_by turn_sent all; booked = sum_by turn_booked all; peak = k }) peak
+    ∙ ap (λ k. record {
+      turns = length all;
+      full = count_by is_refused all;
+      last = k;
+      sent = c.sent;
+      booked =
+          c.booked;
+      peak = c.peak;
+    }) heard
+    ∙ ap (λ k. record {
+      turns = length all;
+      full = count_by is_refused all;
+      last = new.heard;
+      sent = k;
+      booked =
+          c.booked;
+      peak = c.peak;
+    }) (sym (sum_by_push turn_sent turns turn))
+    ∙ ap (λ k. record {
+      turns = length all;
+      full = count_by is_refused all;
+      last = new.heard;
+      sent =
+          sum_by turn_sent all;
+      booked = k;
+      peak = c.peak;
+    }) (sym (sum_by_push turn_booked turns turn))
+    ∙ ap (λ k. record {
+      turns = length all;
+      full = count_by is_refused all;
+      last = new.heard;
+      sent =
+          sum_by turn_sent all;
+      booked = sum_by turn_booked all;
+      peak = k;
+    }) peak
 
 pub come-none : (link : Link) (words : ℕ → ℕ) (counts : Counts) (moment : Moment) → moment ≡ first_moment
     → counts ≡ record { turns = 0; full = 0; last = 0; sent = 0; booked = 0; peak = 0 } → HasCome link words words 0 counts moment
 come-none link words counts moment is c =
     record { turns = []; count = refl; run = is; left_is = refl; counts_are = c ∙ ap (counts_of []) (sym is) }
 
-pub come-next : {link here : Link} {words left next : ℕ → ℕ} {n : ℕ} {counts more : Counts} {old new : Moment} → here ≡ link → HasCome link words left n counts old
+pub come-next : {link here : Link} {words left next : ℕ → ℕ} {n : ℕ} {counts more : Counts} {old new : Moment}
+    → here ≡ link → HasCome link words left n counts old
     → HasTurned here left next counts more old new → more.last ≡ new.heard → HasCome link words next (n + 1) more new
 come-next {link} {here} {words} {left} {next} {more} {old} {new} same come turned last =
     let turn = turned.turn in
@@ -142,13 +200,17 @@ come-next {link} {here} {words} {left} {next} {more} {old} {new} same come turne
       count = length-append come.turns (turn ∷ []) ∙ ap (λ k. k + 1) come.count;
       run = subst M turned.new_is (turns-more words come.turns first_moment come.run turned.old_is is);
       left_is = turned.left_is ∙ ap (λ (w : ℕ → ℕ). after_turn w turn) come.left_is ∙ sym (after-more words come.turns turn);
-      counts_are = turned.counts_are ∙ ap (λ (c : Counts). with_turn c turn) come.counts_are ∙ counts-more come.turns turn old new heard;
+      counts_are =
+          turned.counts_are ∙ ap (λ (c : Counts). with_turn c turn) come.counts_are ∙ counts-more come.turns turn old new heard;
     }
 
 -- a day of turns
 pub fair-of : {here : Link} {steps : List CapStep} {number plays : ℕ} {words left : ℕ → ℕ} {counts : Counts}
-    {made : Made} {evening : Moment} {text : List ℕ} {journal : List Entry} → here ≡ fair_link steps (words_of number) → words ≡ after_traces 16 (words_of number) → HasCome here words left plays counts evening
-    → journal ≡ last_journal evening → made ≡ made_of journal → text ≡ fair_text counts made → IsFair steps number plays text journal
+    {made : Made} {evening : Moment} {text : List ℕ} {journal : List Entry}
+    → here ≡ fair_link steps (words_of number) → words ≡ after_traces 16 (words_of number)
+    → HasCome here words left plays counts evening
+    → journal ≡ last_journal evening → made ≡ made_of journal → text ≡ fair_text counts made
+    → IsFair steps number plays text journal
 fair-of {here} {steps} {number} {words} {left} {made} {evening} {text} same w come j m t =
     let L : Link → Type 0 = λ x. AreTurns x words come.turns first_moment evening in
     let W : (ℕ → ℕ) → Type 0 = λ x. AreTurns (fair_link steps (words_of number)) x come.turns first_moment evening in
@@ -183,8 +245,10 @@ pub record SameDraws (s b d source buffer delay : ℕ) : Type 0 where
 
 pub line-drawn : {s b d source buffer delay : ℕ} (r : Result Told NoMemory) (asks : ClientAsks) (state : ClientState)
     → SameDraws s b d source buffer delay
-    → IfOk r (λ told. IsPlayLine asks.link asks.client (rest_at asks.link s b d) state asks.old asks.new (told_text asks.entries told))
-    → IfOk r (λ told. IsPlayLine asks.link asks.client (rest_at asks.link source buffer delay) state asks.old asks.new (told_text asks.entries told))
+    → IfOk r (λ told. IsPlayLine asks.link asks.client (rest_at asks.link s b d) state asks.old asks.new
+    (told_text asks.entries told))
+    → IfOk r (λ told. IsPlayLine asks.link asks.client (rest_at asks.link source buffer delay) state asks.old
+    asks.new (told_text asks.entries told))
 line-drawn {s} {b} {d} {source} {buffer} {delay} r asks state draws is =
     let P : Rest → Type 0 = λ rest. IfOk r (λ told. IsPlayLine link client rest state old new (told_text entries told)) in
     let e : rest_at link s b d ≡ rest_at link source buffer delay =
@@ -199,7 +263,8 @@ none-left : (w : ℕ → ℕ) (n : ℕ) → n ≡ 0 → w ≡ after n w
 none-left w n none = sym (ap (λ k. after k w) none ∙ after-zero w)
 
 -- a client for whom no word is drawn
-pub no-words : {w : ℕ → ℕ} {client : Client} (clients : List Client) (c : ℕ) → length clients ≡ 256 → c < 2 ^ 8 → client ≡ get_or clients c client
+pub no-words : {w : ℕ → ℕ} {client : Client} (clients : List Client) (c : ℕ) → length clients ≡ 256 → c < 2 ^ 8
+    → client ≡ get_or clients c client
     → words_for (state_of client) ≡ 0 → w ≡ after (words_for (get_or (map state_of clients) c Idle)) w
 no-words {w} {client} clients c count small at none =
     let inside : c < length clients = omega (arith, count, small) in

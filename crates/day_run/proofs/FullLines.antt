@@ -24,7 +24,8 @@ digits-other (x ∷ ds) rest some digits =
     let digit = digit_from_value x digits.0 in
     ap (λ r. r && bytes_eq (take 14 (ds ++ rest)) (codes "efused journal")) (digit-other x (omega (arith, digit)))
 
-pub entry-other : (place : ℕ) (entry : Entry) (rest : List ℕ) → place < 2 ^ 64 → is_full_line (entry_line place entry ++ rest) ≡ false
+pub entry-other : (place : ℕ) (entry : Entry) (rest : List ℕ) → place < 2 ^ 64
+    → is_full_line (entry_line place entry ++ rest) ≡ false
 entry-other place entry rest small =
     let numeral = (decimal_is_IsNumeral place small).0 in
     let number = decimal place in
@@ -32,9 +33,12 @@ entry-other place entry rest small =
     let command = command_words entry.command in
     let answer = answer_words entry.answer in
     let end = codes "\n" in
-    let parts : ((((number ++ seat) ++ command) ++ answer) ++ end) ++ rest ≡ number ++ (seat ++ (command ++ (answer ++ (end ++ rest)))) =
-    append_assoc (((number ++ seat) ++ command) ++ answer) end rest ∙ append_assoc ((number ++ seat) ++ command) answer (end ++ rest)
-    ∙ append_assoc (number ++ seat) command (answer ++ (end ++ rest)) ∙ append_assoc number seat (command ++ (answer ++ (end ++ rest))) in
+    let parts : ((((number ++ seat) ++ command) ++ answer) ++ end) ++ rest
+    ≡ number ++ (seat ++ (command ++ (answer ++ (end ++ rest)))) =
+    append_assoc (((number ++ seat) ++ command) ++ answer) end rest
+    ∙ append_assoc ((number ++ seat) ++ command) answer (end ++ rest)
+    ∙ append_assoc (number ++ seat) command (answer ++ (end ++ rest))
+    ∙ append_assoc number seat (command ++ (answer ++ (end ++ rest))) in
     ap is_full_line parts ∙ digits-other number (seat ++ (command ++ (answer ++ (end ++ rest)))) numeral.0 numeral.1
 
 pub entries-other : (place : ℕ) (entries : List Entry) → place < 2 ^ 64 → is_full_line (journal_text place entries) ≡ false

@@ -34,18 +34,22 @@ use Rattle.day_run.proofs.Timings.{done-sent}
 pub more-entries : (xs ys es : List Entry) → ys ≡ xs ++ es → drop (length xs) ys ≡ es
 more-entries xs ys es y = ap (drop (length xs)) y ∙ drop_at xs es (length xs) refl
 
-pub told-entry : (place : ℕ) (xs ys : List Entry) (e : Entry) → place ≡ length xs → ys ≡ xs ++ e ∷ [] → told_text ys (tolds.Entry place) ≡ entry_line (length xs) e
+pub told-entry : (place : ℕ) (xs ys : List Entry) (e : Entry) → place ≡ length xs → ys ≡ xs ++ e ∷ []
+    → told_text ys (tolds.Entry place) ≡ entry_line (length xs) e
 told-entry place xs ys e at y =
-    ap (λ n. journal_text n (drop n ys)) at ∙ ap (journal_text (length xs)) (more-entries xs ys (e ∷ []) y) ∙ append-nil (entry_line (length xs) e)
+    ap (λ n. journal_text n (drop n ys)) at ∙ ap (journal_text (length xs)) (more-entries xs ys (e ∷ []) y)
+    ∙ append-nil (entry_line (length xs) e)
 
 pub told-full : {link : Link} {places : ℕ} {old new : Moment} (full : Full) → link.limit < places_taken old.entries + places
-    → full.entries ≡ length old.entries → full.live ≡ open_count old.entries → new ≡ old → IsFull link places old new (full_text full)
+    → full.entries ≡ length old.entries → full.live ≡ open_count old.entries → new ≡ old
+    → IsFull link places old new (full_text full)
 told-full {old} {new} full above entries opened kept = record {
   full = above;
   told = record {
     kept = kept;
     text_is =
-        ap (λ n. full_text (record { entries = n; live = full.live })) entries ∙ ap (λ n. full_text (record { entries = length old.entries; live = n })) opened;
+        ap (λ n. full_text (record { entries = n; live = full.live })) entries
+        ∙ ap (λ n. full_text (record { entries = length old.entries; live = n })) opened;
   };
 }
 
@@ -57,7 +61,8 @@ pub record EntryMade (old new : Moment) (place : ℕ) (e : Entry) (states : List
   pub heard_is : new.heard ≡ old.heard
 
 -- an entry was made
-pub noted : {link : Link} {old new : Moment} {place : ℕ} {e : Entry} {states : List ClientState} → IsAnswered link.steps (state_after old.entries) e
+pub noted : {link : Link} {old new : Moment} {place : ℕ} {e : Entry} {states : List ClientState}
+    → IsAnswered link.steps (state_after old.entries) e
     → EntryMade old new place e states → IsNoted link e states old new (told_text new.entries (tolds.Entry place))
 noted {old} {new} {place} {e} {states} answered made = record {
   answered = answered;
@@ -82,7 +87,8 @@ pub noted-halt : {link : Link} {old new : Moment} {place c number keep : ℕ} {e
     → IsNoted link (entry_by c (commands.Halt number keep) Halted) states old new (told_text new.entries (tolds.Entry place))
 noted-halt {link} {old} {new} {place} {c} {number} {keep} {e} {states} answered made entry =
     let same : e ≡ entry_by c (commands.Halt number keep) Halted =
-    ap (λ n. record { maker = n; command = e.command; answer = e.answer }) maker ∙ ap (λ x. record { maker = c; command = x; answer = e.answer }) command
+    ap (λ n. record { maker = n; command = e.command; answer = e.answer }) maker
+    ∙ ap (λ x. record { maker = c; command = x; answer = e.answer }) command
     ∙ ap (λ a. entry_by c (commands.Halt number keep) a) answer in
     let N : Entry → Type 0 = λ x. IsNoted link x states old new (told_text new.entries (tolds.Entry place)) in
     subst N same (noted answered made)
@@ -120,14 +126,16 @@ play-is {number} {rest} {plan} {start} play begun =
     ∙ ap (λ x. record { number = number; rest = rest_of rest; plan = plan; start = x }) begun.start_is
 
 -- the clients after a play's answer
-pub states-played : {number : ℕ} {rest : ClientRest} {plan : List Segment} {start : ℕ} {answer : Answer} (cs : List Client) (c : ℕ)
+pub states-played : {number : ℕ} {rest : ClientRest} {plan : List Segment} {start : ℕ} {answer : Answer}
+    (cs : List Client) (c : ℕ)
     (play : ClientPlay) → answer ≡ Admitted start → PlayBegun number rest plan start play
     → map state_of (set cs c (clients.Playing play)) ≡ with_play c (rest_of rest) plan number answer (map state_of cs)
 states-played {number} {rest} {plan} {start} cs c play is begun =
     states-set cs c (clients.Playing play) ∙ ap (λ x. set (map state_of cs) c (Playing x)) (play-is play begun)
     ∙ ap (λ a. with_play c (rest_of rest) plan number a (map state_of cs)) (sym is)
 
-pub states-same : {states : List ClientState} (c : ℕ) (rest : Rest) (plan : List Segment) (number : ℕ) (answer : Answer) → is_admission answer ≡ false
+pub states-same : {states : List ClientState} (c : ℕ) (rest : Rest) (plan : List Segment) (number : ℕ)
+    (answer : Answer) → is_admission answer ≡ false
     → states ≡ with_play c rest plan number answer states
 states-same c rest plan number (Admitted start) not = cc not
 states-same c rest plan number (Overflow over booked asked) not = refl
@@ -151,17 +159,20 @@ begun-timed {slot} {start} {steps} {state} {plan} play admitted at begun =
     omega (arith, its.0, admitted.late, at, begun)
 
 -- a client pauses
-pub pause-line : {link : Link} {c : ℕ} {halt : Halt} {old new : Moment} {text : List ℕ} (client next : Client) → IsPauseOf old.heard halt client next
+pub pause-line : {link : Link} {c : ℕ} {halt : Halt} {old new : Moment} {text : List ℕ} (client next : Client)
+    → IsPauseOf old.heard halt client next
     → IsNoted link (entry_by c (commands.Halt halt.number halt.keep) Halted) (set old.states c (state_of next)) old new text
     → IsPauseLine link c (state_of client) old new text
 pause-line {c} {halt} {new} {text} clients.Idle next is n = absurd is
 pause-line {link} {c} {halt} {old} {new} {text} (clients.Playing play) next is n =
-    let N : ℕ → Type 0 = λ k. IsNoted link (entry_by c (commands.Halt k halt.keep) Halted) (set old.states c (state_of next)) old new text in
+    let N : ℕ → Type 0 =
+    λ k. IsNoted link (entry_by c (commands.Halt k halt.keep) Halted) (set old.states c (state_of next)) old new text in
     record { keep = halt.keep; state = state_of next; pause = is.1; noted = subst N is.0 n }
 pause-line {c} {halt} {new} {text} (clients.Pausing stop) next is n = absurd is
 pause-line {c} {halt} {new} {text} (clients.Paused rest) next is n = absurd is
 
-pub no-pause : {old new : Moment} {text : List ℕ} (link : Link) (c : ℕ) (client : Client) → IsQuiet client → IsTold state_text old new text
+pub no-pause : {old new : Moment} {text : List ℕ} (link : Link) (c : ℕ) (client : Client) → IsQuiet client
+    → IsTold state_text old new text
     → IsPauseLine link c (state_of client) old new text
 no-pause {new} {text} link c clients.Idle quiet told = told
 no-pause {new} {text} link c (clients.Playing play) quiet told = absurd quiet
@@ -169,14 +180,16 @@ no-pause {new} {text} link c (clients.Pausing stop) quiet told = told
 no-pause {new} {text} link c (clients.Paused rest) quiet told = told
 
 -- a client asks for a play, or can't
-pub play-line : {link : Link} {c : ℕ} {rest : Rest} {old new : Moment} {text : List ℕ} (state : ClientState) → is_busy state ≡ false
+pub play-line : {link : Link} {c : ℕ} {rest : Rest} {old new : Moment} {text : List ℕ} (state : ClientState)
+    → is_busy state ≡ false
     → IsAsked link c rest old new text → IsPlayLine link c rest state old new text
 play-line {c} {new} {text} Idle free asked = asked
 play-line {c} {new} {text} (Playing play) free asked = cc free
 play-line {c} {new} {text} (Pausing stop left) free asked = cc free
 play-line {c} {new} {text} (Paused left) free asked = asked
 
-pub play-asked : {link : Link} {c : ℕ} {one rest : Rest} {own state : ClientState} {old new : Moment} {text : List ℕ} → one ≡ rest → own ≡ state → is_busy own ≡ false
+pub play-asked : {link : Link} {c : ℕ} {one rest : Rest} {own state : ClientState} {old new : Moment}
+    {text : List ℕ} → one ≡ rest → own ≡ state → is_busy own ≡ false
     → IsAsked link c one old new text → IsPlayLine link c rest state old new text
 play-asked {link} {c} {one} {own} {state} {old} {new} {text} r s free asked =
     let R : Rest → Type 0 = λ x. IsPlayLine link c x state old new text in
@@ -192,7 +205,8 @@ play-ok {one} (Ok told) asks r s free asked =
 play-ok {one} (Err e) asks r s free asked = tt
 
 -- the halts after a sending
-pub halt_entries-sent : (slot k : ℕ) (states : List ClientState) → halt_entries (done_halt slot) k (map (after_sending slot) states) ≡ halt_entries (done_halt slot) k states
+pub halt_entries-sent : (slot k : ℕ) (states : List ClientState)
+    → halt_entries (done_halt slot) k (map (after_sending slot) states) ≡ halt_entries (done_halt slot) k states
 halt_entries-sent slot k [] = refl
 halt_entries-sent slot k (state ∷ states) =
     ap (λ es. es ++ halt_entries (done_halt slot) (k + 1) (map (after_sending slot) states)) (done-sent slot k state)
@@ -204,4 +218,5 @@ idle-states cs count idle =
     ext_get_or Idle (map state_of cs) (replicate 256 Idle) (length-map cs state_of ∙ count)
     (λ c inside.
     let within : c < length cs = omega (arith, inside, length-map cs state_of) in
-    state-at cs c clients.Idle within ∙ ap state_of (idle.each c clients.Idle within) ∙ sym (get_or-replicate 256 c Idle Idle (omega (arith, within, count))))
+    state-at cs c clients.Idle within ∙ ap state_of (idle.each c clients.Idle within)
+    ∙ sym (get_or-replicate 256 c Idle Idle (omega (arith, within, count))))

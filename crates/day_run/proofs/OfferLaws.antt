@@ -15,7 +15,8 @@ use Rattle.day_run.specs.ClientStates.{Rest}
 
 start-least : {booked capacity : ℕ → ℕ} {plan : List Segment} {first : ℕ} {tried : List Tried} (wait : ℕ)
     (start : Option ℕ) → AreRefusals 0 booked capacity plan first tried
-    → IsStart 0 booked capacity plan first wait (length tried) start → IsLeast (λ s. HasRoom 0 booked capacity s plan) first (first + wait) start
+    → IsStart 0 booked capacity plan first wait (length tried) start
+    → IsLeast (λ s. HasRoom 0 booked capacity s plan) first (first + wait) start
 start-least {booked} {capacity} {plan} {first} {tried} wait None refusals is = λ start begun within room.
     no_room_tried refusals begun (omega (arith, is, within)) room
 start-least {booked} {capacity} {plan} {first} {tried} wait (Some start) refusals is = (
@@ -40,7 +41,8 @@ start-count : (query : StartSearch) (start : Option ℕ)
 start-count query None is = omega (arith, is)
 start-count query (Some start) is = sym is.1
 
-pub offer-told : {link : Link} {rest : Rest} {wait : ℕ} {old new : Moment} {text : List ℕ} → IsOfferLine link rest wait old new text
+pub offer-told : {link : Link} {rest : Rest} {wait : ℕ} {old new : Moment} {text : List ℕ}
+    → IsOfferLine link rest wait old new text
     → IsFaulty rest old new text ⊎ IsOfferTold link rest wait old text
 offer-told {new} {text} (inl faulty) = inl faulty
 offer-told {link} {wait} {old} {new} {text} (inr offered) =
@@ -70,6 +72,10 @@ offer-told {link} {wait} {old} {new} {text} (inr offered) =
       }) found.start start;
       each = λ i none inside.
           let O : ℕ → Type 0 = λ s. IsFirstOverflow 0 booked capacity s plan (get_or found.tried i none).over in
-          record { start_is = refusals.starts i none inside; over = subst O (refusals.starts i none inside) (refusals.refused i none inside) };
+          record {
+            start_is = refusals.starts i none inside;
+            over =
+                subst O (refusals.starts i none inside) (refusals.refused i none inside);
+          };
       text_is = offered.told.text_is;
     })

@@ -46,7 +46,8 @@ pub record IsOne (new new' : Moment) (text text' : List ℕ) : Type 0 where
   pub new_is : new ≡ new'
   pub text_is : text ≡ text'
 
-one-told : {told : List ℕ} {old new new' : Moment} {text text' : List ℕ} → IsTold told old new text → IsTold told old new' text' → IsOne new new' text text'
+one-told : {told : List ℕ} {old new new' : Moment} {text text' : List ℕ} → IsTold told old new text
+    → IsTold told old new' text' → IsOne new new' text text'
 one-told {new} {text} a b = record { new_is = a.kept ∙ sym b.kept; text_is = a.text_is ∙ sym b.text_is }
 
 one-noted : {link : Link} {one other : Entry} {states states' : List ClientState} {old new new' : Moment}
@@ -60,24 +61,29 @@ one-noted {one} {other} {states} {old} {new} {text} e s a b = record {
 }
 
 one-planned : {link : Link} {c : ℕ} {rest : Rest} {plan : List Segment} {old new new' : Moment} {text text' : List ℕ}
-    → (IsFull link 2 old new text ⊎ IsAnsweredPlay link c rest plan old new text) → (IsFull link 2 old new' text' ⊎ IsAnsweredPlay link c rest plan old new' text')
+    → (IsFull link 2 old new text ⊎ IsAnsweredPlay link c rest plan old new text)
+    → (IsFull link 2 old new' text' ⊎ IsAnsweredPlay link c rest plan old new' text')
     → IsOne new new' text text'
 one-planned {c} {new} {text} (inl a) (inl b) = one-told a.told b.told
 one-planned {c} {new} {text} (inl a) (inr b) = absurd (omega (arith, a.full, b.room))
 one-planned {c} {new} {text} (inr a) (inl b) = absurd (omega (arith, a.room, b.full))
 one-planned {link} {c} {rest} {plan} {old} {new} {text} (inr a) (inr b) =
     let same : a.answer ≡ b.answer =
-    answer-once (record { steps = link.steps; state = state_after old.entries }) (commands.Play old.heard plan) a.answer b.answer a.noted.answered b.noted.answered in
+    answer-once (record { steps = link.steps; state = state_after old.entries }) (commands.Play old.heard plan)
+    a.answer b.answer a.noted.answered b.noted.answered in
     one-noted (ap (entry_by c (commands.Play old.heard plan)) same)
     (ap (λ x. with_play c rest plan (length old.entries) x old.states) same) a.noted b.noted
 
-one-fault : {rest : Rest} {old new new' : Moment} {text text' : List ℕ} → IsFaulty rest old new text → IsFaulty rest old new' text' → IsOne new new' text text'
+one-fault : {rest : Rest} {old new new' : Moment} {text text' : List ℕ} → IsFaulty rest old new text
+    → IsFaulty rest old new' text' → IsOne new new' text text'
 one-fault {rest} {old} {new} {text} a b =
-    let same = HasFault-unique (rest_sizes rest.sizes rest.run) (timing_of rest.playback rest.run) a.fault b.fault a.fault_is b.fault_is in
+    let same = HasFault-unique (rest_sizes rest.sizes rest.run) (timing_of rest.playback rest.run) a.fault
+    b.fault a.fault_is b.fault_is in
     let T : CurveFault → Type 0 = λ f. IsTold (fault_text f) old new text in
     one-told (subst T same a.told) b.told
 
-one-asked : {link : Link} {c : ℕ} {rest : Rest} {old new new' : Moment} {text text' : List ℕ} → (0 < length (rest_sizes rest.sizes rest.run) → IsSoundRest rest)
+one-asked : {link : Link} {c : ℕ} {rest : Rest} {old new new' : Moment} {text text' : List ℕ}
+    → (0 < length (rest_sizes rest.sizes rest.run) → IsSoundRest rest)
     → IsAsked link c rest old new text → IsAsked link c rest old new' text' → IsOne new new' text text'
 one-asked {c} {new} {text} own (inl a) (inl b) = one-fault a b
 one-asked {c} {rest} {new} {text} own (inl a) (inr b) =
@@ -86,7 +92,8 @@ one-asked {c} {rest} {new} {text} own (inr a) (inl b) =
     absurd (fault-apart (rest_sizes rest.sizes rest.run) (timing_of rest.playback rest.run) b.fault b.fault_is a.plan_is.accepted)
 one-asked {link} {c} {rest} {old} {new} {text} own (inr a) (inr b) =
     let can = (own b.plan_is.accepted.some_picture).can in
-    let same : a.plan ≡ b.plan = sending-one rest.sizes rest.playback rest.run b.plan (record { can_play = can; plan_is = b.plan_is }) a.plan a.plan_is in
+    let same : a.plan ≡ b.plan =
+    sending-one rest.sizes rest.playback rest.run b.plan (record { can_play = can; plan_is = b.plan_is }) a.plan a.plan_is in
     let D : List Segment → Type 0 = λ p. IsFull link 2 old new text ⊎ IsAnsweredPlay link c rest p old new text in
     one-planned (subst D same a.done) b.done
 
@@ -113,42 +120,51 @@ one-resume {new} {text} asker (Playing play) own a b = one-told a b
 one-resume {new} {text} asker (Pausing stop rest) own a b = one-told a b
 one-resume {new} {text} asker (Paused rest) own a b = one-asked (λ some. own) a b
 
-one-halted : {link : Link} {c : ℕ} {play : Play} {old new new' : Moment} {text text' : List ℕ} → IsHaltedPlay link c play old new text
+one-halted : {link : Link} {c : ℕ} {play : Play} {old new new' : Moment} {text text' : List ℕ}
+    → IsHaltedPlay link c play old new text
     → IsHaltedPlay link c play old new' text' → IsOne new new' text text'
 one-halted {c} {play} {old} {new} {text} a b =
     let x = a.pause.boundary in
     let y = b.pause.boundary in
     let keep : a.keep ≡ b.keep = omega (arith, x.least _ y.boundary y.after, y.least _ x.boundary x.after) in
-    let L : ℕ → Type 0 = λ k. IsLeft play.rest.sizes play.rest.playback play.rest.run play.plan (slot_sent play.start old.heard) k a.pause.left in
+    let L : ℕ → Type 0 =
+    λ k. IsLeft play.rest.sizes play.rest.playback play.rest.run play.plan (slot_sent play.start old.heard) k a.pause.left in
     let left : a.pause.left ≡ b.pause.left =
     left-one b.pause.left_is (subst L keep a.pause.left_is) in
     let state : a.state ≡ b.state =
-    a.pause.state_is ∙ ap (λ k. pausing_state old.heard (cut_play play.start play.plan k) (record play.rest { run = a.pause.left })) keep
-    ∙ ap (λ r. pausing_state old.heard (cut_play play.start play.plan b.keep) (record play.rest { run = r })) left ∙ sym b.pause.state_is in
+    a.pause.state_is
+    ∙ ap (λ k. pausing_state old.heard (cut_play play.start play.plan k) (record play.rest { run = a.pause.left })) keep
+    ∙ ap (λ r. pausing_state old.heard (cut_play play.start play.plan b.keep) (record play.rest { run = r }))
+    left ∙ sym b.pause.state_is in
     one-noted (ap (λ k. entry_by c (commands.Halt play.number k) Halted) keep) (ap (set old.states c) state) a.noted b.noted
 
-one-pause : {new new' : Moment} {text text' : List ℕ} (link : Link) (c : ℕ) (state : ClientState) (old : Moment) → IsPauseLine link c state old new text
+one-pause : {new new' : Moment} {text text' : List ℕ} (link : Link) (c : ℕ) (state : ClientState) (old : Moment)
+    → IsPauseLine link c state old new text
     → IsPauseLine link c state old new' text' → IsOne new new' text text'
 one-pause {new} {text} link c Idle old a b = one-told a b
 one-pause {new} {text} link c (Playing play) old a b = one-halted a b
 one-pause {new} {text} link c (Pausing stop rest) old a b = one-told a b
 one-pause {new} {text} link c (Paused rest) old a b = one-told a b
 
-one-look : {link : Link} {slot : ℕ} {old new new' : Moment} {text text' : List ℕ} → IsLookLine link slot old new text → IsLookLine link slot old new' text'
+one-look : {link : Link} {slot : ℕ} {old new new' : Moment} {text text' : List ℕ}
+    → IsLookLine link slot old new text → IsLookLine link slot old new' text'
     → IsOne new new' text text'
 one-look {slot} {new} {text} (inl a) (inl b) = one-told a.told b.told
 one-look {slot} {new} {text} (inl a) (inr b) = absurd (omega (arith, a.full, b.room))
 one-look {slot} {new} {text} (inr a) (inl b) = absurd (omega (arith, a.room, b.full))
 one-look {link} {slot} {old} {new} {text} (inr a) (inr b) =
-    let same = answer-once (record { steps = link.steps; state = state_after old.entries }) (commands.Look slot) a.answer b.answer a.noted.answered b.noted.answered in
+    let same = answer-once (record { steps = link.steps; state = state_after old.entries }) (commands.Look slot)
+    a.answer b.answer a.noted.answered b.noted.answered in
     one-noted (ap (entry_by 0 (commands.Look slot)) same) refl a.noted b.noted
 
 one-found : (one other : Offers) → one.wait ≡ other.wait → one.start ≡ other.start → one.tried ≡ other.tried → one ≡ other
 one-found one other w s t =
-    ap (λ n. record { wait = n; start = one.start; tried = one.tried }) w ∙ ap (λ n. record { wait = other.wait; start = n; tried = one.tried }) s
+    ap (λ n. record { wait = n; start = one.start; tried = one.tried }) w
+    ∙ ap (λ n. record { wait = other.wait; start = n; tried = one.tried }) s
     ∙ ap (λ l. record { wait = other.wait; start = other.start; tried = l }) t
 
-one-offer : {link : Link} {rest : Rest} {wait : ℕ} {old new new' : Moment} {text text' : List ℕ} → (0 < length (rest_sizes rest.sizes rest.run) → IsSoundRest rest)
+one-offer : {link : Link} {rest : Rest} {wait : ℕ} {old new new' : Moment} {text text' : List ℕ}
+    → (0 < length (rest_sizes rest.sizes rest.run) → IsSoundRest rest)
     → IsOfferLine link rest wait old new text → IsOfferLine link rest wait old new' text' → IsOne new new' text text'
 one-offer {new} {text} own (inl a) (inl b) = one-fault a b
 one-offer {rest} {new} {text} own (inl a) (inr b) =
@@ -157,7 +173,8 @@ one-offer {rest} {new} {text} own (inr a) (inl b) =
     absurd (fault-apart (rest_sizes rest.sizes rest.run) (timing_of rest.playback rest.run) b.fault b.fault_is a.plan_is.accepted)
 one-offer {link} {rest} {old} {new} {text} own (inr a) (inr b) =
     let can = (own b.plan_is.accepted.some_picture).can in
-    let same : a.plan ≡ b.plan = sending-one rest.sizes rest.playback rest.run b.plan (record { can_play = can; plan_is = b.plan_is }) a.plan a.plan_is in
+    let same : a.plan ≡ b.plan =
+    sending-one rest.sizes rest.playback rest.run b.plan (record { can_play = can; plan_is = b.plan_is }) a.plan a.plan_is in
     let booked = booked_in (state_after old.entries) in
     let first = max (state_after old.entries).now old.heard + 1 in
     let O : List Segment → Type 0 = λ p. IsOffer 0 booked (capacity_at link.steps) p first a.found in
@@ -202,14 +219,16 @@ one-run {link} {texts = t ∷ ts} {texts' = t' ∷ ts'} {old} {new} {new'} (l �
     let next = line-sound step l link-is first sound a.1.0 in
     let after = rest-standing standing (heard-after step l a.1.0) in
     let R : Moment → Type 0 = λ m. AreRun link ls ts' m new' in
-    let rest = one-run {link = link} {texts = ts} {texts' = ts'} {old = a.0} {new = new} {new' = new'} ls link-is after next a.1.1 (subst R (sym one.new_is) b.1.1) in
+    let rest = one-run {link = link} {texts = ts} {texts' = ts'} {old = a.0} {new = new} {new' = new'} ls
+    link-is after next a.1.1 (subst R (sym one.new_is) b.1.1) in
     record { new_is = rest.new_is; texts_are = ap (λ x. x ∷ ts) one.text_is ∙ ap (λ xs. t' ∷ xs) rest.texts_are }
 
 pub one-day : {link : Link} {ls : List Line} {text text' : List ℕ} {journal journal' : List Entry} → IsLink link
     → AreClients ls → AreLines (length link.reels) ls → IsDay link ls text journal → IsDay link ls text' journal'
     → (text ≡ text') × (journal ≡ journal')
 one-day {ls} link-is clients are a b =
-    let one = one-run ls link-is (record { clients = clients.each; stands = are.each }) (record { ready = morning-ready; each = idle-sound }) a.run b.run in (
+    let one = one-run ls link-is (record { clients = clients.each; stands = are.each })
+    (record { ready = morning-ready; each = idle-sound }) a.run b.run in (
       a.text_is ∙ ap (λ ts. flat_map (λ (t : List ℕ). t) ts ++ last_lines a.evening) one.texts_are
           ∙ ap (λ m. flat_map (λ (t : List ℕ). t) b.texts ++ last_lines m) one.new_is ∙ sym b.text_is,
       a.journal_is ∙ ap last_journal one.new_is ∙ sym b.journal_is,

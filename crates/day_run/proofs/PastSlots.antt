@@ -33,7 +33,8 @@ Past old new = (t : ℕ) → t ≤ old.heard → booked_after new.entries t ≡ 
 kept-past : (old new : Moment) → new ≡ old → Past old new
 kept-past old new kept t past = ap (λ (m : Moment). booked_after m.entries t) kept
 
-same-past : (old new : Moment) (e : Entry) (states : List ClientState) → new ≡ record { entries = old.entries ++ e ∷ []; states = states; heard = old.heard }
+same-past : (old new : Moment) (e : Entry) (states : List ClientState)
+    → new ≡ record { entries = old.entries ++ e ∷ []; states = states; heard = old.heard }
     → (state_after (old.entries ++ e ∷ [])).held ≡ (state_after old.entries).held → Past old new
 same-past old new e states is same t past =
     ap (λ (m : Moment). booked_after m.entries t) is ∙ ap (λ hs. booked_by (map (λ (h : Held). h.play) hs) t) same
@@ -67,11 +68,14 @@ answered-past {new} (Looked now at booked) link ask old answered is =
     let e = entry_by ask.c (commands.Play old.heard ask.plan) (Looked now at booked) in
     same-past old new e old.states is (ap (λ (s : State). s.held) (state-push old.entries e))
 
-asked-past : {link : Link} {c : ℕ} {rest : Rest} {old new : Moment} {text : List ℕ} → IsAsked link c rest old new text → Past old new
+asked-past : {link : Link} {c : ℕ} {rest : Rest} {old new : Moment} {text : List ℕ}
+    → IsAsked link c rest old new text → Past old new
 asked-past {c} {old} {new} {text} (inl faulty) = kept-past old new faulty.told.kept
 asked-past {link} {c} {rest} {old} {new} {text} (inr planned) = elim planned.done [
   | inl full ↦ kept-past old new full.told.kept
-  | inr made ↦ answered-past made.answer link (record { c = c; rest = rest; plan = planned.plan }) old made.noted.answered made.noted.new_is
+  | inr made ↦
+      answered-past made.answer link (record { c = c; rest = rest; plan = planned.plan }) old
+      made.noted.answered made.noted.new_is
 ]
 
 play-past : (step : LineStep) (c : ℕ) (rest : Rest) (state : ClientState)
@@ -88,13 +92,15 @@ resume-past step c (Playing play) is = kept-past step.old step.new is.kept
 resume-past step c (Pausing stop rest) is = kept-past step.old step.new is.kept
 resume-past step c (Paused rest) is = asked-past is
 
-halted-past : {link : Link} {c : ℕ} {play : Play} {old new : Moment} {text : List ℕ} → c < 256 → get_or old.states c Idle ≡ Playing play → IsReady old
+halted-past : {link : Link} {c : ℕ} {play : Play} {old new : Moment} {text : List ℕ} → c < 256
+    → get_or old.states c Idle ≡ Playing play → IsReady old
     → IsHaltedPlay link c play old new text → Past old new
 halted-past {c} {play} {old} {new} {text} client at ready is t past =
     let held = its-held c (omega (arith, client, ready.count)) at ready.balanced in
     let most = kept-most old.entries play is.keep held is.noted.answered in
     let sent : sent_by (booking_of play) old.heard ≤ is.keep = omega (arith, is.pause.boundary.after) in
-    ap (λ (m : Moment). booked_after m.entries t) is.noted.new_is ∙ stays-halt old.entries c is.keep play held (record { sent = sent; most = most }) t past
+    ap (λ (m : Moment). booked_after m.entries t) is.noted.new_is
+    ∙ stays-halt old.entries c is.keep play held (record { sent = sent; most = most }) t past
 
 pause-past : {c : ℕ} {state : ClientState} (step : LineStep) → ClientOf step.old c state → IsReady step.old
     → IsPauseLine step.link c state step.old step.new step.text → Past step.old step.new
@@ -113,7 +119,8 @@ look-past link slot old new text (inr made) =
         → (state_after (entries ++ entry_by 0 (commands.Look slot) answer ∷ [])).held ≡ (state_after entries).held
     look-held answer slot entries = ap (λ (s : State). s.held) (state-push entries (entry_by 0 (commands.Look slot) answer))
 
-offer-past : {link : Link} {rest : Rest} {wait : ℕ} {old new : Moment} {text : List ℕ} → IsOfferLine link rest wait old new text → Past old new
+offer-past : {link : Link} {rest : Rest} {wait : ℕ} {old new : Moment} {text : List ℕ}
+    → IsOfferLine link rest wait old new text → Past old new
 offer-past {old} {new} {text} (inl faulty) = kept-past old new faulty.told.kept
 offer-past {old} {new} {text} (inr offered) = kept-past old new offered.told.kept
 
@@ -125,7 +132,8 @@ line-past step (lines.Pause c) standing ready is = pause-past step (record { cli
 line-past step (lines.Resume c) standing ready is = resume-past step c (state_at step.old c) is
 line-past step (lines.Look slot) standing ready is = look-past step.link _ step.old step.new step.text is
 line-past step (lines.Slot slot) standing ready is = λ t past.
-    ap (λ (m : Moment). booked_after m.entries t) is.0 ∙ slot-stays step.old slot t (omega (arith, standing.stands.0)) (omega (arith, past, standing.stands.0)) ready.balanced
+    ap (λ (m : Moment). booked_after m.entries t) is.0
+    ∙ slot-stays step.old slot t (omega (arith, standing.stands.0)) (omega (arith, past, standing.stands.0)) ready.balanced
 line-past step (lines.Offer c source buffer delay wait) standing ready is =
     offer-past is
 
@@ -144,12 +152,14 @@ done-past : {c : ℕ} {state : ClientState} (step : LineStep) (words : ℕ → �
     → IsReady step.old → IsDone step.link words c state step.old step.new step.text → Past step.old step.new
 done-past {c} {state = Idle} step words own ready is =
     play-past step c (rest_at step.link (words 0 % 16) (16384 + words 1 % 16384) (words 2 % 26)) (state_at step.old c) is
-done-past {c} {state = Playing play} step words own ready is = pause-past step (record { client = own.client; at = refl }) ready is
+done-past {c} {state = Playing play} step words own ready is =
+    pause-past step (record { client = own.client; at = refl }) ready is
 done-past {c} {state = Pausing stop rest} step words own ready is = kept-past step.old step.new is.kept
 done-past {c} {state = Paused rest} step words own ready is = resume-past step c (state_at step.old c) is
 
 -- a slot or none leaves what is booked up to it
-later-past : (old : Moment) (later t : ℕ) → IsReady old → t ≤ (at_later old later).heard → booked_after (at_later old later).entries t ≡ booked_after old.entries t
+later-past : (old : Moment) (later t : ℕ) → IsReady old → t ≤ (at_later old later).heard
+    → booked_after (at_later old later).entries t ≡ booked_after old.entries t
 later-past old later t ready = past-if (later == 0)
   where
     past-if : (b : Bool) → t ≤ (cond b old (at_slot old (old.heard + later))).heard
@@ -168,13 +178,15 @@ turn-past {link} {words} {turn} t is ready past =
     (record { client = omega arith; at = refl }) mid is.done t past ∙ to-mid past
 
 -- ---- sums and peaks over slots that join
-sum-same : (f g : ℕ → ℕ) (a n : ℕ) → ((t : ℕ) → t < a + n → f t ≡ g t) → sum_by f (range_with_len a n) ≡ sum_by g (range_with_len a n)
+sum-same : (f g : ℕ → ℕ) (a n : ℕ) → ((t : ℕ) → t < a + n → f t ≡ g t)
+    → sum_by f (range_with_len a n) ≡ sum_by g (range_with_len a n)
 sum-same f g a zero same = refl
 sum-same f g a (suc n) same =
     let e : suc n ≡ n + 1 = omega arith in
     let here : f (a + n) ≡ g (a + n) = same (a + n) (omega arith) in
     let more = sum-same f g a n (λ t before. same t (omega (arith, before))) in
-    let both : sum_by f (range_with_len a (n + 1)) ≡ sum_by g (range_with_len a (n + 1)) = omega (arith, sum-slots f a n, sum-slots g a n, here, more) in
+    let both : sum_by f (range_with_len a (n + 1)) ≡ sum_by g (range_with_len a (n + 1)) =
+    omega (arith, sum-slots f a n, sum-slots g a n, here, more) in
     ap (λ k. sum_by f (range_with_len a k)) e ∙ both ∙ sym (ap (λ k. sum_by g (range_with_len a k)) e)
 
 peak-same : (f g : ℕ → ℕ) (a n : ℕ) → ((t : ℕ) → t < a + n → f t ≡ g t)
@@ -188,7 +200,8 @@ peak-same f g a (suc n) same =
     omega (arith, peak-slots f a n (a + n) refl, peak-slots g a n (a + n) refl, here, more) in
     ap (λ k. fold max 0 (map f (range_with_len a k))) e ∙ both ∙ sym (ap (λ k. fold max 0 (map g (range_with_len a k))) e)
 
-sum-join : (f : ℕ → ℕ) (a m n : ℕ) → sum_by f (range_with_len a (m + n)) ≡ sum_by f (range_with_len a m) + sum_by f (range_with_len (a + m) n)
+sum-join : (f : ℕ → ℕ) (a m n : ℕ)
+    → sum_by f (range_with_len a (m + n)) ≡ sum_by f (range_with_len a m) + sum_by f (range_with_len (a + m) n)
 sum-join f a m zero =
     let e : m + 0 ≡ m = omega arith in
     omega (arith, ap (λ k. sum_by f (range_with_len a k)) e)
@@ -207,7 +220,8 @@ sum-join f a m (suc n) =
     )
 
 peak-join : (f : ℕ → ℕ) (a m n : ℕ)
-    → fold max 0 (map f (range_with_len a (m + n))) ≡ max (fold max 0 (map f (range_with_len a m))) (fold max 0 (map f (range_with_len (a + m) n)))
+    → fold max 0 (map f (range_with_len a (m + n)))
+    ≡ max (fold max 0 (map f (range_with_len a m))) (fold max 0 (map f (range_with_len (a + m) n)))
 peak-join f a m zero =
     let e : m + 0 ≡ m = omega arith in
     omega (arith, ap (λ k. fold max 0 (map f (range_with_len a k))) e)
@@ -235,7 +249,8 @@ pub record AreBooked (booked : ℕ → ℕ) (turns : List Turn) (from to : ℕ) 
   pub sum_is : sum_by turn_booked turns ≡ sum_by booked (range_with_len (from + 1) (to - from))
   pub peak_is : fold max 0 (map turn_peak turns) ≡ fold max 0 (map booked (range_with_len (from + 1) (to - from)))
 
-pub turns-past : {turns : List Turn} {old : Moment} {booked : ℕ → ℕ} (link : Link) (words : ℕ → ℕ) (new : Moment) → AreTurns link words turns old new → IsReady old
+pub turns-past : {turns : List Turn} {old : Moment} {booked : ℕ → ℕ} (link : Link) (words : ℕ → ℕ)
+    (new : Moment) → AreTurns link words turns old new → IsReady old
     → ((t : ℕ) → t ≤ new.heard → booked t ≡ booked_after new.entries t)
     → AreBooked booked turns old.heard new.heard × ((t : ℕ) → t ≤ old.heard → booked t ≡ booked_after old.entries t)
 turns-past {turns = []} {old} {booked} link words new run ready same =
@@ -252,10 +267,12 @@ turns-past {turns = turn ∷ turns} {old} {booked} link words new run ready same
     let R : Moment → Type 0 = λ m. IsReady m in
     let begun : IsReady turn.old = subst R (sym run.0) ready in
     let is = run.1.0 in
-    let rest = turns-past {turns = turns} {old = turn.new} {booked = booked} link (after_turn words turn) new run.1.1 (turn-ready link words turn is begun) same in
+    let rest = turns-past {turns = turns} {old = turn.new} {booked = booked} link (after_turn words turn) new
+    run.1.1 (turn-ready link words turn is begun) same in
     let from : turn.old.heard ≡ old.heard = ap (λ (m : Moment). m.heard) run.0 in
     let mid : turn.new.heard ≡ turn.mid.heard =
-    done-heard (record { link = link; old = turn.mid; new = turn.new; text = turn.text }) (after 2 words) (client_of words) _ is.done in
+    done-heard (record { link = link; old = turn.mid; new = turn.new; text = turn.text }) (after 2 words)
+    (client_of words) _ is.done in
     let M : Moment → Type 0 = λ m. turn.old.heard ≤ m.heard in
     let later : turn.old.heard ≤ turn.mid.heard = subst M (sym is.slot) (later-heard turn.old (words 0 % 4)) in
     let here : (t : ℕ) → t ≤ turn.mid.heard → booked t ≡ booked_after turn.old.entries t =
@@ -295,7 +312,8 @@ turns-past {turns = turn ∷ turns} {old} {booked} link words new run ready same
       λ t past. here t (omega (arith, past, from, later)) ∙ ap (λ (x : Moment). booked_after x.entries t) run.0,
     )
 
-pub fair-past : {turns : List Turn} {evening : Moment} {journal : List Entry} (link : Link) (words : ℕ → ℕ) → AreTurns link words turns first_moment evening
+pub fair-past : {turns : List Turn} {evening : Moment} {journal : List Entry} (link : Link) (words : ℕ → ℕ)
+    → AreTurns link words turns first_moment evening
     → journal ≡ last_journal evening → IsReady evening → AreBooked (booked_after journal) turns 0 evening.heard
 fair-past {evening} link words run is ready =
     (turns-past link words evening run morning-ready
@@ -304,12 +322,16 @@ fair-past {evening} link words run is ready =
 -- ---- looks and offers
 pub look-leaves : (link : Link) (slot : ℕ) (old new : Moment) (text : List ℕ) → IsLine link (lines.Look slot) old new text
     → (new.states ≡ old.states) × (new.heard ≡ old.heard) × (state_after new.entries ≡ state_after old.entries)
-look-leaves link slot old new text (inl full) =
-    (ap (λ (m : Moment). m.states) full.told.kept, ap (λ (m : Moment). m.heard) full.told.kept, ap (λ (m : Moment). state_after m.entries) full.told.kept)
+look-leaves link slot old new text (inl full) = (
+  ap (λ (m : Moment). m.states) full.told.kept,
+  ap (λ (m : Moment). m.heard) full.told.kept,
+  ap (λ (m : Moment). state_after m.entries) full.told.kept,
+)
 look-leaves link slot old new text (inr made) = (
   ap (λ (m : Moment). m.states) made.noted.new_is,
   ap (λ (m : Moment). m.heard) made.noted.new_is,
-  ap (λ (m : Moment). state_after m.entries) made.noted.new_is ∙ state-push old.entries (entry_by 0 (commands.Look _) made.answer),
+  ap (λ (m : Moment). state_after m.entries) made.noted.new_is
+      ∙ state-push old.entries (entry_by 0 (commands.Look _) made.answer),
 )
 
 pub offer-leaves : {link : Link} {wait : ℕ} {old new : Moment} {text : List ℕ} (client source buffer delay : ℕ)

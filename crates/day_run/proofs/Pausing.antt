@@ -23,8 +23,10 @@ undone-apart p undone some same =
     subst T e (eqb_refl p.keep)
 
 -- the halt of a play that isn't done
-pub halts : {play : Play} {keep : ℕ} (last : Option ℕ) → IsPlaying play → is_done play.pacer ≡ false → slots_through last ≡ play.pacer.passed
-    → IsBoundaryAfter play.pacer.pieces (play.pacer.before + play.pacer.sent) (play.pacer.before + keep) → keep ≤ play.pacer.keep → IsHalt play.plan last keep
+pub halts : {play : Play} {keep : ℕ} (last : Option ℕ) → IsPlaying play → is_done play.pacer ≡ false
+    → slots_through last ≡ play.pacer.passed
+    → IsBoundaryAfter play.pacer.pieces (play.pacer.before + play.pacer.sent) (play.pacer.before + keep)
+    → keep ≤ play.pacer.keep → IsHalt play.plan last keep
 halts {play} {keep} None playing undone passed boundary most =
     let p = play.pacer in
     let nothing : first_slots p.plan p.passed ≡ 0 = ap (first_slots p.plan) (sym passed) in
@@ -33,7 +35,8 @@ halts {play} {keep} None playing undone passed boundary most =
     omega (arith, le)
 halts {play} (Some last) playing undone passed boundary most =
     let p = play.pacer in
-    let due : p.due ≡ min (sum_through p.plan last) p.keep = playing.pacing.due ∙ ap (λ n. min (first_slots p.plan n) p.keep) (sym passed) in
+    let due : p.due ≡ min (sum_through p.plan last) p.keep =
+    playing.pacing.due ∙ ap (λ n. min (first_slots p.plan n) p.keep) (sym passed) in
     let apart : p.sent ≡ p.keep → ⊥ = undone-apart p undone (omega (arith, passed)) in
     let through : sum_through play.plan last ≡ p.sent =
     ap (λ s. sum_through s last) (sym playing.plan_is) ∙ elim (cases_lt (sum_through p.plan last) p.keep) [
@@ -48,7 +51,8 @@ halts {play} (Some last) playing undone passed boundary most =
     ] in
     let inside : last < total_slots play.plan = elim (cases_lt last (total_slots play.plan)) [
       | inl within ↦ within
-      | inr past ↦ absurd (omega (arith, sum_through-past play.plan last plan (omega (arith, past)), through, below, playing.whole))
+      | inr past ↦
+          absurd (omega (arith, sum_through-past play.plan last plan (omega (arith, past)), through, below, playing.whole))
     ] in
     (inside, omega (arith, through, boundary.after), omega (arith, most, playing.whole))
 
@@ -61,19 +65,22 @@ pub record LeftRun (play : Play) (keep : ℕ) (left : Run) : Type 0 where
   pub fits : Fits play.rest.playback.buffer left
 
 -- it can be sent on
-pub left-rest : {play : Play} {keep : ℕ} {left : Run} → IsPlaying play → LeftRun play keep left → IsRest (record play.rest { run = left })
+pub left-rest : {play : Play} {keep : ℕ} {left : Run} → IsPlaying play → LeftRun play keep left
+    → IsRest (record play.rest { run = left })
 left-rest {play} {keep} {left} playing own = record {
   playback = playing.rest.playback;
   run = own.run_is;
   first = own.left_is.first_is ∙ playing.rest.first;
   end = own.left_is.end_is ∙ playing.rest.end;
-  boundary = subst (λ n. IsBoundary (reel_pieces play.rest.reel.now) n) (ap (λ n. n + keep) playing.before_is ∙ sym own.left_is.sent_is)
+  boundary = subst (λ n. IsBoundary (reel_pieces play.rest.reel.now) n)
+      (ap (λ n. n + keep) playing.before_is ∙ sym own.left_is.sent_is)
       (subst (λ (ps : List (List ℕ)). IsBoundary ps (play.pacer.before + keep)) playing.pieces_are own.boundary);
   fits = own.fits;
 }
 
 -- what a play that was halted goes on to send
-pub left-stopping : {play : Play} {p : Pacing} {keep : ℕ} {rest : Rest} → IsPlaying play → IsRest rest → p ≡ record play.pacer { keep = keep }
+pub left-stopping : {play : Play} {p : Pacing} {keep : ℕ} {rest : Rest} → IsPlaying play → IsRest rest
+    → p ≡ record play.pacer { keep = keep }
     → IsPacing p → IsStopping (record { keep = keep; rest = rest; pacer = p })
 left-stopping playing is e pacing = record {
   rest = is;

@@ -45,7 +45,8 @@ film-playable stored is low high few small =
       few = omega (arith, few, length-map stored.film.units.items (wire_size stored.film.slice_starts.items));
       small = small;
     } in
-    subst IsPlayable (sym is) (λ units some fit. record { sizes = sizes; some_picture_units = time.some; picture_units_fit = time.fits })
+    subst IsPlayable (sym is)
+    (λ units some fit. record { sizes = sizes; some_picture_units = time.some; picture_units_fit = time.fits })
 
 trace-fits : {source : Source} (sizes : Vec ℕ) → source ≡ Trace sizes → IsSource source → IsPlayable source
 trace-fits sizes is trace =
@@ -53,7 +54,8 @@ trace-fits sizes is trace =
     subst IsPlayable (sym is) (λ units some fit. record { sizes = kept; some_picture_units = some; picture_units_fit = fit })
 
 -- a trace whose reel was made
-pub trace-playable : {source : Source} {sizes : Vec ℕ} (r : Result Reel NoMemory) → source ≡ Trace sizes → IsSource source → OnOk r (IsPlayable source)
+pub trace-playable : {source : Source} {sizes : Vec ℕ} (r : Result Reel NoMemory) → source ≡ Trace sizes
+    → IsSource source → OnOk r (IsPlayable source)
 trace-playable {sizes} (Ok reel) is trace = trace-fits sizes is trace
 trace-playable (Err e) is trace = tt
 
@@ -71,6 +73,7 @@ pub playable-next : (sources : List Source) (place : Place sources) → IsPlayab
     → All IsPlayable (take place.index sources) → All IsPlayable (take (place.index + 1) sources)
 playable-next sources place own before =
     subst (All IsPlayable) (sym (take_more sources i none inside))
-    (All-append IsPlayable (take i sources) (get_or sources i none ∷ []) before (All-cons IsPlayable (get_or sources i none) [] own (All-nil IsPlayable)))
+    (All-append IsPlayable (take i sources) (get_or sources i none ∷ []) before
+    (All-cons IsPlayable (get_or sources i none) [] own (All-nil IsPlayable)))
   where
     open place use {index as i, none, inside}

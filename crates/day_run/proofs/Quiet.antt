@@ -3,7 +3,8 @@ use Rattle.std.proofs.Common.{◌≡◌, ℕ, List, [], ◌∷◌, length, get_o
 use Rattle.day_run.specs.Lines.{texts_at}
 use Rattle.day_run.specs.Sayings.{asked_in, offer_in, saying_in}
 
-pub quiet : (words : List (List ℕ)) → (length words ≡ 2 → ⊥) → (length words ≡ 6 → ⊥) → (length words ≡ 7 → ⊥) → None ≡ saying_in words
+pub quiet : (words : List (List ℕ)) → (length words ≡ 2 → ⊥) → (length words ≡ 6 → ⊥) → (length words ≡ 7 → ⊥)
+    → None ≡ saying_in words
 quiet [] two six seven = refl
 quiet (a ∷ []) two six seven = refl
 quiet (a ∷ b ∷ []) two six seven = absurd (two refl)
@@ -16,7 +17,8 @@ quiet (a ∷ b ∷ c ∷ d ∷ e ∷ f ∷ g ∷ h ∷ words) two six seven = re
 
 -- a line of seven words
 pub seven : (words : List (Bor (List ℕ))) (none : Bor (List ℕ)) → length words ≡ 7 →
-    offer_in (get_or words 0 none).now (asked_in (get_or words 1 none).now (get_or words 2 none).now (get_or words 4 none).now (get_or words 5 none).now)
+    offer_in (get_or words 0 none).now
+    (asked_in (get_or words 1 none).now (get_or words 2 none).now (get_or words 4 none).now (get_or words 5 none).now)
     (get_or words 6 none).now ≡ saying_in (texts_at words)
 seven [] none e = cc e
 seven (a ∷ []) none e = cc e

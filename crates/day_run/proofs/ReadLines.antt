@@ -19,7 +19,8 @@ name-small : (name : List ℕ) (i : ℕ) → is_good_name name ≡ true → i < 
 name-small name i good inside = elim (cases_lt (get_or name i 0) 128) [
   | inl small ↦ small
   | inr high ↦
-      let bytes = and_parts (nat_lt 0 (length name) && nat_le (length name) 64 && not (get_or name 0 0 == 46)) (list_all is_name_byte name) good in
+      let bytes = and_parts (nat_lt 0 (length name) && nat_le (length name) 64 && not (get_or name 0 0 == 46))
+      (list_all is_name_byte name) good in
       let wrong : true ≡ false = sym bytes.1 ∙ list_all_at is_name_byte name i 0 inside (high-byte (get_or name i 0) high) in
       absurd (cc wrong)
 ]
@@ -38,7 +39,8 @@ pub record NextLine (lines : List (List ℕ)) (k : ℕ) (line : List ℕ) (rest 
   pub front : take (k + 1) lines ≡ take k lines ++ line ∷ []
   pub left : drop (k + 1) lines ≡ rest
 
-pub next-line : (lines : List (List ℕ)) (k : ℕ) (line : List ℕ) (rest : List (List ℕ)) → drop k lines ≡ line ∷ rest → NextLine lines k line rest
+pub next-line : (lines : List (List ℕ)) (k : ℕ) (line : List ℕ) (rest : List (List ℕ))
+    → drop k lines ≡ line ∷ rest → NextLine lines k line rest
 next-line lines k line rest h =
     let count : length (drop k lines) ≡ length rest + 1 = ap length h ∙ omega arith in
     let inside : k + 1 ≤ length lines = omega (arith, count, length-drop k lines) in
@@ -58,7 +60,8 @@ then_some (Some r) = refl
 
 reads-on : (o : Option Reading) (r : Reading) (lines : List (List ℕ)) (line : List ℕ)
     → ((n : Reading) → lines_read n lines ≡ Some r → lines_read n (lines ++ line ∷ []) ≡ line_read r line)
-    → option_and_then (λ n. lines_read n lines) o ≡ Some r → option_and_then (λ n. lines_read n (lines ++ line ∷ [])) o ≡ line_read r line
+    → option_and_then (λ n. lines_read n lines) o ≡ Some r
+    → option_and_then (λ n. lines_read n (lines ++ line ∷ [])) o ≡ line_read r line
 reads-on None r lines line again h = cc h
 reads-on (Some n) r lines line again h = again n h
 
@@ -69,15 +72,18 @@ reads-more begun r [] line h = then_some (line_read begun line) ∙ ap (λ x. li
 reads-more begun r (l ∷ lines) line h = reads-on (line_read begun l) r lines line (λ n e. reads-more n r lines line e) h
 
 -- one more line was read
-pub read-next : {line : List ℕ} {rest : List (List ℕ)} {k : ℕ} {r next : Reading} (text : List ℕ) → NextLine (lines_of_script text) k line rest
+pub read-next : {line : List ℕ} {rest : List (List ℕ)} {k : ℕ} {r next : Reading} (text : List ℕ)
+    → NextLine (lines_of_script text) k line rest
     → lines_read nothing_read (take k (lines_of_script text)) ≡ Some r → line_read r line ≡ Some next
     → lines_read nothing_read (take (k + 1) (lines_of_script text)) ≡ Some next
 read-next {line} {k} {r} {next} text at h read =
     ap (lines_read nothing_read) at.front ∙ reads-more nothing_read r (take k (lines_of_script text)) line h ∙ read
 
 -- the next line may not stand there
-pub bad-next : {text line : List ℕ} {rest : List (List ℕ)} {k : ℕ} {r : Reading} → NextLine (lines_of_script text) k line rest → k ≤ 1000000
-    → lines_read nothing_read (take k (lines_of_script text)) ≡ Some r → ((k + 1 ≡ 1000001) ⊎ (line_read r line ≡ None)) → IsBadLine text (k + 1)
+pub bad-next : {text line : List ℕ} {rest : List (List ℕ)} {k : ℕ} {r : Reading}
+    → NextLine (lines_of_script text) k line rest → k ≤ 1000000
+    → lines_read nothing_read (take k (lines_of_script text)) ≡ Some r
+    → ((k + 1 ≡ 1000001) ⊎ (line_read r line ≡ None)) → IsBadLine text (k + 1)
 bad-next {text} {line} {k} {r} at few h here =
     let e : k + 1 - 1 ≡ k = omega arith in
     record {

@@ -13,7 +13,13 @@ latest-push lines line = fold_push slot_after 0 lines line
 
 more-wish : {n m source buffer delay : ℕ} → n ≤ m → IsWish n source buffer delay → IsWish m source buffer delay
 more-wish {m} le wish =
-    record { inside = omega (arith, wish.inside, le); some_buffer = wish.some_buffer; buffer_fits = wish.buffer_fits; delay_fits = wish.delay_fits }
+    record {
+      inside = omega (arith, wish.inside, le);
+      some_buffer = wish.some_buffer;
+      buffer_fits =
+          wish.buffer_fits;
+      delay_fits = wish.delay_fits;
+    }
 
 -- more sources do as well
 more-sources : (heard n m : ℕ) (line : Line) → n ≤ m → StandsAfter heard n line → StandsAfter heard m line
@@ -24,7 +30,8 @@ more-sources heard n m (Look slot) le stands = tt
 more-sources heard n m (Slot slot) le stands = stands
 more-sources heard n m (Offer client source buffer delay wait) le stands = (more-wish le stands.0, stands.1)
 
-pub lines-more : {n m : ℕ} {lines : List Line} (line : Line) → n ≤ m → AreLines n lines → StandsAfter (latest_slot lines) m line → AreLines m (lines ++ line ∷ [])
+pub lines-more : {n m : ℕ} {lines : List Line} (line : Line) → n ≤ m → AreLines n lines
+    → StandsAfter (latest_slot lines) m line → AreLines m (lines ++ line ∷ [])
 lines-more {n} {m} {lines} line le are stands =
     record {
       each = λ i none inside. elim (cases_lt i (length lines)) [
@@ -32,7 +39,8 @@ lines-more {n} {m} {lines} line le are stands =
             let F : List Line → Type 0 = λ front. StandsAfter (latest_slot front) m (get_or (lines ++ line ∷ []) i none) in
             let G : Line → Type 0 = λ l. StandsAfter (latest_slot (take i lines)) m l in
             subst F (sym (take-append-le i lines (line ∷ []) (omega (arith, before))))
-            (subst G (sym (get_or_append_left lines (line ∷ []) none i before)) (more-sources (latest_slot (take i lines)) n m (get_or lines i none) le (are.each i none before)))
+            (subst G (sym (get_or_append_left lines (line ∷ []) none i before))
+            (more-sources (latest_slot (take i lines)) n m (get_or lines i none) le (are.each i none before)))
         | inr past ↦
             let at : length lines ≡ i = omega (arith, past, inside, length-append lines (line ∷ [])) in
             let F : List Line → Type 0 = λ front. StandsAfter (latest_slot front) m (get_or (lines ++ line ∷ []) i none) in

@@ -32,24 +32,29 @@ sum-slots f a n =
     ∙ sum_by_push (λ x. x) (map f (range_with_len a n)) (f (a + n)) ∙ ap (λ k. k + f (a + n)) (sum-map f (range_with_len a n))
 
 -- slots in which nothing is booked add nothing
-sum-more-slots : (f : ℕ → ℕ) (a m d : ℕ) → ((t : ℕ) → a + m ≤ t → f t ≡ 0) → sum_by f (range_with_len a (m + d)) ≡ sum_by f (range_with_len a m)
+sum-more-slots : (f : ℕ → ℕ) (a m d : ℕ) → ((t : ℕ) → a + m ≤ t → f t ≡ 0)
+    → sum_by f (range_with_len a (m + d)) ≡ sum_by f (range_with_len a m)
 sum-more-slots f a m zero none =
     let e : m + 0 ≡ m = omega arith in
     ap (λ n. sum_by f (range_with_len a n)) e
 sum-more-slots f a m (suc d) none =
     let e : m + suc d ≡ m + d + 1 = omega arith in
     let z : f (a + (m + d)) ≡ 0 = none (a + (m + d)) (omega arith) in
-    let s : sum_by f (range_with_len a (m + d + 1)) ≡ sum_by f (range_with_len a (m + d)) + f (a + (m + d)) = sum-slots f a (m + d) in
-    let k : sum_by f (range_with_len a (m + d + 1)) ≡ sum_by f (range_with_len a m) = omega (arith, s, z, sum-more-slots f a m d none) in
+    let s : sum_by f (range_with_len a (m + d + 1)) ≡ sum_by f (range_with_len a (m + d)) + f (a + (m + d)) =
+    sum-slots f a (m + d) in
+    let k : sum_by f (range_with_len a (m + d + 1)) ≡ sum_by f (range_with_len a m) =
+    omega (arith, s, z, sum-more-slots f a m d none) in
     ap (λ n. sum_by f (range_with_len a n)) e ∙ k
 
-pub sum-past : (f : ℕ → ℕ) (a m n : ℕ) → m ≤ n → ((t : ℕ) → a + m ≤ t → f t ≡ 0) → sum_by f (range_with_len a m) ≡ sum_by f (range_with_len a n)
+pub sum-past : (f : ℕ → ℕ) (a m n : ℕ) → m ≤ n → ((t : ℕ) → a + m ≤ t → f t ≡ 0)
+    → sum_by f (range_with_len a m) ≡ sum_by f (range_with_len a n)
 sum-past f a m n le none =
     let e : n ≡ m + (n - m) = omega (arith, le) in
     sym (ap (λ k. sum_by f (range_with_len a k)) e ∙ sum-more-slots f a m (n - m) none)
 
 -- the sum through a slot
-pub booked-next : {slot booked here : ℕ} (f : ℕ → ℕ) (from : ℕ) → from + 1 ≤ slot → booked ≡ sum_by f (range_with_len (from + 1) (slot - (from + 1)))
+pub booked-next : {slot booked here : ℕ} (f : ℕ → ℕ) (from : ℕ) → from + 1 ≤ slot
+    → booked ≡ sum_by f (range_with_len (from + 1) (slot - (from + 1)))
     → here ≡ f slot → booked + here ≡ sum_by f (range_with_len (from + 1) (slot + 1 - (from + 1)))
 booked-next {slot} {here} f from begun is h =
     let at : from + 1 + (slot - (from + 1)) ≡ slot = omega (arith, begun) in

@@ -77,13 +77,15 @@ answered-states : {rest : Rest} {plan : List Segment} {old : Moment} {c : ℕ} (
 answered-states {rest} {plan} {old} {c} (Admitted start) link ask sound answer =
     let play : Play = record { number = length old.entries; rest = rest; plan = plan; start = start } in
     let early : old.heard < start = omega (arith, answer.0) in
-    let own : IsSoundPlay old.heard play = record { rest = ask.rest_is; plan = ask.plan_is; left = λ begun. absurd (omega (arith, begun, early)) } in
+    let own : IsSoundPlay old.heard play =
+    record { rest = ask.rest_is; plan = ask.plan_is; left = λ begun. absurd (omega (arith, begun, early)) } in
     set-sound old.states sound.ready.count (record { client = ask.client; sound = own }) sound.each
 answered-states (Overflow over booked asked) link ask sound answer = sound.each
 answered-states Halted link ask sound answer = sound.each
 answered-states (Looked now at booked) link ask sound answer = sound.each
 
-asked-states : {link : Link} {c : ℕ} {rest : Rest} {old new : Moment} {text : List ℕ} → c < 256 → (0 < length (rest_sizes rest.sizes rest.run) → IsSoundRest rest)
+asked-states : {link : Link} {c : ℕ} {rest : Rest} {old new : Moment} {text : List ℕ} → c < 256
+    → (0 < length (rest_sizes rest.sizes rest.run) → IsSoundRest rest)
     → IsSound old → IsAsked link c rest old new text → AreStates new.heard new.states
 asked-states {c} {old} {new} {text} client own sound (inl faulty) = kept-states old new faulty.told.kept sound.each
 asked-states {link} {c} {old} {new} {text} client own sound (inr planned) = elim planned.done [
@@ -105,7 +107,8 @@ none-sent play heard early =
     let sent : sent_before play.plan play.start (heard + 1) ≡ 0 = ap (λ n. sum (take n (plan_slots play.plan))) none in
     omega (arith, sent)
 
-no-empty : (plan : List Segment) (sizes : List ℕ) (timing : Timing) → IsTautFor sizes timing plan → All (λ (s : Segment). 1 ≤ s.slots) plan
+no-empty : (plan : List Segment) (sizes : List ℕ) (timing : Timing) → IsTautFor sizes timing plan
+    → All (λ (s : Segment). 1 ≤ s.slots) plan
 no-empty plan sizes timing is =
     All-from_get_or (λ (s : Segment). 1 ≤ s.slots) plan (record { slots = 0; bytes = 0 })
     (λ i inside. elim (cases_lt 0 (get_or plan i (record { slots = 0; bytes = 0 })).slots) [
@@ -122,10 +125,13 @@ some-left : (play : Play) (heard : ℕ) → is_done heard play ≡ false → pla
     → sum_through play.plan (heard - play.start) < total_bytes play.plan
 some-left play heard undone begun =
     let e : heard + 1 - play.start ≡ heard - play.start + 1 = omega (arith, begun) in
-    let sent : sent_before play.plan play.start (heard + 1) ≡ sum_through play.plan (heard - play.start) = ap (λ n. sum (take n (plan_slots play.plan))) e in
+    let sent : sent_before play.plan play.start (heard + 1) ≡ sum_through play.plan (heard - play.start) =
+    ap (λ n. sum (take n (plan_slots play.plan))) e in
     let other : (sent_by (booking_of play) heard == total_bytes play.plan) ≡ false =
-    both-sides (nat_le play.start heard) (sent_by (booking_of play) heard == total_bytes play.plan) (le-leb play.start heard begun) undone in
-    let apart : sent_by (booking_of play) heard ≡ total_bytes play.plan → ⊥ = eqb-false (sent_by (booking_of play) heard) (total_bytes play.plan) other in
+    both-sides (nat_le play.start heard) (sent_by (booking_of play) heard == total_bytes play.plan)
+    (le-leb play.start heard begun) undone in
+    let apart : sent_by (booking_of play) heard ≡ total_bytes play.plan → ⊥ =
+    eqb-false (sent_by (booking_of play) heard) (total_bytes play.plan) other in
     elim (cases_lt (sum_through play.plan (heard - play.start)) (total_bytes play.plan)) [
       | inl below ↦ below
       | inr reached ↦ absurd (apart (omega (arith, reached, sent)))
@@ -135,14 +141,17 @@ sent-through : (play : Play) (heard : ℕ) → play.start ≤ heard → sum_thro
     → sent_by (booking_of play) heard ≡ sum_through play.plan (heard - play.start)
 sent-through play heard begun below =
     let e : heard + 1 - play.start ≡ heard - play.start + 1 = omega (arith, begun) in
-    let sent : sent_before play.plan play.start (heard + 1) ≡ sum_through play.plan (heard - play.start) = ap (λ n. sum (take n (plan_slots play.plan))) e in
+    let sent : sent_before play.plan play.start (heard + 1) ≡ sum_through play.plan (heard - play.start) =
+    ap (λ n. sum (take n (plan_slots play.plan))) e in
     omega (arith, below, sent)
 
-halt-if : {b : Bool} {play : Play} {heard keep : ℕ} {state : ClientState} → nat_lt heard play.start ≡ b → IsSoundPlay heard play → IsPause play heard keep state
+halt-if : {b : Bool} {play : Play} {heard keep : ℕ} {state : ClientState} → nat_lt heard play.start ≡ b
+    → IsSoundPlay heard play → IsPause play heard keep state
     → keep ≤ total_bytes play.plan → IsHalt play.plan (cond b None (Some (heard - play.start))) keep
 halt-if {b = true} {play} {heard} {keep} early sound pause most =
     let before : heard < play.start = ltb-true heard play.start early in
-    let le : play.rest.run.sent + keep ≤ play.rest.run.sent = pause.boundary.least play.rest.run.sent sound.rest.boundary (omega (arith, none-sent play heard before)) in
+    let le : play.rest.run.sent + keep ≤ play.rest.run.sent =
+    pause.boundary.least play.rest.run.sent sound.rest.boundary (omega (arith, none-sent play heard before)) in
     omega (arith, le)
 halt-if {b = false} {play} {heard} late sound pause most =
     let begun : play.start ≤ heard = ltb-false heard play.start late in
@@ -155,7 +164,9 @@ halt-if {b = false} {play} {heard} late sound pause most =
           let short : length (plan_slots play.plan) ≤ last + 1 = omega (arith, length-plan_slots play.plan, past) in
           let all : sum_through play.plan last ≡ total_bytes play.plan =
           ap sum (take_all (last + 1) (plan_slots play.plan) short)
-          ∙ sum-plan_slots play.plan (no-empty play.plan (rest_sizes play.rest.sizes play.rest.run) (timing_of play.rest.playback play.rest.run) sound.plan) in
+          ∙ sum-plan_slots play.plan
+          (no-empty play.plan (rest_sizes play.rest.sizes play.rest.run)
+          (timing_of play.rest.playback play.rest.run) sound.plan) in
           absurd (omega (arith, all, below))
     ] in
     (inside, omega (arith, sent, pause.boundary.after), most)
@@ -168,23 +179,28 @@ kept-most entries play keep held can =
     let P : Option Held → Type 0 = λ o. IsSomeAnd o (λ (h : Held). IsTrue h.is_open × (keep ≤ total_bytes h.play.segments)) in
     (subst P held can).1
 
-left-sound : {play : Play} {heard keep : ℕ} {state : ClientState} → IsSoundPlay heard play → (pause : IsPause play heard keep state) → keep ≤ total_bytes play.plan
+left-sound : {play : Play} {heard keep : ℕ} {state : ClientState} → IsSoundPlay heard play
+    → (pause : IsPause play heard keep state) → keep ≤ total_bytes play.plan
     → IsSoundRest (record play.rest { run = pause.left })
 left-sound {play} {heard} {keep} sound pause most =
-    let sending : IsSending play.rest.sizes play.rest.playback play.rest.run play.plan = record { can_play = sound.rest.can; plan_is = sound.plan } in
+    let sending : IsSending play.rest.sizes play.rest.playback play.rest.run play.plan =
+    record { can_play = sound.rest.can; plan_is = sound.plan } in
     let B : ℕ → Type 0 = λ n. IsBoundary play.rest.pieces n in
     record {
       can =
-          halted-plays play.rest.sizes play.rest.playback play.rest.run play.plan sending (slot_sent play.start heard) keep pause.left
+          halted-plays play.rest.sizes play.rest.playback play.rest.run play.plan sending
+          (slot_sent play.start heard) keep pause.left
           (halt-if refl sound pause most) pause.left_is;
       boundary = subst B (sym pause.left_is.sent_is) pause.boundary.boundary;
     }
 
-pausing-sound : (heard slot : ℕ) (b : Bool) (stop : Booked) (rest : Rest) → IsSoundRest rest → IsSoundClient heard (cond b (Paused rest) (Pausing stop rest))
+pausing-sound : (heard slot : ℕ) (b : Bool) (stop : Booked) (rest : Rest) → IsSoundRest rest
+    → IsSoundClient heard (cond b (Paused rest) (Pausing stop rest))
 pausing-sound heard slot true stop rest own = own
 pausing-sound heard slot false stop rest own = own
 
-halted-states : {link : Link} {c : ℕ} {play : Play} {old new : Moment} {text : List ℕ} → c < 256 → get_or old.states c Idle ≡ Playing play → IsSound old
+halted-states : {link : Link} {c : ℕ} {play : Play} {old new : Moment} {text : List ℕ} → c < 256
+    → get_or old.states c Idle ≡ Playing play → IsSound old
     → IsHaltedPlay link c play old new text → AreStates new.heard new.states
 halted-states {c} {play} {old} {new} {text} client at sound is =
     let P : ClientState → Type 0 = λ s. IsSoundClient old.heard s in
@@ -193,21 +209,25 @@ halted-states {c} {play} {old} {new} {text} client at sound is =
     let its : IsHeld old.entries c play = subst H at (sound.ready.balanced.held c (omega (arith, client, sound.ready.count))) in
     let most = kept-most old.entries play is.keep its.held is.noted.answered in
     let rest = left-sound own is.pause most in
-    let state : IsSoundClient old.heard is.state = subst P (sym is.pause.state_is) (pausing-sound old.heard old.heard _ _ _ rest) in
+    let state : IsSoundClient old.heard is.state =
+    subst P (sym is.pause.state_is) (pausing-sound old.heard old.heard _ _ _ rest) in
     let M : Moment → Type 0 = λ m. AreStates m.heard m.states in
     subst M (sym is.noted.new_is) (set-sound old.states sound.ready.count (record { client = client; sound = state }) sound.each)
 
 -- ---- a slot comes
-done-if : (slot : ℕ) (play : Play) (b : Bool) → is_done slot play ≡ b → IsSoundRest play.rest → IsPlanOf play.rest.sizes play.rest.playback play.rest.run play.plan
+done-if : (slot : ℕ) (play : Play) (b : Bool) → is_done slot play ≡ b → IsSoundRest play.rest
+    → IsPlanOf play.rest.sizes play.rest.playback play.rest.run play.plan
     → IsSoundClient slot (cond b Idle (Playing play))
 done-if slot play true done rest plan = tt
 done-if slot play false undone rest plan = record { rest = rest; plan = plan; left = some-left play slot undone }
 
-pause-if : (slot : ℕ) (b : Bool) (stop : Booked) (rest : Rest) → IsSoundRest rest → IsSoundClient slot (after_play slot (cond b (Paused rest) (Pausing stop rest)))
+pause-if : (slot : ℕ) (b : Bool) (stop : Booked) (rest : Rest) → IsSoundRest rest
+    → IsSoundClient slot (after_play slot (cond b (Paused rest) (Pausing stop rest)))
 pause-if slot true stop rest own = own
 pause-if slot false stop rest own = own
 
-state-slot : (heard slot : ℕ) (state : ClientState) → IsSoundClient heard state → IsSoundClient slot (after_play slot (after_sending slot state))
+state-slot : (heard slot : ℕ) (state : ClientState) → IsSoundClient heard state
+    → IsSoundClient slot (after_play slot (after_sending slot state))
 state-slot heard slot Idle own = tt
 state-slot heard slot (Playing play) own = done-if slot play (is_done slot play) refl own.rest own.plan
 state-slot heard slot (Pausing stop rest) own = pause-if slot (sent_by stop slot == stop.keep) stop rest own
@@ -216,7 +236,8 @@ state-slot heard slot (Paused rest) own = own
 slot-states : (old : Moment) (slot : ℕ) → IsSound old → AreStates slot (at_slot old slot).states
 slot-states old slot sound c client =
     let inside : c < length old.states = omega (arith, client, sound.ready.count) in
-    let within : c < length (map (after_sending slot) old.states) = omega (arith, inside, length-map old.states (after_sending slot)) in
+    let within : c < length (map (after_sending slot) old.states) =
+    omega (arith, inside, length-map old.states (after_sending slot)) in
     let S : ClientState → Type 0 = λ s. IsSoundClient slot s in
     subst S (sym (get_or-map (after_play slot) (map (after_sending slot) old.states) c Idle Idle within
     ∙ ap (after_play slot) (get_or-map (after_sending slot) old.states c Idle Idle inside)))
@@ -224,7 +245,8 @@ slot-states old slot sound c client =
 
 -- ---- all of a reel
 pub whole-sound : {link : Link} {source buffer delay : ℕ} → IsLink link → IsWish (length link.reels) source buffer delay
-    → 0 < length (rest_sizes (rest_at link source buffer delay).sizes (rest_at link source buffer delay).run) → IsSoundRest (rest_at link source buffer delay)
+    → 0 < length (rest_sizes (rest_at link source buffer delay).sizes (rest_at link source buffer delay).run)
+    → IsSoundRest (rest_at link source buffer delay)
 whole-sound {link} {source} {buffer} {delay} link-is wish some =
     let rest = rest_at link source buffer delay in
     let reel = link-is.reels source no_reel wish.inside in
@@ -281,13 +303,15 @@ pause-states {c} {state = Playing play} step own sound is = halted-states own.cl
 pause-states {c} {state = Pausing stop rest} step own sound is = kept-states step.old step.new is.kept sound.each
 pause-states {c} {state = Paused rest} step own sound is = kept-states step.old step.new is.kept sound.each
 
-look-states : {link : Link} {slot : ℕ} {old new : Moment} {text : List ℕ} → IsSound old → IsLookLine link slot old new text → AreStates new.heard new.states
+look-states : {link : Link} {slot : ℕ} {old new : Moment} {text : List ℕ} → IsSound old
+    → IsLookLine link slot old new text → AreStates new.heard new.states
 look-states {slot} {old} {new} {text} sound (inl full) = kept-states old new full.told.kept sound.each
 look-states {slot} {new} {text} sound (inr made) =
     let M : Moment → Type 0 = λ m. AreStates m.heard m.states in
     subst M (sym made.noted.new_is) sound.each
 
-offer-states : {link : Link} {rest : Rest} {wait : ℕ} {old new : Moment} {text : List ℕ} → IsSound old → IsOfferLine link rest wait old new text → AreStates new.heard new.states
+offer-states : {link : Link} {rest : Rest} {wait : ℕ} {old new : Moment} {text : List ℕ} → IsSound old
+    → IsOfferLine link rest wait old new text → AreStates new.heard new.states
 offer-states {old} {new} {text} sound (inl faulty) = kept-states old new faulty.told.kept sound.each
 offer-states {old} {new} {text} sound (inr offered) = kept-states old new offered.told.kept sound.each
 
@@ -297,8 +321,10 @@ line-states : (step : LineStep) (line : Line) → IsLink step.link
     → IsLine step.link line step.old step.new step.text → AreStates step.new.heard step.new.states
 line-states step (lines.Play c source buffer delay) link-is standing sound is =
     play-states step (state_at step.old c) standing.client (whole-sound link-is standing.stands) sound is
-line-states step (lines.Pause c) link-is standing sound is = pause-states step (record { client = standing.client; at = refl }) sound is
-line-states step (lines.Resume c) link-is standing sound is = resume-states step (record { client = standing.client; at = refl }) sound is
+line-states step (lines.Pause c) link-is standing sound is =
+    pause-states step (record { client = standing.client; at = refl }) sound is
+line-states step (lines.Resume c) link-is standing sound is =
+    resume-states step (record { client = standing.client; at = refl }) sound is
 line-states step (lines.Look slot) link-is standing sound is = look-states sound is
 line-states step (lines.Slot slot) link-is standing sound is =
     let M : Moment → Type 0 = λ m. AreStates m.heard m.states in
@@ -325,7 +351,8 @@ run-sound {new} (l ∷ ls) [] link-is standing sound run = absurd run
 run-sound {link} {old} {new} (l ∷ ls) (t ∷ ts) link-is standing sound run =
     let step : LineStep = record { link = link; old = old; new = run.0; text = t } in
     let next = line-sound step l link-is (first-standing standing) sound run.1.0 in
-    run-sound {link = link} {old = run.0} {new = new} ls ts link-is (rest-standing standing (heard-after step l run.1.0)) next run.1.1
+    run-sound {link = link} {old = run.0} {new = new} ls ts link-is
+    (rest-standing standing (heard-after step l run.1.0)) next run.1.1
 
 pub idle-sound : AreStates 0 (replicate 256 Idle)
 idle-sound c client =

@@ -13,8 +13,10 @@ use Rattle.day_run.specs.ReelContents.{reel_content}
 use Rattle.day_run.proofs.ScriptLines.{latest-push}
 use Rattle.day_run.proofs.Takings.{Place}
 
-pub trace-reel : {source : Source} {sizes : Vec ℕ} {items : List ℕ} (r : Result Reel NoMemory) → source ≡ Trace sizes → items ≡ sizes.items
-    → IfOk r (λ reel. (u : ℕ) → reel_content u reel ≡ trace_content u items) → IfOk r (λ reel. (u : ℕ) → reel_content u reel ≡ source_content u source)
+pub trace-reel : {source : Source} {sizes : Vec ℕ} {items : List ℕ} (r : Result Reel NoMemory)
+    → source ≡ Trace sizes → items ≡ sizes.items
+    → IfOk r (λ reel. (u : ℕ) → reel_content u reel ≡ trace_content u items)
+    → IfOk r (λ reel. (u : ℕ) → reel_content u reel ≡ source_content u source)
 trace-reel (Ok reel) is same has = λ u. has u ∙ ap (trace_content u) same ∙ sym (ap (source_content u) is)
 trace-reel (Err e) is same has = tt
 

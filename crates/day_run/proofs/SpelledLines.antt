@@ -34,7 +34,9 @@ decimal-word n small = digits-word (decimal n) (digits_decimal own n small)
 
 word-from : (word : List ℕ) → ((k : ℕ) → k < length word → 33 ≤ get_or word k 0) → is_word word ≡ true
 word-from [] high = refl
-word-from (b ∷ word) high = and_from (nat_le 33 b) (is_word word) (le-leb 33 b (high 0 (omega arith))) (word-from word (λ k inside. high (suc k) (omega (arith, inside))))
+word-from (b ∷ word) high =
+    and_from (nat_le 33 b) (is_word word) (le-leb 33 b (high 0 (omega arith)))
+    (word-from word (λ k inside. high (suc k) (omega (arith, inside))))
 
 pub name-word : (name : List ℕ) → is_good_name name ≡ true → is_word name ≡ true
 name-word name good = word-from name (λ k inside. ((good_is_plain name good).printable k inside).0)
@@ -56,14 +58,18 @@ spaced-bytes (word ∷ next ∷ words) plain =
     (All-cons (λ b. 32 ≤ b) 32 (words_text (next ∷ words)) (omega arith) (spaced-bytes (next ∷ words) parts.1))
 
 -- they are cut again into the words
-pub spaced-split : (word : List ℕ) (words : List (List ℕ)) → list_all is_word (word ∷ words) ≡ true → slice_split is_space (words_text (word ∷ words)) ≡ word ∷ words
+pub spaced-split : (word : List ℕ) (words : List (List ℕ)) → list_all is_word (word ∷ words) ≡ true
+    → slice_split is_space (words_text (word ∷ words)) ≡ word ∷ words
 spaced-split word [] plain =
     let parts = and_parts (is_word word) true plain in
-    slice_split_none is_space word (All-weaker (λ b. 33 ≤ b) (λ b. is_space b ≡ false) (λ b high. ne_eqb b 32 (λ same. absurd (omega (arith, high, same)))) word (word-bytes word parts.0))
+    slice_split_none is_space word
+    (All-weaker (λ b. 33 ≤ b) (λ b. is_space b ≡ false)
+    (λ b high. ne_eqb b 32 (λ same. absurd (omega (arith, high, same)))) word (word-bytes word parts.0))
 spaced-split word (next ∷ words) plain =
     let parts = and_parts (is_word word) (list_all is_word (next ∷ words)) plain in
     slice_split_at is_space word 32 (words_text (next ∷ words))
-    (All-weaker (λ b. 33 ≤ b) (λ b. is_space b ≡ false) (λ b high. ne_eqb b 32 (λ same. absurd (omega (arith, high, same)))) word (word-bytes word parts.0)) refl
+    (All-weaker (λ b. 33 ≤ b) (λ b. is_space b ≡ false)
+    (λ b high. ne_eqb b 32 (λ same. absurd (omega (arith, high, same)))) word (word-bytes word parts.0)) refl
     ∙ ap (λ ws. word ∷ ws) (spaced-split next words parts.1)
 
 -- a line that no CR ends is left as it is
@@ -75,7 +81,8 @@ no-return line high =
     ] in
     cond-false (slice_index line (length line - 1) == 13) _ line (ne_eqb (slice_index line (length line - 1)) 13 last)
 
-pub spaced-line : (words : List (List ℕ)) (rest : List ℕ) → list_all is_word words ≡ true → lines_of_script (words_text words ++ 10 ∷ rest) ≡ words_text words ∷ lines_of_script rest
+pub spaced-line : (words : List (List ℕ)) (rest : List ℕ) → list_all is_word words ≡ true
+    → lines_of_script (words_text words ++ 10 ∷ rest) ≡ words_text words ∷ lines_of_script rest
 spaced-line words rest plain =
     let line = words_text words in
     let high = spaced-bytes words plain in

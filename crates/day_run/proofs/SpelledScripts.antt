@@ -25,7 +25,9 @@ use Rattle.day_run.proofs.SpelledLines.{decimal-word, kind-word, name-word, spac
 -- ---- numbers
 number-back : (least most n : ℕ) → n < 2 ^ 64 → least ≤ n → n ≤ most → number_in least most (decimal n) ≡ Some n
 number-back least most n small low high =
-    ap (in_range least most) (decimal_read n small) ∙ cond-true (nat_le least n && nat_le n most) (Some n) None (and_from (nat_le least n) (nat_le n most) (le-leb least n low) (le-leb n most high))
+    ap (in_range least most) (decimal_read n small)
+    ∙ cond-true (nat_le least n && nat_le n most) (Some n) None
+    (and_from (nat_le least n) (nat_le n most) (le-leb least n low) (le-leb n most high))
 
 number-out : (least most n : ℕ) → n < 2 ^ 64 → (least ≤ n → n ≤ most → ⊥) → number_in least most (decimal n) ≡ None
 number-out least most n small out =
@@ -36,7 +38,9 @@ number-out least most n small out =
 
 -- a number is in its range and read, or isn't and none is read
 abbrev IsReadOr : ℕ → ℕ → ℕ → Type 0
-IsReadOr least most n = ((least ≤ n) × (n ≤ most) × (number_in least most (decimal n) ≡ Some n)) ⊎ ((least ≤ n → n ≤ most → ⊥) × (number_in least most (decimal n) ≡ None))
+IsReadOr least most n =
+    ((least ≤ n) × (n ≤ most) × (number_in least most (decimal n) ≡ Some n))
+    ⊎ ((least ≤ n → n ≤ most → ⊥) × (number_in least most (decimal n) ≡ None))
 
 read-or : (least most n : ℕ) → n < 2 ^ 64 → IsReadOr least most n
 read-or least most n small = elim (cases_lt n least) [
@@ -47,7 +51,8 @@ read-or least most n small = elim (cases_lt n least) [
     | inl above ↦
         let out : least ≤ n → n ≤ most → ⊥ = λ l high. omega (arith, above, high) in
         inr (out, number-out least most n small out)
-    | inr high ↦ inl (omega (arith, low), omega (arith, high), number-back least most n small (omega (arith, low)) (omega (arith, high)))
+    | inr high ↦
+        inl (omega (arith, low), omega (arith, high), number-back least most n small (omega (arith, low)) (omega (arith, high)))
   ]
 ]
 
@@ -76,13 +81,16 @@ in-words heard names (Offer client source buffer delay wait) may = (
   omega (arith, may.1),
 )
 
-both-words : (word : List ℕ) (words : List (List ℕ)) → is_word word ≡ true → list_all is_word words ≡ true → list_all is_word (word ∷ words) ≡ true
+both-words : (word : List ℕ) (words : List (List ℕ)) → is_word word ≡ true → list_all is_word words ≡ true
+    → list_all is_word (word ∷ words) ≡ true
 both-words word words one rest = and_from (is_word word) (list_all is_word words) one rest
 
-asked-plain : {name : Name} {client buffer delay : ℕ} (words : List (List ℕ)) → IsAskedInWords name client buffer delay → list_all is_word words ≡ true
+asked-plain : {name : Name} {client buffer delay : ℕ} (words : List (List ℕ))
+    → IsAskedInWords name client buffer delay → list_all is_word words ≡ true
     → list_all is_word (asked_words name client buffer delay words) ≡ true
 asked-plain {name} {client} {buffer} {delay} words asked rest =
-    both-words (decimal client) (kind_text name.film ∷ name.name ∷ decimal buffer ∷ decimal delay ∷ words) (decimal-word client asked.client_small)
+    both-words (decimal client) (kind_text name.film ∷ name.name ∷ decimal buffer ∷ decimal delay ∷ words)
+    (decimal-word client asked.client_small)
     (both-words (kind_text name.film) (name.name ∷ decimal buffer ∷ decimal delay ∷ words) (kind-word name.film)
     (both-words name.name (decimal buffer ∷ decimal delay ∷ words) asked.one_word
     (both-words (decimal buffer) (decimal delay ∷ words) (decimal-word buffer asked.buffer_small)
@@ -91,20 +99,26 @@ asked-plain {name} {client} {buffer} {delay} words asked rest =
 pub words-plain : (names : List Name) (line : Line) → IsInWords names line → list_all is_word (words_of names line) ≡ true
 words-plain names (Play client source buffer delay) own =
     both-words (codes "play") (asked_words (name_at names source) client buffer delay []) refl (asked-plain [] own refl)
-words-plain names (Pause client) own = both-words (codes "pause") (decimal client ∷ []) refl (both-words (decimal client) [] (decimal-word client own) refl)
-words-plain names (Resume client) own = both-words (codes "resume") (decimal client ∷ []) refl (both-words (decimal client) [] (decimal-word client own) refl)
-words-plain names (Look slot) own = both-words (codes "look") (decimal slot ∷ []) refl (both-words (decimal slot) [] (decimal-word slot own) refl)
-words-plain names (Slot slot) own = both-words (codes "slot") (decimal slot ∷ []) refl (both-words (decimal slot) [] (decimal-word slot own) refl)
+words-plain names (Pause client) own =
+    both-words (codes "pause") (decimal client ∷ []) refl (both-words (decimal client) [] (decimal-word client own) refl)
+words-plain names (Resume client) own =
+    both-words (codes "resume") (decimal client ∷ []) refl (both-words (decimal client) [] (decimal-word client own) refl)
+words-plain names (Look slot) own =
+    both-words (codes "look") (decimal slot ∷ []) refl (both-words (decimal slot) [] (decimal-word slot own) refl)
+words-plain names (Slot slot) own =
+    both-words (codes "slot") (decimal slot ∷ []) refl (both-words (decimal slot) [] (decimal-word slot own) refl)
 words-plain names (Offer client source buffer delay wait) own =
     both-words (codes "offer") (asked_words (name_at names source) client buffer delay (decimal wait ∷ [])) refl
     (asked-plain (decimal wait ∷ []) own.0 (both-words (decimal wait) [] (decimal-word wait own.1) refl))
 
 -- ---- one line
 -- the words of a line are read
-pub text-read : (r : Reading) (word : List ℕ) (words : List (List ℕ)) → 0 < length (words_text (word ∷ words)) → list_all is_word (word ∷ words) ≡ true
+pub text-read : (r : Reading) (word : List ℕ) (words : List (List ℕ)) → 0 < length (words_text (word ∷ words))
+    → list_all is_word (word ∷ words) ≡ true
     → line_read r (words_text (word ∷ words)) ≡ with_words r (word ∷ words)
 text-read r word words some plain =
-    cond-false (length (words_text (word ∷ words)) == 0) (Some r) (with_words r (slice_split is_space (words_text (word ∷ words))))
+    cond-false (length (words_text (word ∷ words)) == 0) (Some r)
+    (with_words r (slice_split is_space (words_text (word ∷ words))))
     (ne_eqb (length (words_text (word ∷ words))) 0 (λ none. absurd (omega (arith, some, none))))
     ∙ ap (with_words r) (spaced-split word words plain)
 
@@ -134,7 +148,9 @@ name-is one other same =
     film-same false false e = refl
 
 name-self : (name : Name) → is_name name name ≡ true
-name-self name = and_from (beq name.film name.film) (bytes_eq name.name name.name) (film-self name.film) ((bytes_eq-Decides name.name name.name).1 refl)
+name-self name =
+    and_from (beq name.film name.film) (bytes_eq name.name name.name) (film-self name.film)
+    ((bytes_eq-Decides name.name name.name).1 refl)
   where
     film-self : (a : Bool) → beq a a ≡ true
     film-self true = refl
@@ -148,7 +164,8 @@ no-name : (names : List Name) (source : ℕ) → is_good_name (name_at names sou
 no-name names source good = elim (cases_lt source (length names)) [
   | inl inside ↦ inside
   | inr past ↦
-      let none : is_good_name [] ≡ true = ap (λ (n : Name). is_good_name n.name) (sym (get_or_past names source (name_as false []) past)) ∙ good in
+      let none : is_good_name [] ≡ true =
+      ap (λ (n : Name). is_good_name n.name) (sym (get_or_past names source (name_as false []) past)) ∙ good in
       absurd (let no : ⊥ = cc none in no)
 ]
 
@@ -161,10 +178,13 @@ source-at {source} names k apart next most inside =
     position_or_len_is (is_name name) (take k names) source none (omega (arith, count, next))
     (λ j before.
     let at : get_or (take k names) j none ≡ name_at names j = get_or-take k names j none (omega (arith, before, next)) in
-    ap (is_name name) at ∙ false_from_ne_true (is_name name (name_at names j)) (λ same. absurd (apart j source before inside (sym (name-is name (name_at names j) same)))))
+    ap (is_name name) at
+    ∙ false_from_ne_true (is_name name (name_at names j))
+    (λ same. absurd (apart j source before inside (sym (name-is name (name_at names j) same)))))
     (λ within. ap (is_name name) (get_or-take k names source none (omega (arith, within, count))) ∙ name-self name)
 
-names-at : {source : ℕ} (names : List Name) (k : ℕ) → source ≤ k → k ≤ length names → source < length names → source_in (take k names) (name_at names source) ≡ source
+names-at : {source : ℕ} (names : List Name) (k : ℕ) → source ≤ k → k ≤ length names → source < length names
+    → source_in (take k names) (name_at names source) ≡ source
     → with_name (take k names) (name_at names source) ≡ take (max k (source + 1)) names
 names-at {source} names k next most inside at =
     let name = name_at names source in
@@ -181,8 +201,10 @@ names-at {source} names k next most inside at =
           let within : k < length names = omega (arith, here, inside) in
           cond-false (nat_lt (source_in (take k names) name) (length (take k names))) (take k names) (take k names ++ name ∷ [])
           (false_from_ne_true (nat_lt (source_in (take k names) name) (length (take k names)))
-          (λ less. absurd (omega (arith, ltb-true (source_in (take k names) name) (length (take k names)) less, at, count, here))))
-          ∙ ap (λ n. take k names ++ name_at names n ∷ []) here ∙ sym (take_more names k (name_as false []) within) ∙ ap (λ n. take n names) more
+          (λ less. absurd
+          (omega (arith, ltb-true (source_in (take k names) name) (length (take k names)) less, at, count, here))))
+          ∙ ap (λ n. take k names ++ name_at names n ∷ []) here
+          ∙ sym (take_more names k (name_as false []) within) ∙ ap (λ n. take n names) more
     ]
 
 -- what was read when so many names were named
@@ -212,7 +234,8 @@ named-read read source line next good =
     let at = source-at names k apart next most inside in
     cond-true (is_good_name name.name) _ None good
     ∙ ap (λ n. Some (record { lines = lines ++ line n ∷ []; names = with_name (take k names) name; slot = slot })) at
-    ∙ ap (λ ns. Some (record { lines = lines ++ line source ∷ []; names = ns; slot = slot })) (names-at names k next most inside at)
+    ∙ ap (λ ns. Some (record { lines = lines ++ line source ∷ []; names = ns; slot = slot }))
+    (names-at names k next most inside at)
   where
     open read use {names, lines, k, slot, apart, most}
 
@@ -225,14 +248,22 @@ line-some names (Look slot) = omega arith
 line-some names (Slot slot) = omega arith
 line-some names (Offer client source buffer delay wait) = omega arith
 
-line-words : (r : Reading) (names : List Name) (line : Line) → IsInWords names line → line_read r (line_text names line) ≡ with_words r (words_of names line)
-line-words r names (Play client source buffer delay) own = text-read r (codes "play") (asked_words (name_at names source) client buffer delay []) (line-some names (Play client source buffer delay)) (words-plain names (Play client source buffer delay) own)
-line-words r names (Pause client) own = text-read r (codes "pause") (decimal client ∷ []) (line-some names (Pause client)) (words-plain names (Pause client) own)
-line-words r names (Resume client) own = text-read r (codes "resume") (decimal client ∷ []) (line-some names (Resume client)) (words-plain names (Resume client) own)
-line-words r names (Look slot) own = text-read r (codes "look") (decimal slot ∷ []) (line-some names (Look slot)) (words-plain names (Look slot) own)
-line-words r names (Slot slot) own = text-read r (codes "slot") (decimal slot ∷ []) (line-some names (Slot slot)) (words-plain names (Slot slot) own)
+line-words : (r : Reading) (names : List Name) (line : Line) → IsInWords names line
+    → line_read r (line_text names line) ≡ with_words r (words_of names line)
+line-words r names (Play client source buffer delay) own =
+    text-read r (codes "play") (asked_words (name_at names source) client buffer delay [])
+    (line-some names (Play client source buffer delay)) (words-plain names (Play client source buffer delay) own)
+line-words r names (Pause client) own =
+    text-read r (codes "pause") (decimal client ∷ []) (line-some names (Pause client)) (words-plain names (Pause client) own)
+line-words r names (Resume client) own =
+    text-read r (codes "resume") (decimal client ∷ []) (line-some names (Resume client)) (words-plain names (Resume client) own)
+line-words r names (Look slot) own =
+    text-read r (codes "look") (decimal slot ∷ []) (line-some names (Look slot)) (words-plain names (Look slot) own)
+line-words r names (Slot slot) own =
+    text-read r (codes "slot") (decimal slot ∷ []) (line-some names (Slot slot)) (words-plain names (Slot slot) own)
 line-words r names (Offer client source buffer delay wait) own =
-    text-read r (codes "offer") (asked_words (name_at names source) client buffer delay (decimal wait ∷ [])) (line-some names (Offer client source buffer delay wait)) (words-plain names (Offer client source buffer delay wait) own)
+    text-read r (codes "offer") (asked_words (name_at names source) client buffer delay (decimal wait ∷ []))
+    (line-some names (Offer client source buffer delay wait)) (words-plain names (Offer client source buffer delay wait) own)
 
 line-back : (read : ReadSoFar) (line : Line) → IsNextName read.k line → MayStand read.slot read.names line
     → with_words (reading_of read) (words_of read.names line)
@@ -252,7 +283,8 @@ line-back read (Offer client source buffer delay wait) next may =
     (named-read read source (λ s. Offer client s buffer delay wait) next may.0.good))
 
 -- ---- lines
-count-after : (names : List Name) (k heard : ℕ) (line : Line) → MayStand heard names line → k ≤ length names → names_after k line ≤ length names
+count-after : (names : List Name) (k heard : ℕ) (line : Line) → MayStand heard names line → k ≤ length names
+    → names_after k line ≤ length names
 count-after names k heard (Play client source buffer delay) may most = omega (arith, most, no-name names source may.good)
 count-after names k heard (Pause client) may most = most
 count-after names k heard (Resume client) may most = most
@@ -277,7 +309,8 @@ texts-read read (line ∷ rest) standing =
     } in
     ap (option_and_then (λ next. lines_read next (map (line_text names) rest))) here
     ∙ texts-read after rest standing.2
-    ∙ ap (λ ls. Some (read_so_far names ls (fold names_after (names_after k line) rest) (fold slot_after (slot_after slot line) rest)))
+    ∙ ap (λ ls. Some (read_so_far names ls (fold names_after (names_after k line) rest)
+    (fold slot_after (slot_after slot line) rest)))
     (append_assoc lines (line ∷ []) rest)
   where
     open read use {names, lines, k, slot, apart, most}
@@ -288,17 +321,20 @@ pub texts-lines : (names : List Name) (lines : List Line) (rest : List ℕ) (k h
 texts-lines names [] rest k heard standing = refl
 texts-lines names (line ∷ lines) rest k heard standing =
     ap lines_of_script (append_assoc (line_text names line) (10 ∷ script_text names lines) rest)
-    ∙ spaced-line (words_of names line) (script_text names lines ++ rest) (words-plain names line (in-words heard names line standing.1))
+    ∙ spaced-line (words_of names line) (script_text names lines ++ rest)
+    (words-plain names line (in-words heard names line standing.1))
     ∙ ap (λ ls. line_text names line ∷ ls) (texts-lines names lines rest (names_after k line) (slot_after heard line) standing.2)
 
 -- ---- a line that may not stand there
 abbrev IsAskedOr : Name → ℕ → ℕ → ℕ → Type 0
 IsAskedOr name client buffer delay =
     ((good : is_good_name name.name ≡ true) → IsAsking name client buffer delay)
-    × (asked_in (decimal client) (kind_text name.film) (decimal buffer) (decimal delay) ≡ Some (asked-of name client buffer delay))
+    × (asked_in (decimal client) (kind_text name.film) (decimal buffer) (decimal delay)
+    ≡ Some (asked-of name client buffer delay))
 
 asked-or : (name : Name) (client buffer delay : ℕ) → IsAskedInWords name client buffer delay → IsAskedOr name client buffer delay
-    ⊎ ((IsAsking name client buffer delay → ⊥) × (asked_in (decimal client) (kind_text name.film) (decimal buffer) (decimal delay) ≡ None))
+    ⊎ ((IsAsking name client buffer delay → ⊥)
+    × (asked_in (decimal client) (kind_text name.film) (decimal buffer) (decimal delay) ≡ None))
 asked-or name client buffer delay own = elim (read-or 0 255 client own.client_small) [
   | inr c ↦ inr (λ may. c.0 (omega arith) may.client_fits, rw c.1 refl)
   | inl c ↦ elim (read-or 1 (2 ^ 42) buffer own.buffer_small) [
@@ -313,7 +349,8 @@ asked-or name client buffer delay own = elim (read-or 0 255 client own.client_sm
   ]
 ]
 
-pair-bad : (r : Reading) (names : List Name) (line : Line) → IsInWords names line → (MayStand r.slot names line → ⊥) → with_words r (words_of names line) ≡ None
+pair-bad : (r : Reading) (names : List Name) (line : Line) → IsInWords names line
+    → (MayStand r.slot names line → ⊥) → with_words r (words_of names line) ≡ None
 pair-bad r names (Play client source buffer delay) own not = elim (asked-or (name_at names source) client buffer delay own) [
   | inr bad ↦ rw bad.1 refl
   | inl asked ↦ elim (cases_Bool (is_good_name (name_at names source).name)) [
@@ -337,18 +374,20 @@ pair-bad r names (Slot slot) own not = elim (read-or 1 (2 ^ 62) slot own) [
   | inl fits ↦ rw fits.2 (rw (false_from_ne_true (nat_lt r.slot slot) (λ later. not (ltb-true r.slot slot later, fits.1))) refl)
   | inr out ↦ rw out.1 refl
 ]
-pair-bad r names (Offer client source buffer delay wait) own not = elim (asked-or (name_at names source) client buffer delay own.0) [
-  | inr bad ↦ rw bad.1 refl
-  | inl asked ↦ elim (read-or 0 255 wait own.1) [
-    | inr out ↦ rw asked.1 (rw out.1 refl)
-    | inl fits ↦ elim (cases_Bool (is_good_name (name_at names source).name)) [
-      | inl good ↦ absurd (not (asked.0 good, fits.1))
-      | inr ill ↦ rw asked.1 (rw fits.2 (rw ill refl))
+pair-bad r names (Offer client source buffer delay wait) own not =
+    elim (asked-or (name_at names source) client buffer delay own.0) [
+      | inr bad ↦ rw bad.1 refl
+      | inl asked ↦ elim (read-or 0 255 wait own.1) [
+        | inr out ↦ rw asked.1 (rw out.1 refl)
+        | inl fits ↦ elim (cases_Bool (is_good_name (name_at names source).name)) [
+          | inl good ↦ absurd (not (asked.0 good, fits.1))
+          | inr ill ↦ rw asked.1 (rw fits.2 (rw ill refl))
+        ]
+      ]
     ]
-  ]
-]
 
-pub line-bad : (r : Reading) (names : List Name) (line : Line) → IsInWords names line → (MayStand r.slot names line → ⊥) → line_read r (line_text names line) ≡ None
+pub line-bad : (r : Reading) (names : List Name) (line : Line) → IsInWords names line
+    → (MayStand r.slot names line → ⊥) → line_read r (line_text names line) ≡ None
 line-bad r names line own not = line-words r names line own ∙ pair-bad r names line own not
 
 none-of : (a b c d : Bool) → (a || b || c || d) ≡ false → (a ≡ false) × (b ≡ false) × (c ≡ false) × (d ≡ false)
@@ -372,16 +411,22 @@ third-of a b false h = refl
 
 pair-unknown : (verb word : List ℕ) → is_verb 2 verb ≡ false → pair_in verb word ≡ None
 pair-unknown verb word unknown =
-    let others = none-of (bytes_eq verb (codes "pause")) (bytes_eq verb (codes "resume")) (bytes_eq verb (codes "look")) (bytes_eq verb (codes "slot"))
-    (first-of (bytes_eq verb (codes "pause") || bytes_eq verb (codes "resume") || bytes_eq verb (codes "look") || bytes_eq verb (codes "slot"))
+    let others =
+    none-of (bytes_eq verb (codes "pause")) (bytes_eq verb (codes "resume")) (bytes_eq verb (codes "look"))
+    (bytes_eq verb (codes "slot"))
+    (first-of (bytes_eq verb (codes "pause") || bytes_eq verb (codes "resume") || bytes_eq verb (codes "look")
+    || bytes_eq verb (codes "slot"))
     (bytes_eq verb (codes "play")) (bytes_eq verb (codes "offer")) unknown) in
     rw others.0 (rw others.1 (rw others.2 (rw others.3 refl)))
 
 abbrev two-words : List ℕ → Bool
-two-words verb = bytes_eq verb (codes "pause") || bytes_eq verb (codes "resume") || bytes_eq verb (codes "look") || bytes_eq verb (codes "slot")
+two-words verb =
+    bytes_eq verb (codes "pause") || bytes_eq verb (codes "resume") || bytes_eq verb (codes "look")
+    || bytes_eq verb (codes "slot")
 
 -- words of which the first is no verb of lines of so many words say nothing
-pub verb-unknown : (verb : List ℕ) (words : List (List ℕ)) → is_verb (length (verb ∷ words)) verb ≡ false → saying_in (verb ∷ words) ≡ None
+pub verb-unknown : (verb : List ℕ) (words : List (List ℕ)) → is_verb (length (verb ∷ words)) verb ≡ false
+    → saying_in (verb ∷ words) ≡ None
 verb-unknown verb [] unknown = refl
 verb-unknown verb (b ∷ []) unknown = pair-unknown verb b unknown
 verb-unknown verb (b ∷ c ∷ []) unknown = refl
@@ -412,21 +457,27 @@ first-bad {names} {lines} {line} rest written cut none =
       some = omega arith;
       few = omega (arith, written.few);
       inside = omega (arith, ap length all, length-append texts (line ∷ lines_of_script rest), count);
-      before = ap (λ n. lines_read nothing_read (take n (lines_of_script text))) e ∙ ap (λ ls. lines_read nothing_read (take (length lines) ls)) all
+      before = ap (λ n. lines_read nothing_read (take n (lines_of_script text))) e
+          ∙ ap (λ ls. lines_read nothing_read (take (length lines) ls)) all
           ∙ ap (lines_read nothing_read) (take_at texts (line ∷ lines_of_script rest) (length lines) count) ∙ read;
-      here = inr (ap (λ n. line_read (read_so_far names lines (names_used lines) (latest_slot lines)) (get_or (lines_of_script text) n [])) e
-          ∙ ap (λ ls. line_read (read_so_far names lines (names_used lines) (latest_slot lines)) (get_or ls (length lines) [])) all
-          ∙ ap (line_read (read_so_far names lines (names_used lines) (latest_slot lines))) (get_or_at texts line (lines_of_script rest) [] (length lines) count) ∙ none);
+      here = inr (ap
+          (λ n. line_read (read_so_far names lines (names_used lines) (latest_slot lines)) (get_or (lines_of_script text) n [])) e
+          ∙ ap (λ ls. line_read (read_so_far names lines (names_used lines) (latest_slot lines))
+          (get_or ls (length lines) [])) all
+          ∙ ap (line_read (read_so_far names lines (names_used lines) (latest_slot lines)))
+          (get_or_at texts line (lines_of_script rest) [] (length lines) count) ∙ none);
     }
 
 pub script-back : (script : Script) → AreWritten (names_of script.named.items) script.lines.items
-    → names_used script.lines.items ≡ length (names_of script.named.items) → IsScript (script_text (names_of script.named.items) script.lines.items) script
+    → names_used script.lines.items ≡ length (names_of script.named.items)
+    → IsScript (script_text (names_of script.named.items) script.lines.items) script
 script-back script written used =
     let names = names_of script.named.items in
     let lines = script.lines.items in
     let none : lines_of_script [] ≡ [] = refl in
     let all : lines_of_script (script_text names lines) ≡ map (line_text names) lines =
-    ap lines_of_script (sym (append-nil (script_text names lines))) ∙ texts-lines names lines [] 0 0 written.standing ∙ append-nil (map (line_text names) lines) in
+    ap lines_of_script (sym (append-nil (script_text names lines)))
+    ∙ texts-lines names lines [] 0 0 written.standing ∙ append-nil (map (line_text names) lines) in
     let nothing : ReadSoFar = record { names = names; lines = []; k = 0; slot = 0; apart = written.apart; most = omega arith } in
     let read = texts-read nothing lines written.standing in
     record {
@@ -434,7 +485,8 @@ script-back script written used =
       slot = latest_slot lines;
       read = ap (lines_read nothing_read) all ∙ read
           ∙ ap (λ n. Some (read_so_far names lines n (latest_slot lines))) used
-          ∙ ap (λ ns. Some (record { lines = lines; names = ns; slot = latest_slot lines })) (take_all (length names) names (omega arith));
+          ∙ ap (λ ns. Some (record { lines = lines; names = ns; slot = latest_slot lines }))
+          (take_all (length names) names (omega arith));
     }
 
 -- a script that can be written

@@ -22,13 +22,15 @@ pub record IsSwept (f : ClientState → ClientState) (upto : ℕ) (old new : Lis
 pub swept-none : (f : ClientState → ClientState) (old : List ClientState) → IsSwept f 0 old old
 swept-none f old = record { count = refl; past = λ c before inside. absurd (omega (arith, before)); later = λ c from. refl }
 
-pub swept-set : {f : ClientState → ClientState} {i : ℕ} {old new : List ClientState} {state : ClientState} → i < length old → state ≡ f (get_or old i Idle) → IsSwept f i old new
+pub swept-set : {f : ClientState → ClientState} {i : ℕ} {old new : List ClientState} {state : ClientState}
+    → i < length old → state ≡ f (get_or old i Idle) → IsSwept f i old new
     → IsSwept f (i + 1) old (set new i state)
 swept-set {f} {i} {old} {new} {state} inside is swept = record {
   count = length-set new i state ∙ swept.count;
   past = λ c before within. elim (cases_eq c i) [
     | inl same ↦
-        ap (λ k. get_or (set new i state) k Idle) same ∙ get_or-set_same new i state Idle (omega (arith, inside, swept.count)) ∙ is
+        ap (λ k. get_or (set new i state) k Idle) same
+        ∙ get_or-set_same new i state Idle (omega (arith, inside, swept.count)) ∙ is
         ∙ ap (λ k. f (get_or old k Idle)) (sym same)
     | inr other ↦ get_or-set_other new i c state Idle other ∙ swept.past c (omega (arith, before, other)) within
   ];
@@ -37,40 +39,48 @@ swept-set {f} {i} {old} {new} {state} inside is swept = record {
       get_or-set_other new i c state Idle other ∙ swept.later c (omega (arith, from));
 }
 
-pub swept-same : (f : ClientState → ClientState) (i : ℕ) (old new : List ClientState) → f (get_or old i Idle) ≡ get_or old i Idle → IsSwept f i old new → IsSwept f (i + 1) old new
+pub swept-same : (f : ClientState → ClientState) (i : ℕ) (old new : List ClientState)
+    → f (get_or old i Idle) ≡ get_or old i Idle → IsSwept f i old new → IsSwept f (i + 1) old new
 swept-same f i old new same swept = record {
   count = swept.count;
   past = λ c before within. elim (cases_eq c i) [
-    | inl here ↦ ap (λ k. get_or new k Idle) here ∙ swept.later i (omega arith) ∙ sym same ∙ ap (λ k. f (get_or old k Idle)) (sym here)
+    | inl here ↦ ap (λ k. get_or new k Idle) here ∙ swept.later i (omega arith) ∙ sym same
+        ∙ ap (λ k. f (get_or old k Idle)) (sym here)
     | inr other ↦ swept.past c (omega (arith, before, other)) within
   ];
   later = λ c from. swept.later c (omega (arith, from));
 }
 
-pub swept-all : (f : ClientState → ClientState) (n : ℕ) (old new : List ClientState) → length old ≤ n → IsSwept f n old new → new ≡ map f old
+pub swept-all : (f : ClientState → ClientState) (n : ℕ) (old new : List ClientState) → length old ≤ n
+    → IsSwept f n old new → new ≡ map f old
 swept-all f n old new most swept =
     ext_get_or Idle new (map f old) (swept.count ∙ sym (length-map old f))
     (λ c inside. swept.past c (omega (arith, inside, swept.count, most)) (omega (arith, inside, swept.count))
     ∙ sym (get_or-map f old c Idle Idle (omega (arith, inside, swept.count))))
 
 -- a client in the words of a day
-pub state-at : (cs : List Client) (c : ℕ) (none : Client) → c < length cs → get_or (map state_of cs) c Idle ≡ state_of (get_or cs c none)
+pub state-at : (cs : List Client) (c : ℕ) (none : Client) → c < length cs
+    → get_or (map state_of cs) c Idle ≡ state_of (get_or cs c none)
 state-at cs c none inside = get_or-map state_of cs c none Idle inside
 
-pub states-set : (cs : List Client) (c : ℕ) (client : Client) → map state_of (set cs c client) ≡ set (map state_of cs) c (state_of client)
+pub states-set : (cs : List Client) (c : ℕ) (client : Client)
+    → map state_of (set cs c client) ≡ set (map state_of cs) c (state_of client)
 states-set cs c client = map-set state_of cs c client
 
 -- sums and halts of one client more
-pub sum-more : (g : ClientState → ℕ) (states : List ClientState) (i : ℕ) → i < length states → sum_by g (take (i + 1) states) ≡ sum_by g (take i states) + g (get_or states i Idle)
+pub sum-more : (g : ClientState → ℕ) (states : List ClientState) (i : ℕ) → i < length states
+    → sum_by g (take (i + 1) states) ≡ sum_by g (take i states) + g (get_or states i Idle)
 sum-more g states i inside = ap (sum_by g) (take_more states i Idle inside) ∙ sum_by_push g (take i states) (get_or states i Idle)
 
-pub halt_entries-append : (f : ℕ → ClientState → List Entry) (k : ℕ) (xs ys : List ClientState) → halt_entries f k (xs ++ ys) ≡ halt_entries f k xs ++ halt_entries f (k + length xs) ys
+pub halt_entries-append : (f : ℕ → ClientState → List Entry) (k : ℕ) (xs ys : List ClientState)
+    → halt_entries f k (xs ++ ys) ≡ halt_entries f k xs ++ halt_entries f (k + length xs) ys
 halt_entries-append f k [] ys =
     let e : k ≡ k + 0 = omega arith in
     ap (λ n. halt_entries f n ys) e
 halt_entries-append f k (x ∷ xs) ys =
     let e : k + 1 + length xs ≡ k + length (x ∷ xs) = omega arith in
-    ap (λ es. f k x ++ es) (halt_entries-append f (k + 1) xs ys) ∙ sym (append_assoc (f k x) (halt_entries f (k + 1) xs) (halt_entries f (k + 1 + length xs) ys))
+    ap (λ es. f k x ++ es) (halt_entries-append f (k + 1) xs ys)
+    ∙ sym (append_assoc (f k x) (halt_entries f (k + 1) xs) (halt_entries f (k + 1 + length xs) ys))
     ∙ ap (λ n. halt_entries f k (x ∷ xs) ++ halt_entries f n ys) e
 
 pub halt_entries-more : (f : ℕ → ClientState → List Entry) (states : List ClientState) (i : ℕ) → i < length states
@@ -98,7 +108,8 @@ entries-more {i} {before} {more} f states begun inside halts =
     ∙ ap (λ es. begun ++ es) (sym (halt_entries-more f states i inside))
 
 -- one client is put in the place of another
-pub timed-set : (heard : ℕ) (cs : List Client) (c : ℕ) (client : Client) → IsTimed heard client → AreTimed heard cs → AreTimed heard (set cs c client)
+pub timed-set : (heard : ℕ) (cs : List Client) (c : ℕ) (client : Client) → IsTimed heard client
+    → AreTimed heard cs → AreTimed heard (set cs c client)
 timed-set heard cs c client own timed =
     record {
       each = λ d none inside. elim (cases_eq d c) [
@@ -122,7 +133,8 @@ pub record AreTimedTo (upto slot heard : ℕ) (clients : List Client) : Type 0 w
 pub timed-all : (n slot heard : ℕ) (cs : List Client) → length cs ≤ n → AreTimedTo n slot heard cs → AreTimed slot cs
 timed-all n slot heard cs most to = record { each = λ c none inside. to.past c none (omega (arith, inside, most)) inside }
 
-pub timed-next : {i slot heard : ℕ} {cs : List Client} (client : Client) → i < length cs → IsTimed slot client → AreTimedTo i slot heard cs
+pub timed-next : {i slot heard : ℕ} {cs : List Client} (client : Client) → i < length cs → IsTimed slot client
+    → AreTimedTo i slot heard cs
     → AreTimedTo (i + 1) slot heard (set cs i client)
 timed-next {i} {slot} {heard} {cs} client inside own to = record {
   past = λ c none before within. elim (cases_eq c i) [
@@ -132,12 +144,14 @@ timed-next {i} {slot} {heard} {cs} client inside own to = record {
         subst B (sym same) (subst C (sym (get_or-set_same cs i client none inside)) own)
     | inr other ↦
         let C : Client → Type 0 = λ x. IsTimed slot x in
-        subst C (sym (get_or-set_other cs i c client none other)) (to.past c none (omega (arith, before, other)) (omega (arith, within, length-set cs i client)))
+        subst C (sym (get_or-set_other cs i c client none other))
+        (to.past c none (omega (arith, before, other)) (omega (arith, within, length-set cs i client)))
   ];
   later = λ c none from within.
       let other : c ≡ i → ⊥ = λ same. absurd (omega (arith, same, from)) in
       let C : Client → Type 0 = λ x. IsTimed heard x in
-      subst C (sym (get_or-set_other cs i c client none other)) (to.later c none (omega (arith, from)) (omega (arith, within, length-set cs i client)));
+      subst C (sym (get_or-set_other cs i c client none other))
+      (to.later c none (omega (arith, from)) (omega (arith, within, length-set cs i client)));
 }
 
 -- the clients before a place have come from one slot to another
@@ -147,11 +161,13 @@ pub record AreStepsTo (upto heard slot : ℕ) (old new : List Client) (sent : �
   pub swept : IsSwept (after_sending slot) upto (map state_of old) (map state_of new)
 
 -- the place of a client in the words of a day
-pub swept-at : {f : ClientState → ClientState} {i : ℕ} (old cs : List Client) (none : Client) → i < length cs → IsSwept f i (map state_of old) (map state_of cs)
+pub swept-at : {f : ClientState → ClientState} {i : ℕ} (old cs : List Client) (none : Client) → i < length cs
+    → IsSwept f i (map state_of old) (map state_of cs)
     → get_or (map state_of old) i Idle ≡ state_of (get_or cs i none)
 swept-at {i} old cs none inside swept = sym (swept.later i (omega arith)) ∙ state-at cs i none inside
 
-pub swept-inside : (f : ClientState → ClientState) (i : ℕ) (old cs : List Client) → i < length cs → IsSwept f i (map state_of old) (map state_of cs)
+pub swept-inside : (f : ClientState → ClientState) (i : ℕ) (old cs : List Client) → i < length cs
+    → IsSwept f i (map state_of old) (map state_of cs)
     → i < length (map state_of old)
 swept-inside f i old cs inside swept = omega (arith, inside, swept.count, length-map cs state_of)
 
@@ -185,7 +201,8 @@ steps-all {n} {heard} {slot} {old} {new} most to =
     }
 
 -- the plays of the clients before a place were halted where this asks for it
-pub record AreEndedTo (f : ℕ → ClientState → List Entry) (g : ClientState → ClientState) (slot upto : ℕ) (begun entries : List Entry) (old new : List Client) : Type 0 where
+pub record AreEndedTo (f : ℕ → ClientState → List Entry) (g : ClientState → ClientState) (slot upto : ℕ)
+    (begun entries : List Entry) (old new : List Client) : Type 0 where
   pub timed : AreTimed slot new
   pub entries_are : entries ≡ begun ++ halt_entries f 0 (take upto (map state_of old))
   pub swept : IsSwept g upto (map state_of old) (map state_of new)
@@ -194,7 +211,8 @@ pub record AreEndedTo (f : ℕ → ClientState → List Entry) (g : ClientState 
 pub record SweptHalt (f : ℕ → ClientState → List Entry) (g : ClientState → ClientState) (slot i : ℕ) (xs ys : List Entry)
     (cs : List Client) (none : Client) (halt : Option Halt) : Type 0 where
   pub has : IsTimed slot (get_or cs i none) → f i (state_of (get_or cs i none)) ≡ halts_of i halt
-  pub goes : IsTimed slot (get_or cs i none) → g (state_of (get_or cs i none)) ≡ state_after_halt halt (state_of (get_or cs i none))
+  pub goes : IsTimed slot (get_or cs i none)
+      → g (state_of (get_or cs i none)) ≡ state_after_halt halt (state_of (get_or cs i none))
   pub entries : ys ≡ xs ++ halts_of i halt
 
 -- the clients after a halt, or none
@@ -203,7 +221,8 @@ pub record HaltOutcome (i : ℕ) (cs ds : List Client) (halt : Option Halt) : Ty
   pub left : IfNone halt (ds ≡ cs)
 
 pub ended-next : {f : ℕ → ClientState → List Entry} {g : ClientState → ClientState} {slot i : ℕ} {begun xs ys : List Entry}
-    {old cs ds : List Client} (none : Client) (halt : Option Halt) → i < length cs → SweptHalt f g slot i xs ys cs none halt → HaltOutcome i cs ds halt
+    {old cs ds : List Client} (none : Client) (halt : Option Halt) → i < length cs
+    → SweptHalt f g slot i xs ys cs none halt → HaltOutcome i cs ds halt
     → AreEndedTo f g slot i begun xs old cs → AreEndedTo f g slot (i + 1) begun ys old ds
 ended-next {f} {g} {slot} {i} {begun} {ys} {old} {cs} none None inside halts ended to =
     let timed : IsTimed slot (get_or cs i none) = to.timed.each i none inside in
@@ -270,7 +289,8 @@ undone-next {i} {cs} none (Some halt) inside own ended undone =
         | inl same ↦
             let B : ℕ → Type 0 = λ n. IsUndone (get_or (set cs i clients.Idle) n any) in
             subst B (sym same) (subst U (sym (get_or-set_same cs i clients.Idle any inside)) tt)
-        | inr other ↦ subst U (sym (get_or-set_other cs i c clients.Idle any other)) (undone.each c any (omega (arith, before, other)))
+        | inr other ↦
+            subst U (sym (get_or-set_other cs i c clients.Idle any other)) (undone.each c any (omega (arith, before, other)))
       ];
     })
 
@@ -281,7 +301,8 @@ written n es xs same = take_at es (drop (length es) xs) n same
 abbrev moment-as : ℕ → List Entry → List ClientState → Moment
 moment-as slot entries states = record { entries = entries; states = states; heard = slot }
 
-moment-same : {xs ys : List Entry} {one other : List ClientState} (slot : ℕ) → xs ≡ ys → one ≡ other → moment-as slot xs one ≡ moment-as slot ys other
+moment-same : {xs ys : List Entry} {one other : List ClientState} (slot : ℕ) → xs ≡ ys → one ≡ other
+    → moment-as slot xs one ≡ moment-as slot ys other
 moment-same {ys} {one} {other} slot e s = ap (λ l. moment-as slot l one) e ∙ ap (moment-as slot ys) s
 
 -- a slot as it is taken: all clients are stepped, and then the plays that are done are halted
@@ -295,26 +316,41 @@ pub record SlotSwept (n : ℕ) (ys : List Entry) (old xs ds zs : List Client) (h
   pub stepped : (h : ℕ) → h ≤ slot → AreTimed h xs → AreSteps h slot xs ds sent
   pub ended : (s : ℕ) → AreTimed s zs → ys ≡ entries ++ halt_entries (done_halt s) 0 (map state_of zs)
   pub left : (s : ℕ) → AreTimed s zs → map state_of es ≡ map (after_play s) (map state_of zs)
-  pub quiet : halt_entries (done_halt slot) 0 (map (after_sending slot) (map state_of old)) ≡ halt_entries (done_halt slot) 0 (map state_of old)
+  pub quiet : halt_entries (done_halt slot) 0 (map (after_sending slot) (map state_of old))
+      ≡ halt_entries (done_halt slot) 0 (map state_of old)
 
 -- a day at a slot
 pub slot-moment : {n : ℕ} {ys : List Entry} {old xs ds zs : List Client} {heard slot sent : ℕ} (entries : List Entry)
     (es : List Client) → SlotSwept n ys old xs ds zs heard slot sent entries es
-    → record { entries = ys; states = map state_of (take n (es ++ drop (length es) (take n (ds ++ drop (length ds) old)))); heard = slot }
+    → record {
+      entries = ys;
+      states =
+          map state_of (take n (es ++ drop (length es) (take n (ds ++ drop (length ds) old))));
+      heard = slot;
+    }
     ≡ at_slot (record { entries = entries; states = map state_of old; heard = heard }) slot
 slot-moment {n} {ys} {old} {ds} {zs} {heard} {slot} entries es swept =
     let T : List Client → Type 0 = λ l. AreTimed heard l in
     let U : List Client → Type 0 = λ l. AreTimed slot l in
     let steps = stepped heard le (subst T (sym x) timed) in
-    let d-states : map state_of ds ≡ map (after_sending slot) (map state_of old) = steps.states_are ∙ ap (λ l. map (after_sending slot) (map state_of l)) x in
+    let d-states : map state_of ds ≡ map (after_sending slot) (map state_of old) =
+    steps.states_are ∙ ap (λ l. map (after_sending slot) (map state_of l)) x in
     let d-len : length ds ≡ n =
-    omega (arith, ap length d-states, length-map ds state_of, length-map (map state_of old) (after_sending slot), length-map old state_of, len) in
+    omega (
+      arith,
+      ap length d-states,
+      length-map ds state_of,
+      length-map (map state_of old) (after_sending slot),
+      length-map old state_of,
+      len,
+    ) in
     let z-is : zs ≡ ds = z ∙ written n ds old d-len in
     let now : AreTimed slot zs = subst U (sym z-is) steps.timed in
     let states : map state_of zs ≡ map (after_sending slot) (map state_of old) = ap (map state_of) z-is ∙ d-states in
     let y : ys ≡ entries ++ halt_entries (done_halt slot) 0 (map state_of old) =
     ended slot now ∙ ap (λ l. entries ++ halt_entries (done_halt slot) 0 l) states ∙ ap (λ l. entries ++ l) quiet in
-    let s : map state_of es ≡ map (after_play slot) (map (after_sending slot) (map state_of old)) = left slot now ∙ ap (map (after_play slot)) states in
+    let s : map state_of es ≡ map (after_play slot) (map (after_sending slot) (map state_of old)) =
+    left slot now ∙ ap (map (after_play slot)) states in
     let e-len : length es ≡ n =
     omega (
       arith,

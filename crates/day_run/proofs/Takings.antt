@@ -49,7 +49,8 @@ pub record StandingLine (heard n : ℕ) (line : Line) : Type 0 where
 -- lines that may stand after a slot, one after the other
 pub record StandingLines (heard n : ℕ) (lines : List Line) : Type 0 where
   pub clients : (i : ℕ) (none : Line) → i < length lines → IsClient (get_or lines i none)
-  pub stands : (i : ℕ) (none : Line) → i < length lines → StandsAfter (fold slot_after heard (take i lines)) n (get_or lines i none)
+  pub stands : (i : ℕ) (none : Line) → i < length lines
+      → StandsAfter (fold slot_after heard (take i lines)) n (get_or lines i none)
 
 -- the lines of a script, which were all taken on a link
 pub record LinesTaken (link : Link) (n : ℕ) : Type 0 where
@@ -69,11 +70,13 @@ pub record NextTaken (link : Link) (n : ℕ) (taken : LinesTaken link n) : Type 
   pub is : IsLine link line taken.moment new text
 
 -- the first of lines, and the others
-pub first-standing : {heard n : ℕ} {line : Line} {lines : List Line} → StandingLines heard n (line ∷ lines) → StandingLine heard n line
+pub first-standing : {heard n : ℕ} {line : Line} {lines : List Line} → StandingLines heard n (line ∷ lines)
+    → StandingLine heard n line
 first-standing {line} standing =
     record { client = standing.clients zero line (omega arith); stands = standing.stands zero line (omega arith) }
 
-pub rest-standing : {heard next n : ℕ} {line : Line} {lines : List Line} → StandingLines heard n (line ∷ lines) → next ≡ slot_after heard line
+pub rest-standing : {heard next n : ℕ} {line : Line} {lines : List Line} → StandingLines heard n (line ∷ lines)
+    → next ≡ slot_after heard line
     → StandingLines next n lines
 rest-standing {n} {lines} standing is =
     let S : ℕ → Type 0 = λ h. StandingLines h n lines in

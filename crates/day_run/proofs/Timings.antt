@@ -23,12 +23,14 @@ due-at p heard pacing timed = pacing.due ∙ ap (λ n. min (first_slots p.plan n
 -- a play's pacer sends what the play books
 pub whole-paced : (play : Play) → IsPlaying play → paced play.pacer ≡ booking_of (play_of play)
 whole-paced play playing =
-    ap (λ s. cut_play play.pacer.start s play.pacer.keep) playing.plan_is ∙ ap (λ n. cut_play play.pacer.start play.plan n) playing.whole
+    ap (λ s. cut_play play.pacer.start s play.pacer.keep) playing.plan_is
+    ∙ ap (λ n. cut_play play.pacer.start play.plan n) playing.whole
 
 pub sent-at : (play : Play) (heard : ℕ) → IsPlaying play → play.pacer.passed ≡ heard + 1 - play.pacer.start
     → play.pacer.sent ≡ sent_by (booking_of (play_of play)) heard
 sent-at play heard playing timed =
-    playing.all_sent ∙ due-at play.pacer heard playing.pacing timed ∙ ap (λ (b : Booked). sent_by b heard) (whole-paced play playing)
+    playing.all_sent ∙ due-at play.pacer heard playing.pacing timed
+    ∙ ap (λ (b : Booked). sent_by b heard) (whole-paced play playing)
 
 -- whether a play is done
 begun : (start slot : ℕ) → nat_lt 0 (slot + 1 - start) ≡ nat_le start slot
@@ -43,18 +45,21 @@ pub record TimedPlay (play : Play) (slot : ℕ) : Type 0 where
   pub timed : play.pacer.passed ≡ slot + 1 - play.pacer.start
 
 -- a sweep's halts don't see what a slot makes of pauses
-quiet-pause : (b : Bool) (slot client : ℕ) (stop : Booked) (rest : Rest) → done_halt slot client (cond b (Paused rest) (Pausing stop rest)) ≡ []
+quiet-pause : (b : Bool) (slot client : ℕ) (stop : Booked) (rest : Rest)
+    → done_halt slot client (cond b (Paused rest) (Pausing stop rest)) ≡ []
 quiet-pause true slot client stop rest = refl
 quiet-pause false slot client stop rest = refl
 
-pub done-sent : (slot client : ℕ) (state : ClientState) → done_halt slot client (after_sending slot state) ≡ done_halt slot client state
+pub done-sent : (slot client : ℕ) (state : ClientState)
+    → done_halt slot client (after_sending slot state) ≡ done_halt slot client state
 done-sent slot client Idle = refl
 done-sent slot client (Playing play) = refl
 done-sent slot client (Pausing stop rest) = quiet-pause (sent_by stop slot == stop.keep) slot client stop rest
 done-sent slot client (Paused rest) = refl
 
 -- the slot of a plan that was sent last
-pub last-slot : (last : Option ℕ) (start heard passed : ℕ) → slots_through last ≡ passed → passed ≡ heard + 1 - start → last ≡ slot_sent start heard
+pub last-slot : (last : Option ℕ) (start heard passed : ℕ) → slots_through last ≡ passed
+    → passed ≡ heard + 1 - start → last ≡ slot_sent start heard
 last-slot None start heard passed through timed =
     let before : heard < start = omega (arith, through, timed) in
     sym (cond-true (nat_lt heard start) None (Some (heard - start)) (lt-ltb heard start before))
@@ -86,8 +91,10 @@ pub pause-of : {play : Play} {heard keep : ℕ} {last : Option ℕ} {left : Run}
 pause-of {play} {heard} {keep} {last} {left} playing timed through boundary is state-is =
     let B : List (List ℕ) → Type 0 = λ ps. IsBoundaryAfter ps (play.pacer.before + play.pacer.sent) (play.pacer.before + keep) in
     let C : ℕ → Type 0 = λ n. IsBoundaryAfter (reel_pieces play.rest.reel.now) (n + play.pacer.sent) (n + keep) in
-    let D : ℕ → Type 0 = λ n. IsBoundaryAfter (reel_pieces play.rest.reel.now) (play.rest.run.sent + n) (play.rest.run.sent + keep) in
-    let L : Option ℕ → Type 0 = λ o. IsLeft (reel_sizes play.rest.reel.now) play.rest.playback play.rest.run play.plan o keep left in
+    let D : ℕ → Type 0 =
+    λ n. IsBoundaryAfter (reel_pieces play.rest.reel.now) (play.rest.run.sent + n) (play.rest.run.sent + keep) in
+    let L : Option ℕ → Type 0 =
+    λ o. IsLeft (reel_sizes play.rest.reel.now) play.rest.playback play.rest.run play.plan o keep left in
     record {
       boundary = subst D (sent-at play heard playing timed) (subst C playing.before_is (subst B playing.pieces_are boundary));
       left = left;
@@ -101,7 +108,8 @@ pub paused-state : {play : Play} {rest : Rest} (heard keep : ℕ) → TimedPlay 
     → Paused rest ≡ pausing_state heard (cut_play play.pacer.start play.plan keep) rest
 paused-state {play} {rest} heard keep own kept all =
     let b = cut_play play.pacer.start play.plan keep in
-    sym (cond-true (sent_by b heard == keep) (Paused rest) (Pausing b rest) (ap (λ n. n == keep) (kept-sent heard keep own kept) ∙ all))
+    sym (cond-true (sent_by b heard == keep) (Paused rest) (Pausing b rest)
+    (ap (λ n. n == keep) (kept-sent heard keep own kept) ∙ all))
 
 pub pausing-state : {play : Play} {q : Pacing} {rest : Rest} (heard keep : ℕ) → TimedPlay play heard
     → KeptSent play keep → (play.pacer.sent == keep) ≡ false → q ≡ record play.pacer { keep = keep }
@@ -111,6 +119,7 @@ pausing-state {play} {q} {rest} heard keep own kept not e =
     let same : cut_play q.start q.plan keep ≡ b =
     ap (λ (x : Pacing). cut_play x.start x.plan keep) e ∙ ap (λ s. cut_play play.pacer.start s keep) playing.plan_is in
     ap (λ (x : Booked). Pausing x rest) same
-    ∙ sym (cond-false (sent_by b heard == keep) (Paused rest) (Pausing b rest) (ap (λ n. n == keep) (kept-sent heard keep own kept) ∙ not))
+    ∙ sym (cond-false (sent_by b heard == keep) (Paused rest) (Pausing b rest)
+    (ap (λ n. n == keep) (kept-sent heard keep own kept) ∙ not))
   where
     open own use {playing, timed}

@@ -7,7 +7,8 @@ use Rattle.day_run.specs.declared.reels.Reel.TheVariants.{Trace}
 use Rattle.day_run.specs.declared.rolls.Rolled.{Rolled}
 use Rattle.day_run.specs.Reels.{reel_pieces, reel_sizes}
 
-pub trace-length : (reel : Reel) (rolled : Rolled) → reel ≡ Trace rolled → length (framed_bytes (reel_pieces reel)) ≡ sum (reel_sizes reel)
+pub trace-length : (reel : Reel) (rolled : Rolled) → reel ≡ Trace rolled
+    → length (framed_bytes (reel_pieces reel)) ≡ sum (reel_sizes reel)
 trace-length reel rolled e =
     let P : Reel → Type 0 = λ r. length (framed_bytes (reel_pieces r)) ≡ sum (reel_sizes r) in
     subst P (sym e) (length-zeros rolled.sizes)

@@ -17,7 +17,8 @@ pub tried-step : {mid new : List ℕ} (xs : List Tried) (place : Place xs) (out 
     → new ≡ mid ++ tried_text (get_or xs place.index place.none)
     → new ≡ out ++ flat_map tried_text (take (place.index + 1) xs)
 tried-step {new} xs place out before added =
-    added ∙ ap (λ l. l ++ tried_text (get_or xs i d)) before ∙ append_assoc out (flat_map tried_text (take i xs)) (tried_text (get_or xs i d))
+    added ∙ ap (λ l. l ++ tried_text (get_or xs i d)) before
+    ∙ append_assoc out (flat_map tried_text (take i xs)) (tried_text (get_or xs i d))
     ∙ ap (λ l. out ++ l) (sym (tried-more xs i d within))
   where
     open place use {index as i, none as d, inside as within}

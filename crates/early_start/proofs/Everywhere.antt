@@ -51,7 +51,8 @@ offer_everywhere {calendar} {plays} {segments} {first} {found} its after offer =
   refusals = record {
     starts = offer.refusals.starts;
     refused = λ i none inside.
-        overflow_everywhere its (omega (arith, offer.refusals.starts i none inside, after)) (offer.refusals.refused i none inside);
+        overflow_everywhere its (omega (arith, offer.refusals.starts i none inside, after))
+        (offer.refusals.refused i none inside);
   };
   start = start_everywhere found.start offer.start;
 }

@@ -11,7 +11,8 @@ use Rattle.early_start.specs.declared.Tried.{Tried}
 
 pub refusals_more : {from : ℕ} {booked capacity : ℕ → ℕ} {segments : List Segment} {first : ℕ} {xs : List Tried}
     {t : Tried} → AreRefusals from booked capacity segments first xs →
-    t.start ≡ first + length xs → IsRefusal from booked capacity segments t → AreRefusals from booked capacity segments first (xs ++ t ∷ [])
+    t.start ≡ first + length xs → IsRefusal from booked capacity segments t
+    → AreRefusals from booked capacity segments first (xs ++ t ∷ [])
 refusals_more {from} {booked} {capacity} {segments} {first} {xs} {t} all start refusal = record {
   starts = λ i none below. elim (cases_order i (length xs)) [
     | inl same ↦ ap (λ (x : Tried). x.start) (at_end i none same) ∙ start ∙ ap (λ n. first + n) (sym same)
@@ -20,16 +21,20 @@ refusals_more {from} {booked} {capacity} {segments} {first} {xs} {t} all start r
   ];
   refused = λ i none below. elim (cases_order i (length xs)) [
     | inl same ↦ subst (IsRefusal from booked capacity segments) (sym (at_end i none same)) refusal
-    | inr (inl less) ↦ subst (IsRefusal from booked capacity segments) (sym (get_or_append_left xs (t ∷ []) none i less)) (all.refused i none less)
+    | inr (inl less) ↦
+        subst (IsRefusal from booked capacity segments) (sym (get_or_append_left xs (t ∷ []) none i less))
+        (all.refused i none less)
     | inr (inr more) ↦ let bad : ⊥ = omega (arith, more, below, length-append xs (t ∷ [])) in absurd bad
   ];
 }
   where
     at_end : (i : ℕ) (none : Tried) → i ≡ length xs → get_or (xs ++ t ∷ []) i none ≡ t
     at_end i none same =
-        get_or-append_right xs (t ∷ []) i i none (sym same) (omega arith) ∙ (let zero : i - i ≡ 0 = omega arith in ap (λ n. get_or (t ∷ []) n none) zero)
+        get_or-append_right xs (t ∷ []) i i none (sym same) (omega arith)
+        ∙ (let zero : i - i ≡ 0 = omega arith in ap (λ n. get_or (t ∷ []) n none) zero)
 
-refusal_once : {from : ℕ} {booked capacity : ℕ → ℕ} {segments : List Segment} {a b : Tried} → IsRefusal from booked capacity segments a → IsRefusal from booked capacity segments b → a.start ≡ b.start → a ≡ b
+refusal_once : {from : ℕ} {booked capacity : ℕ → ℕ} {segments : List Segment} {a b : Tried}
+    → IsRefusal from booked capacity segments a → IsRefusal from booked capacity segments b → a.start ≡ b.start → a ≡ b
 refusal_once {from} {booked} {capacity} {segments} {a} {b} x y start =
     let P : ℕ → Type 0 = λ n. IsFirstOverflow from booked capacity n segments a.over in
     let over : a.over ≡ b.over = overflow-once (subst P start x) y in
@@ -52,7 +57,8 @@ no_room_tried {from} {booked} {capacity} {segments} {first} {tried} {start} all 
     let inside : i < length tried = omega (arith, begun, before) in
     let same : start ≡ first + i = omega (arith, begun) in
     let t = get_or tried i no_start in
-    no-room (all.refused i no_start inside) (subst (CanStart from booked capacity segments) (same ∙ sym (all.starts i no_start inside)) room)
+    no-room (all.refused i no_start inside)
+    (subst (CanStart from booked capacity segments) (same ∙ sym (all.starts i no_start inside)) room)
 
 -- the start after those that were tried is no refusal
 nothing_next : {from : ℕ} {booked capacity : ℕ → ℕ} {segments : List Segment} {wait n : ℕ} {t : Tried} (first : ℕ)
@@ -66,7 +72,8 @@ few_tried : {from : ℕ} {booked capacity : ℕ → ℕ} {segments : List Segmen
     IsOffer from booked capacity segments first found → length found.tried ≤ found.wait + 1
 few_tried {from} {booked} {capacity} {segments} {first} {found} offer = few found.start offer.start
   where
-    few : (start : Option ℕ) → IsStart from booked capacity segments first found.wait (length found.tried) start → length found.tried ≤ found.wait + 1
+    few : (start : Option ℕ) → IsStart from booked capacity segments first found.wait (length found.tried) start
+        → length found.tried ≤ found.wait + 1
     few None is = omega (arith, is)
     few (Some s) is = omega (arith, is.0)
 

@@ -21,16 +21,21 @@ use Rattle.film_frames.proofs.RunLemmas.{piece-length}
 
 -- ---- sequence numbers
 
-head-sequence : (channel : ℕ) (head : Head) (rest : List ℕ) → head.sequence < 2 ^ 16 → sequence_of (interleaved_block channel (head_bytes head ++ rest)) ≡ head.sequence
+head-sequence : (channel : ℕ) (head : Head) (rest : List ℕ) → head.sequence < 2 ^ 16
+    → sequence_of (interleaved_block channel (head_bytes head ++ rest)) ≡ head.sequence
 head-sequence channel head rest small = omega arith
 
-frame-sequence : (run : Run) (frames octets : ℕ) (piece : Piece) → count_of piece ≡ 1 → sequence_of (piece_bytes run frames octets piece) ≡ (run.identity.sequence + frames) % 2 ^ 16
+frame-sequence : (run : Run) (frames octets : ℕ) (piece : Piece) → count_of piece ≡ 1
+    → sequence_of (piece_bytes run frames octets piece) ≡ (run.identity.sequence + frames) % 2 ^ 16
 frame-sequence run frames octets (Report unit) frame = cc
 frame-sequence run frames octets (Frame unit p) frame =
-    head-sequence run.identity.channel (packet_head run.identity (picture_time run.rate) unit p frames) (payload run.film p) (omega arith)
+    head-sequence run.identity.channel (packet_head run.identity (picture_time run.rate) unit p frames)
+    (payload run.film p) (omega arith)
 
-pub counts-on : (run : Run) (frames octets : ℕ) (pieces : List Piece) (k : ℕ) → k < length (frames_among pieces (blocks_from run frames octets pieces))
-    → sequence_of (get_or (frames_among pieces (blocks_from run frames octets pieces)) k []) ≡ (run.identity.sequence + (frames + k)) % 2 ^ 16
+pub counts-on : (run : Run) (frames octets : ℕ) (pieces : List Piece) (k : ℕ)
+    → k < length (frames_among pieces (blocks_from run frames octets pieces))
+    → sequence_of (get_or (frames_among pieces (blocks_from run frames octets pieces)) k [])
+    ≡ (run.identity.sequence + (frames + k)) % 2 ^ 16
 counts-on run frames octets [] k h = absurd (omega (arith, h))
 counts-on run frames octets (Report unit ∷ pieces) k h =
     let next : frames + 0 + k ≡ frames + k = omega arith in
@@ -40,13 +45,20 @@ counts-on run frames octets (Frame unit p ∷ pieces) zero h =
     frame-sequence run frames octets (Frame unit p) refl ∙ ap (λ n. (run.identity.sequence + n) % 2 ^ 16) none
 counts-on run frames octets (Frame unit p ∷ pieces) (suc k) h =
     let next : frames + 1 + k ≡ frames + suc k = omega arith in
-    counts-on run (frames + 1) (octets + octets_of (Frame unit p)) pieces k (omega (arith, h)) ∙ ap (λ n. (run.identity.sequence + n) % 2 ^ 16) next
+    counts-on run (frames + 1) (octets + octets_of (Frame unit p)) pieces k (omega (arith, h))
+    ∙ ap (λ n. (run.identity.sequence + n) % 2 ^ 16) next
 
-pub frames-count : (run : Run) (frames octets : ℕ) (pieces : List Piece) → length (frames_among pieces (blocks_from run frames octets pieces)) ≡ frames_in pieces
+pub frames-count : (run : Run) (frames octets : ℕ) (pieces : List Piece)
+    → length (frames_among pieces (blocks_from run frames octets pieces)) ≡ frames_in pieces
 frames-count run frames octets [] = refl
-frames-count run frames octets (Report unit ∷ pieces) = omega (arith, frames-count run (frames + 0) (octets + 0) pieces, sum_by-cons count_of (Report unit) pieces)
+frames-count run frames octets (Report unit ∷ pieces) =
+    omega (arith, frames-count run (frames + 0) (octets + 0) pieces, sum_by-cons count_of (Report unit) pieces)
 frames-count run frames octets (Frame unit p ∷ pieces) =
-    omega (arith, frames-count run (frames + 1) (octets + octets_of (Frame unit p)) pieces, sum_by-cons count_of (Frame unit p) pieces)
+    omega (
+      arith,
+      frames-count run (frames + 1) (octets + octets_of (Frame unit p)) pieces,
+      sum_by-cons count_of (Frame unit p) pieces,
+    )
 
 -- ---- sizes
 
@@ -74,12 +86,14 @@ piece-block : (run : Run) (frames octets : ℕ) (piece : Piece) → IsBlock (pie
 piece-block run frames octets (Report unit) =
     block-is run.identity.control (report_bytes (unit_report run.identity (picture_time run.rate) unit frames octets))
 piece-block run frames octets (Frame unit p) =
-    block-is run.identity.channel (head_bytes (packet_head run.identity (picture_time run.rate) unit p frames) ++ payload run.film p)
+    block-is run.identity.channel
+    (head_bytes (packet_head run.identity (picture_time run.rate) unit p frames) ++ payload run.film p)
 
 pub are-blocks : (run : Run) (frames octets : ℕ) (pieces : List Piece) → AreBlocks (blocks_from run frames octets pieces)
 are-blocks run frames octets [] k h = absurd (omega (arith, h))
 are-blocks run frames octets (piece ∷ pieces) zero h = piece-block run frames octets piece
-are-blocks run frames octets (piece ∷ pieces) (suc k) h = are-blocks run (frames + count_of piece) (octets + octets_of piece) pieces k (omega (arith, h))
+are-blocks run frames octets (piece ∷ pieces) (suc k) h =
+    are-blocks run (frames + count_of piece) (octets + octets_of piece) pieces k (omega (arith, h))
 
 -- ---- what has ended
 
@@ -88,14 +102,17 @@ count_ended-have [] at = record { among = omega arith; last = omega arith; next 
 count_ended-have (piece ∷ pieces) at =
     elim (cases_lt at (length piece)) [
       | inl l ↦
-          let none : 0 ≡ count_ended at (piece ∷ pieces) = sym (ap (λ b. cond b (count_ended (at - length piece) pieces + 1) 0) (lt-leb (length piece) at l)) in
+          let none : 0 ≡ count_ended at (piece ∷ pieces) =
+          sym (ap (λ b. cond b (count_ended (at - length piece) pieces + 1) 0) (lt-leb (length piece) at l)) in
           let P : ℕ → Type 0 = λ n. HaveEnded (piece ∷ pieces) at n in
-          subst P none (record { among = omega arith; last = omega arith; next = λ h. omega (arith, l, begin-cons piece pieces 0) })
+          subst P none
+          (record { among = omega arith; last = omega arith; next = λ h. omega (arith, l, begin-cons piece pieces 0) })
       | inr g ↦
           let rest = count_ended-have pieces (at - length piece) in
           let n = count_ended (at - length piece) pieces in
           let one : suc n ≡ n + 1 = omega arith in
-          let more : suc n ≡ count_ended at (piece ∷ pieces) = one ∙ sym (ap (λ b. cond b (count_ended (at - length piece) pieces + 1) 0) (le-leb (length piece) at g)) in
+          let more : suc n ≡ count_ended at (piece ∷ pieces) =
+          one ∙ sym (ap (λ b. cond b (count_ended (at - length piece) pieces + 1) 0) (le-leb (length piece) at g)) in
           let P : ℕ → Type 0 = λ n. HaveEnded (piece ∷ pieces) at n in
           subst P more (record {
             among = omega (arith, rest.among);

@@ -24,11 +24,14 @@ film-in_order film = film-chained film.bytes.items film.rate film.units.items fi
 
 -- ---- what follows for the pieces
 
-units-sound : (film starts : List ℕ) (units : List PictureUnit) → AreLaid (length film) starts units → AreSound film (pieces_of starts units)
+units-sound : (film starts : List ℕ) (units : List PictureUnit) → AreLaid (length film) starts units
+    → AreSound film (pieces_of starts units)
 units-sound film starts [] laid = tt
 units-sound film starts (unit ∷ units) laid =
     let P : List Piece → Type 0 = λ l. AreSound film l in
-    subst P (sym (pieces-cons starts unit units)) (sound-append film (unit_pieces starts unit) (pieces_of starts units) (unit-sound film starts unit laid.0.1 laid.0.0) (units-sound film starts units laid.1))
+    subst P (sym (pieces-cons starts unit units))
+    (sound-append film (unit_pieces starts unit) (pieces_of starts units)
+    (unit-sound film starts unit laid.0.1 laid.0.0) (units-sound film starts units laid.1))
 
 pub laid-film : (film : Film) → AreLaid (length film.bytes.items) film.slice_starts.items film.units.items
 laid-film film = film-laid film.bytes.items film.rate film.units.items film.slice_starts.items film.grammar
@@ -36,10 +39,13 @@ laid-film film = film-laid film.bytes.items film.rate film.units.items film.slic
 pub film-sound : (film : Film) → AreSound film.bytes.items (film_pieces film)
 film-sound film = units-sound film.bytes.items film.slice_starts.items film.units.items (laid-film film)
 
-pub unit-laid : (film : Film) (number : ℕ) (unit : PictureUnit) → slice_get film.units.items number ≡ Some unit → IsLaid film.slice_starts.items unit
-unit-laid film number unit is = (laid-at (length film.bytes.items) film.slice_starts.items film.units.items number is (laid-film film)).1
+pub unit-laid : (film : Film) (number : ℕ) (unit : PictureUnit) → slice_get film.units.items number ≡ Some unit
+    → IsLaid film.slice_starts.items unit
+unit-laid film number unit is =
+    (laid-at (length film.bytes.items) film.slice_starts.items film.units.items number is (laid-film film)).1
 
-pub units-wire : (end : ℕ) (starts : List ℕ) (units : List PictureUnit) → AreLaid end starts units → wire_in (pieces_of starts units) ≡ sum (map (λ u. wire_size starts u) units)
+pub units-wire : (end : ℕ) (starts : List ℕ) (units : List PictureUnit) → AreLaid end starts units
+    → wire_in (pieces_of starts units) ≡ sum (map (λ u. wire_size starts u) units)
 units-wire end starts [] laid = refl
 units-wire end starts (unit ∷ units) laid =
     let rest = units-wire end starts units laid.1 in
@@ -53,7 +59,8 @@ pub record AreUnits (end : ℕ) (starts : List ℕ) (units : List PictureUnit) (
   pub laid : AreLaid end starts units
   pub chained : AreChained from units to
 
-pub later-units : {end : ℕ} {starts : List ℕ} {unit : PictureUnit} {units : List PictureUnit} {from to : ℕ} → AreUnits end starts (unit ∷ units) from to → AreUnits end starts units unit.to to
+pub later-units : {end : ℕ} {starts : List ℕ} {unit : PictureUnit} {units : List PictureUnit} {from to : ℕ}
+    → AreUnits end starts (unit ∷ units) from to → AreUnits end starts units unit.to to
 later-units are = record { laid = are.laid.1; chained = are.chained.1 }
 
 pub units-bound : {end : ℕ} {starts : List ℕ} {units : List PictureUnit} {from to : ℕ} → AreUnits end starts units from to
@@ -61,9 +68,17 @@ pub units-bound : {end : ℕ} {starts : List ℕ} {units : List PictureUnit} {fr
 units-bound {units = []} are = omega (arith, are.chained)
 units-bound {starts} {units = unit ∷ units} are =
     let rest = units-bound {units = units} (later-units are) in
-    omega (arith, rest, are.chained.0, unit-bound starts unit are.laid.0.1, unit-le starts unit are.laid.0.1, sum_by-cons (λ n. n) (wire_size starts unit) (map (λ u. wire_size starts u) units))
+    omega (
+      arith,
+      rest,
+      are.chained.0,
+      unit-bound starts unit are.laid.0.1,
+      unit-le starts unit are.laid.0.1,
+      sum_by-cons (λ n. n) (wire_size starts unit) (map (λ u. wire_size starts u) units),
+    )
 
-pub units-film : (film : Film) → AreUnits (length film.bytes.items) film.slice_starts.items film.units.items (film-from film) (length film.bytes.items)
+pub units-film : (film : Film)
+    → AreUnits (length film.bytes.items) film.slice_starts.items film.units.items (film-from film) (length film.bytes.items)
 units-film film = record { laid = laid-film film; chained = film-in_order film }
 
 pub film-wire : (film : Film) → wire_in (film_pieces film) ≡ sum (map (λ u. wire_size film.slice_starts.items u) film.units.items)

@@ -17,7 +17,8 @@ pub is-run-of : (f : Inside) (run : Run) → run_of f.stored.now.film f.first_un
     → (f.first_unit < f.end_unit) × (f.end_unit ≤ length f.stored.now.film.units.items) → IsRunOf f run
 is-run-of f run view units =
     let film = f.stored.now.film in
-    let is : IsRun film f.first_unit f.end_unit f.identity run = record { view = view; order = omega (arith, units.0); within = units.1 } in
+    let is : IsRun film f.first_unit f.end_unit f.identity run =
+    record { view = view; order = omega (arith, units.0); within = units.1 } in
     let count = run-count film f.first_unit f.end_unit f.identity run is in
     record { is = is; count = count.0; within = count.1; short = all-short film }
 

@@ -14,7 +14,8 @@ use Rattle.film_frames.proofs.RunLemmas.{piece-length}
 use Rattle.film_frames.proofs.TrackLemmas.{begin-le, begin-more}
 
 -- a report has no such heads, and a frame has
-pub report-heads : (run : Run) (frames octets : ℕ) (unit : PictureUnit) → HasHeads (piece_bytes run frames octets (Report unit)) → ⊥
+pub report-heads : (run : Run) (frames octets : ℕ) (unit : PictureUnit)
+    → HasHeads (piece_bytes run frames octets (Report unit)) → ⊥
 report-heads run frames octets unit heads = heads.no_report refl
 
 no-report : (marker : Bool) → bit marker * 128 + 32 ≢ 200
@@ -36,7 +37,8 @@ pub record IsPart (pieces : List (List ℕ)) (number at bytes : ℕ) : Type 0 wh
   pub ends : at + bytes ≤ begin_of pieces (number + 1)
 
 -- a place within them, past their beginning, is in no other piece
-one-piece : {pieces : List (List ℕ)} {at k bytes place : ℕ} (number : ℕ) → IsPart pieces k at bytes → at < place → place < at + bytes
+one-piece : {pieces : List (List ℕ)} {at k bytes place : ℕ} (number : ℕ) → IsPart pieces k at bytes → at < place
+    → place < at + bytes
     → begin_of pieces number ≤ place → place ≤ begin_of pieces (number + 1) → number ≡ k
 one-piece {pieces} {k} number part past before from to =
     elim (cases_lt number k) [
@@ -48,14 +50,17 @@ one-piece {pieces} {k} number part past before from to =
           ]
     ]
 
-head-here : {pieces : List (List ℕ)} {at k bytes place : ℕ} → IsPart pieces k at bytes → at < place → place < at + bytes → IsHeadEnd pieces place
+head-here : {pieces : List (List ℕ)} {at k bytes place : ℕ} → IsPart pieces k at bytes → at < place
+    → place < at + bytes → IsHeadEnd pieces place
     → HasHeads (get_or pieces k []) × (place ≡ begin_of pieces k + 20)
 head-here {pieces} {place} part past before is =
-    let same = one-piece is.number part past before (omega (arith, is.place_is)) (omega (arith, is.place_is, is.frame.payload, begin-more pieces is.number is.among)) in
+    let same = one-piece is.number part past before (omega (arith, is.place_is))
+    (omega (arith, is.place_is, is.frame.payload, begin-more pieces is.number is.among)) in
     (subst (λ n. HasHeads (get_or pieces n [])) same is.frame, subst (λ n. place ≡ begin_of pieces n + 20) same is.place_is)
 
 -- the bytes of a frame from a place on are split at the end of its heads
-pub frame-split : {pieces : List (List ℕ)} {at k : ℕ} (head payload : ℕ) → IsPart pieces k at (head + payload) → HasHeads (get_or pieces k [])
+pub frame-split : {pieces : List (List ℕ)} {at k : ℕ} (head payload : ℕ) → IsPart pieces k at (head + payload)
+    → HasHeads (get_or pieces k [])
     → head ≡ 20 - min (at - begin_of pieces k) 20 → IsSplit pieces at head payload
 frame-split {k} head payload part heads is = record {
   ends = λ some more. record { number = k; among = part.among; frame = heads; place_is = omega (arith, is, part.begins, some) };
@@ -71,11 +76,13 @@ report-split head payload part none is = record {
 }
 
 -- zero bytes have no heads
-zeros-heads : (sizes : List ℕ) (number : ℕ) → number < length (zero_frames sizes) → HasHeads (get_or (zero_frames sizes) number []) → ⊥
+zeros-heads : (sizes : List ℕ) (number : ℕ) → number < length (zero_frames sizes)
+    → HasHeads (get_or (zero_frames sizes) number []) → ⊥
 zeros-heads sizes number among heads =
     let size = get_or sizes number 0 in
     let piece : get_or (zero_frames sizes) number [] ≡ replicate {A = ℕ} size 0 =
-    get_or-map (λ n. replicate {A = ℕ} n 0) sizes number 0 [] (omega (arith, among, length-map sizes (λ n. replicate {A = ℕ} n 0))) in
+    get_or-map (λ n. replicate {A = ℕ} n 0) sizes number 0 []
+    (omega (arith, among, length-map sizes (λ n. replicate {A = ℕ} n 0))) in
     let its : HasHeads (replicate {A = ℕ} size 0) = subst HasHeads piece heads in
     let some : 0 < size = omega (arith, its.payload, length-replicate {A = ℕ} size 0) in
     omega (arith, its.interleaved, get_or-replicate {A = ℕ} size 0 0 0 some)

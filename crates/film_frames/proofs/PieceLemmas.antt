@@ -33,7 +33,8 @@ pub sound-left : (film : List ℕ) (xs ys : List Piece) → AreSound film (xs ++
 sound-left film [] ys both = tt
 sound-left film (x ∷ xs) ys both = (both.0, sound-left film xs ys both.1)
 
-pub sound-at : (film : List ℕ) (pieces : List Piece) (k : ℕ) (piece : Piece) → slice_get pieces k ≡ Some piece → AreSound film pieces → IsSound film piece
+pub sound-at : (film : List ℕ) (pieces : List Piece) (k : ℕ) (piece : Piece) → slice_get pieces k ≡ Some piece
+    → AreSound film pieces → IsSound film piece
 sound-at film [] k piece is sound = cc
 sound-at film (first ∷ pieces) zero piece is sound =
     let P : Piece → Type 0 = λ p. IsSound film p in
@@ -49,39 +50,54 @@ record DoPiecesCover (film : List ℕ) (unit : PictureUnit) (starts cuts : List 
   short : to ≤ length film
   cover : DoCover from (piece_packets unit starts from cuts) to
 
-frames-sound : {film : List ℕ} {unit : PictureUnit} {starts cuts : List ℕ} {from to : ℕ} → DoPiecesCover film unit starts cuts from to
+frames-sound : {film : List ℕ} {unit : PictureUnit} {starts cuts : List ℕ} {from to : ℕ}
+    → DoPiecesCover film unit starts cuts from to
     → AreSound film (map (λ p. Frame unit p) (piece_packets unit starts from cuts))
 frames-sound {cuts = []} pieces = tt
 frames-sound {film} {unit} {starts} {cuts = cut ∷ cuts} {to} pieces =
     let cover = pieces.cover in
     let rest = cover-le (piece_packets unit starts cut cuts) cut to cover.1.1.1 in
-    let later : DoPiecesCover film unit starts cuts cut to = record { short = pieces.short; cover = cover.1.1.1 } in
-    (record { some = cover.1.0; short = cover.1.1.0; within = omega (arith, rest, pieces.short); formed = refl }, frames-sound {cuts = cuts} later)
+    let later : DoPiecesCover film unit starts cuts cut to = record { short = pieces.short; cover = cover.1.1.1 } in (
+      record {
+        some = cover.1.0;
+        short = cover.1.1.0;
+        within = omega (arith, rest, pieces.short);
+        formed =
+            refl;
+      },
+      frames-sound {cuts = cuts} later,
+    )
 
 reports-sound : (film : List ℕ) (unit : PictureUnit) (starts : Bool) → AreSound film (cond starts (Report unit ∷ []) [])
 reports-sound film unit true = (tt, tt)
 reports-sound film unit false = tt
 
-pub unit-sound : (film starts : List ℕ) (unit : PictureUnit) → IsLaid starts unit → unit.to ≤ length film → AreSound film (unit_pieces starts unit)
+pub unit-sound : (film starts : List ℕ) (unit : PictureUnit) → IsLaid starts unit → unit.to ≤ length film
+    → AreSound film (unit_pieces starts unit)
 unit-sound film starts unit laid short =
     let are = packets-are starts unit laid in
     let P : List Packet → Type 0 = λ l. AreSound film (map (λ p. Frame unit p) l) in
     let Q : List Packet → Type 0 = λ l. DoCover unit.from l unit.to in
-    let pieces : DoPiecesCover film unit (unit_starts starts unit) are.cuts unit.from unit.to = record { short = short; cover = subst Q are.pieces (packets-cover starts unit laid) } in
+    let pieces : DoPiecesCover film unit (unit_starts starts unit) are.cuts unit.from unit.to =
+    record { short = short; cover = subst Q are.pieces (packets-cover starts unit laid) } in
     let frames = frames-sound pieces in
-    sound-append film (unit_reports unit) (map (λ p. Frame unit p) (unit_packets starts unit)) (reports-sound film unit unit.starts_group) (subst P (sym are.pieces) frames)
+    sound-append film (unit_reports unit) (map (λ p. Frame unit p) (unit_packets starts unit))
+    (reports-sound film unit unit.starts_group) (subst P (sym are.pieces) frames)
 
 -- ---- the bytes of a unit on the wire
 
 frames-wire : (unit : PictureUnit) (packets : List Packet) → wire_in (map (λ p. Frame unit p) packets) ≡ frames_size packets
 frames-wire unit [] = refl
-frames-wire unit (p ∷ packets) = sum_by-cons wire_of (Frame unit p) (map (λ q. Frame unit q) packets) ∙ ap (λ n. 20 + (p.to - p.from) + n) (frames-wire unit packets)
+frames-wire unit (p ∷ packets) =
+    sum_by-cons wire_of (Frame unit p) (map (λ q. Frame unit q) packets)
+    ∙ ap (λ n. 20 + (p.to - p.from) + n) (frames-wire unit packets)
 
 reports-wire : (unit : PictureUnit) (starts : Bool) → wire_in (cond starts (Report unit ∷ []) []) ≡ cond starts 52 0
 reports-wire unit true = refl
 reports-wire unit false = refl
 
-pub unit-wire : (starts : List ℕ) (unit : PictureUnit) → IsLaid starts unit → wire_in (unit_pieces starts unit) ≡ wire_size starts unit
+pub unit-wire : (starts : List ℕ) (unit : PictureUnit) → IsLaid starts unit
+    → wire_in (unit_pieces starts unit) ≡ wire_size starts unit
 unit-wire starts unit laid =
     sum_by-append wire_of (unit_reports unit) (map (λ p. Frame unit p) (unit_packets starts unit))
     ∙ ap (λ n. n + wire_in (map (λ p. Frame unit p) (unit_packets starts unit))) (reports-wire unit unit.starts_group)
@@ -91,8 +107,10 @@ at-most : (starts : Bool) → cond starts 52 0 ≤ 52
 at-most true = omega arith
 at-most false = omega arith
 
-pub unit-bound : (starts : List ℕ) (unit : PictureUnit) → IsLaid starts unit → wire_size starts unit ≤ 2 * (unit.to - unit.from) + 112
-unit-bound starts unit laid = omega (arith, at-most unit.starts_group, packets-size starts unit laid, packets-bound starts unit laid)
+pub unit-bound : (starts : List ℕ) (unit : PictureUnit) → IsLaid starts unit
+    → wire_size starts unit ≤ 2 * (unit.to - unit.from) + 112
+unit-bound starts unit laid =
+    omega (arith, at-most unit.starts_group, packets-size starts unit laid, packets-bound starts unit laid)
 
 pub unit-le : (starts : List ℕ) (unit : PictureUnit) → IsLaid starts unit → unit.from ≤ unit.to
 unit-le starts unit laid = cover-le (unit_packets starts unit) unit.from unit.to (packets-cover starts unit laid)
@@ -100,7 +118,8 @@ unit-le starts unit laid = cover-le (unit_packets starts unit) unit.from unit.to
 pub wire-append : (xs ys : List Piece) → wire_in (xs ++ ys) ≡ wire_in xs + wire_in ys
 wire-append xs ys = sum_by-append wire_of xs ys
 
-pub pieces-cons : (starts : List ℕ) (unit : PictureUnit) (units : List PictureUnit) → pieces_of starts (unit ∷ units) ≡ unit_pieces starts unit ++ pieces_of starts units
+pub pieces-cons : (starts : List ℕ) (unit : PictureUnit) (units : List PictureUnit)
+    → pieces_of starts (unit ∷ units) ≡ unit_pieces starts unit ++ pieces_of starts units
 pieces-cons starts unit units = flat_map-cons (unit_pieces starts) unit units
 
 -- ---- how many there may be

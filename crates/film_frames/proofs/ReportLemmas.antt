@@ -14,10 +14,12 @@ use Rattle.film_frames.proofs.RunLemmas.{count_ended-is, blocks_from-at, blocks_
 use Rattle.film_frames.proofs.TrackLemmas.{begin-more}
 
 -- where a report begins, the pieces before it have ended
-count_ended-before : (run : Run) (k : ℕ) (unit : PictureUnit) → slice_get (pieces_in run) k ≡ Some (Report unit) → count_ended (begin_of (run_pieces run) k) (run_pieces run) ≡ k
+count_ended-before : (run : Run) (k : ℕ) (unit : PictureUnit) → slice_get (pieces_in run) k ≡ Some (Report unit)
+    → count_ended (begin_of (run_pieces run) k) (run_pieces run) ≡ k
 count_ended-before run k unit at =
     let pieces = run_pieces run in
-    let within : k < length pieces = omega (arith, slice_get_within (pieces_in run) k (Report unit) at, blocks_from-count run 0 0 (pieces_in run)) in
+    let within : k < length pieces =
+    omega (arith, slice_get_within (pieces_in run) k (Report unit) at, blocks_from-count run 0 0 (pieces_in run)) in
     let long : length (get_or pieces k []) ≡ 52 = ap (λ (l : List ℕ). length l) (blocks_from-at run 0 0 (pieces_in run) k at) in
     count_ended-is pieces (begin_of pieces k) k (record {
       among = omega (arith, within);
@@ -30,8 +32,10 @@ reports-count run = λ k unit at.
     let before = sym (count_ended-before run k unit at) in
     let f : 0 + frames_in (take k (pieces_in run)) ≡ frames_in (take k (pieces_in run)) = omega arith in
     let o : 0 + octets_in (take k (pieces_in run)) ≡ octets_in (take k (pieces_in run)) = omega arith in
-    let frames : 0 + frames_in (take k (pieces_in run)) ≡ frames_before run (begin_of (run_pieces run) k) = f ∙ ap (λ n. frames_in (take n (pieces_in run))) before in
-    let octets : 0 + octets_in (take k (pieces_in run)) ≡ octets_before run (begin_of (run_pieces run) k) = o ∙ ap (λ n. octets_in (take n (pieces_in run))) before in
+    let frames : 0 + frames_in (take k (pieces_in run)) ≡ frames_before run (begin_of (run_pieces run) k) =
+    f ∙ ap (λ n. frames_in (take n (pieces_in run))) before in
+    let octets : 0 + octets_in (take k (pieces_in run)) ≡ octets_before run (begin_of (run_pieces run) k) =
+    o ∙ ap (λ n. octets_in (take n (pieces_in run))) before in
     blocks_from-at run 0 0 (pieces_in run) k at
     ∙ ap (λ n. piece_bytes run n (0 + octets_in (take k (pieces_in run))) (Report unit)) frames
     ∙ ap (λ n. piece_bytes run (frames_before run (begin_of (run_pieces run) k)) n (Report unit)) octets
@@ -47,7 +51,8 @@ counted-before run at count have =
 
 -- ---- channels
 
-piece-channel : (run : Run) (frames octets : ℕ) (piece : Piece) → slice_index (piece_bytes run frames octets piece) 1 ≡ channel_of run piece
+piece-channel : (run : Run) (frames octets : ℕ) (piece : Piece)
+    → slice_index (piece_bytes run frames octets piece) 1 ≡ channel_of run piece
 piece-channel run frames octets (Report unit) = refl
 piece-channel run frames octets (Frame unit p) = refl
 

@@ -20,56 +20,85 @@ use Rattle.film_frames.proofs.TrackLemmas.{AreEnds, begin-all, begin-le, begin-n
 -- ---- what a piece takes
 
 pub payload-length : (film : List ℕ) (p : Packet) → p.from ≤ p.to → p.to ≤ length film → length (payload film p) ≡ p.to - p.from
-payload-length film p order within = length-take-le (p.to - p.from) (drop p.from film) (omega (arith, length-drop p.from film, order, within))
+payload-length film p order within =
+    length-take-le (p.to - p.from) (drop p.from film) (omega (arith, length-drop p.from film, order, within))
 
-pub piece-length : (run : Run) (frames octets : ℕ) (piece : Piece) → IsSound run.film piece → length (piece_bytes run frames octets piece) ≡ wire_of piece
+pub piece-length : (run : Run) (frames octets : ℕ) (piece : Piece) → IsSound run.film piece
+    → length (piece_bytes run frames octets piece) ≡ wire_of piece
 piece-length run frames octets (Report unit) sound = refl
-piece-length run frames octets (Frame unit p) sound = omega (arith, payload-length run.film p (omega (arith, sound.some)) sound.within)
+piece-length run frames octets (Frame unit p) sound =
+    omega (arith, payload-length run.film p (omega (arith, sound.some)) sound.within)
 
-pub blocks_from-count : (run : Run) (frames octets : ℕ) (pieces : List Piece) → length (blocks_from run frames octets pieces) ≡ length pieces
+pub blocks_from-count : (run : Run) (frames octets : ℕ) (pieces : List Piece)
+    → length (blocks_from run frames octets pieces) ≡ length pieces
 blocks_from-count run frames octets [] = refl
-blocks_from-count run frames octets (piece ∷ pieces) = ap suc (blocks_from-count run (frames + count_of piece) (octets + octets_of piece) pieces)
+blocks_from-count run frames octets (piece ∷ pieces) =
+    ap suc (blocks_from-count run (frames + count_of piece) (octets + octets_of piece) pieces)
 
-blocks_from-sum : (run : Run) (frames octets : ℕ) (pieces : List Piece) (k : ℕ) → AreSound run.film pieces → sum_by length (take k (blocks_from run frames octets pieces)) ≡ wire_in (take k pieces)
+blocks_from-sum : (run : Run) (frames octets : ℕ) (pieces : List Piece) (k : ℕ) → AreSound run.film pieces
+    → sum_by length (take k (blocks_from run frames octets pieces)) ≡ wire_in (take k pieces)
 blocks_from-sum run frames octets [] zero sound = refl
 blocks_from-sum run frames octets [] (suc k) sound = refl
 blocks_from-sum run frames octets (piece ∷ pieces) zero sound = refl
 blocks_from-sum run frames octets (piece ∷ pieces) (suc k) sound =
     let rest = blocks_from-sum run (frames + count_of piece) (octets + octets_of piece) pieces k sound.1 in
-    sum_by-cons length (piece_bytes run frames octets piece) (take k (blocks_from run (frames + count_of piece) (octets + octets_of piece) pieces))
-    ∙ ap (λ n. n + sum_by length (take k (blocks_from run (frames + count_of piece) (octets + octets_of piece) pieces))) (piece-length run frames octets piece sound.0)
+    sum_by-cons length (piece_bytes run frames octets piece)
+    (take k (blocks_from run (frames + count_of piece) (octets + octets_of piece) pieces))
+    ∙ ap (λ n. n
+    + sum_by length (take k (blocks_from run (frames + count_of piece) (octets + octets_of piece) pieces)))
+    (piece-length run frames octets piece sound.0)
     ∙ ap (λ n. wire_of piece + n) rest
     ∙ sym (sum_by-cons wire_of piece (take k pieces))
 
-pub blocks_from-begin : (run : Run) (frames octets : ℕ) (pieces : List Piece) (k : ℕ) → AreSound run.film pieces → begin_of (blocks_from run frames octets pieces) k ≡ wire_in (take k pieces)
+pub blocks_from-begin : (run : Run) (frames octets : ℕ) (pieces : List Piece) (k : ℕ) → AreSound run.film pieces
+    → begin_of (blocks_from run frames octets pieces) k ≡ wire_in (take k pieces)
 blocks_from-begin run frames octets pieces k sound =
-    length-flat_map (λ (p : List ℕ). p) (take k (blocks_from run frames octets pieces)) ∙ blocks_from-sum run frames octets pieces k sound
+    length-flat_map (λ (p : List ℕ). p) (take k (blocks_from run frames octets pieces))
+    ∙ blocks_from-sum run frames octets pieces k sound
 
 -- the bytes of the piece of a number
-pub blocks_from-at : {piece : Piece} (run : Run) (frames octets : ℕ) (pieces : List Piece) (k : ℕ) → slice_get pieces k ≡ Some piece
-    → get_or (blocks_from run frames octets pieces) k [] ≡ piece_bytes run (frames + frames_in (take k pieces)) (octets + octets_in (take k pieces)) piece
+pub blocks_from-at : {piece : Piece} (run : Run) (frames octets : ℕ) (pieces : List Piece) (k : ℕ)
+    → slice_get pieces k ≡ Some piece
+    → get_or (blocks_from run frames octets pieces) k []
+    ≡ piece_bytes run (frames + frames_in (take k pieces)) (octets + octets_in (take k pieces)) piece
 blocks_from-at {piece} run frames octets [] k at = cc
 blocks_from-at {piece} run frames octets (first ∷ pieces) zero at =
     let same : first ≡ piece = cc in
     let f : frames ≡ frames + 0 = omega arith in
     let o : octets ≡ octets + 0 = omega arith in
-    ap (λ p. piece_bytes run frames octets p) same ∙ ap (λ n. piece_bytes run n octets piece) f ∙ ap (λ n. piece_bytes run (frames + 0) n piece) o
+    ap (λ p. piece_bytes run frames octets p) same ∙ ap (λ n. piece_bytes run n octets piece) f
+    ∙ ap (λ n. piece_bytes run (frames + 0) n piece) o
 blocks_from-at {piece} run frames octets (first ∷ pieces) (suc k) at =
     let rest = blocks_from-at run (frames + count_of first) (octets + octets_of first) pieces k at in
-    let f : frames + count_of first + frames_in (take k pieces) ≡ frames + frames_in (first ∷ take k pieces) = omega (arith, sum_by-cons count_of first (take k pieces)) in
-    let o : octets + octets_of first + octets_in (take k pieces) ≡ octets + octets_in (first ∷ take k pieces) = omega (arith, sum_by-cons octets_of first (take k pieces)) in
+    let f : frames + count_of first + frames_in (take k pieces) ≡ frames + frames_in (first ∷ take k pieces) =
+    omega (arith, sum_by-cons count_of first (take k pieces)) in
+    let o : octets + octets_of first + octets_in (take k pieces) ≡ octets + octets_in (first ∷ take k pieces) =
+    omega (arith, sum_by-cons octets_of first (take k pieces)) in
     rest
     ∙ ap (λ n. piece_bytes run n (octets + octets_of first + octets_in (take k pieces)) piece) f
     ∙ ap (λ n. piece_bytes run (frames + frames_in (first ∷ take k pieces)) n piece) o
 
 -- ---- octets, by the bytes, the frames and the reports
 
-pub octets-are : (pieces : List Piece) → wire_in pieces + 52 * frames_in pieces ≡ octets_in pieces + 16 * frames_in pieces + 52 * length pieces
+pub octets-are : (pieces : List Piece)
+    → wire_in pieces + 52 * frames_in pieces ≡ octets_in pieces + 16 * frames_in pieces + 52 * length pieces
 octets-are [] = refl
 octets-are (Report unit ∷ pieces) =
-    omega (arith, octets-are pieces, sum_by-cons wire_of (Report unit) pieces, sum_by-cons count_of (Report unit) pieces, sum_by-cons octets_of (Report unit) pieces)
+    omega (
+      arith,
+      octets-are pieces,
+      sum_by-cons wire_of (Report unit) pieces,
+      sum_by-cons count_of (Report unit) pieces,
+      sum_by-cons octets_of (Report unit) pieces,
+    )
 octets-are (Frame unit p ∷ pieces) =
-    omega (arith, octets-are pieces, sum_by-cons wire_of (Frame unit p) pieces, sum_by-cons count_of (Frame unit p) pieces, sum_by-cons octets_of (Frame unit p) pieces)
+    omega (
+      arith,
+      octets-are pieces,
+      sum_by-cons wire_of (Frame unit p) pieces,
+      sum_by-cons count_of (Frame unit p) pieces,
+      sum_by-cons octets_of (Frame unit p) pieces,
+    )
 
 pub frames-le : (pieces : List Piece) → frames_in pieces ≤ length pieces
 frames-le [] = omega arith
@@ -78,8 +107,10 @@ frames-le (Frame unit p ∷ pieces) = omega (arith, frames-le pieces, sum_by-con
 
 -- ---- the pieces that have ended
 
-pub have-count_ended : {base : ℕ} {pieces : List (List ℕ)} {ends : List ℕ} {at upto k : ℕ} → AreEnds base pieces ends → k ≤ length ends → upto ≤ at → (upto < at → upto ≡ length (framed_bytes pieces))
-    → ((j : ℕ) → j < k → get_or ends j 0 < base + upto + 1) → (k < length ends → base + upto + 1 ≤ get_or ends k 0) → HaveEnded pieces at k
+pub have-count_ended : {base : ℕ} {pieces : List (List ℕ)} {ends : List ℕ} {at upto k : ℕ}
+    → AreEnds base pieces ends → k ≤ length ends → upto ≤ at → (upto < at → upto ≡ length (framed_bytes pieces))
+    → ((j : ℕ) → j < k → get_or ends j 0 < base + upto + 1)
+    → (k < length ends → base + upto + 1 ≤ get_or ends k 0) → HaveEnded pieces at k
 have-count_ended {base} {pieces} {ends} {at} {upto} {k} are among least cut below from = record {
   among = omega (arith, among, are.count);
   last = elim (cases_lt 0 k) [
@@ -94,15 +125,18 @@ have-count_ended {base} {pieces} {ends} {at} {upto} {k} are among least cut belo
       let end = are.each k within in
       let later = from within in
       elim (cases_lt upto at) [
-        | inl l ↦ absurd (omega (arith, cut l, end, later, begin-le pieces (k + 1) (length pieces) (omega (arith, h)), begin-all pieces))
+        | inl l ↦ absurd
+            (omega (arith, cut l, end, later, begin-le pieces (k + 1) (length pieces) (omega (arith, h)), begin-all pieces))
         | inr g ↦ omega (arith, g, end, later)
       ];
 }
 
-pub begin-cons : (piece : List ℕ) (pieces : List (List ℕ)) (k : ℕ) → begin_of (piece ∷ pieces) (suc k) ≡ length piece + begin_of pieces k
+pub begin-cons : (piece : List ℕ) (pieces : List (List ℕ)) (k : ℕ)
+    → begin_of (piece ∷ pieces) (suc k) ≡ length piece + begin_of pieces k
 begin-cons piece pieces k = length-append piece (framed_bytes (take k pieces))
 
-pub begin-next : (piece : List ℕ) (pieces : List (List ℕ)) (k : ℕ) → begin_of (piece ∷ pieces) (suc k + 1) ≡ length piece + begin_of pieces (k + 1)
+pub begin-next : (piece : List ℕ) (pieces : List (List ℕ)) (k : ℕ)
+    → begin_of (piece ∷ pieces) (suc k + 1) ≡ length piece + begin_of pieces (k + 1)
 begin-next piece pieces k =
     let next : suc k + 1 ≡ suc (k + 1) = omega arith in
     ap (λ n. begin_of (piece ∷ pieces) n) next ∙ begin-cons piece pieces (k + 1)

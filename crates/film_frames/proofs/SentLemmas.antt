@@ -32,7 +32,8 @@ pub record IsBetween (film : Film) (first_unit end_unit : ℕ) (run : Run) : Typ
   pub all : film_pieces film ≡ front_pieces film first_unit ++ (pieces_in run ++ rest)
   pub sound : AreSound run.film (pieces_in run)
 
-between-of : (film : Film) (first_unit end_unit : ℕ) (identity : Identity) → first_unit ≤ end_unit → IsBetween film first_unit end_unit (run_of film first_unit end_unit identity)
+between-of : (film : Film) (first_unit end_unit : ℕ) (identity : Identity) → first_unit ≤ end_unit
+    → IsBetween film first_unit end_unit (run_of film first_unit end_unit identity)
 between-of film first_unit end_unit identity order =
     let run = run_of film first_unit end_unit identity in
     let starts = film.slice_starts.items in
@@ -40,7 +41,8 @@ between-of film first_unit end_unit identity order =
     let last : end_unit ≡ first_unit + (end_unit - first_unit) = omega (arith, order) in
     let taken : drop first_unit (take end_unit film.units.items) ≡ run.units =
     ap (λ n. drop first_unit (take n film.units.items)) last ∙ drop-take first_unit (end_unit - first_unit) film.units.items in
-    let units : front_pieces film end_unit ≡ front_pieces film first_unit ++ pieces_in run = front-front film first_unit end_unit order ∙ ap (λ l. front_pieces film first_unit ++ pieces_of starts l) taken in
+    let units : front_pieces film end_unit ≡ front_pieces film first_unit ++ pieces_in run =
+    front-front film first_unit end_unit order ∙ ap (λ l. front_pieces film first_unit ++ pieces_of starts l) taken in
     let all : film_pieces film ≡ front_pieces film first_unit ++ (pieces_in run ++ rest) =
     front-back film end_unit ∙ ap (λ l. l ++ rest) units ∙ append_assoc (front_pieces film first_unit) (pieces_in run) rest in
     let P : List Piece → Type 0 = λ l. AreSound film.bytes.items l in
@@ -48,10 +50,12 @@ between-of film first_unit end_unit identity order =
       rest = rest;
       units = units;
       all = all;
-      sound = sound-left film.bytes.items (pieces_in run) rest (sound-right film.bytes.items (front_pieces film first_unit) (pieces_in run ++ rest) (subst P all (film-sound film)));
+      sound = sound-left film.bytes.items (pieces_in run) rest
+          (sound-right film.bytes.items (front_pieces film first_unit) (pieces_in run ++ rest) (subst P all (film-sound film)));
     }
 
-pub between : (film : Film) (first_unit end_unit : ℕ) (identity : Identity) (run : Run) → IsRun film first_unit end_unit identity run → IsBetween film first_unit end_unit run
+pub between : (film : Film) (first_unit end_unit : ℕ) (identity : Identity) (run : Run)
+    → IsRun film first_unit end_unit identity run → IsBetween film first_unit end_unit run
 between film first_unit end_unit identity run is =
     let P : Run → Type 0 = λ r. IsBetween film first_unit end_unit r in
     subst P is.view (between-of film first_unit end_unit identity is.order)
@@ -65,7 +69,8 @@ record IsAmong (all before middle rest : List Piece) (k n : ℕ) : Type 0 where
 sum-between : {all before middle rest : List Piece} {k n : ℕ} (f : Piece → ℕ) → IsAmong all before middle rest k n
     → sum_by f (take n all) ≡ sum_by f (take (length before) all) + sum_by f (take k middle)
 sum-between {all} {before} {middle} {rest} {k} f among =
-    let front_is : take (length before) all ≡ before = ap (λ (l : List Piece). take (length before) l) split ∙ take_at before (middle ++ rest) (length before) refl in
+    let front_is : take (length before) all ≡ before =
+    ap (λ (l : List Piece). take (length before) l) split ∙ take_at before (middle ++ rest) (length before) refl in
     let first : take (length before + k) (before ++ (middle ++ rest)) ≡ before ++ take k middle =
     take-append-add before (middle ++ rest) k ∙ ap (λ (l : List Piece). before ++ l) (take-append-le k middle rest short) in
     ap (λ m. sum_by f (take m all)) is
@@ -79,7 +84,8 @@ sum-between {all} {before} {middle} {rest} {k} f among =
 get-after : (before after : List Piece) (k : ℕ) → slice_get (before ++ after) (length before + k) ≡ slice_get after k
 get-after [] after k = ap (λ n. slice_get after n) (let e : 0 + k ≡ k = omega arith in e)
 get-after (piece ∷ before) after k =
-    ap (λ n. slice_get (piece ∷ (before ++ after)) n) (let e : length (piece ∷ before) + k ≡ suc (length before + k) = omega arith in e) ∙ get-after before after k
+    ap (λ n. slice_get (piece ∷ (before ++ after)) n)
+    (let e : length (piece ∷ before) + k ≡ suc (length before + k) = omega arith in e) ∙ get-after before after k
 
 get-front : (front rest : List Piece) (k : ℕ) → k < length front → slice_get (front ++ rest) k ≡ slice_get front k
 get-front [] rest k h = absurd (omega (arith, h))
@@ -90,37 +96,51 @@ pub all-short : (film : Film) → length (film_pieces film) ≤ 2 ^ 42
 all-short film = omega (arith, length-le-wire (film_pieces film), film-wire film, film-bound film)
 
 -- how many pieces there are
-pub run-count : (film : Film) (first_unit end_unit : ℕ) (identity : Identity) (run : Run) → IsRun film first_unit end_unit identity run
-    → (length (front_pieces film end_unit) ≡ length (front_pieces film first_unit) + length (pieces_in run)) × (length (front_pieces film end_unit) ≤ length (film_pieces film))
+pub run-count : (film : Film) (first_unit end_unit : ℕ) (identity : Identity) (run : Run)
+    → IsRun film first_unit end_unit identity run
+    → (length (front_pieces film end_unit) ≡ length (front_pieces film first_unit) + length (pieces_in run))
+    × (length (front_pieces film end_unit) ≤ length (film_pieces film))
 run-count film first_unit end_unit identity run is =
     let lies = between film first_unit end_unit identity run is in
-    let units : length (front_pieces film end_unit) ≡ length (front_pieces film first_unit) + length (pieces_in run) = ap (λ (l : List Piece). length l) lies.units ∙ length-append (front_pieces film first_unit) (pieces_in run) in
+    let units : length (front_pieces film end_unit)
+    ≡ length (front_pieces film first_unit) + length (pieces_in run) =
+    ap (λ (l : List Piece). length l) lies.units ∙ length-append (front_pieces film first_unit) (pieces_in run) in
     let all : length (film_pieces film) ≡ length (front_pieces film first_unit) + (length (pieces_in run) + length lies.rest) =
-    ap (λ (l : List Piece). length l) lies.all ∙ length-append (front_pieces film first_unit) (pieces_in run ++ lies.rest) ∙ ap (λ n. length (front_pieces film first_unit) + n) (length-append (pieces_in run) lies.rest) in
+    ap (λ (l : List Piece). length l) lies.all
+    ∙ length-append (front_pieces film first_unit) (pieces_in run ++ lies.rest)
+    ∙ ap (λ n. length (front_pieces film first_unit) + n) (length-append (pieces_in run) lies.rest) in
     (units, omega (arith, units, all))
 
-among-run : {film : Film} {first_unit end_unit k n : ℕ} {run : Run} (lies : IsBetween film first_unit end_unit run) → k ≤ length (pieces_in run) → n ≡ length (front_pieces film first_unit) + k
+among-run : {film : Film} {first_unit end_unit k n : ℕ} {run : Run}
+    (lies : IsBetween film first_unit end_unit run) → k ≤ length (pieces_in run) → n ≡ length (front_pieces film first_unit) + k
     → IsAmong (film_pieces film) (front_pieces film first_unit) (pieces_in run) lies.rest k n
 among-run lies short at = record { split = lies.all; short = short; is = at }
 
 -- where a piece of the run begins
-pub run-wire : {film : Film} {first_unit end_unit : ℕ} {identity : Identity} {run : Run} {n : ℕ} (k : ℕ) → IsRun film first_unit end_unit identity run → k ≤ length (pieces_in run) → n ≡ length (front_pieces film first_unit) + k
-    → wire_in (take n (film_pieces film)) ≡ wire_in (take (length (front_pieces film first_unit)) (film_pieces film)) + wire_in (take k (pieces_in run))
+pub run-wire : {film : Film} {first_unit end_unit : ℕ} {identity : Identity} {run : Run} {n : ℕ} (k : ℕ)
+    → IsRun film first_unit end_unit identity run → k ≤ length (pieces_in run) → n ≡ length (front_pieces film first_unit) + k
+    → wire_in (take n (film_pieces film))
+    ≡ wire_in (take (length (front_pieces film first_unit)) (film_pieces film)) + wire_in (take k (pieces_in run))
 run-wire {film} {first_unit} {end_unit} {identity} {run} k is short at =
     let lies = between film first_unit end_unit identity run is in
     sum-between wire_of (among-run lies short at)
 
-pub run-frames : {film : Film} {first_unit end_unit : ℕ} {identity : Identity} {run : Run} {n : ℕ} (k : ℕ) → IsRun film first_unit end_unit identity run → k ≤ length (pieces_in run) → n ≡ length (front_pieces film first_unit) + k
-    → frames_in (take n (film_pieces film)) ≡ frames_in (take (length (front_pieces film first_unit)) (film_pieces film)) + frames_in (take k (pieces_in run))
+pub run-frames : {film : Film} {first_unit end_unit : ℕ} {identity : Identity} {run : Run} {n : ℕ} (k : ℕ)
+    → IsRun film first_unit end_unit identity run → k ≤ length (pieces_in run) → n ≡ length (front_pieces film first_unit) + k
+    → frames_in (take n (film_pieces film))
+    ≡ frames_in (take (length (front_pieces film first_unit)) (film_pieces film)) + frames_in (take k (pieces_in run))
 run-frames {film} {first_unit} {end_unit} {identity} {run} k is short at =
     let lies = between film first_unit end_unit identity run is in
     sum-between count_of (among-run lies short at)
 
-pub run-begin : {film : Film} (first_unit end_unit : ℕ) (identity : Identity) (run : Run) (k : ℕ) → IsRun film first_unit end_unit identity run
+pub run-begin : {film : Film} (first_unit end_unit : ℕ) (identity : Identity) (run : Run) (k : ℕ)
+    → IsRun film first_unit end_unit identity run
     → begin_of (run_pieces run) k ≡ wire_in (take k (pieces_in run))
-run-begin {film} first_unit end_unit identity run k is = blocks_from-begin run 0 0 (pieces_in run) k (between film first_unit end_unit identity run is).sound
+run-begin {film} first_unit end_unit identity run k is =
+    blocks_from-begin run 0 0 (pieces_in run) k (between film first_unit end_unit identity run is).sound
 
-pub run-piece : {film : Film} {first_unit end_unit : ℕ} {identity : Identity} {run : Run} {n : ℕ} (k : ℕ) → IsRun film first_unit end_unit identity run → k < length (pieces_in run) → n ≡ length (front_pieces film first_unit) + k
+pub run-piece : {film : Film} {first_unit end_unit : ℕ} {identity : Identity} {run : Run} {n : ℕ} (k : ℕ)
+    → IsRun film first_unit end_unit identity run → k < length (pieces_in run) → n ≡ length (front_pieces film first_unit) + k
     → slice_get (film_pieces film) n ≡ slice_get (pieces_in run) k
 run-piece {film} {first_unit} {end_unit} {identity} {run} k is within at =
     let lies = between film first_unit end_unit identity run is in
@@ -132,8 +152,11 @@ run-piece {film} {first_unit} {end_unit} {identity} {run} k is within at =
 -- the ends of the run's pieces
 pub run-ends : {film : Film} {first_unit end_unit : ℕ} {identity : Identity} {run : Run} {first end base : ℕ}
     {ends : List ℕ} → IsRun film first_unit end_unit identity run
-    → first ≡ length (front_pieces film first_unit) → end ≡ length (front_pieces film end_unit) → base ≡ wire_in (take first (film_pieces film))
-    → length ends ≡ end - first → ((k : ℕ) → k < end - first → get_or ends k 0 ≡ wire_in (take (first + k + 1) (film_pieces film))) → AreEnds base (run_pieces run) ends
+    → first ≡ length (front_pieces film first_unit) → end ≡ length (front_pieces film end_unit)
+    → base ≡ wire_in (take first (film_pieces film))
+    → length ends ≡ end - first
+    → ((k : ℕ) → k < end - first → get_or ends k 0 ≡ wire_in (take (first + k + 1) (film_pieces film)))
+    → AreEnds base (run_pieces run) ends
 run-ends {film} {first_unit} {end_unit} {identity} {run} {first} {end} {base} {ends} is first_is end_is base_is count each =
     let counts = run-count film first_unit end_unit identity run is in
     let pieces = blocks_from-count run 0 0 (pieces_in run) in
@@ -141,17 +164,30 @@ run-ends {film} {first_unit} {end_unit} {identity} {run} {first} {end} {base} {e
       count = omega (arith, count, counts.0, first_is, end_is, pieces);
       each = λ k h.
           let short : k + 1 ≤ length (pieces_in run) = omega (arith, h, count, counts.0, first_is, end_is) in
-          let sum = run-wire {film = film} {first_unit = first_unit} {end_unit = end_unit} {identity = identity} {run = run} {n = first + k + 1} (k + 1) is short (omega (arith, first_is)) in
-          let from : base ≡ wire_in (take (length (front_pieces film first_unit)) (film_pieces film)) = base_is ∙ ap (λ n. wire_in (take n (film_pieces film))) first_is in
+          let sum = run-wire {film = film} {first_unit = first_unit} {end_unit = end_unit} {identity = identity}
+          {run = run} {n = first + k + 1} (k + 1) is short (omega (arith, first_is)) in
+          let from : base ≡ wire_in (take (length (front_pieces film first_unit)) (film_pieces film)) =
+          base_is ∙ ap (λ n. wire_in (take n (film_pieces film))) first_is in
           omega (arith, each k (omega (arith, h, count)), sum, from, run-begin first_unit end_unit identity run (k + 1) is);
     }
 
 -- the bytes of the run and all before it
-pub run-total : (film : Film) (first_unit end_unit : ℕ) (identity : Identity) (run : Run) → IsRun film first_unit end_unit identity run
+pub run-total : (film : Film) (first_unit end_unit : ℕ) (identity : Identity) (run : Run)
+    → IsRun film first_unit end_unit identity run
     → wire_in (take (length (front_pieces film first_unit)) (film_pieces film)) + length (framed_bytes (run_pieces run)) ≤ 2 ^ 42
 run-total film first_unit end_unit identity run is =
     let n = length (pieces_in run) in
     let sum = run-wire n is (omega arith) refl in
     let some = sum_by-take-le wire_of (film_pieces film) (length (front_pieces film first_unit) + n) in
-    let last : begin_of (run_pieces run) (length (run_pieces run)) ≡ begin_of (run_pieces run) n = ap (λ m. begin_of (run_pieces run) m) (blocks_from-count run 0 0 (pieces_in run)) in
-    omega (arith, sum, some, film-wire film, film-bound film, run-begin first_unit end_unit identity run n is, last, begin-all (run_pieces run))
+    let last : begin_of (run_pieces run) (length (run_pieces run)) ≡ begin_of (run_pieces run) n =
+    ap (λ m. begin_of (run_pieces run) m) (blocks_from-count run 0 0 (pieces_in run)) in
+    omega (
+      arith,
+      sum,
+      some,
+      film-wire film,
+      film-bound film,
+      run-begin first_unit end_unit identity run n is,
+      last,
+      begin-all (run_pieces run),
+    )

@@ -20,10 +20,13 @@ use Rattle.film_frames.proofs.FilmLemmas.{laid-film}
 use Rattle.film_frames.proofs.BackLemmas.{laid-drop, laid-take}
 
 -- frames after a unit's first
-later-stand : {at : ℕ} (unit : PictureUnit) (packets : List Packet) (rest : List Piece) → DoCover at packets unit.to → unit.from < at → DoReportsStand rest → DoReportsStand (map (λ p. Frame unit p) packets ++ rest)
+later-stand : {at : ℕ} (unit : PictureUnit) (packets : List Packet) (rest : List Piece)
+    → DoCover at packets unit.to → unit.from < at → DoReportsStand rest → DoReportsStand (map (λ p. Frame unit p) packets ++ rest)
 later-stand {at} unit [] rest cover past stand = stand
-later-stand {at} unit (p ∷ packets) rest cover past stand =
-    ((λ first. absurd (omega (arith, first, cover.0, past))), later-stand {at = p.to} unit packets rest cover.1.1.1 (omega (arith, past, cover.1.0)) stand)
+later-stand {at} unit (p ∷ packets) rest cover past stand = (
+  (λ first. absurd (omega (arith, first, cover.0, past))),
+  later-stand {at = p.to} unit packets rest cover.1.1.1 (omega (arith, past, cover.1.0)) stand,
+)
 
 -- packets that cover a unit of some bytes
 record DoCoverUnit (unit : PictureUnit) (packets : List Packet) : Type 0 where
@@ -31,7 +34,8 @@ record DoCoverUnit (unit : PictureUnit) (packets : List Packet) : Type 0 where
   cover : DoCover unit.from packets unit.to
 
 -- a unit's report and frames
-frames-stand : {unit : PictureUnit} {packets : List Packet} {starts : Bool} (rest : List Piece) → unit.starts_group ≡ starts → DoCoverUnit unit packets → DoReportsStand rest →
+frames-stand : {unit : PictureUnit} {packets : List Packet} {starts : Bool} (rest : List Piece) →
+    unit.starts_group ≡ starts → DoCoverUnit unit packets → DoReportsStand rest →
     DoReportsStand ((cond starts (Report unit ∷ []) [] ++ map (λ p. Frame unit p) packets) ++ rest)
 frames-stand {packets = []} {starts} rest is all stand = absurd (omega (arith, all.cover, all.some))
 frames-stand {unit} {packets = p ∷ packets} {starts = true} rest is all stand =
@@ -46,16 +50,20 @@ order-le (s ∷ starts) at to order = omega (arith, order.1.0, order-le starts (
 unit-some : (starts : List ℕ) (unit : PictureUnit) → IsLaid starts unit → unit.from < unit.to
 unit-some starts unit laid = omega (arith, laid.head, order-le (unit_starts starts unit) unit.head_end unit.to laid.in_order)
 
-units-stand : (starts : List ℕ) (end : ℕ) (units : List PictureUnit) → AreLaid end starts units → DoReportsStand (pieces_of starts units)
+units-stand : (starts : List ℕ) (end : ℕ) (units : List PictureUnit) → AreLaid end starts units
+    → DoReportsStand (pieces_of starts units)
 units-stand starts end [] laid = tt
 units-stand starts end (unit ∷ units) laid =
-    let all : DoCoverUnit unit (unit_packets starts unit) = record { some = unit-some starts unit laid.0.1; cover = packets-cover starts unit laid.0.1 } in
+    let all : DoCoverUnit unit (unit_packets starts unit) =
+    record { some = unit-some starts unit laid.0.1; cover = packets-cover starts unit laid.0.1 } in
     subst (λ (l : List Piece). DoReportsStand l) (sym (pieces-cons starts unit units))
     (frames-stand (pieces_of starts units) refl all (units-stand starts end units laid.1))
 
-pub reports-stand : (film : Film) (first end : ℕ) (identity : Identity) → DoReportsStand (pieces_in (run_of film first end identity))
+pub reports-stand : (film : Film) (first end : ℕ) (identity : Identity)
+    → DoReportsStand (pieces_in (run_of film first end identity))
 reports-stand film first end identity =
     let bytes = length film.bytes.items in
     let starts = film.slice_starts.items in
     units-stand starts bytes (take (end - first) (drop first film.units.items))
-    (laid-take bytes starts (drop first film.units.items) (end - first) (laid-drop bytes starts film.units.items first (laid-film film)))
+    (laid-take bytes starts (drop first film.units.items) (end - first)
+    (laid-drop bytes starts film.units.items first (laid-film film)))

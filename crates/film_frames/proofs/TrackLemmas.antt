@@ -21,13 +21,17 @@ begin-sum : (pieces : List (List ℕ)) (k : ℕ) → begin_of pieces k ≡ sum_b
 begin-sum pieces k = length-flat_map (λ (p : List ℕ). p) (take k pieces)
 
 -- a piece ends where it begins and its length more
-pub begin-more : (pieces : List (List ℕ)) (k : ℕ) → k < length pieces → begin_of pieces (k + 1) ≡ begin_of pieces k + length (get_or pieces k [])
-begin-more pieces k h = begin-sum pieces (k + 1) ∙ sum_by_more length pieces k [] h ∙ ap (λ n. n + length (get_or pieces k [])) (sym (begin-sum pieces k))
+pub begin-more : (pieces : List (List ℕ)) (k : ℕ) → k < length pieces
+    → begin_of pieces (k + 1) ≡ begin_of pieces k + length (get_or pieces k [])
+begin-more pieces k h =
+    begin-sum pieces (k + 1) ∙ sum_by_more length pieces k [] h
+    ∙ ap (λ n. n + length (get_or pieces k [])) (sym (begin-sum pieces k))
 
 pub begin-le : (pieces : List (List ℕ)) (k j : ℕ) → k ≤ j → begin_of pieces k ≤ begin_of pieces j
 begin-le pieces k j h =
     let part = sum_by-take-le length (take j pieces) k in
-    let same : sum_by length (take k (take j pieces)) ≡ sum_by length (take k pieces) = ap (λ (l : List (List ℕ)). sum_by length l) (take-take k j pieces h) in
+    let same : sum_by length (take k (take j pieces)) ≡ sum_by length (take k pieces) =
+    ap (λ (l : List (List ℕ)). sum_by length l) (take-take k j pieces h) in
     omega (arith, part, same, begin-sum pieces k, begin-sum pieces j)
 
 pub begin-all : (pieces : List (List ℕ)) → begin_of pieces (length pieces) ≡ length (framed_bytes pieces)
@@ -42,7 +46,8 @@ ends-rise base pieces ends are = IsNonDecreasingBy-from_default (λ x. x) ends 0
     omega (arith, are.each i (omega (arith, h, l)), are.each j l, begin-le pieces (i + 1) (j + 1) (omega (arith, h))))
 
 -- a search's answer is a piece's number, where not all ends lie below the place
-pub found : {base : ℕ} {pieces : List (List ℕ)} {ends : List ℕ} {k : ℕ} (at : ℕ) → AreEnds base pieces ends → 0 < at → at ≤ length (framed_bytes pieces)
+pub found : {base : ℕ} {pieces : List (List ℕ)} {ends : List ℕ} {k : ℕ} (at : ℕ) → AreEnds base pieces ends
+    → 0 < at → at ≤ length (framed_bytes pieces)
     → k ≤ length ends → ((j : ℕ) → j < k → get_or ends j 0 < base + at) → k < length ends
 found {base} {pieces} {ends} {k} at are some within count below =
     elim (cases_lt k (length ends)) [
@@ -54,7 +59,8 @@ found {base} {pieces} {ends} {k} at are some within count below =
             | inl l ↦
                 let last = below (k - 1) (omega (arith, l)) in
                 let end = are.each (k - 1) (omega (arith, l, count)) in
-                let whole : begin_of pieces (k - 1 + 1) ≡ begin_of pieces (length pieces) = ap (λ n. begin_of pieces n) (omega (arith, same, l)) in
+                let whole : begin_of pieces (k - 1 + 1) ≡ begin_of pieces (length pieces) =
+                ap (λ n. begin_of pieces n) (omega (arith, same, l)) in
                 omega (arith, last, end, whole, all, within)
             | inr z ↦
                 omega (arith, begin-none pieces (length pieces) (omega (arith, same, z)), all, within, some)
@@ -62,8 +68,10 @@ found {base} {pieces} {ends} {k} at are some within count below =
     ]
 
 -- the piece whose end is the first that isn't below a place ends at the least boundary that is at least it
-pub boundary-found : {base : ℕ} {pieces : List (List ℕ)} {ends : List ℕ} {at : ℕ} (k : ℕ) → AreEnds base pieces ends → 0 < at → k < length ends
-    → ((j : ℕ) → j < k → get_or ends j 0 < base + at) → base + at ≤ get_or ends k 0 → IsBoundaryAfter pieces at (get_or ends k 0 - base)
+pub boundary-found : {base : ℕ} {pieces : List (List ℕ)} {ends : List ℕ} {at : ℕ} (k : ℕ)
+    → AreEnds base pieces ends → 0 < at → k < length ends
+    → ((j : ℕ) → j < k → get_or ends j 0 < base + at) → base + at ≤ get_or ends k 0
+    → IsBoundaryAfter pieces at (get_or ends k 0 - base)
 boundary-found {base} {pieces} {ends} {at} k are some within below from =
     let end = are.each k within in
     record {
@@ -76,7 +84,8 @@ boundary-found {base} {pieces} {ends} {at} k are some within below from =
                   | inl some_number ↦
                       let before = below (b.number - 1) l in
                       let its = are.each (b.number - 1) (omega (arith, l, within)) in
-                      let same : begin_of pieces (b.number - 1 + 1) ≡ begin_of pieces b.number = ap (λ n. begin_of pieces n) (omega (arith, some_number)) in
+                      let same : begin_of pieces (b.number - 1 + 1) ≡ begin_of pieces b.number =
+                      ap (λ n. begin_of pieces n) (omega (arith, some_number)) in
                       omega (arith, before, its, same, h, b.place_is)
                   | inr z ↦
                       omega (arith, begin-none pieces b.number (omega (arith, z)), h, b.place_is, some)
@@ -117,17 +126,21 @@ bytes-within pieces k o n within fits =
     ∙ take-append-le n (drop o piece) rest (omega (arith, fits, length-drop o piece))
 
 -- bytes of the piece in which a place lies, from that place on, are next
-pub next-found : {pieces : List (List ℕ)} {k at : ℕ} {bytes : List ℕ} (n : ℕ) → k < length pieces → begin_of pieces k ≤ at → 1 ≤ n → at + n ≤ begin_of pieces (k + 1)
+pub next-found : {pieces : List (List ℕ)} {k at : ℕ} {bytes : List ℕ} (n : ℕ) → k < length pieces
+    → begin_of pieces k ≤ at → 1 ≤ n → at + n ≤ begin_of pieces (k + 1)
     → bytes ≡ take n (drop (at - begin_of pieces k) (get_or pieces k [])) → IsNext pieces at bytes
 next-found {pieces} {k} {at} {bytes} n within begins some ends are =
     let o = at - begin_of pieces k in
     let more = begin-more pieces k within in
     let fits : o + n ≤ length (get_or pieces k []) = omega (arith, begins, ends, more) in
-    let count : length bytes ≡ n = ap length are ∙ length-take-le n (drop o (get_or pieces k [])) (omega (arith, fits, length-drop o (get_or pieces k []))) in
+    let count : length bytes ≡ n =
+    ap length are
+    ∙ length-take-le n (drop o (get_or pieces k [])) (omega (arith, fits, length-drop o (get_or pieces k []))) in
     let place : begin_of pieces k + o ≡ at = omega (arith, begins) in
     record {
       some = omega (arith, some, count);
-      bytes_are = are ∙ sym (bytes-within pieces k o n within fits) ∙ ap (λ i. take n (drop i (framed_bytes pieces))) place ∙ ap (λ m. take m (drop at (framed_bytes pieces))) (sym count);
+      bytes_are = are ∙ sym (bytes-within pieces k o n within fits)
+          ∙ ap (λ i. take n (drop i (framed_bytes pieces))) place ∙ ap (λ m. take m (drop at (framed_bytes pieces))) (sym count);
       one_piece = λ other b h.
           elim (cases_lt k b.number) [
             | inl l ↦ omega (arith, begin-le pieces (k + 1) b.number (omega (arith, l)), b.place_is, ends, count)

@@ -39,7 +39,8 @@ pub slice_words-none : (kind : CodingType) (words : ℕ → ℕ) → slice_words
 unfolding slice_words
 slice_words-none kind words = refl
 
-pub slice_words-more : (kind : CodingType) (words : ℕ → ℕ) (s : ℕ) → slice_words kind words (s + 1) ≡ after_slice kind (slice_words kind words s)
+pub slice_words-more : (kind : CodingType) (words : ℕ → ℕ) (s : ℕ)
+    → slice_words kind words (s + 1) ≡ after_slice kind (slice_words kind words s)
 unfolding slice_words
 slice_words-more kind words s = ap (slice_words kind words) (add-one s)
 
@@ -47,12 +48,15 @@ pub picture_words-none : (words : ℕ → ℕ) → picture_words words 0 ≡ wor
 unfolding picture_words
 picture_words-none words = refl
 
-pub picture_words-more : (words : ℕ → ℕ) (k : ℕ) → picture_words words (k + 1) ≡ slice_words (coding_type (k % 12)) (picture_words words k) 4
+pub picture_words-more : (words : ℕ → ℕ) (k : ℕ)
+    → picture_words words (k + 1) ≡ slice_words (coding_type (k % 12)) (picture_words words k) 4
 unfolding picture_words
 picture_words-more words k = ap (picture_words words) (add-one k)
 
 -- a byte more of a body
-pub body-step : {was : List ℕ} {left : ℕ → ℕ} {d : ℕ} (start : List ℕ) (words : ℕ → ℕ) (i : ℕ) → was ≡ start ++ body_of words i → left ≡ after i words → d ≡ left 0 % 128 → was ++ (128 + d) ∷ [] ≡ start ++ body_of words (i + 1)
+pub body-step : {was : List ℕ} {left : ℕ → ℕ} {d : ℕ} (start : List ℕ) (words : ℕ → ℕ) (i : ℕ)
+    → was ≡ start ++ body_of words i → left ≡ after i words → d ≡ left 0 % 128
+    → was ++ (128 + d) ∷ [] ≡ start ++ body_of words (i + 1)
 body-step {left} {d} start words i bytes rest drawn =
     let byte : d ≡ words i % 128 =
     drawn ∙ ap (λ (w : ℕ → ℕ). w 0 % 128) rest ∙ ap (λ n. n % 128) (after-at i words 0) ∙ ap (λ n. words n % 128) (omega arith) in
@@ -65,7 +69,8 @@ pub after-step : (words left : ℕ → ℕ) (i : ℕ) → left ≡ after i words
 after-step words left i rest = ap (after 1) rest ∙ after-after 1 i words
 
 -- a piece more, which is drawn from what is left
-pub piece-step : (start was : List ℕ) (piece : ℕ → List ℕ) (i : ℕ) → was ≡ start ++ concat piece i → was ++ piece i ≡ start ++ concat piece (i + 1)
+pub piece-step : (start was : List ℕ) (piece : ℕ → List ℕ) (i : ℕ) → was ≡ start ++ concat piece i
+    → was ++ piece i ≡ start ++ concat piece (i + 1)
 piece-step start was piece i bytes =
     ap (λ (l : List ℕ). l ++ piece i) bytes ∙ append_assoc start (concat piece i) (piece i)
     ∙ ap (λ (l : List ℕ). start ++ l) (sym (concat-more piece i))
@@ -75,7 +80,8 @@ pub none-added : (out bytes : List ℕ) → bytes ≡ [] → out ≡ out ++ byte
 none-added out bytes empty = sym (ap (λ (l : List ℕ). out ++ l) empty ∙ append-nil out)
 
 -- a slice's length as the code draws it
-pub body_length-drawn : {least n d : ℕ} (words : ℕ → ℕ) (kind : CodingType) → least ≡ least_body kind → n ≡ body_lengths kind → d ≡ words 0 % n → least + d ≡ body_length words kind
+pub body_length-drawn : {least n d : ℕ} (words : ℕ → ℕ) (kind : CodingType) → least ≡ least_body kind
+    → n ≡ body_lengths kind → d ≡ words 0 % n → least + d ≡ body_length words kind
 unfolding body_length
 body_length-drawn {d} words kind base lengths drawn =
     ap (λ m. m + d) base ∙ ap (λ m. least_body kind + m) (drawn ∙ ap (λ m. words 0 % m) lengths)
@@ -86,7 +92,8 @@ pub record LengthDrawn (words left : ℕ → ℕ) (kind : CodingType) (n : ℕ) 
   pub rest : left ≡ after 1 words
 
 -- a slice: what stands before it, its start code, and its body
-pub slice-step : {out : List ℕ} {words left : ℕ → ℕ} {kind : CodingType} {n : ℕ} (start : List ℕ) (code : ℕ) → LengthDrawn words left kind n → out ≡ (start ++ 0 ∷ 0 ∷ 1 ∷ code ∷ []) ++ body_of left n →
+pub slice-step : {out : List ℕ} {words left : ℕ → ℕ} {kind : CodingType} {n : ℕ} (start : List ℕ) (code : ℕ) →
+    LengthDrawn words left kind n → out ≡ (start ++ 0 ∷ 0 ∷ 1 ∷ code ∷ []) ++ body_of left n →
     out ≡ start ++ slice_of words kind code
 unfolding slice_of
 slice-step {words} {left} {n} start code drawn bytes =
@@ -94,7 +101,8 @@ slice-step {words} {left} {n} start code drawn bytes =
     ∙ ap (λ (w : ℕ → ℕ). start ++ 0 ∷ 0 ∷ 1 ∷ code ∷ body_of w n) drawn.rest
     ∙ ap (λ m. start ++ 0 ∷ 0 ∷ 1 ∷ code ∷ body_of (after 1 words) m) drawn.length
 
-pub after_slice-step : {words left end : ℕ → ℕ} {kind : CodingType} {n : ℕ} → LengthDrawn words left kind n → end ≡ after n left → end ≡ after_slice kind words
+pub after_slice-step : {words left end : ℕ → ℕ} {kind : CodingType} {n : ℕ} → LengthDrawn words left kind n
+    → end ≡ after n left → end ≡ after_slice kind words
 unfolding after_slice
 after_slice-step {words} {n} drawn last =
     last ∙ ap (after n) drawn.rest ∙ after-after n 1 words ∙ ap (λ m. after (1 + m) words) drawn.length
@@ -119,7 +127,8 @@ film-begins words (suc n) some =
 
 -- fewer pieces stand in front of more
 concat-front : (piece : ℕ → List ℕ) (m d : ℕ) → (rest : List ℕ) × (concat piece (m + d) ≡ concat piece m ++ rest)
-concat-front piece m zero = ([], ap (concat piece) (let same : m + 0 ≡ m = omega arith in same) ∙ sym (append-nil (concat piece m)))
+concat-front piece m zero =
+    ([], ap (concat piece) (let same : m + 0 ≡ m = omega arith in same) ∙ sym (append-nil (concat piece m)))
 concat-front piece m (suc d) =
     let fewer = concat-front piece m d in (
       fewer.0 ++ piece (m + d),

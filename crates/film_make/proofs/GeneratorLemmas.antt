@@ -16,7 +16,8 @@ words_left-rest g i k =
     ap (word_at 4 g.key g.stream) (mod-add-mod (g.word_pos + 1) (2 ^ 68) k ∙ ap (λ n. n % 2 ^ 68) (add_assoc g.word_pos 1 k)) i
 
 -- the words of a number are left at first
-pub words_left-start : (number : ℕ) → words_left (record { key = key_of (seed_of_number number); stream = 0; word_pos = 0 }) ≡ words_of number
+pub words_left-start : (number : ℕ)
+    → words_left (record { key = key_of (seed_of_number number); stream = 0; word_pos = 0 }) ≡ words_of number
 unfolding words_left words_of
 words_left-start number i k =
     let same : (0 + k) % 2 ^ 68 ≡ k % 2 ^ 68 = ap (λ n. n % 2 ^ 68) (omega arith) in

@@ -37,12 +37,15 @@ unfolding body_length
 bidirectional-body words = record { low = omega arith; high = omega arith }
 
 -- four slices
-slices-length : (words : ℕ → ℕ) (kind : CodingType) (least most : ℕ) → ((w : ℕ → ℕ) → HasBounds least most (body_length w kind)) → HasBounds (4 * (4 + least)) (4 * (4 + most)) (length (slices_of words kind 4))
+slices-length : (words : ℕ → ℕ) (kind : CodingType) (least most : ℕ)
+    → ((w : ℕ → ℕ) → HasBounds least most (body_length w kind))
+    → HasBounds (4 * (4 + least)) (4 * (4 + most)) (length (slices_of words kind 4))
 unfolding concat
 slices-length words kind least most body =
     let w = slice_words kind words in
     let s : ℕ → List ℕ = λ k. slice_of (w k) kind (k + 1) in
-    let sum : length (s 0 ++ (s 1 ++ (s 2 ++ (s 3 ++ [])))) ≡ length (s 0) + (length (s 1) + (length (s 2) + (length (s 3) + 0))) =
+    let sum : length (s 0 ++ (s 1 ++ (s 2 ++ (s 3 ++ []))))
+    ≡ length (s 0) + (length (s 1) + (length (s 2) + (length (s 3) + 0))) =
     length-append (s 0) (s 1 ++ (s 2 ++ (s 3 ++ [])))
     ∙ ap (λ n. length (s 0) + n) (length-append (s 1) (s 2 ++ (s 3 ++ []))
     ∙ ap (λ n. length (s 1) + n) (length-append (s 2) (s 3 ++ []) ∙ ap (λ n. length (s 2) + n) (length-append (s 3) []))) in
@@ -61,31 +64,46 @@ header-length Intra place = 8
 header-length Predicted place = 9
 header-length Bidirectional place = 9
 
-header-is : (kind : CodingType) (place shown : ℕ) → length (0 ∷ 0 ∷ 1 ∷ 0 ∷ in_bytes (picture_fields kind shown)) ≡ header-length kind place
+header-is : (kind : CodingType) (place shown : ℕ)
+    → length (0 ∷ 0 ∷ 1 ∷ 0 ∷ in_bytes (picture_fields kind shown)) ≡ header-length kind place
 header-is Intra place shown = refl
 header-is Predicted place shown = refl
 header-is Bidirectional place shown = refl
 
 -- a picture is headers, of a known size, and its slices
-pub picture-headers : (words : ℕ → ℕ) (k : ℕ) → (headers : List ℕ) × ((picture_of words k ≡ headers ++ slices_of words (coding_type (k % 12)) 4)
+pub picture-headers : (words : ℕ → ℕ) (k : ℕ)
+    → (headers : List ℕ) × ((picture_of words k ≡ headers ++ slices_of words (coding_type (k % 12)) 4)
     × (length headers ≡ length (cond (eqb (k % 12) 0) sequence_and_group []) + header-length (coding_type (k % 12)) k))
 unfolding picture_of picture_header
 picture-headers words k =
     let front : List ℕ = cond (eqb (k % 12) 0) sequence_and_group [] in
-    let header : List ℕ = 0 ∷ 0 ∷ 1 ∷ 0 ∷ in_bytes (picture_fields (coding_type (k % 12)) (temporal_reference (k % 12))) in
-    (front ++ header, (refl, length-append front header ∙ ap (λ n. length front + n) (header-is (coding_type (k % 12)) k (temporal_reference (k % 12)))))
+    let header : List ℕ = 0 ∷ 0 ∷ 1 ∷ 0 ∷ in_bytes (picture_fields (coding_type (k % 12)) (temporal_reference (k % 12))) in (
+      front ++ header,
+      (
+        refl,
+        length-append front header
+            ∙ ap (λ n. length front + n) (header-is (coding_type (k % 12)) k (temporal_reference (k % 12))),
+      ),
+    )
 
-picture-length : (words : ℕ → ℕ) (k : ℕ) → length (picture_of words k) ≡ length (cond (eqb (k % 12) 0) sequence_and_group []) + header-length (coding_type (k % 12)) k + length (slices_of words (coding_type (k % 12)) 4)
+picture-length : (words : ℕ → ℕ) (k : ℕ)
+    → length (picture_of words k)
+    ≡ length (cond (eqb (k % 12) 0) sequence_and_group []) + header-length (coding_type (k % 12)) k
+    + length (slices_of words (coding_type (k % 12)) 4)
 picture-length words k =
     let parts = picture-headers words k in
-    ap (λ (l : List ℕ). length l) parts.1.0 ∙ length-append parts.0 (slices_of words (coding_type (k % 12)) 4) ∙ ap (λ n. n + length (slices_of words (coding_type (k % 12)) 4)) parts.1.1
+    ap (λ (l : List ℕ). length l) parts.1.0 ∙ length-append parts.0 (slices_of words (coding_type (k % 12)) 4)
+    ∙ ap (λ n. n + length (slices_of words (coding_type (k % 12)) 4)) parts.1.1
 
-sized : {least most front : ℕ} {kind : CodingType} (words : ℕ → ℕ) (k : ℕ) → coding_type (k % 12) ≡ kind → length (cond (eqb (k % 12) 0) sequence_and_group []) ≡ front → ((w : ℕ → ℕ) → HasBounds least most (body_length w kind)) →
-    (front + header-length kind k + 4 * (4 + least) ≤ length (picture_of words k)) × (length (picture_of words k) ≤ front + header-length kind k + 4 * (4 + most))
+sized : {least most front : ℕ} {kind : CodingType} (words : ℕ → ℕ) (k : ℕ) → coding_type (k % 12) ≡ kind →
+    length (cond (eqb (k % 12) 0) sequence_and_group []) ≡ front → ((w : ℕ → ℕ) → HasBounds least most (body_length w kind)) →
+    (front + header-length kind k + 4 * (4 + least) ≤ length (picture_of words k))
+    × (length (picture_of words k) ≤ front + header-length kind k + 4 * (4 + most))
 sized {least} {most} {front} {kind} words k is headers body =
     let slices = slices-length words kind least most body in
     let whole : length (picture_of words k) ≡ front + header-length kind k + length (slices_of words kind 4) =
-    picture-length words k ∙ ap (λ n. n + header-length (coding_type (k % 12)) k + length (slices_of words (coding_type (k % 12)) 4)) headers
+    picture-length words k
+    ∙ ap (λ n. n + header-length (coding_type (k % 12)) k + length (slices_of words (coding_type (k % 12)) 4)) headers
     ∙ ap (λ (c : CodingType). front + header-length c k + length (slices_of words c 4)) is in
     (omega (arith, whole, slices.low), omega (arith, whole, slices.high))
 
@@ -111,11 +129,14 @@ front-first j e = ap (λ b. length (cond b sequence_and_group [])) (eq-eqb j 0 e
 pub front-other : (j : ℕ) → 0 < j → length (cond (eqb j 0) sequence_and_group []) ≡ 0
 front-other j some = ap (λ b. length (cond b sequence_and_group [])) (ne_eqb j 0 (λ e. omega (arith, e, some)))
 
-pub intra-size : (words : ℕ → ℕ) (k : ℕ) → k % 12 ≡ 0 → (28 + 4 * (4 + 300) ≤ length (picture_of words k)) × (length (picture_of words k) ≤ 28 + 4 * (4 + 1499))
+pub intra-size : (words : ℕ → ℕ) (k : ℕ) → k % 12 ≡ 0
+    → (28 + 4 * (4 + 300) ≤ length (picture_of words k)) × (length (picture_of words k) ≤ 28 + 4 * (4 + 1499))
 intra-size words k first = sized words k (kind-first (k % 12) first) (front-first (k % 12) first) intra-body
 
-pub predicted-size : (words : ℕ → ℕ) (k : ℕ) → k % 12 % 2 ≡ 1 → (9 + 4 * (4 + 60) ≤ length (picture_of words k)) × (length (picture_of words k) ≤ 9 + 4 * (4 + 459))
+pub predicted-size : (words : ℕ → ℕ) (k : ℕ) → k % 12 % 2 ≡ 1
+    → (9 + 4 * (4 + 60) ≤ length (picture_of words k)) × (length (picture_of words k) ≤ 9 + 4 * (4 + 459))
 predicted-size words k odd = sized words k (kind-odd (k % 12) odd) (front-other (k % 12) (omega (arith, odd))) predicted-body
 
-pub bidirectional-size : (words : ℕ → ℕ) (k : ℕ) → 0 < k % 12 → k % 12 % 2 ≡ 0 → (9 + 4 * (4 + 30) ≤ length (picture_of words k)) × (length (picture_of words k) ≤ 9 + 4 * (4 + 229))
+pub bidirectional-size : (words : ℕ → ℕ) (k : ℕ) → 0 < k % 12 → k % 12 % 2 ≡ 0
+    → (9 + 4 * (4 + 30) ≤ length (picture_of words k)) × (length (picture_of words k) ≤ 9 + 4 * (4 + 229))
 bidirectional-size words k some even = sized words k (kind-even (k % 12) some even) (front-other (k % 12) some) bidirectional-body

@@ -13,7 +13,8 @@ use Rattle.film_make.proofs.SizeLemmas.{front-first, front-other, header-length,
 body-is : (words : ℕ → ℕ) (n : ℕ) → IsBody (body_of words n)
 unfolding body_of
 body-is words n =
-    All-map (λ byte. (128 ≤ byte) × (byte ≤ 255)) (λ (i : ℕ). 128 + words i % 128) (range_with_len 0 n) (λ k d lt. (omega arith, omega arith))
+    All-map (λ byte. (128 ≤ byte) × (byte ≤ 255)) (λ (i : ℕ). 128 + words i % 128) (range_with_len 0 n)
+    (λ k d lt. (omega arith, omega arith))
 
 slices-are : (words : ℕ → ℕ) (kind : CodingType) → AreSlices 4 1 (slices_of words kind 4)
 unfolding concat slice_of
@@ -62,14 +63,18 @@ headers-first k j first =
 headers-other : (k j : ℕ) → 0 < j → length (cond (eqb j 0) sequence_and_group []) + header-length (coding_type j) k ≡ 9
 headers-other k j some = elim (cases_lt (j % 2) 1) [
   | inl even ↦
-      let kind : header-length (coding_type j) k ≡ 9 = ap (λ (c : CodingType). header-length c k) (kind-even j some (omega (arith, even))) in
+      let kind : header-length (coding_type j) k ≡ 9 =
+      ap (λ (c : CodingType). header-length c k) (kind-even j some (omega (arith, even))) in
       omega (arith, front-other j some, kind)
   | inr odd ↦
-      let kind : header-length (coding_type j) k ≡ 9 = ap (λ (c : CodingType). header-length c k) (kind-odd j (omega (arith, odd))) in
+      let kind : header-length (coding_type j) k ≡ 9 =
+      ap (λ (c : CodingType). header-length c k) (kind-odd j (omega (arith, odd))) in
       omega (arith, front-other j some, kind)
 ]
 
-ends-with : (words : ℕ → ℕ) (k : ℕ) → EndsWithSlices (length (cond (eqb (k % 12) 0) sequence_and_group []) + header-length (coding_type (k % 12)) k) 4 (picture_of words k)
+ends-with : (words : ℕ → ℕ) (k : ℕ)
+    → EndsWithSlices
+    (length (cond (eqb (k % 12) 0) sequence_and_group []) + header-length (coding_type (k % 12)) k) 4 (picture_of words k)
 ends-with words k =
     let parts = picture-headers words k in
     record {
@@ -81,7 +86,9 @@ ends-with words k =
     }
 
 pub first-slices : (words : ℕ → ℕ) (k : ℕ) → k % 12 ≡ 0 → EndsWithSlices 28 4 (picture_of words k)
-first-slices words k first = subst (λ n. EndsWithSlices n 4 (picture_of words k)) (headers-first k (k % 12) first) (ends-with words k)
+first-slices words k first =
+    subst (λ n. EndsWithSlices n 4 (picture_of words k)) (headers-first k (k % 12) first) (ends-with words k)
 
 pub other-slices : (words : ℕ → ℕ) (k : ℕ) → k % 12 ≢ 0 → EndsWithSlices 9 4 (picture_of words k)
-other-slices words k other = subst (λ n. EndsWithSlices n 4 (picture_of words k)) (headers-other k (k % 12) (omega (arith, other))) (ends-with words k)
+other-slices words k other =
+    subst (λ n. EndsWithSlices n 4 (picture_of words k)) (headers-other k (k % 12) (omega (arith, other))) (ends-with words k)

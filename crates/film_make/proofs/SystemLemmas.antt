@@ -28,7 +28,8 @@ abbrev elements : List ℕ → ℕ → ℕ → List Element
 elements video i zero = []
 elements video i (suc n) = PackHeader 0 0 1 ∷ packet (piece video i) ∷ elements video (i + 1) n
 
-pack-bytes : (bytes : List ℕ) → length bytes ≤ 2000 → pack_of bytes ≡ element_bytes (PackHeader 0 0 1) ++ element_bytes (packet bytes)
+pack-bytes : (bytes : List ℕ) → length bytes ≤ 2000
+    → pack_of bytes ≡ element_bytes (PackHeader 0 0 1) ++ element_bytes (packet bytes)
 pack-bytes bytes few =
     let high : (length bytes + 1) / 256 ^ 1 % 256 ≡ length (15 ∷ bytes) / 256 = omega (arith, few) in
     let low : (length bytes + 1) % 256 ≡ length (15 ∷ bytes) % 256 = omega arith in
@@ -38,12 +39,14 @@ pack-bytes bytes few =
 piece-few : (video : List ℕ) (i : ℕ) → length (piece video i) ≤ 2000
 piece-few video i = omega (arith, length-take 2000 (drop (2000 * i) video))
 
-packs-bytes : (video : List ℕ) (i n : ℕ) → flat_map (λ k. pack_of (piece video k)) (range_with_len i n) ≡ stream_bytes (elements video i n)
+packs-bytes : (video : List ℕ) (i n : ℕ)
+    → flat_map (λ k. pack_of (piece video k)) (range_with_len i n) ≡ stream_bytes (elements video i n)
 packs-bytes video i zero = refl
 packs-bytes video i (suc n) =
     let pack = element_bytes (PackHeader 0 0 1) in
     let own = element_bytes (packet (piece video i)) in
-    ap (λ (l : List ℕ). l ++ flat_map (λ k. pack_of (piece video k)) (range_with_len (i + 1) n)) (pack-bytes (piece video i) (piece-few video i))
+    ap (λ (l : List ℕ). l ++ flat_map (λ k. pack_of (piece video k)) (range_with_len (i + 1) n))
+    (pack-bytes (piece video i) (piece-few video i))
     ∙ ap (λ (l : List ℕ). (pack ++ own) ++ l) (packs-bytes video (i + 1) n)
     ∙ append_assoc pack own (stream_bytes (elements video (i + 1) n))
 
@@ -52,7 +55,14 @@ are-elements video i zero = tt
 are-elements video i (suc n) = (
   (omega arith, omega arith),
   (
-    record { stream_fits = omega arith; few = omega arith; buffer_fits = tt; stamps_fit = tt; long = omega (arith, piece-few video i) },
+    record {
+      stream_fits = omega arith;
+      few = omega arith;
+      buffer_fits = tt;
+      stamps_fit = tt;
+      long =
+          omega (arith, piece-few video i);
+    },
     are-elements video (i + 1) n,
   ),
 )
@@ -68,7 +78,8 @@ videos : (video : List ℕ) (i n : ℕ) → video_of_stream 0 (elements video i 
 videos video i zero = refl
 videos video i (suc n) =
     let further : drop (2000 * (i + 1)) video ≡ drop 2000 (drop (2000 * i) video) =
-    ap (λ m. drop m video) (let same : 2000 * (i + 1) ≡ 2000 * i + 2000 = omega arith in same) ∙ sym (drop-drop 2000 (2000 * i) video) in
+    ap (λ m. drop m video) (let same : 2000 * (i + 1) ≡ 2000 * i + 2000 = omega arith in same)
+    ∙ sym (drop-drop 2000 (2000 * i) video) in
     ap (λ (l : List ℕ). piece video i ++ l) (videos video (i + 1) n ∙ ap (take (2000 * n)) further)
     ∙ take-parts 2000 (2000 * n) (drop (2000 * i) video)
     ∙ ap (λ m. take m (drop (2000 * i) video)) (let same : 2000 + 2000 * n ≡ 2000 * suc n = omega arith in same)
@@ -90,4 +101,5 @@ unwraps video =
     let tail : List ℕ = 0 ∷ 0 ∷ 1 ∷ 0xb9 ∷ [] in
     let is = stream_read (elements video 0 n) tail (are-elements video 0 n) (inr ([], refl)) in
     subst (λ (v : List ℕ). IsSystem (system_of video) v) (all-video video)
-    (subst (λ (b : List ℕ). IsSystem b (first_video (elements video 0 n))) (ap (λ (l : List ℕ). l ++ tail) (sym (packs-bytes video 0 n))) is)
+    (subst (λ (b : List ℕ). IsSystem b (first_video (elements video 0 n)))
+    (ap (λ (l : List ℕ). l ++ tail) (sym (packs-bytes video 0 n))) is)

@@ -20,21 +20,29 @@ pub trace_size-range : (words : ℕ → ℕ) (k : ℕ) → (200 ≤ trace_size w
 unfolding trace_size
 trace_size-range words k = scaled (eqb (k % 12) 0) (words k)
 
-pub trace_size-drawn : (words left : ℕ → ℕ) (k : ℕ) → left ≡ after k words → cond (eqb (k % 12) 0) 4 1 * (200 + left 0 % 1800) ≡ trace_size words k
+pub trace_size-drawn : (words left : ℕ → ℕ) (k : ℕ) → left ≡ after k words
+    → cond (eqb (k % 12) 0) 4 1 * (200 + left 0 % 1800) ≡ trace_size words k
 unfolding trace_size
 trace_size-drawn words left k rest =
     let same : k + 0 ≡ k = omega arith in
     ap (λ n. cond (eqb (k % 12) 0) 4 1 * (200 + n % 1800)) (ap (λ (w : ℕ → ℕ). w 0) rest ∙ after-at k words 0 ∙ ap words same)
 
 -- a line more
-pub line-step : {was : List ℕ} {left : ℕ → ℕ} {size : ℕ} (words : ℕ → ℕ) (k : ℕ) → was ≡ concat (λ n. decimal (trace_size words n) ++ 10 ∷ []) k → left ≡ after k words → size ≡ cond (eqb (k % 12) 0) 4 1 * (200 + left 0 % 1800) → was ++ (decimal size ++ 10 ∷ []) ≡ concat (λ n. decimal (trace_size words n) ++ 10 ∷ []) (k + 1)
+pub line-step : {was : List ℕ} {left : ℕ → ℕ} {size : ℕ} (words : ℕ → ℕ) (k : ℕ)
+    → was ≡ concat (λ n. decimal (trace_size words n) ++ 10 ∷ []) k → left ≡ after k words
+    → size ≡ cond (eqb (k % 12) 0) 4 1 * (200 + left 0 % 1800)
+    → was ++ (decimal size ++ 10 ∷ []) ≡ concat (λ n. decimal (trace_size words n) ++ 10 ∷ []) (k + 1)
 line-step {left} {size} words k lines rest drawn =
     ap (λ (l : List ℕ). l ++ (decimal size ++ 10 ∷ [])) lines
-    ∙ ap (λ n. concat (λ n. decimal (trace_size words n) ++ 10 ∷ []) k ++ (decimal n ++ 10 ∷ [])) (drawn ∙ trace_size-drawn words left k rest)
+    ∙ ap (λ n. concat (λ n. decimal (trace_size words n) ++ 10 ∷ []) k ++ (decimal n ++ 10 ∷ []))
+    (drawn ∙ trace_size-drawn words left k rest)
     ∙ sym (concat-more (λ n. decimal (trace_size words n) ++ 10 ∷ []) k)
 
 -- a size more
-pub size-step : {was : List ℕ} {left : ℕ → ℕ} {size : ℕ} (words : ℕ → ℕ) (k : ℕ) → was ≡ map (trace_size words) (range_with_len 0 k) → left ≡ after k words → size ≡ cond (eqb (k % 12) 0) 4 1 * (200 + left 0 % 1800) → was ++ size ∷ [] ≡ map (trace_size words) (range_with_len 0 (k + 1))
+pub size-step : {was : List ℕ} {left : ℕ → ℕ} {size : ℕ} (words : ℕ → ℕ) (k : ℕ)
+    → was ≡ map (trace_size words) (range_with_len 0 k) → left ≡ after k words
+    → size ≡ cond (eqb (k % 12) 0) 4 1 * (200 + left 0 % 1800)
+    → was ++ size ∷ [] ≡ map (trace_size words) (range_with_len 0 (k + 1))
 size-step {left} {size} words k sizes rest drawn =
     ap (λ (l : List ℕ). l ++ size ∷ []) sizes
     ∙ ap (λ n. map (trace_size words) (range_with_len 0 k) ++ n ∷ []) (drawn ∙ trace_size-drawn words left k rest)
@@ -69,7 +77,9 @@ sizes-count words n = length-map-range_with_len (trace_size words) 0 n
 pub sizes-front : (words : ℕ → ℕ) (m n : ℕ) → m ≤ n → take m (sizes_of words n) ≡ sizes_of words m
 sizes-front words m n few = take-map-range_with_len (trace_size words) 0 n m few
 
-lines-from : (words : ℕ → ℕ) (a n : ℕ) → flat_map (λ k. decimal (trace_size words k) ++ 10 ∷ []) (range_with_len a n) ≡ flat_map (λ size. decimal size ++ 10 ∷ []) (map (trace_size words) (range_with_len a n))
+lines-from : (words : ℕ → ℕ) (a n : ℕ)
+    → flat_map (λ k. decimal (trace_size words k) ++ 10 ∷ []) (range_with_len a n)
+    ≡ flat_map (λ size. decimal size ++ 10 ∷ []) (map (trace_size words) (range_with_len a n))
 lines-from words a zero = refl
 lines-from words a (suc n) = ap (λ (l : List ℕ). (decimal (trace_size words a) ++ 10 ∷ []) ++ l) (lines-from words (a + 1) n)
 

@@ -25,7 +25,12 @@ same-boundaries {place} part one other b =
     let c = run-begin {film = film} first end other b_run b.number (record { view = refl; order = order; within = within }) in
     record {
       number = b.number;
-      among = omega (arith, b.among, blocks_from-count a_run 0 0 (pieces_in a_run), blocks_from-count b_run 0 0 (pieces_in b_run));
+      among = omega (
+        arith,
+        b.among,
+        blocks_from-count a_run 0 0 (pieces_in a_run),
+        blocks_from-count b_run 0 0 (pieces_in b_run),
+      );
       place_is = b.place_is ∙ a ∙ sym c;
     }
   where

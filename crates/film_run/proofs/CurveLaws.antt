@@ -48,13 +48,18 @@ limits {sizes} {playback} {run} plays is fits few small =
     }
 
 -- the curves as lists
-pub low-is : (sizes : List ℕ) (timing : Timing) (curves : Curves) → AreFilmCurves sizes timing curves → curves.low.items ≡ low_curve sizes timing
-low-is sizes timing curves are = fill_by_all (low_at sizes timing) curves.low.items (slot_count sizes timing) 0 are.low_slots are.low_is
+pub low-is : (sizes : List ℕ) (timing : Timing) (curves : Curves) → AreFilmCurves sizes timing curves
+    → curves.low.items ≡ low_curve sizes timing
+low-is sizes timing curves are =
+    fill_by_all (low_at sizes timing) curves.low.items (slot_count sizes timing) 0 are.low_slots are.low_is
 
-pub up-is : (sizes : List ℕ) (timing : Timing) (curves : Curves) → AreFilmCurves sizes timing curves → curves.up.items ≡ up_curve sizes timing
-up-is sizes timing curves are = fill_by_all (up_at sizes timing) curves.up.items (slot_count sizes timing) 0 are.up_slots are.up_is
+pub up-is : (sizes : List ℕ) (timing : Timing) (curves : Curves) → AreFilmCurves sizes timing curves
+    → curves.up.items ≡ up_curve sizes timing
+up-is sizes timing curves are =
+    fill_by_all (up_at sizes timing) curves.up.items (slot_count sizes timing) 0 are.up_slots are.up_is
 
-pub taut-for : {sizes : List ℕ} {timing : Timing} {curves : Curves} {plan : List Segment} → IsAccepted sizes timing → AreFilmCurves sizes timing curves
+pub taut-for : {sizes : List ℕ} {timing : Timing} {curves : Curves} {plan : List Segment}
+    → IsAccepted sizes timing → AreFilmCurves sizes timing curves
     → IsTaut curves.from curves.low.items curves.up.items plan → IsTautFor sizes timing plan
 taut-for {sizes} {timing} {curves} {plan} ok are taut = record {
   accepted = ok;
@@ -65,21 +70,26 @@ taut-for {sizes} {timing} {curves} {plan} ok are taut = record {
 }
 
 -- the same of equal pictures and times
-pub taut-for-both : {sizes rest : List ℕ} {timing its : Timing} {curves : Curves} {plan : List Segment} → sizes ≡ rest → timing ≡ its
-    → IsAccepted sizes timing → AreFilmCurves sizes timing curves → IsTaut curves.from curves.low.items curves.up.items plan → IsTautFor rest its plan
+pub taut-for-both : {sizes rest : List ℕ} {timing its : Timing} {curves : Curves} {plan : List Segment}
+    → sizes ≡ rest → timing ≡ its
+    → IsAccepted sizes timing → AreFilmCurves sizes timing curves
+    → IsTaut curves.from curves.low.items curves.up.items plan → IsTautFor rest its plan
 taut-for-both {rest} {timing} {plan} same_sizes same_timing ok are taut =
     subst (λ t. IsTautFor rest t plan) same_timing
     (subst (λ l. IsTautFor l timing plan) same_sizes (taut-for ok are taut))
 
-pub limits-both : {sizes rest : List ℕ} {timing its : Timing} → sizes ≡ rest → timing ≡ its → IsWithinLimits rest its → IsWithinLimits sizes timing
+pub limits-both : {sizes rest : List ℕ} {timing its : Timing} → sizes ≡ rest → timing ≡ its
+    → IsWithinLimits rest its → IsWithinLimits sizes timing
 limits-both {rest} {timing} same_sizes same_timing within =
     subst (λ l. IsWithinLimits l timing) (sym same_sizes) (subst (λ t. IsWithinLimits rest t) (sym same_timing) within)
 
 -- the curves' numbers
-pub low-at-slot : (sizes : List ℕ) (timing : Timing) (t : ℕ) → t < slot_count sizes timing → get_or (low_curve sizes timing) t 0 ≡ low_at sizes timing t
+pub low-at-slot : (sizes : List ℕ) (timing : Timing) (t : ℕ) → t < slot_count sizes timing
+    → get_or (low_curve sizes timing) t 0 ≡ low_at sizes timing t
 low-at-slot sizes timing t lt = get_or-map-range_with_len (low_at sizes timing) 0 (slot_count sizes timing) t t 0 lt (omega arith)
 
-pub up-at-slot : (sizes : List ℕ) (timing : Timing) (t : ℕ) → t < slot_count sizes timing → get_or (up_curve sizes timing) t 0 ≡ up_at sizes timing t
+pub up-at-slot : (sizes : List ℕ) (timing : Timing) (t : ℕ) → t < slot_count sizes timing
+    → get_or (up_curve sizes timing) t 0 ≡ up_at sizes timing t
 up-at-slot sizes timing t lt = get_or-map-range_with_len (up_at sizes timing) 0 (slot_count sizes timing) t t 0 lt (omega arith)
 
 pub low-slots : (sizes : List ℕ) (timing : Timing) → length (low_curve sizes timing) ≡ slot_count sizes timing
@@ -94,7 +104,8 @@ up-end : (sizes : List ℕ) (timing : Timing) → IsWithinLimits sizes timing �
 up-end sizes timing limits ok =
     let n = slot_count sizes timing in
     let last : n - 1 + 1 ≡ n = omega arith in
-    let all : used_before sizes timing (n - 1 + 1) ≡ total_of sizes timing = ap (used_before sizes timing) last ∙ used_before-all sizes timing limits.some_slot_units ok.some_picture in
+    let all : used_before sizes timing (n - 1 + 1) ≡ total_of sizes timing =
+    ap (used_before sizes timing) last ∙ used_before-all sizes timing limits.some_slot_units ok.some_picture in
     let more = used_before-more sizes timing (n - 1) in
     let place = ap (λ m. get_or (up_curve sizes timing) (m - 1) 0) (up-slots sizes timing) in
     let value = up-at-slot sizes timing (n - 1) (omega arith) in
@@ -106,7 +117,8 @@ low-end : (sizes : List ℕ) (timing : Timing) → IsWithinLimits sizes timing �
 low-end sizes timing limits ok =
     let n = slot_count sizes timing in
     let last : n - 1 + 1 ≡ n = omega arith in
-    let all : used_before sizes timing (n - 1 + 1) ≡ total_of sizes timing = ap (used_before sizes timing) last ∙ used_before-all sizes timing limits.some_slot_units ok.some_picture in
+    let all : used_before sizes timing (n - 1 + 1) ≡ total_of sizes timing =
+    ap (used_before sizes timing) last ∙ used_before-all sizes timing limits.some_slot_units ok.some_picture in
     let place = ap (λ m. get_or (low_curve sizes timing) (m - 1) 0) (low-slots sizes timing) in
     let value = low-at-slot sizes timing (n - 1) (omega arith) in
     omega (arith, all, place, value, limits.sent_of_total)
@@ -120,16 +132,23 @@ best-of sizes timing plan limits is =
     let up_last = up-end sizes timing limits is.accepted in
     let place = ap (λ m. get_or (up_curve sizes timing) (m - 1) 0) (low_slots ∙ sym up_slots) in
     best timing.sent (low_curve sizes timing) (up_curve sizes timing) plan
-    (record { some_slot = omega (arith, low_slots); same_length = up_slots ∙ sym low_slots; meet = low_last ∙ sym up_last ∙ sym place }) is.taut
+    (record {
+      some_slot = omega (arith, low_slots);
+      same_length = up_slots ∙ sym low_slots;
+      meet =
+          low_last ∙ sym up_last ∙ sym place;
+    }) is.taut
 
 -- what the plan of pictures keeps to, slot by slot
 pub record KeepsTo (sizes : List ℕ) (timing : Timing) (plan : List Segment) : Type 0 where
   pub slots : total_slots plan ≡ slot_count sizes timing
   pub bytes : timing.sent + total_bytes plan ≡ total_of sizes timing
   pub above : (t : ℕ) → t < slot_count sizes timing → used_before sizes timing (t + 1) ≤ timing.sent + sum_through plan t
-  pub below : (t : ℕ) → t < slot_count sizes timing → timing.sent + sum_through plan t ≤ used_before sizes timing t + timing.buffer
+  pub below : (t : ℕ) → t < slot_count sizes timing
+      → timing.sent + sum_through plan t ≤ used_before sizes timing t + timing.buffer
 
-pub keeps-to : (sizes : List ℕ) (timing : Timing) (plan : List Segment) → IsWithinLimits sizes timing → IsTautFor sizes timing plan
+pub keeps-to : (sizes : List ℕ) (timing : Timing) (plan : List Segment) → IsWithinLimits sizes timing
+    → IsTautFor sizes timing plan
     → KeepsTo sizes timing plan
 keeps-to sizes timing plan limits is =
     let good = best-of sizes timing plan limits is in

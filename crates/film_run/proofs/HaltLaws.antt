@@ -27,7 +27,8 @@ pub record StopsWithin (plan : List Segment) (last : Option ℕ) (keep stop : �
   pub inside : stop < total_slots plan
 
 -- what was played was sent
-pub stop-ahead : {sizes : List ℕ} {timing : Timing} {plan : List Segment} {stop : ℕ} (last : Option ℕ) (keep : ℕ) → IsWithinLimits sizes timing
+pub stop-ahead : {sizes : List ℕ} {timing : Timing} {plan : List Segment} {stop : ℕ} (last : Option ℕ)
+    (keep : ℕ) → IsWithinLimits sizes timing
     → KeepsTo sizes timing plan → StopsWithin plan last keep stop
     → used_before sizes timing stop ≤ timing.sent + keep
 stop-ahead {sizes} {timing} {stop} None keep limits keeps stops =
@@ -42,7 +43,8 @@ stop-ahead {sizes} {timing} {plan} {stop} (Some last) keep limits keeps stops =
           let t = stop - 1 in
           let back : t + 1 ≡ stop = omega arith in
           let above : used_before sizes timing stop ≤ timing.sent + sum_through plan t =
-          subst (λ u. used_before sizes timing u ≤ timing.sent + sum_through plan t) back (keeps.above t (omega (arith, keeps.slots))) in
+          subst (λ u. used_before sizes timing u ≤ timing.sent + sum_through plan t) back
+          (keeps.above t (omega (arith, keeps.slots))) in
           elim (cases_lt t is.0) [
             | inl before ↦ let less = is.1.0.not_before t before in omega arith
             | inr from ↦ let rises = sum_through_rises plan t last (omega (arith, is.1.1)) in omega (arith, halt.1)
@@ -53,7 +55,8 @@ stop-ahead {sizes} {timing} {plan} {stop} (Some last) keep limits keeps stops =
     ]
 
 -- what was sent and isn't played fits in the buffer
-pub stop-fits : {sizes : List ℕ} {timing : Timing} {plan : List Segment} {stop : ℕ} (last : Option ℕ) (keep : ℕ) → IsWithinLimits sizes timing
+pub stop-fits : {sizes : List ℕ} {timing : Timing} {plan : List Segment} {stop : ℕ} (last : Option ℕ) (keep : ℕ)
+    → IsWithinLimits sizes timing
     → KeepsTo sizes timing plan → StopsWithin plan last keep stop
     → timing.sent + keep ≤ used_before sizes timing stop + timing.buffer
 stop-fits {sizes} {timing} {stop} None keep limits keeps stops =
@@ -67,7 +70,8 @@ stop-fits {plan} {stop} (Some last) keep limits keeps stops =
     omega (arith, is.1.0.reached)
 
 -- a run's play is halted
-pub record IsHalting (sizes : List ℕ) (playback : Playback) (run : Run) (plan : List Segment) (last : Option ℕ) (keep : ℕ) : Type 0 where
+pub record IsHalting (sizes : List ℕ) (playback : Playback) (run : Run) (plan : List Segment) (last : Option ℕ)
+    (keep : ℕ) : Type 0 where
   pub plays : IsPlayback playback
   pub is : IsRun sizes run
   pub fits : Fits playback.buffer run
@@ -154,7 +158,8 @@ played-by {sizes} {playback} {run} {from} {stop} plays is played =
 -- what is left is a run
 pub left-run : {sizes : List ℕ} {playback : Playback} {run left : Run} {plan : List Segment} {last : Option ℕ}
     {keep : ℕ}
-    → IsHalting sizes playback run plan last keep → (its : IsLeft sizes playback run plan last keep left) → its.stop < total_slots plan
+    → IsHalting sizes playback run plan last keep → (its : IsLeft sizes playback run plan last keep left)
+    → its.stop < total_slots plan
     → left.from_unit < run.end_unit → IsRun sizes left × Fits playback.buffer left
 left-run {sizes} {playback} {run} {left} {plan} {last} {keep} h its inside rest =
     let stops : StopsWithin plan last keep its.stop = record { halt = h.halt; stop_is = its.stop_is; inside = inside } in

@@ -24,7 +24,8 @@ reaches-once plan bytes one other is its =
     ]
 
 -- there is one slot of the stop
-pub stop-one : {one other : ℕ} (plan : List Segment) (last : Option ℕ) (keep : ℕ) → IsStop plan last keep one → IsStop plan last keep other → one ≡ other
+pub stop-one : {one other : ℕ} (plan : List Segment) (last : Option ℕ) (keep : ℕ) → IsStop plan last keep one
+    → IsStop plan last keep other → one ≡ other
 stop-one {one} {other} plan None keep is its = is ∙ sym its
 stop-one {one} {other} plan (Some last) keep is its =
     let below = reaches-once plan keep is.0 its.0 is.1.0 its.1.0 in
@@ -33,7 +34,8 @@ stop-one {one} {other} plan (Some last) keep is its =
 
 from-once : {sizes : List ℕ} {playback : Playback} {run left other : Run} {plan : List Segment} {last : Option ℕ}
     {keep : ℕ}
-    → IsLeft sizes playback run plan last keep left → IsLeft sizes playback run plan last keep other → left.from_unit ≤ other.from_unit
+    → IsLeft sizes playback run plan last keep left → IsLeft sizes playback run plan last keep other
+    → left.from_unit ≤ other.from_unit
 from-once {left} {other} {plan} {last} {keep} is its =
     let stops = stop-one plan last keep is.stop_is its.stop_is in
     elim (cases_lt other.from_unit left.from_unit) [
@@ -42,16 +44,19 @@ from-once {left} {other} {plan} {last} {keep} is its =
     ]
 
 abbrev run-with : ℕ → ℕ → ℕ → ℕ → ℕ → Run
-run-with first end from sent played = record { first_unit = first; end_unit = end; from_unit = from; sent = sent; played = played }
+run-with first end from sent played =
+    record { first_unit = first; end_unit = end; from_unit = from; sent = sent; played = played }
 
 run-same : {one other : Run} → one.first_unit ≡ other.first_unit → one.end_unit ≡ other.end_unit → one.from_unit ≡ other.from_unit
     → one.sent ≡ other.sent → one.played ≡ other.played → one ≡ other
 run-same {one} {other} first end from sent played =
-    let a : one ≡ run-with other.first_unit one.end_unit one.from_unit one.sent one.played = ap (λ n. run-with n one.end_unit one.from_unit one.sent one.played) first in
+    let a : one ≡ run-with other.first_unit one.end_unit one.from_unit one.sent one.played =
+    ap (λ n. run-with n one.end_unit one.from_unit one.sent one.played) first in
     let b = ap (λ n. run-with other.first_unit n one.from_unit one.sent one.played) end in
     let c = ap (λ n. run-with other.first_unit other.end_unit n one.sent one.played) from in
     let d = ap (λ n. run-with other.first_unit other.end_unit other.from_unit n one.played) sent in
-    let e : run-with other.first_unit other.end_unit other.from_unit other.sent one.played ≡ other = ap (λ n. run-with other.first_unit other.end_unit other.from_unit other.sent n) played in
+    let e : run-with other.first_unit other.end_unit other.from_unit other.sent one.played ≡ other =
+    ap (λ n. run-with other.first_unit other.end_unit other.from_unit other.sent n) played in
     a ∙ b ∙ c ∙ d ∙ e
 
 pub left-one : {sizes : List ℕ} {playback : Playback} {run left other : Run} {plan : List Segment} {last : Option ℕ} {keep : ℕ}
@@ -94,7 +99,8 @@ halted-plays sizes playback run plan is = λ last keep left halt its.
     let last_place : n - 1 + 1 ≡ n = omega arith in
     let use_at = ap (used_before rest timing) last_place in
     let sum_at = ap (sum_through plan) last_slot in
-    let end : total_bytes plan ≤ sum_through plan (total_slots plan - 1) = omega (arith, above, whole_use, use_at, sum_at, keeps.bytes) in
+    let end : total_bytes plan ≤ sum_through plan (total_slots plan - 1) =
+    omega (arith, above, whole_use, use_at, sum_at, keeps.bytes) in
     let inside = stop-inside plan last keep (record { some = some; end = end }) halt its.stop_is in
     let within : left.from_unit < run.end_unit =
     elim (cases_lt left.from_unit run.end_unit) [

@@ -53,8 +53,10 @@ record Times (from : ℕ) (to : Option ℕ) (run : Run) (units : List PictureUni
   ends : IsEnd units picture_units to run.first_unit run.end_unit
   within : run.end_unit ≤ length units
 
-times-of : {from : ℕ} {to : Option ℕ} {run : Run} {units : List PictureUnit} {picture_units first end : ℕ} → ¬ BeginsBy picture_units from (length units)
-    → IsGroupBy units picture_units from first → IsEnd units picture_units to first end → end ≤ length units → run.first_unit ≡ first → run.end_unit ≡ end
+times-of : {from : ℕ} {to : Option ℕ} {run : Run} {units : List PictureUnit} {picture_units first end : ℕ}
+    → ¬ BeginsBy picture_units from (length units)
+    → IsGroupBy units picture_units from first → IsEnd units picture_units to first end → end ≤ length units
+    → run.first_unit ≡ first → run.end_unit ≡ end
     → Times from to run units picture_units
 times-of {from} {to} {run} {units} {picture_units} {first} {end} rest begins ends within first_is end_is =
     let P : ℕ → Type 0 = λ e. IsEnd units picture_units to first e in
@@ -76,7 +78,8 @@ pub record AsksFor (from : ℕ) (to : Option ℕ) (units : List PictureUnit) (pi
   pub within : end ≤ length units
 
 pub asks_for_run : {film : Film} {from : ℕ} {to : Option ℕ} {run : Run} {units : List PictureUnit} {picture_units first end : ℕ}
-    → units ≡ film.units.items → picture_units ≡ picture_time film.rate → AsksFor from to units picture_units first end → BeginsAt first end run
+    → units ≡ film.units.items → picture_units ≡ picture_time film.rate
+    → AsksFor from to units picture_units first end → BeginsAt first end run
     → IsAsked film from to run
 asks_for_run {film} {from} {to} {run} {picture_units} {first} {end} units_are time_is asks at =
     let first_is = at.first_is in
@@ -85,12 +88,20 @@ asks_for_run {film} {from} {to} {run} {picture_units} {first} {end} units_are ti
     let its = times-of asks.rest asks.begins asks.ends asks.within first_is end_is in
     let of_film : Times from to run film.units.items (picture_time film.rate) =
     subst (λ t. Times from to run film.units.items t) time_is (subst (λ l. Times from to run l picture_units) units_are its) in
-    let count : length (film_sizes film.slice_starts.items film.units.items) ≡ length film.units.items = length-map film.units.items (λ u. wire_size film.slice_starts.items u) in
+    let count : length (film_sizes film.slice_starts.items film.units.items) ≡ length film.units.items =
+    length-map film.units.items (λ u. wire_size film.slice_starts.items u) in
     record {
       some = λ nothing. elim nothing [ inl ended ↦ of_film.rest ended | inr reversed ↦ asks.order reversed ];
       begins = of_film.begins;
       ends = of_film.ends;
       new =
           new-run (omega arith) (omega (arith, of_film.within, count))
-          (record { first_is = refl; end_is = refl; from_is = at.from_is ∙ sym first_is; sent_is = at.sent_is; played_is = at.played_is });
+          (record {
+            first_is = refl;
+            end_is = refl;
+            from_is = at.from_is ∙ sym first_is;
+            sent_is =
+                at.sent_is;
+            played_is = at.played_is;
+          });
     }

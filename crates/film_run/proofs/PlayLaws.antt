@@ -66,15 +66,18 @@ used-most {sizes} {timing} {t} {n} is =
     let some = is.some in
     let fits : n ≤ length sizes = is.fits in
     let unused : t ≤ due_slot timing n = is.unused in
-    let later = λ (k : ℕ) (le : n ≤ k). let rises = due_rises timing n k some le in let h : t ≤ due_slot timing k = omega arith in h in
+    let later = λ (k : ℕ) (le : n ≤ k). let rises =
+    due_rises timing n k some le in let h : t ≤ due_slot timing k = omega arith in h in
     let rest = used-rest sizes timing t n (length sizes - n) later in
     let same : n + (length sizes - n) ≡ length sizes = omega arith in
     let all = ap (λ m. sum_by (used_of sizes timing t) (range_with_len 0 m)) same in
-    let below = sum_by-range-le (used_of sizes timing t) (λ k. get_or sizes k 0) 0 n (λ k l u. cond_le (ltb (due_slot timing k) t) (get_or sizes k 0)) in
+    let below = sum_by-range-le (used_of sizes timing t) (λ k. get_or sizes k 0) 0 n
+    (λ k l u. cond_le (ltb (due_slot timing k) t) (get_or sizes k 0)) in
     omega (arith, rest, all, below, sum_by-range-take sizes n fits)
 
 -- the bytes of a run up to an unplayed unit
-front-bytes : {sizes : List ℕ} {playback : Playback} {run : Run} {plan : List Segment} (end : ℕ) → IsSending sizes playback run plan
+front-bytes : {sizes : List ℕ} {playback : Playback} {run : Run} {plan : List Segment} (end : ℕ)
+    → IsSending sizes playback run plan
     → run.from_unit ≤ end → end ≤ run.end_unit
     → bytes_between sizes run.first_unit end ≡ run.played + sum (take (end - run.from_unit) (rest_sizes sizes run))
 front-bytes {sizes} {run} end is order within =
@@ -94,7 +97,9 @@ sending-in-time sizes playback run plan is = λ unit at.
     let count = length-between sizes run.from_unit run.end_unit is.can_play.run_is.within in
     let range = due_in_range rest timing k some (omega (arith, count, at.from, at.before_end)) in
     let above = (sending-keeps sizes playback run plan is).above (due_slot timing k) range in
-    let its = λ (j : ℕ) (lt : j < k + 1). let rises = due_rises timing j k some (omega arith) in let h : due_slot timing j < due_slot timing k + 1 = omega (arith, rises) in h in
+    let its = λ (j : ℕ) (lt : j < k + 1). let rises =
+    due_rises timing j k some (omega arith) in let h : due_slot timing j < due_slot timing k + 1 =
+    omega (arith, rises) in h in
     let least = used-least rest timing (due_slot timing k + 1) (k + 1) (omega (arith, count, at.from, at.before_end)) its in
     let front = front-bytes (unit + 1) is (omega (arith, at.from)) (omega (arith, at.before_end)) in
     let same : (unit + 1) - run.from_unit ≡ k + 1 = omega (arith, at.from) in
@@ -111,7 +116,8 @@ sending-fits sizes playback run plan is = λ slot unit inside at before.
     let count = length-between sizes run.from_unit run.end_unit is.can_play.run_is.within in
     let keeps = sending-keeps sizes playback run plan is in
     let below = keeps.below slot (omega (arith, keeps.slots)) in
-    let unused : IsUnusedFrom rest timing slot k = record { some = some; fits = omega (arith, count, at.from, at.before_end); unused = before } in
+    let unused : IsUnusedFrom rest timing slot k =
+    record { some = some; fits = omega (arith, count, at.from, at.before_end); unused = before } in
     let most = used-most unused in
     let front = front-bytes unit is at.from (omega (arith, at.before_end)) in
     omega (arith, below, most, front)

@@ -21,7 +21,8 @@ pub record IsFirstGroup (units : List PictureUnit) (place k : ℕ) : Type 0 wher
   pub group : StartsGroup units k ⊎ (k ≡ length units)
   pub least : (other : ℕ) → StartsGroup units other → place ≤ other → k ≤ other
 
-pub group-by : {units : List PictureUnit} {picture_units time begin k : ℕ} → length units ≤ 4194304 → 1 ≤ picture_units → picture_units ≤ 360000
+pub group-by : {units : List PictureUnit} {picture_units time begin k : ℕ} → length units ≤ 4194304
+    → 1 ≤ picture_units → picture_units ≤ 360000
     → IsBefore time begin → IsLastGroup units (begin / picture_units) k → IsGroupBy units picture_units time k
 group-by {picture_units} {begin} {k} few some fits before found =
     let starts = found.starts in
@@ -29,14 +30,17 @@ group-by {picture_units} {begin} {k} few some fits before found =
     let floor = div-mul-le_self begin picture_units in
     record {
       group = starts;
-      by_then = before.by_then (k * picture_units) (begins-small k picture_units (omega (arith, starts.within)) fits) (omega arith);
+      by_then = before.by_then (k * picture_units)
+          (begins-small k picture_units (omega (arith, starts.within)) fits) (omega arith);
       last = λ other its by_then.
           found.greatest other its (le-div other begin picture_units some
           (before.all (other * picture_units) (begins-small other picture_units (omega (arith, its.within)) fits) by_then));
     }
 
-pub group-from : {units : List PictureUnit} {picture_units time end after place k : ℕ} → length units ≤ 4194304 → picture_units ≤ 360000
-    → IsAfter time end → IsPlaceAfter (length units) after end picture_units place → IsFirstGroup units place k → IsGroupFrom units picture_units time after k
+pub group-from : {units : List PictureUnit} {picture_units time end after place k : ℕ} → length units ≤ 4194304
+    → picture_units ≤ 360000
+    → IsAfter time end → IsPlaceAfter (length units) after end picture_units place → IsFirstGroup units place k
+    → IsGroupFrom units picture_units time after k
 group-from {picture_units} {time} {end} {place} {k} few fits later its found = record {
   later = omega (arith, its.later, found.from);
   group = found.group;

@@ -5,7 +5,8 @@ use Rattle.std.proofs.lemmas.List.Sums.{sum_by-take-drop, sum_by-take-le, sum_by
 use Rattle.film_run.specs.Runs.{sizes_between, bytes_between}
 
 -- the units up to one are those up to an earlier one and those between
-pub bytes-front : (sizes : List ℕ) (from end : ℕ) → from ≤ end → sum (take from sizes) + bytes_between sizes from end ≡ sum (take end sizes)
+pub bytes-front : (sizes : List ℕ) (from end : ℕ) → from ≤ end
+    → sum (take from sizes) + bytes_between sizes from end ≡ sum (take end sizes)
 bytes-front sizes from end order =
     let split = sum_by-take-drop (λ x. x) (take end sizes) from in
     let front : sum (take from (take end sizes)) ≡ sum (take from sizes) = ap (λ l. sum l) (take-take from end sizes order) in
@@ -43,7 +44,8 @@ pub length-between : (sizes : List ℕ) (from end : ℕ) → end ≤ length size
 length-between sizes from end within = omega (arith, length-take (end - from) (drop from sizes), length-drop from sizes)
 
 -- the first of the units between
-pub bytes-first : (sizes : List ℕ) (from end n : ℕ) → n ≤ end - from → sum (take n (sizes_between sizes from end)) ≡ bytes_between sizes from (from + n)
+pub bytes-first : (sizes : List ℕ) (from end n : ℕ) → n ≤ end - from
+    → sum (take n (sizes_between sizes from end)) ≡ bytes_between sizes from (from + n)
 bytes-first sizes from end n inside =
     let same : (from + n) - from ≡ n = omega arith in
     ap (λ l. sum l) (take-take n (end - from) (drop from sizes) inside) ∙ ap (λ m. sum (take m (drop from sizes))) (sym same)
@@ -57,4 +59,5 @@ between-more sizes from end order within =
     let inside : end - from < length (drop from sizes) = omega (arith, length-drop from sizes) in
     ap (λ n. take n (drop from sizes)) count
     ∙ take_more (drop from sizes) (end - from) 0 inside
-    ∙ ap (λ x. take (end - from) (drop from sizes) ++ x ∷ []) (get_or-drop from sizes (end - from) 0 ∙ ap (λ n. get_or sizes n 0) place)
+    ∙ ap (λ x. take (end - from) (drop from sizes) ++ x ∷ [])
+    (get_or-drop from sizes (end - from) 0 ∙ ap (λ n. get_or sizes n 0) place)

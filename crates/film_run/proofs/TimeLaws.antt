@@ -23,7 +23,8 @@ before-by time capped place is le =
 
 before-all : (time capped place : ℕ) → IsCapped time capped → place ≤ 2 ^ 42 → place * 1000000000 ≤ time * 360000
     → place ≤ capped * 9 / 25000
-before-all time capped place is small le = le-div place (capped * 9) 25000 (omega arith) (elim is.one [ inl same ↦ omega arith | inr top ↦ omega arith ])
+before-all time capped place is small le =
+    le-div place (capped * 9) 25000 (omega arith) (elim is.one [ inl same ↦ omega arith | inr top ↦ omega arith ])
 
 after-from : (time capped place : ℕ) → IsCapped time capped → place ≤ 2 ^ 42 → (capped * 9 + 24999) / 25000 ≤ place
     → time * 360000 ≤ place * 1000000000
@@ -31,7 +32,8 @@ after-from time capped place is small le =
     let above : capped * 9 + 24999 < (capped * 9 + 24999) / 25000 * 25000 + 25000 = lt-div-mul-add (omega arith) in
     elim is.one [ inl same ↦ omega arith | inr top ↦ omega arith ]
 
-after-all : (time capped place : ℕ) → IsCapped time capped → time * 360000 ≤ place * 1000000000 → (capped * 9 + 24999) / 25000 ≤ place
+after-all : (time capped place : ℕ) → IsCapped time capped → time * 360000 ≤ place * 1000000000
+    → (capped * 9 + 24999) / 25000 ≤ place
 after-all time capped place is le =
     let below = div_below (capped * 9 + 24999) 25000 (place + 1) (omega arith) (omega (arith, is.most)) in
     omega (arith, below)

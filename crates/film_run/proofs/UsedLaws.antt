@@ -55,7 +55,8 @@ used-front {sizes} {timing} {t} {n} is used =
     let fits : n ≤ length sizes = is.fits in
     let unused : t ≤ due_slot timing n = is.unused in
     let front = used-part sizes timing t n fits used in
-    let later = λ (k : ℕ) (le : n ≤ k). let rises = due_rises timing n k some le in let h : t ≤ due_slot timing k = omega arith in h in
+    let later = λ (k : ℕ) (le : n ≤ k). let rises =
+    due_rises timing n k some le in let h : t ≤ due_slot timing k = omega arith in h in
     let rest = used-rest sizes timing t n (length sizes - n) later in
     let same : length sizes ≡ n + (length sizes - n) = omega arith in
     let all = ap (λ m. sum_by (used_of sizes timing t) (range_with_len 0 m)) same in

@@ -57,7 +57,8 @@ counts-used sizes playback run plan is = λ last keep left unit its at.
             | inl before ↦ before
             | inr from ↦
                 let some = is.can_play.playback_is.some_slot_units in
-                let rises = due_rises (timing_of playback run) (left.from_unit - run.from_unit) (unit - run.from_unit) some (omega arith) in
+                let rises = due_rises (timing_of playback run) (left.from_unit - run.from_unit)
+                (unit - run.from_unit) some (omega arith) in
                 absurd (unused-from-stop picture last its.stop_is (omega (arith, its.unused)) used)
           ],
     )

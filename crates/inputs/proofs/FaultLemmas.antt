@@ -18,7 +18,8 @@ place_from place (BadCode at) = refl
 place_from place (BadPacket at) = refl
 place_from place (Truncated at) = refl
 
-pub fault_in_file : (file : List ℕ) (fault : SystemFault) (from : Option ℕ) → pack_in file ≡ from → IsStreamFaultFrom from file fault → IsFaultInFile file fault
+pub fault_in_file : (file : List ℕ) (fault : SystemFault) (from : Option ℕ) → pack_in file ≡ from
+    → IsStreamFaultFrom from file fault → IsFaultInFile file fault
 fault_in_file file fault None begins h = absurd h
 fault_in_file file fault (Some place) begins h =
     let own : SystemFault = h.0 in

@@ -19,7 +19,8 @@ use Rattle.inputs.proofs.ReadLemmas.{first_front}
 use Rattle.inputs.proofs.Tokens.{slice_from}
 
 -- a file whose size was found has too many bytes
-pub size_above : {size : ℕ} (held : List File) (name : List ℕ) (most : ℕ) (over : Fault) → Some size ≡ option_map length (file_named held name) → most < size → IsRefusedAbove most over held name over
+pub size_above : {size : ℕ} (held : List File) (name : List ℕ) (most : ℕ) (over : Fault)
+    → Some size ≡ option_map length (file_named held name) → most < size → IsRefusedAbove most over held name over
 size_above {size} held name most over found long =
     let file : IsFront held name size [] = first_front held name size found in
     inr (file.whole, (file.found, inl (omega (arith, file.sized, long), refl)))
@@ -29,19 +30,25 @@ pub plain_is : (file : List ℕ) → pack_in file ≡ None → IsVideo file file
 plain_is file pack = subst (λ (o : Option ℕ). IsVideoFrom o file file) (sym pack) refl
 
 -- the video of a file's system stream, and its fault
-pub stream_is : (file video : List ℕ) (from : ℕ) → pack_in file ≡ Some from → IsSystem (take (length file - from) (drop from file)) video → IsVideo file video
+pub stream_is : (file video : List ℕ) (from : ℕ) → pack_in file ≡ Some from
+    → IsSystem (take (length file - from) (drop from file)) video → IsVideo file video
 stream_is file video from pack system =
-    subst (λ (o : Option ℕ). IsVideoFrom o file video) (sym pack) (subst (λ (l : List ℕ). IsSystem l video) (slice_from file from) system)
+    subst (λ (o : Option ℕ). IsVideoFrom o file video) (sym pack)
+    (subst (λ (l : List ℕ). IsSystem l video) (slice_from file from) system)
 
-pub fault_is : {from : ℕ} {own fault : SystemFault} (file : List ℕ) → pack_in file ≡ Some from → from ≤ length file → length file ≤ 2 ^ 40 → IsRefused (take (length file - from) (drop from file)) own →
-    ((bytes : List ℕ) → IsRefused bytes own → from + length bytes ≤ 2 ^ 40 → fault ≡ fault_from from own) → IsStreamFault file fault
+pub fault_is : {from : ℕ} {own fault : SystemFault} (file : List ℕ) → pack_in file ≡ Some from →
+    from ≤ length file → length file ≤ 2 ^ 40 → IsRefused (take (length file - from) (drop from file)) own →
+    ((bytes : List ℕ) → IsRefused bytes own → from + length bytes ≤ 2 ^ 40 → fault ≡ fault_from from own)
+    → IsStreamFault file fault
 fault_is {from} {own} {fault} file pack within short refused moves =
     let stream : IsRefused (drop from file) own = subst (λ (l : List ℕ). IsRefused l own) (slice_from file from) refused in
-    let its : IsStreamFaultFrom (Some from) file fault = (own, (stream, moves (drop from file) stream (omega (arith, length-drop from file, within, short)))) in
+    let its : IsStreamFaultFrom (Some from) file fault =
+    (own, (stream, moves (drop from file) stream (omega (arith, length-drop from file, within, short)))) in
     subst (λ (o : Option ℕ). IsStreamFaultFrom o file fault) (sym pack) its
 
 -- the refusal of a file's video is that of the file
-pub video_trouble : (name file video : List ℕ) (t : Trouble) → IsVideo file video → IsFilmTrouble name (λ fault. refusal video ≡ Some fault) t → IsBytesTrouble name file t
+pub video_trouble : (name file video : List ℕ) (t : Trouble) → IsVideo file video
+    → IsFilmTrouble name (λ fault. refusal video ≡ Some fault) t → IsBytesTrouble name file t
 video_trouble name file video Usage is h = h
 video_trouble name file video (Refused other (Film fault)) is h = (h.0, (video, (is, h.1)))
 video_trouble name file video (Refused other fault) is h = absurd h
@@ -61,14 +68,18 @@ pub bytes_trouble : {told : Option (List File)} {name file : List ℕ} {most : �
     (t : Trouble) → WasRead told name file most → IsBytesTrouble name file t →
     IsReadTrouble (IsNamed name) (IsRefusedAbove most over) told faults faults' t
 bytes_trouble over faults faults' Usage read h = h
-bytes_trouble {file} {most} over faults faults' (Refused other fault) read h =
-    (h.0, λ held is. subst (λ (n : List ℕ). IsRefusedAbove most over held n fault) (sym h.0) (inr (file, (read.found held is, inr (read.short, h.1)))))
+bytes_trouble {file} {most} over faults faults' (Refused other fault) read h = (
+  h.0,
+  λ held is. subst (λ (n : List ℕ). IsRefusedAbove most over held n fault) (sym h.0)
+      (inr (file, (read.found held is, inr (read.short, h.1)))),
+)
 bytes_trouble over faults faults' (StoreFault other) read h = absurd h
 bytes_trouble over faults faults' SinkFault read h = h
 bytes_trouble over faults faults' NoMemory read h = tt
 bytes_trouble over faults faults' GateFault read h = h
 bytes_trouble over faults faults' LinkFault read h = h
 
-pub film_loaded : {held : List File} {name file video : List ℕ} → file_named held name ≡ Some file → length file ≤ 2 ^ 40 → IsVideo file video → refusal video ≡ None → HoldsVideo held name video
+pub film_loaded : {held : List File} {name file video : List ℕ} → file_named held name ≡ Some file
+    → length file ≤ 2 ^ 40 → IsVideo file video → refusal video ≡ None → HoldsVideo held name video
 film_loaded {name} {file} found short is accepted =
     record { file = file; found = found; short = omega (arith, short); is_video = is; accepted = accepted }

@@ -31,7 +31,8 @@ open_more {next} {seen} byte so_far part is =
     let plain : is_whole (latest_prefix (read [] seen)) ≡ false = ap is_whole (sym so_far.prefix_is) ∙ part in
     record {
       none = ap codes_of joined ∙ codes-plain byte (read [] seen) plain ∙ ap (λ (l : List Code). note_latest l byte) so_far.none;
-      prefix_is = is ∙ ap (λ p. next_prefix p byte) so_far.prefix_is ∙ sym (matched-more byte (read [] seen)) ∙ ap latest_prefix (sym joined);
+      prefix_is = is ∙ ap (λ p. next_prefix p byte) so_far.prefix_is ∙ sym (matched-more byte (read [] seen))
+          ∙ ap latest_prefix (sym joined);
     }
 
 -- ---- the first code stays the first one
@@ -77,18 +78,22 @@ first_code prefix seen byte so_far whole =
     record {
       code = record { place = length (read [] seen) - 3; kind = byte; text = [] };
       older = [];
-      are = codes-code byte (read [] seen) is ∙ ap (λ (l : List Code). (record { place = length (read [] seen) - 3; kind = byte; text = [] }) ∷ note_latest l byte) so_far.none;
+      are = codes-code byte (read [] seen) is
+          ∙ ap (λ (l : List Code). (record { place = length (read [] seen) - 3; kind = byte; text = [] })
+          ∷ note_latest l byte) so_far.none;
       pack_is = ap (λ n. cond (eqb byte 0xba) (Some (n - 3)) None) long;
     }
 
 -- whatever follows it
-pub first_found : {prefix : Prefix} {seen : List ℕ} {pack : Option ℕ} (byte : ℕ) (more : List ℕ) → IsOpen prefix seen → prefix ≡ Whole →
+pub first_found : {prefix : Prefix} {seen : List ℕ} {pack : Option ℕ} (byte : ℕ) (more : List ℕ) →
+    IsOpen prefix seen → prefix ≡ Whole →
     cond (eqb byte 0xba) (Some (length seen - 3)) None ≡ pack → pack_in ((seen ++ byte ∷ []) ++ more) ≡ pack
 first_found {prefix} {seen} byte more so_far whole is =
     let joined : read [] ((seen ++ byte ∷ []) ++ more) ≡ read (byte ∷ read [] seen) more =
     read-append [] (seen ++ byte ∷ []) more ∙ ap (λ (r : List ℕ). read r more) (read-append [] seen (byte ∷ [])) in
     ap (λ (r : List ℕ). pack_of (codes_of r)) joined
-    ∙ pack-stays more (byte ∷ read [] seen) (cond (eqb byte 0xba) (Some (length seen - 3)) None) (first_code prefix seen byte so_far whole) ∙ is
+    ∙ pack-stays more (byte ∷ read [] seen) (cond (eqb byte 0xba) (Some (length seen - 3)) None)
+    (first_code prefix seen byte so_far whole) ∙ is
 
 -- bytes without a start code begin no system stream
 pub open_plain : (prefix : Prefix) (seen : List ℕ) → IsOpen prefix seen → pack_in seen ≡ None
@@ -99,7 +104,8 @@ pub at_byte : (seen piece more : List ℕ) (index : ℕ) → index < length piec
     (seen ++ piece) ++ more ≡ ((seen ++ take index piece) ++ get_or piece index 0 ∷ []) ++ (drop (index + 1) piece ++ more)
 at_byte seen piece more index inside =
     let split : piece ≡ (take index piece ++ get_or piece index 0 ∷ []) ++ drop (index + 1) piece =
-    sym (take-append-drop (index + 1) piece) ∙ ap (λ (l : List ℕ). l ++ drop (index + 1) piece) (take_more piece index 0 inside) in
+    sym (take-append-drop (index + 1) piece)
+    ∙ ap (λ (l : List ℕ). l ++ drop (index + 1) piece) (take_more piece index 0 inside) in
     ap (λ (l : List ℕ). (seen ++ l) ++ more) split ∙ search (append_assoc, sym)
 
 -- a file of the library, of which a front was looked through
@@ -109,12 +115,15 @@ pub record HasLooked (held : List File) (name : List ℕ) (size place : ℕ) (pr
   pub long : length bytes ≡ place
   pub unfound : IsOpen prefix bytes
 
-pub none_looked : (held : List File) (name : List ℕ) (size : ℕ) → Some size ≡ option_map length (file_named held name) → HasLooked held name size 0 Nothing
-none_looked held name size found = record { bytes = []; front = first_front held name size found; long = refl; unfound = open_none }
+pub none_looked : (held : List File) (name : List ℕ) (size : ℕ)
+    → Some size ≡ option_map length (file_named held name) → HasLooked held name size 0 Nothing
+none_looked held name size found =
+    record { bytes = []; front = first_front held name size found; long = refl; unfound = open_none }
 
 pub more_looked : {held : List File} {name : List ℕ} {size place : ℕ} {prefix next : Prefix} (piece : List ℕ)
     (count : ℕ) → (so_far : HasLooked held name size place prefix) →
-    IsFront held name size (so_far.bytes ++ take count piece) → count ≤ length piece → IsOpen next (so_far.bytes ++ take count piece) → HasLooked held name size (place + count) next
+    IsFront held name size (so_far.bytes ++ take count piece) → count ≤ length piece
+    → IsOpen next (so_far.bytes ++ take count piece) → HasLooked held name size (place + count) next
 more_looked {name} {place} {next} piece count so_far front within unfound = record {
   bytes = so_far.bytes ++ take count piece;
   front = front;
@@ -123,7 +132,8 @@ more_looked {name} {place} {next} piece count so_far front within unfound = reco
 }
 
 -- the first code was found, or none stands in the whole file
-pub found_opened : {held : List File} {name : List ℕ} {size : ℕ} {bytes : List ℕ} {pack : Option ℕ} → (front : IsFront held name size bytes) →
+pub found_opened : {held : List File} {name : List ℕ} {size : ℕ} {bytes : List ℕ} {pack : Option ℕ} →
+    (front : IsFront held name size bytes) →
     ((more : List ℕ) → pack_in (bytes ++ more) ≡ pack) → IfSome pack (λ place. place ≤ size) → IsOpened held name size pack
 found_opened {held} {name} {size} {bytes} {pack} front is within = record {
   file = front.whole;
@@ -133,9 +143,11 @@ found_opened {held} {name} {size} {bytes} {pack} front is within = record {
   within = within;
 }
 
-pub whole_looked : {held : List File} {name : List ℕ} {size place : ℕ} {prefix : Prefix} → HasLooked held name size place prefix → size ≤ place → IsOpened held name size None
+pub whole_looked : {held : List File} {name : List ℕ} {size place : ℕ} {prefix : Prefix}
+    → HasLooked held name size place prefix → size ≤ place → IsOpened held name size None
 whole_looked {held} {name} {size} {place} {prefix} so_far end =
-    let found : file_named held name ≡ Some so_far.bytes = whole_front held name size so_far.bytes so_far.front (omega (arith, so_far.long, end)) in
+    let found : file_named held name ≡ Some so_far.bytes =
+    whole_front held name size so_far.bytes so_far.front (omega (arith, so_far.long, end)) in
     let same : so_far.bytes ≡ so_far.front.whole = one_file held name so_far.bytes so_far.front.whole found so_far.front.found in
     record {
       file = so_far.bytes;
@@ -152,19 +164,28 @@ pub record IsOpenBefore (prefix : Prefix) (seen piece : List ℕ) (index at : �
   pub so_far : IsOpen prefix (seen ++ take index piece)
 
 -- one byte of a piece more
-pub open_step : {prefix next : Prefix} {seen piece : List ℕ} {index at : ℕ} → IsOpenBefore prefix seen piece index at → is_whole prefix ≡ false →
+pub open_step : {prefix next : Prefix} {seen piece : List ℕ} {index at : ℕ} →
+    IsOpenBefore prefix seen piece index at → is_whole prefix ≡ false →
     next ≡ next_prefix prefix (get_or piece index 0) → IsOpen next (seen ++ take (index + 1) piece)
 open_step {next} {seen} {piece} {index} before part is =
     let joined : (seen ++ take index piece) ++ get_or piece index 0 ∷ [] ≡ seen ++ take (index + 1) piece =
-    append_assoc seen (take index piece) (get_or piece index 0 ∷ []) ∙ ap (λ (l : List ℕ). seen ++ l) (sym (take_more piece index 0 before.inside)) in
+    append_assoc seen (take index piece) (get_or piece index 0 ∷ [])
+    ∙ ap (λ (l : List ℕ). seen ++ l) (sym (take_more piece index 0 before.inside)) in
     subst (IsOpen next) joined (open_more (get_or piece index 0) before.so_far part is)
 
 -- the first code of a piece is found
-pub found_step : {prefix : Prefix} {seen piece : List ℕ} {index at : ℕ} {pack : Option ℕ} → IsOpenBefore prefix seen piece index at → prefix ≡ Whole →
-    cond (eqb (get_or piece index 0) 0xba) (Some (at + index - 3)) None ≡ pack → (more : List ℕ) → pack_in ((seen ++ piece) ++ more) ≡ pack
+pub found_step : {prefix : Prefix} {seen piece : List ℕ} {index at : ℕ} {pack : Option ℕ} →
+    IsOpenBefore prefix seen piece index at → prefix ≡ Whole →
+    cond (eqb (get_or piece index 0) 0xba) (Some (at + index - 3)) None ≡ pack → (more : List ℕ)
+    → pack_in ((seen ++ piece) ++ more) ≡ pack
 found_step {seen} {piece} {index} {at} before whole is more =
     let place : length (seen ++ take index piece) ≡ at + index =
-    omega (arith, length-append seen (take index piece), before.long, length-take-le index piece (omega (arith, before.inside))) in
+    omega (
+      arith,
+      length-append seen (take index piece),
+      before.long,
+      length-take-le index piece (omega (arith, before.inside)),
+    ) in
     ap pack_in (at_byte seen piece more index before.inside)
     ∙ first_found (get_or piece index 0) (drop (index + 1) piece ++ more) before.so_far whole
     (ap (λ n. cond (eqb (get_or piece index 0) 0xba) (Some (n - 3)) None) place ∙ is)

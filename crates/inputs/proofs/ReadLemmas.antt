@@ -7,17 +7,20 @@ use Rattle.vod_base.specs.Outside.{File, file_named, bytes_named, IsRead}
 use Rattle.inputs.specs.Files.{IsFront}
 
 -- the library holds and counts as before, and where it tells what it holds, the bytes are a front of it; the reads end with the file
-pub record HasFront (files now : Option (List File)) (faults faults' : ℕ) (name : List ℕ) (size : ℕ) (bytes : List ℕ) (more : Bool) : Type 0 where
+pub record HasFront (files now : Option (List File)) (faults faults' : ℕ) (name : List ℕ) (size : ℕ)
+    (bytes : List ℕ) (more : Bool) : Type 0 where
   pub kept : now ≡ files
   pub count : faults ≤ faults'
-  pub told : (held : List File) → files ≡ Some held → Some size ≡ option_map length (file_named held name) → IsFront held name size bytes × (more ≡ true)
+  pub told : (held : List File) → files ≡ Some held → Some size ≡ option_map length (file_named held name)
+      → IsFront held name size bytes × (more ≡ true)
 
 -- a size that was found is that of a file
 found_size : (o : Option (List ℕ)) (n : ℕ) → Some n ≡ option_map length o → (b : List ℕ) × ((o ≡ Some b) × (n ≡ length b))
 found_size None n e = ([], ((cc), (cc)))
 found_size (Some b) n e = (b, (refl, (cc)))
 
-pub first_front : (held : List File) (name : List ℕ) (size : ℕ) → Some size ≡ option_map length (file_named held name) → IsFront held name size []
+pub first_front : (held : List File) (name : List ℕ) (size : ℕ)
+    → Some size ≡ option_map length (file_named held name) → IsFront held name size []
 first_front held name size e =
     let file : (b : List ℕ) × ((file_named held name ≡ Some b) × (size ≡ length b)) = found_size (file_named held name) size e in
     record { whole = file.0; found = file.1.0; sized = file.1.1; front = refl }
@@ -26,11 +29,13 @@ named : (held : List File) (name b : List ℕ) → file_named held name ≡ Some
 named held name b e = ap (λ (o : Option (List ℕ)). unwrap_or o []) e
 
 -- what a read of n bytes gives, of which k are taken
-pub more_front : {held : List File} {name : List ℕ} {size : ℕ} {bytes piece : List ℕ} {n : ℕ} (k : ℕ) → IsFront held name size bytes →
+pub more_front : {held : List File} {name : List ℕ} {size : ℕ} {bytes piece : List ℕ} {n : ℕ} (k : ℕ) →
+    IsFront held name size bytes →
     IsRead (bytes_named held name) (length bytes) n piece → k ≤ n → IsFront held name size (bytes ++ take k piece)
 more_front {held} {name} {bytes} {piece} {n} k so_far read fits =
     let whole : bytes_named held name ≡ so_far.whole = named held name so_far.whole so_far.found in
-    let there : take n piece ≡ take n (drop (length bytes) so_far.whole) = read.front ∙ ap (λ (b : List ℕ). take n (drop (length bytes) b)) whole in
+    let there : take n piece ≡ take n (drop (length bytes) so_far.whole) =
+    read.front ∙ ap (λ (b : List ℕ). take n (drop (length bytes) b)) whole in
     let shorter : take k piece ≡ take k (drop (length bytes) so_far.whole) =
     sym (take-take k n piece fits) ∙ ap (take k) there ∙ take-take k n (drop (length bytes) so_far.whole) fits in
     let long : length (bytes ++ take k piece) ≡ length bytes + k =
@@ -39,15 +44,19 @@ more_front {held} {name} {bytes} {piece} {n} k so_far read fits =
       whole = so_far.whole;
       found = so_far.found;
       sized = so_far.sized;
-      front = ap (λ (b : List ℕ). b ++ take k piece) so_far.front ∙ ap (λ (b : List ℕ). take (length bytes) so_far.whole ++ b) shorter
+      front = ap (λ (b : List ℕ). b ++ take k piece) so_far.front
+          ∙ ap (λ (b : List ℕ). take (length bytes) so_far.whole ++ b) shorter
           ∙ sym (take-add (length bytes) k so_far.whole) ∙ ap (λ (m : ℕ). take m so_far.whole) (sym long);
     }
 
 -- a front as long as the file is the file
-pub whole_front : (held : List File) (name : List ℕ) (size : ℕ) (bytes : List ℕ) → IsFront held name size bytes → size ≤ length bytes →
+pub whole_front : (held : List File) (name : List ℕ) (size : ℕ) (bytes : List ℕ) →
+    IsFront held name size bytes → size ≤ length bytes →
     file_named held name ≡ Some bytes
 whole_front held name size bytes so_far long =
-    so_far.found ∙ ap (λ (b : List ℕ). Some b) (sym (so_far.front ∙ take_all (length bytes) so_far.whole (omega (arith, so_far.sized, long))))
+    so_far.found
+    ∙ ap (λ (b : List ℕ). Some b)
+    (sym (so_far.front ∙ take_all (length bytes) so_far.whole (omega (arith, so_far.sized, long))))
 
 -- an empty read stands at the end
 pub read_some : {held : List File} {name : List ℕ} {size : ℕ} {bytes piece : List ℕ} {n : ℕ} → IsFront held name size bytes →
@@ -57,7 +66,8 @@ read_some {held} {name} {piece} so_far read some before =
     read.some some (omega (arith, so_far.sized, before, ap length whole))
 
 -- each read comes nearer the size, or is the last
-pub measure_falls : {more more' : Bool} {len len' : ℕ} (size : ℕ) → more ≡ true → len < size → len ≤ len' → (more' ≡ true → len < len') →
+pub measure_falls : {more more' : Bool} {len len' : ℕ} (size : ℕ) → more ≡ true → len < size → len ≤ len' →
+    (more' ≡ true → len < len') →
     size - len' + (if more' then 1 else 0) < size - len + (if more then 1 else 0)
 measure_falls {more = false} {len} {len'} size h before longer grows = let e : size ≡ len = cc in omega (arith, e, before)
 measure_falls {more = true} {more' = false} {len} {len'} size h before longer grows = omega (arith, before, longer)
@@ -67,6 +77,7 @@ pub one_file : (held : List File) (name a b : List ℕ) → file_named held name
 one_file held name a b p q = let e : Some a ≡ Some b = sym p ∙ q in cc
 
 -- a front of a file, and the rest of it
-pub front_rest : (held : List File) (name : List ℕ) (size : ℕ) (bytes : List ℕ) → (front : IsFront held name size bytes) → bytes ++ drop (length bytes) front.whole ≡ front.whole
+pub front_rest : (held : List File) (name : List ℕ) (size : ℕ) (bytes : List ℕ)
+    → (front : IsFront held name size bytes) → bytes ++ drop (length bytes) front.whole ≡ front.whole
 front_rest held name size bytes front =
     ap (λ (l : List ℕ). l ++ drop (length bytes) front.whole) front.front ∙ take-append-drop (length bytes) front.whole

@@ -29,7 +29,8 @@ use Rattle.inputs.proofs.ReadLemmas.{first_front, front_rest, one_file, whole_fr
 
 -- the library holds and counts as before; the film before the place was scanned; and where the library tells what it holds, the
 -- reads end with the film
-pub record HasFed (Heard : List Call → Type 0) (files now : Option (List File)) (faults faults' : ℕ) (name : List ℕ) (size place : ℕ) (scanner : Scanner) (more : Bool) : Type 0 where
+pub record HasFed (Heard : List Call → Type 0) (files now : Option (List File)) (faults faults' : ℕ)
+    (name : List ℕ) (size place : ℕ) (scanner : Scanner) (more : Bool) : Type 0 where
   pub kept : now ≡ files
   pub count : faults ≤ faults'
   pub within : place ≤ size
@@ -37,33 +38,41 @@ pub record HasFed (Heard : List Call → Type 0) (files now : Option (List File)
   pub more_is : (held : List File) → files ≡ Some held → more ≡ true
 
 -- a video that a file is
-pub plain_video : (held : List File) (name : List ℕ) (size : ℕ) (whole : List ℕ) → IsOpened held name size None → file_named held name ≡ Some whole → IsVideo whole whole
+pub plain_video : (held : List File) (name : List ℕ) (size : ℕ) (whole : List ℕ) → IsOpened held name size None
+    → file_named held name ≡ Some whole → IsVideo whole whole
 plain_video held name size whole opened found =
     let pack : pack_in whole ≡ None = ap pack_in (one_file held name whole opened.file found opened.found) ∙ opened.pack in
     subst (λ (o : Option ℕ). IsVideoFrom o whole whole) (sym pack) refl
 
-plain_refused : {held : List File} {name : List ℕ} {size : ℕ} {whole : List ℕ} {fault : FilmFault} → IsOpened held name size None → file_named held name ≡ Some whole →
+plain_refused : {held : List File} {name : List ℕ} {size : ℕ} {whole : List ℕ} {fault : FilmFault} →
+    IsOpened held name size None → file_named held name ≡ Some whole →
     length whole ≤ 2 ^ 40 → refusal whole ≡ Some fault → IsFilmRefused held name (Film fault)
 plain_refused {held} {name} {size} {whole} opened found short refused =
     inr (whole, (found, inr (short, (whole, (plain_video held name size whole opened found, refused)))))
 
 -- a piece more
-pub more_told : {Heard Heard' : List Call → Type 0} {scanner scanner' : Scanner} {video : List ℕ} (more : List ℕ) → HasTold Heard scanner video →
+pub more_told : {Heard Heard' : List Call → Type 0} {scanner scanner' : Scanner} {video : List ℕ}
+    (more : List ℕ) → HasTold Heard scanner video →
     ((r : List ℕ) → HasScannedBytes scanner r → HasScannedBytes scanner' (read r more)) →
-    ((r : List ℕ) (calls : List Call) → HasScannedBytes scanner r → Heard (calls ++ calls_of (codes_of r)) → Heard' (calls ++ calls_of (codes_of (read r more)))) →
+    ((r : List ℕ) (calls : List Call) → HasScannedBytes scanner r → Heard (calls ++ calls_of (codes_of r)) →
+    Heard' (calls ++ calls_of (codes_of (read r more)))) →
     HasTold Heard' scanner' (video ++ more)
 more_told {Heard} {Heard'} {scanner'} {video} more so_far kept tells =
     let joined : read [] (video ++ more) ≡ read (read [] video) more = read-append [] video more in
     record {
       fed = subst (λ (r : List ℕ). HasScannedBytes scanner' r) (sym joined) (kept (read [] video) so_far.fed);
-      heard = subst (λ (r : List ℕ). Heard' (calls_of (codes_of r))) (sym joined) (tells (read [] video) [] so_far.fed so_far.heard);
+      heard = subst (λ (r : List ℕ). Heard' (calls_of (codes_of r))) (sym joined)
+          (tells (read [] video) [] so_far.fed so_far.heard);
     }
 
 pub more_scanned : {Heard Heard' : List Call → Type 0} {told' : Option (List File)} {name : List ℕ} {size place : ℕ}
     {scanner scanner' : Scanner} {count : ℕ} (piece : List ℕ) →
-    (so_far : HasScanned Heard told' name size place scanner) → ((held : List File) → told' ≡ Some held → IsFront held name size (so_far.bytes ++ take count piece)) → count ≤ length piece →
+    (so_far : HasScanned Heard told' name size place scanner) →
+    ((held : List File) → told' ≡ Some held → IsFront held name size (so_far.bytes ++ take count piece)) →
+    count ≤ length piece →
     ((r : List ℕ) → HasScannedBytes scanner r → HasScannedBytes scanner' (read r (take count piece))) →
-    ((r : List ℕ) (calls : List Call) → HasScannedBytes scanner r → Heard (calls ++ calls_of (codes_of r)) → Heard' (calls ++ calls_of (codes_of (read r (take count piece))))) →
+    ((r : List ℕ) (calls : List Call) → HasScannedBytes scanner r → Heard (calls ++ calls_of (codes_of r)) →
+    Heard' (calls ++ calls_of (codes_of (read r (take count piece))))) →
     HasScanned Heard' told' name size (place + count) scanner'
 more_scanned {Heard} {Heard'} {name} {place} {count} piece so_far front within kept tells = record {
   bytes = so_far.bytes ++ take count piece;
@@ -75,18 +84,22 @@ more_scanned {Heard} {Heard'} {name} {place} {count} piece so_far front within k
 -- a scanner was fed as many bytes as were read
 pub scanned_fed : {Heard : List Call → Type 0} {told' : Option (List File)} {name : List ℕ} {size place : ℕ}
     {scanner : Scanner} → HasScanned Heard told' name size place scanner → bytes_fed scanner ≤ place
-scanned_fed {Heard} {name} {place} so_far = omega (arith, so_far.scanned.fed.progress.fed, length-read so_far.bytes [], so_far.long)
+scanned_fed {Heard} {name} {place} so_far =
+    omega (arith, so_far.scanned.fed.progress.fed, length-read so_far.bytes [], so_far.long)
 
 -- what is refused at a code of a front of the bytes is refused
-pub front_refused : (front rest : List ℕ) (fault : FilmFault) → length (front ++ rest) ≤ 2 ^ 40 → first_fault (codes_of (read [] front)) ≡ Some fault →
+pub front_refused : (front rest : List ℕ) (fault : FilmFault) → length (front ++ rest) ≤ 2 ^ 40 →
+    first_fault (codes_of (read [] front)) ≡ Some fault →
     refusal (front ++ rest) ≡ Some fault
 front_refused front rest fault short is =
-    refusal-at_code (front ++ rest) fault short (ap (λ (r : List ℕ). first_fault (codes_of r)) (read-append [] front rest) ∙ fault-stays rest (read [] front) fault is)
+    refusal-at_code (front ++ rest) fault short
+    (ap (λ (r : List ℕ). first_fault (codes_of r)) (read-append [] front rest) ∙ fault-stays rest (read [] front) fault is)
 
 pub piece_refused : {Heard : List Call → Type 0} {held : List File} {name : List ℕ} {size : ℕ} {scanner : Scanner}
     {bytes : List ℕ} {fault : FilmFault} (piece : List ℕ) →
     HasTold Heard scanner bytes → IsOpened held name size None → IsFront held name size (bytes ++ piece) → size ≤ 2 ^ 40 →
-    ((r : List ℕ) → HasScannedBytes scanner r → first_fault (codes_of (read r piece)) ≡ Some fault) → IsFilmRefused held name (Film fault)
+    ((r : List ℕ) → HasScannedBytes scanner r → first_fault (codes_of (read r piece)) ≡ Some fault)
+    → IsFilmRefused held name (Film fault)
 piece_refused {Heard} {held} {name} {size} {bytes} {fault} piece so_far opened front short is =
     let rest : List ℕ = drop (length (bytes ++ piece)) front.whole in
     let whole : (bytes ++ piece) ++ rest ≡ front.whole = front_rest held name size (bytes ++ piece) front in
@@ -97,7 +110,8 @@ piece_refused {Heard} {held} {name} {size} {bytes} {fault} piece so_far opened f
     (ap refusal (sym whole) ∙ front_refused (bytes ++ piece) rest fault (omega (arith, few, ap length whole)) at)
 
 -- before the first piece
-pub none_told : (Heard : List Call → Type 0) (scanner : Scanner) → HasScannedBytes scanner [] → Heard [] → HasTold Heard scanner []
+pub none_told : (Heard : List Call → Type 0) (scanner : Scanner) → HasScannedBytes scanner [] → Heard []
+    → HasTold Heard scanner []
 none_told Heard scanner fed fresh = record { fed = fed; heard = subst Heard (sym told-none) fresh }
 
 pub first_scanned : {Heard : List Call → Type 0} {told' : Option (List File)} {name : List ℕ} {size : ℕ}
@@ -107,25 +121,31 @@ first_scanned {Heard} {name} {scanner} from opened fed fresh = record {
   bytes = [];
   long = refl;
   scanned = none_told Heard scanner fed fresh;
-  front = λ held is. record { whole = (opened held is).file; found = (opened held is).found; sized = (opened held is).sized; front = refl };
+  front = λ held is.
+      record { whole = (opened held is).file; found = (opened held is).found; sized = (opened held is).sized; front = refl };
 }
 
-pub size_refused : (held : List File) (name : List ℕ) (size : ℕ) → Some size ≡ option_map length (file_named held name) → 2 ^ 40 < size → IsFilmRefused held name (Film TooLong)
+pub size_refused : (held : List File) (name : List ℕ) (size : ℕ)
+    → Some size ≡ option_map length (file_named held name) → 2 ^ 40 < size → IsFilmRefused held name (Film TooLong)
 size_refused held name size found long =
     let file : IsFront held name size [] = first_front held name size found in
     inr (file.whole, (file.found, inl (omega (arith, file.sized, long), refl)))
 
-pub missing_refused : (held : List File) (name : List ℕ) (fault : Fault) → IsMissing held name fault → IsFilmRefused held name fault
+pub missing_refused : (held : List File) (name : List ℕ) (fault : Fault) → IsMissing held name fault
+    → IsFilmRefused held name fault
 missing_refused held name fault missing = inl missing
 
 -- ---- the end of a video
 
-pub told_ended : {Heard Heard' : List Call → Type 0} {scanner : Scanner} {video : List ℕ} {size rate : ℕ} → HasTold Heard scanner video →
+pub told_ended : {Heard Heard' : List Call → Type 0} {scanner : Scanner} {video : List ℕ} {size rate : ℕ} →
+    HasTold Heard scanner video →
     ((r : List ℕ) → HasScannedBytes scanner r → (refusal_of r ≡ None) × (rate ≡ rate_of (codes_of r)) × (size ≡ length r)) →
-    ((r : List ℕ) (calls : List Call) → HasScannedBytes scanner r → Heard (calls ++ calls_of (codes_of r)) → Heard' (calls ++ all_calls r)) →
+    ((r : List ℕ) (calls : List Call) → HasScannedBytes scanner r → Heard (calls ++ calls_of (codes_of r)) →
+    Heard' (calls ++ all_calls r)) →
     HasEnded Heard' video size rate
 told_ended {Heard} {video} {size} {rate} so_far ended tells =
-    let end : (refusal_of (read [] video) ≡ None) × (rate ≡ rate_of (codes_of (read [] video))) × (size ≡ length (read [] video)) = ended (read [] video) so_far.fed in
+    let end : (refusal_of (read [] video) ≡ None) × (rate ≡ rate_of (codes_of (read [] video)))
+    × (size ≡ length (read [] video)) = ended (read [] video) so_far.fed in
     record {
       accepted = end.0;
       sized = omega (arith, end.2, length-read video []);
@@ -133,9 +153,11 @@ told_ended {Heard} {video} {size} {rate} so_far ended tells =
       heard = tells (read [] video) [] so_far.fed so_far.heard;
     }
 
-pub refused_ended : (scanner : Scanner) (video : List ℕ) → length video ≤ 2 ^ 40 → (so_far : HasRefused scanner video) → refusal video ≡ Some so_far.fault
+pub refused_ended : (scanner : Scanner) (video : List ℕ) → length video ≤ 2 ^ 40
+    → (so_far : HasRefused scanner video) → refusal video ≡ Some so_far.fault
 refused_ended scanner video short so_far =
-    ap refusal so_far.video_is ∙ front_refused so_far.front so_far.rest so_far.fault (omega (arith, short, ap length so_far.video_is)) so_far.refused
+    ap refusal so_far.video_is
+    ∙ front_refused so_far.front so_far.rest so_far.fault (omega (arith, short, ap length so_far.video_is)) so_far.refused
 
 -- ---- the whole film
 
@@ -151,7 +173,8 @@ all_scanned {Heard} {name} {size} {place} so_far within end = record {
 
 pub film_heard : {Heard Heard' : List Call → Type 0} {told' : Option (List File)} {name : List ℕ} {size : ℕ}
     {scanner : Scanner} {bytes rate : ℕ} → size ≤ 2 ^ 40 → WasOpened told' name size None →
-    (so_far : HasScannedAll Heard told' name size scanner) → HasEnded Heard' so_far.bytes bytes rate → HasHeard Heard' told' name bytes rate
+    (so_far : HasScannedAll Heard told' name size scanner) → HasEnded Heard' so_far.bytes bytes rate
+    → HasHeard Heard' told' name bytes rate
 film_heard {Heard} {name} {size} short opened so_far ended = record {
   video = so_far.bytes;
   ended = ended;
@@ -166,7 +189,8 @@ film_heard {Heard} {name} {size} short opened so_far ended = record {
 
 pub end_refused : {Heard : List Call → Type 0} {told' : Option (List File)} {held : List File} {name : List ℕ}
     {size : ℕ} {scanner : Scanner} {fault : FilmFault} → size ≤ 2 ^ 40 →
-    WasOpened told' name size None → (so_far : HasScannedAll Heard told' name size scanner) → told' ≡ Some held → refusal so_far.bytes ≡ Some fault → IsFilmRefused held name (Film fault)
+    WasOpened told' name size None → (so_far : HasScannedAll Heard told' name size scanner) → told' ≡ Some held
+    → refusal so_far.bytes ≡ Some fault → IsFilmRefused held name (Film fault)
 end_refused {Heard} {held} {name} short opened so_far is refused =
     plain_refused (opened held is) (so_far.whole held is) (omega (arith, so_far.few, short)) refused
 
@@ -187,7 +211,8 @@ err_map P Q (Err e) f h = f e h
 -- a trouble of the film's end, where the library tells what it holds
 pub end_trouble : {told' : Option (List File)} {Refuses : FilmFault → Type 0} (name : List ℕ) (faults faults' : ℕ)
     (t : Trouble) →
-    ((held : List File) (fault : FilmFault) → told' ≡ Some held → Refuses fault → IsFilmRefused held name (Film fault)) → IsFilmTrouble name Refuses t →
+    ((held : List File) (fault : FilmFault) → told' ≡ Some held → Refuses fault →
+    IsFilmRefused held name (Film fault)) → IsFilmTrouble name Refuses t →
     IsReadTrouble (IsNamed name) IsFilmRefused told' faults faults' t
 end_trouble name faults faults' Usage refuses h = absurd h
 end_trouble name faults faults' (Refused other (Film fault)) refuses h =
@@ -263,7 +288,8 @@ never_refused {told} {told'} {a} {b} name Refuses c t on h =
     h
 
 -- and of a call's answer
-pub troubles_on : {told told' : Option (List File)} {a b : ℕ} (name : List ℕ) (c : ℕ) (r : Result Ending Trouble) → ReadOn told told' a b →
+pub troubles_on : {told told' : Option (List File)} {a b : ℕ} (name : List ℕ) (c : ℕ)
+    (r : Result Ending Trouble) → ReadOn told told' a b →
     IfErr r (IsReadTrouble (IsNamed name) IsFilmRefused told' b c) → IfErr r (IsReadTrouble (IsNamed name) IsFilmRefused told a c)
 troubles_on name c (Ok ending) on h = tt
 troubles_on name c (Err t) on h = trouble_on name IsFilmRefused c t on h

@@ -43,19 +43,24 @@ Measures (between at) past unit = Unit {0}
 Measures (within from head_end at n) past unit = IsMeasured from head_end at n past unit
 
 -- a unit that has ended has its size
-unit-size : {unit : PictureUnit} {from head_end at n : ℕ} {past : List ℕ} {m : Measure} (rest : List ℕ) → UnitFits unit from head_end at n → unit.first_slice + unit.slices ≡ length past →
+unit-size : {unit : PictureUnit} {from head_end at n : ℕ} {past : List ℕ} {m : Measure} (rest : List ℕ) →
+    UnitFits unit from head_end at n → unit.first_slice + unit.slices ≡ length past →
     IsMeasured from head_end at n past m → cond unit.starts_group 52 0 + frames_of m ≡ wire_size (past ++ rest) unit
 unit-size {unit} {from} {head_end} {at} {past} {m} rest fits count so_far =
-    let all : length past ≡ length so_far.before + length so_far.cur = ap length so_far.past_is ∙ length-append so_far.before so_far.cur in
+    let all : length past ≡ length so_far.before + length so_far.cur =
+    ap length so_far.past_is ∙ length-append so_far.before so_far.cur in
     let cur : unit.slices ≡ length so_far.cur = slices ∙ so_far.count in
     let first : unit.first_slice ≡ length so_far.before = omega (arith, all, cur, count) in
     let starts : unit_starts (past ++ rest) unit ≡ so_far.cur =
-    ap (λ (l : List ℕ). take unit.slices (drop unit.first_slice (l ++ rest))) so_far.past_is ∙ own-slices so_far.before rest first cur in
+    ap (λ (l : List ℕ). take unit.slices (drop unit.first_slice (l ++ rest))) so_far.past_is
+    ∙ own-slices so_far.before rest first cur in
     let lengths : lengths_to at so_far.cur ≡ unit_lengths (past ++ rest) unit =
     ap (λ t. lengths_to t so_far.cur) (sym end) ∙ ap (λ (l : List ℕ). lengths_to unit.to l) (sym starts) in
-    let head_is : head_end - from ≡ unit.head_end - unit.from = ap (λ h. h - from) (sym head) ∙ ap (λ f. unit.head_end - f) (sym begin) in
+    let head_is : head_end - from ≡ unit.head_end - unit.from =
+    ap (λ h. h - from) (sym head) ∙ ap (λ f. unit.head_end - f) (sym begin) in
     ap (λ (u : Measure). cond unit.starts_group 52 0 + frames_of u)
-    (so_far.unit_is ∙ ap (λ h. measure_of h (lengths_to at so_far.cur)) head_is ∙ ap (λ (l : List ℕ). measure_of (unit.head_end - unit.from) l) lengths)
+    (so_far.unit_is ∙ ap (λ h. measure_of h (lengths_to at so_far.cur)) head_is
+    ∙ ap (λ (l : List ℕ). measure_of (unit.head_end - unit.from) l) lengths)
   where
     open fits use {begin, head, end, slices}
 
@@ -64,7 +69,8 @@ record MeasuredSoFar (part : Part) (k : Count) (past : List ℕ) (unit : Measure
   slices : k.slices ≡ length past
   measures : Measures part past unit
 
-sizes-told : (calls : List Call) (s : Sizing) {part : Part} {k : Count} {to : ℕ} {past : List ℕ} → parts_after (Some part) calls ≡ Some (between to) →
+sizes-told : (calls : List Call) (s : Sizing) {part : Part} {k : Count} {to : ℕ} {past : List ℕ} →
+    parts_after (Some part) calls ≡ Some (between to) →
     IsSome (counts_after (Some k) calls) → MeasuredSoFar part k past s.unit →
     (sizing_after s calls).sizes ≡ s.sizes ++ map (λ u. wire_size (past ++ slices_in calls) u) (units_in calls)
 sizes-told [] s parts counts so_far = sym (append-nil s.sizes)
@@ -75,18 +81,23 @@ sizes-told (head_call a b ∷ calls) s {part = between at} {k} {to} {past} parts
       measures = record { before = past; cur = []; past_is = sym (append-nil past); count = refl; unit_is = refl };
     } in
     sizes-told calls (sizing_after_call s (head_call a b)) fits.1 counts next
-sizes-told (slice_call a b ∷ calls) s {part = between at} {to} parts counts so_far = absurd (false≢true (part-fits false (between at) calls to parts).0)
-sizes-told (unit_call unit ∷ calls) s {part = between at} {to} parts counts so_far = absurd (false≢true (part-fits false (between at) calls to parts).0)
-sizes-told (head_call a b ∷ calls) s {part = within from head_end at n} {to} parts counts so_far = absurd (false≢true (part-fits false (between at) calls to parts).0)
+sizes-told (slice_call a b ∷ calls) s {part = between at} {to} parts counts so_far =
+    absurd (false≢true (part-fits false (between at) calls to parts).0)
+sizes-told (unit_call unit ∷ calls) s {part = between at} {to} parts counts so_far =
+    absurd (false≢true (part-fits false (between at) calls to parts).0)
+sizes-told (head_call a b ∷ calls) s {part = within from head_end at n} {to} parts counts so_far =
+    absurd (false≢true (part-fits false (between at) calls to parts).0)
 sizes-told (slice_call a b ∷ calls) s {part = within from head_end at n} {k} {to} {past} parts counts so_far =
     let fits = part-fits (eqb a at && leb (a + 4) b) (within from head_end b (n + 1)) calls to parts in
     let its : IsMeasured from head_end at n past s.unit = so_far.measures in
     let same : a ≡ at = eqb-true a at (and_parts (eqb a at) (leb (a + 4) b) fits.0).0 in
     let unit : with_slice s.unit (b - a) ≡ measure_of (head_end - from) (lengths_to b (its.cur ++ a ∷ [])) =
-    ap (λ (m : Measure). with_slice m (b - a)) (its.unit_is ∙ ap (λ t. measure_of (head_end - from) (lengths_to t its.cur)) (sym same))
+    ap (λ (m : Measure). with_slice m (b - a))
+    (its.unit_is ∙ ap (λ t. measure_of (head_end - from) (lengths_to t its.cur)) (sym same))
     ∙ sym (slices-append (lengths_to a its.cur) (measure_from_head (head_end - from)) (b - a))
     ∙ ap (λ (l : List ℕ). measure_of (head_end - from) l) (sym (lengths-more its.cur a b)) in
-    let next : MeasuredSoFar (within from head_end b (n + 1)) (record k { slices = k.slices + 1 }) (past ++ a ∷ []) (sizing_after_call s (slice_call a b)).unit = record {
+    let next : MeasuredSoFar (within from head_end b (n + 1)) (record k { slices = k.slices + 1 })
+    (past ++ a ∷ []) (sizing_after_call s (slice_call a b)).unit = record {
       slices = omega (arith, so_far.slices, length-append past (a ∷ []));
       measures = record {
         before = its.before;
@@ -97,45 +108,60 @@ sizes-told (slice_call a b ∷ calls) s {part = within from head_end at n} {k} {
       };
     } in
     sizes-told calls (sizing_after_call s (slice_call a b)) fits.1 counts next
-    ∙ ap (λ (starts : List ℕ). s.sizes ++ map (λ u. wire_size starts u) (units_in calls)) (append_assoc past (a ∷ []) (slices_in calls))
+    ∙ ap (λ (starts : List ℕ). s.sizes ++ map (λ u. wire_size starts u) (units_in calls))
+    (append_assoc past (a ∷ []) (slices_in calls))
 sizes-told (unit_call unit ∷ calls) s {part = within from head_end at n} {k} {to} {past} parts counts so_far =
-    let fits = part-fits ((eqb unit.from from && (eqb unit.head_end head_end && eqb unit.to at)) && (eqb unit.slices n && ltb 0 n)) (between at) calls to parts in
+    let fits = part-fits
+    ((eqb unit.from from && (eqb unit.head_end head_end && eqb unit.to at))
+    && (eqb unit.slices n && ltb 0 n)) (between at) calls to parts in
     let next : Count = record { units = k.units + 1; slices = k.slices; before_group = group_of k unit } in
-    let counted = count-fits (eqb (unit.first_slice + unit.slices) k.slices && eqb unit.presentation (group_of k unit + unit.temporal)) next calls counts in
+    let counted =
+    count-fits (eqb (unit.first_slice + unit.slices) k.slices
+    && eqb unit.presentation (group_of k unit + unit.temporal)) next calls counts in
     let count : unit.first_slice + unit.slices ≡ k.slices =
-    eqb-true (unit.first_slice + unit.slices) k.slices (and_parts (eqb (unit.first_slice + unit.slices) k.slices) (eqb unit.presentation (group_of k unit + unit.temporal)) counted.0).0 in
+    eqb-true (unit.first_slice + unit.slices) k.slices
+    (and_parts (eqb (unit.first_slice + unit.slices) k.slices)
+    (eqb unit.presentation (group_of k unit + unit.temporal)) counted.0).0 in
     let size : cond unit.starts_group 52 0 + frames_of s.unit ≡ wire_size (past ++ slices_in calls) unit =
     unit-size (slices_in calls) (unit-fits unit from head_end at n fits.0) (count ∙ so_far.slices) so_far.measures in
-    let later : MeasuredSoFar (between at) next past (sizing_after_call s (unit_call unit)).unit = record { slices = so_far.slices; measures = tt } in
+    let later : MeasuredSoFar (between at) next past (sizing_after_call s (unit_call unit)).unit =
+    record { slices = so_far.slices; measures = tt } in
     let rest : List ℕ = map (λ u. wire_size (past ++ slices_in calls) u) (units_in calls) in
     sizes-told calls (sizing_after_call s (unit_call unit)) fits.1 counted.1 later
     ∙ append_assoc s.sizes ((cond unit.starts_group 52 0 + frames_of s.unit) ∷ []) rest
     ∙ ap (λ n. s.sizes ++ n ∷ rest) size
 
 -- the sizes counted of a whole film
-pub film-sizes : (film : List ℕ) (unit : Measure) (sizes : List ℕ) → refusal film ≡ None → IsSized unit sizes (told_of film) → sizes ≡ sizes_of film
+pub film-sizes : (film : List ℕ) (unit : Measure) (sizes : List ℕ) → refusal film ≡ None
+    → IsSized unit sizes (told_of film) → sizes ≡ sizes_of film
 film-sizes film unit sizes accepted sized =
-    let start : MeasuredSoFar (between (first_of (codes_of (read [] film)))) no_count [] first_sizing.unit = record { slices = refl; measures = tt } in
+    let start : MeasuredSoFar (between (first_of (codes_of (read [] film)))) no_count [] first_sizing.unit =
+    record { slices = refl; measures = tt } in
     sized.sizes_are
     ∙ sizes-told (told_of film) first_sizing (film-tiles (read [] film) accepted) (film-numbered (read [] film) accepted) start
 
 -- a part more
 pub sized-more : {calls : List Call} {unit unit' : Measure} {sizes sizes' : List ℕ} (call : Call) → IsSized unit sizes calls →
-    unit' ≡ (sizing_after_call (record { unit = unit; sizes = sizes }) call).unit → sizes' ≡ (sizing_after_call (record { unit = unit; sizes = sizes }) call).sizes →
+    unit' ≡ (sizing_after_call (record { unit = unit; sizes = sizes }) call).unit →
+    sizes' ≡ (sizing_after_call (record { unit = unit; sizes = sizes }) call).sizes →
     IsSized unit' sizes' (calls ++ call ∷ [])
 sized-more {calls} {unit} {sizes} call so_far unit_is sizes_are =
     let before : Sizing = record { unit = unit; sizes = sizes } in
     let after : Sizing = sizing_after first_sizing calls in
     let same : before ≡ after =
-    ap (λ (u : Measure). record { unit = u; sizes = sizes }) so_far.unit_is ∙ ap (λ (s : List ℕ). record { unit = after.unit; sizes = s }) so_far.sizes_are in
+    ap (λ (u : Measure). record { unit = u; sizes = sizes }) so_far.unit_is
+    ∙ ap (λ (s : List ℕ). record { unit = after.unit; sizes = s }) so_far.sizes_are in
     record {
-      unit_is = unit_is ∙ ap (λ (s : Sizing). (sizing_after_call s call).unit) same ∙ ap (λ (s : Sizing). s.unit) (sym (sized-append first_sizing calls (call ∷ [])));
-      sizes_are = sizes_are ∙ ap (λ (s : Sizing). (sizing_after_call s call).sizes) same ∙ ap (λ (s : Sizing). s.sizes) (sym (sized-append first_sizing calls (call ∷ [])));
+      unit_is = unit_is ∙ ap (λ (s : Sizing). (sizing_after_call s call).unit) same
+          ∙ ap (λ (s : Sizing). s.unit) (sym (sized-append first_sizing calls (call ∷ [])));
+      sizes_are = sizes_are ∙ ap (λ (s : Sizing). (sizing_after_call s call).sizes) same
+          ∙ ap (λ (s : Sizing). s.sizes) (sym (sized-append first_sizing calls (call ∷ [])));
     }
 
 -- ---- the limits of a film's sizes
 
-pub film-limits : (film : List ℕ) (rate : ℕ) → refusal film ≡ None → rate ≡ rate_of (codes_of (read [] film)) → AreSizesWithin rate (sizes_of film)
+pub film-limits : (film : List ℕ) (rate : ℕ) → refusal film ≡ None → rate ≡ rate_of (codes_of (read [] film))
+    → AreSizesWithin rate (sizes_of film)
 film-limits film rate accepted is =
     let units : List PictureUnit = units_in (told_of film) in
     let starts : List ℕ = slices_in (told_of film) in

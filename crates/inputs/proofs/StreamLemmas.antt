@@ -30,20 +30,31 @@ use Rattle.inputs.proofs.ScanLemmas.{none_told}
 length-zeros : (count : ℕ) (rest : List ℕ) → count ≤ length (replicate count 0 ++ rest)
 length-zeros count rest = omega (arith, length-append (replicate count 0) rest, length-replicate {A = ℕ} count 0)
 
-tail-within : (chosen : Option ℕ) (start : ℕ) (tail : List ℕ) (fault : SystemFault) → IsFault chosen start tail fault → place_of fault ≤ start + length tail
-tail-within chosen start tail (NotPack place) h = omega (arith, h.place_is, ap length h.is, length-prefixed h.zeros (186 ∷ h.mark ∷ h.rest))
-tail-within chosen start tail (BadCode place) (inl h) = omega (arith, h.place_is, ap length h.is, length-zeros h.count (h.byte ∷ h.rest))
-tail-within chosen start tail (BadCode place) (inr h) = omega (arith, h.place_is, ap length h.is, length-prefixed h.zeros (h.kind ∷ h.rest))
-tail-within chosen start tail (BadPacket place) h = omega (arith, h.place_is, ap length h.is, length-prefixed h.zeros (h.kind ∷ h.high ∷ h.low ∷ (h.front ++ h.rest)))
+tail-within : (chosen : Option ℕ) (start : ℕ) (tail : List ℕ) (fault : SystemFault)
+    → IsFault chosen start tail fault → place_of fault ≤ start + length tail
+tail-within chosen start tail (NotPack place) h =
+    omega (arith, h.place_is, ap length h.is, length-prefixed h.zeros (186 ∷ h.mark ∷ h.rest))
+tail-within chosen start tail (BadCode place) (inl h) =
+    omega (arith, h.place_is, ap length h.is, length-zeros h.count (h.byte ∷ h.rest))
+tail-within chosen start tail (BadCode place) (inr h) =
+    omega (arith, h.place_is, ap length h.is, length-prefixed h.zeros (h.kind ∷ h.rest))
+tail-within chosen start tail (BadPacket place) h =
+    omega (arith, h.place_is, ap length h.is, length-prefixed h.zeros (h.kind ∷ h.high ∷ h.low ∷ (h.front ++ h.rest)))
 tail-within chosen start tail (Truncated place) h = omega (arith, h.place_is, h.begun)
 
 pub fault_within : (bytes : List ℕ) (fault : SystemFault) → IsRefused bytes fault → place_of fault ≤ length bytes
 fault_within bytes fault h =
-    omega (arith, tail-within _ (length (bytes_of h.items)) h.tail fault h.fault_is, ap length h.bytes_are, length-append (bytes_of h.items) h.tail)
+    omega (
+      arith,
+      tail-within _ (length (bytes_of h.items)) h.tail fault h.fault_is,
+      ap length h.bytes_are,
+      length-append (bytes_of h.items) h.tail,
+    )
 
 -- ---- a piece more
 
-pub refused_more : (scanner scanner' : Scanner) (video more : List ℕ) → scanner' ≡ scanner → HasRefused scanner video → HasRefused scanner' (video ++ more)
+pub refused_more : (scanner scanner' : Scanner) (video more : List ℕ) → scanner' ≡ scanner
+    → HasRefused scanner video → HasRefused scanner' (video ++ more)
 refused_more scanner scanner' video more same so_far =
     subst (λ (s : Scanner). HasRefused s (video ++ more)) (sym same) (record {
       fault = so_far.fault;
@@ -68,8 +79,10 @@ part_unwrapped {Heard} {seen} part more so_far few fed taken = record {
 }
 
 -- a piece of a stream more
-pub front_more : {held : List File} {name : List ℕ} {size place : ℕ} (from : ℕ) (seen more : List ℕ) → IsStreamFront size from seen held name → from + length seen ≡ place →
-    ((bytes : List ℕ) → IsFront held name size bytes → length bytes ≡ place → IsFront held name size (bytes ++ more)) → IsStreamFront size from (seen ++ more) held name
+pub front_more : {held : List File} {name : List ℕ} {size place : ℕ} (from : ℕ) (seen more : List ℕ) →
+    IsStreamFront size from seen held name → from + length seen ≡ place →
+    ((bytes : List ℕ) → IsFront held name size bytes → length bytes ≡ place
+    → IsFront held name size (bytes ++ more)) → IsStreamFront size from (seen ++ more) held name
 front_more {held} {name} {size} {place} from seen more before long front = (
   before.0,
   (
@@ -82,8 +95,10 @@ front_more {held} {name} {size} {place} from seen more before long front = (
 pub more_streamed : {Heard Heard' : List Call → Type 0} {told : Option (List File)} {name : List ℕ}
     {size from place : ℕ} {unwrapper unwrapper' : Unwrapper} {scanner scanner' : Scanner} (piece : List ℕ) (count : ℕ) →
     (so_far : HasStreamed Heard told name size from place unwrapper scanner) →
-    ((held : List File) → told ≡ Some held → (bytes : List ℕ) → IsFront held name size bytes → length bytes ≡ place → IsFront held name size (bytes ++ take count piece)) → count ≤ length piece →
-    HasUnwrapped Heard' unwrapper' scanner' (so_far.seen ++ take count piece) → HasStreamed Heard' told name size from (place + count) unwrapper' scanner'
+    ((held : List File) → told ≡ Some held → (bytes : List ℕ) → IsFront held name size bytes →
+    length bytes ≡ place → IsFront held name size (bytes ++ take count piece)) → count ≤ length piece →
+    HasUnwrapped Heard' unwrapper' scanner' (so_far.seen ++ take count piece)
+    → HasStreamed Heard' told name size from (place + count) unwrapper' scanner'
 more_streamed {Heard} {name} {from} {place} piece count so_far front within unwrapped = record {
   seen = so_far.seen ++ take count piece;
   long = omega (arith, length-append so_far.seen (take count piece), so_far.long, length-take-le count piece within);
@@ -133,14 +148,18 @@ abbrev pub IsMovedFault : ℕ → SystemFault → SystemFault → Type 0
 IsMovedFault from own fault = (bytes : List ℕ) → IsRefused bytes own → from + length bytes ≤ 2 ^ 40 → fault ≡ fault_from from own
 
 -- the stream of a file, and one of its faults
-stream_fault : {held : List File} {name : List ℕ} {size from : ℕ} {whole stream : List ℕ} {own fault : SystemFault} → IsOpened held name size (Some from) → file_named held name ≡ Some whole →
-    size ≤ 2 ^ 40 → drop from whole ≡ stream → IsRefused stream own → IsMovedFault from own fault → IsFilmRefused held name (System fault)
+stream_fault : {held : List File} {name : List ℕ} {size from : ℕ} {whole stream : List ℕ}
+    {own fault : SystemFault} → IsOpened held name size (Some from) → file_named held name ≡ Some whole →
+    size ≤ 2 ^ 40 → drop from whole ≡ stream → IsRefused stream own → IsMovedFault from own fault
+    → IsFilmRefused held name (System fault)
 stream_fault {held} {name} {from} {whole} {stream} {own} {fault} opened found short is refused moves =
     let same : whole ≡ opened.file = one_file held name whole opened.file found opened.found in
     let pack : pack_in whole ≡ Some from = ap pack_in same ∙ opened.pack in
     let few : length whole ≤ 2 ^ 40 = omega (arith, ap length same, opened.sized, short) in
-    let room : from + length stream ≤ 2 ^ 40 = omega (arith, sym (ap length is), length-drop from whole, ap length same, opened.sized, opened.within, short) in
-    let its : IsStreamFaultFrom (Some from) whole fault = (own, (subst (λ (l : List ℕ). IsRefused l own) (sym is) refused, moves stream refused room)) in
+    let room : from + length stream ≤ 2 ^ 40 =
+    omega (arith, sym (ap length is), length-drop from whole, ap length same, opened.sized, opened.within, short) in
+    let its : IsStreamFaultFrom (Some from) whole fault =
+    (own, (subst (λ (l : List ℕ). IsRefused l own) (sym is) refused, moves stream refused room)) in
     inr (whole, (found, inr (few, subst (λ (o : Option ℕ). IsStreamFaultFrom o whole fault) (sym pack) its)))
 
 -- what was read of a stream up to the end of a piece, in a file of at most 2^40 bytes
@@ -149,8 +168,10 @@ pub record PieceRead (held : List File) (name : List ℕ) (size from : ℕ) (see
   pub opened : IsOpened held name size (Some from)
   pub short : size ≤ 2 ^ 40
 
-pub piece_fault : {held : List File} {name : List ℕ} {size from : ℕ} {seen piece : List ℕ} {own fault : SystemFault} → PieceRead held name size from seen piece →
-    ((more : List ℕ) → IsRefused (seen ++ piece ++ more) own) → IsMovedFault from own fault → IsFilmRefused held name (System fault)
+pub piece_fault : {held : List File} {name : List ℕ} {size from : ℕ} {seen piece : List ℕ}
+    {own fault : SystemFault} → PieceRead held name size from seen piece →
+    ((more : List ℕ) → IsRefused (seen ++ piece ++ more) own) → IsMovedFault from own fault
+    → IsFilmRefused held name (System fault)
 piece_fault {held} {name} {size} {from} {seen} {piece} read refused moves =
     let rest : List ℕ = drop (length (front.0 ++ (seen ++ piece))) front.1.1.whole in
     let whole : front.0 ++ (seen ++ piece ++ rest) ≡ front.1.1.whole =
@@ -165,7 +186,8 @@ piece_fault {held} {name} {size} {from} {seen} {piece} read refused moves =
 
 pub all_streamed : {Heard : List Call → Type 0} {told : Option (List File)} {name : List ℕ} {size from place : ℕ}
     {unwrapper : Unwrapper} {scanner : Scanner} →
-    HasStreamed Heard told name size from place unwrapper scanner → place ≤ size → ((held : List File) → told ≡ Some held → size ≤ place) →
+    HasStreamed Heard told name size from place unwrapper scanner → place ≤ size →
+    ((held : List File) → told ≡ Some held → size ≤ place) →
     HasStreamedAll Heard told name size from unwrapper scanner
 all_streamed {Heard} {name} {size} {from} {place} so_far within end = record {
   seen = so_far.seen;
@@ -174,13 +196,16 @@ all_streamed {Heard} {name} {size} {from} {place} so_far within end = record {
   whole = λ held is.
       let front : IsStreamFront size from so_far.seen held name = so_far.front held is in
       let whole : front.0 ++ so_far.seen ≡ front.1.1.whole =
-      front.1.1.front ∙ take_all (length (front.0 ++ so_far.seen)) front.1.1.whole (omega (arith, length-append front.0 so_far.seen, front.1.0, so_far.long, end held is, front.1.1.sized)) in
+      front.1.1.front
+      ∙ take_all (length (front.0 ++ so_far.seen)) front.1.1.whole
+      (omega (arith, length-append front.0 so_far.seen, front.1.0, so_far.long, end held is, front.1.1.sized)) in
       (front.1.1.whole, (front.1.1.found, stream_rest front.0 so_far.seen front.1.1.whole from whole front.1.0));
 }
 
 pub end_fault : {Heard : List Call → Type 0} {told : Option (List File)} {held : List File} {name : List ℕ}
     {size from : ℕ} {unwrapper : Unwrapper} {scanner : Scanner} {own fault : SystemFault} →
-    (so_far : HasStreamedAll Heard told name size from unwrapper scanner) → told ≡ Some held → WasOpened told name size (Some from) → size ≤ 2 ^ 40 → IsRefused so_far.seen own →
+    (so_far : HasStreamedAll Heard told name size from unwrapper scanner) → told ≡ Some held →
+    WasOpened told name size (Some from) → size ≤ 2 ^ 40 → IsRefused so_far.seen own →
     IsMovedFault from own fault → IsFilmRefused held name (System fault)
 end_fault {Heard} {held} {name} {from} so_far is opened short refused moves =
     stream_fault (opened held is) (so_far.whole held is).1.0 short (so_far.whole held is).1.1 refused moves
@@ -190,18 +215,22 @@ pub video_short : {Heard : List Call → Type 0} {told : Option (List File)} {na
     (so_far : HasStreamedAll Heard told name size from unwrapper scanner) → length so_far.unwrapped.video ≤ 2 ^ 40
 video_short {Heard} {name} {from} short so_far = omega (arith, short, so_far.unwrapped.few, so_far.few)
 
-stream_video : {held : List File} {name : List ℕ} {size from : ℕ} {whole stream video : List ℕ} → IsOpened held name size (Some from) → file_named held name ≡ Some whole → drop from whole ≡ stream →
+stream_video : {held : List File} {name : List ℕ} {size from : ℕ} {whole stream video : List ℕ} →
+    IsOpened held name size (Some from) → file_named held name ≡ Some whole → drop from whole ≡ stream →
     IsSystem stream video → IsVideo whole video
 stream_video {held} {name} {from} {whole} {video} opened found is system =
     let pack : pack_in whole ≡ Some from = ap pack_in (one_file held name whole opened.file found opened.found) ∙ opened.pack in
     subst (λ (o : Option ℕ). IsVideoFrom o whole video) (sym pack) (subst (λ (l : List ℕ). IsSystem l video) (sym is) system)
 
-stream_few : {held : List File} {name : List ℕ} {size : ℕ} {from : Option ℕ} {whole : List ℕ} → IsOpened held name size from → file_named held name ≡ Some whole → size ≤ 2 ^ 40 → length whole ≤ 2 ^ 40
-stream_few {held} {name} {from} {whole} opened found short = omega (arith, ap length (one_file held name whole opened.file found opened.found), opened.sized, short)
+stream_few : {held : List File} {name : List ℕ} {size : ℕ} {from : Option ℕ} {whole : List ℕ}
+    → IsOpened held name size from → file_named held name ≡ Some whole → size ≤ 2 ^ 40 → length whole ≤ 2 ^ 40
+stream_few {held} {name} {from} {whole} opened found short =
+    omega (arith, ap length (one_file held name whole opened.file found opened.found), opened.sized, short)
 
 pub stream_heard : {Heard Heard' : List Call → Type 0} {told : Option (List File)} {name : List ℕ} {size from : ℕ}
     {unwrapper : Unwrapper} {scanner : Scanner} {bytes rate : ℕ} → size ≤ 2 ^ 40 →
-    WasOpened told name size (Some from) → (so_far : HasStreamedAll Heard told name size from unwrapper scanner) → IsSystem so_far.seen so_far.unwrapped.video →
+    WasOpened told name size (Some from) →
+    (so_far : HasStreamedAll Heard told name size from unwrapper scanner) → IsSystem so_far.seen so_far.unwrapped.video →
     HasEnded Heard' so_far.unwrapped.video bytes rate → HasHeard Heard' told name bytes rate
 stream_heard {Heard} {name} {from} short opened so_far system ended = record {
   video = so_far.unwrapped.video;
@@ -220,7 +249,9 @@ stream_heard {Heard} {name} {from} short opened so_far system ended = record {
 
 pub video_refused : {Heard : List Call → Type 0} {told : Option (List File)} {held : List File} {name : List ℕ}
     {size from : ℕ} {unwrapper : Unwrapper} {scanner : Scanner} {fault : FilmFault} → size ≤ 2 ^ 40 →
-    WasOpened told name size (Some from) → (so_far : HasStreamedAll Heard told name size from unwrapper scanner) → told ≡ Some held → IsSystem so_far.seen so_far.unwrapped.video →
+    WasOpened told name size (Some from) →
+    (so_far : HasStreamedAll Heard told name size from unwrapper scanner) → told ≡ Some held →
+    IsSystem so_far.seen so_far.unwrapped.video →
     refusal so_far.unwrapped.video ≡ Some fault → IsFilmRefused held name (Film fault)
 video_refused {Heard} {held} {name} {from} short opened so_far is system refused =
     let whole : List ℕ = (so_far.whole held is).0 in
@@ -238,7 +269,8 @@ video_refused {Heard} {held} {name} {from} short opened so_far is system refused
 
 -- the library holds and counts as before; the stream before the place was unwrapped; and where the library tells what it holds,
 -- the reads end with the stream
-pub record HasFedStream (Heard : List Call → Type 0) (Ready : ℕ → Type 0) (files now : Option (List File)) (faults faults' : ℕ) (name : List ℕ) (size from place : ℕ)
+pub record HasFedStream (Heard : List Call → Type 0) (Ready : ℕ → Type 0) (files now : Option (List File))
+    (faults faults' : ℕ) (name : List ℕ) (size from place : ℕ)
     (unwrapper : Unwrapper) (scanner : Scanner) (more : Bool) : Type 0 where
   pub kept : now ≡ files
   pub count : faults ≤ faults'
@@ -249,18 +281,22 @@ pub record HasFedStream (Heard : List Call → Type 0) (Ready : ℕ → Type 0) 
   pub more_is : (held : List File) → files ≡ Some held → more ≡ true
 
 -- the parts of a piece, one after another
-pub parts_joined : (seen piece : List ℕ) (at taken : ℕ) → (seen ++ take at piece) ++ take taken (take (length piece - at) (drop at piece)) ≡ seen ++ take (at + taken) piece
+pub parts_joined : (seen piece : List ℕ) (at taken : ℕ)
+    → (seen ++ take at piece) ++ take taken (take (length piece - at) (drop at piece)) ≡ seen ++ take (at + taken) piece
 parts_joined seen piece at taken =
     append_assoc seen (take at piece) (take taken (take (length piece - at) (drop at piece)))
     ∙ ap (λ (l : List ℕ). seen ++ (take at piece ++ take taken l)) (slice_from piece at)
     ∙ ap (λ (l : List ℕ). seen ++ l) (sym (take-add at taken piece))
 
-pub rest_joined : (seen piece more : List ℕ) (at : ℕ) → (seen ++ take at piece) ++ take (length piece - at) (drop at piece) ++ more ≡ seen ++ piece ++ more
+pub rest_joined : (seen piece more : List ℕ) (at : ℕ)
+    → (seen ++ take at piece) ++ take (length piece - at) (drop at piece) ++ more ≡ seen ++ piece ++ more
 rest_joined seen piece more at =
     ap (λ (l : List ℕ). l ++ more) (append_assoc seen (take at piece) (take (length piece - at) (drop at piece))
     ∙ ap (λ (l : List ℕ). seen ++ l) (ap (λ (l : List ℕ). take at piece ++ l) (slice_from piece at) ∙ take-append-drop at piece))
 
 -- a refusal in a part of a piece
-pub part_refused : (seen piece : List ℕ) (at : ℕ) (e : StreamRefused) → IsPieceRefused (seen ++ take at piece) (take (length piece - at) (drop at piece)) e → IsPieceRefused seen piece e
-part_refused seen piece at (StreamFault fault) h = λ more. subst (λ (l : List ℕ). IsRefused l fault) (rest_joined seen piece more at) (h more)
+pub part_refused : (seen piece : List ℕ) (at : ℕ) (e : StreamRefused)
+    → IsPieceRefused (seen ++ take at piece) (take (length piece - at) (drop at piece)) e → IsPieceRefused seen piece e
+part_refused seen piece at (StreamFault fault) h =
+    λ more. subst (λ (l : List ℕ). IsRefused l fault) (rest_joined seen piece more at) (h more)
 part_refused seen piece at NoRoom h = tt

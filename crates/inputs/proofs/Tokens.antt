@@ -10,10 +10,12 @@ use Rattle.vod_base.specs.Numbers.{number_of}
 use Rattle.inputs.specs.Traces.{is_white_space, Token, begins_token, joined_tokens, tokens_from, WriteSizes, IsBadTrace, AddsSize}
 
 -- blanks in front are passed over
-pub tokens-blanks : (at : ℕ) (blanks rest : List ℕ) → list_all is_white_space blanks ≡ true → tokens_from at (blanks ++ rest) ≡ tokens_from (at + length blanks) rest
+pub tokens-blanks : (at : ℕ) (blanks rest : List ℕ) → list_all is_white_space blanks ≡ true
+    → tokens_from at (blanks ++ rest) ≡ tokens_from (at + length blanks) rest
 tokens-blanks at [] rest h = ap (λ (n : ℕ). tokens_from n rest) (sym (add-zero at))
 tokens-blanks at (b ∷ blanks) rest h =
-    ap (λ (v : Bool). if v then tokens_from (at + 1) (blanks ++ rest) else joined_tokens at b (begins_token (blanks ++ rest)) (tokens_from (at + 1) (blanks ++ rest)))
+    ap (λ (v : Bool). if v then tokens_from (at + 1) (blanks ++ rest) else joined_tokens at b
+    (begins_token (blanks ++ rest)) (tokens_from (at + 1) (blanks ++ rest)))
     (and_parts (is_white_space b) (list_all is_white_space blanks) h).0
     ∙ tokens-blanks (at + 1) blanks rest (and_parts (is_white_space b) (list_all is_white_space blanks) h).1
     ∙ ap (λ (n : ℕ). tokens_from n rest) (omega arith)
@@ -25,20 +27,24 @@ record IsWholeWord (b : ℕ) (word rest : List ℕ) : Type 0 where
   ends : begins_token rest ≡ false
 
 -- its bytes are one token
-tokens-word : (at b : ℕ) (word rest : List ℕ) → IsWholeWord b word rest → tokens_from at (b ∷ (word ++ rest)) ≡ (record { from = at; bytes = b ∷ word }) ∷ tokens_from (at + length (b ∷ word)) rest
+tokens-word : (at b : ℕ) (word rest : List ℕ) → IsWholeWord b word rest
+    → tokens_from at (b ∷ (word ++ rest)) ≡ (record { from = at; bytes = b ∷ word }) ∷ tokens_from (at + length (b ∷ word)) rest
 tokens-word at b [] rest is =
-    ap (λ (v : Bool). if v then tokens_from (at + 1) rest else joined_tokens at b (begins_token rest) (tokens_from (at + 1) rest)) is.first
+    ap (λ (v : Bool). if v then tokens_from (at + 1) rest else joined_tokens at b (begins_token rest)
+    (tokens_from (at + 1) rest)) is.first
     ∙ ap (λ (v : Bool). joined_tokens at b v (tokens_from (at + 1) rest)) is.ends
 tokens-word at b (c ∷ word) rest is =
     let others = and_parts (not (is_white_space c)) (list_all (λ x. not (is_white_space x)) word) is.others in
-    let next : IsWholeWord c word rest = record { first = not-true (is_white_space c) others.0; others = others.1; ends = is.ends } in
+    let next : IsWholeWord c word rest =
+    record { first = not-true (is_white_space c) others.0; others = others.1; ends = is.ends } in
     let rest_tokens : List Token = tokens_from (at + 1) (c ∷ (word ++ rest)) in
     ap (λ (v : Bool). if v then rest_tokens else joined_tokens at b (not (is_white_space c)) rest_tokens) is.first
     ∙ ap (λ (v : Bool). joined_tokens at b (not v) rest_tokens) next.first
     ∙ ap (λ (ts : List Token). joined_tokens at b true ts) (tokens-word (at + 1) c word rest next)
     ∙ ap (λ (n : ℕ). (record { from = at; bytes = b ∷ c ∷ word }) ∷ tokens_from n rest) (omega arith)
 
-pub word_list : (at : ℕ) (word rest : List ℕ) → 0 < length word → list_all (λ x. not (is_white_space x)) word ≡ true → begins_token rest ≡ false →
+pub word_list : (at : ℕ) (word rest : List ℕ) → 0 < length word →
+    list_all (λ x. not (is_white_space x)) word ≡ true → begins_token rest ≡ false →
     tokens_from at (word ++ rest) ≡ (record { from = at; bytes = word }) ∷ tokens_from (at + length word) rest
 word_list at [] rest some all ends = absurd (omega arith)
 word_list at (b ∷ word) rest some all ends =
@@ -54,23 +60,28 @@ blanks_at text at n fits blank =
     ∙ ap (λ (k : ℕ). tokens_from (at + k) (drop n (drop at text))) (length-take-le n (drop at text) fits)
     ∙ ap (tokens_from (at + n)) (drop-drop n at text)
 
-pub blanks_step : {front : List ℕ} (text : List ℕ) (at n : ℕ) → front ≡ drop at text → n ≤ length front → list_all is_white_space (take n front) ≡ true →
+pub blanks_step : {front : List ℕ} (text : List ℕ) (at n : ℕ) → front ≡ drop at text → n ≤ length front →
+    list_all is_white_space (take n front) ≡ true →
     tokens_from at (drop at text) ≡ tokens_from (at + n) (drop (at + n) text)
 blanks_step text at n are fits blank = blanks_at text at n (rw (← are) fits) (rw (← are) blank)
 
 -- the bytes up to a blank at a place of a text are a token
 pub word_at : {m : ℕ} (text : List ℕ) (from : ℕ) → m ≤ length (drop from text) → 0 < m →
     list_all (λ x. not (is_white_space x)) (take m (drop from text)) ≡ true → begins_token (drop m (drop from text)) ≡ false →
-    tokens_from from (drop from text) ≡ (record { from = from; bytes = slice_range text from (from + m) }) ∷ tokens_from (from + m) (drop (from + m) text)
+    tokens_from from (drop from text)
+    ≡ (record { from = from; bytes = slice_range text from (from + m) }) ∷ tokens_from (from + m) (drop (from + m) text)
 word_at {m} text from fits some word ends =
     let len : length (take m (drop from text)) ≡ m = length-take-le m (drop from text) fits in
     let long : 0 < length (take m (drop from text)) = rw len some in
     let same : from + m - from ≡ m = omega arith in
     ap (tokens_from from) (sym (take-append-drop m (drop from text)))
     ∙ word_list from (take m (drop from text)) (drop m (drop from text)) long word ends
-    ∙ ap (λ (k : ℕ). (record { from = from; bytes = take m (drop from text) }) ∷ tokens_from (from + k) (drop m (drop from text))) len
-    ∙ ap (λ (rest : List ℕ). (record { from = from; bytes = take m (drop from text) }) ∷ tokens_from (from + m) rest) (drop-drop m from text)
-    ∙ ap (λ (k : ℕ). (record { from = from; bytes = take k (drop from text) }) ∷ tokens_from (from + m) (drop (from + m) text)) (sym same)
+    ∙ ap (λ (k : ℕ). (record { from = from; bytes = take m (drop from text) })
+    ∷ tokens_from (from + k) (drop m (drop from text))) len
+    ∙ ap (λ (rest : List ℕ). (record { from = from; bytes = take m (drop from text) })
+    ∷ tokens_from (from + m) rest) (drop-drop m from text)
+    ∙ ap (λ (k : ℕ). (record { from = from; bytes = take k (drop from text) })
+    ∷ tokens_from (from + m) (drop (from + m) text)) (sym same)
 
 -- a slice from a place on is what is left there
 pub slice_from : (text : List ℕ) (at : ℕ) → take (length text - at) (drop at text) ≡ drop at text
@@ -115,19 +126,25 @@ is_pushed xs x ys e = record {
 }
 
 -- a token more, with its size
-pub more_read : {text : List ℕ} {at to : ℕ} {sizes : List ℕ} {total count size : ℕ} (from : ℕ) → HasRead text at sizes total → count ≡ length sizes →
-    tokens_from at (drop at text) ≡ (record { from = from; bytes = slice_range text from to }) ∷ tokens_from to (drop to text) → to ≤ length text →
+pub more_read : {text : List ℕ} {at to : ℕ} {sizes : List ℕ} {total count size : ℕ} (from : ℕ) →
+    HasRead text at sizes total → count ≡ length sizes →
+    tokens_from at (drop at text)
+    ≡ (record { from = from; bytes = slice_range text from to }) ∷ tokens_from to (drop to text) → to ≤ length text →
     AddsSize (slice_range text from to) count total size → HasRead text to (sizes ++ size ∷ []) (total + size)
 more_read {text} {at} {to} {sizes} {size} from read counted next fits adds = record {
   within = fits;
   done = read.done ++ (record { from = from; bytes = slice_range text from to }) ∷ [];
-  tokens = read.tokens ∙ ap (λ (ts : List Token). read.done ++ ts) next ∙ sym (append_assoc read.done ((record { from = from; bytes = slice_range text from to }) ∷ []) (tokens_from to (drop to text)));
+  tokens = read.tokens ∙ ap (λ (ts : List Token). read.done ++ ts) next
+      ∙ sym (append_assoc read.done ((record { from = from; bytes = slice_range text from to }) ∷ [])
+      (tokens_from to (drop to text)));
   written = record {
-    numbers = map-append (λ (token : Token). number_of token.bytes) read.done ((record { from = from; bytes = slice_range text from to }) ∷ [])
+    numbers = map-append (λ (token : Token). number_of token.bytes) read.done
+        ((record { from = from; bytes = slice_range text from to }) ∷ [])
         ∙ ap (λ (ns : List (Option ℕ)). ns ++ number_of (slice_range text from to) ∷ []) read.written.numbers
         ∙ ap (λ (n : Option ℕ). map (λ (s : ℕ). Some s) sizes ++ n ∷ []) adds.number
         ∙ sym (map-append (λ (s : ℕ). Some s) sizes (size ∷ []));
-    small = All-append (λ (s : ℕ). s ≤ 2 ^ 32) sizes (size ∷ []) read.written.small (All-cons (λ (s : ℕ). s ≤ 2 ^ 32) size [] adds.small (All-nil (λ (s : ℕ). s ≤ 2 ^ 32)));
+    small = All-append (λ (s : ℕ). s ≤ 2 ^ 32) sizes (size ∷ []) read.written.small
+        (All-cons (λ (s : ℕ). s ≤ 2 ^ 32) size [] adds.small (All-nil (λ (s : ℕ). s ≤ 2 ^ 32)));
     few_bytes = omega (arith, adds.few_bytes, read.total_is, sum_by-append (λ (s : ℕ). s) sizes (size ∷ []));
     few = omega (arith, adds.few, counted, length-append sizes (size ∷ []));
   };
@@ -135,7 +152,8 @@ more_read {text} {at} {to} {sizes} {size} from read counted next fits adds = rec
 }
 
 -- a token with which the tokens so far write no sizes
-pub bad_read : {text : List ℕ} {at from : ℕ} {sizes : List ℕ} {total count : ℕ} (to : ℕ) → HasRead text at sizes total → count ≡ length sizes →
+pub bad_read : {text : List ℕ} {at from : ℕ} {sizes : List ℕ} {total count : ℕ} (to : ℕ) →
+    HasRead text at sizes total → count ≡ length sizes →
     tokens_from at (drop at text) ≡ (record { from = from; bytes = slice_range text from to }) ∷ tokens_from to (drop to text) →
     ((size : ℕ) → AddsSize (slice_range text from to) count total size → ⊥) → IsBadTrace text from
 bad_read {text} {at} {from} {sizes} to read counted next none = record {

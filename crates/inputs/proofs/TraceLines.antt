@@ -18,21 +18,24 @@ digits_word : (bytes : List ℕ) → list_all is_ascii_digit bytes ≡ true → 
 digits_word [] h = refl
 digits_word (b ∷ bytes) h =
     let parts = and_parts (is_ascii_digit b) (list_all is_ascii_digit bytes) h in
-    and_from (not (is_white_space b)) (list_all (λ x. not (is_white_space x)) bytes) (digit_no_blank b parts.0) (digits_word bytes parts.1)
+    and_from (not (is_white_space b)) (list_all (λ x. not (is_white_space x)) bytes) (digit_no_blank b parts.0)
+    (digits_word bytes parts.1)
 
 -- each line is a token
 line_tokens : ℕ → List ℕ → List Token
 line_tokens at [] = []
 line_tokens at (size ∷ sizes) = (record { from = at; bytes = decimal size }) ∷ line_tokens (at + length (decimal size) + 1) sizes
 
-tokens_are : (at : ℕ) (sizes : List ℕ) → All (λ size. size < 2 ^ 64) sizes → tokens_from at (lines_of sizes) ≡ line_tokens at sizes
+tokens_are : (at : ℕ) (sizes : List ℕ) → All (λ size. size < 2 ^ 64) sizes
+    → tokens_from at (lines_of sizes) ≡ line_tokens at sizes
 unfolding line_tokens
 tokens_are at [] small = refl
 tokens_are at (size ∷ sizes) small =
     let digits = number_read (decimal size) size (written_read 0 size (All-head (λ n. n < 2 ^ 64) size sizes small)) in
     ap (tokens_from at) (append_assoc (decimal size) (10 ∷ []) (lines_of sizes))
     ∙ word_list at (decimal size) (10 ∷ lines_of sizes) digits.0 (digits_word (decimal size) digits.1) refl
-    ∙ ap (λ (ts : List Token). (record { from = at; bytes = decimal size }) ∷ ts) (tokens_are (at + length (decimal size) + 1) sizes (All-tail (λ n. n < 2 ^ 64) size sizes small))
+    ∙ ap (λ (ts : List Token). (record { from = at; bytes = decimal size }) ∷ ts)
+    (tokens_are (at + length (decimal size) + 1) sizes (All-tail (λ n. n < 2 ^ 64) size sizes small))
 
 numbers_are : (at : ℕ) (sizes : List ℕ) → All (λ size. size < 2 ^ 64) sizes →
     map (λ (token : Token). number_of token.bytes) (line_tokens at sizes) ≡ map (λ (size : ℕ). Some size) sizes
@@ -41,12 +44,15 @@ numbers_are at [] small = refl
 numbers_are at (size ∷ sizes) small =
     ap (λ (n : Option ℕ). n ∷ map (λ (token : Token). number_of token.bytes) (line_tokens (at + length (decimal size) + 1) sizes))
     (written_read 0 size (All-head (λ n. n < 2 ^ 64) size sizes small))
-    ∙ ap (λ (ns : List (Option ℕ)). Some size ∷ ns) (numbers_are (at + length (decimal size) + 1) sizes (All-tail (λ n. n < 2 ^ 64) size sizes small))
+    ∙ ap (λ (ns : List (Option ℕ)). Some size ∷ ns)
+    (numbers_are (at + length (decimal size) + 1) sizes (All-tail (λ n. n < 2 ^ 64) size sizes small))
 
 -- the numbers of the lines
 numbers_read : (sizes : List ℕ) → All (λ size. size < 2 ^ 64) sizes →
     map (λ (token : Token). number_of token.bytes) (tokens_from 0 (lines_of sizes)) ≡ map (λ (size : ℕ). Some size) sizes
-numbers_read sizes small = ap (λ (ts : List Token). map (λ (token : Token). number_of token.bytes) ts) (tokens_are 0 sizes small) ∙ numbers_are 0 sizes small
+numbers_read sizes small =
+    ap (λ (ts : List Token). map (λ (token : Token). number_of token.bytes) ts) (tokens_are 0 sizes small)
+    ∙ numbers_are 0 sizes small
 
 same_somes : (one other : List ℕ) → map (λ (n : ℕ). Some n) one ≡ map (λ (n : ℕ). Some n) other → one ≡ other
 same_somes [] [] e = refl
@@ -79,5 +85,6 @@ limits_of sizes is = record {
   together = is.few_bytes;
 }
 
-pub lines_within : (sizes read : List ℕ) → All (λ size. size < 2 ^ 64) sizes → IsTraceText (lines_of sizes) read → AreWithinLimits sizes
+pub lines_within : (sizes read : List ℕ) → All (λ size. size < 2 ^ 64) sizes → IsTraceText (lines_of sizes) read
+    → AreWithinLimits sizes
 lines_within sizes read small is = limits_of sizes (subst (IsTraceText (lines_of sizes)) (lines_same sizes read small is) is)

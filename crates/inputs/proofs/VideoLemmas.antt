@@ -21,13 +21,16 @@ video_once file a b p q = from_once (pack_in file) file a b p q
 -- what a library holds has one video
 pub held_once : (held : List File) (name a b : List ℕ) → HoldsVideo held name a → HoldsVideo held name b → a ≡ b
 held_once held name a b p q =
-    video_once q.file a b (subst (λ (f : List ℕ). IsVideo f a) (one_file held name p.file q.file p.found q.found) p.is_video) q.is_video
+    video_once q.file a b
+    (subst (λ (f : List ℕ). IsVideo f a) (one_file held name p.file q.file p.found q.found) p.is_video) q.is_video
 
-from_not_fault : (pack : Option ℕ) (file video : List ℕ) (fault : SystemFault) → IsVideoFrom pack file video → IsStreamFaultFrom pack file fault → ⊥
+from_not_fault : (pack : Option ℕ) (file video : List ℕ) (fault : SystemFault) → IsVideoFrom pack file video
+    → IsStreamFaultFrom pack file fault → ⊥
 from_not_fault None file video fault p q = q
 from_not_fault (Some place) file video fault p q = not_both _ video q.0 p q.1.0
 
-video_not_refused : (file video : List ℕ) (fault : Fault) → IsVideo file video → refusal video ≡ None → IsVideoRefused file fault → ⊥
+video_not_refused : (file video : List ℕ) (fault : Fault) → IsVideo file video → refusal video ≡ None
+    → IsVideoRefused file fault → ⊥
 video_not_refused file video (Film fault) is accepted refused =
     let same : video ≡ refused.0 = video_once file video refused.0 is refused.1.0 in
     let both : None ≡ Some fault = sym accepted ∙ ap refusal same ∙ refused.1.1 in cc
@@ -43,17 +46,21 @@ pub record HoldsAccepted (held : List File) (name video : List ℕ) (most : ℕ)
   pub accepted : refusal video ≡ None
 
 -- isn't refused
-pub file_not_refused : {held : List File} {name video : List ℕ} {most : ℕ} (over fault : Fault) → HoldsAccepted held name video most → IsRefusedAbove most over held name fault → ⊥
+pub file_not_refused : {held : List File} {name video : List ℕ} {most : ℕ} (over fault : Fault)
+    → HoldsAccepted held name video most → IsRefusedAbove most over held name fault → ⊥
 file_not_refused over fault holds (inl missing) = let both : Some holds.file ≡ None = sym holds.found ∙ missing.1 in cc
 file_not_refused {held} {name} {video} over fault holds (inr other) =
     let same : holds.file ≡ other.0 = one_file held name holds.file other.0 holds.found other.1.0 in
     elim other.1.1 [
       | inl long ↦ omega (arith, ap length same, holds.short, long.0)
-      | inr refused ↦ video_not_refused other.0 video fault (subst (λ (f : List ℕ). IsVideo f video) same holds.is_video) holds.accepted refused.1
+      | inr refused ↦
+          video_not_refused other.0 video fault (subst (λ (f : List ℕ). IsVideo f video) same holds.is_video)
+          holds.accepted refused.1
     ]
 
 -- what is accepted isn't refused
-pub held_not_refused : (held : List File) (name video : List ℕ) (fault : Fault) → HoldsVideo held name video → IsFilmRefused held name fault → ⊥
+pub held_not_refused : (held : List File) (name video : List ℕ) (fault : Fault) → HoldsVideo held name video
+    → IsFilmRefused held name fault → ⊥
 held_not_refused held name video fault holds refused =
     let its : HoldsAccepted held name video (2 ^ 40) = record {
       file = holds.file;

@@ -26,7 +26,8 @@ pub block_length-append : (w v : List ℕ) → 4 ≤ length w → block_length (
 block_length-append w v h =
     rw (get_or_append_left w v 0 2 (omega arith), get_or_append_left w v 0 3 (omega arith)) refl
 
-pub whole_stays : (w v : List ℕ) (answer : Result Step DemuxFault) → IsFirst w answer → IsWholePiece w answer → IsFirst (w ++ v) answer
+pub whole_stays : (w v : List ℕ) (answer : Result Step DemuxFault) → IsFirst w answer → IsWholePiece w answer
+    → IsFirst (w ++ v) answer
 whole_stays w v (Ok (Skip n)) h whole = (h.0, AreLineEnds-append w v n whole h.1)
 whole_stays w v (Ok (Block channel n)) h whole = (
   StartsBlock-append w v h.0,

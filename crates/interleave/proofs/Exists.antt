@@ -72,7 +72,8 @@ feeds w at k = leb at k && eqb (get_or w k 0) 10
 no_feed : (w : List ℕ) (at k : ℕ) → at ≤ k → feeds w at k ≡ false → get_or w k 0 ≡ 10 → ⊥
 unfolding feeds
 no_feed w at k after none is =
-    not_both (leb at k && eqb (get_or w k 0) 10) (and_from (leb at k) (eqb (get_or w k 0) 10) (le-leb at k after) (eq-eqb (get_or w k 0) 10 is)) none
+    not_both (leb at k && eqb (get_or w k 0) 10)
+    (and_from (leb at k) (eqb (get_or w k 0) 10) (le-leb at k after) (eq-eqb (get_or w k 0) 10 is)) none
 
 line_found : (w : List ℕ) (at : ℕ) (f : Found (feeds w at) (length w)) → (text_end : ℕ) × IsLine w at text_end (f.at + 1)
 unfolding feeds
@@ -92,41 +93,64 @@ line_found w at f =
 
 written : (w : List ℕ) (at : ℕ) → (n : ℕ) × IsWrittenAt w at n
 written w at = elim (first_found (feeds w at) (length w)) [
-  | inl f ↦ (let line = line_found w at f in
-      (written_length (without_blanks (slice_range w at line.0)), inl (record { text_end = line.0; next = f.at + 1; line = line.1; written = refl })))
+  | inl f ↦ (let line = line_found w at f in (
+    written_length (without_blanks (slice_range w at line.0)),
+    inl (record { text_end = line.0; next = f.at + 1; line = line.1; written = refl }),
+  ))
   | inr none ↦ (0, inr (λ k from within is. no_feed w at k from (none k within) is, refl))
 ]
 
 named : List ℕ → ℕ → Bool
 named w at =
-    ltb 0 at && (eqb (get_or w (at - 1) 0) 10 && same (map to_ascii_lowercase (slice_range w at (at + 15))) (map to_ascii_lowercase (codes "Content-Length:")))
+    ltb 0 at && (eqb (get_or w (at - 1) 0) 10
+    && same (map to_ascii_lowercase (slice_range w at (at + 15))) (map to_ascii_lowercase (codes "Content-Length:")))
 
 named-line : (w : List ℕ) (at : ℕ) → named w at ≡ true → IsLengthLine w at
 unfolding named
 named-line w at e =
-    let first = and_parts (ltb 0 at) (eqb (get_or w (at - 1) 0) 10 && same (map to_ascii_lowercase (slice_range w at (at + 15))) (map to_ascii_lowercase (codes "Content-Length:"))) e in
-    let rest = and_parts (eqb (get_or w (at - 1) 0) 10) (same (map to_ascii_lowercase (slice_range w at (at + 15))) (map to_ascii_lowercase (codes "Content-Length:"))) first.1 in
+    let first = and_parts (ltb 0 at)
+    (eqb (get_or w (at - 1) 0) 10
+    && same (map to_ascii_lowercase (slice_range w at (at + 15))) (map to_ascii_lowercase (codes "Content-Length:"))) e in
+    let rest = and_parts (eqb (get_or w (at - 1) 0) 10)
+    (same (map to_ascii_lowercase (slice_range w at (at + 15))) (map to_ascii_lowercase (codes "Content-Length:"))) first.1 in
     record {
       after = ltb-true 0 at first.0;
       begins = eqb-true (get_or w (at - 1) 0) 10 rest.0;
-      name = same-true (map to_ascii_lowercase (slice_range w at (at + 15))) (map to_ascii_lowercase (codes "Content-Length:")) rest.1;
+      name = same-true (map to_ascii_lowercase (slice_range w at (at + 15)))
+          (map to_ascii_lowercase (codes "Content-Length:")) rest.1;
     }
 
 line-named : (w : List ℕ) (at : ℕ) → IsLengthLine w at → named w at ≡ true
 unfolding named
 line-named w at line =
-    let name : same (map to_ascii_lowercase (slice_range w at (at + 15))) (map to_ascii_lowercase (codes "Content-Length:")) ≡ true =
-    ap (λ (l : List ℕ). same (map to_ascii_lowercase (slice_range w at (at + 15))) l) (sym line.name) ∙ same-refl (map to_ascii_lowercase (slice_range w at (at + 15))) in
-    and_from (ltb 0 at) (eqb (get_or w (at - 1) 0) 10 && same (map to_ascii_lowercase (slice_range w at (at + 15))) (map to_ascii_lowercase (codes "Content-Length:"))) (lt-ltb 0 at line.after)
-    (and_from (eqb (get_or w (at - 1) 0) 10) (same (map to_ascii_lowercase (slice_range w at (at + 15))) (map to_ascii_lowercase (codes "Content-Length:"))) (eq-eqb (get_or w (at - 1) 0) 10 line.begins) name)
+    let name : same (map to_ascii_lowercase (slice_range w at (at + 15)))
+    (map to_ascii_lowercase (codes "Content-Length:")) ≡ true =
+    ap (λ (l : List ℕ). same (map to_ascii_lowercase (slice_range w at (at + 15))) l) (sym line.name)
+    ∙ same-refl (map to_ascii_lowercase (slice_range w at (at + 15))) in
+    and_from (ltb 0 at)
+    (eqb (get_or w (at - 1) 0) 10
+    && same (map to_ascii_lowercase (slice_range w at (at + 15)))
+    (map to_ascii_lowercase (codes "Content-Length:"))) (lt-ltb 0 at line.after)
+    (and_from (eqb (get_or w (at - 1) 0) 10)
+    (same (map to_ascii_lowercase (slice_range w at (at + 15)))
+    (map to_ascii_lowercase (codes "Content-Length:"))) (eq-eqb (get_or w (at - 1) 0) 10 line.begins) name)
 
 unnamed : (w : List ℕ) (at : ℕ) → named w at ≡ false → IsLengthLine w at → ⊥
 unnamed w at none line = not_both (named w at) (line-named w at line) none
 
 body : (head : List ℕ) → (n : ℕ) × IsBodyLength head n
 body head = elim (first_found (named head) (length head)) [
-  | inl f ↦ (let value = written head (f.at + 15) in
-      (value.0, inl (record { at = f.at; is_line = named-line head f.at f.holds; first = λ k below line. unnamed head k (f.first k below) line; value = value.1 })))
+  | inl f ↦ (let value = written head (f.at + 15) in (
+    value.0,
+    inl
+        (record {
+          at = f.at;
+          is_line = named-line head f.at f.holds;
+          first =
+              λ k below line. unnamed head k (f.first k below) line;
+          value = value.1;
+        }),
+  ))
   | inr none ↦ (0, inr (no_line head (λ k within line. unnamed head k (none k within) line), refl))
 ]
 
@@ -136,14 +160,17 @@ abbrev Decides : List ℕ → Type 0
 Decides w = ((n : ℕ) × IsPieceLength w n) ⊎ ((n : ℕ) → IsPieceLength w n → ⊥)
 
 -- where a request is in front, no other piece is
-only_request : (w : List ℕ) → StartsRequest w → ((n : ℕ) → IsRequestLength w n → n ≤ length w → ⊥) → (n : ℕ) → IsPieceLength w n → ⊥
+only_request : (w : List ℕ) → StartsRequest w → ((n : ℕ) → IsRequestLength w n → n ≤ length w → ⊥) → (n : ℕ)
+    → IsPieceLength w n → ⊥
 only_request w starts none n (LineEnd one some end) = not_both (is_line_end (get_or w 0 0)) end starts.1
 only_request w starts none n (WholeBlock block four size inside) = clash_block_request w block starts
 only_request w starts none n (WholeRequest request size inside) = none n size inside
 
 request_whole : (w : List ℕ) (total : ℕ) → StartsRequest w → IsRequestLength w total → Decides w
 request_whole w total starts size = elim (cases_lt (length w) total) [
-  | inl less ↦ inr (only_request w starts (λ n other inside. let same : n ≡ total = total_once w n total other size in omega (arith, same, less, inside)))
+  | inl less ↦
+      inr (only_request w starts
+      (λ n other inside. let same : n ≡ total = total_once w n total other size in omega (arith, same, less, inside)))
   | inr fits ↦ inl (total, WholeRequest starts size fits)
 ]
 
@@ -151,14 +178,18 @@ request_with_head : (w : List ℕ) (head : ℕ) → StartsRequest w → IsHead w
 request_with_head w head starts is fits =
     let its = body (take head w) in
     elim (cases_lt 65536 its.0) [
-      | inl long ↦ inr (only_request w starts (λ n size inside. not_long w n size (long_body w head is fits (its.0, (long, its.1)))))
+      | inl long ↦
+          inr (only_request w starts (λ n size inside. not_long w n size (long_body w head is fits (its.0, (long, its.1)))))
       | inr small ↦ request_whole w (head + its.0) starts (whole_length is fits its.1 small)
     ]
 
 request_decided : (w : List ℕ) → StartsRequest w → Decides w
 request_decided w starts = elim (head_decided w) [
   | inl found ↦ elim (cases_lt 16384 found.0) [
-    | inl long ↦ inr (only_request w starts (λ n size inside. let same : size.head ≡ found.0 = head_once w size.head found.0 size.is_head found.1 in omega (arith, same, size.fits, long)))
+    | inl long ↦
+        inr (only_request w starts
+        (λ n size inside. let same : size.head ≡ found.0 =
+        head_once w size.head found.0 size.is_head found.1 in omega (arith, same, size.fits, long)))
     | inr fits ↦ request_with_head w found.0 starts found.1 fits
   ]
   | inr none ↦ inr (only_request w starts (λ n size inside. clash_short w size.head size.is_head none))
@@ -210,7 +241,8 @@ piece_some w n (WholeRequest starts size inside) = omega (arith, size.total_is, 
 stream_by : (most : ℕ) (w : List ℕ) → length w ≤ most → HasStream w
 stream_by zero w short = ([], (w, (refl, nothing w (omega arith))))
 stream_by (suc most) w short = elim (piece_decided w) [
-  | inl piece ↦ (let rest = stream_by most (drop piece.0 w) (omega (arith, length-drop piece.0 w, piece_some w piece.0 piece.1, short)) in
+  | inl piece ↦
+      (let rest = stream_by most (drop piece.0 w) (omega (arith, length-drop piece.0 w, piece_some w piece.0 piece.1, short)) in
       (take piece.0 w ∷ rest.0, (rest.1.0, ((piece.0, (piece.1, refl, rest.1.1.0)), rest.1.1.1))))
   | inr none ↦ ([], (w, (refl, none)))
 ]

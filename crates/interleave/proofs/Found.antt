@@ -36,7 +36,8 @@ pub no_line : (head : List ℕ) → ((k : ℕ) → k < length head → ¬ IsLeng
 no_line head none k = λ h. none k (omega (arith, name_within head k h)) h
 
 -- a request with a head and a body has their length
-pub whole_length : {w : List ℕ} {head body : ℕ} → IsHead w head → head ≤ 16384 → IsBodyLength (take head w) body → body ≤ 65536 → IsRequestLength w (head + body)
+pub whole_length : {w : List ℕ} {head body : ℕ} → IsHead w head → head ≤ 16384 → IsBodyLength (take head w) body
+    → body ≤ 65536 → IsRequestLength w (head + body)
 whole_length {w} {head} {body} is_head fits is_body small = record {
   head = head;
   body = body;

@@ -14,7 +14,8 @@ ends_none : (byte : ℕ) → byte ≢ 13 → byte ≢ 10 → is_line_end byte �
 ends_none byte no_cr no_lf = rw (ne_eqb byte 13 no_cr, ne_eqb byte 10 no_lf) refl
 
 -- all bytes CR and LF in front are skipped, and no other
-pub skips : (ends rest : List ℕ) → 0 < length ends → All IsCrOrLf ends → BeginsOtherwise rest → IsFirst (ends ++ rest) (Ok (Skip (length ends)))
+pub skips : (ends rest : List ℕ) → 0 < length ends → All IsCrOrLf ends → BeginsOtherwise rest
+    → IsFirst (ends ++ rest) (Ok (Skip (length ends)))
 skips ends rest some all other = (
   some,
   record {
@@ -31,7 +32,8 @@ skips ends rest some all other = (
 
 -- a block's head and data are a block
 pub is_block : (channel : ℕ) (content later : List ℕ) → length content < 65536 →
-    IsFirst (36 ∷ channel ∷ (length content / 256) ∷ (length content % 256) ∷ (content ++ later)) (Ok (Block channel (4 + length content)))
+    IsFirst (36 ∷ channel ∷ (length content / 256) ∷ (length content % 256) ∷ (content ++ later))
+    (Ok (Block channel (4 + length content)))
 is_block channel content later short =
     let number : length content / 256 * 256 + length content % 256 ≡ length content = omega arith in (
       (omega arith, refl),

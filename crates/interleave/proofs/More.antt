@@ -11,7 +11,11 @@ use Rattle.interleave.specs.declared.requests.Known.TheVariants.{Searched, Lengt
 -- an empty line ends at the same places
 pub empty_line_ends-append : (w v : List ℕ) (k : ℕ) → k < length w → empty_line_ends (w ++ v) k ≡ empty_line_ends w k
 empty_line_ends-append w v k h =
-    rw (get_or_append_left w v 0 k h, get_or_append_left w v 0 (k - 1) (omega arith), get_or_append_left w v 0 (k - 2) (omega arith)) refl
+    rw (
+      get_or_append_left w v 0 k h,
+      get_or_append_left w v 0 (k - 1) (omega arith),
+      get_or_append_left w v 0 (k - 2) (omega arith),
+    ) refl
 
 pub HasNoHead-append : (w v : List ℕ) (n : ℕ) → n ≤ length w → HasNoHead w n → HasNoHead (w ++ v) n
 HasNoHead-append w v n within none = λ k h. empty_line_ends-append w v k (omega arith) ∙ none k h
@@ -60,7 +64,8 @@ pub record AreMoved (old : List ℕ) (from : ℕ) (items : List ℕ) (start : �
   pub same : drop start items ≡ drop from old
 
 -- the same, where the bytes are kept after others and were moved before more came
-pub kept_known : {old : List ℕ} {from : ℕ} {items : List ℕ} {start : ℕ} (more : List ℕ) (known : Known) → AreMoved old from items start →
+pub kept_known : {old : List ℕ} {from : ℕ} {items : List ℕ} {start : ℕ} (more : List ℕ) (known : Known) →
+    AreMoved old from items start →
     IsKnown (drop from old) known → IsKnown (drop start (items ++ more)) known
 kept_known {items} {start} more known moved h =
     let P : List ℕ → Type 0 = λ l. IsKnown l known in

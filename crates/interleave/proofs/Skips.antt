@@ -28,7 +28,8 @@ as_many w v n m h k =
       | inr least ↦ least
     ]
 
-pub skip_stays : (w v : List ℕ) (n : ℕ) (answer : Result Step DemuxFault) → IsFirst w (Ok (Skip n)) → IsFirst (w ++ v) answer → IsLongerSkip n answer
+pub skip_stays : (w v : List ℕ) (n : ℕ) (answer : Result Step DemuxFault) → IsFirst w (Ok (Skip n))
+    → IsFirst (w ++ v) answer → IsLongerSkip n answer
 skip_stays w v n (Ok (Skip m)) h k = as_many w v n m h.1 k.1
 skip_stays w v n (Ok (Block c m)) h k = no_block (w ++ v) (front_line_end w v n h) k.0
 skip_stays w v n (Ok (Request m)) h k = not_both (is_line_end (get_or (w ++ v) 0 0)) (front_line_end w v n h) k.0.1

@@ -19,29 +19,37 @@ piece_within w n (WholeRequest starts size inside) = inside
 
 -- a whole piece stays in front as more bytes come
 pub piece_stays : (w v : List ℕ) (n : ℕ) → IsPieceLength w n → IsPieceLength (w ++ v) n
-piece_stays w v n (LineEnd one some end) = LineEnd one (omega (arith, length-append w v, some)) (rw (get_or_append_left w v 0 0 some) end)
+piece_stays w v n (LineEnd one some end) =
+    LineEnd one (omega (arith, length-append w v, some)) (rw (get_or_append_left w v 0 0 some) end)
 piece_stays w v n (WholeBlock starts four size inside) =
-    WholeBlock (StartsBlock-append w v starts) (omega (arith, length-append w v, four)) (rw (block_length-append w v four) size) (omega (arith, length-append w v, inside))
+    WholeBlock (StartsBlock-append w v starts) (omega (arith, length-append w v, four))
+    (rw (block_length-append w v four) size) (omega (arith, length-append w v, inside))
 piece_stays w v n (WholeRequest starts size inside) =
     WholeRequest (StartsRequest-append w v starts) (IsRequestLength-append w v n size) (omega (arith, length-append w v, inside))
 
 no_line_block : (w : List ℕ) → is_line_end (get_or w 0 0) ≡ true → StartsBlock w → ⊥
-no_line_block w end b = let other : is_line_end (get_or w 0 0) ≡ false = rw b.1 refl in not_both (is_line_end (get_or w 0 0)) end other
+no_line_block w end b = let other : is_line_end (get_or w 0 0) ≡ false =
+    rw b.1 refl in not_both (is_line_end (get_or w 0 0)) end other
 
 -- a whole piece has one length
 pub piece_once : (w : List ℕ) (a b : ℕ) → IsPieceLength w a → IsPieceLength w b → a ≡ b
 piece_once w a b (LineEnd one some end) (LineEnd one' some' end') = one ∙ sym one'
 piece_once w a b (LineEnd one some end) (WholeBlock starts four size inside) = absurd (no_line_block w end starts)
-piece_once w a b (LineEnd one some end) (WholeRequest starts size inside) = absurd (not_both (is_line_end (get_or w 0 0)) end starts.1)
+piece_once w a b (LineEnd one some end) (WholeRequest starts size inside) =
+    absurd (not_both (is_line_end (get_or w 0 0)) end starts.1)
 piece_once w a b (WholeBlock starts four size inside) (LineEnd one some end) = absurd (no_line_block w end starts)
 piece_once w a b (WholeBlock starts four size inside) (WholeBlock starts' four' size' inside') = size ∙ sym size'
-piece_once w a b (WholeBlock starts four size inside) (WholeRequest starts' size' inside') = absurd (clash_block_request w starts starts')
-piece_once w a b (WholeRequest starts size inside) (LineEnd one some end) = absurd (not_both (is_line_end (get_or w 0 0)) end starts.1)
-piece_once w a b (WholeRequest starts size inside) (WholeBlock starts' four' size' inside') = absurd (clash_block_request w starts' starts)
+piece_once w a b (WholeBlock starts four size inside) (WholeRequest starts' size' inside') =
+    absurd (clash_block_request w starts starts')
+piece_once w a b (WholeRequest starts size inside) (LineEnd one some end) =
+    absurd (not_both (is_line_end (get_or w 0 0)) end starts.1)
+piece_once w a b (WholeRequest starts size inside) (WholeBlock starts' four' size' inside') =
+    absurd (clash_block_request w starts' starts)
 piece_once w a b (WholeRequest starts size inside) (WholeRequest starts' size' inside') = total_once w a b size size'
 
 -- the pieces stay, and the rest grows
-pub cut_grows : (w v : List ℕ) (pieces : List (List ℕ)) (rest : List ℕ) → AreCut w pieces rest → AreCut (w ++ v) pieces (rest ++ v)
+pub cut_grows : (w v : List ℕ) (pieces : List (List ℕ)) (rest : List ℕ) → AreCut w pieces rest
+    → AreCut (w ++ v) pieces (rest ++ v)
 cut_grows w v [] rest same = ap (λ (xs : List ℕ). xs ++ v) same
 cut_grows w v (piece ∷ pieces) rest (n, cut) =
     let inside : n ≤ length w = piece_within w n cut.0 in
@@ -63,7 +71,8 @@ pub record CutsInTurn (w v : List ℕ) (ps qs : List (List ℕ)) (rest end : Lis
   pub next : AreCut (rest ++ v) qs end
 
 -- cuts join
-pub cuts_join : {w v : List ℕ} {ps qs : List (List ℕ)} {rest end : List ℕ} → CutsInTurn w v ps qs rest end → AreCut (w ++ v) (ps ++ qs) end
+pub cuts_join : {w v : List ℕ} {ps qs : List (List ℕ)} {rest end : List ℕ} → CutsInTurn w v ps qs rest end
+    → AreCut (w ++ v) (ps ++ qs) end
 cuts_join {v} {ps = []} {qs} {end} cuts =
     let P : List ℕ → Type 0 = λ xs. AreCut (xs ++ v) qs end in subst P (sym cuts.first) cuts.next
 cuts_join {w} {v} {ps = p ∷ ps} {qs} {rest} {end} cuts =
@@ -122,7 +131,8 @@ stream_once {w} {ps = p ∷ ps} {qs = q ∷ qs} {r} {t} streams =
     let cut' = streams.other.0.1 in
     let same : n ≡ m = piece_once w n m cut.0 cut'.0 in
     let P : ℕ → Type 0 = λ k. AreCut (drop k w) ps r in
-    let later : TwoStreams (drop m w) ps qs r t = record { one = (subst P same cut.2, streams.one.1); other = (cut'.2, streams.other.1) } in
+    let later : TwoStreams (drop m w) ps qs r t =
+    record { one = (subst P same cut.2, streams.one.1); other = (cut'.2, streams.other.1) } in
     let rest = stream_once later in
     let first : p ≡ q = cut.1 ∙ ap (λ k. take k w) same ∙ sym cut'.1 in
     (ap (λ (x : List ℕ). x ∷ ps) first ∙ ap (λ (xs : List (List ℕ)). q ∷ xs) rest.0, rest.1)
@@ -132,12 +142,14 @@ record AreEnds (rest : List ℕ) (n : ℕ) : Type 0 where
   within : n ≤ length rest
   line_ends : (k : ℕ) → k < n → is_line_end (get_or rest k 0) ≡ true
 
-skips : (w : List ℕ) (ps : List (List ℕ)) (rest : List ℕ) (n : ℕ) → AreCut w ps rest → AreEnds rest n → AreCut w (ps ++ map (λ c. c ∷ []) (take n rest)) (drop n rest)
+skips : (w : List ℕ) (ps : List (List ℕ)) (rest : List ℕ) (n : ℕ) → AreCut w ps rest → AreEnds rest n
+    → AreCut w (ps ++ map (λ c. c ∷ []) (take n rest)) (drop n rest)
 skips w ps rest zero cut ends =
     let P : List (List ℕ) → Type 0 = λ xs. AreCut w xs rest in subst P (sym (append-nil ps)) cut
 skips w ps [] (suc n) cut ends = let bad : ⊥ = omega (arith, ends.within) in absurd bad
 skips w ps (c ∷ cs) (suc n) cut ends =
-    let next : AreCut w (ps ++ (c ∷ []) ∷ []) cs = cut_more w ps (c ∷ cs) 1 cut (LineEnd refl (omega arith) (ends.line_ends 0 (omega arith))) in
+    let next : AreCut w (ps ++ (c ∷ []) ∷ []) cs =
+    cut_more w ps (c ∷ cs) 1 cut (LineEnd refl (omega arith) (ends.line_ends 0 (omega arith))) in
     let more = skips w (ps ++ (c ∷ []) ∷ []) cs n next
     (record { within = omega (arith, ends.within); line_ends = λ k below. ends.line_ends (suc k) (omega (arith, below)) }) in
     let P : List (List ℕ) → Type 0 = λ xs. AreCut w xs (drop n cs) in
@@ -147,7 +159,8 @@ no_more : (w : List ℕ) (ps : List (List ℕ)) (rest : List ℕ) → AreCut w p
 no_more w ps rest cut = let P : List (List ℕ) → Type 0 = λ xs. AreCut w xs rest in subst P (sym (append-nil ps)) cut
 
 -- what an answer tells are the next pieces
-pub next_pieces : (rest : List ℕ) (answer : Result Step DemuxFault) → IsFirst rest answer → (w : List ℕ) (ps : List (List ℕ)) → AreCut w ps rest →
+pub next_pieces : (rest : List ℕ) (answer : Result Step DemuxFault) → IsFirst rest answer →
+    (w : List ℕ) (ps : List (List ℕ)) → AreCut w ps rest →
     AreCut w (ps ++ told_pieces rest answer) (drop (told_length answer) rest)
 next_pieces rest (Ok (Skip n)) h w ps cut = skips w ps rest n cut (record { within = h.1.within; line_ends = h.1.line_ends })
 next_pieces rest (Ok (Block channel n)) h w ps cut = cut_more w ps rest n cut (WholeBlock h.0 h.1 h.3 h.4)

@@ -72,7 +72,8 @@ length_once w a b (inr x) (inl y) = absurd (x.0 y.at y.is_line)
 length_once w a b (inr x) (inr y) = x.1 ∙ sym y.1
 
 -- the body of the request in front has one length
-pub body_once : {w : List ℕ} {h h' a b : ℕ} → IsHead w h → IsHead w h' → IsBodyLength (take h w) a → IsBodyLength (take h' w) b → a ≡ b
+pub body_once : {w : List ℕ} {h h' a b : ℕ} → IsHead w h → IsHead w h' → IsBodyLength (take h w) a
+    → IsBodyLength (take h' w) b → a ≡ b
 body_once {w} {h} {h'} {a} {b} x y p q =
     let P : ℕ → Type 0 = λ k. IsBodyLength (take k w) a in
     length_once (take h' w) a b (subst P (head_once w h h' x y) p) q
@@ -144,7 +145,8 @@ answer_once w (Ok (Skip n)) (Ok More) x y = absurd (more_ends w n x y)
 answer_once w (Ok (Skip n)) (Err HeadTooLong) x y = absurd (clash_ends_request w n x y.0)
 answer_once w (Ok (Skip n)) (Err BodyTooLong) x y = absurd (clash_ends_request w n x y.0)
 answer_once w (Ok (Block c n)) (Ok (Skip m)) x y = absurd (clash_ends_block w m y x.0)
-answer_once w (Ok (Block c n)) (Ok (Block d m)) x y = let channel : c ≡ d = x.2 ∙ sym y.2 in let size : n ≡ m = x.3 ∙ sym y.3 in rw (channel, size) refl
+answer_once w (Ok (Block c n)) (Ok (Block d m)) x y = let channel : c ≡ d = x.2 ∙ sym y.2 in let size : n ≡ m =
+    x.3 ∙ sym y.3 in rw (channel, size) refl
 answer_once w (Ok (Block c n)) (Ok (Request m)) x y = absurd (clash_block_request w x.0 y.0)
 answer_once w (Ok (Block c n)) (Ok More) x y = absurd (more_block w c n x y)
 answer_once w (Ok (Block c n)) (Err HeadTooLong) x y = absurd (clash_block_request w x.0 y.0)

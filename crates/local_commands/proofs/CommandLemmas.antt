@@ -17,11 +17,13 @@ use Rattle.local_commands.specs.Plans.{HasCurves, IsChecked, IsVerdict}
 use Rattle.local_commands.specs.Verdict.{cert_fault_text}
 use Rattle.local_commands.specs.declared.done.Done.{Done}
 
-pub text_of : {E : Type 0} (text : List ℕ) (r : Result (Vec ℕ Global) E) (made : Vec ℕ Global) → IfOk r (λ v. v.items ≡ text) → r ≡ Ok made → made.items ≡ text
+pub text_of : {E : Type 0} (text : List ℕ) (r : Result (Vec ℕ Global) E) (made : Vec ℕ Global)
+    → IfOk r (λ v. v.items ≡ text) → r ≡ Ok made → made.items ≡ text
 text_of {E = E} text r made h e = subst (λ (x : Result (Vec ℕ Global) E). IfOk x (λ v. v.items ≡ text)) e h
 
 -- what `check` reads before its verdict
-pub record HasCertificate (held : List File) (viewer : Viewer) (cert : List ℕ) (curves : Curves) (segments : List Segment) : Type 0 where
+pub record HasCertificate (held : List File) (viewer : Viewer) (cert : List ℕ) (curves : Curves)
+    (segments : List Segment) : Type 0 where
   pub has : HasCurves held viewer curves
   pub written : List ℕ
   pub found : file_named held cert ≡ Some written
@@ -30,8 +32,10 @@ pub record HasCertificate (held : List File) (viewer : Viewer) (cert : List ℕ)
   pub certificate : IsCertificate written slots bytes segments
 
 -- with the verdict on that
-checked : {held : List File} {viewer : Viewer} {cert : List ℕ} {curves : Curves} {segments : List Segment} → HasCertificate held viewer cert curves segments →
-    {status : ℕ} {text : List ℕ} → IsVerdict curves.from curves.low.items curves.up.items segments status text → IsChecked held viewer cert status text
+checked : {held : List File} {viewer : Viewer} {cert : List ℕ} {curves : Curves} {segments : List Segment} →
+    HasCertificate held viewer cert curves segments →
+    {status : ℕ} {text : List ℕ} → IsVerdict curves.from curves.low.items curves.up.items segments status text
+    → IsChecked held viewer cert status text
 checked {curves} {segments} read {text} verdict = record {
   curves = curves;
   has = read.has;
@@ -63,8 +67,16 @@ fault_checked read {fault} first {r} text done is =
     checked read
     (inr (fault, (is.0, first, text_of (codes "refused " ++ cert_fault_text fault ++ codes "\n") r done.text text is.1)))
 
-pub film_done : {E : Type 0} {held : List File} {film : List ℕ} {size rate : ℕ} {units : List PictureUnit} → HoldsFilm held film size rate units →
+pub film_done : {E : Type 0} {held : List File} {film : List ℕ} {size rate : ℕ} {units : List PictureUnit} →
+    HoldsFilm held film size rate units →
     {r : Result (Vec ℕ Global) E} → IfOk r (λ v. v.items ≡ scan_text size rate units) →
     (done : Done) → r ≡ Ok done.text → IsScanned held film done.text.items
 film_done {size} {rate} {units} holds {r} text done is =
-    record { size = size; rate = rate; units = units; holds = holds; printed = text_of (scan_text size rate units) r done.text text is }
+    record {
+      size = size;
+      rate = rate;
+      units = units;
+      holds = holds;
+      printed =
+          text_of (scan_text size rate units) r done.text text is;
+    }

@@ -25,27 +25,34 @@ abbrev bytes_of : Named → List ℕ
 bytes_of n = string_bytes n.name
 
 -- a name of the script
-pub named_contains : {one : Named} {name : List ℕ} (named : List Named) (k : ℕ) → k < length named → one ≡ get_or named k one → name ≡ string_bytes one.name →
+pub named_contains : {one : Named} {name : List ℕ} (named : List Named) (k : ℕ) → k < length named →
+    one ≡ get_or named k one → name ≡ string_bytes one.name →
     Contains (names_in named) name
 named_contains {one} {name} named k inside at is =
     subst (λ (y : List ℕ). Contains (names_in named) y) (sym is)
     (k, omega (arith, inside, length-map named bytes_of), get_or-map bytes_of named k one ∙ ap bytes_of (sym at))
 
-pub sources_push : (sources after : List Source) (source : Source) → after ≡ sources ++ source ∷ [] → IsSource source → AreSources sources → AreSources after
+pub sources_push : (sources after : List Source) (source : Source) → after ≡ sources ++ source ∷ []
+    → IsSource source → AreSources sources → AreSources after
 sources_push sources after source e own are =
     subst (λ (l : List Source). AreSources l) (sym e) (record {
       each = λ i none inside. elim (cases_lt i (length sources)) [
-        | inl before ↦ subst (λ (s : Source). IsSource s) (sym (get_or_append_left sources (source ∷ []) none i before)) (are.each i none before)
+        | inl before ↦
+            subst (λ (s : Source). IsSource s) (sym (get_or_append_left sources (source ∷ []) none i before))
+            (are.each i none before)
         | inr past ↦
             let at : length sources ≡ i = omega (arith, past, inside, length-append sources (source ∷ [])) in
             let z : i - i ≡ 0 = omega arith in
-            subst (λ (s : Source). IsSource s) (sym (get_or-append_right sources (source ∷ []) i i none at (omega arith) ∙ ap (λ k. get_or (source ∷ []) k none) z)) own
+            subst (λ (s : Source). IsSource s)
+            (sym (get_or-append_right sources (source ∷ []) i i none at (omega arith)
+            ∙ ap (λ k. get_or (source ∷ []) k none) z)) own
       ];
     })
 
 -- those that were loaded so far are what the library holds
 pub record AreHeldFront (held : List File) (named : List Named) (sources : List Source) : Type 0 where
-  pub each : (k : ℕ) (name : Named) (none : Source) → k < length sources → IsHeldAs held (get_or named k name) (get_or sources k none)
+  pub each : (k : ℕ) (name : Named) (none : Source) → k < length sources
+      → IsHeldAs held (get_or named k name) (get_or sources k none)
 
 -- the next of the names, after so many sources
 pub record NextNamed (named : List Named) (sources : List Source) (one : Named) (i : ℕ) : Type 0 where
@@ -59,18 +66,25 @@ pub held_push : {held : List File} {named : List Named} {sources after : List So
 held_push {held} {named} {sources} {one} {i} source e next are own =
     subst (λ (l : List Source). AreHeldFront held named l) (sym e) (record {
       each = λ k name none short. elim (cases_lt k (length sources)) [
-        | inl before ↦ subst (λ (s : Source). IsHeldAs held (get_or named k name) s) (sym (get_or_append_left sources (source ∷ []) none k before)) (are.each k name none before)
+        | inl before ↦
+            subst (λ (s : Source). IsHeldAs held (get_or named k name) s)
+            (sym (get_or_append_left sources (source ∷ []) none k before)) (are.each k name none before)
         | inr past ↦
             let here : k ≡ i = omega (arith, past, short, next.long, length-append sources (source ∷ [])) in
-            let named_is : one ≡ get_or named k name = get_or_read_under named i (length named) one name next.at next.inside refl ∙ ap
+            let named_is : one ≡ get_or named k name =
+            get_or_read_under named i (length named) one name next.at next.inside refl ∙ ap
             (λ (j : ℕ). get_or named j name) (sym here) in
-            let source_is : get_or (sources ++ source ∷ []) k none ≡ source = get_or_push sources source none k (next.long ∙ sym here) in
-            subst (λ (s : Source). IsHeldAs held (get_or named k name) s) (sym source_is) (subst (λ (n : Named). IsHeldAs held n source) named_is own)
+            let source_is : get_or (sources ++ source ∷ []) k none ≡ source =
+            get_or_push sources source none k (next.long ∙ sym here) in
+            subst (λ (s : Source). IsHeldAs held (get_or named k name) s) (sym source_is)
+            (subst (λ (n : Named). IsHeldAs held n source) named_is own)
       ];
     })
 
-pub held_whole : (held : List File) (named : List Named) (sources : List Source) → length sources ≡ length named → AreHeldFront held named sources → AreHeldAs held named sources
-held_whole held named sources long are = record { count = long; each = λ k name none inside. are.each k name none (omega (arith, inside, long)) }
+pub held_whole : (held : List File) (named : List Named) (sources : List Source) → length sources ≡ length named
+    → AreHeldFront held named sources → AreHeldAs held named sources
+held_whole held named sources long are =
+    record { count = long; each = λ k name none inside. are.each k name none (omega (arith, inside, long)) }
 
 -- one of a list that has that many
 first_of : {A : Type 0} (xs : List A) (k : ℕ) → k < length xs → A
@@ -93,7 +107,8 @@ held_as_not_refused {held} {name} false (Trace sizes) refused_source is =
     trace_not_refused held name sizes.items refused_source.fault is.1 refused_source.refused
 
 -- those that were loaded so far aren't refused
-front_accepted : {held : List File} {named : List Named} {sources : List Source} {i : ℕ} → i ≤ length named → length sources ≡ i → AreHeldFront held named sources →
+front_accepted : {held : List File} {named : List Named} {sources : List Source} {i : ℕ} → i ≤ length named →
+    length sources ≡ i → AreHeldFront held named sources →
     All (IsNotRefusedAs held) (take i named)
 front_accepted {held} {named} {sources} {i} few long are = λ k d inside fault refused.
     let short : k < i = omega (arith, inside, length-take i named, few) in
@@ -107,7 +122,8 @@ front_accepted {held} {named} {sources} {i} few long are = λ k d inside fault r
 -- a film or trace that is refused after those before it were loaded is the first
 pub first_named_refused : {held : List File} {named : List Named} {sources : List Source} {i : ℕ} {one : Named}
     {name : List ℕ} {fault : Fault} → i < length named →
-    one ≡ get_or named i one → length sources ≡ i → AreHeldFront held named sources → IsNameOf one name → IsNamedRefused one held name fault →
+    one ≡ get_or named i one → length sources ≡ i → AreHeldFront held named sources → IsNameOf one name →
+    IsNamedRefused one held name fault →
     IsFirstNamedRefused named held name fault
 first_named_refused {named} {i} {one} {name} inside at long are is refused = record {
   before = take i named;
@@ -131,7 +147,8 @@ record FirstLines : Type 0 where
 -- a line is taken in, where it and lines after it are read
 line_fails_after : {mid whole : Reading} {o : Option Reading} (r : Reading) (first : FirstLines) →
     line_read r first.line ≡ o →
-    ((next : Reading) → lines_read next (take first.count first.lines) ≡ Some mid → lines_read next first.lines ≡ Some whole → ⊥) →
+    ((next : Reading) → lines_read next (take first.count first.lines) ≡ Some mid →
+    lines_read next first.lines ≡ Some whole → ⊥) →
     lines_read r (first.line ∷ take first.count first.lines) ≡ Some mid →
     lines_read r (first.line ∷ first.lines) ≡ Some whole → ⊥
 line_fails_after {whole} {o = None} r first is fails before all =
@@ -168,7 +185,8 @@ script_not_bad text script line is bad = elim bad.here [
       (record { inside = omega (arith, bad.some, bad.inside); here = here }) is.read
 ]
 
-script_not_refused : (held : List File) (name : List ℕ) (script : Script) (fault : Fault) → HoldsScript held name script → IsScriptRefused held name fault → ⊥
+script_not_refused : (held : List File) (name : List ℕ) (script : Script) (fault : Fault)
+    → HoldsScript held name script → IsScriptRefused held name fault → ⊥
 script_not_refused held name script fault holds (inl missing) = no_file holds.text (sym holds.found ∙ missing.1)
 script_not_refused held name script fault holds (inr bad) =
     script_not_bad holds.text script bad.line holds.script_is
@@ -179,13 +197,18 @@ read_names None = []
 read_names (Some reading) = reading.names
 
 -- a script's names are the only ones
-names_once : (held : List File) (name : List ℕ) (a b : Script) → HoldsScript held name a → HoldsScript held name b → names_of a.named.items ≡ names_of b.named.items
+names_once : (held : List File) (name : List ℕ) (a b : Script) → HoldsScript held name a
+    → HoldsScript held name b → names_of a.named.items ≡ names_of b.named.items
 unfolding read_names
 names_once held name a b p q =
-    ap read_names (sym p.script_is.read ∙ ap (λ (t : List ℕ). lines_read nothing_read (lines_of_script t)) (one_file held name p.text q.text p.found q.found) ∙ q.script_is.read)
+    ap read_names
+    (sym p.script_is.read
+    ∙ ap (λ (t : List ℕ). lines_read nothing_read (lines_of_script t))
+    (one_file held name p.text q.text p.found q.found) ∙ q.script_is.read)
 
 -- a film or trace that is held in place of another of its name and kind
-same_name : (a b : Named) → name_of a ≡ name_of b → (held : List File) (source : Source) → IsHeldAs held a source → IsHeldAs held b source
+same_name : (a b : Named) → name_of a ≡ name_of b → (held : List File) (source : Source)
+    → IsHeldAs held a source → IsHeldAs held b source
 same_name a b same held source is =
     subst (λ (n : Name). IsHeldUnder n.film held n.name source) same is
 
@@ -199,11 +222,13 @@ day_not_refused {held} {script} {read} {sources} name fault holds are (inr named
     let first : IsFirstNamedRefused other.named.items held name fault = named.1.1 in
     let names : names_of other.named.items ≡ names_of read.named.items = names_once held script other read named.1.0 holds in
     let k : ℕ = length first.before in
-    let inside : k < length other.named.items = omega (arith, ap length first.named_are, length-append first.before (first.one ∷ first.rest)) in
+    let inside : k < length other.named.items =
+    omega (arith, ap length first.named_are, length-append first.before (first.one ∷ first.rest)) in
     let short : k < length read.named.items =
     omega (arith, inside, length-map other.named.items name_of, length-map read.named.items name_of, ap length names) in
     let at : get_or other.named.items k first.one ≡ first.one =
-    ap (λ (l : List Named). get_or l k first.one) first.named_are ∙ get_or-append_seam first.before first.one first.rest first.one in
+    ap (λ (l : List Named). get_or l k first.one) first.named_are
+    ∙ get_or-append_seam first.before first.one first.rest first.one in
     let alike : name_of (get_or read.named.items k first.one) ≡ name_of first.one =
     sym (get_or-map name_of read.named.items k first.one) ∙ ap (λ (ns : List Name). get_or ns k (name_of first.one)) (sym names)
     ∙ get_or-map name_of other.named.items k first.one ∙ ap name_of at in

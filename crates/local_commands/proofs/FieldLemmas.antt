@@ -12,18 +12,22 @@ pub record AreSame (n m : ℕ) (xs ys : List ℕ) : Type 0 where
   pub rest : xs ≡ ys
 
 -- a number in front of a byte that is no digit
-pub number_cut : {n m : ℕ} {xs ys : List ℕ} (c : ℕ) → ¬ (IsInRange 48 57 c) → n < 2 ^ 64 → m < 2 ^ 64 → decimal n ++ c ∷ xs ≡ decimal m ++ c ∷ ys → AreSame n m xs ys
+pub number_cut : {n m : ℕ} {xs ys : List ℕ} (c : ℕ) → ¬ (IsInRange 48 57 c) → n < 2 ^ 64 → m < 2 ^ 64
+    → decimal n ++ c ∷ xs ≡ decimal m ++ c ∷ ys → AreSame n m xs ys
 number_cut {n} {m} {xs} {ys} c other small small' e =
-    let parts = same_cut {ws = xs} {bs = ys} c (decimal n) (decimal m) e (not_in_decimal c n small other) (not_in_decimal c m small' other) in
+    let parts = same_cut {ws = xs} {bs = ys} c (decimal n) (decimal m) e (not_in_decimal c n small other)
+    (not_in_decimal c m small' other) in
     record { number = decimal_injective n m small small' parts.0; rest = parts.1 }
 
 -- the same in front of a blank and a label that goes on, and at the end of a line
-pub field_cut : {n m : ℕ} {xs ys : List ℕ} (label : List ℕ) → n < 2 ^ 64 → m < 2 ^ 64 → decimal n ++ 32 ∷ (label ++ xs) ≡ decimal m ++ 32 ∷ (label ++ ys) → AreSame n m xs ys
+pub field_cut : {n m : ℕ} {xs ys : List ℕ} (label : List ℕ) → n < 2 ^ 64 → m < 2 ^ 64
+    → decimal n ++ 32 ∷ (label ++ xs) ≡ decimal m ++ 32 ∷ (label ++ ys) → AreSame n m xs ys
 field_cut {m} {xs} {ys} label small small' e =
     let one = number_cut 32 (λ within. omega (arith, within.0)) small small' e in
     record { number = one.number; rest = append_cancel_left label xs ys one.rest }
 
-pub line_cut : {n m : ℕ} {xs ys : List ℕ} → n < 2 ^ 64 → m < 2 ^ 64 → decimal n ++ 10 ∷ xs ≡ decimal m ++ 10 ∷ ys → AreSame n m xs ys
+pub line_cut : {n m : ℕ} {xs ys : List ℕ} → n < 2 ^ 64 → m < 2 ^ 64
+    → decimal n ++ 10 ∷ xs ≡ decimal m ++ 10 ∷ ys → AreSame n m xs ys
 line_cut {m} small small' e = number_cut 10 (λ within. omega (arith, within.0)) small small' e
 
 -- the same where other bytes follow
@@ -31,7 +35,8 @@ pub record AreCut (xs ys ws bs : List ℕ) : Type 0 where
   pub front : xs ≡ ys
   pub rest : ws ≡ bs
 
-pub two_cut : {c d : ℕ} {xs ys ws bs : List ℕ} → xs ++ c ∷ ws ≡ ys ++ d ∷ bs → All (λ b. b ≢ d) xs → All (λ b. b ≢ c) ys → AreCut xs ys (c ∷ ws) (d ∷ bs)
+pub two_cut : {c d : ℕ} {xs ys ws bs : List ℕ} → xs ++ c ∷ ws ≡ ys ++ d ∷ bs → All (λ b. b ≢ d) xs
+    → All (λ b. b ≢ c) ys → AreCut xs ys (c ∷ ws) (d ∷ bs)
 two_cut {c} {xs = []} {ys = []} e none none' = record { front = refl; rest = e }
 two_cut {c} {xs = []} {ys = y ∷ ys} e none none' = absurd (All-head (λ b. b ≢ c) y ys none' (cc))
 two_cut {c} {d} {xs = x ∷ xs} {ys = []} e none none' = absurd (All-head (λ b. b ≢ d) x xs none (cc))
@@ -45,7 +50,8 @@ two_cut {c} {d} {xs = x ∷ xs} {ys = y ∷ ys} {ws} {bs} e none none' =
     cc_cons x y xs ys first rest = cc
 
 -- what stands after the last of a byte
-pub last_cut : {xs ys : List ℕ} (c : ℕ) (front other : List ℕ) → front ++ c ∷ xs ≡ other ++ c ∷ ys → All (λ b. b ≢ c) xs → All (λ b. b ≢ c) ys → xs ≡ ys
+pub last_cut : {xs ys : List ℕ} (c : ℕ) (front other : List ℕ) → front ++ c ∷ xs ≡ other ++ c ∷ ys
+    → All (λ b. b ≢ c) xs → All (λ b. b ≢ c) ys → xs ≡ ys
 last_cut c [] [] e none none' = cc
 last_cut {xs} {ys} c [] (y ∷ other) e none none' =
     let same : xs ≡ other ++ c ∷ ys = cc in

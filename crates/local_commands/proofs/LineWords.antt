@@ -35,9 +35,11 @@ pub number-word : (key : List ℕ) (n : ℕ) → n < 2 ^ 64 → HasNo 32 key →
 number-word key n small blank end =
     is-word (key ++ (codes "=" ++ decimal n))
     (All-append (λ b. b ≢ 32) key (61 ∷ decimal n) blank
-    (All-append (λ b. b ≢ 32) (codes "=") (decimal n) (none_by 32 (codes "=") refl) (not_in_decimal 32 n small (λ within. omega (arith, within.0)))))
+    (All-append (λ b. b ≢ 32) (codes "=") (decimal n) (none_by 32 (codes "=") refl)
+    (not_in_decimal 32 n small (λ within. omega (arith, within.0)))))
     (All-append (λ b. b ≢ 10) key (61 ∷ decimal n) end
-    (All-append (λ b. b ≢ 10) (codes "=") (decimal n) (none_by 10 (codes "=") refl) (not_in_decimal 10 n small (λ within. omega (arith, within.0)))))
+    (All-append (λ b. b ≢ 10) (codes "=") (decimal n) (none_by 10 (codes "=") refl)
+    (not_in_decimal 10 n small (λ within. omega (arith, within.0)))))
 
 -- so are words
 unfoldable pub AreWords : List Setting → Type 0
@@ -94,5 +96,6 @@ pub line-values : {key first : List ℕ} (line_end : LineEnd) (settings : List S
 line-values {key} {first} line_end settings words first_word empty plain =
     ap (values_of key) (line-words first settings line_end first_word.word words)
     ∙ ap (λ (o : Option (List ℕ)). option_to_list o ++ values_of key (map word_of settings ++ line_end.words)) first_word.none
-    ∙ values_of-append key (map word_of settings) line_end.words ∙ ap (λ (vs : List (List ℕ)). values_of key (map word_of settings) ++ vs) empty
+    ∙ values_of-append key (map word_of settings) line_end.words
+    ∙ ap (λ (vs : List (List ℕ)). values_of key (map word_of settings) ++ vs) empty
     ∙ append-nil (values_of key (map word_of settings)) ∙ values_read key settings plain

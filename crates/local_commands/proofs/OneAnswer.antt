@@ -42,7 +42,8 @@ some_once (x ∷ xs) (y ∷ ys) e =
 trace_once : (held : List File) (name xs ys : List ℕ) → HoldsTrace held name xs → HoldsTrace held name ys → xs ≡ ys
 trace_once held name xs ys p q =
     some_once xs ys (sym p.trace.numbers
-    ∙ ap (λ (t : List ℕ). map (λ (token : Token). number_of token.bytes) (tokens_from 0 t)) (one_file held name p.text q.text p.found q.found)
+    ∙ ap (λ (t : List ℕ). map (λ (token : Token). number_of token.bytes) (tokens_from 0 t))
+    (one_file held name p.text q.text p.found q.found)
     ∙ q.trace.numbers)
 
 -- a film's sizes and rate are the only ones
@@ -50,7 +51,8 @@ record IsSameFilm (rate rate' : ℕ) (sizes sizes' : List ℕ) : Type 0 where
   rates : rate ≡ rate'
   same : sizes ≡ sizes'
 
-film_once : {held : List File} {name : List ℕ} {rate rate' : ℕ} {sizes sizes' : List ℕ} → HoldsSizes held name rate sizes → HoldsSizes held name rate' sizes' → IsSameFilm rate rate' sizes sizes'
+film_once : {held : List File} {name : List ℕ} {rate rate' : ℕ} {sizes sizes' : List ℕ}
+    → HoldsSizes held name rate sizes → HoldsSizes held name rate' sizes' → IsSameFilm rate rate' sizes sizes'
 film_once {held} {name} p q =
     let same : p.video ≡ q.video = held_once held name p.video q.video p.holds q.holds in
     record {
@@ -65,9 +67,11 @@ pictures_are a b sizes picture slot =
     ∙ ap (λ (n : ℕ). record { sizes = b.sizes; picture = b.picture; slot = n }) slot
 
 -- so are the pictures of a source
-pictures_once : (held : List File) (source : Source) (a b : Pictures) → ArePictures held source a → ArePictures held source b → a ≡ b
+pictures_once : (held : List File) (source : Source) (a b : Pictures) → ArePictures held source a
+    → ArePictures held source b → a ≡ b
 pictures_once held (trace_source name) a b p q =
-    pictures_are a b (trace_once held name a.sizes b.sizes p.holds q.holds) (p.picture_is ∙ sym q.picture_is) (p.slot_is ∙ sym q.slot_is)
+    pictures_are a b (trace_once held name a.sizes b.sizes p.holds q.holds) (p.picture_is ∙ sym q.picture_is)
+    (p.slot_is ∙ sym q.slot_is)
 pictures_once held (film_source name slot) a b p q =
     let same : IsSameFilm p.rate q.rate a.sizes b.sizes = film_once p.holds q.holds in
     pictures_are a b same.same (p.picture_is ∙ ap picture_time same.rates ∙ sym q.picture_is) (p.slot_is ∙ sym q.slot_is)
@@ -78,7 +82,8 @@ pub record AreSame (a b : CurvePair) : Type 0 where
   pub low : a.low.items ≡ b.low.items
   pub up : a.up.items ≡ b.up.items
 
-pub curves_once : (held : List File) (viewer : Viewer) (a b : CurvePair) → HasCurves held viewer a → HasCurves held viewer b → AreSame a b
+pub curves_once : (held : List File) (viewer : Viewer) (a b : CurvePair) → HasCurves held viewer a
+    → HasCurves held viewer b → AreSame a b
 curves_once held viewer a b p q =
     let same : p.pictures ≡ q.pictures = pictures_once held viewer.source p.pictures q.pictures p.are q.are in
     let p' : AreFilmCurves q.pictures.sizes (timing_of viewer q.pictures) a =
@@ -100,13 +105,18 @@ planned_once {held} {viewer} p q =
     subst (λ (from : ℕ). IsTaut from p.curves.low.items p.curves.up.items q.segments) same.from
     (subst (λ (low : List ℕ). IsTaut q.curves.from low p.curves.up.items q.segments) same.low
     (subst (λ (up : List ℕ). IsTaut q.curves.from q.curves.low.items up q.segments) same.up q.best.taut)) in
-    let one : q.segments ≡ p.segments = p.best.only q.segments taut in
-    (p.certificate ∙ ap cert_text (sym one) ∙ sym q.certificate, p.plan_is ∙ ap (λ (s : List Segment). Some s) (sym one) ∙ sym q.plan_is)
+    let one : q.segments ≡ p.segments = p.best.only q.segments taut in (
+      p.certificate ∙ ap cert_text (sym one) ∙ sym q.certificate,
+      p.plan_is ∙ ap (λ (s : List Segment). Some s) (sym one) ∙ sym q.plan_is,
+    )
 
 -- a trace's first tokens are a trace
-front_trace : (front rest : List Token) (sizes : List ℕ) → WriteSizes (front ++ rest) sizes → WriteSizes front (take (length front) sizes)
+front_trace : (front rest : List Token) (sizes : List ℕ) → WriteSizes (front ++ rest) sizes
+    → WriteSizes front (take (length front) sizes)
 front_trace front rest sizes trace = record {
-  numbers = sym (take_at (map (λ (t : Token). number_of t.bytes) front) (map (λ (t : Token). number_of t.bytes) rest) (length front) (length-map front (λ (t : Token). number_of t.bytes)))
+  numbers = sym
+      (take_at (map (λ (t : Token). number_of t.bytes) front) (map (λ (t : Token). number_of t.bytes) rest)
+      (length front) (length-map front (λ (t : Token). number_of t.bytes)))
       ∙ ap (take (length front)) (sym (map-append (λ (t : Token). number_of t.bytes) front rest) ∙ trace.numbers)
       ∙ take-map (λ (s : ℕ). Some s) (length front) sizes;
   small = All-take (λ (s : ℕ). s ≤ 2 ^ 32) (length front) sizes trace.small;
@@ -116,30 +126,39 @@ front_trace front rest sizes trace = record {
 
 bad_no_trace : (text sizes : List ℕ) (place : ℕ) → IsTraceText text sizes → IsBadTraceText text place → ⊥
 bad_no_trace text sizes place trace bad =
-    let split : tokens_from 0 text ≡ (bad.good ++ bad.bad ∷ []) ++ bad.rest = bad.tokens ∙ sym (append_assoc bad.good (bad.bad ∷ []) bad.rest) in
+    let split : tokens_from 0 text ≡ (bad.good ++ bad.bad ∷ []) ++ bad.rest =
+    bad.tokens ∙ sym (append_assoc bad.good (bad.bad ∷ []) bad.rest) in
     bad.ends (take (length (bad.good ++ bad.bad ∷ [])) sizes)
     (front_trace (bad.good ++ bad.bad ∷ []) bad.rest sizes (subst (λ (ts : List Token). WriteSizes ts sizes) split trace))
 
 pub no_file : (text : List ℕ) → Some text ≡ None → ⊥
 no_file text e = cc
 
-pub trace_not_refused : (held : List File) (name sizes : List ℕ) (fault : Fault) → HoldsTrace held name sizes → IsTraceRefused held name fault → ⊥
+pub trace_not_refused : (held : List File) (name sizes : List ℕ) (fault : Fault) → HoldsTrace held name sizes
+    → IsTraceRefused held name fault → ⊥
 trace_not_refused held name sizes fault holds (inl missing) = no_file holds.text (sym holds.found ∙ missing.1)
 trace_not_refused held name sizes (BadTrace place) holds (inr refused) =
     bad_no_trace refused.0 sizes place
-    (subst (λ (t : List ℕ). IsTraceText t sizes) (one_file held name holds.text refused.0 holds.found refused.1.0) holds.trace) refused.1.1
+    (subst (λ (t : List ℕ). IsTraceText t sizes)
+    (one_file held name holds.text refused.0 holds.found refused.1.0) holds.trace) refused.1.1
 trace_not_refused held name sizes other holds (inr refused) = refused
 
-source_not_refused : (held : List File) (source : Source) (pictures : Pictures) (fault : Fault) → ArePictures held source pictures → IsSourceRefused held source fault → ⊥
-source_not_refused held (trace_source name) pictures fault are refused = trace_not_refused held name pictures.sizes fault are.holds refused
-source_not_refused held (film_source name slot) pictures fault are refused = held_not_refused held name are.holds.video fault are.holds.holds refused
+source_not_refused : (held : List File) (source : Source) (pictures : Pictures) (fault : Fault)
+    → ArePictures held source pictures → IsSourceRefused held source fault → ⊥
+source_not_refused held (trace_source name) pictures fault are refused =
+    trace_not_refused held name pictures.sizes fault are.holds refused
+source_not_refused held (film_source name slot) pictures fault are refused =
+    held_not_refused held name are.holds.video fault are.holds.holds refused
 
 -- what has curves isn't refused
-pub curves_not_refused : (held : List File) (viewer : Viewer) (curves : CurvePair) (fault : Fault) → HasCurves held viewer curves → IsViewerRefused held viewer fault → ⊥
-curves_not_refused held viewer curves fault has (inl refused) = source_not_refused held viewer.source has.pictures fault has.are refused
+pub curves_not_refused : (held : List File) (viewer : Viewer) (curves : CurvePair) (fault : Fault)
+    → HasCurves held viewer curves → IsViewerRefused held viewer fault → ⊥
+curves_not_refused held viewer curves fault has (inl refused) =
+    source_not_refused held viewer.source has.pictures fault has.are refused
 curves_not_refused held viewer curves (Curves fault) has (inr refused) =
     accepted-no_fault refused.0.sizes (timing_of viewer refused.0) fault
-    (subst (λ (s : Pictures). IsAccepted s.sizes (timing_of viewer s)) (pictures_once held viewer.source has.pictures refused.0 has.are refused.1.0) has.accepted) refused.1.1
+    (subst (λ (s : Pictures). IsAccepted s.sizes (timing_of viewer s))
+    (pictures_once held viewer.source has.pictures refused.0 has.are refused.1.0) has.accepted) refused.1.1
 curves_not_refused held viewer curves other has (inr refused) = refused
 
 -- a film's scan is the only one
@@ -147,9 +166,13 @@ pub scanned_once : (held : List File) (film t t' : List ℕ) → IsScanned held 
 scanned_once held film t t' p q =
     let same : p.holds.video ≡ q.holds.video = held_once held film p.holds.video q.holds.video p.holds.holds q.holds.holds in
     let sizes : p.size ≡ q.size = p.holds.sized ∙ ap (λ (v : List ℕ). length v) same ∙ sym q.holds.sized in
-    let rates : p.rate ≡ q.rate = p.holds.grammar.rate ∙ ap (λ (v : List ℕ). rate_of (codes_of (read [] v))) same ∙ sym q.holds.grammar.rate in
-    let units : p.units ≡ q.units = p.holds.grammar.units ∙ ap (λ (v : List ℕ). units_in (told_of v)) same ∙ sym q.holds.grammar.units in
-    p.printed ∙ ap (λ n. scan_text n p.rate p.units) sizes ∙ ap (λ n. scan_text q.size n p.units) rates ∙ ap (λ (u : List PictureUnit). scan_text q.size q.rate u) units ∙ sym q.printed
+    let rates : p.rate ≡ q.rate =
+    p.holds.grammar.rate ∙ ap (λ (v : List ℕ). rate_of (codes_of (read [] v))) same ∙ sym q.holds.grammar.rate in
+    let units : p.units ≡ q.units =
+    p.holds.grammar.units ∙ ap (λ (v : List ℕ). units_in (told_of v)) same ∙ sym q.holds.grammar.units in
+    p.printed ∙ ap (λ n. scan_text n p.rate p.units) sizes ∙ ap (λ n. scan_text q.size n p.units) rates
+    ∙ ap (λ (u : List PictureUnit). scan_text q.size q.rate u) units ∙ sym q.printed
 
-pub scan_not_refused : (held : List File) (film t : List ℕ) (fault : Fault) → IsScanned held film t → IsFilmRefused held film fault → ⊥
+pub scan_not_refused : (held : List File) (film t : List ℕ) (fault : Fault) → IsScanned held film t
+    → IsFilmRefused held film fault → ⊥
 scan_not_refused held film t fault p refused = held_not_refused held film p.holds.video fault p.holds.holds refused

@@ -19,7 +19,8 @@ use Rattle.local_commands.specs.Verdict.{cert_fault_text}
 use Rattle.local_commands.proofs.OneAnswer.{AreSame, curves_not_refused, curves_once, no_file}
 
 -- what is taut has no fault
-no_fault : {from : ℕ} {low up : List ℕ} {segments : List Segment} (fault : CertFault) → IsTaut from low up segments → IsThere from low up segments fault → ⊥
+no_fault : {from : ℕ} {low up : List ℕ} {segments : List Segment} (fault : CertFault)
+    → IsTaut from low up segments → IsThere from low up segments fault → ⊥
 no_fault {from} {low} (EmptySegment i) taut there = taut.no_empty i there
 no_fault {from} {low} WrongLength taut there = taut.right_length there
 no_fault {from} {low} WrongTotal taut there = taut.right_total there
@@ -32,7 +33,8 @@ no_fault {from} {low} (FallOffLower i) taut there = taut.no_fall_off i there
 -- the fault of a kind and a number
 abbrev fault_at : ℕ → ℕ → CertFault
 fault_at kind n =
-    get_or (EmptySegment n ∷ WrongLength ∷ WrongTotal ∷ BelowLow n ∷ AboveUp n ∷ EqualSlopes n ∷ RiseOffUpper n ∷ FallOffLower n ∷ []) kind WrongLength
+    get_or (EmptySegment n ∷ WrongLength ∷ WrongTotal ∷ BelowLow n ∷ AboveUp n ∷ EqualSlopes n ∷ RiseOffUpper n
+    ∷ FallOffLower n ∷ []) kind WrongLength
 
 fault_is : (fault : CertFault) → fault_at (kind_of fault) (number_of fault) ≡ fault
 fault_is (EmptySegment i) = refl
@@ -44,7 +46,8 @@ fault_is (EqualSlopes i) = refl
 fault_is (RiseOffUpper i) = refl
 fault_is (FallOffLower i) = refl
 
-same_kind : {from : ℕ} {low up : List ℕ} {segments : List Segment} {f g : CertFault} → IsFirstFault from low up segments f → IsFirstFault from low up segments g →
+same_kind : {from : ℕ} {low up : List ℕ} {segments : List Segment} {f g : CertFault} →
+    IsFirstFault from low up segments f → IsFirstFault from low up segments g →
     kind_of f ≡ kind_of g
 same_kind {from} {low} {f} {g} p q = elim (cases_order (kind_of f) (kind_of g)) [
   | inl h ↦ h
@@ -53,7 +56,8 @@ same_kind {from} {low} {f} {g} p q = elim (cases_order (kind_of f) (kind_of g)) 
 ]
 
 -- there is one first fault
-first_once : {from : ℕ} {low up : List ℕ} {segments : List Segment} {f g : CertFault} → IsFirstFault from low up segments f → IsFirstFault from low up segments g → f ≡ g
+first_once : {from : ℕ} {low up : List ℕ} {segments : List Segment} {f g : CertFault}
+    → IsFirstFault from low up segments f → IsFirstFault from low up segments g → f ≡ g
 first_once {from} {low} {f} {g} p q =
     let kinds : kind_of f ≡ kind_of g = same_kind p q in
     let numbers : number_of f ≡ number_of g = elim (cases_order (number_of f) (number_of g)) [
@@ -61,9 +65,11 @@ first_once {from} {low} {f} {g} p q =
       | inr (inl h) ↦ absurd (q.no_lesser_number f kinds h p.there)
       | inr (inr h) ↦ absurd (p.no_lesser_number g (sym kinds) h q.there)
     ] in
-    sym (fault_is f) ∙ ap (λ (k : ℕ). fault_at k (number_of f)) kinds ∙ ap (λ (n : ℕ). fault_at (kind_of g) n) numbers ∙ fault_is g
+    sym (fault_is f) ∙ ap (λ (k : ℕ). fault_at k (number_of f)) kinds
+    ∙ ap (λ (n : ℕ). fault_at (kind_of g) n) numbers ∙ fault_is g
 
-verdict_once : {status status' : ℕ} {text text' : List ℕ} (from : ℕ) (low up : List ℕ) (segments : List Segment) → IsVerdict from low up segments status text →
+verdict_once : {status status' : ℕ} {text text' : List ℕ} (from : ℕ) (low up : List ℕ)
+    (segments : List Segment) → IsVerdict from low up segments status text →
     IsVerdict from low up segments status' text' → (status ≡ status') × (text ≡ text')
 verdict_once {text} from low up segments (inl p) (inl q) = (p.0 ∙ sym q.0, p.2 ∙ sym q.2)
 verdict_once {text} from low up segments (inl p) (inr q) = absurd (no_fault q.0 p.1.taut q.1.1.there)

@@ -15,21 +15,29 @@ record HasBounds (time : ℕ) : Type 0 where
 time_bounds : (rate : ℕ) → 1 ≤ rate → rate ≤ 8 → HasBounds (picture_time rate)
 time_bounds zero low high = absurd (omega (arith, low))
 time_bounds (suc zero) low high =
-    let e : suc zero ≡ 1 = omega arith in subst (λ n. HasBounds (picture_time n)) (sym e) (record { some = omega arith; fits = omega arith })
+    let e : suc zero ≡ 1 =
+    omega arith in subst (λ n. HasBounds (picture_time n)) (sym e) (record { some = omega arith; fits = omega arith })
 time_bounds (suc (suc zero)) low high =
-    let e : suc (suc zero) ≡ 2 = omega arith in subst (λ n. HasBounds (picture_time n)) (sym e) (record { some = omega arith; fits = omega arith })
+    let e : suc (suc zero) ≡ 2 =
+    omega arith in subst (λ n. HasBounds (picture_time n)) (sym e) (record { some = omega arith; fits = omega arith })
 time_bounds (suc (suc (suc zero))) low high =
-    let e : suc (suc (suc zero)) ≡ 3 = omega arith in subst (λ n. HasBounds (picture_time n)) (sym e) (record { some = omega arith; fits = omega arith })
+    let e : suc (suc (suc zero)) ≡ 3 =
+    omega arith in subst (λ n. HasBounds (picture_time n)) (sym e) (record { some = omega arith; fits = omega arith })
 time_bounds (suc (suc (suc (suc zero)))) low high =
-    let e : suc (suc (suc (suc zero))) ≡ 4 = omega arith in subst (λ n. HasBounds (picture_time n)) (sym e) (record { some = omega arith; fits = omega arith })
+    let e : suc (suc (suc (suc zero))) ≡ 4 =
+    omega arith in subst (λ n. HasBounds (picture_time n)) (sym e) (record { some = omega arith; fits = omega arith })
 time_bounds (suc (suc (suc (suc (suc zero))))) low high =
-    let e : suc (suc (suc (suc (suc zero)))) ≡ 5 = omega arith in subst (λ n. HasBounds (picture_time n)) (sym e) (record { some = omega arith; fits = omega arith })
+    let e : suc (suc (suc (suc (suc zero)))) ≡ 5 =
+    omega arith in subst (λ n. HasBounds (picture_time n)) (sym e) (record { some = omega arith; fits = omega arith })
 time_bounds (suc (suc (suc (suc (suc (suc zero)))))) low high =
-    let e : suc (suc (suc (suc (suc (suc zero))))) ≡ 6 = omega arith in subst (λ n. HasBounds (picture_time n)) (sym e) (record { some = omega arith; fits = omega arith })
+    let e : suc (suc (suc (suc (suc (suc zero))))) ≡ 6 =
+    omega arith in subst (λ n. HasBounds (picture_time n)) (sym e) (record { some = omega arith; fits = omega arith })
 time_bounds (suc (suc (suc (suc (suc (suc (suc zero))))))) low high =
-    let e : suc (suc (suc (suc (suc (suc (suc zero)))))) ≡ 7 = omega arith in subst (λ n. HasBounds (picture_time n)) (sym e) (record { some = omega arith; fits = omega arith })
+    let e : suc (suc (suc (suc (suc (suc (suc zero)))))) ≡ 7 =
+    omega arith in subst (λ n. HasBounds (picture_time n)) (sym e) (record { some = omega arith; fits = omega arith })
 time_bounds (suc (suc (suc (suc (suc (suc (suc (suc zero)))))))) low high =
-    let e : suc (suc (suc (suc (suc (suc (suc (suc zero))))))) ≡ 8 = omega arith in subst (λ n. HasBounds (picture_time n)) (sym e) (record { some = omega arith; fits = omega arith })
+    let e : suc (suc (suc (suc (suc (suc (suc (suc zero))))))) ≡ 8 =
+    omega arith in subst (λ n. HasBounds (picture_time n)) (sym e) (record { some = omega arith; fits = omega arith })
 time_bounds (suc (suc (suc (suc (suc (suc (suc (suc (suc n))))))))) low high = absurd (omega (arith, high))
 
 pub film_limits : (rate slot : ℕ) (sizes : List ℕ) → AreSizesWithin rate sizes → 360 ≤ slot → slot ≤ 360000 →
@@ -45,7 +53,8 @@ film_limits rate slot sizes within some fits =
       slot_fits = fits;
     }
 
-pub limits_of : (viewer : Viewer) (pictures : Pictures) → AreWithinLimits pictures → 1 ≤ viewer.buffer → viewer.buffer ≤ 2 ^ 42 → viewer.startup ≤ 10000 →
+pub limits_of : (viewer : Viewer) (pictures : Pictures) → AreWithinLimits pictures → 1 ≤ viewer.buffer →
+    viewer.buffer ≤ 2 ^ 42 → viewer.startup ≤ 10000 →
     IsWithinLimits pictures.sizes (timing_of viewer pictures)
 limits_of viewer pictures within some fits delay = record {
   some_picture_units = within.some_picture;

@@ -27,9 +27,13 @@ use Rattle.local_commands.proofs.LineWords.{gap, IsWord, is-word, number-word, A
 setting_none : (key word : List ℕ) → HasNo 61 word → setting_value key word ≡ None
 setting_none key word none =
     let at : position_or_len (λ b. b == 61) word ≡ length word =
-    position_or_len_is (λ b. b == 61) word (length word) 0 (omega arith) (λ k less. ne_eqb (get_or word k 0) 61 (none k 0 less)) (λ bad. absurd (omega (arith, bad))) in
-    ap (λ (n : ℕ). if nat_lt n (length word) && bytes_eq (before_first (λ b. b == 61) word) key then Some (after_first (λ b. b == 61) word) else None) at
-    ∙ ap (λ (t : Bool). if t && bytes_eq (before_first (λ b. b == 61) word) key then Some (after_first (λ b. b == 61) word) else None) (le-ltb (length word) (length word) (omega arith))
+    position_or_len_is (λ b. b == 61) word (length word) 0 (omega arith)
+    (λ k less. ne_eqb (get_or word k 0) 61 (none k 0 less)) (λ bad. absurd (omega (arith, bad))) in
+    ap (λ (n : ℕ). if nat_lt n (length word)
+    && bytes_eq (before_first (λ b. b == 61) word) key then Some (after_first (λ b. b == 61) word) else None) at
+    ∙ ap (λ (t : Bool). if t
+    && bytes_eq (before_first (λ b. b == 61) word) key then Some (after_first (λ b. b == 61) word)
+    else None) (le-ltb (length word) (length word) (omega arith))
 
 number-plain : (n c : ℕ) → n < 2 ^ 64 → (48 ≤ c → c ≤ 57 → ⊥) → HasNo c (decimal n)
 number-plain n c small other = not_in_decimal c n small (λ within. other within.0 within.1)
@@ -39,25 +43,37 @@ more-ended : (tail : List ℕ) (back : List (List ℕ)) → words_in tail ≡ ba
 more-ended tail back is word plain = slice_split_at gap word 32 tail plain refl ∙ ap (λ (l : List (List ℕ)). word ∷ l) is
 
 film_settings : ℕ → ℕ → ℕ → List Setting
-film_settings bytes rate pictures = number_setting (codes "bytes") bytes ∷ number_setting (codes "rate") rate ∷ number_setting (codes "pictures") pictures ∷ []
+film_settings bytes rate pictures =
+    number_setting (codes "bytes") bytes ∷ number_setting (codes "rate") rate ∷ number_setting (codes "pictures") pictures ∷ []
 
-film-line : (bytes rate pictures : ℕ) → film_line bytes rate pictures ≡ codes "film" ++ line_rest (10 ∷ []) (film_settings bytes rate pictures)
+film-line : (bytes rate pictures : ℕ)
+    → film_line bytes rate pictures ≡ codes "film" ++ line_rest (10 ∷ []) (film_settings bytes rate pictures)
 unfolding line_rest film_settings
 film-line bytes rate pictures =
-    append_assoc (codes "film bytes=" ++ decimal bytes ++ codes " rate=" ++ decimal rate ++ codes " pictures=") (decimal pictures) (codes "\n")
-    ∙ append_assoc (codes "film bytes=" ++ decimal bytes ++ codes " rate=" ++ decimal rate) (codes " pictures=") (decimal pictures ++ codes "\n")
-    ∙ append_assoc (codes "film bytes=" ++ decimal bytes ++ codes " rate=") (decimal rate) (codes " pictures=" ++ (decimal pictures ++ codes "\n"))
-    ∙ append_assoc (codes "film bytes=" ++ decimal bytes) (codes " rate=") (decimal rate ++ (codes " pictures=" ++ (decimal pictures ++ codes "\n")))
-    ∙ append_assoc (codes "film bytes=") (decimal bytes) (codes " rate=" ++ (decimal rate ++ (codes " pictures=" ++ (decimal pictures ++ codes "\n"))))
+    append_assoc (codes "film bytes=" ++ decimal bytes ++ codes " rate=" ++ decimal rate ++ codes " pictures=")
+    (decimal pictures) (codes "\n")
+    ∙ append_assoc (codes "film bytes=" ++ decimal bytes ++ codes " rate=" ++ decimal rate) (codes " pictures=")
+    (decimal pictures ++ codes "\n")
+    ∙ append_assoc (codes "film bytes=" ++ decimal bytes ++ codes " rate=") (decimal rate)
+    (codes " pictures=" ++ (decimal pictures ++ codes "\n"))
+    ∙ append_assoc (codes "film bytes=" ++ decimal bytes) (codes " rate=")
+    (decimal rate ++ (codes " pictures=" ++ (decimal pictures ++ codes "\n")))
+    ∙ append_assoc (codes "film bytes=") (decimal bytes)
+    (codes " rate=" ++ (decimal rate ++ (codes " pictures=" ++ (decimal pictures ++ codes "\n"))))
 
-film-words : (bytes rate pictures : ℕ) → bytes < 2 ^ 64 → rate < 2 ^ 64 → pictures < 2 ^ 64 → All (λ s. IsWord (word_of s)) (film_settings bytes rate pictures)
+film-words : (bytes rate pictures : ℕ) → bytes < 2 ^ 64 → rate < 2 ^ 64 → pictures < 2 ^ 64
+    → All (λ s. IsWord (word_of s)) (film_settings bytes rate pictures)
 unfolding film_settings AreWords
 film-words bytes rate pictures few short little =
     all-words (film_settings bytes rate pictures) (
       number-word (codes "bytes") bytes few (none_by 32 (codes "bytes") refl) (none_by 10 (codes "bytes") refl),
       (
         number-word (codes "rate") rate short (none_by 32 (codes "rate") refl) (none_by 10 (codes "rate") refl),
-        (number-word (codes "pictures") pictures little (none_by 32 (codes "pictures") refl) (none_by 10 (codes "pictures") refl), tt),
+        (
+          number-word (codes "pictures") pictures little (none_by 32 (codes "pictures") refl)
+              (none_by 10 (codes "pictures") refl),
+          tt,
+        ),
       ),
     )
 
@@ -76,7 +92,8 @@ film-value : (counts : FilmCounts) (key : List ℕ) (number : ℕ) → setting_v
     GivesOnce (film_line counts.bytes counts.rate counts.pictures) key number
 film-value counts key number none given plain =
     ap (λ (line : List ℕ). values_of key (words_in line)) (film-line bytes rate pictures)
-    ∙ line-values {key = key} {first = codes "film"} (record { end = _; words = _; ends = ended }) (film_settings bytes rate pictures)
+    ∙ line-values {key = key} {first =
+    codes "film"} (record { end = _; words = _; ends = ended }) (film_settings bytes rate pictures)
     (film-words bytes rate pictures few short little) (record {
       word = is-word (codes "film") (none_by 32 (codes "film") refl)
           (none_by 10 (codes "film") refl);
@@ -85,7 +102,8 @@ film-value counts key number none given plain =
   where
     open counts use {bytes, rate, pictures, bytes_fit as few, rate_fits as short, pictures_fit as little}
 
-pub film-told : (bytes rate pictures : ℕ) → bytes < 2 ^ 64 → rate < 2 ^ 64 → pictures < 2 ^ 64 → TellsFilm bytes rate pictures (film_line bytes rate pictures)
+pub film-told : (bytes rate pictures : ℕ) → bytes < 2 ^ 64 → rate < 2 ^ 64 → pictures < 2 ^ 64
+    → TellsFilm bytes rate pictures (film_line bytes rate pictures)
 unfolding film_settings
 film-told bytes rate pictures few short little = record {
   bytes_told = film-value (record {
@@ -123,21 +141,27 @@ unit-words : (u : PictureUnit) → IsShortUnit u → All (λ s. IsWord (word_of 
 unfolding unit_settings AreWords
 unit-words u short =
     all-words (unit_settings u) (
-      number-word (codes "show") u.presentation short.presentation (none_by 32 (codes "show") refl) (none_by 10 (codes "show") refl),
+      number-word (codes "show") u.presentation short.presentation (none_by 32 (codes "show") refl)
+          (none_by 10 (codes "show") refl),
       (
         number-word (codes "from") u.from short.from (none_by 32 (codes "from") refl) (none_by 10 (codes "from") refl),
         (
           number-word (codes "head") u.head_end short.head_end (none_by 32 (codes "head") refl) (none_by 10 (codes "head") refl),
           (
             number-word (codes "to") u.to short.to (none_by 32 (codes "to") refl) (none_by 10 (codes "to") refl),
-            (number-word (codes "slices") u.slices short.slices (none_by 32 (codes "slices") refl) (none_by 10 (codes "slices") refl), tt),
+            (
+              number-word (codes "slices") u.slices short.slices (none_by 32 (codes "slices") refl)
+                  (none_by 10 (codes "slices") refl),
+              tt,
+            ),
           ),
         ),
       ),
     )
 
 -- a unit's line with its number and kind in front
-unit-line : (number : ℕ) (u : PictureUnit) → unit_line number u ≡ decimal number ++ (32 ∷ (kind_text u.kind ++ line_rest (unit_marks u) (unit_settings u)))
+unit-line : (number : ℕ) (u : PictureUnit)
+    → unit_line number u ≡ decimal number ++ (32 ∷ (kind_text u.kind ++ line_rest (unit_marks u) (unit_settings u)))
 unfolding line_rest unit_settings
 unit-line number u =
     let n = decimal number in
@@ -158,9 +182,12 @@ unit-line number u =
     ∙ append_assoc (codes " from=" ++ from ++ codes " head=" ++ head ++ codes " to=" ++ to) (codes " slices=") (slices ++ end)
     ∙ append_assoc (codes " from=" ++ from ++ codes " head=" ++ head ++ codes " to=") (to) (codes " slices=" ++ (slices ++ end))
     ∙ append_assoc (codes " from=" ++ from ++ codes " head=" ++ head) (codes " to=") (to ++ (codes " slices=" ++ (slices ++ end)))
-    ∙ append_assoc (codes " from=" ++ from ++ codes " head=") (head) (codes " to=" ++ (to ++ (codes " slices=" ++ (slices ++ end))))
-    ∙ append_assoc (codes " from=" ++ from) (codes " head=") (head ++ (codes " to=" ++ (to ++ (codes " slices=" ++ (slices ++ end)))))
-    ∙ append_assoc (codes " from=") (from) (codes " head=" ++ (head ++ (codes " to=" ++ (to ++ (codes " slices=" ++ (slices ++ end)))))))
+    ∙ append_assoc (codes " from=" ++ from ++ codes " head=") (head)
+    (codes " to=" ++ (to ++ (codes " slices=" ++ (slices ++ end))))
+    ∙ append_assoc (codes " from=" ++ from) (codes " head=")
+    (head ++ (codes " to=" ++ (to ++ (codes " slices=" ++ (slices ++ end)))))
+    ∙ append_assoc (codes " from=") (from)
+    (codes " head=" ++ (head ++ (codes " to=" ++ (to ++ (codes " slices=" ++ (slices ++ end)))))))
 
 -- how the line ends: with the words of what stands in the unit's head
 mark_words : Bool → Bool → List (List ℕ)
@@ -193,12 +220,14 @@ kind-none key D = setting_none key (codes "D") (none_by 61 (codes "D") refl)
 
 -- all words of a unit's line
 unit-line-words : (number : ℕ) (u : PictureUnit) → number < 2 ^ 64 → IsShortUnit u →
-    words_in (unit_line number u) ≡ decimal number ∷ kind_text u.kind ∷ (map word_of (unit_settings u) ++ mark_words u.has_sequence u.starts_group)
+    words_in (unit_line number u)
+    ≡ decimal number ∷ kind_text u.kind ∷ (map word_of (unit_settings u) ++ mark_words u.has_sequence u.starts_group)
 unfolding marks_of
 unit-line-words number u few short =
     ap words_in (unit-line number u)
     ∙ slice_split_at gap (decimal number) 32 (kind_text u.kind ++ line_rest (unit_marks u) (unit_settings u))
-    (is-word (decimal number) (number-plain number 32 few (λ low high. omega (arith, low))) (number-plain number 10 few (λ low high. omega (arith, low)))) refl
+    (is-word (decimal number) (number-plain number 32 few (λ low high. omega (arith, low)))
+    (number-plain number 10 few (λ low high. omega (arith, low)))) refl
     ∙ ap (λ (l : List (List ℕ)). decimal number ∷ l)
     (line-words (kind_text u.kind) (unit_settings u) (record {
       end = unit_marks u;
@@ -209,18 +238,22 @@ unit-line-words number u few short =
 no-values : (key : List ℕ) (words : List (List ℕ)) → All (HasNo 61) words → values_of key words ≡ []
 no-values key [] none = refl
 no-values key (word ∷ words) none =
-    ap (λ (o : Option (List ℕ)). option_to_list o ++ values_of key words) (setting_none key word (All-head (HasNo 61) word words none))
+    ap (λ (o : Option (List ℕ)). option_to_list o ++ values_of key words)
+    (setting_none key word (All-head (HasNo 61) word words none))
     ∙ no-values key words (All-tail (HasNo 61) word words none)
 
 marks-plain : (sequence group : Bool) → All (HasNo 61) (mark_words sequence group)
 unfolding mark_words
 marks-plain true true =
     All-cons (HasNo 61) (codes "sequence") (codes "group" ∷ [] ∷ []) (none_by 61 (codes "sequence") refl)
-    (All-cons (HasNo 61) (codes "group") ([] ∷ []) (none_by 61 (codes "group") refl) (All-cons (HasNo 61) [] [] (none_by 61 [] refl) (All-nil (HasNo 61))))
+    (All-cons (HasNo 61) (codes "group") ([] ∷ []) (none_by 61 (codes "group") refl)
+    (All-cons (HasNo 61) [] [] (none_by 61 [] refl) (All-nil (HasNo 61))))
 marks-plain true false =
-    All-cons (HasNo 61) (codes "sequence") ([] ∷ []) (none_by 61 (codes "sequence") refl) (All-cons (HasNo 61) [] [] (none_by 61 [] refl) (All-nil (HasNo 61)))
+    All-cons (HasNo 61) (codes "sequence") ([] ∷ []) (none_by 61 (codes "sequence") refl)
+    (All-cons (HasNo 61) [] [] (none_by 61 [] refl) (All-nil (HasNo 61)))
 marks-plain false true =
-    All-cons (HasNo 61) (codes "group") ([] ∷ []) (none_by 61 (codes "group") refl) (All-cons (HasNo 61) [] [] (none_by 61 [] refl) (All-nil (HasNo 61)))
+    All-cons (HasNo 61) (codes "group") ([] ∷ []) (none_by 61 (codes "group") refl)
+    (All-cons (HasNo 61) [] [] (none_by 61 [] refl) (All-nil (HasNo 61)))
 marks-plain false false = All-cons (HasNo 61) [] [] (none_by 61 [] refl) (All-nil (HasNo 61))
 
 -- a unit's settings, of which one has this key and value
@@ -234,19 +267,27 @@ unit-value {u} number key value few short picked_once =
     let back = mark_words u.has_sequence u.starts_group in
     let rest = map word_of (unit_settings u) in
     ap (values_of key) (unit-line-words number u few short)
-    ∙ ap (λ (o : Option (List ℕ)). option_to_list o ++ values_of key (kind_text u.kind ∷ (rest ++ back))) (setting_none key (decimal number) (number-plain number 61 few (λ low high. omega (arith, high))))
+    ∙ ap (λ (o : Option (List ℕ)). option_to_list o ++ values_of key (kind_text u.kind ∷ (rest ++ back)))
+    (setting_none key (decimal number) (number-plain number 61 few (λ low high. omega (arith, high))))
     ∙ ap (λ (o : Option (List ℕ)). option_to_list o ++ values_of key (rest ++ back)) (kind-none key u.kind)
-    ∙ values_of-append key rest back ∙ ap (λ (vs : List (List ℕ)). values_of key rest ++ vs) (no-values key (mark_words u.has_sequence u.starts_group) (marks-plain u.has_sequence u.starts_group))
+    ∙ values_of-append key rest back
+    ∙ ap (λ (vs : List (List ℕ)). values_of key rest ++ vs)
+    (no-values key (mark_words u.has_sequence u.starts_group) (marks-plain u.has_sequence u.starts_group))
     ∙ append-nil (values_of key rest) ∙ values_read key (unit_settings u) picked_once.plain ∙ picked_once.given
 
 -- the words of the head stand there or don't: none of the other words is one of them
-shown-at : (word : List ℕ) (number : ℕ) (u : PictureUnit) → bytes_eq word (decimal number) ≡ false → bytes_eq word (kind_text u.kind) ≡ false →
+shown-at : (word : List ℕ) (number : ℕ) (u : PictureUnit) → bytes_eq word (decimal number) ≡ false →
+    bytes_eq word (kind_text u.kind) ≡ false →
     list_any (bytes_eq word) (map word_of (unit_settings u)) ≡ false →
-    list_any (bytes_eq word) (decimal number ∷ kind_text u.kind ∷ (map word_of (unit_settings u) ++ mark_words u.has_sequence u.starts_group))
+    list_any (bytes_eq word)
+    (decimal number ∷ kind_text u.kind ∷ (map word_of (unit_settings u) ++ mark_words u.has_sequence u.starts_group))
     ≡ list_any (bytes_eq word) (mark_words u.has_sequence u.starts_group)
 shown-at word number u one two three =
-    ap (λ (b : Bool). b || (bytes_eq word (kind_text u.kind) || list_any (bytes_eq word) (map word_of (unit_settings u) ++ mark_words u.has_sequence u.starts_group))) one
-    ∙ ap (λ (b : Bool). b || list_any (bytes_eq word) (map word_of (unit_settings u) ++ mark_words u.has_sequence u.starts_group)) two
+    ap (λ (b : Bool). b
+    || (bytes_eq word (kind_text u.kind)
+    || list_any (bytes_eq word) (map word_of (unit_settings u) ++ mark_words u.has_sequence u.starts_group))) one
+    ∙ ap (λ (b : Bool). b
+    || list_any (bytes_eq word) (map word_of (unit_settings u) ++ mark_words u.has_sequence u.starts_group)) two
     ∙ list_any-append (bytes_eq word) (map word_of (unit_settings u)) (mark_words u.has_sequence u.starts_group)
     ∙ ap (λ (b : Bool). b || list_any (bytes_eq word) (mark_words u.has_sequence u.starts_group)) three
 
@@ -287,17 +328,23 @@ group-mark false true = refl
 group-mark false false = refl
 
 sequence-shown : (number : ℕ) (u : PictureUnit) → number < 2 ^ 64 →
-    list_any (bytes_eq (codes "sequence")) (decimal number ∷ kind_text u.kind ∷ (map word_of (unit_settings u) ++ mark_words u.has_sequence u.starts_group)) ≡ u.has_sequence
+    list_any (bytes_eq (codes "sequence"))
+    (decimal number ∷ kind_text u.kind
+    ∷ (map word_of (unit_settings u) ++ mark_words u.has_sequence u.starts_group)) ≡ u.has_sequence
 unfolding unit_settings
 sequence-shown number u few =
-    shown-at (codes "sequence") number u (no-number 115 (codes "equence") number few (λ low high. omega (arith, high))) (kind-not-sequence u.kind) refl
+    shown-at (codes "sequence") number u
+    (no-number 115 (codes "equence") number few (λ low high. omega (arith, high))) (kind-not-sequence u.kind) refl
     ∙ sequence-mark u.has_sequence u.starts_group
 
 group-shown : (number : ℕ) (u : PictureUnit) → number < 2 ^ 64 →
-    list_any (bytes_eq (codes "group")) (decimal number ∷ kind_text u.kind ∷ (map word_of (unit_settings u) ++ mark_words u.has_sequence u.starts_group)) ≡ u.starts_group
+    list_any (bytes_eq (codes "group"))
+    (decimal number ∷ kind_text u.kind
+    ∷ (map word_of (unit_settings u) ++ mark_words u.has_sequence u.starts_group)) ≡ u.starts_group
 unfolding unit_settings
 group-shown number u few =
-    shown-at (codes "group") number u (no-number 103 (codes "roup") number few (λ low high. omega (arith, high))) (kind-not-group u.kind) refl
+    shown-at (codes "group") number u
+    (no-number 103 (codes "roup") number few (λ low high. omega (arith, high))) (kind-not-group u.kind) refl
     ∙ group-mark u.has_sequence u.starts_group
 
 -- what a unit's line tells

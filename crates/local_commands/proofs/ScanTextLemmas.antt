@@ -10,7 +10,8 @@ unit_lines-more number [] unit = append-nil (unit_line number unit) ∙ ap (λ (
 unit_lines-more number (first ∷ units) unit =
     ap (λ (l : List ℕ). unit_line number first ++ l) (unit_lines-more (number + 1) units unit)
     ∙ ap (λ (n : ℕ). unit_line number first ++ (unit_lines (number + 1) units ++ unit_line n unit)) (omega arith)
-    ∙ sym (append_assoc (unit_line number first) (unit_lines (number + 1) units) (unit_line (number + length (first ∷ units)) unit))
+    ∙ sym (append_assoc (unit_line number first) (unit_lines (number + 1) units)
+    (unit_line (number + length (first ∷ units)) unit))
 
 -- a line more
 pub unit_lines-take : (units : List PictureUnit) (i : ℕ) (unit : PictureUnit) → i < length units →
@@ -18,7 +19,8 @@ pub unit_lines-take : (units : List PictureUnit) (i : ℕ) (unit : PictureUnit) 
 unit_lines-take units i unit within =
     ap (unit_lines 0) (take_more units i unit within)
     ∙ unit_lines-more 0 (take i units) (get_or units i unit)
-    ∙ ap (λ (n : ℕ). unit_lines 0 (take i units) ++ unit_line n (get_or units i unit)) (zero-add (length (take i units)) ∙ length-take-le i units (omega (arith, within)))
+    ∙ ap (λ (n : ℕ). unit_lines 0 (take i units) ++ unit_line n (get_or units i unit))
+    (zero-add (length (take i units)) ∙ length-take-le i units (omega (arith, within)))
 
 -- the lines of the first units, written after a head
 pub record UnitsWritten (head : List ℕ) (units : List PictureUnit) (text : List ℕ) : Type 0 where

@@ -80,7 +80,8 @@ mark_rest true group rest = codes "sequence" ++ (mark group (codes " group") ++ 
 mark_rest false true rest = codes "group\n" ++ rest
 mark_rest false false rest = rest
 
-mark_shape : (sequence group : Bool) (rest : List ℕ) → marks sequence group ++ rest ≡ mark_first sequence group ∷ mark_rest sequence group rest
+mark_shape : (sequence group : Bool) (rest : List ℕ)
+    → marks sequence group ++ rest ≡ mark_first sequence group ∷ mark_rest sequence group rest
 unfolding mark_first mark_rest
 mark_shape true true rest = refl
 mark_shape true false rest = refl
@@ -99,11 +100,13 @@ record AreMarked (sequence sequence' group group' : Bool) (xs ys : List ℕ) : T
   group_is : group ≡ group'
   rest : xs ≡ ys
 
-marks_told : {sequence sequence' group group' : Bool} {xs ys : List ℕ} → marks sequence group ++ xs ≡ marks sequence' group' ++ ys → AreMarked sequence sequence' group group' xs ys
+marks_told : {sequence sequence' group group' : Bool} {xs ys : List ℕ}
+    → marks sequence group ++ xs ≡ marks sequence' group' ++ ys → AreMarked sequence sequence' group group' xs ys
 marks_told {sequence} {sequence'} {group} {group'} {xs} {ys} e =
     let s : sequence ≡ sequence' = sym (sequence_back sequence group xs) ∙ ap sequence_of e ∙ sequence_back sequence' group' ys in
     let g : group ≡ group' = sym (group_back sequence group xs) ∙ ap group_of e ∙ group_back sequence' group' ys in
-    let same : marks sequence' group' ≡ marks sequence group = ap (λ (b : Bool). marks b group') (sym s) ∙ ap (marks sequence) (sym g) in
+    let same : marks sequence' group' ≡ marks sequence group =
+    ap (λ (b : Bool). marks b group') (sym s) ∙ ap (marks sequence) (sym g) in
     record {
       sequence_is = s;
       group_is = g;
@@ -116,10 +119,12 @@ record AreEnded (n m : ℕ) (sequence sequence' group group' : Bool) (xs ys : Li
   marked : AreMarked sequence sequence' group group' xs ys
 
 ends_told : {n m : ℕ} {sequence sequence' group group' : Bool} {xs ys : List ℕ} → n < 2 ^ 64 → m < 2 ^ 64 →
-    decimal n ++ (marks sequence group ++ xs) ≡ decimal m ++ (marks sequence' group' ++ ys) → AreEnded n m sequence sequence' group group' xs ys
+    decimal n ++ (marks sequence group ++ xs) ≡ decimal m ++ (marks sequence' group' ++ ys)
+    → AreEnded n m sequence sequence' group group' xs ys
 ends_told {n} {m} {sequence} {sequence'} {group} {group'} {xs} {ys} small small' e =
     let cut = two_cut
-    (ap (λ (l : List ℕ). decimal n ++ l) (sym (mark_shape sequence group xs)) ∙ e ∙ ap (λ (l : List ℕ). decimal m ++ l) (mark_shape sequence' group' ys))
+    (ap (λ (l : List ℕ). decimal n ++ l) (sym (mark_shape sequence group xs)) ∙ e
+    ∙ ap (λ (l : List ℕ). decimal m ++ l) (mark_shape sequence' group' ys))
     (no_digit sequence' group' n small) (no_digit sequence group m small') in
     record {
       number = decimal_injective n m small small' cut.front;
@@ -129,13 +134,20 @@ ends_told {n} {m} {sequence} {sequence'} {group} {group'} {xs} {ys} small small'
 -- a unit's line, from its kind on, with what follows
 after_number : PictureUnit → List ℕ → List ℕ
 after_number unit rest =
-    kind_byte unit.kind ∷ (codes " show=" ++ (decimal unit.presentation ++ 32 ∷ (codes "from=" ++ (decimal unit.from ++ 32 ∷ (codes "head=" ++ (decimal unit.head_end ++ 32 ∷ (codes "to="
-    ++ (decimal unit.to ++ 32 ∷ (codes "slices=" ++ (decimal unit.slices ++ (marks unit.has_sequence unit.starts_group ++ rest)))))))))))
+    kind_byte unit.kind
+    ∷ (codes " show="
+    ++ (decimal unit.presentation ++ 32
+    ∷ (codes "from=" ++ (decimal unit.from ++ 32 ∷ (codes "head=" ++ (decimal unit.head_end ++ 32 ∷ (codes "to="
+    ++ (decimal unit.to ++ 32
+    ∷ (codes "slices=" ++ (decimal unit.slices ++ (marks unit.has_sequence unit.starts_group ++ rest)))))))))))
 
-unit_shape : (number : ℕ) (unit : PictureUnit) (rest : List ℕ) → unit_line number unit ++ rest ≡ decimal number ++ 32 ∷ after_number unit rest
+unit_shape : (number : ℕ) (unit : PictureUnit) (rest : List ℕ)
+    → unit_line number unit ++ rest ≡ decimal number ++ 32 ∷ after_number unit rest
 unfolding after_number
 unit_shape number unit rest =
-    ap (λ (k : List ℕ). (decimal number ++ codes " " ++ k ++ codes " show=" ++ decimal unit.presentation ++ unit_places unit ++ unit_marks unit) ++ rest) (kind_shape unit.kind)
+    ap (λ (k : List ℕ).
+    (decimal number ++ codes " " ++ k ++ codes " show=" ++ decimal unit.presentation ++ unit_places unit
+    ++ unit_marks unit) ++ rest) (kind_shape unit.kind)
     ∙ (simp append_assoc)
 
 -- units that are alike, with what follows
@@ -156,7 +168,8 @@ unit_told : {unit other : PictureUnit} (xs ys : List ℕ) → ShortUnits unit ot
     after_number unit xs ≡ after_number other ys → AreTold unit other xs ys
 unfolding after_number tail_of
 unit_told {unit} {other} xs ys shorts e =
-    let kind : unit.kind ≡ other.kind = sym (kind_back unit.kind) ∙ ap (λ (l : List ℕ). kind_from (get_or l 0 0)) e ∙ kind_back other.kind in
+    let kind : unit.kind ≡ other.kind =
+    sym (kind_back unit.kind) ∙ ap (λ (l : List ℕ). kind_from (get_or l 0 0)) e ∙ kind_back other.kind in
     let show = field_cut (codes "from=") short.presentation short'.presentation
     (append_cancel_left (codes " show=") _ _ (ap tail_of e)) in
     let from = field_cut (codes "head=") short.from short'.from show.rest in
@@ -216,7 +229,10 @@ units_told number (unit ∷ units) (other ∷ others) xs lists e =
     open lists use {long, few, short, also_short as short'}
 
 film_shape : (bytes rate pictures : ℕ) (rest : List ℕ) →
-    film_line bytes rate pictures ++ rest ≡ codes "film bytes=" ++ (decimal bytes ++ 32 ∷ (codes "rate=" ++ (decimal rate ++ 32 ∷ (codes "pictures=" ++ (decimal pictures ++ 10 ∷ rest)))))
+    film_line bytes rate pictures ++ rest
+    ≡ codes "film bytes="
+    ++ (decimal bytes ++ 32
+    ∷ (codes "rate=" ++ (decimal rate ++ 32 ∷ (codes "pictures=" ++ (decimal pictures ++ 10 ∷ rest)))))
 film_shape bytes rate pictures rest = simp append_assoc
 
 -- what a scan tells of a film, in its ranges
@@ -235,8 +251,11 @@ pub scan_told : (scanned other : ScannedFilm) →
 scan_told scanned other e =
     let more = unit_lines 0 units ++ codes "end\n" in
     let more' = unit_lines 0 units' ++ codes "end\n" in
-    let shape = append_assoc (film_line bytes rate (length units)) (unit_lines 0 units) (codes "end\n") ∙ film_shape bytes rate (length units) more in
-    let shape' = append_assoc (film_line bytes' rate' (length units')) (unit_lines 0 units') (codes "end\n") ∙ film_shape bytes' rate' (length units') more' in
+    let shape = append_assoc (film_line bytes rate (length units)) (unit_lines 0 units) (codes "end\n")
+    ∙ film_shape bytes rate (length units) more in
+    let shape' =
+    append_assoc (film_line bytes' rate' (length units')) (unit_lines 0 units') (codes "end\n")
+    ∙ film_shape bytes' rate' (length units') more' in
     let first = field_cut (codes "rate=") b b' (append_cancel_left (codes "film bytes=") _ _ (sym shape ∙ e ∙ shape')) in
     let second = field_cut (codes "pictures=") r r' first.rest in
     let third = line_cut n n' second.rest in
@@ -252,7 +271,8 @@ scan_told scanned other e =
     }
   where
     open scanned use {bytes, rate, units, bytes_fit as b, rate_fits as r, units_fit as n, short}
-    open other use {bytes as bytes', rate as rate', units as units', bytes_fit as b', rate_fits as r', units_fit as n', short as short'}
+    open other use
+        {bytes as bytes', rate as rate', units as units', bytes_fit as b', rate_fits as r', units_fit as n', short as short'}
 
 -- ---- a verdict
 numbers_after : CertFault → List ℕ
@@ -297,19 +317,76 @@ placed name n = ap (λ (l : List ℕ). name ++ l) (sym (append-nil (number_text 
 one_short : (n : ℕ) → n < 2 ^ 64 → AreShort (n ∷ [])
 one_short n small = All-cons (λ k. k < 2 ^ 64) n [] small (All-nil (λ k. k < 2 ^ 64))
 
-one_back : (fault : ℕ → CertFault) (n : ℕ) → AreShort (n ∷ []) → first_or WrongLength (numbers_of (map decimal (n ∷ []))) fault ≡ fault n
+one_back : (fault : ℕ → CertFault) (n : ℕ) → AreShort (n ∷ [])
+    → first_or WrongLength (numbers_of (map decimal (n ∷ []))) fault ≡ fault n
 one_back fault n short = ap (λ (ns : List ℕ). first_or WrongLength ns fault) (numbers_back (n ∷ []) short)
 
 fault_read : (fault : CertFault) → IsRead fault
 unfolding numbers_after fault_of
-fault_read (EmptySegment i) = record { shape = placed (codes "EmptySegment") i; word = none_by 32 (codes "EmptySegment") refl; short = one_short i; back = one_back EmptySegment i }
-fault_read WrongLength = record { shape = lone (codes "WrongLength"); word = none_by 32 (codes "WrongLength") refl; short = λ _. All-nil (λ k. k < 2 ^ 64); back = λ _. refl }
-fault_read WrongTotal = record { shape = lone (codes "WrongTotal"); word = none_by 32 (codes "WrongTotal") refl; short = λ _. All-nil (λ k. k < 2 ^ 64); back = λ _. refl }
-fault_read (BelowLow t) = record { shape = placed (codes "BelowLow") t; word = none_by 32 (codes "BelowLow") refl; short = one_short t; back = one_back BelowLow t }
-fault_read (AboveUp t) = record { shape = placed (codes "AboveUp") t; word = none_by 32 (codes "AboveUp") refl; short = one_short t; back = one_back AboveUp t }
-fault_read (EqualSlopes i) = record { shape = placed (codes "EqualSlopes") i; word = none_by 32 (codes "EqualSlopes") refl; short = one_short i; back = one_back EqualSlopes i }
-fault_read (RiseOffUpper i) = record { shape = placed (codes "RiseOffUpper") i; word = none_by 32 (codes "RiseOffUpper") refl; short = one_short i; back = one_back RiseOffUpper i }
-fault_read (FallOffLower i) = record { shape = placed (codes "FallOffLower") i; word = none_by 32 (codes "FallOffLower") refl; short = one_short i; back = one_back FallOffLower i }
+fault_read (EmptySegment i) =
+    record {
+      shape = placed (codes "EmptySegment") i;
+      word = none_by 32 (codes "EmptySegment") refl;
+      short =
+          one_short i;
+      back = one_back EmptySegment i;
+    }
+fault_read WrongLength =
+    record {
+      shape = lone (codes "WrongLength");
+      word = none_by 32 (codes "WrongLength") refl;
+      short =
+          λ _. All-nil (λ k. k < 2 ^ 64);
+      back = λ _. refl;
+    }
+fault_read WrongTotal =
+    record {
+      shape = lone (codes "WrongTotal");
+      word = none_by 32 (codes "WrongTotal") refl;
+      short =
+          λ _. All-nil (λ k. k < 2 ^ 64);
+      back = λ _. refl;
+    }
+fault_read (BelowLow t) =
+    record {
+      shape = placed (codes "BelowLow") t;
+      word = none_by 32 (codes "BelowLow") refl;
+      short =
+          one_short t;
+      back = one_back BelowLow t;
+    }
+fault_read (AboveUp t) =
+    record {
+      shape = placed (codes "AboveUp") t;
+      word = none_by 32 (codes "AboveUp") refl;
+      short =
+          one_short t;
+      back = one_back AboveUp t;
+    }
+fault_read (EqualSlopes i) =
+    record {
+      shape = placed (codes "EqualSlopes") i;
+      word = none_by 32 (codes "EqualSlopes") refl;
+      short =
+          one_short i;
+      back = one_back EqualSlopes i;
+    }
+fault_read (RiseOffUpper i) =
+    record {
+      shape = placed (codes "RiseOffUpper") i;
+      word = none_by 32 (codes "RiseOffUpper") refl;
+      short =
+          one_short i;
+      back = one_back RiseOffUpper i;
+    }
+fault_read (FallOffLower i) =
+    record {
+      shape = placed (codes "FallOffLower") i;
+      word = none_by 32 (codes "FallOffLower") refl;
+      short =
+          one_short i;
+      back = one_back FallOffLower i;
+    }
 
 text_read : (fault : CertFault) → IsShortFault fault → fault_of (split 32 (cert_fault_text fault)) ≡ fault
 text_read fault short =
@@ -317,11 +394,13 @@ text_read fault short =
     ap (λ (t : List ℕ). fault_of (split 32 t)) own.shape
     ∙ ap fault_of (split_words (fault_name fault) (numbers_after fault) own.word (own.short short)) ∙ own.back (own.short short)
 
-pub fault_told : (fault fault' : CertFault) → IsShortFault fault → IsShortFault fault' → refused_line fault ≡ refused_line fault' → fault ≡ fault'
+pub fault_told : (fault fault' : CertFault) → IsShortFault fault → IsShortFault fault'
+    → refused_line fault ≡ refused_line fault' → fault ≡ fault'
 fault_told fault fault' short short' e =
     let texts : cert_fault_text fault ≡ cert_fault_text fault' =
     append_cancel_left (codes "refused ") (cert_fault_text fault) (cert_fault_text fault')
-    (append_cancel_right (codes "refused " ++ cert_fault_text fault) (codes "refused " ++ cert_fault_text fault') (codes "\n") e) in
+    (append_cancel_right (codes "refused " ++ cert_fault_text fault)
+    (codes "refused " ++ cert_fault_text fault') (codes "\n") e) in
     sym (text_read fault short) ∙ ap (λ (t : List ℕ). fault_of (split 32 t)) texts ∙ text_read fault' short'
 
 pub not_least : (fault : CertFault) → refused_line fault ≢ codes "least\n"

@@ -57,7 +57,8 @@ where-is {Has} {c} {past} {at} k spaced {place} {kind} has before =
     where-by past spaced (k.back place kind has before)
 
 -- none in front of the latest code, and that one isn't such: none
-pub none-with : {Has : ℕ → ℕ → Type 0} {c : Code} {past : List Code} {at from : ℕ} {OfKind : ℕ → Type 0} → Knows Has (c ∷ past) at → Spaced (c ∷ past) → (OfKind c.kind → ⊥) →
+pub none-with : {Has : ℕ → ℕ → Type 0} {c : Code} {past : List Code} {at from : ℕ} {OfKind : ℕ → Type 0} →
+    Knows Has (c ∷ past) at → Spaced (c ∷ past) → (OfKind c.kind → ⊥) →
     NoneIn Has from c.place OfKind → NoneIn Has from at OfKind
 none-with {Has} {c} {at} {from} {OfKind} k spaced other none place kind has after before is =
     elim (where-is k spaced has before) [
@@ -72,7 +73,8 @@ none-from {Has} {c} {at} OfKind k spaced other =
     none-with k spaced other (λ place kind has after before is.
     absurd (omega (arith, after, before)))
 
-pub none-after : {Has : ℕ → ℕ → Type 0} {c : Code} {past : List Code} {at : ℕ} (OfKind : ℕ → Type 0) → Knows Has (c ∷ past) at → Spaced (c ∷ past) → NoneIn Has (c.place + 1) at OfKind
+pub none-after : {Has : ℕ → ℕ → Type 0} {c : Code} {past : List Code} {at : ℕ} (OfKind : ℕ → Type 0)
+    → Knows Has (c ∷ past) at → Spaced (c ∷ past) → NoneIn Has (c.place + 1) at OfKind
 none-after {Has} {c} {at} OfKind k spaced place kind has after before is =
     elim (where-is k spaced has before) [
       | here e m ↦ absurd (omega (arith, e, after))
@@ -311,7 +313,8 @@ picture-with {Has} {c} {past} {at} unit (Some h) k spaced other p = record {
   last = none-with k spaced other p.last;
 }
 
-picture-by : {z b : Bool} {Has : ℕ → ℕ → Type 0} {c : Code} {past : List Code} {at unit : ℕ} (o : Option Header) → eqb c.kind 0 ≡ z →
+picture-by : {z b : Bool} {Has : ℕ → ℕ → Type 0} {c : Code} {past : List Code} {at unit : ℕ}
+    (o : Option Header) → eqb c.kind 0 ≡ z →
     Knows Has (c ∷ past) at → Spaced (c ∷ past)
     → (b ≡ false → PictureThere Has unit c.place o) → (b ≡ false → unit ≤ c.place) →
     PictureThere Has (cond b c.place unit) at (cond z (Some (header_of c)) (cond b None o))

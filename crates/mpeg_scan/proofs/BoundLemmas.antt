@@ -21,7 +21,8 @@ use Rattle.mpeg_scan.proofs.CountLemmas.{film-count}
 abbrev pub IsRate : ℕ → Type 0
 IsRate rate = (1 ≤ rate) × (rate ≤ 8)
 
-pub some-cond-none : (b : Bool) (f : FilmFault) (rest : Option FilmFault) → cond b (Some f) rest ≡ None → (b ≡ false) × (rest ≡ None)
+pub some-cond-none : (b : Bool) (f : FilmFault) (rest : Option FilmFault) → cond b (Some f) rest ≡ None
+    → (b ≡ false) × (rest ≡ None)
 some-cond-none true f rest e = absurd (cc)
 some-cond-none false f rest e = (refl, e)
 
@@ -31,8 +32,12 @@ positive (suc n) e = omega arith
 
 judged-rate : (c : Code) → rate_fault 0 c ≡ None → IsRate (rate_code c)
 judged-rate c e =
-    let parts = or_parts (eqb (rate_code c) 0) (ltb 8 (rate_code c) || (ltb 0 0 && not (eqb (rate_code c) 0))) (some-cond-none (eqb (rate_code c) 0 || (ltb 8 (rate_code c) || (ltb 0 0 && not (eqb (rate_code c) 0)))) (BadRate c.place (rate_code c)) None e).0 in
-    (positive (rate_code c) parts.0, ltb-false 8 (rate_code c) (or_parts (ltb 8 (rate_code c)) (ltb 0 0 && not (eqb (rate_code c) 0)) parts.1).0)
+    let parts = or_parts (eqb (rate_code c) 0) (ltb 8 (rate_code c) || (ltb 0 0 && not (eqb (rate_code c) 0)))
+    (some-cond-none (eqb (rate_code c) 0 || (ltb 8 (rate_code c) || (ltb 0 0 && not (eqb (rate_code c) 0))))
+    (BadRate c.place (rate_code c)) None e).0 in (
+      positive (rate_code c) parts.0,
+      ltb-false 8 (rate_code c) (or_parts (ltb 8 (rate_code c)) (ltb 0 0 && not (eqb (rate_code c) 0)) parts.1).0,
+    )
 
 pub sequence-judged : (b : Bool) (f g : Option FilmFault) → b ≡ true → cond b f g ≡ None → f ≡ None
 sequence-judged true f g is e = e
@@ -42,23 +47,32 @@ sequence-judged false f g is e = absurd (true≢false (sym is))
 first-rate : (c : Code) (end : ℕ) → c.kind ≡ 0xb3 → header_fault 0 c end ≡ None → IsRate (rate_of (c ∷ []))
 first-rate c end is e =
     let test : eqb c.kind 0xb3 ≡ true = eq-eqb c.kind 0xb3 is in
-    let judged = some-cond-none (ltb (end - c.place) 12) (ShortHeader c.place) (rate_fault 0 c) (sequence-judged (eqb c.kind 0xb3) (cond (ltb (end - c.place) 12) (Some (ShortHeader c.place)) (rate_fault 0 c)) (cond (eqb c.kind 0xb8) (cond (ltb (end - c.place) 8) (Some (ShortHeader c.place)) None) (cond (eqb c.kind 0) (picture_fault c end) None)) test e) in
+    let judged =
+    some-cond-none (ltb (end - c.place) 12) (ShortHeader c.place) (rate_fault 0 c)
+    (sequence-judged (eqb c.kind 0xb3)
+    (cond (ltb (end - c.place) 12) (Some (ShortHeader c.place)) (rate_fault 0 c))
+    (cond (eqb c.kind 0xb8) (cond (ltb (end - c.place) 8) (Some (ShortHeader c.place)) None)
+    (cond (eqb c.kind 0) (picture_fault c end) None)) test e) in
     subst (λ b. IsRate (cond b (rate_code c) 0)) (sym test) (judged-rate c judged.1)
 
 later-rate : (c : Code) (past : List Code) → IsRate (rate_of past) → IsRate (rate_of (c ∷ past))
 later-rate c past rate =
-    subst (λ b. IsRate (cond (b && eqb c.kind 0xb3) (rate_code c) (rate_of past))) (sym (ne_eqb (rate_of past) 0 (λ none. absurd (omega (arith, rate.0))))) rate
+    subst (λ b. IsRate (cond (b && eqb c.kind 0xb3) (rate_code c) (rate_of past)))
+    (sym (ne_eqb (rate_of past) 0 (λ none. absurd (omega (arith, rate.0))))) rate
 
 pub older-judged : (c : Code) (past : List Code) → first_fault (c ∷ past) ≡ None → latest_fault past c.place ≡ None
 unfolding first_fault fault_at
 older-judged c past e =
     otherwise-first (latest_fault past c.place) (code_fault (tally_of past) c.place c.kind)
-    (otherwise-second (first_fault past) (first_refusal (latest_fault past c.place) (code_fault (tally_of past) c.place c.kind)) e)
+    (otherwise-second (first_fault past)
+    (first_refusal (latest_fault past c.place) (code_fault (tally_of past) c.place c.kind)) e)
 
-pub codes-rate : (c : Code) (past : List Code) (end : ℕ) → first_fault (c ∷ past) ≡ None → latest_fault (c ∷ past) end ≡ None → IsRate (rate_of (c ∷ past))
+pub codes-rate : (c : Code) (past : List Code) (end : ℕ) → first_fault (c ∷ past) ≡ None
+    → latest_fault (c ∷ past) end ≡ None → IsRate (rate_of (c ∷ past))
 codes-rate c [] end accepted judged = first-rate c end (first-is c accepted) judged
 codes-rate c (d ∷ past) end accepted judged =
-    later-rate c (d ∷ past) (codes-rate d past c.place (accepted-older c (d ∷ past) accepted) (older-judged c (d ∷ past) accepted))
+    later-rate c (d ∷ past)
+    (codes-rate d past c.place (accepted-older c (d ∷ past) accepted) (older-judged c (d ∷ past) accepted))
 
 whole-rate : (past : List Code) (n : ℕ) → first_fault past ≡ None → end_fault past n ≡ None → IsRate (rate_of past)
 unfolding end_fault
@@ -69,7 +83,9 @@ whole-rate (c ∷ past) n accepted ended =
 pub film-rate : (r : List ℕ) → refusal_of r ≡ None → IsRate (rate_of (codes_of r))
 film-rate r e =
     let none = accepted-whole r e in
-    whole-rate (codes_of r) (length r) (otherwise-first (first_fault (codes_of r)) (end_fault (codes_of r) (length r)) none) (otherwise-second (first_fault (codes_of r)) (end_fault (codes_of r) (length r)) none)
+    whole-rate (codes_of r) (length r)
+    (otherwise-first (first_fault (codes_of r)) (end_fault (codes_of r) (length r)) none)
+    (otherwise-second (first_fault (codes_of r)) (end_fault (codes_of r) (length r)) none)
 
 -- ---- the bytes
 
@@ -85,13 +101,15 @@ film-bytes bytes e = omega (arith, length-read bytes [], bytes-bound (read [] by
 
 -- ---- the units
 
-count-goes : (b : Bool) (k : Count) (calls : List Call) (last : Count) → counts_after (cond b (Some k) None) calls ≡ Some last → counts_after (Some k) calls ≡ Some last
+count-goes : (b : Bool) (k : Count) (calls : List Call) (last : Count)
+    → counts_after (cond b (Some k) None) calls ≡ Some last → counts_after (Some k) calls ≡ Some last
 count-goes true k calls last e = e
 count-goes false k [] last e = absurd (cc)
 count-goes false k (call ∷ calls) last e = absurd (cc)
 
 -- each unit is counted
-units-counted : (calls : List Call) (k last : Count) → counts_after (Some k) calls ≡ Some last → last.units ≡ k.units + length (units_in calls)
+units-counted : (calls : List Call) (k last : Count) → counts_after (Some k) calls ≡ Some last
+    → last.units ≡ k.units + length (units_in calls)
 units-counted [] k last e = let same : k ≡ last = cc in sym (ap (λ (m : Count). m.units) same) ∙ omega arith
 units-counted (head_call from to ∷ calls) k last e = units-counted calls k last e
 units-counted (slice_call from to ∷ calls) k last e = units-counted calls (record k { slices = k.slices + 1 }) last e
@@ -100,11 +118,13 @@ units-counted (unit_call unit ∷ calls) k last e =
     let next : Count = record { units = k.units + 1; slices = k.slices; before_group = group_of k unit } in
     omega (arith, units-counted calls next last (count-goes b next calls last e))
 
-pub film-units : (bytes : List ℕ) → refusal bytes ≡ None → length (units_in (told_of bytes)) ≡ pictures_of (codes_of (read [] bytes))
+pub film-units : (bytes : List ℕ) → refusal bytes ≡ None
+    → length (units_in (told_of bytes)) ≡ pictures_of (codes_of (read [] bytes))
 film-units bytes e =
     let whole = film-count (read [] bytes) e in
     omega (arith, units-counted (told_of bytes) no_count whole.last whole.counted, whole.units)
 
 pub film-pictures : (r : List ℕ) → refusal_of r ≡ None → pictures_of (codes_of r) ≤ 4194304
 film-pictures r e =
-    pictures-bound (codes_of r) (otherwise-first (first_fault (codes_of r)) (end_fault (codes_of r) (length r)) (accepted-whole r e))
+    pictures-bound (codes_of r)
+    (otherwise-first (first_fault (codes_of r)) (end_fault (codes_of r) (length r)) (accepted-whole r e))

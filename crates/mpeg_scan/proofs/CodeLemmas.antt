@@ -7,7 +7,10 @@ use Rattle.mpeg_scan.specs.Texts.{text_with}
 use Rattle.mpeg_scan.specs.Codes.{back, latest_prefix, after_one, after_zero, next_prefix}
 
 -- p1, p0: the byte is 1, 0; a1, a0: so is the one before it; z1, z2: the two before that are 0
-table : {p1 p0 a1 a0 : Bool} (z1 z2 : Bool) → (p1 ≡ true → p0 ≡ false) → (a1 ≡ true → a0 ≡ false) → cond (p1 && (a0 && z1)) Whole (cond (p0 && a0) Zeros (cond p0 Zero Nothing)) ≡ cond p1 (after_one (cond (a1 && (z1 && z2)) Whole (cond (a0 && z1) Zeros (cond a0 Zero Nothing)))) (cond p0 (after_zero (cond (a1 && (z1 && z2)) Whole (cond (a0 && z1) Zeros (cond a0 Zero Nothing)))) Nothing)
+table : {p1 p0 a1 a0 : Bool} (z1 z2 : Bool) → (p1 ≡ true → p0 ≡ false) → (a1 ≡ true → a0 ≡ false)
+    → cond (p1 && (a0 && z1)) Whole (cond (p0 && a0) Zeros (cond p0 Zero Nothing))
+    ≡ cond p1 (after_one (cond (a1 && (z1 && z2)) Whole (cond (a0 && z1) Zeros (cond a0 Zero Nothing))))
+    (cond p0 (after_zero (cond (a1 && (z1 && z2)) Whole (cond (a0 && z1) Zeros (cond a0 Zero Nothing)))) Nothing)
 table {p1 = true} {p0 = true} z1 z2 p a = absurd (false≢true (sym (p refl)))
 table {p1 = true} {p0 = false} {a1 = true} {a0 = true} z1 z2 p a = absurd (false≢true (sym (a refl)))
 table {p1 = true} {p0 = false} {a1 = true} {a0 = false} true true p a = refl
@@ -42,7 +45,8 @@ pub noted-room : (bytes : List ℕ) (n x : ℕ) → n < 5 → length bytes ≡ 5
 noted-room bytes n x room five =
     let within : n < length bytes = omega arith in
     let held : n ≤ length bytes = omega arith in
-    let some : ltb (length (take n bytes)) 5 ≡ true = lt-ltb (length (take n bytes)) 5 (omega (arith, length-take-le n bytes held)) in
+    let some : ltb (length (take n bytes)) 5 ≡ true =
+    lt-ltb (length (take n bytes)) 5 (omega (arith, length-take-le n bytes held)) in
     take_more_set bytes n x within ∙ sym (noted-by true (take n bytes) x some)
 
 pub noted-full : (text : List ℕ) (x : ℕ) → 5 ≤ length text → text ≡ text_with text x

@@ -26,9 +26,15 @@ pub record Agrees (pictures : ℕ) (has : Bool) (all n before : ℕ) (starts : B
 
 -- ---- the calls, one by one
 
-counts-unit : (k : Count) (u : PictureUnit) → u.first_slice + u.slices ≡ k.slices → u.presentation ≡ group_of k u + u.temporal → counts_after (Some k) (unit_call u ∷ []) ≡ Some (record { units = k.units + 1; slices = k.slices; before_group = group_of k u })
+counts-unit : (k : Count) (u : PictureUnit) → u.first_slice + u.slices ≡ k.slices
+    → u.presentation ≡ group_of k u + u.temporal
+    → counts_after (Some k) (unit_call u ∷ [])
+    ≡ Some (record { units = k.units + 1; slices = k.slices; before_group = group_of k u })
 counts-unit k u slices shown =
-    ap (λ b. counts_after (cond b (Some (record { units = k.units + 1; slices = k.slices; before_group = group_of k u })) None) []) (and_from (eqb (u.first_slice + u.slices) k.slices) (eqb u.presentation (group_of k u + u.temporal)) (eq-eqb (u.first_slice + u.slices) k.slices slices) (eq-eqb u.presentation (group_of k u + u.temporal) shown))
+    ap (λ b. counts_after
+    (cond b (Some (record { units = k.units + 1; slices = k.slices; before_group = group_of k u })) None)
+    []) (and_from (eqb (u.first_slice + u.slices) k.slices) (eqb u.presentation (group_of k u + u.temporal))
+    (eq-eqb (u.first_slice + u.slices) k.slices slices) (eq-eqb u.presentation (group_of k u + u.temporal) shown))
 
 -- the end of a unit
 after_unit : Count → Bool → Count
@@ -45,18 +51,21 @@ record IsNext (u : PictureUnit) (all n before : ℕ) (starts : Bool) : Type 0 wh
   group : u.starts_group ≡ starts
   shown : u.presentation ≡ before + u.temporal
 
-unit-counted : {pictures all n before : ℕ} {has starts : Bool} {k : Count} {u : PictureUnit} (from to : ℕ) → Agrees pictures has all n before starts k → 0 < n → IsNext u all n before starts →
+unit-counted : {pictures all n before : ℕ} {has starts : Bool} {k : Count} {u : PictureUnit} (from to : ℕ) →
+    Agrees pictures has all n before starts k → 0 < n → IsNext u all n before starts →
     counts_after (Some k) (slice_call from to ∷ unit_call u ∷ []) ≡ Some (after_unit k starts)
 unfolding after_unit
 unit-counted {starts} {k} {u} from to agrees some next =
     let grown : Count = record k { slices = k.slices + 1 } in
     let same : group_of grown u ≡ cond starts k.units k.before_group = ap (λ b. cond b k.units k.before_group) group in
-    counts-unit grown u (omega (arith, first, slices, agrees.open_slice some, agrees.held)) (shown ∙ ap (λ m. m + u.temporal) (agrees.group ∙ sym same))
+    counts-unit grown u (omega (arith, first, slices, agrees.open_slice some, agrees.held))
+    (shown ∙ ap (λ m. m + u.temporal) (agrees.group ∙ sym same))
     ∙ ap (λ m. Some (record { units = k.units + 1; slices = k.slices + 1; before_group = m })) same
   where
     open next use {first, slices, group, shown}
 
-unit-agrees : {pictures all n before : ℕ} {has starts : Bool} {k : Count} → Agrees pictures has all n before starts k → 0 < n → Agrees pictures false all 0 before false (after_unit k starts)
+unit-agrees : {pictures all n before : ℕ} {has starts : Bool} {k : Count}
+    → Agrees pictures has all n before starts k → 0 < n → Agrees pictures false all 0 before false (after_unit k starts)
 unfolding after_unit
 unit-agrees {k} agrees some = record {
   units = agrees.units ∙ ap (λ b. k.units + cond b 1 0) (agrees.sliced some) ∙ omega arith;
@@ -68,7 +77,8 @@ unit-agrees {k} agrees some = record {
 }
 
 -- a picture, and a group header, in a head without a picture
-picture-agrees : (pictures all before : ℕ) (starts : Bool) (k : Count) → Agrees pictures false all 0 before starts k → Agrees (pictures + 1) true all 0 before starts k
+picture-agrees : (pictures all before : ℕ) (starts : Bool) (k : Count)
+    → Agrees pictures false all 0 before starts k → Agrees (pictures + 1) true all 0 before starts k
 picture-agrees pictures all before starts k agrees = record {
   units = omega (arith, agrees.units);
   ended = agrees.ended;
@@ -78,7 +88,8 @@ picture-agrees pictures all before starts k agrees = record {
   sliced = λ more. refl;
 }
 
-group-agrees : (pictures all before : ℕ) (starts : Bool) (k : Count) → Agrees pictures false all 0 before starts k → Agrees pictures false all 0 pictures true k
+group-agrees : (pictures all before : ℕ) (starts : Bool) (k : Count)
+    → Agrees pictures false all 0 before starts k → Agrees pictures false all 0 pictures true k
 group-agrees pictures all before starts k agrees = record {
   units = agrees.units;
   ended = agrees.ended;
@@ -89,7 +100,8 @@ group-agrees pictures all before starts k agrees = record {
 }
 
 -- a slice
-first-agrees : {pictures all n before : ℕ} {has starts : Bool} {k : Count} → Agrees pictures has all n before starts k → n ≡ 0 → has ≡ true → Agrees pictures has (all + 1) (n + 1) before starts k
+first-agrees : {pictures all n before : ℕ} {has starts : Bool} {k : Count}
+    → Agrees pictures has all n before starts k → n ≡ 0 → has ≡ true → Agrees pictures has (all + 1) (n + 1) before starts k
 first-agrees {all} {starts} agrees none with_picture = record {
   units = agrees.units;
   ended = λ e. absurd (omega arith);
@@ -99,7 +111,9 @@ first-agrees {all} {starts} agrees none with_picture = record {
   sliced = λ more. with_picture;
 }
 
-later-agrees : {pictures all n before : ℕ} {has starts : Bool} {k : Count} → Agrees pictures has all n before starts k → 0 < n → Agrees pictures has (all + 1) (n + 1) before starts (record k { slices = k.slices + 1 })
+later-agrees : {pictures all n before : ℕ} {has starts : Bool} {k : Count}
+    → Agrees pictures has all n before starts k → 0 < n
+    → Agrees pictures has (all + 1) (n + 1) before starts (record k { slices = k.slices + 1 })
 later-agrees {all} {starts} agrees some = record {
   units = agrees.units;
   ended = λ e. absurd (omega arith);
@@ -117,17 +131,21 @@ pub record Counted (k : Count) (calls : List Call) (pictures : ℕ) (has : Bool)
   pub agrees : Agrees pictures has all n before starts count
 
 -- in a head without slices, and without a picture
-none-left : {pictures all n before : ℕ} {has starts : Bool} {k : Count} → Agrees pictures has all n before starts k → n ≡ 0 → Agrees pictures has all 0 before starts k
+none-left : {pictures all n before : ℕ} {has starts : Bool} {k : Count}
+    → Agrees pictures has all n before starts k → n ≡ 0 → Agrees pictures has all 0 before starts k
 none-left {pictures} {all} {before} {has} {starts} {k} agrees none =
     subst (λ m. Agrees pictures has all m before starts k) none agrees
 
-bare : {pictures all n before : ℕ} {has starts : Bool} {k : Count} → Agrees pictures has all n before starts k → n ≡ 0 → has ≡ false → Agrees pictures false all 0 before starts k
+bare : {pictures all n before : ℕ} {has starts : Bool} {k : Count} → Agrees pictures has all n before starts k
+    → n ≡ 0 → has ≡ false → Agrees pictures false all 0 before starts k
 bare {pictures} {all} {before} {starts} {k} agrees none alone =
     subst (λ b. Agrees pictures b all 0 before starts k) alone (none-left agrees none)
 
-group-bare : {pictures all n before : ℕ} {has starts : Bool} {k : Count} → Agrees pictures has all n before starts k → n ≡ 0 → has ≡ false → Agrees pictures has all 0 pictures true k
+group-bare : {pictures all n before : ℕ} {has starts : Bool} {k : Count}
+    → Agrees pictures has all n before starts k → n ≡ 0 → has ≡ false → Agrees pictures has all 0 pictures true k
 group-bare {pictures} {all} {before} {starts} {k} agrees none alone =
-    subst (λ b. Agrees pictures b all 0 pictures true k) (sym alone) (group-agrees pictures all before starts k (bare agrees none alone))
+    subst (λ b. Agrees pictures b all 0 pictures true k) (sym alone)
+    (group-agrees pictures all before starts k (bare agrees none alone))
 
 -- a code that fits what stands before it: s, h: it is a slice, a head code; q, has: the latest unit has slices, a
 -- picture
@@ -143,45 +161,63 @@ record NextCode (t0 t3 t8 s q has : Bool) (n : ℕ) : Type 0 where
   some : q ≡ true → 0 < n
   none : q ≡ false → n ≡ 0
 
-raw-count : {t0 t3 t8 s q : Bool} {pictures all n before : ℕ} {has starts : Bool} {k : Count} (told : Told) → Agrees pictures has all n before starts k → NextCode t0 t3 t8 s q has n
+raw-count : {t0 t3 t8 s q : Bool} {pictures all n before : ℕ} {has starts : Bool} {k : Count} (told : Told)
+    → Agrees pictures has all n before starts k → NextCode t0 t3 t8 s q has n
     → IsNext told.ended all n before starts
     → Counted k (raw_calls s (t0 || (t3 || t8)) q (not q) told)
-    (cond t0 (pictures + 1) pictures) (cond t0 true (cond ((t0 || (t3 || t8)) && q) false has)) (cond s (all + 1) all) (cond (t0 || (t3 || t8)) 0 (cond s (n + 1) n)) (cond t8 pictures before) (cond t8 true (cond ((t0 || (t3 || t8)) && q) false starts))
+    (cond t0 (pictures + 1) pictures) (cond t0 true (cond ((t0 || (t3 || t8)) && q) false has))
+    (cond s (all + 1) all) (cond (t0 || (t3 || t8)) 0 (cond s (n + 1) n)) (cond t8 pictures before)
+    (cond t8 true (cond ((t0 || (t3 || t8)) && q) false starts))
 raw-count {t0 = true} {s = true} told agrees code next = absurd (true≢false (code.fits.apart refl))
 raw-count {t0 = false} {t3 = true} {s = true} told agrees code next = absurd (true≢false (code.fits.apart refl))
 raw-count {t0 = false} {t3 = false} {t8 = true} {s = true} told agrees code next = absurd (true≢false (code.fits.apart refl))
-raw-count {t0 = false} {t3 = false} {t8 = false} {s = true} {q = true} {k} told agrees code next = record { count = record k { slices = k.slices + 1 }; told = refl; agrees = later-agrees agrees (code.some refl) }
-raw-count {t0 = false} {t3 = false} {t8 = false} {s = true} {q = false} {k} told agrees code next = record { count = k; told = refl; agrees = first-agrees agrees (code.none refl) (code.fits.with_picture refl refl) }
+raw-count {t0 = false} {t3 = false} {t8 = false} {s = true} {q = true} {k} told agrees code next =
+    record { count = record k { slices = k.slices + 1 }; told = refl; agrees = later-agrees agrees (code.some refl) }
+raw-count {t0 = false} {t3 = false} {t8 = false} {s = true} {q = false} {k} told agrees code next =
+    record { count = k; told = refl; agrees = first-agrees agrees (code.none refl) (code.fits.with_picture refl refl) }
 raw-count {t0 = true} {t8 = true} {s = false} told agrees code next = absurd (true≢false (code.other refl))
 raw-count {t0 = true} {t8 = false} {s = false} {q = true} {pictures} {all} {before} {starts} {k} told agrees code next = record {
   count = after_unit k starts;
   told = unit-counted told.slice told.place agrees (code.some refl) next;
   agrees = picture-agrees pictures all before false (after_unit k starts) (unit-agrees agrees (code.some refl));
 }
-raw-count {t0 = false} {t3 = true} {t8 = true} {s = false} {q = true} {pictures} {all} {before} {starts} {k} told agrees code next = record {
-  count = after_unit k starts;
-  told = unit-counted told.slice told.place agrees (code.some refl) next;
-  agrees = group-agrees pictures all before false (after_unit k starts) (unit-agrees agrees (code.some refl));
-}
-raw-count {t0 = false} {t3 = false} {t8 = true} {s = false} {q = true} {pictures} {all} {before} {starts} {k} told agrees code next = record {
-  count = after_unit k starts;
-  told = unit-counted told.slice told.place agrees (code.some refl) next;
-  agrees = group-agrees pictures all before false (after_unit k starts) (unit-agrees agrees (code.some refl));
-}
+raw-count {t0 = false} {t3 = true} {t8 = true} {s = false} {q = true} {pictures} {all} {before} {starts} {k}
+    told agrees code next = record {
+      count = after_unit k starts;
+      told = unit-counted told.slice told.place agrees (code.some refl) next;
+      agrees = group-agrees pictures all before false (after_unit k starts) (unit-agrees agrees (code.some refl));
+    }
+raw-count {t0 = false} {t3 = false} {t8 = true} {s = false} {q = true} {pictures} {all} {before} {starts} {k}
+    told agrees code next = record {
+      count = after_unit k starts;
+      told = unit-counted told.slice told.place agrees (code.some refl) next;
+      agrees = group-agrees pictures all before false (after_unit k starts) (unit-agrees agrees (code.some refl));
+    }
 raw-count {t0 = false} {t3 = true} {t8 = false} {s = false} {q = true} {starts} {k} told agrees code next = record {
   count = after_unit k starts;
   told = unit-counted told.slice told.place agrees (code.some refl) next;
   agrees = unit-agrees agrees (code.some refl);
 }
-raw-count {t0 = true} {t8 = false} {s = false} {q = false} {pictures} {all} {before} {starts} {k} told agrees code next = record { count = k; told = refl; agrees = picture-agrees pictures all before starts k (bare agrees (code.none refl) (code.fits.alone refl refl)) }
-raw-count {t0 = false} {t3 = true} {t8 = true} {s = false} {q = false} {k} told agrees code next = record { count = k; told = refl; agrees = group-bare agrees (code.none refl) (code.fits.alone refl refl) }
-raw-count {t0 = false} {t3 = false} {t8 = true} {s = false} {q = false} {k} told agrees code next = record { count = k; told = refl; agrees = group-bare agrees (code.none refl) (code.fits.alone refl refl) }
-raw-count {t0 = false} {t3 = true} {t8 = false} {s = false} {q = false} {k} told agrees code next = record { count = k; told = refl; agrees = none-left agrees (code.none refl) }
-raw-count {t0 = false} {t3 = false} {t8 = false} {s = false} {k} told agrees code next = record { count = k; told = refl; agrees = agrees }
+raw-count {t0 = true} {t8 = false} {s = false} {q = false} {pictures} {all} {before} {starts} {k} told agrees
+    code next = record {
+      count = k;
+      told = refl;
+      agrees =
+          picture-agrees pictures all before starts k (bare agrees (code.none refl) (code.fits.alone refl refl));
+    }
+raw-count {t0 = false} {t3 = true} {t8 = true} {s = false} {q = false} {k} told agrees code next =
+    record { count = k; told = refl; agrees = group-bare agrees (code.none refl) (code.fits.alone refl refl) }
+raw-count {t0 = false} {t3 = false} {t8 = true} {s = false} {q = false} {k} told agrees code next =
+    record { count = k; told = refl; agrees = group-bare agrees (code.none refl) (code.fits.alone refl refl) }
+raw-count {t0 = false} {t3 = true} {t8 = false} {s = false} {q = false} {k} told agrees code next =
+    record { count = k; told = refl; agrees = none-left agrees (code.none refl) }
+raw-count {t0 = false} {t3 = false} {t8 = false} {s = false} {k} told agrees code next =
+    record { count = k; told = refl; agrees = agrees }
 
 -- ---- all codes
 
-pub some-cond : (t b : Bool) (h : Header) (o : Option Header) → is_some (cond t (Some h) (cond b None o)) ≡ cond t true (cond b false (is_some o))
+pub some-cond : (t b : Bool) (h : Header) (o : Option Header)
+    → is_some (cond t (Some h) (cond b None o)) ≡ cond t true (cond b false (is_some o))
 some-cond true b h o = refl
 some-cond false true h o = refl
 some-cond false false h o = refl
@@ -202,37 +238,53 @@ a-picture : (t : Tally) (place : ℕ) (o : Option Header) → head_fault t place
 a-picture t place None e = absurd (cc)
 a-picture t place (Some p) e = refl
 
-pub second-none : (t : Tally) (kind : ℕ) → second_fault t kind ≡ None → is_head kind ≡ true → t.slices ≡ 0 → is_some t.picture ≡ false
+pub second-none : (t : Tally) (kind : ℕ) → second_fault t kind ≡ None → is_head kind ≡ true → t.slices ≡ 0
+    → is_some t.picture ≡ false
 second-none t kind e head none =
-    no-picture t.picture (sym (ap (λ b. cond b (option_map left_without_slices t.picture) None) (and_from (is_head kind) (eqb t.slices 0) head (eq-eqb t.slices 0 none))) ∙ e)
+    no-picture t.picture
+    (sym (ap (λ b. cond b (option_map left_without_slices t.picture) None)
+    (and_from (is_head kind) (eqb t.slices 0) head (eq-eqb t.slices 0 none))) ∙ e)
 
-pub first-some : (t : Tally) (place kind : ℕ) → first_slice_fault t place kind ≡ None → is_slice kind ≡ true → t.slices ≡ 0 → is_some t.picture ≡ true
+pub first-some : (t : Tally) (place kind : ℕ) → first_slice_fault t place kind ≡ None → is_slice kind ≡ true
+    → t.slices ≡ 0 → is_some t.picture ≡ true
 first-some t place kind e slice none =
-    a-picture t place t.picture (sym (ap (λ b. cond b (head_fault t place t.picture) None) (and_from (is_slice kind) (eqb t.slices 0) slice (eq-eqb t.slices 0 none))) ∙ e)
+    a-picture t place t.picture
+    (sym (ap (λ b. cond b (head_fault t place t.picture) None)
+    (and_from (is_slice kind) (eqb t.slices 0) slice (eq-eqb t.slices 0 none))) ∙ e)
 
 pub second-accepted : (t : Tally) (place kind : ℕ) → code_fault t place kind ≡ None → second_fault t kind ≡ None
 second-accepted t place kind e =
     otherwise-first (second_fault t kind) (first_refusal (first_slice_fault t place kind) (count_fault t place kind))
-    (otherwise-second (kind_fault t place kind) (first_refusal (second_fault t kind) (first_refusal (first_slice_fault t place kind) (count_fault t place kind))) e)
+    (otherwise-second (kind_fault t place kind)
+    (first_refusal (second_fault t kind) (first_refusal (first_slice_fault t place kind) (count_fault t place kind))) e)
 
 -- the count of codes
 abbrev CountedBy : Count → List Call → List Code → Type 0
 CountedBy k calls past =
-    Counted k calls (pictures_of past) (is_some (picture_of past)) (all_slices_of past) (slices_of past) (before_group_of past) (starts_group past)
+    Counted k calls (pictures_of past) (is_some (picture_of past)) (all_slices_of past) (slices_of past)
+    (before_group_of past) (starts_group past)
 
 pub empty-count : (n : ℕ) → ltb 0 n ≡ false → n ≡ 0
 empty-count n h = let none = ltb-false 0 n h in omega arith
 
-pub code-fits : (c d : Code) (past : List Code) → code_fault (tally_of (d ∷ past)) c.place c.kind ≡ None → CodeFits (is_slice c.kind) (is_head c.kind) (ltb 0 (slices_of (d ∷ past))) (is_some (picture_of (d ∷ past)))
+pub code-fits : (c d : Code) (past : List Code) → code_fault (tally_of (d ∷ past)) c.place c.kind ≡ None
+    → CodeFits (is_slice c.kind) (is_head c.kind) (ltb 0 (slices_of (d ∷ past))) (is_some (picture_of (d ∷ past)))
 code-fits c d past e =
     let t = tally_of (d ∷ past) in
     record {
       apart = slice-apart c.kind;
-      alone = λ head bare. second-none t c.kind (second-accepted t c.place c.kind e) head (empty-count (slices_of (d ∷ past)) bare);
-      with_picture = λ slice bare. first-some t c.place c.kind (first_slice-accepted t c.place c.kind e) slice (empty-count (slices_of (d ∷ past)) bare);
+      alone = λ head bare. second-none t c.kind (second-accepted t c.place c.kind e) head
+          (empty-count (slices_of (d ∷ past)) bare);
+      with_picture =
+          λ slice bare. first-some t c.place c.kind (first_slice-accepted t c.place c.kind e) slice
+          (empty-count (slices_of (d ∷ past)) bare);
     }
 
-code-count : (c d : Code) (past : List Code) (k : Count) → code_fault (tally_of (d ∷ past)) c.place c.kind ≡ None → Agrees (pictures_of (d ∷ past)) (is_some (picture_of (d ∷ past))) (all_slices_of (d ∷ past)) (slices_of (d ∷ past)) (before_group_of (d ∷ past)) (starts_group (d ∷ past)) k → CountedBy k (calls_at (tally_of (d ∷ past)) c.place c.kind) (c ∷ (d ∷ past))
+code-count : (c d : Code) (past : List Code) (k : Count)
+    → code_fault (tally_of (d ∷ past)) c.place c.kind ≡ None
+    → Agrees (pictures_of (d ∷ past)) (is_some (picture_of (d ∷ past))) (all_slices_of (d ∷ past))
+    (slices_of (d ∷ past)) (before_group_of (d ∷ past)) (starts_group (d ∷ past)) k
+    → CountedBy k (calls_at (tally_of (d ∷ past)) c.place c.kind) (c ∷ (d ∷ past))
 unfolding calls_at
 code-count c d past k e agrees =
     let older : List Code = d ∷ past in
@@ -240,27 +292,54 @@ code-count c d past k e agrees =
     let n = slices_of older in
     let q = ltb 0 n in
     let u = unit_at t c.place in
-    let code : NextCode (eqb c.kind 0) (eqb c.kind 0xb3) (eqb c.kind 0xb8) (is_slice c.kind) q (is_some (picture_of older)) n = record {
+    let code : NextCode (eqb c.kind 0) (eqb c.kind 0xb3) (eqb c.kind 0xb8) (is_slice c.kind) q
+    (is_some (picture_of older)) n = record {
       fits = code-fits c d past e;
       other = λ group. ap (λ m. eqb m 0) (eqb-true c.kind 0xb8 group);
       some = ltb-true 0 n;
       none = empty-count n;
     } in
-    let next : IsNext u (all_slices_of older) n (before_group_of older) (starts_group older) = record { first = refl; slices = refl; group = refl; shown = refl } in
+    let next : IsNext u (all_slices_of older) n (before_group_of older) (starts_group older) =
+    record { first = refl; slices = refl; group = refl; shown = refl } in
     let raw = raw-count (told_at t c.place) agrees code next in
-    let calls : List Call = cond (is_slice c.kind) (cond (not q) (head_call t.unit c.place ∷ []) (slice_call t.slice c.place ∷ [])) (cond (is_head c.kind && q) (slice_call t.slice c.place ∷ unit_call u ∷ []) []) in
-    let with_has = subst (λ b. Counted k calls (pictures_of (c ∷ older)) b (all_slices_of (c ∷ older)) (slices_of (c ∷ older)) (before_group_of (c ∷ older)) (cond (eqb c.kind 0xb8) true (cond (is_head c.kind && q) false (starts_group older)))) (sym (some-cond (eqb c.kind 0) (is_head c.kind && q) (header_of c) (picture_of older))) raw in
-    let with_starts = subst (λ b. Counted k calls (pictures_of (c ∷ older)) (is_some (picture_of (c ∷ older))) (all_slices_of (c ∷ older)) (slices_of (c ∷ older)) (before_group_of (c ∷ older)) (cond b true (cond (is_head c.kind && q) false (starts_group older)))) (sym (or-false (eqb c.kind 0xb8))) with_has in
-    subst (λ b. CountedBy k (cond (is_slice c.kind) (cond b (head_call t.unit c.place ∷ []) (slice_call t.slice c.place ∷ [])) (cond (is_head c.kind && q) (slice_call t.slice c.place ∷ unit_call u ∷ []) [])) (c ∷ older)) (sym (none-or-some n)) with_starts
+    let calls : List Call =
+    cond (is_slice c.kind) (cond (not q) (head_call t.unit c.place ∷ []) (slice_call t.slice c.place ∷ []))
+    (cond (is_head c.kind && q) (slice_call t.slice c.place ∷ unit_call u ∷ []) []) in
+    let with_has =
+    subst (λ b. Counted k calls (pictures_of (c ∷ older)) b (all_slices_of (c ∷ older))
+    (slices_of (c ∷ older)) (before_group_of (c ∷ older))
+    (cond (eqb c.kind 0xb8) true (cond (is_head c.kind && q) false (starts_group older))))
+    (sym (some-cond (eqb c.kind 0) (is_head c.kind && q) (header_of c) (picture_of older))) raw in
+    let with_starts =
+    subst (λ b. Counted k calls (pictures_of (c ∷ older)) (is_some (picture_of (c ∷ older)))
+    (all_slices_of (c ∷ older)) (slices_of (c ∷ older)) (before_group_of (c ∷ older))
+    (cond b true (cond (is_head c.kind && q) false (starts_group older)))) (sym (or-false (eqb c.kind 0xb8))) with_has in
+    subst (λ b. CountedBy k
+    (cond (is_slice c.kind) (cond b (head_call t.unit c.place ∷ []) (slice_call t.slice c.place ∷ []))
+    (cond (is_head c.kind && q) (slice_call t.slice c.place ∷ unit_call u ∷ []) [])) (c ∷ older))
+    (sym (none-or-some n)) with_starts
 
 first-count : (c : Code) → c.kind ≡ 0xb3 → CountedBy no_count (calls_at (tally_of []) c.place c.kind) (c ∷ [])
 unfolding calls_at
 first-count c is =
-    subst (λ m. Counted no_count (cond (is_slice m) (cond (eqb 0 0) (head_call 0 c.place ∷ []) (slice_call 0 c.place ∷ [])) (cond (is_head m && ltb 0 0) (unit_end (tally_of []) c.place) [])) (cond (eqb m 0) (0 + 1) 0) (is_some (cond (eqb m 0) (Some (header_of c)) (cond (true || (is_head m && ltb 0 0)) None None))) (cond (is_slice m) (0 + 1) 0) (cond (is_head m) 0 (cond (is_slice m) (0 + 1) 0)) (cond (eqb m 0xb8) 0 0) (cond (eqb m 0xb8 || true) true (cond (true || (is_head m && ltb 0 0)) false false))) (sym is)
+    subst (λ m. Counted no_count
+    (cond (is_slice m) (cond (eqb 0 0) (head_call 0 c.place ∷ []) (slice_call 0 c.place ∷ []))
+    (cond (is_head m && ltb 0 0) (unit_end (tally_of []) c.place) [])) (cond (eqb m 0) (0 + 1) 0)
+    (is_some (cond (eqb m 0) (Some (header_of c)) (cond (true || (is_head m && ltb 0 0)) None None)))
+    (cond (is_slice m) (0 + 1) 0) (cond (is_head m) 0 (cond (is_slice m) (0 + 1) 0)) (cond (eqb m 0xb8) 0 0)
+    (cond (eqb m 0xb8 || true) true (cond (true || (is_head m && ltb 0 0)) false false))) (sym is)
     (record {
       count = no_count;
       told = refl;
-      agrees = record { units = refl; ended = λ e. refl; open_slice = λ more. absurd (omega arith); held = omega arith; group = refl; sliced = λ more. absurd (omega arith) };
+      agrees = record {
+        units = refl;
+        ended = λ e. refl;
+        open_slice = λ more. absurd (omega arith);
+        held =
+            omega arith;
+        group = refl;
+        sliced = λ more. absurd (omega arith);
+      };
     })
 
 counts-none : (calls : List Call) → counts_after None calls ≡ None
@@ -268,19 +347,22 @@ counts-none [] = refl
 counts-none (call ∷ calls) = refl
 
 counts-append : (o : Option Count) (a b : List Call) → counts_after o (a ++ b) ≡ counts_after (counts_after o a) b
-counts-append None a b = counts-none (a ++ b) ∙ sym (counts-none b) ∙ ap (λ (o : Option Count). counts_after o b) (sym (counts-none a))
+counts-append None a b =
+    counts-none (a ++ b) ∙ sym (counts-none b) ∙ ap (λ (o : Option Count). counts_after o b) (sym (counts-none a))
 counts-append (Some k) [] b = refl
 counts-append (Some k) (call ∷ a) b = counts-append (next_count k call) a b
 
 told-counted : (c : Code) (past : List Code) → first_fault (c ∷ past) ≡ None → CountedBy no_count (calls_of (c ∷ past)) (c ∷ past)
 told-counted c [] accepted =
     let start = first-count c (first-is c accepted) in
-    subst (λ (l : List Call). CountedBy no_count l (c ∷ [])) (sym (told-cons c [] ∙ ap (λ (l : List Call). l ++ calls_at (tally_of []) c.place c.kind) told-nil)) start
+    subst (λ (l : List Call). CountedBy no_count l (c ∷ []))
+    (sym (told-cons c [] ∙ ap (λ (l : List Call). l ++ calls_at (tally_of []) c.place c.kind) told-nil)) start
 told-counted c (d ∷ past) accepted =
     let before = told-counted d past (accepted-older c (d ∷ past) accepted) in
     let more = code-count c d past before.count (code-accepted c (d ∷ past) accepted) before.agrees in record {
       count = more.count;
-      told = ap (counts_after (Some no_count)) (told-cons c (d ∷ past)) ∙ counts-append (Some no_count) (calls_of (d ∷ past)) (calls_at (tally_of (d ∷ past)) c.place c.kind)
+      told = ap (counts_after (Some no_count)) (told-cons c (d ∷ past))
+          ∙ counts-append (Some no_count) (calls_of (d ∷ past)) (calls_at (tally_of (d ∷ past)) c.place c.kind)
           ∙ ap (λ (o : Option Count). counts_after o (calls_at (tally_of (d ∷ past)) c.place c.kind)) before.told ∙ more.told;
       agrees = more.agrees;
     }
@@ -298,17 +380,21 @@ whole-count (c ∷ past) n accepted ended =
     let all : List Code = c ∷ past in
     let some = ended-none (tally_of all) (otherwise-second (latest_fault all n) (last_fault (tally_of all)) ended) in
     let k = told-counted c past accepted in
-    let next : IsNext (unit_at (tally_of all) n) (all_slices_of all) (slices_of all) (before_group_of all) (starts_group all) = record { first = refl; slices = refl; group = refl; shown = refl } in
+    let next : IsNext (unit_at (tally_of all) n) (all_slices_of all) (slices_of all) (before_group_of all)
+    (starts_group all) = record { first = refl; slices = refl; group = refl; shown = refl } in
     let end = unit-counted (slice_of all) n k.agrees some next in record {
       last = after_unit k.count (starts_group all);
-      counted = counts-append (Some no_count) (calls_of all) (unit_end (tally_of all) n) ∙ ap (λ (o : Option Count). counts_after o (unit_end (tally_of all) n)) k.told ∙ end;
+      counted = counts-append (Some no_count) (calls_of all) (unit_end (tally_of all) n)
+          ∙ ap (λ (o : Option Count). counts_after o (unit_end (tally_of all) n)) k.told ∙ end;
       units = sym (k.agrees.units ∙ ap (λ b. k.count.units + cond b 1 0) (k.agrees.sliced some));
     }
 
 pub film-count : (r : List ℕ) → refusal_of r ≡ None → WholeCount (codes_of r) (length r)
 film-count r e =
     let none = accepted-whole r e in
-    whole-count (codes_of r) (length r) (otherwise-first (first_fault (codes_of r)) (end_fault (codes_of r) (length r)) none) (otherwise-second (first_fault (codes_of r)) (end_fault (codes_of r) (length r)) none)
+    whole-count (codes_of r) (length r)
+    (otherwise-first (first_fault (codes_of r)) (end_fault (codes_of r) (length r)) none)
+    (otherwise-second (first_fault (codes_of r)) (end_fault (codes_of r) (length r)) none)
 
 -- the units of an accepted film are numbered as they come
 pub film-numbered : (r : List ℕ) → refusal_of r ≡ None → AreNumbered (all_calls r)

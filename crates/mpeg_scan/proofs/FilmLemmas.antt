@@ -42,11 +42,16 @@ unfolding first_fault
 first_fault-none = ap first_fault codes-none
 
 -- a refusal at a code is the film's
-refusal-some : (r : List ℕ) (f : FilmFault) → 0 < length r → length r ≤ 2 ^ 40 → first_fault (codes_of r) ≡ Some f → refusal_of r ≡ Some f
+refusal-some : (r : List ℕ) (f : FilmFault) → 0 < length r → length r ≤ 2 ^ 40
+    → first_fault (codes_of r) ≡ Some f → refusal_of r ≡ Some f
 unfolding refusal_of
 refusal-some r f some short is =
-    ap (λ b. cond b (Some Empty) (cond (ltb (2 ^ 40) (length r)) (Some TooLong) (first_refusal (first_fault (codes_of r)) (end_fault (codes_of r) (length r))))) (ne_eqb (length r) 0 (λ none. absurd (omega arith)))
-    ∙ ap (λ b. cond b (Some TooLong) (first_refusal (first_fault (codes_of r)) (end_fault (codes_of r) (length r)))) (le-ltb (2 ^ 40) (length r) short)
+    ap (λ b. cond b (Some Empty)
+    (cond (ltb (2 ^ 40) (length r)) (Some TooLong)
+    (first_refusal (first_fault (codes_of r)) (end_fault (codes_of r) (length r)))))
+    (ne_eqb (length r) 0 (λ none. absurd (omega arith)))
+    ∙ ap (λ b. cond b (Some TooLong)
+    (first_refusal (first_fault (codes_of r)) (end_fault (codes_of r) (length r)))) (le-ltb (2 ^ 40) (length r) short)
     ∙ ap (λ (o : Option FilmFault). first_refusal o (end_fault (codes_of r) (length r))) is
 
 apart : (f : FilmFault) → first_fault (codes_of []) ≡ Some f → ⊥
@@ -56,14 +61,19 @@ refusal-at : (r : List ℕ) (f : FilmFault) → length r ≤ 2 ^ 40 → first_fa
 refusal-at [] f short is = absurd (apart f is)
 refusal-at (x ∷ r) f short is = refusal-some (x ∷ r) f (omega arith) short is
 
-pub refusal-at_code : (bytes : List ℕ) (f : FilmFault) → length bytes ≤ 2 ^ 40 → first_fault (codes_of (read [] bytes)) ≡ Some f → refusal bytes ≡ Some f
+pub refusal-at_code : (bytes : List ℕ) (f : FilmFault) → length bytes ≤ 2 ^ 40
+    → first_fault (codes_of (read [] bytes)) ≡ Some f → refusal bytes ≡ Some f
 refusal-at_code bytes f short is = refusal-at (read [] bytes) f (omega (arith, length-read bytes [])) is
 
 too_long : (r : List ℕ) → 2 ^ 40 < length r → refusal_of r ≡ Some TooLong
 unfolding refusal_of
 too_long r long =
-    ap (λ b. cond b (Some Empty) (cond (ltb (2 ^ 40) (length r)) (Some TooLong) (first_refusal (first_fault (codes_of r)) (end_fault (codes_of r) (length r))))) (ne_eqb (length r) 0 (λ none. absurd (omega arith)))
-    ∙ ap (λ b. cond b (Some TooLong) (first_refusal (first_fault (codes_of r)) (end_fault (codes_of r) (length r)))) (lt-ltb (2 ^ 40) (length r) long)
+    ap (λ b. cond b (Some Empty)
+    (cond (ltb (2 ^ 40) (length r)) (Some TooLong)
+    (first_refusal (first_fault (codes_of r)) (end_fault (codes_of r) (length r)))))
+    (ne_eqb (length r) 0 (λ none. absurd (omega arith)))
+    ∙ ap (λ b. cond b (Some TooLong)
+    (first_refusal (first_fault (codes_of r)) (end_fault (codes_of r) (length r)))) (lt-ltb (2 ^ 40) (length r) long)
 
 pub refusal-too_long : (bytes : List ℕ) → 2 ^ 40 < length bytes → refusal bytes ≡ Some TooLong
 refusal-too_long bytes long = too_long (read [] bytes) (omega (arith, length-read bytes []))

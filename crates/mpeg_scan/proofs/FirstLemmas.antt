@@ -28,7 +28,8 @@ abbrev pub FirstStarts : List PictureUnit → Bool → Type 0
 FirstStarts [] starts = starts ≡ true
 FirstStarts (unit ∷ units) starts = unit.starts_group ≡ true
 
-first-more : (units : List PictureUnit) (unit : PictureUnit) (s t : Bool) → FirstStarts units s → unit.starts_group ≡ s → FirstStarts (units ++ unit ∷ []) t
+first-more : (units : List PictureUnit) (unit : PictureUnit) (s t : Bool) → FirstStarts units s
+    → unit.starts_group ≡ s → FirstStarts (units ++ unit ∷ []) t
 first-more [] unit s t first is = is ∙ first
 first-more (u ∷ units) unit s t first is = first
 
@@ -46,13 +47,16 @@ record SliceApart (s h b8 : Bool) : Type 0 where
   no_group : s ≡ true → b8 ≡ false
 
 -- one code more, by those tests; q, e: there were slices, there were none
-raw-first : {s h b8 : Bool} (q e : Bool) (units : List PictureUnit) (told : Told) → SliceApart s h b8 → FirstStarts units told.ended.starts_group
-    → FirstStarts (units ++ units_in (raw_calls s h q e told)) (cond (b8 || false) true (cond (h && q) false told.ended.starts_group))
+raw-first : {s h b8 : Bool} (q e : Bool) (units : List PictureUnit) (told : Told) → SliceApart s h b8
+    → FirstStarts units told.ended.starts_group
+    → FirstStarts (units ++ units_in (raw_calls s h q e told))
+    (cond (b8 || false) true (cond (h && q) false told.ended.starts_group))
 raw-first {s = true} {h = true} q e units told apart first = absurd (true≢false (apart.no_head refl))
 raw-first {s = true} {h = false} {b8 = true} q e units told apart first = absurd (true≢false (apart.no_group refl))
 raw-first {s = true} {h = false} {b8 = false} q true units told apart first = first-same units told.ended.starts_group first
 raw-first {s = true} {h = false} {b8 = false} q false units told apart first = first-same units told.ended.starts_group first
-raw-first {s = false} {h = true} {b8} true e units told apart first = first-more units told.ended told.ended.starts_group (cond (b8 || false) true false) first refl
+raw-first {s = false} {h = true} {b8} true e units told apart first =
+    first-more units told.ended told.ended.starts_group (cond (b8 || false) true false) first refl
 raw-first {s = false} {h = true} {b8 = true} false e units told apart first = first-true units told.ended.starts_group first
 raw-first {s = false} {h = true} {b8 = false} false e units told apart first = first-same units told.ended.starts_group first
 raw-first {s = false} {h = false} {b8 = true} q e units told apart first = first-true units told.ended.starts_group first
@@ -72,20 +76,28 @@ unfolding calls_at
 first-step c d past units first =
     let older : List Code = d ∷ past in
     let t = tally_of older in
-    let apart : SliceApart (is_slice c.kind) (is_head c.kind) (eqb c.kind 0xb8) = record { no_head = slice-apart c.kind; no_group = slice-other c.kind } in
+    let apart : SliceApart (is_slice c.kind) (is_head c.kind) (eqb c.kind 0xb8) =
+    record { no_head = slice-apart c.kind; no_group = slice-other c.kind } in
     raw-first (ltb 0 (slices_of older)) (eqb (slices_of older) 0) units (told_at t c.place) apart first
 
 first-code : (c : Code) → c.kind ≡ 0xb3 → FirstStarts (units_in (calls_at (tally_of []) c.place c.kind)) (starts_group (c ∷ []))
 unfolding calls_at
 first-code c is =
-    subst (λ m. FirstStarts (units_in (cond (is_slice m) (cond (eqb 0 0) (head_call 0 c.place ∷ []) (slice_call 0 c.place ∷ [])) (cond (is_head m && ltb 0 0) (unit_end (tally_of []) c.place) []))) (cond (eqb m 0xb8 || true) true (cond (true || (is_head m && ltb 0 0)) false false))) (sym is) refl
+    subst (λ m. FirstStarts
+    (units_in (cond (is_slice m) (cond (eqb 0 0) (head_call 0 c.place ∷ []) (slice_call 0 c.place ∷ []))
+    (cond (is_head m && ltb 0 0) (unit_end (tally_of []) c.place) [])))
+    (cond (eqb m 0xb8 || true) true (cond (true || (is_head m && ltb 0 0)) false false))) (sym is) refl
 
-told-first : (c : Code) (past : List Code) → first_fault (c ∷ past) ≡ None → FirstStarts (units_in (calls_of (c ∷ past))) (starts_group (c ∷ past))
+told-first : (c : Code) (past : List Code) → first_fault (c ∷ past) ≡ None
+    → FirstStarts (units_in (calls_of (c ∷ past))) (starts_group (c ∷ past))
 told-first c [] accepted =
-    subst (λ (l : List Call). FirstStarts (units_in l) (starts_group (c ∷ []))) (sym (told-cons c [] ∙ ap (λ (l : List Call). l ++ calls_at (tally_of []) c.place c.kind) told-nil)) (first-code c (first-is c accepted))
+    subst (λ (l : List Call). FirstStarts (units_in l) (starts_group (c ∷ [])))
+    (sym (told-cons c [] ∙ ap (λ (l : List Call). l ++ calls_at (tally_of []) c.place c.kind) told-nil))
+    (first-code c (first-is c accepted))
 told-first c (d ∷ past) accepted =
     let calls = calls_at (tally_of (d ∷ past)) c.place c.kind in
-    subst (λ (l : List PictureUnit). FirstStarts l (starts_group (c ∷ (d ∷ past)))) (sym (ap units_in (told-cons c (d ∷ past)) ∙ units_in-append (calls_of (d ∷ past)) calls))
+    subst (λ (l : List PictureUnit). FirstStarts l (starts_group (c ∷ (d ∷ past))))
+    (sym (ap units_in (told-cons c (d ∷ past)) ∙ units_in-append (calls_of (d ∷ past)) calls))
     (first-step c d past (units_in (calls_of (d ∷ past))) (told-first d past (accepted-older c (d ∷ past) accepted)))
 
 -- there is a first unit, and it starts a group
@@ -93,11 +105,13 @@ abbrev pub StartsGroup : List PictureUnit → Type 0
 StartsGroup [] = ⊥
 StartsGroup (unit ∷ units) = unit.starts_group ≡ true
 
-first-last : (units : List PictureUnit) (unit : PictureUnit) (s : Bool) → FirstStarts units s → unit.starts_group ≡ s → StartsGroup (units ++ unit ∷ [])
+first-last : (units : List PictureUnit) (unit : PictureUnit) (s : Bool) → FirstStarts units s
+    → unit.starts_group ≡ s → StartsGroup (units ++ unit ∷ [])
 first-last [] unit s first is = is ∙ first
 first-last (u ∷ units) unit s first is = first
 
-whole-first : (past : List Code) (n : ℕ) → first_fault past ≡ None → end_fault past n ≡ None → StartsGroup (units_in (calls_of past ++ unit_end (tally_of past) n))
+whole-first : (past : List Code) (n : ℕ) → first_fault past ≡ None → end_fault past n ≡ None
+    → StartsGroup (units_in (calls_of past ++ unit_end (tally_of past) n))
 unfolding end_fault
 whole-first [] n accepted ended = absurd (omega (arith, ended-none (tally_of []) ended))
 whole-first (c ∷ past) n accepted ended =
@@ -109,21 +123,27 @@ starts-some : (units : List PictureUnit) → StartsGroup units → 0 < length un
 starts-some [] starts = absurd starts
 starts-some (unit ∷ units) starts = omega arith
 
-starts-first : (units : List PictureUnit) → StartsGroup units → (unit : PictureUnit) → slice_get units 0 ≡ Some unit → unit.starts_group ≡ true
+starts-first : (units : List PictureUnit) → StartsGroup units → (unit : PictureUnit)
+    → slice_get units 0 ≡ Some unit → unit.starts_group ≡ true
 starts-first [] starts unit is = cc
 starts-first (u ∷ units) starts unit is = let same : u ≡ unit = cc in ap (λ (v : PictureUnit). v.starts_group) (sym same) ∙ starts
 
-film-starts : (bytes : List ℕ) (rate : ℕ) (units : List PictureUnit) (starts : List ℕ) → IsFilm bytes rate units starts → StartsGroup units
+film-starts : (bytes : List ℕ) (rate : ℕ) (units : List PictureUnit) (starts : List ℕ)
+    → IsFilm bytes rate units starts → StartsGroup units
 film-starts bytes rate units starts film =
     let r = read [] bytes in
     let none = accepted-whole r film.accepted in
     subst (λ (l : List PictureUnit). StartsGroup l) (sym film.units)
-    (whole-first (codes_of r) (length r) (otherwise-first (first_fault (codes_of r)) (end_fault (codes_of r) (length r)) none) (otherwise-second (first_fault (codes_of r)) (end_fault (codes_of r) (length r)) none))
+    (whole-first (codes_of r) (length r)
+    (otherwise-first (first_fault (codes_of r)) (end_fault (codes_of r) (length r)) none)
+    (otherwise-second (first_fault (codes_of r)) (end_fault (codes_of r) (length r)) none))
 
-pub film-some : (bytes : List ℕ) (rate : ℕ) (units : List PictureUnit) (starts : List ℕ) → IsFilm bytes rate units starts → 0 < length units
+pub film-some : (bytes : List ℕ) (rate : ℕ) (units : List PictureUnit) (starts : List ℕ)
+    → IsFilm bytes rate units starts → 0 < length units
 film-some bytes rate units starts film = starts-some units (film-starts bytes rate units starts film)
 
-pub film-group : {bytes : List ℕ} {rate : ℕ} {units : List PictureUnit} {starts : List ℕ} → IsFilm bytes rate units starts → (unit : PictureUnit) → slice_get units 0 ≡ Some unit → unit.starts_group ≡ true
+pub film-group : {bytes : List ℕ} {rate : ℕ} {units : List PictureUnit} {starts : List ℕ}
+    → IsFilm bytes rate units starts → (unit : PictureUnit) → slice_get units 0 ≡ Some unit → unit.starts_group ≡ true
 film-group {bytes} {rate} {units} {starts} film = starts-first units (film-starts bytes rate units starts film)
 
 -- ---- the first sequence header
@@ -143,12 +163,18 @@ unfolding first_in
 first_in-has c [] = inl (refl, refl)
 first_in-has c (d ∷ past) = inr (first_in-has d past)
 
-pub first-least : (c : Code) (past : List Code) (place kind : ℕ) → Spaced (c ∷ past) → HasCode place kind (c ∷ past) → (first_in c past).place ≤ place
+pub first-least : (c : Code) (past : List Code) (place kind : ℕ) → Spaced (c ∷ past)
+    → HasCode place kind (c ∷ past) → (first_in c past).place ≤ place
 unfolding first_in
 first-least c [] place kind spaced (inl new) = omega (arith, new.0)
 first-least c [] place kind spaced (inr old) = absurd old
 first-least c (d ∷ past) place kind spaced (inl new) =
-    omega (arith, new.0, first-least d past d.place d.kind spaced.1 (inl (refl, refl)), all-below (d ∷ past) spaced.1 spaced.0 d.place d.kind (inl (refl, refl)))
+    omega (
+      arith,
+      new.0,
+      first-least d past d.place d.kind spaced.1 (inl (refl, refl)),
+      all-below (d ∷ past) spaced.1 spaced.0 d.place d.kind (inl (refl, refl)),
+    )
 first-least c (d ∷ past) place kind spaced (inr old) = first-least d past place kind spaced.1 old
 
 pub first_in-kind : (c : Code) (past : List Code) → first_fault (c ∷ past) ≡ None → (first_in c past).kind ≡ 0xb3
@@ -156,39 +182,57 @@ unfolding first_in
 first_in-kind c [] accepted = first-is c accepted
 first_in-kind c (d ∷ past) accepted = first_in-kind d past (accepted-older c (d ∷ past) accepted)
 
-pub first_in-rate : (c : Code) (past : List Code) (end : ℕ) → first_fault (c ∷ past) ≡ None → latest_fault (c ∷ past) end ≡ None → rate_of (c ∷ past) ≡ rate_code (first_in c past)
+pub first_in-rate : (c : Code) (past : List Code) (end : ℕ) → first_fault (c ∷ past) ≡ None
+    → latest_fault (c ∷ past) end ≡ None → rate_of (c ∷ past) ≡ rate_code (first_in c past)
 unfolding first_in
 first_in-rate c [] end accepted judged = ap (λ b. cond b (rate_code c) 0) (eq-eqb c.kind 0xb3 (first-is c accepted))
 first_in-rate c (d ∷ past) end accepted judged =
     let older = accepted-older c (d ∷ past) accepted in
     let before = older-judged c (d ∷ past) accepted in
     let rate = codes-rate d past c.place older before in
-    ap (λ b. cond (b && eqb c.kind 0xb3) (rate_code c) (rate_of (d ∷ past))) (ne_eqb (rate_of (d ∷ past)) 0 (λ none. absurd (omega (arith, rate.0))))
+    ap (λ b. cond (b && eqb c.kind 0xb3) (rate_code c) (rate_of (d ∷ past)))
+    (ne_eqb (rate_of (d ∷ past)) 0 (λ none. absurd (omega (arith, rate.0))))
     ∙ first_in-rate d past c.place older before
 
 long-header : (rate : ℕ) (c : Code) (end : ℕ) → c.kind ≡ 0xb3 → header_fault rate c end ≡ None → c.place + 12 ≤ end
 long-header rate c end is e =
     let test : eqb c.kind 0xb3 ≡ true = eq-eqb c.kind 0xb3 is in
-    let judged = some-cond-none (ltb (end - c.place) 12) (ShortHeader c.place) (rate_fault rate c) (sequence-judged (eqb c.kind 0xb3) (cond (ltb (end - c.place) 12) (Some (ShortHeader c.place)) (rate_fault rate c)) (cond (eqb c.kind 0xb8) (cond (ltb (end - c.place) 8) (Some (ShortHeader c.place)) None) (cond (eqb c.kind 0) (picture_fault c end) None)) test e) in
+    let judged =
+    some-cond-none (ltb (end - c.place) 12) (ShortHeader c.place) (rate_fault rate c)
+    (sequence-judged (eqb c.kind 0xb3)
+    (cond (ltb (end - c.place) 12) (Some (ShortHeader c.place)) (rate_fault rate c))
+    (cond (eqb c.kind 0xb8) (cond (ltb (end - c.place) 8) (Some (ShortHeader c.place)) None)
+    (cond (eqb c.kind 0) (picture_fault c end) None)) test e) in
     omega (arith, ltb-false (end - c.place) 12 judged.0)
 
-first-there : (bytes : List ℕ) (past : List Code) → codes_of (read [] bytes) ≡ past → Spaced past → end_fault past (length (read [] bytes)) ≡ None
+first-there : (bytes : List ℕ) (past : List Code) → codes_of (read [] bytes) ≡ past → Spaced past
+    → end_fault past (length (read [] bytes)) ≡ None
     → StandsThere (StandsAt bytes) (first_of past) AnyKind × IsFirstCode (StandsAt bytes) (first_of past)
 unfolding end_fault
 first-there bytes [] codes spaced ended = absurd (omega (arith, ended-none (tally_of []) ended))
 first-there bytes (c ∷ past) codes spaced ended =
     let f = first_in c past in
     subst (λ p. StandsThere (StandsAt bytes) p AnyKind × IsFirstCode (StandsAt bytes) p) (sym (first_in-place c past)) (
-      (f.kind, ((codes-stand bytes f.place f.kind).0 (subst (λ (l : List Code). HasCode f.place f.kind l) (sym codes) (first_in-has c past)), tt)),
-      λ place kind has. first-least c past place kind spaced (subst (λ (l : List Code). HasCode place kind l) codes ((codes-stand bytes place kind).1 has)),
+      (
+        f.kind,
+        (
+          (codes-stand bytes f.place f.kind).0
+              (subst (λ (l : List Code). HasCode f.place f.kind l) (sym codes) (first_in-has c past)),
+          tt,
+        ),
+      ),
+      λ place kind has. first-least c past place kind spaced
+          (subst (λ (l : List Code). HasCode place kind l) codes ((codes-stand bytes place kind).1 has)),
     )
 
 -- the first unit begins at the first code
 pub film-first : (bytes : List ℕ) (rate : ℕ) (units : List PictureUnit) (starts : List ℕ) → IsFilm bytes rate units starts
-    → StandsThere (StandsAt bytes) (first_of (codes_of (read [] bytes))) AnyKind × IsFirstCode (StandsAt bytes) (first_of (codes_of (read [] bytes)))
+    → StandsThere (StandsAt bytes) (first_of (codes_of (read [] bytes))) AnyKind
+    × IsFirstCode (StandsAt bytes) (first_of (codes_of (read [] bytes)))
 film-first bytes rate units starts film =
     let r = read [] bytes in
-    first-there bytes (codes_of r) refl (placed-codes r).spaced (otherwise-second (first_fault (codes_of r)) (end_fault (codes_of r) (length r)) (accepted-whole r film.accepted))
+    first-there bytes (codes_of r) refl (placed-codes r).spaced
+    (otherwise-second (first_fault (codes_of r)) (end_fault (codes_of r) (length r)) (accepted-whole r film.accepted))
 
 -- the first code's text, and the bytes that its header has at least
 pub record FirstText (r : List ℕ) (c : Code) : Type 0 where
@@ -204,7 +248,8 @@ pub record AreJudged (r : List ℕ) (c : Code) (past : List Code) (end stop : �
   pub texts : TextsAre r stop (c ∷ past)
 
 -- so those before the latest
-pub older-are_judged : {r : List ℕ} {c d : Code} {past : List Code} {end stop : ℕ} → AreJudged r c (d ∷ past) end stop → AreJudged r d past c.place (c.place + 4)
+pub older-are_judged : {r : List ℕ} {c d : Code} {past : List Code} {end stop : ℕ}
+    → AreJudged r c (d ∷ past) end stop → AreJudged r d past c.place (c.place + 4)
 older-are_judged {c} {d} {past} are = record {
   accepted = accepted-older c (d ∷ past) are.accepted;
   judged = older-judged c (d ∷ past) are.accepted;
@@ -212,16 +257,23 @@ older-are_judged {c} {d} {past} are = record {
   texts = are.texts.1;
 }
 
-pub first_in-text : {r : List ℕ} {c : Code} {past : List Code} {end stop : ℕ} → AreJudged r c past end stop → FirstText r (first_in c past)
+pub first_in-text : {r : List ℕ} {c : Code} {past : List Code} {end stop : ℕ} → AreJudged r c past end stop
+    → FirstText r (first_in c past)
 unfolding first_in
 first_in-text {c} {past = []} {end} {stop} are =
-    record { stop = stop; is = are.texts.0; long = omega (arith, are.far, long-header 0 c end (first-is c are.accepted) are.judged) }
+    record {
+      stop = stop;
+      is = are.texts.0;
+      long =
+          omega (arith, are.far, long-header 0 c end (first-is c are.accepted) are.judged);
+    }
 first_in-text {past = d ∷ past} are = first_in-text {c = d} {past = past} (older-are_judged are)
 
 record Begins (bytes : List ℕ) (past : List Code) : Type 0 where
   begins : BeginsSequence bytes (rate_of past) (first_of past)
 
-codes-begin : (bytes : List ℕ) (past : List Code) → codes_of (read [] bytes) ≡ past → first_fault past ≡ None → end_fault past (length (read [] bytes)) ≡ None → TextsAre (read [] bytes) (length (read [] bytes)) past → Begins bytes past
+codes-begin : (bytes : List ℕ) (past : List Code) → codes_of (read [] bytes) ≡ past → first_fault past ≡ None
+    → end_fault past (length (read [] bytes)) ≡ None → TextsAre (read [] bytes) (length (read [] bytes)) past → Begins bytes past
 unfolding end_fault
 codes-begin bytes [] codes accepted ended texts = absurd (omega (arith, ended-none (tally_of []) ended))
 codes-begin bytes (c ∷ past) codes accepted ended texts =
@@ -234,9 +286,11 @@ codes-begin bytes (c ∷ past) codes accepted ended texts =
     let long : length r ≡ length bytes = length-read bytes [] ∙ omega arith in
     let place : first_of (c ∷ past) ≡ f.place = first_in-place c past in
     let has : HasCode f.place 0xb3 (codes_of r) =
-    subst (λ (l : List Code). HasCode f.place 0xb3 l) (sym codes) (subst (λ k. HasCode f.place k (c ∷ past)) (first_in-kind c past accepted) (first_in-has c past)) in
+    subst (λ (l : List Code). HasCode f.place 0xb3 l) (sym codes)
+    (subst (λ k. HasCode f.place k (c ∷ past)) (first_in-kind c past accepted) (first_in-has c past)) in
     let same : Same bytes r = record { byte = at-bytes bytes; long = long } in
-    let byte : get_or f.text 3 0 ≡ get_or bytes (f.place + 4 + 3) 0 = text-byte 3 same (omega arith) (omega (arith, text.long)) text.is in
+    let byte : get_or f.text 3 0 ≡ get_or bytes (f.place + 4 + 3) 0 =
+    text-byte 3 same (omega arith) (omega (arith, text.long)) text.is in
     let here : f.place + 4 + 3 ≡ f.place + 7 = omega arith in
     let rate : rate_of (c ∷ past) ≡ get_or bytes (f.place + 7) 0 % 16 =
     first_in-rate c past n accepted judged ∙ ap (λ b. b % 16) (byte ∙ ap (λ i. get_or bytes i 0) here) in
@@ -248,15 +302,23 @@ codes-begin bytes (c ∷ past) codes accepted ended texts =
       });
     }
 
-chained-first : (from to : ℕ) (units : List PictureUnit) (unit : PictureUnit) → slice_get units 0 ≡ Some unit → AreChained from units to → unit.from ≡ from
+chained-first : (from to : ℕ) (units : List PictureUnit) (unit : PictureUnit) → slice_get units 0 ≡ Some unit
+    → AreChained from units to → unit.from ≡ from
 chained-first from to [] unit is chained = cc
-chained-first from to (u ∷ units) unit is chained = let same : u ≡ unit = cc in ap (λ (v : PictureUnit). v.from) (sym same) ∙ chained.0
+chained-first from to (u ∷ units) unit is chained = let same : u ≡ unit =
+    cc in ap (λ (v : PictureUnit). v.from) (sym same) ∙ chained.0
 
 -- the first unit begins with the sequence header of the film's rate
-pub film-begins : {bytes : List ℕ} {rate : ℕ} {units : List PictureUnit} {starts : List ℕ} → IsFilm bytes rate units starts → (unit : PictureUnit) → slice_get units 0 ≡ Some unit → BeginsSequence bytes rate unit.from
+pub film-begins : {bytes : List ℕ} {rate : ℕ} {units : List PictureUnit} {starts : List ℕ}
+    → IsFilm bytes rate units starts → (unit : PictureUnit) → slice_get units 0 ≡ Some unit → BeginsSequence bytes rate unit.from
 film-begins {bytes} {rate} {units} {starts} film unit is =
     let r = read [] bytes in
     let none = accepted-whole r film.accepted in
-    let begins = codes-begin bytes (codes_of r) refl (otherwise-first (first_fault (codes_of r)) (end_fault (codes_of r) (length r)) none) (otherwise-second (first_fault (codes_of r)) (end_fault (codes_of r) (length r)) none) (codes-texts r) in
-    let from : unit.from ≡ first_of (codes_of r) = chained-first (first_of (codes_of r)) (length bytes) units unit is (film-chained bytes rate units starts film) in
-    subst (λ p. BeginsSequence bytes rate p) (sym from) (subst (λ v. BeginsSequence bytes v (first_of (codes_of r))) (sym film.rate) begins.begins)
+    let begins =
+    codes-begin bytes (codes_of r) refl
+    (otherwise-first (first_fault (codes_of r)) (end_fault (codes_of r) (length r)) none)
+    (otherwise-second (first_fault (codes_of r)) (end_fault (codes_of r) (length r)) none) (codes-texts r) in
+    let from : unit.from ≡ first_of (codes_of r) =
+    chained-first (first_of (codes_of r)) (length bytes) units unit is (film-chained bytes rate units starts film) in
+    subst (λ p. BeginsSequence bytes rate p) (sym from)
+    (subst (λ v. BeginsSequence bytes v (first_of (codes_of r))) (sym film.rate) begins.begins)

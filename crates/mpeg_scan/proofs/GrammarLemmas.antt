@@ -23,17 +23,21 @@ raw_next after_picture t0 h s = cond h None (cond s (Some in_slices) (Some after
 raw_next in_slices t0 h s = cond t0 (Some after_picture) (cond h (Some in_head) (Some in_slices))
 
 -- next_phase at a phase that isn't the first, by those tests
-next-raw : (q has : Bool) (kind : ℕ) → next_phase (phase_by q has) kind ≡ raw_next (phase_by q has) (eqb kind 0) (is_head kind) (is_slice kind)
+next-raw : (q has : Bool) (kind : ℕ)
+    → next_phase (phase_by q has) kind ≡ raw_next (phase_by q has) (eqb kind 0) (is_head kind) (is_slice kind)
 next-raw true has kind = refl
 next-raw false true kind = refl
 next-raw false false kind = refl
 
 raw-phase : {s q has : Bool} (t0 x : Bool) (n : ℕ) → ltb 0 n ≡ q → CodeFits s (t0 || x) q has
-    → raw_next (phase_by q has) t0 (t0 || x) s ≡ Some (phase_by (ltb 0 (cond (t0 || x) 0 (cond s (n + 1) n))) (cond t0 true (cond ((t0 || x) && q) false has)))
+    → raw_next (phase_by q has) t0 (t0 || x) s
+    ≡ Some (phase_by (ltb 0 (cond (t0 || x) 0 (cond s (n + 1) n))) (cond t0 true (cond ((t0 || x) && q) false has)))
 raw-phase {s = true} true x n is fits = absurd (true≢false (fits.apart refl))
 raw-phase {s = true} false true n is fits = absurd (true≢false (fits.apart refl))
-raw-phase {s = true} {q = true} {has} false false n is fits = ap (λ b. Some (phase_by b has)) (sym (lt-ltb 0 (n + 1) (omega arith)))
-raw-phase {s = true} {q = false} {has = true} false false n is fits = ap (λ b. Some (phase_by b true)) (sym (lt-ltb 0 (n + 1) (omega arith)))
+raw-phase {s = true} {q = true} {has} false false n is fits =
+    ap (λ b. Some (phase_by b has)) (sym (lt-ltb 0 (n + 1) (omega arith)))
+raw-phase {s = true} {q = false} {has = true} false false n is fits =
+    ap (λ b. Some (phase_by b true)) (sym (lt-ltb 0 (n + 1) (omega arith)))
 raw-phase {s = true} {q = false} {has = false} false false n is fits = absurd (false≢true (fits.with_picture refl refl))
 raw-phase {s = false} {q = true} true x n is fits = refl
 raw-phase {s = false} {q = false} {has = true} true x n is fits = absurd (true≢false (fits.alone refl refl))
@@ -48,7 +52,8 @@ raw-phase {s = false} {q = false} {has = false} false false n is fits = ap (λ b
 abbrev pub phase_of : List Code → Phase
 phase_of past = phase_by (ltb 0 (slices_of past)) (is_some (picture_of past))
 
-phase-step : (c d : Code) (past : List Code) → code_fault (tally_of (d ∷ past)) c.place c.kind ≡ None → next_phase (phase_of (d ∷ past)) c.kind ≡ Some (phase_of (c ∷ (d ∷ past)))
+phase-step : (c d : Code) (past : List Code) → code_fault (tally_of (d ∷ past)) c.place c.kind ≡ None
+    → next_phase (phase_of (d ∷ past)) c.kind ≡ Some (phase_of (c ∷ (d ∷ past)))
 phase-step c d past e =
     let older : List Code = d ∷ past in
     let t = tally_of older in
@@ -56,11 +61,14 @@ phase-step c d past e =
     let q = ltb 0 n in
     next-raw q (is_some (picture_of older)) c.kind
     ∙ raw-phase (eqb c.kind 0) (eqb c.kind 0xb3 || eqb c.kind 0xb8) n refl (code-fits c d past e)
-    ∙ ap (λ b. Some (phase_by (ltb 0 (slices_of (c ∷ older))) b)) (sym (some-cond (eqb c.kind 0) (is_head c.kind && q) (header_of c) (picture_of older)))
+    ∙ ap (λ b. Some (phase_by (ltb 0 (slices_of (c ∷ older))) b))
+    (sym (some-cond (eqb c.kind 0) (is_head c.kind && q) (header_of c) (picture_of older)))
 
 first-phase : (c : Code) → c.kind ≡ 0xb3 → next_phase nowhere c.kind ≡ Some (phase_of (c ∷ []))
 first-phase c is =
-    subst (λ m. next_phase nowhere m ≡ Some (phase_by (ltb 0 (cond (is_head m) 0 (cond (is_slice m) (0 + 1) 0))) (is_some (cond (eqb m 0) (Some (header_of c)) (cond (true || (is_head m && ltb 0 0)) None None))))) (sym is) refl
+    subst (λ m. next_phase nowhere m
+    ≡ Some (phase_by (ltb 0 (cond (is_head m) 0 (cond (is_slice m) (0 + 1) 0)))
+    (is_some (cond (eqb m 0) (Some (header_of c)) (cond (true || (is_head m && ltb 0 0)) None None))))) (sym is) refl
 
 phase-is : (c : Code) (past : List Code) → first_fault (c ∷ past) ≡ None → phase_after (c ∷ past) ≡ Some (phase_of (c ∷ past))
 phase-is c [] accepted = first-phase c (first-is c accepted)
@@ -72,11 +80,15 @@ whole-phase : (past : List Code) (n : ℕ) → first_fault past ≡ None → end
 unfolding end_fault
 whole-phase [] n accepted ended = absurd (omega (arith, ended-none (tally_of []) ended))
 whole-phase (c ∷ past) n accepted ended =
-    let some = ended-none (tally_of (c ∷ past)) (otherwise-second (latest_fault (c ∷ past) n) (last_fault (tally_of (c ∷ past))) ended) in
-    phase-is c past accepted ∙ ap (λ b. Some (phase_by b (is_some (picture_of (c ∷ past))))) (lt-ltb 0 (slices_of (c ∷ past)) some)
+    let some = ended-none (tally_of (c ∷ past))
+    (otherwise-second (latest_fault (c ∷ past) n) (last_fault (tally_of (c ∷ past))) ended) in
+    phase-is c past accepted
+    ∙ ap (λ b. Some (phase_by b (is_some (picture_of (c ∷ past))))) (lt-ltb 0 (slices_of (c ∷ past)) some)
 
 -- the codes of an accepted film stand in their order
 pub film-grammatical : (r : List ℕ) → refusal_of r ≡ None → IsGrammatical r
 film-grammatical r e =
     let none = accepted-whole r e in
-    whole-phase (codes_of r) (length r) (otherwise-first (first_fault (codes_of r)) (end_fault (codes_of r) (length r)) none) (otherwise-second (first_fault (codes_of r)) (end_fault (codes_of r) (length r)) none)
+    whole-phase (codes_of r) (length r)
+    (otherwise-first (first_fault (codes_of r)) (end_fault (codes_of r) (length r)) none)
+    (otherwise-second (first_fault (codes_of r)) (end_fault (codes_of r) (length r)) none)

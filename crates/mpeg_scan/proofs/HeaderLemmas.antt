@@ -207,7 +207,8 @@ sequence-decides : {Has : ℕ → ℕ → Type 0} {bytes : List ℕ} {c : Code} 
     (cond (ltb (at - c.place) 12) (Some (ShortHeader c.place)) (rate_fault rate c))
 sequence-decides {Has} {bytes} {c} {past} {at} {rate} h is =
     let short = short-here h in
-    both-cond {P = IsShortHeader Has bytes at} {Q = Otherwise (IsBadRate Has bytes at) (IsBadType Has bytes at)} {b = ltb (at - c.place) 12} {h = ShortHeader c.place} {o = rate_fault rate c}
+    both-cond {P = IsShortHeader Has bytes at} {Q = Otherwise (IsBadRate Has bytes at) (IsBadType Has bytes at)}
+    {b = ltb (at - c.place) 12} {h = ShortHeader c.place} {o = rate_fault rate c}
     (λ e. short-new {Has = Has} {bytes = bytes} {c = c} {past = past} {at = at} {rate = rate} {kind = 0xb3} h is (inr (inl refl))
     (omega (arith, ltb-true (at - c.place) 12 e)))
     (λ g p. (
@@ -229,7 +230,9 @@ sequence-decides {Has} {bytes} {c} {past} {at} {rate} h is =
           (eqb (rate_code c) rate) t));
       is = ap (BadRate c.place) its;
     })
-    (λ g p. let same = kind-is {Has = Has} {bytes = bytes} {c = c} {past = past} {at = at} {rate = rate} {place = p.place} {kind = 0xb3} h p.latest in (
+    (λ g p. let same =
+    kind-is {Has = Has} {bytes = bytes} {c = c} {past = past} {at = at} {rate = rate} {place = p.place}
+    {kind = 0xb3} h p.latest in (
       rate-whole (eqb (rate_code c) 0) (ltb 8 (rate_code c)) (ltb 0 rate) (eqb (rate_code c) rate)
           (rate-bad {Has = Has} {bytes = bytes} {place = c.place} {rate = rate} {its = rate_code c} its h.rate_is
           (subst (λ v. (picture_rate bytes v ≡ 0)
@@ -244,7 +247,8 @@ group-decides : {Has : ℕ → ℕ → Type 0} {bytes : List ℕ} {c : Code} {pa
     → Refused Has bytes at (cond (ltb (at - c.place) 8) (Some (ShortHeader c.place)) None)
 group-decides {Has} {bytes} {c} {past} {at} {rate} h is =
     let short = short-here h in
-    both-cond {P = IsShortHeader Has bytes at} {Q = Otherwise (IsBadRate Has bytes at) (IsBadType Has bytes at)} {b = ltb (at - c.place) 8} {h = ShortHeader c.place} {o = None}
+    both-cond {P = IsShortHeader Has bytes at} {Q = Otherwise (IsBadRate Has bytes at) (IsBadType Has bytes at)}
+    {b = ltb (at - c.place) 8} {h = ShortHeader c.place} {o = None}
     (λ e. short-new {Has = Has} {bytes = bytes} {c = c} {past = past} {at = at} {rate = rate} {kind = 0xb8} h is (inr (inr refl))
     (omega (arith, ltb-true (at - c.place) 8 e)))
     (λ g p. (
@@ -418,7 +422,8 @@ rate-known {Has} {r} {past = []} {at} same k spaced texts accepted judged =
 rate-known {Has} {bytes} {r} {past = c ∷ past} {at} same k spaced texts accepted judged =
     let first = first_in c past in
     let has = first_in-has c past in
-    let are : AreJudged r c past at (at + 4) = record { accepted = accepted; judged = judged; far = omega arith; texts = texts } in
+    let are : AreJudged r c past at (at + 4) =
+    record { accepted = accepted; judged = judged; far = omega arith; texts = texts } in
     let text = first_in-text are in
     let rate = codes-rate c past at accepted judged in
     its_rate (record {

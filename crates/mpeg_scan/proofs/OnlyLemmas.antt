@@ -276,7 +276,9 @@ lists-same {bytes} {from} {us = u ∷ us} {vs = []} one other =
     absurd (not-at-end bytes from u one.each.0 one.chained.0 other.chained)
 lists-same {bytes} {number} {group} {us = u ∷ us} {vs = v ∷ vs} one other =
     let e : u ≡ v = units-same (first_unit one) (first_unit other) (one.chained.0 ∙ sym other.chained.0) in
-    let rest : us ≡ vs = lists-same {from = v.to} {number = number + 1} {group = cond v.starts_group number group} {us = us} {vs = vs} (subst (λ (w : PictureUnit).
+    let rest : us ≡ vs =
+    lists-same {from = v.to} {number = number + 1} {group = cond v.starts_group number group} {us = us}
+    {vs = vs} (subst (λ (w : PictureUnit).
     AreFrom bytes w.to (number + 1) (cond w.starts_group number group) us) e (rest_units one)) (rest_units other) in
     ap (λ (w : PictureUnit). w ∷ us) e ∙ ap (λ (l : List PictureUnit). v ∷ l) rest
 

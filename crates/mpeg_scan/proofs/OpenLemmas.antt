@@ -89,12 +89,14 @@ apart kind slice (inr (inl e)) = omega (arith, slice.1, e)
 apart kind slice (inr (inr e)) = omega (arith, slice.1, e)
 
 -- a code more of a kind that isn't such
-none-more : (c : Code) (past : List Code) (from : ℕ) (OfKind : ℕ → Type 0) → (OfKind c.kind → ⊥) → NoneFrom past from OfKind → NoneFrom (c ∷ past) from OfKind
+none-more : (c : Code) (past : List Code) (from : ℕ) (OfKind : ℕ → Type 0) → (OfKind c.kind → ⊥)
+    → NoneFrom past from OfKind → NoneFrom (c ∷ past) from OfKind
 none-more c past from OfKind other none place kind (inl new) after is = other (subst (λ k. OfKind k) (sym new.1) is)
 none-more c past from OfKind other none place kind (inr old) after is = none place kind old after is
 
 -- none of the older codes stands from the new one on
-none-new : (c : Code) (past : List Code) (OfKind : ℕ → Type 0) → ((place kind : ℕ) → HasCode place kind past → place < c.place) → (OfKind c.kind → ⊥) → NoneFrom (c ∷ past) c.place OfKind
+none-new : (c : Code) (past : List Code) (OfKind : ℕ → Type 0)
+    → ((place kind : ℕ) → HasCode place kind past → place < c.place) → (OfKind c.kind → ⊥) → NoneFrom (c ∷ past) c.place OfKind
 none-new c past OfKind below other place kind (inl new) after is = other (subst (λ k. OfKind k) (sym new.1) is)
 none-new c past OfKind below other place kind (inr old) after is = omega (arith, below place kind old, after)
 
@@ -106,7 +108,8 @@ abbrev IsSet : List Code → ℕ → ℕ → Bool → Type 0
 IsSet past from k flag = (place : ℕ) → HasCode place k past → from ≤ place → flag ≡ true
 
 -- a code of that kind that is not the new one
-seq-more : {k : ℕ} {seq : Bool} (c : Code) (past : List Code) (from : ℕ) → (c.kind ≡ k → ⊥) → IsSet past from k seq → IsSet (c ∷ past) from k seq
+seq-more : {k : ℕ} {seq : Bool} (c : Code) (past : List Code) (from : ℕ) → (c.kind ≡ k → ⊥)
+    → IsSet past from k seq → IsSet (c ∷ past) from k seq
 seq-more {seq} c past from other set place (inl new) after = absurd (other new.1)
 seq-more {seq} c past from other set place (inr old) after = set place old after
 
@@ -116,11 +119,13 @@ seq-more {seq} c past from other set place (inr old) after = set place old after
 abbrev IsOnly : List Code → ℕ → ℕ → Type 0
 IsOnly past from its = (other : ℕ) → HasCode other 0 past → from ≤ other → other ≡ its
 
-pictured-only : {its : ℕ} (c : Code) (past : List Code) (from : ℕ) → (c.kind ≡ 0 → ⊥) → IsOnly past from its → IsOnly (c ∷ past) from its
+pictured-only : {its : ℕ} (c : Code) (past : List Code) (from : ℕ) → (c.kind ≡ 0 → ⊥) → IsOnly past from its
+    → IsOnly (c ∷ past) from its
 pictured-only c past from other only place (inl new) after = absurd (other new.1)
 pictured-only c past from other only place (inr old) after = only place old after
 
-picture-more : {past : List Code} {from head_end n m : ℕ} {o : Option Header} {seq grp : Bool} (c : Code) → Open past from head_end n o seq grp → (IsHeadKind c.kind → ⊥) → (0 < m → 0 < n) →
+picture-more : {past : List Code} {from head_end n m : ℕ} {o : Option Header} {seq grp : Bool} (c : Code) →
+    Open past from head_end n o seq grp → (IsHeadKind c.kind → ⊥) → (0 < m → 0 < n) →
     PictureIs (c ∷ past) from head_end m o
 picture-more {past} {from} {o = None} c open_ other grows = none-more c past from Zero (λ e. other (inl e)) open_.picture_is
 picture-more {past} {from} {o = Some h} c open_ other grows =
@@ -137,7 +142,8 @@ picture-more {past} {from} {o = Some h} c open_ other grows =
     }
 
 -- the first slice
-picture-first : {past : List Code} {from head_end n : ℕ} {o : Option Header} {seq grp : Bool} (c : Code) → Open past from head_end n o seq grp → Below c past → (IsHeadKind c.kind → ⊥) → is_some o ≡ true →
+picture-first : {past : List Code} {from head_end n : ℕ} {o : Option Header} {seq grp : Bool} (c : Code) →
+    Open past from head_end n o seq grp → Below c past → (IsHeadKind c.kind → ⊥) → is_some o ≡ true →
     PictureIs (c ∷ past) from c.place (n + 1) o
 picture-first {o = None} c open_ below other some = absurd (false≢true some)
 picture-first {past} {from} {o = Some h} c open_ below other some =
@@ -153,7 +159,8 @@ picture-first {past} {from} {o = Some h} c open_ below other some =
       before = λ _. below is.code.place 0 (subst (λ k. HasCode is.code.place k past) is.kind (member-has is.code past is.member));
     }
 
-new-only : {from place : ℕ} (c : Code) (past : List Code) → NoneFrom past from Zero → HasCode place 0 (c ∷ past) → from ≤ place → place ≡ c.place
+new-only : {from place : ℕ} (c : Code) (past : List Code) → NoneFrom past from Zero → HasCode place 0 (c ∷ past)
+    → from ≤ place → place ≡ c.place
 new-only {from} {place} c past none (inl new) after = sym new.0
 new-only {from} {place} c past none (inr old) after = absurd (none place 0 old after refl)
 
@@ -162,7 +169,8 @@ new-last {place} c past below (inl new) far = omega (arith, new.0, far)
 new-last {place} {kind} c past below (inr old) far = omega (arith, below place kind old, far)
 
 -- a picture
-picture-new : {c : Code} {past : List Code} {from head_end : ℕ} → Below c past → c.kind ≡ 0 → from ≤ c.place → NoneFrom past from Zero → Pictured (c ∷ past) from head_end 0 (header_of c)
+picture-new : {c : Code} {past : List Code} {from head_end : ℕ} → Below c past → c.kind ≡ 0 → from ≤ c.place
+    → NoneFrom past from Zero → Pictured (c ∷ past) from head_end 0 (header_of c)
 picture-new {c} {past} {from} below zero_kind after none = record {
   code = c;
   member = inl refl;
@@ -176,14 +184,18 @@ picture-new {c} {past} {from} below zero_kind after none = record {
 
 -- ---- one code more
 
-later-code : (c : Code) (past : List Code) (k : ℕ) → (place : ℕ) × (HasCode place 0xb3 past × (k ≤ place)) → (place : ℕ) × (HasCode place 0xb3 (c ∷ past) × (k ≤ place))
+later-code : (c : Code) (past : List Code) (k : ℕ) → (place : ℕ) × (HasCode place 0xb3 past × (k ≤ place))
+    → (place : ℕ) × (HasCode place 0xb3 (c ∷ past) × (k ≤ place))
 later-code c past k (place, has) = (place, (inr has.0, has.1))
 
-firsts-more : {from place kind : ℕ} (c : Code) (past : List Code) → from ≤ c.place → Firsts past from → HasCode place kind (c ∷ past) → from ≤ place
+firsts-more : {from place kind : ℕ} (c : Code) (past : List Code) → from ≤ c.place → Firsts past from
+    → HasCode place kind (c ∷ past) → from ≤ place
 firsts-more {from} {place} c past after firsts (inl new) = omega (arith, new.0, after)
 firsts-more {from} {place} {kind} c past after firsts (inr old) = firsts place kind old
 
-later-group : (c : Code) (past : List Code) (from : ℕ) → from ≤ c.place → Firsts past from ⊎ ((place : ℕ) × (HasCode place 0xb8 past × (from ≤ place))) → Firsts (c ∷ past) from ⊎ ((place : ℕ) × (HasCode place 0xb8 (c ∷ past) × (from ≤ place)))
+later-group : (c : Code) (past : List Code) (from : ℕ) → from ≤ c.place
+    → Firsts past from ⊎ ((place : ℕ) × (HasCode place 0xb8 past × (from ≤ place)))
+    → Firsts (c ∷ past) from ⊎ ((place : ℕ) × (HasCode place 0xb8 (c ∷ past) × (from ≤ place)))
 later-group c past from after (inl firsts) = inl (λ place kind has. firsts-more c past after firsts has)
 later-group c past from after (inr (place, has)) = inr (place, (inr has.0, has.1))
 
@@ -191,12 +203,15 @@ later-group c past from after (inr (place, has)) = inr (place, (inr has.0, has.1
 abbrev NoSlice : List Code → ℕ → ℕ → Type 0
 NoSlice past from to = (place kind : ℕ) → HasCode place kind past → from ≤ place → place < to → IsSliceKind kind → ⊥
 
-head-old : (c : Code) (past : List Code) (from head_end : ℕ) → head_end ≤ c.place → NoSlice past from head_end → NoSlice (c ∷ past) from head_end
+head-old : (c : Code) (past : List Code) (from head_end : ℕ) → head_end ≤ c.place → NoSlice past from head_end
+    → NoSlice (c ∷ past) from head_end
 head-old c past from head_end far none place kind (inl new) after before is = omega (arith, new.0, far, before)
 head-old c past from head_end far none place kind (inr old) after before is = none place kind old after before is
 
-head-other : (c : Code) (past : List Code) (from head_end : ℕ) → (IsSliceKind c.kind → ⊥) → NoSlice past from head_end → NoSlice (c ∷ past) from head_end
-head-other c past from head_end other none place kind (inl new) after before is = other (subst (λ k. IsSliceKind k) (sym new.1) is)
+head-other : (c : Code) (past : List Code) (from head_end : ℕ) → (IsSliceKind c.kind → ⊥)
+    → NoSlice past from head_end → NoSlice (c ∷ past) from head_end
+head-other c past from head_end other none place kind (inl new) after before is =
+    other (subst (λ k. IsSliceKind k) (sym new.1) is)
 head-other c past from head_end other none place kind (inr old) after before is = none place kind old after before is
 
 head-first : {from : ℕ} (c : Code) (past : List Code) → NoneFrom past from IsSliceKind → NoSlice (c ∷ past) from c.place
@@ -204,7 +219,9 @@ head-first {from} c past none place kind (inl new) after before is = omega (arit
 head-first {from} c past none place kind (inr old) after before is = none place kind old after is
 
 -- a slice after others of its unit
-later-slice : {c : Code} {past : List Code} {from head_end n : ℕ} {o : Option Header} {seq grp : Bool} → Below c past → IsSliceKind c.kind → 0 < n → Open past from head_end n o seq grp → Open (c ∷ past) from head_end (n + 1) o seq grp
+later-slice : {c : Code} {past : List Code} {from head_end n : ℕ} {o : Option Header} {seq grp : Bool}
+    → Below c past → IsSliceKind c.kind → 0 < n → Open past from head_end n o seq grp
+    → Open (c ∷ past) from head_end (n + 1) o seq grp
 later-slice {c} {past} {from} {head_end} below slice some open_ =
     let other = λ (h : IsHeadKind c.kind). apart c.kind slice h in
     let after : from ≤ c.place = omega (arith, below from open_.begins.0 open_.begins.1.0) in
@@ -226,7 +243,9 @@ later-slice {c} {past} {from} {head_end} below slice some open_ =
     }
 
 -- the first slice of its unit
-first-slice : {c : Code} {past : List Code} {from head_end n : ℕ} {o : Option Header} {seq grp : Bool} → Below c past → IsSliceKind c.kind → n ≡ 0 → is_some o ≡ true → Open past from head_end n o seq grp → Open (c ∷ past) from c.place (n + 1) o seq grp
+first-slice : {c : Code} {past : List Code} {from head_end n : ℕ} {o : Option Header} {seq grp : Bool}
+    → Below c past → IsSliceKind c.kind → n ≡ 0 → is_some o ≡ true → Open past from head_end n o seq grp
+    → Open (c ∷ past) from c.place (n + 1) o seq grp
 first-slice {c} {past} {from} below slice none with_picture open_ =
     let other = λ (h : IsHeadKind c.kind). apart c.kind slice h in
     let after : from < c.place = below from open_.begins.0 open_.begins.1.0 in
@@ -247,7 +266,9 @@ first-slice {c} {past} {from} below slice none with_picture open_ =
     }
 
 -- a code that is neither a head's nor a slice's
-other-code : {c : Code} {past : List Code} {from head_end n : ℕ} {o : Option Header} {seq grp : Bool} → Below c past → (IsHeadKind c.kind → ⊥) → (IsSliceKind c.kind → ⊥) → Open past from head_end n o seq grp → Open (c ∷ past) from head_end n o seq grp
+other-code : {c : Code} {past : List Code} {from head_end n : ℕ} {o : Option Header} {seq grp : Bool}
+    → Below c past → (IsHeadKind c.kind → ⊥) → (IsSliceKind c.kind → ⊥) → Open past from head_end n o seq grp
+    → Open (c ∷ past) from head_end n o seq grp
 other-code {c} {past} {from} {head_end} below other no_slice open_ =
     let after : from ≤ c.place = omega (arith, below from open_.begins.0 open_.begins.1.0) in
     record {
@@ -268,22 +289,30 @@ other-code {c} {past} {from} {head_end} below other no_slice open_ =
 
 -- ---- a code of a head, by the tests on its kind
 
-picture-head : {t0 t3 t8 : Bool} {past : List Code} {from head_end n : ℕ} {o : Option Header} {seq grp : Bool} (c : Code) → Open past from head_end n o seq grp → Kinds t0 t3 t8 false c.kind → Below c past →
+picture-head : {t0 t3 t8 : Bool} {past : List Code} {from head_end n : ℕ} {o : Option Header} {seq grp : Bool}
+    (c : Code) → Open past from head_end n o seq grp → Kinds t0 t3 t8 false c.kind → Below c past →
     from ≤ c.place → is_some o ≡ false → PictureIs (c ∷ past) from head_end 0 (cond t0 (Some (header_of c)) o)
 picture-head {o = Some h} c open_ kinds below after none = absurd (true≢false none)
 picture-head {t0 = true} {o = None} c open_ kinds below after none = picture-new below (kinds.zero_is refl) after open_.picture_is
-picture-head {t0 = false} {past} {from} {o = None} c open_ kinds below after none = none-more c past from Zero (λ e. false≢true (kinds.is_zero e)) open_.picture_is
+picture-head {t0 = false} {past} {from} {o = None} c open_ kinds below after none =
+    none-more c past from Zero (λ e. false≢true (kinds.is_zero e)) open_.picture_is
 
-flag-there : {t seq : Bool} {k from : ℕ} (c : Code) (past : List Code) → from ≤ c.place → (t ≡ true → c.kind ≡ k) → (seq ≡ true → (place : ℕ) × (HasCode place k past × (from ≤ place))) → cond t true seq ≡ true → (place : ℕ) × (HasCode place k (c ∷ past) × (from ≤ place))
+flag-there : {t seq : Bool} {k from : ℕ} (c : Code) (past : List Code) → from ≤ c.place
+    → (t ≡ true → c.kind ≡ k) → (seq ≡ true → (place : ℕ) × (HasCode place k past × (from ≤ place)))
+    → cond t true seq ≡ true → (place : ℕ) × (HasCode place k (c ∷ past) × (from ≤ place))
 flag-there {t = true} {seq} c past after is there e = (c.place, (inl (refl, is refl), after))
 flag-there {t = false} {seq} c past after is there e = let old = there e in (old.0, (inr old.1.0, old.1.1))
 
-flag-set : {t seq : Bool} {k : ℕ} (c : Code) (past : List Code) (from : ℕ) → (c.kind ≡ k → t ≡ true) → IsSet past from k seq → IsSet (c ∷ past) from k (cond t true seq)
+flag-set : {t seq : Bool} {k : ℕ} (c : Code) (past : List Code) (from : ℕ) → (c.kind ≡ k → t ≡ true)
+    → IsSet past from k seq → IsSet (c ∷ past) from k (cond t true seq)
 flag-set {t = true} {seq} c past from set there place has after = refl
 flag-set {t = false} {seq} c past from set there place (inl new) after = absurd (false≢true (set new.1))
 flag-set {t = false} {seq} c past from set there place (inr old) after = there place old after
 
-group-there : {t grp : Bool} {from : ℕ} (c : Code) (past : List Code) → from ≤ c.place → (t ≡ true → c.kind ≡ 0xb8) → (grp ≡ true → Firsts past from ⊎ ((place : ℕ) × (HasCode place 0xb8 past × (from ≤ place)))) → cond t true grp ≡ true → Firsts (c ∷ past) from ⊎ ((place : ℕ) × (HasCode place 0xb8 (c ∷ past) × (from ≤ place)))
+group-there : {t grp : Bool} {from : ℕ} (c : Code) (past : List Code) → from ≤ c.place
+    → (t ≡ true → c.kind ≡ 0xb8)
+    → (grp ≡ true → Firsts past from ⊎ ((place : ℕ) × (HasCode place 0xb8 past × (from ≤ place))))
+    → cond t true grp ≡ true → Firsts (c ∷ past) from ⊎ ((place : ℕ) × (HasCode place 0xb8 (c ∷ past) × (from ≤ place)))
 group-there {t = true} {from} c past after is there e = inr (c.place, (inl (refl, is refl), after))
 group-there {t = false} {from} c past after is there e = later-group c past from after (there e)
 
@@ -292,7 +321,9 @@ set-first true grp e = refl
 set-first false grp e = e
 
 -- in the head of the latest unit
-more-head : {t0 t3 t8 : Bool} {c : Code} {past : List Code} {from head_end n : ℕ} {o : Option Header} {seq grp : Bool} → Below c past → Kinds t0 t3 t8 false c.kind → IsHeadKind c.kind → n ≡ 0 → is_some o ≡ false → Open past from head_end n o seq grp
+more-head : {t0 t3 t8 : Bool} {c : Code} {past : List Code} {from head_end n : ℕ} {o : Option Header}
+    {seq grp : Bool} → Below c past → Kinds t0 t3 t8 false c.kind → IsHeadKind c.kind → n ≡ 0
+    → is_some o ≡ false → Open past from head_end n o seq grp
     → Open (c ∷ past) from head_end 0 (cond t0 (Some (header_of c)) o) (cond t3 true seq) (cond t8 true grp)
 more-head {t8} {c} {past} {from} {grp} below kinds head none bare open_ =
     let after : from ≤ c.place = omega (arith, below from open_.begins.0 open_.begins.1.0) in
@@ -315,19 +346,25 @@ more-head {t8} {c} {past} {from} {grp} below kinds head none bare open_ =
 nothing-there : (c : Code) (past : List Code) (k : ℕ) → Below c past → IsSet past c.place k false
 nothing-there c past k below place has after = absurd (omega (arith, below place k has, after))
 
-picture-begun : {t0 : Bool} (c : Code) (past : List Code) (head_end : ℕ) → Below c past → (t0 ≡ true → c.kind ≡ 0) → (c.kind ≡ 0 → t0 ≡ true) → PictureIs (c ∷ past) c.place head_end 0 (cond t0 (Some (header_of c)) None)
-picture-begun {t0 = true} c past head_end below is set = picture-new below (is refl) (omega arith) (λ place kind has after _. omega (arith, below place kind has, after))
+picture-begun : {t0 : Bool} (c : Code) (past : List Code) (head_end : ℕ) → Below c past
+    → (t0 ≡ true → c.kind ≡ 0) → (c.kind ≡ 0 → t0 ≡ true)
+    → PictureIs (c ∷ past) c.place head_end 0 (cond t0 (Some (header_of c)) None)
+picture-begun {t0 = true} c past head_end below is set =
+    picture-new below (is refl) (omega arith) (λ place kind has after _. omega (arith, below place kind has, after))
 picture-begun {t0 = false} c past head_end below is set = none-new c past Zero below (λ e. false≢true (set e))
 
-begun-flag : (t : Bool) (c : Code) (past : List Code) (k : ℕ) → (t ≡ true → c.kind ≡ k) → cond t true false ≡ true → (place : ℕ) × (HasCode place k (c ∷ past) × (c.place ≤ place))
+begun-flag : (t : Bool) (c : Code) (past : List Code) (k : ℕ) → (t ≡ true → c.kind ≡ k)
+    → cond t true false ≡ true → (place : ℕ) × (HasCode place k (c ∷ past) × (c.place ≤ place))
 begun-flag true c past k is e = (c.place, (inl (refl, is refl), omega arith))
 begun-flag false c past k is e = absurd (false≢true e)
 
-begun-group : (t : Bool) (c : Code) (past : List Code) → (t ≡ true → c.kind ≡ 0xb8) → cond t true false ≡ true → Firsts (c ∷ past) c.place ⊎ ((place : ℕ) × (HasCode place 0xb8 (c ∷ past) × (c.place ≤ place)))
+begun-group : (t : Bool) (c : Code) (past : List Code) → (t ≡ true → c.kind ≡ 0xb8) → cond t true false ≡ true
+    → Firsts (c ∷ past) c.place ⊎ ((place : ℕ) × (HasCode place 0xb8 (c ∷ past) × (c.place ≤ place)))
 begun-group t c past is e = inr (begun-flag t c past 0xb8 is e)
 
 -- a new unit
-new-unit : {t0 t3 t8 : Bool} {c : Code} {past : List Code} {from head_end n : ℕ} {o : Option Header} {seq grp : Bool} → Below c past → Kinds t0 t3 t8 false c.kind → IsHeadKind c.kind → Open past from head_end n o seq grp
+new-unit : {t0 t3 t8 : Bool} {c : Code} {past : List Code} {from head_end n : ℕ} {o : Option Header}
+    {seq grp : Bool} → Below c past → Kinds t0 t3 t8 false c.kind → IsHeadKind c.kind → Open past from head_end n o seq grp
     → Open (c ∷ past) c.place head_end 0 (cond t0 (Some (header_of c)) None) (cond t3 true false) (cond t8 true false)
 new-unit {t3} {t8} {c} {past} {from} {head_end} below kinds head open_ =
     record {
@@ -343,7 +380,8 @@ new-unit {t3} {t8} {c} {past} {from} {head_end} below kinds head open_ =
       seq_set = flag-set c past c.place kinds.is_three (nothing-there c past 0xb3 below);
       grp_there = begun-group t8 c past kinds.eight_is;
       grp_set = flag-set c past c.place kinds.is_eight (nothing-there c past 0xb8 below);
-      grp_first = λ firsts. absurd (omega (arith, below from open_.begins.0 open_.begins.1.0, firsts from open_.begins.0 (inr open_.begins.1.0)));
+      grp_first = λ firsts. absurd
+          (omega (arith, below from open_.begins.0 open_.begins.1.0, firsts from open_.begins.0 (inr open_.begins.1.0)));
     }
 
 only-slice : (c : Code) (place kind : ℕ) → c.kind ≡ 0xb3 → HasCode place kind (c ∷ []) → IsSliceKind kind → ⊥
@@ -392,21 +430,40 @@ no-head kind kinds (inr (inr e)) = false≢true (kinds.is_eight e)
 pub step-open : {t0 t3 t8 s q e : Bool} {c : Code} {past : List Code} {from head_end n : ℕ} {o : Option Header}
     {seq grp : Bool}
     → Kinds t0 t3 t8 s c.kind → Below c past → Sliced q e n
-    → ((t0 || (t3 || t8)) ≡ true → n ≡ 0 → is_some o ≡ false) → (s ≡ true → n ≡ 0 → is_some o ≡ true) → Open past from head_end n o seq grp
-    → Open (c ∷ past) (cond ((t0 || (t3 || t8)) && q) c.place from) (cond (s && e) c.place head_end) (cond (t0 || (t3 || t8)) 0 (cond s (n + 1) n))
-    (cond t0 (Some (header_of c)) (cond ((t0 || (t3 || t8)) && q) None o)) (cond t3 true (cond ((t0 || (t3 || t8)) && q) false seq)) (cond (t8 || false) true (cond ((t0 || (t3 || t8)) && q) false grp))
-step-open {t0 = true} {s = true} {c} kinds below sliced alone with_ open_ = absurd (apart c.kind (kinds.slice_is refl) (inl (kinds.zero_is refl)))
-step-open {t0 = false} {t3 = true} {s = true} {c} kinds below sliced alone with_ open_ = absurd (apart c.kind (kinds.slice_is refl) (inr (inl (kinds.three_is refl))))
-step-open {t0 = false} {t3 = false} {t8 = true} {s = true} {c} kinds below sliced alone with_ open_ = absurd (apart c.kind (kinds.slice_is refl) (inr (inr (kinds.eight_is refl))))
-step-open {t0 = false} {t3 = false} {t8 = false} {s = true} {e = true} {c} kinds below sliced alone with_ open_ = first-slice below (kinds.slice_is refl) (sliced.zero_is refl) (with_ refl (sliced.zero_is refl)) open_
-step-open {t0 = false} {t3 = false} {t8 = false} {s = true} {e = false} {c} kinds below sliced alone with_ open_ = later-slice below (kinds.slice_is refl) (sliced.more refl) open_
-step-open {t0 = false} {t3 = false} {t8 = false} {s = false} {c} kinds below sliced alone with_ open_ = other-code below (λ h. no-head c.kind kinds h) (λ slice. false≢true (kinds.is_slice slice)) open_
-step-open {t0 = true} {t3 = true} {s = false} {c} kinds below sliced alone with_ open_ = absurd (omega (arith, kinds.zero_is refl, kinds.three_is refl))
-step-open {t0 = true} {t3 = false} {t8 = true} {s = false} {c} kinds below sliced alone with_ open_ = absurd (omega (arith, kinds.zero_is refl, kinds.eight_is refl))
-step-open {t0 = true} {t3 = false} {t8 = false} {s = false} {q = true} {c} kinds below sliced alone with_ open_ = new-unit below kinds (inl (kinds.zero_is refl)) open_
-step-open {t0 = true} {t3 = false} {t8 = false} {s = false} {q = false} {c} kinds below sliced alone with_ open_ = more-head below kinds (inl (kinds.zero_is refl)) (sliced.none refl) (alone refl (sliced.none refl)) open_
-step-open {t0 = false} {t3 = true} {t8 = true} {s = false} {c} kinds below sliced alone with_ open_ = absurd (omega (arith, kinds.three_is refl, kinds.eight_is refl))
-step-open {t0 = false} {t3 = true} {t8 = false} {s = false} {q = true} {c} kinds below sliced alone with_ open_ = new-unit below kinds (inr (inl (kinds.three_is refl))) open_
-step-open {t0 = false} {t3 = true} {t8 = false} {s = false} {q = false} {c} kinds below sliced alone with_ open_ = more-head below kinds (inr (inl (kinds.three_is refl))) (sliced.none refl) (alone refl (sliced.none refl)) open_
-step-open {t0 = false} {t3 = false} {t8 = true} {s = false} {q = true} {c} kinds below sliced alone with_ open_ = new-unit below kinds (inr (inr (kinds.eight_is refl))) open_
-step-open {t0 = false} {t3 = false} {t8 = true} {s = false} {q = false} {c} kinds below sliced alone with_ open_ = more-head below kinds (inr (inr (kinds.eight_is refl))) (sliced.none refl) (alone refl (sliced.none refl)) open_
+    → ((t0 || (t3 || t8)) ≡ true → n ≡ 0 → is_some o ≡ false) → (s ≡ true → n ≡ 0 → is_some o ≡ true)
+    → Open past from head_end n o seq grp
+    → Open (c ∷ past) (cond ((t0 || (t3 || t8)) && q) c.place from) (cond (s && e) c.place head_end)
+    (cond (t0 || (t3 || t8)) 0 (cond s (n + 1) n))
+    (cond t0 (Some (header_of c)) (cond ((t0 || (t3 || t8)) && q) None o))
+    (cond t3 true (cond ((t0 || (t3 || t8)) && q) false seq))
+    (cond (t8 || false) true (cond ((t0 || (t3 || t8)) && q) false grp))
+step-open {t0 = true} {s = true} {c} kinds below sliced alone with_ open_ =
+    absurd (apart c.kind (kinds.slice_is refl) (inl (kinds.zero_is refl)))
+step-open {t0 = false} {t3 = true} {s = true} {c} kinds below sliced alone with_ open_ =
+    absurd (apart c.kind (kinds.slice_is refl) (inr (inl (kinds.three_is refl))))
+step-open {t0 = false} {t3 = false} {t8 = true} {s = true} {c} kinds below sliced alone with_ open_ =
+    absurd (apart c.kind (kinds.slice_is refl) (inr (inr (kinds.eight_is refl))))
+step-open {t0 = false} {t3 = false} {t8 = false} {s = true} {e = true} {c} kinds below sliced alone with_
+    open_ = first-slice below (kinds.slice_is refl) (sliced.zero_is refl) (with_ refl (sliced.zero_is refl)) open_
+step-open {t0 = false} {t3 = false} {t8 = false} {s = true} {e = false} {c} kinds below sliced alone with_
+    open_ = later-slice below (kinds.slice_is refl) (sliced.more refl) open_
+step-open {t0 = false} {t3 = false} {t8 = false} {s = false} {c} kinds below sliced alone with_ open_ =
+    other-code below (λ h. no-head c.kind kinds h) (λ slice. false≢true (kinds.is_slice slice)) open_
+step-open {t0 = true} {t3 = true} {s = false} {c} kinds below sliced alone with_ open_ =
+    absurd (omega (arith, kinds.zero_is refl, kinds.three_is refl))
+step-open {t0 = true} {t3 = false} {t8 = true} {s = false} {c} kinds below sliced alone with_ open_ =
+    absurd (omega (arith, kinds.zero_is refl, kinds.eight_is refl))
+step-open {t0 = true} {t3 = false} {t8 = false} {s = false} {q = true} {c} kinds below sliced alone with_
+    open_ = new-unit below kinds (inl (kinds.zero_is refl)) open_
+step-open {t0 = true} {t3 = false} {t8 = false} {s = false} {q = false} {c} kinds below sliced alone with_
+    open_ = more-head below kinds (inl (kinds.zero_is refl)) (sliced.none refl) (alone refl (sliced.none refl)) open_
+step-open {t0 = false} {t3 = true} {t8 = true} {s = false} {c} kinds below sliced alone with_ open_ =
+    absurd (omega (arith, kinds.three_is refl, kinds.eight_is refl))
+step-open {t0 = false} {t3 = true} {t8 = false} {s = false} {q = true} {c} kinds below sliced alone with_
+    open_ = new-unit below kinds (inr (inl (kinds.three_is refl))) open_
+step-open {t0 = false} {t3 = true} {t8 = false} {s = false} {q = false} {c} kinds below sliced alone with_
+    open_ = more-head below kinds (inr (inl (kinds.three_is refl))) (sliced.none refl) (alone refl (sliced.none refl)) open_
+step-open {t0 = false} {t3 = false} {t8 = true} {s = false} {q = true} {c} kinds below sliced alone with_
+    open_ = new-unit below kinds (inr (inr (kinds.eight_is refl))) open_
+step-open {t0 = false} {t3 = false} {t8 = true} {s = false} {q = false} {c} kinds below sliced alone with_
+    open_ = more-head below kinds (inr (inr (kinds.eight_is refl))) (sliced.none refl) (alone refl (sliced.none refl)) open_

@@ -74,7 +74,8 @@ back-there r k v is small = elim (cases_lt k (length r)) [
 pub whole-prefixed : (r : List ℕ) → is_whole (latest_prefix r) ≡ true → Prefixed r (length r - 3)
 unfolding latest_prefix
 whole-prefixed r e =
-    let test = whole-test (eqb (back r 0) 1 && (eqb (back r 1) 0 && eqb (back r 2) 0)) (eqb (back r 0) 0 && eqb (back r 1) 0) (eqb (back r 0) 0) e in
+    let test = whole-test (eqb (back r 0) 1 && (eqb (back r 1) 0 && eqb (back r 2) 0))
+    (eqb (back r 0) 0 && eqb (back r 1) 0) (eqb (back r 0) 0) e in
     let parts = and_parts (eqb (back r 0) 1) (eqb (back r 1) 0 && eqb (back r 2) 0) test in
     let zeros = and_parts (eqb (back r 1) 0) (eqb (back r 2) 0) parts.1 in
     let one = eqb-true (back r 0) 1 parts.0 in
@@ -94,7 +95,8 @@ prefixed-whole r i p =
     let zero1 : back r 1 ≡ 0 = at-back r (i + 1) 1 (omega (arith, p.ends)) ∙ p.second in
     let zero2 : back r 2 ≡ 0 = at-back r i 2 (omega (arith, p.ends)) ∙ p.first in
     ap (λ t. is_whole (cond t Whole (cond (eqb (back r 0) 0 && eqb (back r 1) 0) Zeros (cond (eqb (back r 0) 0) Zero Nothing))))
-    (and_from (eqb (back r 0) 1) (eqb (back r 1) 0 && eqb (back r 2) 0) (eq-eqb (back r 0) 1 one) (and_from (eqb (back r 1) 0) (eqb (back r 2) 0) (eq-eqb (back r 1) 0 zero1) (eq-eqb (back r 2) 0 zero2)))
+    (and_from (eqb (back r 0) 1) (eqb (back r 1) 0 && eqb (back r 2) 0) (eq-eqb (back r 0) 1 one)
+    (and_from (eqb (back r 1) 0) (eqb (back r 2) 0) (eq-eqb (back r 1) 0 zero1) (eq-eqb (back r 2) 0 zero2)))
 
 stands-more : (x : ℕ) (r : List ℕ) (i k : ℕ) → Stands r i k → Stands (x ∷ r) i k
 stands-more x r i k s = record {
@@ -143,10 +145,12 @@ has-stands : (r : List ℕ) (i k : ℕ) → HasCode i k (codes_of r) → Stands 
 has-stands [] i k h = absurd (subst (λ (l : List Code). HasCode i k l) codes-none h)
 has-stands (x ∷ r) i k h = elim (cases_Bool (is_whole (latest_prefix r))) [
   | inl e ↦ (let p = whole-prefixed r e in elim (subst (λ (l : List Code). HasCode i k l) (codes-code x r e) h) [
-    | inl new ↦ subst (λ m. Stands (x ∷ r) m k) new.0 (subst (λ m. Stands (x ∷ r) (length r - 3) m) new.1 (stands-new x r (length r - 3) p))
+    | inl new ↦ subst (λ m. Stands (x ∷ r) m k) new.0
+        (subst (λ m. Stands (x ∷ r) (length r - 3) m) new.1 (stands-new x r (length r - 3) p))
     | inr older ↦ stands-more x r i k (has-stands r i k (note-has (codes_of r) x i k older))
   ])
-  | inr e ↦ stands-more x r i k (has-stands r i k (note-has (codes_of r) x i k (subst (λ (l : List Code). HasCode i k l) (codes-plain x r e) h)))
+  | inr e ↦ stands-more x r i k
+      (has-stands r i k (note-has (codes_of r) x i k (subst (λ (l : List Code). HasCode i k l) (codes-plain x r e) h)))
 ]
 
 older-has : (x : ℕ) (r : List ℕ) (i k : ℕ) → HasCode i k (codes_of r) → HasCode i k (codes_of (x ∷ r))

@@ -21,12 +21,14 @@ read-append r [] ys = refl
 read-append r (x ∷ xs) ys = read-append (x ∷ r) xs ys
 
 -- a run of a piece after its front, and one byte after it
-pub read-run : (r piece : List ℕ) (a n : ℕ) → read (read r (take a piece)) (take n (take (length piece - a) (drop a piece))) ≡ read r (take (a + n) piece)
+pub read-run : (r piece : List ℕ) (a n : ℕ)
+    → read (read r (take a piece)) (take n (take (length piece - a) (drop a piece))) ≡ read r (take (a + n) piece)
 read-run r piece a n =
     ap (λ (l : List ℕ). read (read r (take a piece)) (take n l)) (take_rest piece a)
     ∙ sym (read-append r (take a piece) (take n (drop a piece))) ∙ ap (read r) (sym (take-add a n piece))
 
-pub read-byte : (r piece : List ℕ) (b : ℕ) → b < length piece → get_or piece b 0 ∷ read r (take b piece) ≡ read r (take (b + 1) piece)
+pub read-byte : (r piece : List ℕ) (b : ℕ) → b < length piece
+    → get_or piece b 0 ∷ read r (take b piece) ≡ read r (take (b + 1) piece)
 read-byte r piece b within =
     sym (read-append r (take b piece) (get_or piece b 0 ∷ [])) ∙ ap (read r) (sym (take_more piece b 0 within))
 
@@ -59,12 +61,15 @@ record Quiet (r q : List ℕ) (n : ℕ) : Type 0 where
 abbrev AreNonzero : List ℕ → ℕ → Type 0
 AreNonzero xs n = (k : ℕ) → k < n → get_or xs k 0 ≡ 0 → ⊥
 
-quiet-run : (xs r : List ℕ) → AreNonzero xs (length xs) → latest_prefix r ≡ Nothing → is_text_full (latest_of (codes_of r)) ≡ true → Quiet r (read r xs) (length xs)
+quiet-run : (xs r : List ℕ) → AreNonzero xs (length xs) → latest_prefix r ≡ Nothing
+    → is_text_full (latest_of (codes_of r)) ≡ true → Quiet r (read r xs) (length xs)
 quiet-run [] r nonzero none full = record { same = refl; none = none; more = omega arith }
 quiet-run (x ∷ xs) r nonzero none full =
     let same : codes_of (x ∷ r) ≡ codes_of r = codes-plain x r (ap is_whole none) ∙ note-full (codes_of r) x full in
-    let still : latest_prefix (x ∷ r) ≡ Nothing = matched-more x r ∙ ap (λ p. next_prefix p x) none ∙ next-other (eqb x 1) x (nonzero 0 (omega arith)) refl in
-    let rest = quiet-run xs (x ∷ r) (λ k within. nonzero (suc k) (omega arith)) still (ap (λ (l : List Code). is_text_full (latest_of l)) same ∙ full) in
+    let still : latest_prefix (x ∷ r) ≡ Nothing =
+    matched-more x r ∙ ap (λ p. next_prefix p x) none ∙ next-other (eqb x 1) x (nonzero 0 (omega arith)) refl in
+    let rest = quiet-run xs (x ∷ r) (λ k within. nonzero (suc k) (omega arith)) still
+    (ap (λ (l : List Code). is_text_full (latest_of l)) same ∙ full) in
     record { same = rest.same ∙ same; none = rest.none; more = omega (arith, rest.more) }
 
 front-nonzero : (xs : List ℕ) (n : ℕ) → n ≤ length xs → AreNonzero xs n → AreNonzero (take n xs) (length (take n xs))
@@ -72,15 +77,18 @@ front-nonzero xs n bound nonzero k within zero_there =
     let below : k < n = omega (arith, length-take-le n xs bound) in
     nonzero k below (sym (get_or-take n xs k 0 below) ∙ zero_there)
 
-skipped : {s : Progress} {r : List ℕ} (xs : List ℕ) (n : ℕ) → n ≤ length xs → AreNonzero xs n → (s.prefix ≡ Nothing) × (is_text_full s.latest ≡ true) → HasRead s r → Quiet r (read r (take n xs)) (length (take n xs))
+skipped : {s : Progress} {r : List ℕ} (xs : List ℕ) (n : ℕ) → n ≤ length xs → AreNonzero xs n
+    → (s.prefix ≡ Nothing) × (is_text_full s.latest ≡ true) → HasRead s r → Quiet r (read r (take n xs)) (length (take n xs))
 skipped {s} {r} xs n bound nonzero quiet kept =
     quiet-run (take n xs) r (front-nonzero xs n bound nonzero) (sym kept.prefix ∙ quiet.0)
     (sym (ap is_text_full kept.latest) ∙ quiet.1)
 
-pub skipped-same : {s : Progress} {r : List ℕ} (xs : List ℕ) (n : ℕ) → n ≤ length xs → AreNonzero xs n → (s.prefix ≡ Nothing) × (is_text_full s.latest ≡ true) → HasRead s r → codes_of (read r (take n xs)) ≡ codes_of r
+pub skipped-same : {s : Progress} {r : List ℕ} (xs : List ℕ) (n : ℕ) → n ≤ length xs → AreNonzero xs n
+    → (s.prefix ≡ Nothing) × (is_text_full s.latest ≡ true) → HasRead s r → codes_of (read r (take n xs)) ≡ codes_of r
 skipped-same {s} {r} xs n bound nonzero quiet kept = (skipped xs n bound nonzero quiet kept).same
 
-pub skipped-kept : {s : Progress} {r : List ℕ} (xs : List ℕ) (n : ℕ) → n ≤ length xs → AreNonzero xs n → (s.prefix ≡ Nothing) × (is_text_full s.latest ≡ true) → HasRead s r → HasRead (skipped_scan s n) (read r (take n xs))
+pub skipped-kept : {s : Progress} {r : List ℕ} (xs : List ℕ) (n : ℕ) → n ≤ length xs → AreNonzero xs n
+    → (s.prefix ≡ Nothing) × (is_text_full s.latest ≡ true) → HasRead s r → HasRead (skipped_scan s n) (read r (take n xs))
 skipped-kept {s} {r} xs n bound nonzero quiet kept =
     let run = skipped xs n bound nonzero quiet kept in record {
       fed = omega (arith, run.more, length-take-le n xs bound, kept.fed);
@@ -96,13 +104,16 @@ fault-stays-code : (c : Code) (past : List Code) (f : FilmFault) → first_fault
 unfolding first_fault
 fault-stays-code c past f is = ap (λ (o : Option FilmFault). first_refusal o (fault_at past c.place c.kind)) is
 
-fault-stays-byte : (x : ℕ) (r : List ℕ) (f : FilmFault) → first_fault (codes_of r) ≡ Some f → first_fault (codes_of (x ∷ r)) ≡ Some f
+fault-stays-byte : (x : ℕ) (r : List ℕ) (f : FilmFault) → first_fault (codes_of r) ≡ Some f
+    → first_fault (codes_of (x ∷ r)) ≡ Some f
 fault-stays-byte x r f is = elim (cases_Bool (is_whole (latest_prefix r))) [
-  | inl e ↦ ap first_fault (codes-code x r e) ∙ fault-stays-code _ (note_latest (codes_of r) x) f (first_fault-note (codes_of r) x ∙ is)
+  | inl e ↦ ap first_fault (codes-code x r e)
+      ∙ fault-stays-code _ (note_latest (codes_of r) x) f (first_fault-note (codes_of r) x ∙ is)
   | inr e ↦ ap first_fault (codes-plain x r e) ∙ first_fault-note (codes_of r) x ∙ is
 ]
 
-pub fault-stays : (xs r : List ℕ) (f : FilmFault) → first_fault (codes_of r) ≡ Some f → first_fault (codes_of (read r xs)) ≡ Some f
+pub fault-stays : (xs r : List ℕ) (f : FilmFault) → first_fault (codes_of r) ≡ Some f
+    → first_fault (codes_of (read r xs)) ≡ Some f
 fault-stays [] r f is = is
 fault-stays (x ∷ xs) r f is = fault-stays xs (x ∷ r) f (fault-stays-byte x r f is)
 
@@ -111,11 +122,15 @@ fault-stays (x ∷ xs) r f is = fault-stays xs (x ∷ r) f (fault-stays-byte x r
 pub length-rest : (piece : List ℕ) (a : ℕ) → length (take (length piece - a) (drop a piece)) ≡ length piece - a
 length-rest piece a = ap (λ (l : List ℕ). length l) (take_rest piece a) ∙ length-drop a piece
 
-pub told-run : (r piece : List ℕ) (a n : ℕ) (calls : List Call) → codes_of (read (read r (take a piece)) (take n (take (length piece - a) (drop a piece)))) ≡ codes_of (read r (take a piece)) → calls ++ calls_of (codes_of (read r (take a piece))) ≡ calls ++ calls_of (codes_of (read r (take (a + n) piece)))
+pub told-run : (r piece : List ℕ) (a n : ℕ) (calls : List Call)
+    → codes_of (read (read r (take a piece)) (take n (take (length piece - a) (drop a piece))))
+    ≡ codes_of (read r (take a piece))
+    → calls ++ calls_of (codes_of (read r (take a piece))) ≡ calls ++ calls_of (codes_of (read r (take (a + n) piece)))
 told-run r piece a n calls same =
     ap (λ (l : List Code). calls ++ calls_of l) (sym same ∙ ap codes_of (read-run r piece a n))
 
-pub fault-rest : (r piece : List ℕ) (b : ℕ) (f : FilmFault) → b < length piece → first_fault (codes_of (get_or piece b 0 ∷ read r (take b piece))) ≡ Some f → first_fault (codes_of (read r piece)) ≡ Some f
+pub fault-rest : (r piece : List ℕ) (b : ℕ) (f : FilmFault) → b < length piece
+    → first_fault (codes_of (get_or piece b 0 ∷ read r (take b piece))) ≡ Some f → first_fault (codes_of (read r piece)) ≡ Some f
 fault-rest r piece b f within is =
     let there : first_fault (codes_of (read r (take (b + 1) piece))) ≡ Some f =
     ap (λ (q : List ℕ). first_fault (codes_of q)) (sym (read-byte r piece b within)) ∙ is in

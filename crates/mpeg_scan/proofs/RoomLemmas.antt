@@ -63,9 +63,11 @@ noted-ahead s n x is room =
 awaits-same : (Ready : ℕ → Type 0) (t u : Tally) → SamePlaces t u → AwaitsSlice Ready t → AwaitsSlice Ready u
 awaits-same Ready t u same awaits = λ some. subst (λ p. Ready p) same.slice (awaits (omega (arith, same.slices)))
 
-pub noted-awaits : (Ready : ℕ → Type 0) (s n : Progress) (x : ℕ) → n ≡ scan_with_byte s x → AwaitsSlice Ready (tally_now s) → AwaitsSlice Ready (tally_now n)
+pub noted-awaits : (Ready : ℕ → Type 0) (s n : Progress) (x : ℕ) → n ≡ scan_with_byte s x
+    → AwaitsSlice Ready (tally_now s) → AwaitsSlice Ready (tally_now n)
 noted-awaits Ready s n x is awaits =
-    subst (λ (v : Progress). AwaitsSlice Ready (tally_now v)) (sym is) (awaits-same Ready (tally_now s) (tally_now (scan_with_byte s x)) (same-noted s.latest s.tally x) awaits)
+    subst (λ (v : Progress). AwaitsSlice Ready (tally_now v)) (sym is)
+    (awaits-same Ready (tally_now s) (tally_now (scan_with_byte s x)) (same-noted s.latest s.tally x) awaits)
 
 whole-length : (p : Prefix) → is_whole p ≡ true → prefix_length p ≡ 3
 whole-length Nothing e = absurd (false≢true e)
@@ -74,7 +76,8 @@ whole-length Zeros e = absurd (false≢true e)
 whole-length Whole e = refl
 
 -- before a code there is room
-pub room-before : {s n : Progress} {place : ℕ} (x : ℕ) → is_whole s.prefix ≡ true → n ≡ scan_with_byte s x → place ≡ s.fed - 3 → IsAhead s → HasRoom (tally_now n) place
+pub room-before : {s n : Progress} {place : ℕ} (x : ℕ) → is_whole s.prefix ≡ true → n ≡ scan_with_byte s x
+    → place ≡ s.fed - 3 → IsAhead s → HasRoom (tally_now n) place
 room-before {s} {place} x whole is at room =
     let same = same-noted s.latest s.tally x in
     let three = whole-length s.prefix whole in
@@ -85,12 +88,15 @@ room-before {s} {place} x whole is at room =
 
 -- ---- what a code that isn't refused says
 
-pub code_judgement-code : (latest : Option Code) (tally : Tally) (place kind : ℕ) → code_judgement latest tally place kind ≡ None → code_fault (tally_with latest tally) place kind ≡ None
+pub code_judgement-code : (latest : Option Code) (tally : Tally) (place kind : ℕ)
+    → code_judgement latest tally place kind ≡ None → code_fault (tally_with latest tally) place kind ≡ None
 unfolding code_judgement
 code_judgement-code latest tally place kind e =
     otherwise-second (latest_header_fault latest tally.rate place) (code_fault (tally_with latest tally) place kind) e
 
-begun-by : {q k : Bool} (a b : Bool) (place : ℕ) → k ≡ false → cond a (Some (SystemCode place)) (cond b (Some (Mpeg2 place)) (cond (not q && not k) (Some NoSequence) None)) ≡ None → q ≡ true
+begun-by : {q k : Bool} (a b : Bool) (place : ℕ) → k ≡ false
+    → cond a (Some (SystemCode place))
+    (cond b (Some (Mpeg2 place)) (cond (not q && not k) (Some NoSequence) None)) ≡ None → q ≡ true
 begun-by true b place other e = absurd (cc)
 begun-by false true place other e = absurd (cc)
 begun-by {q = true} false false place other e = refl
@@ -105,7 +111,8 @@ slice-kind kind slice =
 code-begun : (t : Tally) (place kind : ℕ) → code_fault t place kind ≡ None → is_slice kind ≡ true → t.begun ≡ true
 code-begun t place kind e slice =
     begun-by (leb 0xb9 kind) (eqb kind 0xb5) place (ne_eqb kind 0xb3 (λ is. absurd (omega (arith, (slice-kind kind slice).1))))
-    (otherwise-first (kind_fault t place kind) (first_refusal (second_fault t kind) (first_refusal (first_slice_fault t place kind) (count_fault t place kind))) e)
+    (otherwise-first (kind_fault t place kind)
+    (first_refusal (second_fault t kind) (first_refusal (first_slice_fault t place kind) (count_fault t place kind))) e)
 
 -- a slice's code that isn't refused, and the tally with the code before it
 pub record SliceTaken (t : Tally) (latest : Option Code) (tally : Tally) (place kind : ℕ) : Type 0 where
@@ -114,17 +121,30 @@ pub record SliceTaken (t : Tally) (latest : Option Code) (tally : Tally) (place 
   pub slice : is_slice kind ≡ true
 
 -- a unit's first slice: the head before it has 1 to 1,380 bytes
-pub head-some : {t tally : Tally} {latest : Option Code} {place kind : ℕ} → SliceTaken t latest tally place kind → HasRoom (tally_with latest tally) place → t.unit < place
+pub head-some : {t tally : Tally} {latest : Option Code} {place kind : ℕ} → SliceTaken t latest tally place kind
+    → HasRoom (tally_with latest tally) place → t.unit < place
 head-some {t} {tally} {latest} {place} {kind} taken room =
     let unit : t.unit ≡ (tally_with latest tally).unit = ap (λ (v : Tally). v.unit) taken.tally_is in
-    omega (arith, unit, room.unit (code-begun (tally_with latest tally) place kind (code_judgement-code latest tally place kind taken.judged) taken.slice))
+    omega (
+      arith,
+      unit,
+      room.unit (code-begun (tally_with latest tally) place kind
+          (code_judgement-code latest tally place kind taken.judged) taken.slice),
+    )
 
-pub head-short : {t tally : Tally} {latest : Option Code} {place kind : ℕ} → SliceTaken t latest tally place kind → t.slices ≡ 0 → place ≤ t.unit + 1380
+pub head-short : {t tally : Tally} {latest : Option Code} {place kind : ℕ}
+    → SliceTaken t latest tally place kind → t.slices ≡ 0 → place ≤ t.unit + 1380
 head-short {t} {tally} {latest} {place} {kind} taken none =
     let now = tally_with latest tally in
     let unit : t.unit ≡ now.unit = ap (λ (v : Tally). v.unit) taken.tally_is in
     let slices : t.slices ≡ now.slices = ap (λ (v : Tally). v.slices) taken.tally_is in
-    omega (arith, unit, first_slice-head now place kind (first_slice-accepted now place kind (code_judgement-code latest tally place kind taken.judged)) taken.slice (sym slices ∙ none))
+    omega (
+      arith,
+      unit,
+      first_slice-head now place kind
+          (first_slice-accepted now place kind (code_judgement-code latest tally place kind taken.judged))
+          taken.slice (sym slices ∙ none),
+    )
 
 -- ---- after a code
 
@@ -154,17 +174,20 @@ record PrefixAfter (s : Bool) (l : ℕ) : Type 0 where
 prefix-after : (kind : ℕ) → PrefixAfter (is_slice kind) (prefix_length (next_prefix Whole kind))
 prefix-after kind = record { short = length-kind kind; none = length-slice kind }
 
-unit-by : {q : Bool} {place l fed : ℕ} (h : Bool) (unit : ℕ) → l ≤ 1 → place + 3 ≤ fed → (q ≡ true → unit + 3 ≤ place) → cond (not q || h) place unit + 3 + l ≤ fed + 1
+unit-by : {q : Bool} {place l fed : ℕ} (h : Bool) (unit : ℕ) → l ≤ 1 → place + 3 ≤ fed
+    → (q ≡ true → unit + 3 ≤ place) → cond (not q || h) place unit + 3 + l ≤ fed + 1
 unit-by {q = true} true unit short at before = omega (arith, short, at)
 unit-by {q = true} false unit short at before = omega (arith, short, at, before refl)
 unit-by {q = false} h unit short at before = omega (arith, short, at)
 
-slice-by : {s : Bool} {place n l fed : ℕ} (h : Bool) (slice : ℕ) → PrefixAfter s l → place + 3 ≤ fed → (0 < n → slice + 4 ≤ place) → 0 < cond h 0 (cond s (one_more n) n) → cond s place slice + 4 + l ≤ fed + 1
+slice-by : {s : Bool} {place n l fed : ℕ} (h : Bool) (slice : ℕ) → PrefixAfter s l → place + 3 ≤ fed
+    → (0 < n → slice + 4 ≤ place) → 0 < cond h 0 (cond s (one_more n) n) → cond s place slice + 4 + l ≤ fed + 1
 slice-by {s = true} h slice prefix at before some = omega (arith, prefix.none refl, at)
 slice-by {s = false} true slice prefix at before some = absurd (omega (arith, some))
 slice-by {s = false} false slice prefix at before some = omega (arith, prefix.short, at, before some)
 
-code-ahead : (t : Tally) (place kind fed : ℕ) → place + 3 ≤ fed → HasRoom t place → HasRoomAhead (fed + 1) (next_prefix Whole kind) (Some (record { place = place; kind = kind; text = [] })) t
+code-ahead : (t : Tally) (place kind fed : ℕ) → place + 3 ≤ fed → HasRoom t place
+    → HasRoomAhead (fed + 1) (next_prefix Whole kind) (Some (record { place = place; kind = kind; text = [] })) t
 unfolding next
 code-ahead t place kind fed at room = record {
   read = omega (arith, length-kind kind, at);
@@ -178,25 +201,30 @@ whole-is Zero e = absurd (false≢true e)
 whole-is Zeros e = absurd (false≢true e)
 whole-is Whole e = refl
 
-pub coded-ahead : {s n m : Progress} {place : ℕ} (x : ℕ) → is_whole s.prefix ≡ true → n ≡ scan_with_byte s x → place ≡ s.fed - 3 → m ≡ scan_with_code n place x → IsAhead s → IsAhead m
+pub coded-ahead : {s n m : Progress} {place : ℕ} (x : ℕ) → is_whole s.prefix ≡ true → n ≡ scan_with_byte s x
+    → place ≡ s.fed - 3 → m ≡ scan_with_code n place x → IsAhead s → IsAhead m
 coded-ahead {s} {n} {m} {place} x whole noted at is room =
     let before = room-before x whole noted at room in
     let three = whole-length s.prefix whole in
     let fed : n.fed ≡ s.fed + 1 = ap (λ (v : Progress). v.fed) noted in
-    let prefix : n.prefix ≡ next_prefix Whole x = ap (λ (v : Progress). v.prefix) noted ∙ ap (λ p. next_prefix p x) (whole-is s.prefix whole) in
+    let prefix : n.prefix ≡ next_prefix Whole x =
+    ap (λ (v : Progress). v.prefix) noted ∙ ap (λ p. next_prefix p x) (whole-is s.prefix whole) in
     let code : Code = record { place = place; kind = x; text = [] } in
     let made = code-ahead (tally_now n) place x s.fed (omega (arith, at, three, room.read)) before in
     subst (λ (v : Progress). IsAhead v) (sym is)
-    (subst (λ f. HasRoomAhead f n.prefix (Some code) (tally_now n)) (sym fed) (subst (λ (p : Prefix). HasRoomAhead (s.fed + 1) p (Some code) (tally_now n)) (sym prefix) made))
+    (subst (λ f. HasRoomAhead f n.prefix (Some code) (tally_now n)) (sym fed)
+    (subst (λ (p : Prefix). HasRoomAhead (s.fed + 1) p (Some code) (tally_now n)) (sym prefix) made))
 
-pub coded-awaits : {m : Progress} (Ready : ℕ → Type 0) (n : Progress) (x place : ℕ) → m ≡ scan_with_code n place x → AwaitsSliceAfter Ready (tally_now n) place x → AwaitsSlice Ready (tally_now m)
+pub coded-awaits : {m : Progress} (Ready : ℕ → Type 0) (n : Progress) (x place : ℕ)
+    → m ≡ scan_with_code n place x → AwaitsSliceAfter Ready (tally_now n) place x → AwaitsSlice Ready (tally_now m)
 unfolding next
 coded-awaits Ready n x place is awaits =
     subst (λ (v : Progress). AwaitsSlice Ready (tally_now v)) (sym is) awaits
 
 -- ---- as a run is passed over
 
-pub skipped-ahead : {s n : Progress} (count : ℕ) → n.fed ≡ s.fed + count → n.prefix ≡ s.prefix → n.latest ≡ s.latest → n.tally ≡ s.tally → IsAhead s → IsAhead n
+pub skipped-ahead : {s n : Progress} (count : ℕ) → n.fed ≡ s.fed + count → n.prefix ≡ s.prefix
+    → n.latest ≡ s.latest → n.tally ≡ s.tally → IsAhead s → IsAhead n
 skipped-ahead {s} {n} count fed prefix latest tally room =
     let P : Prefix → Type 0 = λ p. HasRoomAhead n.fed p n.latest n.tally in
     let L : Option Code → Type 0 = λ o. HasRoomAhead n.fed s.prefix o n.tally in
@@ -207,7 +235,8 @@ skipped-ahead {s} {n} count fed prefix latest tally room =
       slice = λ some. omega (arith, room.slice some, fed);
     })))
 
-pub skipped-awaits : (Ready : ℕ → Type 0) (s n : Progress) → n.latest ≡ s.latest → n.tally ≡ s.tally → AwaitsSlice Ready (tally_now s) → AwaitsSlice Ready (tally_now n)
+pub skipped-awaits : (Ready : ℕ → Type 0) (s n : Progress) → n.latest ≡ s.latest → n.tally ≡ s.tally
+    → AwaitsSlice Ready (tally_now s) → AwaitsSlice Ready (tally_now n)
 skipped-awaits Ready s n latest tally awaits =
     let L : Option Code → Type 0 = λ o. AwaitsSlice Ready (tally_with o n.tally) in
     let T : Tally → Type 0 = λ t. AwaitsSlice Ready (tally_with s.latest t) in
@@ -220,11 +249,13 @@ both-ok (Err e) f p q = tt
 
 -- ---- the film's end
 
-pub end_judgement-sliced : (latest : Option Code) (tally t : Tally) (end : ℕ) → end_judgement latest tally end ≡ None → t ≡ tally_with latest tally → 0 < t.slices
+pub end_judgement-sliced : (latest : Option Code) (tally t : Tally) (end : ℕ)
+    → end_judgement latest tally end ≡ None → t ≡ tally_with latest tally → 0 < t.slices
 unfolding end_judgement
 end_judgement-sliced latest tally t end e is =
     let slices : t.slices ≡ (tally_with latest tally).slices = ap (λ (v : Tally). v.slices) is in
-    let some = ended-none (tally_with latest tally) (otherwise-second (latest_header_fault latest tally.rate end) (last_fault (tally_with latest tally)) e) in
+    let some = ended-none (tally_with latest tally)
+    (otherwise-second (latest_header_fault latest tally.rate end) (last_fault (tally_with latest tally)) e) in
     omega (arith, slices, some)
 
 pub end-least : (s : Progress) (t : Tally) → t ≡ tally_now s → 0 < t.slices → IsAhead s → t.slice + 4 ≤ s.fed
@@ -233,7 +264,8 @@ end-least s t is some room =
     let slice : t.slice ≡ (tally_now s).slice = ap (λ (v : Tally). v.slice) is in
     omega (arith, slice, room.slice (omega (arith, slices, some)))
 
-pub end-ready : (Ready : ℕ → Type 0) (s : Progress) (t : Tally) → t ≡ tally_now s → 0 < t.slices → AwaitsSlice Ready (tally_now s) → Ready t.slice
+pub end-ready : (Ready : ℕ → Type 0) (s : Progress) (t : Tally) → t ≡ tally_now s → 0 < t.slices
+    → AwaitsSlice Ready (tally_now s) → Ready t.slice
 end-ready Ready s t is some awaits =
     let slices : t.slices ≡ (tally_now s).slices = ap (λ (v : Tally). v.slices) is in
     let slice : t.slice ≡ (tally_now s).slice = ap (λ (v : Tally). v.slice) is in

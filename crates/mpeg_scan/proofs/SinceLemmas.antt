@@ -78,7 +78,8 @@ since-by {z = false} {b = false} {Has} {OfKind} {ends} {c} {past} {at} tests is 
       true≢false (sym e ∙ end)) it.none;
 }
 
-pub codes-since : {Has : ℕ → ℕ → Type 0} {OfKind : ℕ → Type 0} {counts ends : ℕ → Bool} {past : List Code} {at : ℕ} → Tests OfKind counts ends → Knows Has past at → Spaced past →
+pub codes-since : {Has : ℕ → ℕ → Type 0} {OfKind : ℕ → Type 0} {counts ends : ℕ → Bool} {past : List Code}
+    {at : ℕ} → Tests OfKind counts ends → Knows Has past at → Spaced past →
     Since Has OfKind ends at (since counts ends past)
 codes-since {Has} {ends} {past = []} {at} tests k spaced = record {
   from = 0;

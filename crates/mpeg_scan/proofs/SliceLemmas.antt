@@ -42,8 +42,10 @@ record IsCounted (e q : Bool) (n : ℕ) : Type 0 where
   some : e ≡ false → q ≡ true
 
 -- one code more; s, h: it is a slice, a head code
-raw-slices : {s h e q : Bool} {n : ℕ} {places : List ℕ} (told : Told) (before : List ℕ) → (s ≡ true → h ≡ false) → IsCounted e q n → before ++ cond e [] (told.slice ∷ []) ≡ places
-    → (before ++ slices_in (raw_calls s h q e told)) ++ pending (cond h 0 (cond s (n + 1) n)) (cond s told.place told.slice) ≡ cond s (places ++ told.place ∷ []) places
+raw-slices : {s h e q : Bool} {n : ℕ} {places : List ℕ} (told : Told) (before : List ℕ) → (s ≡ true → h ≡ false)
+    → IsCounted e q n → before ++ cond e [] (told.slice ∷ []) ≡ places
+    → (before ++ slices_in (raw_calls s h q e told))
+    ++ pending (cond h 0 (cond s (n + 1) n)) (cond s told.place told.slice) ≡ cond s (places ++ told.place ∷ []) places
 raw-slices {s = true} {h = true} told before apart counted is = absurd (true≢false (apart refl))
 raw-slices {s = true} {h = false} {e = true} {n} told before apart counted is =
     ap (λ l. (before ++ []) ++ l) (pending-some (n + 1) told.place (omega arith)) ∙ ap (λ l. l ++ told.place ∷ []) is
@@ -51,13 +53,17 @@ raw-slices {s = true} {h = false} {e = false} {n} told before apart counted is =
     ap (λ l. (before ++ told.slice ∷ []) ++ l) (pending-some (n + 1) told.place (omega arith)) ∙ ap (λ l. l ++ told.place ∷ []) is
 raw-slices {s = false} {h = true} {e = true} {q = true} told before apart counted is = absurd (true≢false (counted.none refl))
 raw-slices {s = false} {h = true} {e = true} {q = false} told before apart counted is = append-nil (before ++ []) ∙ is
-raw-slices {s = false} {h = true} {e = false} {q = true} told before apart counted is = append-nil (before ++ told.slice ∷ []) ∙ is
+raw-slices {s = false} {h = true} {e = false} {q = true} told before apart counted is =
+    append-nil (before ++ told.slice ∷ []) ∙ is
 raw-slices {s = false} {h = true} {e = false} {q = false} told before apart counted is = absurd (false≢true (counted.some refl))
 raw-slices {s = false} {h = false} {e} told before apart counted is =
-    ap (λ v. (before ++ []) ++ cond v [] (told.slice ∷ [])) counted.is ∙ ap (λ l. l ++ cond e [] (told.slice ∷ [])) (append-nil before) ∙ is
+    ap (λ v. (before ++ []) ++ cond v [] (told.slice ∷ [])) counted.is
+    ∙ ap (λ l. l ++ cond e [] (told.slice ∷ [])) (append-nil before) ∙ is
 
-step-slices : (c : Code) (past : List Code) → slices_in (calls_of past) ++ pending (slices_of past) (slice_of past) ≡ slice_places past
-    → (slices_in (calls_of past) ++ slices_in (calls_at (tally_of past) c.place c.kind)) ++ pending (slices_of (c ∷ past)) (slice_of (c ∷ past)) ≡ slice_places (c ∷ past)
+step-slices : (c : Code) (past : List Code)
+    → slices_in (calls_of past) ++ pending (slices_of past) (slice_of past) ≡ slice_places past
+    → (slices_in (calls_of past) ++ slices_in (calls_at (tally_of past) c.place c.kind))
+    ++ pending (slices_of (c ∷ past)) (slice_of (c ∷ past)) ≡ slice_places (c ∷ past)
 unfolding calls_at
 step-slices c past is =
     let n = slices_of past in
@@ -67,19 +73,24 @@ step-slices c past is =
 told-slices : (past : List Code) → slices_in (calls_of past) ++ pending (slices_of past) (slice_of past) ≡ slice_places past
 told-slices [] = ap (λ l. slices_in l ++ []) told-nil
 told-slices (c ∷ past) =
-    ap (λ l. l ++ pending (slices_of (c ∷ past)) (slice_of (c ∷ past))) (ap slices_in (told-cons c past) ∙ slices_in-append (calls_of past) (calls_at (tally_of past) c.place c.kind))
+    ap (λ l. l ++ pending (slices_of (c ∷ past)) (slice_of (c ∷ past)))
+    (ap slices_in (told-cons c past) ∙ slices_in-append (calls_of past) (calls_at (tally_of past) c.place c.kind))
     ∙ step-slices c past (told-slices past)
 
-whole-slices : (past : List Code) (n : ℕ) → end_fault past n ≡ None → slices_in (calls_of past ++ unit_end (tally_of past) n) ≡ slice_places past
+whole-slices : (past : List Code) (n : ℕ) → end_fault past n ≡ None
+    → slices_in (calls_of past ++ unit_end (tally_of past) n) ≡ slice_places past
 unfolding end_fault
 whole-slices past n ended =
     let some = ended-none (tally_of past) (otherwise-second (latest_fault past n) (last_fault (tally_of past)) ended) in
-    slices_in-append (calls_of past) (unit_end (tally_of past) n) ∙ ap (λ l. slices_in (calls_of past) ++ l) (sym (pending-some (slices_of past) (slice_of past) some)) ∙ told-slices past
+    slices_in-append (calls_of past) (unit_end (tally_of past) n)
+    ∙ ap (λ l. slices_in (calls_of past) ++ l) (sym (pending-some (slices_of past) (slice_of past) some)) ∙ told-slices past
 
-pub film-slices : (bytes : List ℕ) (rate : ℕ) (units : List PictureUnit) (starts : List ℕ) → IsFilm bytes rate units starts → starts ≡ slice_places (codes_of (read [] bytes))
+pub film-slices : (bytes : List ℕ) (rate : ℕ) (units : List PictureUnit) (starts : List ℕ)
+    → IsFilm bytes rate units starts → starts ≡ slice_places (codes_of (read [] bytes))
 film-slices bytes rate units starts film =
     let r = read [] bytes in
-    film.slices ∙ whole-slices (codes_of r) (length r) (otherwise-second (first_fault (codes_of r)) (end_fault (codes_of r) (length r)) (accepted-whole r film.accepted))
+    film.slices ∙ whole-slices (codes_of r) (length r)
+    (otherwise-second (first_fault (codes_of r)) (end_fault (codes_of r) (length r)) (accepted-whole r film.accepted))
 
 -- ---- a place is among them exactly where a slice code stands there
 
@@ -110,7 +121,8 @@ kind-slice kind is = and_from (leb 1 kind) (leb kind 0xaf) (le-leb 1 kind is.0) 
 abbrev ThereIn : List Code → ℕ → Type 0
 ThereIn past place = (kind : ℕ) × (HasCode place kind past × IsSliceKind kind)
 
-there-by : {b : Bool} {place : ℕ} (c : Code) (past : List Code) (places : List ℕ) → is_slice c.kind ≡ b → (IsAmong place places → ThereIn past place)
+there-by : {b : Bool} {place : ℕ} (c : Code) (past : List Code) (places : List ℕ) → is_slice c.kind ≡ b
+    → (IsAmong place places → ThereIn past place)
     → IsAmong place (cond b (places ++ c.place ∷ []) places) → ThereIn (c ∷ past) place
 there-by {b = false} {place} c past places is older among = let it = older among in (it.0, (inr it.1.0, it.1.1))
 there-by {b = true} {place} c past places is older among = elim (among-parts place c.place places among) [
@@ -122,7 +134,8 @@ among-there : (past : List Code) (place : ℕ) → IsAmong place (slice_places p
 among-there [] place among = absurd among
 among-there (c ∷ past) place among = there-by c past (slice_places past) refl (among-there past place) among
 
-older-among : (b : Bool) (place last : ℕ) (places : List ℕ) → IsAmong place places → IsAmong place (cond b (places ++ last ∷ []) places)
+older-among : (b : Bool) (place last : ℕ) (places : List ℕ) → IsAmong place places
+    → IsAmong place (cond b (places ++ last ∷ []) places)
 older-among true place last places among = among-left place places (last ∷ []) among
 older-among false place last places among = among
 
@@ -130,13 +143,19 @@ there-among : (past : List Code) (place kind : ℕ) → HasCode place kind past 
 there-among [] place kind has is = absurd has
 there-among (c ∷ past) place kind (inl new) is =
     let slice : is_slice c.kind ≡ true = ap is_slice new.1 ∙ kind-slice kind is in
-    subst (λ b. IsAmong place (cond b (slice_places past ++ c.place ∷ []) (slice_places past))) (sym slice) (among-last place c.place (slice_places past) new.0)
-there-among (c ∷ past) place kind (inr old) is = older-among (is_slice c.kind) place c.place (slice_places past) (there-among past place kind old is)
+    subst (λ b. IsAmong place (cond b (slice_places past ++ c.place ∷ []) (slice_places past))) (sym slice)
+    (among-last place c.place (slice_places past) new.0)
+there-among (c ∷ past) place kind (inr old) is =
+    older-among (is_slice c.kind) place c.place (slice_places past) (there-among past place kind old is)
 
-pub film-slice_codes : (bytes : List ℕ) (rate : ℕ) (units : List PictureUnit) (starts : List ℕ) → IsFilm bytes rate units starts → (place : ℕ) → IsAmong place starts ↔ StandsThere (StandsAt bytes) place IsSliceKind
+pub film-slice_codes : (bytes : List ℕ) (rate : ℕ) (units : List PictureUnit) (starts : List ℕ)
+    → IsFilm bytes rate units starts → (place : ℕ) → IsAmong place starts ↔ StandsThere (StandsAt bytes) place IsSliceKind
 film-slice_codes bytes rate units starts film place =
     let past = codes_of (read [] bytes) in
     let same = film-slices bytes rate units starts film in (
-      λ among. let it = among-there past place (subst (λ l. IsAmong place l) same among) in (it.0, ((codes-stand bytes place it.0).0 it.1.0, it.1.1)),
-      λ it. subst (λ l. IsAmong place l) (sym same) (there-among past place it.0 ((codes-stand bytes place it.0).1 it.1.0) it.1.1),
+      λ among. let it =
+          among-there past place (subst (λ l. IsAmong place l) same among) in
+          (it.0, ((codes-stand bytes place it.0).0 it.1.0, it.1.1)),
+      λ it. subst (λ l. IsAmong place l) (sym same)
+          (there-among past place it.0 ((codes-stand bytes place it.0).1 it.1.0) it.1.1),
     )

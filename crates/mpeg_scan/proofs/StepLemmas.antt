@@ -24,7 +24,8 @@ codes-plain x r e =
     let new : List Code = record { place = length r - 3; kind = x; text = [] } ∷ note_latest (codes_of r) x in
     ap (λ b. cond b new (note_latest (codes_of r) x)) e
 
-pub codes-code : (x : ℕ) (r : List ℕ) → is_whole (latest_prefix r) ≡ true → codes_of (x ∷ r) ≡ record { place = length r - 3; kind = x; text = [] } ∷ note_latest (codes_of r) x
+pub codes-code : (x : ℕ) (r : List ℕ) → is_whole (latest_prefix r) ≡ true
+    → codes_of (x ∷ r) ≡ record { place = length r - 3; kind = x; text = [] } ∷ note_latest (codes_of r) x
 unfolding codes_of
 codes-code x r e =
     let new : List Code = record { place = length r - 3; kind = x; text = [] } ∷ note_latest (codes_of r) x in
@@ -73,12 +74,14 @@ slices-bound : (past : List Code) → slices_of past ≤ length past
 slices-bound [] = omega arith
 slices-bound (c ∷ past) =
     cond-bound (is_head c.kind) 0 (cond (is_slice c.kind) (slices_of past + 1) (slices_of past)) (suc (length past)) (omega arith)
-    (cond-bound (is_slice c.kind) (slices_of past + 1) (slices_of past) (suc (length past)) (omega (arith, slices-bound past)) (omega (arith, slices-bound past)))
+    (cond-bound (is_slice c.kind) (slices_of past + 1) (slices_of past) (suc (length past))
+    (omega (arith, slices-bound past)) (omega (arith, slices-bound past)))
 
 all_slices-bound : (past : List Code) → all_slices_of past ≤ length past
 all_slices-bound [] = omega arith
 all_slices-bound (c ∷ past) =
-    cond-bound (is_slice c.kind) (all_slices_of past + 1) (all_slices_of past) (suc (length past)) (omega (arith, all_slices-bound past)) (omega (arith, all_slices-bound past))
+    cond-bound (is_slice c.kind) (all_slices_of past + 1) (all_slices_of past) (suc (length past))
+    (omega (arith, all_slices-bound past)) (omega (arith, all_slices-bound past))
 
 pub otherwise-first : (f g : Option FilmFault) → first_refusal f g ≡ None → f ≡ None
 otherwise-first None g e = refl
@@ -93,21 +96,29 @@ unfolding first_fault
 accepted-older c past e = otherwise-first (first_fault past) (fault_at past c.place c.kind) e
 
 -- a code of an accepted list is refused by none of its points
-pub code-accepted : (c : Code) (past : List Code) → first_fault (c ∷ past) ≡ None → code_fault (tally_of past) c.place c.kind ≡ None
+pub code-accepted : (c : Code) (past : List Code) → first_fault (c ∷ past) ≡ None
+    → code_fault (tally_of past) c.place c.kind ≡ None
 unfolding first_fault fault_at
 code-accepted c past e =
     let t = tally_of past in
-    let at_code = otherwise-second (first_fault past) (first_refusal (latest_fault past c.place) (code_fault t c.place c.kind)) e in
+    let at_code =
+    otherwise-second (first_fault past) (first_refusal (latest_fault past c.place) (code_fault t c.place c.kind)) e in
     otherwise-second (latest_fault past c.place) (code_fault t c.place c.kind) at_code
 
-code_fault-older : (c : Code) (past : List Code) → first_fault (c ∷ past) ≡ None → count_fault (tally_of past) c.place c.kind ≡ None
+code_fault-older : (c : Code) (past : List Code) → first_fault (c ∷ past) ≡ None
+    → count_fault (tally_of past) c.place c.kind ≡ None
 code_fault-older c past e =
     let t = tally_of past in
-    let rest = otherwise-second (kind_fault t c.place c.kind) (first_refusal (second_fault t c.kind) (first_refusal (first_slice_fault t c.place c.kind) (count_fault t c.place c.kind))) (code-accepted c past e) in
-    let last = otherwise-second (second_fault t c.kind) (first_refusal (first_slice_fault t c.place c.kind) (count_fault t c.place c.kind)) rest in
+    let rest = otherwise-second (kind_fault t c.place c.kind)
+    (first_refusal (second_fault t c.kind)
+    (first_refusal (first_slice_fault t c.place c.kind) (count_fault t c.place c.kind))) (code-accepted c past e) in
+    let last = otherwise-second (second_fault t c.kind)
+    (first_refusal (first_slice_fault t c.place c.kind) (count_fault t c.place c.kind)) rest in
     otherwise-second (first_slice_fault t c.place c.kind) (count_fault t c.place c.kind) last
 
-counted : {q : Bool} {p : ℕ} (b g : Bool) (place : ℕ) → leb 4194304 p ≡ q → cond b (cond g (Some (GroupTooLong place)) (cond q (Some TooLong) None)) None ≡ None → p ≤ 4194304 → cond b (p + 1) p ≤ 4194304
+counted : {q : Bool} {p : ℕ} (b g : Bool) (place : ℕ) → leb 4194304 p ≡ q
+    → cond b (cond g (Some (GroupTooLong place)) (cond q (Some TooLong) None)) None ≡ None → p ≤ 4194304
+    → cond b (p + 1) p ≤ 4194304
 counted false g place test none bound = bound
 counted true true place test none bound = absurd (cc)
 counted {q = true} true false place test none bound = absurd (cc)
@@ -116,16 +127,19 @@ counted {q = false} {p} true false place test none bound = omega (arith, leb-fal
 pub pictures-bound : (past : List Code) → first_fault past ≡ None → pictures_of past ≤ 4194304
 pictures-bound [] e = omega arith
 pictures-bound (c ∷ past) e =
-    counted {p = pictures_of past} (eqb c.kind 0) (leb 1024 (pictures_of past - before_group_of past)) c.place refl (code_fault-older c past e)
+    counted {p = pictures_of past} (eqb c.kind 0) (leb 1024 (pictures_of past - before_group_of past)) c.place
+    refl (code_fault-older c past e)
     (pictures-bound past (accepted-older c past e))
 
 -- ---- the tally with the latest code
 
-next-plain : (past : List Code) (c : Code) → next_by (pictures_of past + 1) (slices_of past + 1) (all_slices_of past + 1) (tally_of past) c ≡ tally_of (c ∷ past)
+next-plain : (past : List Code) (c : Code)
+    → next_by (pictures_of past + 1) (slices_of past + 1) (all_slices_of past + 1) (tally_of past) c ≡ tally_of (c ∷ past)
 next-plain [] c = refl
 next-plain (d ∷ past) c = refl
 
-pub next-tally : (past : List Code) (c : Code) → first_fault past ≡ None → length past < 2 ^ 63 → next (tally_of past) c ≡ tally_of (c ∷ past)
+pub next-tally : (past : List Code) (c : Code) → first_fault past ≡ None → length past < 2 ^ 63
+    → next (tally_of past) c ≡ tally_of (c ∷ past)
 unfolding next
 next-tally past c accepted short =
     let pictures : one_picture (pictures_of past) ≡ pictures_of past + 1 = omega (arith, pictures-bound past accepted) in
@@ -136,15 +150,18 @@ next-tally past c accepted short =
     ∙ ap (λ n. next_by (pictures_of past + 1) (slices_of past + 1) n (tally_of past) c) all
     ∙ next-plain past c
 
-pub tally_now-is : (past : List Code) → first_fault past ≡ None → length past < 2 ^ 63 → tally_with (latest_of past) (tally_of (older_of past)) ≡ tally_of past
+pub tally_now-is : (past : List Code) → first_fault past ≡ None → length past < 2 ^ 63
+    → tally_with (latest_of past) (tally_of (older_of past)) ≡ tally_of past
 tally_now-is [] accepted short = refl
 tally_now-is (c ∷ past) accepted short = next-tally past c (accepted-older c past accepted) (omega arith)
 
-pub code_judgement-is : (past : List Code) (place kind : ℕ) → first_fault past ≡ None → length past < 2 ^ 63 → code_judgement (latest_of past) (tally_of (older_of past)) place kind ≡ fault_at past place kind
+pub code_judgement-is : (past : List Code) (place kind : ℕ) → first_fault past ≡ None → length past < 2 ^ 63
+    → code_judgement (latest_of past) (tally_of (older_of past)) place kind ≡ fault_at past place kind
 unfolding code_judgement fault_at
 code_judgement-is [] place kind accepted short = refl
 code_judgement-is (c ∷ past) place kind accepted short =
-    ap (λ (t : Tally). first_refusal (latest_fault (c ∷ past) place) (code_fault t place kind)) (next-tally past c (accepted-older c past accepted) (omega arith))
+    ap (λ (t : Tally). first_refusal (latest_fault (c ∷ past) place) (code_fault t place kind))
+    (next-tally past c (accepted-older c past accepted) (omega arith))
 
 -- ---- a byte
 
@@ -155,7 +172,8 @@ note-accepted r x accepted = first_fault-note (codes_of r) x ∙ accepted
 pub note-short : (r : List ℕ) (x : ℕ) → length r < 2 ^ 42 → length (note_latest (codes_of r) x) < 2 ^ 63
 note-short r x short = omega (arith, length-note (codes_of r) x, length-codes r)
 
-pub fed-plain : (s : Progress) (r : List ℕ) (x : ℕ) → HasRead s r → is_whole (latest_prefix r) ≡ false → HasRead (scan_with_byte s x) (x ∷ r)
+pub fed-plain : (s : Progress) (r : List ℕ) (x : ℕ) → HasRead s r → is_whole (latest_prefix r) ≡ false
+    → HasRead (scan_with_byte s x) (x ∷ r)
 fed-plain s r x kept plain =
     let codes = codes-plain x r plain in record {
       fed = omega (arith, kept.fed);
@@ -166,32 +184,43 @@ fed-plain s r x kept plain =
     }
 
 -- what the scanner judges a code by, once its byte is noted
-pub code_judgement-next : {s : Progress} {r : List ℕ} (x place kind : ℕ) → HasRead s r → length r < 2 ^ 42 → code_judgement (scan_with_byte s x).latest s.tally place kind ≡ fault_at (note_latest (codes_of r) x) place kind
+pub code_judgement-next : {s : Progress} {r : List ℕ} (x place kind : ℕ) → HasRead s r → length r < 2 ^ 42
+    → code_judgement (scan_with_byte s x).latest s.tally place kind ≡ fault_at (note_latest (codes_of r) x) place kind
 code_judgement-next {s} {r} x place kind kept short =
     let past = note_latest (codes_of r) x in
-    ap (λ (l : Option Code). code_judgement l s.tally place kind) (ap (option_map (λ c. note c x)) kept.latest ∙ sym (latest-note (codes_of r) x))
-    ∙ ap (λ (t : Tally). code_judgement (latest_of past) t place kind) (kept.tally ∙ ap tally_of (sym (older-note (codes_of r) x)))
+    ap (λ (l : Option Code). code_judgement l s.tally place kind)
+    (ap (option_map (λ c. note c x)) kept.latest ∙ sym (latest-note (codes_of r) x))
+    ∙ ap (λ (t : Tally). code_judgement (latest_of past) t place kind)
+    (kept.tally ∙ ap tally_of (sym (older-note (codes_of r) x)))
     ∙ code_judgement-is past place kind (note-accepted r x kept.accepted) (note-short r x short)
 
-pub tally-noted : (s : Progress) (r : List ℕ) (x : ℕ) → HasRead s r → length r < 2 ^ 42 → tally_with (scan_with_byte s x).latest s.tally ≡ tally_of (note_latest (codes_of r) x)
+pub tally-noted : (s : Progress) (r : List ℕ) (x : ℕ) → HasRead s r → length r < 2 ^ 42
+    → tally_with (scan_with_byte s x).latest s.tally ≡ tally_of (note_latest (codes_of r) x)
 tally-noted s r x kept short =
     let past = note_latest (codes_of r) x in
-    ap (λ (l : Option Code). tally_with l s.tally) (ap (option_map (λ c. note c x)) kept.latest ∙ sym (latest-note (codes_of r) x))
+    ap (λ (l : Option Code). tally_with l s.tally)
+    (ap (option_map (λ c. note c x)) kept.latest ∙ sym (latest-note (codes_of r) x))
     ∙ ap (λ (t : Tally). tally_with (latest_of past) t) (kept.tally ∙ ap tally_of (sym (older-note (codes_of r) x)))
     ∙ tally_now-is past (note-accepted r x kept.accepted) (note-short r x short)
 
-first_fault-code : (past : List Code) (place kind : ℕ) → first_fault past ≡ None → first_fault (record { place = place; kind = kind; text = [] } ∷ past) ≡ fault_at past place kind
+first_fault-code : (past : List Code) (place kind : ℕ) → first_fault past ≡ None
+    → first_fault (record { place = place; kind = kind; text = [] } ∷ past) ≡ fault_at past place kind
 unfolding first_fault
 first_fault-code past place kind accepted = ap (λ (f : Option FilmFault). first_refusal f (fault_at past place kind)) accepted
 
 -- the refusal at a code, and that there is none
-pub first_fault-at : (s : Progress) (r : List ℕ) (x : ℕ) → HasRead s r → length r < 2 ^ 42 → is_whole (latest_prefix r) ≡ true → first_fault (codes_of (x ∷ r)) ≡ code_judgement (scan_with_byte s x).latest s.tally (s.fed - 3) x
+pub first_fault-at : (s : Progress) (r : List ℕ) (x : ℕ) → HasRead s r → length r < 2 ^ 42
+    → is_whole (latest_prefix r) ≡ true
+    → first_fault (codes_of (x ∷ r)) ≡ code_judgement (scan_with_byte s x).latest s.tally (s.fed - 3) x
 first_fault-at s r x kept short whole =
     let past = note_latest (codes_of r) x in
     ap first_fault (codes-code x r whole) ∙ first_fault-code past (length r - 3) x (note-accepted r x kept.accepted)
     ∙ ap (λ n. fault_at past (n - 3) x) (sym kept.fed) ∙ sym (code_judgement-next x (s.fed - 3) x kept short)
 
-pub fed-code : {s : Progress} {r : List ℕ} {x : ℕ} → HasRead s r → length r < 2 ^ 42 → is_whole (latest_prefix r) ≡ true → code_judgement (scan_with_byte s x).latest s.tally (s.fed - 3) x ≡ None → HasRead (scan_with_code (scan_with_byte s x) (s.fed - 3) x) (x ∷ r)
+pub fed-code : {s : Progress} {r : List ℕ} {x : ℕ} → HasRead s r → length r < 2 ^ 42
+    → is_whole (latest_prefix r) ≡ true
+    → code_judgement (scan_with_byte s x).latest s.tally (s.fed - 3) x ≡ None
+    → HasRead (scan_with_code (scan_with_byte s x) (s.fed - 3) x) (x ∷ r)
 fed-code {s} {r} {x} kept short whole none =
     let codes = codes-code x r whole in
     let past = note_latest (codes_of r) x in record {
@@ -210,7 +239,10 @@ told-code c past = refl
 pub told-plain : (x : ℕ) (r : List ℕ) → is_whole (latest_prefix r) ≡ false → calls_of (codes_of (x ∷ r)) ≡ calls_of (codes_of r)
 told-plain x r plain = ap calls_of (codes-plain x r plain) ∙ told-note (codes_of r) x
 
-pub told-at : (s : Progress) (r : List ℕ) (x : ℕ) → HasRead s r → length r < 2 ^ 42 → is_whole (latest_prefix r) ≡ true → calls_of (codes_of (x ∷ r)) ≡ calls_of (codes_of r) ++ calls_at (tally_with (scan_with_byte s x).latest s.tally) (s.fed - 3) x
+pub told-at : (s : Progress) (r : List ℕ) (x : ℕ) → HasRead s r → length r < 2 ^ 42
+    → is_whole (latest_prefix r) ≡ true
+    → calls_of (codes_of (x ∷ r))
+    ≡ calls_of (codes_of r) ++ calls_at (tally_with (scan_with_byte s x).latest s.tally) (s.fed - 3) x
 told-at s r x kept short whole =
     let past = note_latest (codes_of r) x in
     ap calls_of (codes-code x r whole) ∙ told-code (record { place = length r - 3; kind = x; text = [] }) past
@@ -220,13 +252,15 @@ told-at s r x kept short whole =
 
 -- ---- as the code takes a byte
 
-whole-read : {s : Progress} {r : List ℕ} {b w : Bool} → HasRead s r → w ≡ b → w ≡ is_whole s.prefix → is_whole (latest_prefix r) ≡ b
+whole-read : {s : Progress} {r : List ℕ} {b w : Bool} → HasRead s r → w ≡ b → w ≡ is_whole s.prefix
+    → is_whole (latest_prefix r) ≡ b
 whole-read {s} {r} {w} kept test is = sym (is ∙ ap is_whole kept.prefix) ∙ test
 
 short-read : (s : Progress) (r : List ℕ) → HasRead s r → s.fed < 2 ^ 41 → length r < 2 ^ 42
 short-read s r kept short = omega (arith, kept.fed)
 
-pub taken-plain : {s n : Progress} {r : List ℕ} {x : ℕ} {w : Bool} → w ≡ false → w ≡ is_whole s.prefix → n ≡ scan_with_byte s x → HasRead s r → HasRead n (x ∷ r)
+pub taken-plain : {s n : Progress} {r : List ℕ} {x : ℕ} {w : Bool} → w ≡ false → w ≡ is_whole s.prefix
+    → n ≡ scan_with_byte s x → HasRead s r → HasRead n (x ∷ r)
 taken-plain {s} {r} {x} {w} test is noted kept =
     subst (λ (v : Progress). HasRead v (x ∷ r)) (sym noted) (fed-plain s r x kept (whole-read kept test is))
 
@@ -241,24 +275,29 @@ pub record CodeNoted (s n : Progress) (r : List ℕ) (x place : ℕ) : Type 0 wh
 whole-before : {s n : Progress} {r : List ℕ} {x place : ℕ} → CodeNoted s n r x place → is_whole (latest_prefix r) ≡ true
 whole-before code = whole-read code.kept code.whole refl
 
-pub taken-code : {s n m : Progress} {r : List ℕ} {x place : ℕ} → CodeNoted s n r x place → (code_judgement n.latest n.tally place x ≡ None) × (m ≡ scan_with_code n place x) → HasRead m (x ∷ r)
+pub taken-code : {s n m : Progress} {r : List ℕ} {x place : ℕ} → CodeNoted s n r x place
+    → (code_judgement n.latest n.tally place x ≡ None) × (m ≡ scan_with_code n place x) → HasRead m (x ∷ r)
 taken-code {s} {m} {r} {x} {place} code h =
     let none : code_judgement (scan_with_byte s x).latest s.tally (s.fed - 3) x ≡ None =
-    sym (ap (λ (v : Progress). code_judgement v.latest v.tally place x) noted ∙ ap (λ p. code_judgement (scan_with_byte s x).latest s.tally p x) place_is) ∙ h.0 in
+    sym (ap (λ (v : Progress). code_judgement v.latest v.tally place x) noted
+    ∙ ap (λ p. code_judgement (scan_with_byte s x).latest s.tally p x) place_is) ∙ h.0 in
     let became : m ≡ scan_with_code (scan_with_byte s x) (s.fed - 3) x =
     h.1 ∙ ap (λ (v : Progress). scan_with_code v place x) noted ∙ ap (λ p. scan_with_code (scan_with_byte s x) p x) place_is in
     subst (λ (v : Progress). HasRead v (x ∷ r)) (sym became) (fed-code kept (short-read s r kept short) (whole-before code) none)
   where
     open code use {short, noted, place_is, kept}
 
-pub taken-fault : {s n : Progress} {r : List ℕ} {x place : ℕ} {f : FilmFault} → CodeNoted s n r x place → code_judgement n.latest n.tally place x ≡ Some f → first_fault (codes_of (x ∷ r)) ≡ Some f
+pub taken-fault : {s n : Progress} {r : List ℕ} {x place : ℕ} {f : FilmFault} → CodeNoted s n r x place
+    → code_judgement n.latest n.tally place x ≡ Some f → first_fault (codes_of (x ∷ r)) ≡ Some f
 taken-fault {s} {r} {x} {place} code h =
     first_fault-at s r x kept (short-read s r kept short) (whole-before code)
-    ∙ sym (ap (λ (v : Progress). code_judgement v.latest v.tally place x) noted ∙ ap (λ p. code_judgement (scan_with_byte s x).latest s.tally p x) place_is) ∙ h
+    ∙ sym (ap (λ (v : Progress). code_judgement v.latest v.tally place x) noted
+    ∙ ap (λ p. code_judgement (scan_with_byte s x).latest s.tally p x) place_is) ∙ h
   where
     open code use {short, noted, place_is, kept}
 
-pub taken-calls : {s n : Progress} {r : List ℕ} {x place : ℕ} → CodeNoted s n r x place → (calls : List Call) → (calls ++ calls_of (codes_of r)) ++ calls_at (tally_with n.latest n.tally) place x ≡ calls ++ calls_of (codes_of (x ∷ r))
+pub taken-calls : {s n : Progress} {r : List ℕ} {x place : ℕ} → CodeNoted s n r x place → (calls : List Call)
+    → (calls ++ calls_of (codes_of r)) ++ calls_at (tally_with n.latest n.tally) place x ≡ calls ++ calls_of (codes_of (x ∷ r))
 taken-calls {s} {n} {r} {x} {place} code calls =
     append_assoc calls (calls_of (codes_of r)) (calls_at (tally_with n.latest n.tally) place x)
     ∙ ap (λ (v : Progress). calls ++ (calls_of (codes_of r) ++ calls_at (tally_with v.latest v.tally) place x)) noted
@@ -267,48 +306,65 @@ taken-calls {s} {n} {r} {x} {place} code calls =
   where
     open code use {short, noted, place_is, kept}
 
-pub taken-none : {s : Progress} {r : List ℕ} {w : Bool} (x : ℕ) → w ≡ false → w ≡ is_whole s.prefix → HasRead s r → (calls : List Call) → calls ++ calls_of (codes_of r) ≡ calls ++ calls_of (codes_of (x ∷ r))
+pub taken-none : {s : Progress} {r : List ℕ} {w : Bool} (x : ℕ) → w ≡ false → w ≡ is_whole s.prefix
+    → HasRead s r → (calls : List Call) → calls ++ calls_of (codes_of r) ≡ calls ++ calls_of (codes_of (x ∷ r))
 taken-none {s} {r} {w} x test is kept calls =
     ap (λ (l : List Call). calls ++ l) (sym (told-plain x r (whole-read kept test is)))
 
 -- ---- the film's end
 
-end_fault-is : (past : List Code) (end : ℕ) → first_fault past ≡ None → length past < 2 ^ 63 → end_judgement (latest_of past) (tally_of (older_of past)) end ≡ end_fault past end
+end_fault-is : (past : List Code) (end : ℕ) → first_fault past ≡ None → length past < 2 ^ 63
+    → end_judgement (latest_of past) (tally_of (older_of past)) end ≡ end_fault past end
 unfolding end_judgement end_fault
 end_fault-is [] end accepted short = refl
 end_fault-is (c ∷ past) end accepted short =
-    ap (λ (t : Tally). first_refusal (latest_fault (c ∷ past) end) (last_fault t)) (next-tally past c (accepted-older c past accepted) (omega arith))
+    ap (λ (t : Tally). first_refusal (latest_fault (c ∷ past) end) (last_fault t))
+    (next-tally past c (accepted-older c past accepted) (omega arith))
 
 codes-short : (s : Progress) (r : List ℕ) → HasRead s r → s.fed ≤ 2 ^ 40 → length (codes_of r) < 2 ^ 63
 codes-short s r kept short = omega (arith, kept.fed, length-codes r)
 
-end_judgement-is : (s : Progress) (r : List ℕ) → HasRead s r → s.fed ≤ 2 ^ 40 → end_judgement s.latest s.tally s.fed ≡ end_fault (codes_of r) (length r)
+end_judgement-is : (s : Progress) (r : List ℕ) → HasRead s r → s.fed ≤ 2 ^ 40
+    → end_judgement s.latest s.tally s.fed ≡ end_fault (codes_of r) (length r)
 end_judgement-is s r kept short =
     ap (λ (l : Option Code). end_judgement l s.tally s.fed) kept.latest
     ∙ ap (λ (t : Tally). end_judgement (latest_of (codes_of r)) t s.fed) kept.tally
     ∙ ap (end_judgement (latest_of (codes_of r)) (tally_of (older_of (codes_of r)))) kept.fed
     ∙ end_fault-is (codes_of r) (length r) kept.accepted (codes-short s r kept short)
 
-refusal-by : (r : List ℕ) → 0 < length r → length r ≤ 2 ^ 40 → first_fault (codes_of r) ≡ None → refusal_of r ≡ end_fault (codes_of r) (length r)
+refusal-by : (r : List ℕ) → 0 < length r → length r ≤ 2 ^ 40 → first_fault (codes_of r) ≡ None
+    → refusal_of r ≡ end_fault (codes_of r) (length r)
 unfolding refusal_of
 refusal-by r some short accepted =
-    ap (λ b. cond b (Some Empty) (cond (ltb (2 ^ 40) (length r)) (Some TooLong) (first_refusal (first_fault (codes_of r)) (end_fault (codes_of r) (length r))))) (ne_eqb (length r) 0 (λ none. absurd (omega arith)))
-    ∙ ap (λ b. cond b (Some TooLong) (first_refusal (first_fault (codes_of r)) (end_fault (codes_of r) (length r)))) (le-ltb (2 ^ 40) (length r) short)
+    ap (λ b. cond b (Some Empty)
+    (cond (ltb (2 ^ 40) (length r)) (Some TooLong)
+    (first_refusal (first_fault (codes_of r)) (end_fault (codes_of r) (length r)))))
+    (ne_eqb (length r) 0 (λ none. absurd (omega arith)))
+    ∙ ap (λ b. cond b (Some TooLong)
+    (first_refusal (first_fault (codes_of r)) (end_fault (codes_of r) (length r)))) (le-ltb (2 ^ 40) (length r) short)
     ∙ ap (λ (f : Option FilmFault). first_refusal f (end_fault (codes_of r) (length r))) accepted
 
 pub refusal-empty : (s : Progress) (r : List ℕ) → s.fed ≡ 0 → HasRead s r → refusal_of r ≡ Some Empty
 unfolding refusal_of
 refusal-empty s r none kept =
-    ap (λ b. cond b (Some Empty) (cond (ltb (2 ^ 40) (length r)) (Some TooLong) (first_refusal (first_fault (codes_of r)) (end_fault (codes_of r) (length r))))) (eq-eqb (length r) 0 (sym kept.fed ∙ none))
+    ap (λ b. cond b (Some Empty)
+    (cond (ltb (2 ^ 40) (length r)) (Some TooLong)
+    (first_refusal (first_fault (codes_of r)) (end_fault (codes_of r) (length r)))))
+    (eq-eqb (length r) 0 (sym kept.fed ∙ none))
 
 pub refusal-long : (s : Progress) (r : List ℕ) → 2 ^ 40 < s.fed → HasRead s r → refusal_of r ≡ Some TooLong
 unfolding refusal_of
 refusal-long s r long kept =
     let far : 2 ^ 40 < length r = omega (arith, kept.fed) in
-    ap (λ b. cond b (Some Empty) (cond (ltb (2 ^ 40) (length r)) (Some TooLong) (first_refusal (first_fault (codes_of r)) (end_fault (codes_of r) (length r))))) (ne_eqb (length r) 0 (λ none. absurd (omega arith)))
-    ∙ ap (λ b. cond b (Some TooLong) (first_refusal (first_fault (codes_of r)) (end_fault (codes_of r) (length r)))) (lt-ltb (2 ^ 40) (length r) far)
+    ap (λ b. cond b (Some Empty)
+    (cond (ltb (2 ^ 40) (length r)) (Some TooLong)
+    (first_refusal (first_fault (codes_of r)) (end_fault (codes_of r) (length r)))))
+    (ne_eqb (length r) 0 (λ none. absurd (omega arith)))
+    ∙ ap (λ b. cond b (Some TooLong)
+    (first_refusal (first_fault (codes_of r)) (end_fault (codes_of r) (length r)))) (lt-ltb (2 ^ 40) (length r) far)
 
-pub refusal-is : (s : Progress) (r : List ℕ) → 0 < s.fed → s.fed ≤ 2 ^ 40 → HasRead s r → refusal_of r ≡ end_judgement s.latest s.tally s.fed
+pub refusal-is : (s : Progress) (r : List ℕ) → 0 < s.fed → s.fed ≤ 2 ^ 40 → HasRead s r
+    → refusal_of r ≡ end_judgement s.latest s.tally s.fed
 refusal-is s r some short kept =
     refusal-by r (omega (arith, kept.fed)) (omega (arith, kept.fed)) kept.accepted ∙ sym (end_judgement-is s r kept short)
 

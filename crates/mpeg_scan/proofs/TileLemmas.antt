@@ -35,7 +35,8 @@ three true = omega arith
 three false = omega arith
 
 -- their places rise
-pub all-below : {at : ℕ} (past : List Code) → Spaced past → After at past → (place kind : ℕ) → HasCode place kind past → place < at
+pub all-below : {at : ℕ} (past : List Code) → Spaced past → After at past → (place kind : ℕ)
+    → HasCode place kind past → place < at
 all-below {at} [] spaced after place kind has = absurd has
 all-below {at} (d ∷ past) spaced after place kind (inl new) = omega (arith, three (eqb d.kind 0), after, new.0)
 all-below {at} (d ∷ past) spaced after place kind (inr old) =
@@ -56,7 +57,8 @@ span-slice d slice =
     let low : 1 ≤ d.kind = leb-true 1 d.kind (and_parts (leb 1 d.kind) (leb d.kind 0xaf) slice).0 in
     ap (λ b. cond b 3 4) (ne_eqb d.kind 0 (λ none. absurd (omega arith)))
 
-slice-case : {s : Bool} {n at : ℕ} (h : Bool) (p q : ℕ) → (s ≡ true → p + 4 ≤ at) → (0 < n → q + 4 ≤ at) → 0 < cond h 0 (cond s (n + 1) n) → cond s p q + 4 ≤ at
+slice-case : {s : Bool} {n at : ℕ} (h : Bool) (p q : ℕ) → (s ≡ true → p + 4 ≤ at) → (0 < n → q + 4 ≤ at)
+    → 0 < cond h 0 (cond s (n + 1) n) → cond s p q + 4 ≤ at
 slice-case {s} true p q here before some = absurd (omega arith)
 slice-case {s = true} false p q here before some = here refl
 slice-case {s = false} false p q here before some = before some
@@ -64,7 +66,8 @@ slice-case {s = false} false p q here before some = before some
 pub slice-before : (past : List Code) (at : ℕ) → Spaced past → After at past → 0 < slices_of past → slice_of past + 4 ≤ at
 slice-before [] at spaced after some = absurd (omega arith)
 slice-before (d ∷ past) at spaced after some =
-    slice-case {s = is_slice d.kind} {n = slices_of past} {at = at} (is_head d.kind) d.place (slice_of past) (λ slice. omega (arith, span-slice d slice, after))
+    slice-case {s = is_slice d.kind} {n = slices_of past} {at = at} (is_head d.kind) d.place (slice_of past)
+    (λ slice. omega (arith, span-slice d slice, after))
     (λ more. omega (arith, three (eqb d.kind 0), after, slice-before past d.place spaced.1 spaced.0 more)) some
 
 -- ---- one code
@@ -84,13 +87,19 @@ part_by-some n m unit head_end slice some =
     ap (λ b. cond b (between unit) (within unit head_end slice (n - 1))) (ne_eqb n 0 (λ none. absurd (omega arith)))
     ∙ ap (within unit head_end slice) (omega arith)
 
-takes-head : (unit place : ℕ) → unit < place → place - unit ≤ 1380 → parts_after (Some (between unit)) (head_call unit place ∷ []) ≡ Some (within unit place place 0)
+takes-head : (unit place : ℕ) → unit < place → place - unit ≤ 1380
+    → parts_after (Some (between unit)) (head_call unit place ∷ []) ≡ Some (within unit place place 0)
 takes-head unit place below short =
-    ap (λ b. parts_after (cond b (Some (within unit place place 0)) None) []) (and_from (eqb unit unit) (ltb unit place && leb (place - unit) 1380) (eq-eqb unit unit refl) (and_from (ltb unit place) (leb (place - unit) 1380) (lt-ltb unit place below) (le-leb (place - unit) 1380 short)))
+    ap (λ b. parts_after (cond b (Some (within unit place place 0)) None) [])
+    (and_from (eqb unit unit) (ltb unit place && leb (place - unit) 1380) (eq-eqb unit unit refl)
+    (and_from (ltb unit place) (leb (place - unit) 1380) (lt-ltb unit place below) (le-leb (place - unit) 1380 short)))
 
-takes-slice : {place : ℕ} (unit head_end slice m : ℕ) (calls : List Call) → slice + 4 ≤ place → parts_after (Some (within unit head_end slice m)) (slice_call slice place ∷ calls) ≡ parts_after (Some (within unit head_end place (m + 1))) calls
+takes-slice : {place : ℕ} (unit head_end slice m : ℕ) (calls : List Call) → slice + 4 ≤ place
+    → parts_after (Some (within unit head_end slice m)) (slice_call slice place ∷ calls)
+    ≡ parts_after (Some (within unit head_end place (m + 1))) calls
 takes-slice {place} unit head_end slice m calls apart =
-    ap (λ b. parts_after (cond b (Some (within unit head_end place (m + 1))) None) calls) (and_from (eqb slice slice) (leb (slice + 4) place) (eq-eqb slice slice refl) (le-leb (slice + 4) place apart))
+    ap (λ b. parts_after (cond b (Some (within unit head_end place (m + 1))) None) calls)
+    (and_from (eqb slice slice) (leb (slice + 4) place) (eq-eqb slice slice refl) (le-leb (slice + 4) place apart))
 
 -- a unit of these places, with so many slices
 record EndsAs (u : PictureUnit) (unit head_end place n : ℕ) : Type 0 where
@@ -99,10 +108,13 @@ record EndsAs (u : PictureUnit) (unit head_end place n : ℕ) : Type 0 where
   to : u.to ≡ place
   slices : u.slices ≡ n
 
-takes-unit : {u : PictureUnit} {unit head_end place n : ℕ} (m : ℕ) → EndsAs u unit head_end place n → n ≡ m + 1 → parts_after (Some (within unit head_end place (m + 1))) (unit_call u ∷ []) ≡ Some (between place)
+takes-unit : {u : PictureUnit} {unit head_end place n : ℕ} (m : ℕ) → EndsAs u unit head_end place n → n ≡ m + 1
+    → parts_after (Some (within unit head_end place (m + 1))) (unit_call u ∷ []) ≡ Some (between place)
 takes-unit {u} {unit} {head_end} {place} m ends some =
-    ap (λ b. parts_after (cond b (Some (between place)) None) []) (and_from ((eqb u.from unit && (eqb u.head_end head_end && eqb u.to place))) (eqb u.slices (m + 1) && ltb 0 (m + 1))
-    (and_from (eqb u.from unit) (eqb u.head_end head_end && eqb u.to place) (eq-eqb u.from unit from) (and_from (eqb u.head_end head_end) (eqb u.to place) (eq-eqb u.head_end head_end head) (eq-eqb u.to place to)))
+    ap (λ b. parts_after (cond b (Some (between place)) None) [])
+    (and_from ((eqb u.from unit && (eqb u.head_end head_end && eqb u.to place))) (eqb u.slices (m + 1) && ltb 0 (m + 1))
+    (and_from (eqb u.from unit) (eqb u.head_end head_end && eqb u.to place) (eq-eqb u.from unit from)
+    (and_from (eqb u.head_end head_end) (eqb u.to place) (eq-eqb u.head_end head_end head) (eq-eqb u.to place to)))
     (and_from (eqb u.slices (m + 1)) (ltb 0 (m + 1)) (eq-eqb u.slices (m + 1) (slices ∙ some)) (lt-ltb 0 (m + 1) (omega arith))))
   where
     open ends use {from, head, to, slices}
@@ -134,34 +146,49 @@ record MayStand (s h : Bool) (n head_end : ℕ) (told : Told) : Type 0 where
 -- the part after those calls
 raw-step : {s h : Bool} {n head_end : ℕ} {told : Told} → MayStand s h n head_end told → (n ≡ 0) ⊎ ((m : ℕ) × (n ≡ m + 1))
     → parts_after (Some (part_by n told.unit head_end told.slice)) (raw_calls s h (ltb 0 n) (eqb n 0) told)
-    ≡ Some (part_by (cond h 0 (cond s (n + 1) n)) (cond (h && ltb 0 n) told.place told.unit) (cond (s && eqb n 0) told.place head_end) (cond s told.place told.slice))
+    ≡ Some (part_by (cond h 0 (cond s (n + 1) n)) (cond (h && ltb 0 n) told.place told.unit)
+    (cond (s && eqb n 0) told.place head_end) (cond s told.place told.slice))
 raw-step {s = true} {h = true} may count = absurd (true≢false (may.apart refl))
 raw-step {s = true} {h = false} {n} {head_end} {told} may (inl none) =
-    ap (λ (p : Part). parts_after (Some p) (cond (eqb n 0) (head_call unit place ∷ []) (slice_call slice place ∷ []))) (part_by-none n unit head_end slice none)
-    ∙ ap (λ b. parts_after (Some (between unit)) (cond b (head_call unit place ∷ []) (slice_call slice place ∷ []))) (eq-eqb n 0 none)
+    ap (λ (p : Part). parts_after (Some p)
+    (cond (eqb n 0) (head_call unit place ∷ []) (slice_call slice place ∷ []))) (part_by-none n unit head_end slice none)
+    ∙ ap (λ b. parts_after (Some (between unit))
+    (cond b (head_call unit place ∷ []) (slice_call slice place ∷ []))) (eq-eqb n 0 none)
     ∙ takes-head unit place (may.head refl none).0 (may.head refl none).1
-    ∙ sym (ap (λ b. Some (part_by (n + 1) unit (cond b place head_end) place)) (eq-eqb n 0 none) ∙ ap (λ (p : Part). Some p) (part_by-some (n + 1) 0 unit place place (omega arith)))
+    ∙ sym (ap (λ b. Some (part_by (n + 1) unit (cond b place head_end) place)) (eq-eqb n 0 none)
+    ∙ ap (λ (p : Part). Some p) (part_by-some (n + 1) 0 unit place place (omega arith)))
   where
     open told use {unit, slice, place}
 raw-step {s = true} {h = false} {n} {head_end} {told} may (inr some) =
-    ap (λ (p : Part). parts_after (Some p) (cond (eqb n 0) (head_call unit place ∷ []) (slice_call slice place ∷ []))) (part_by-some n some.0 unit head_end slice some.1)
-    ∙ ap (λ b. parts_after (Some (within unit head_end slice some.0)) (cond b (head_call unit place ∷ []) (slice_call slice place ∷ []))) (ne_eqb n 0 (λ none. absurd (omega (arith, some.1))))
+    ap (λ (p : Part). parts_after (Some p)
+    (cond (eqb n 0) (head_call unit place ∷ []) (slice_call slice place ∷ [])))
+    (part_by-some n some.0 unit head_end slice some.1)
+    ∙ ap (λ b. parts_after (Some (within unit head_end slice some.0))
+    (cond b (head_call unit place ∷ []) (slice_call slice place ∷ []))) (ne_eqb n 0 (λ none. absurd (omega (arith, some.1))))
     ∙ takes-slice unit head_end slice some.0 [] (may.spaced (omega (arith, some.1)))
-    ∙ sym (ap (λ b. Some (part_by (n + 1) unit (cond b place head_end) place)) (ne_eqb n 0 (λ none. absurd (omega (arith, some.1)))) ∙ ap (λ (p : Part). Some p) (part_by-some (n + 1) (some.0 + 1) unit head_end place (omega (arith, some.1))))
+    ∙ sym (ap (λ b. Some (part_by (n + 1) unit (cond b place head_end) place))
+    (ne_eqb n 0 (λ none. absurd (omega (arith, some.1))))
+    ∙ ap (λ (p : Part). Some p) (part_by-some (n + 1) (some.0 + 1) unit head_end place (omega (arith, some.1))))
   where
     open told use {unit, slice, place}
 raw-step {s = false} {h = true} {n} {head_end} {told} may (inl none) =
-    ap (λ (p : Part). parts_after (Some p) (cond (ltb 0 n) (slice_call slice place ∷ unit_call u ∷ []) [])) (part_by-none n unit head_end slice none)
-    ∙ ap (λ b. parts_after (Some (between unit)) (cond b (slice_call slice place ∷ unit_call u ∷ []) [])) (le-ltb 0 n (omega arith))
-    ∙ sym (ap (λ b. Some (part_by 0 (cond b place unit) head_end slice)) (le-ltb 0 n (omega arith)) ∙ ap (λ (p : Part). Some p) (part_by-none 0 unit head_end slice refl))
+    ap (λ (p : Part). parts_after (Some p) (cond (ltb 0 n) (slice_call slice place ∷ unit_call u ∷ []) []))
+    (part_by-none n unit head_end slice none)
+    ∙ ap (λ b. parts_after (Some (between unit)) (cond b (slice_call slice place ∷ unit_call u ∷ []) []))
+    (le-ltb 0 n (omega arith))
+    ∙ sym (ap (λ b. Some (part_by 0 (cond b place unit) head_end slice)) (le-ltb 0 n (omega arith))
+    ∙ ap (λ (p : Part). Some p) (part_by-none 0 unit head_end slice refl))
   where
     open told use {unit, slice, place, ended as u}
 raw-step {s = false} {h = true} {n} {head_end} {told} may (inr some) =
-    ap (λ (p : Part). parts_after (Some p) (cond (ltb 0 n) (slice_call slice place ∷ unit_call u ∷ []) [])) (part_by-some n some.0 unit head_end slice some.1)
-    ∙ ap (λ b. parts_after (Some (within unit head_end slice some.0)) (cond b (slice_call slice place ∷ unit_call u ∷ []) [])) (lt-ltb 0 n (omega (arith, some.1)))
+    ap (λ (p : Part). parts_after (Some p) (cond (ltb 0 n) (slice_call slice place ∷ unit_call u ∷ []) []))
+    (part_by-some n some.0 unit head_end slice some.1)
+    ∙ ap (λ b. parts_after (Some (within unit head_end slice some.0))
+    (cond b (slice_call slice place ∷ unit_call u ∷ []) [])) (lt-ltb 0 n (omega (arith, some.1)))
     ∙ takes-slice unit head_end slice some.0 (unit_call u ∷ []) (may.spaced (omega (arith, some.1)))
     ∙ takes-unit some.0 may.ends some.1
-    ∙ sym (ap (λ b. Some (part_by 0 (cond b place unit) head_end slice)) (lt-ltb 0 n (omega (arith, some.1))) ∙ ap (λ (p : Part). Some p) (part_by-none 0 place head_end slice refl))
+    ∙ sym (ap (λ b. Some (part_by 0 (cond b place unit) head_end slice)) (lt-ltb 0 n (omega (arith, some.1)))
+    ∙ ap (λ (p : Part). Some p) (part_by-none 0 place head_end slice refl))
   where
     open told use {unit, slice, place, ended as u}
 raw-step {s = false} {h = false} may count = refl
@@ -196,43 +223,61 @@ count-cases (suc m) = inr (m, omega arith)
 head-short : (t : Tally) (place : ℕ) (o : Option Header) → head_fault t place o ≡ None → place - t.unit ≤ 1380
 head-short t place None e = absurd (cc)
 head-short t place (Some p) e = elim (cases_Bool (ltb 1380 (place - t.unit))) [
-  | inl far ↦ (let left : Some (HeadTooLong t.unit) ≡ None = sym (ap (λ b. cond b (Some (HeadTooLong t.unit)) None) far) ∙ e in absurd (cc))
+  | inl far ↦ (let left : Some (HeadTooLong t.unit) ≡ None =
+      sym (ap (λ b. cond b (Some (HeadTooLong t.unit)) None) far) ∙ e in absurd (cc))
   | inr near ↦ ltb-false 1380 (place - t.unit) near
 ]
 
-pub first_slice-head : (t : Tally) (place kind : ℕ) → first_slice_fault t place kind ≡ None → is_slice kind ≡ true → t.slices ≡ 0 → place - t.unit ≤ 1380
+pub first_slice-head : (t : Tally) (place kind : ℕ) → first_slice_fault t place kind ≡ None
+    → is_slice kind ≡ true → t.slices ≡ 0 → place - t.unit ≤ 1380
 first_slice-head t place kind e slice none =
-    head-short t place t.picture (sym (ap (λ b. cond b (head_fault t place t.picture) None) (and_from (is_slice kind) (eqb t.slices 0) slice (eq-eqb t.slices 0 none))) ∙ e)
+    head-short t place t.picture
+    (sym (ap (λ b. cond b (head_fault t place t.picture) None)
+    (and_from (is_slice kind) (eqb t.slices 0) slice (eq-eqb t.slices 0 none))) ∙ e)
 
 -- what a code that isn't refused tells
 pub first_slice-accepted : (t : Tally) (place kind : ℕ) → code_fault t place kind ≡ None → first_slice_fault t place kind ≡ None
 first_slice-accepted t place kind e =
-    let rest = otherwise-second (kind_fault t place kind) (first_refusal (second_fault t kind) (first_refusal (first_slice_fault t place kind) (count_fault t place kind))) e in
-    let last = otherwise-second (second_fault t kind) (first_refusal (first_slice_fault t place kind) (count_fault t place kind)) rest in
+    let rest = otherwise-second (kind_fault t place kind)
+    (first_refusal (second_fault t kind) (first_refusal (first_slice_fault t place kind) (count_fault t place kind))) e in
+    let last = otherwise-second (second_fault t kind)
+    (first_refusal (first_slice_fault t place kind) (count_fault t place kind)) rest in
     otherwise-first (first_slice_fault t place kind) (count_fault t place kind) last
 
-code-step : (c d : Code) (past : List Code) → code_fault (tally_of (d ∷ past)) c.place c.kind ≡ None → Spaced (c ∷ (d ∷ past)) → parts_after (Some (part_of (d ∷ past))) (calls_at (tally_of (d ∷ past)) c.place c.kind) ≡ Some (part_of (c ∷ (d ∷ past)))
+code-step : (c d : Code) (past : List Code) → code_fault (tally_of (d ∷ past)) c.place c.kind ≡ None
+    → Spaced (c ∷ (d ∷ past))
+    → parts_after (Some (part_of (d ∷ past))) (calls_at (tally_of (d ∷ past)) c.place c.kind) ≡ Some (part_of (c ∷ (d ∷ past)))
 unfolding calls_at
 code-step c d past e spaced =
     let older : List Code = d ∷ past in
-    let may : MayStand (is_slice c.kind) (is_head c.kind) (slices_of older) (head_end_of older) (told_at (tally_of older) c.place) = record {
+    let may : MayStand (is_slice c.kind) (is_head c.kind) (slices_of older) (head_end_of older)
+    (told_at (tally_of older) c.place) = record {
       apart = slice-apart c.kind;
-      head = λ slice none. (omega (arith, unit-before d past c.place spaced.1 spaced.0), first_slice-head (tally_of older) c.place c.kind (first_slice-accepted (tally_of older) c.place c.kind e) slice none);
+      head = λ slice none. (
+        omega (arith, unit-before d past c.place spaced.1 spaced.0),
+        first_slice-head (tally_of older) c.place c.kind (first_slice-accepted (tally_of older) c.place c.kind e) slice none,
+      );
       spaced = slice-before older c.place spaced.1 spaced.0;
       ends = record { from = refl; head = refl; to = refl; slices = refl };
     } in
     raw-step may (count-cases (slices_of older))
 
-first-kind : (a b q : Bool) (place : ℕ) → cond a (Some (SystemCode place)) (cond b (Some (Mpeg2 place)) (cond (not q) (Some NoSequence) None)) ≡ None → q ≡ true
+first-kind : (a b q : Bool) (place : ℕ)
+    → cond a (Some (SystemCode place)) (cond b (Some (Mpeg2 place)) (cond (not q) (Some NoSequence) None)) ≡ None → q ≡ true
 first-kind true b q place e = absurd (cc)
 first-kind false true q place e = absurd (cc)
 first-kind false false true place e = refl
 first-kind false false false place e = absurd (cc)
 
-first-step : (place kind : ℕ) → kind ≡ 0xb3 → parts_after (Some (between place)) (calls_at (tally_of []) place kind) ≡ Some (part_by (cond (is_head kind) 0 (cond (is_slice kind) (0 + 1) 0)) place (cond (is_slice kind && eqb 0 0) place 0) (cond (is_slice kind) place 0))
+first-step : (place kind : ℕ) → kind ≡ 0xb3
+    → parts_after (Some (between place)) (calls_at (tally_of []) place kind)
+    ≡ Some (part_by (cond (is_head kind) 0 (cond (is_slice kind) (0 + 1) 0)) place
+    (cond (is_slice kind && eqb 0 0) place 0) (cond (is_slice kind) place 0))
 unfolding calls_at part_by
 first-step place kind is =
-    subst (λ k. parts_after (Some (between place)) (calls_at (tally_of []) place k) ≡ Some (part_by (cond (is_head k) 0 (cond (is_slice k) (0 + 1) 0)) place (cond (is_slice k && eqb 0 0) place 0) (cond (is_slice k) place 0))) (sym is) refl
+    subst (λ k. parts_after (Some (between place)) (calls_at (tally_of []) place k)
+    ≡ Some (part_by (cond (is_head k) 0 (cond (is_slice k) (0 + 1) 0)) place
+    (cond (is_slice k && eqb 0 0) place 0) (cond (is_slice k) place 0))) (sym is) refl
 
 pub told-cons : (c : Code) (past : List Code) → calls_of (c ∷ past) ≡ calls_of past ++ calls_at (tally_of past) c.place c.kind
 unfolding calls_of
@@ -245,18 +290,25 @@ told-nil = refl
 -- the first code is a sequence header's
 pub first-is : (c : Code) → first_fault (c ∷ []) ≡ None → c.kind ≡ 0xb3
 first-is c accepted =
-    let kind = first-kind (leb 0xb9 c.kind) (eqb c.kind 0xb5) (eqb c.kind 0xb3) c.place (otherwise-first (kind_fault (tally_of []) c.place c.kind) (first_refusal (second_fault (tally_of []) c.kind) (first_refusal (first_slice_fault (tally_of []) c.place c.kind) (count_fault (tally_of []) c.place c.kind))) (code-accepted c [] accepted)) in
+    let kind = first-kind (leb 0xb9 c.kind) (eqb c.kind 0xb5) (eqb c.kind 0xb3) c.place
+    (otherwise-first (kind_fault (tally_of []) c.place c.kind)
+    (first_refusal (second_fault (tally_of []) c.kind)
+    (first_refusal (first_slice_fault (tally_of []) c.place c.kind)
+    (count_fault (tally_of []) c.place c.kind))) (code-accepted c [] accepted)) in
     eqb-true c.kind 0xb3 kind
 
-pub told-parts : (c : Code) (past : List Code) → first_fault (c ∷ past) ≡ None → Spaced (c ∷ past) → parts_after (Some (between (first_of (c ∷ past)))) (calls_of (c ∷ past)) ≡ Some (part_of (c ∷ past))
+pub told-parts : (c : Code) (past : List Code) → first_fault (c ∷ past) ≡ None → Spaced (c ∷ past)
+    → parts_after (Some (between (first_of (c ∷ past)))) (calls_of (c ∷ past)) ≡ Some (part_of (c ∷ past))
 told-parts c [] accepted spaced =
-    ap (parts_after (Some (between c.place))) (told-cons c [] ∙ ap (λ (l : List Call). l ++ calls_at (tally_of []) c.place c.kind) told-nil)
+    ap (parts_after (Some (between c.place)))
+    (told-cons c [] ∙ ap (λ (l : List Call). l ++ calls_at (tally_of []) c.place c.kind) told-nil)
     ∙ first-step c.place c.kind (first-is c accepted)
 told-parts c (d ∷ past) accepted spaced =
     let start : Option Part = Some (between (first_of (d ∷ past))) in
     ap (parts_after start) (told-cons c (d ∷ past))
     ∙ parts-append start (calls_of (d ∷ past)) (calls_at (tally_of (d ∷ past)) c.place c.kind)
-    ∙ ap (λ (o : Option Part). parts_after o (calls_at (tally_of (d ∷ past)) c.place c.kind)) (told-parts d past (accepted-older c (d ∷ past) accepted) spaced.1)
+    ∙ ap (λ (o : Option Part). parts_after o (calls_at (tally_of (d ∷ past)) c.place c.kind))
+    (told-parts d past (accepted-older c (d ∷ past) accepted) spaced.1)
     ∙ code-step c d past (code-accepted c (d ∷ past) accepted) spaced
 
 -- ---- the codes of bytes stand apart
@@ -277,7 +329,8 @@ abbrev pub Room : List Code → Prefix → ℕ → Type 0
 Room [] p n = least p ≤ n
 Room (d ∷ past) p n = d.place + need (eqb d.kind 0) p ≤ n
 
-next-need : (b1 b0 b : Bool) (p : Prefix) → is_whole p ≡ false → need b (cond b1 (after_one p) (cond b0 (after_zero p) Nothing)) ≤ suc (need b p)
+next-need : (b1 b0 b : Bool) (p : Prefix) → is_whole p ≡ false
+    → need b (cond b1 (after_one p) (cond b0 (after_zero p) Nothing)) ≤ suc (need b p)
 next-need true b0 true Nothing w = omega arith
 next-need false true true Nothing w = omega arith
 next-need false false true Nothing w = omega arith
@@ -298,7 +351,8 @@ next-need false true false Zeros w = omega arith
 next-need false false false Zeros w = omega arith
 next-need b1 b0 b Whole w = absurd (true≢false w)
 
-next-least : (b1 b0 : Bool) (p : Prefix) (n : ℕ) → is_whole p ≡ false → least p ≤ n → least (cond b1 (after_one p) (cond b0 (after_zero p) Nothing)) ≤ suc n
+next-least : (b1 b0 : Bool) (p : Prefix) (n : ℕ) → is_whole p ≡ false → least p ≤ n
+    → least (cond b1 (after_one p) (cond b0 (after_zero p) Nothing)) ≤ suc n
 next-least true b0 Nothing n w h = omega arith
 next-least false true Nothing n w h = omega arith
 next-least false false Nothing n w h = omega arith
@@ -310,11 +364,14 @@ next-least false true Zeros n w h = omega arith
 next-least false false Zeros n w h = omega arith
 next-least b1 b0 Whole n w h = absurd (true≢false w)
 
-room-byte : (past : List Code) (p : Prefix) (n x : ℕ) → is_whole p ≡ false → Room past p n → Room (note_latest past x) (next_prefix p x) (suc n)
+room-byte : (past : List Code) (p : Prefix) (n x : ℕ) → is_whole p ≡ false → Room past p n
+    → Room (note_latest past x) (next_prefix p x) (suc n)
 room-byte [] p n x plain room = next-least (eqb x 1) (eqb x 0) p n plain room
 room-byte (d ∷ past) p n x plain room =
     let before : d.place + need (eqb d.kind 0) p ≤ n = room in
-    let after : d.place + need (eqb d.kind 0) (cond (eqb x 1) (after_one p) (cond (eqb x 0) (after_zero p) Nothing)) ≤ suc n = omega (arith, before, next-need (eqb x 1) (eqb x 0) (eqb d.kind 0) p plain) in
+    let after : d.place
+    + need (eqb d.kind 0) (cond (eqb x 1) (after_one p) (cond (eqb x 0) (after_zero p) Nothing)) ≤ suc n =
+    omega (arith, before, next-need (eqb x 1) (eqb x 0) (eqb d.kind 0) p plain) in
     after
 
 spaced-note : (past : List Code) (x : ℕ) → Spaced past → Spaced (note_latest past x)
@@ -344,11 +401,13 @@ pub record Placed (past : List Code) (p : Prefix) (n : ℕ) : Type 0 where
   pub spaced : Spaced past
   pub room : Room past p n
 
-placed-plain : (past : List Code) (p : Prefix) (n x : ℕ) → is_whole p ≡ false → Placed past p n → Placed (note_latest past x) (next_prefix p x) (suc n)
+placed-plain : (past : List Code) (p : Prefix) (n x : ℕ) → is_whole p ≡ false → Placed past p n
+    → Placed (note_latest past x) (next_prefix p x) (suc n)
 placed-plain past p n x plain placed =
     record { spaced = spaced-note past x placed.spaced; room = room-byte past p n x plain placed.room }
 
-placed-code : (past : List Code) (n x : ℕ) → Placed past Whole n → Placed (record { place = n - 3; kind = x; text = [] } ∷ note_latest past x) (next_prefix Whole x) (suc n)
+placed-code : (past : List Code) (n x : ℕ) → Placed past Whole n
+    → Placed (record { place = n - 3; kind = x; text = [] } ∷ note_latest past x) (next_prefix Whole x) (suc n)
 placed-code past n x placed =
     let after = after-code past n x placed.room in record {
       spaced = (after.0, spaced-note past x placed.spaced);
@@ -361,12 +420,22 @@ matched-none = refl
 
 pub placed-codes : (r : List ℕ) → Placed (codes_of r) (latest_prefix r) (length r)
 placed-codes [] =
-    subst (λ (past : List Code). Placed past (latest_prefix []) 0) (sym codes-none) (subst (λ (p : Prefix). Placed [] p 0) (sym matched-none) (record { spaced = tt; room = omega arith }))
+    subst (λ (past : List Code). Placed past (latest_prefix []) 0) (sym codes-none)
+    (subst (λ (p : Prefix). Placed [] p 0) (sym matched-none) (record { spaced = tt; room = omega arith }))
 placed-codes (x ∷ r) =
     let rest = placed-codes r in elim (cases_Bool (is_whole (latest_prefix r))) [
       | inl e ↦ (let at_whole = subst (λ (p : Prefix). Placed (codes_of r) p (length r)) (whole-is (latest_prefix r) e) rest in
-          subst (λ (past : List Code). Placed past (latest_prefix (x ∷ r)) (suc (length r))) (sym (codes-code x r e)) (subst (λ (p : Prefix). Placed (record { place = length r - 3; kind = x; text = [] } ∷ note_latest (codes_of r) x) p (suc (length r))) (sym (matched-more x r ∙ ap (λ (p : Prefix). next_prefix p x) (whole-is (latest_prefix r) e))) (placed-code (codes_of r) (length r) x at_whole)))
-      | inr e ↦ subst (λ (past : List Code). Placed past (latest_prefix (x ∷ r)) (suc (length r))) (sym (codes-plain x r e)) (subst (λ (p : Prefix). Placed (note_latest (codes_of r) x) p (suc (length r))) (sym (matched-more x r)) (placed-plain (codes_of r) (latest_prefix r) (length r) x e rest))
+          subst (λ (past : List Code). Placed past (latest_prefix (x ∷ r)) (suc (length r)))
+          (sym (codes-code x r e))
+          (subst (λ (p : Prefix). Placed
+          (record { place = length r - 3; kind = x; text = [] } ∷ note_latest (codes_of r) x) p
+          (suc (length r)))
+          (sym (matched-more x r ∙ ap (λ (p : Prefix). next_prefix p x) (whole-is (latest_prefix r) e)))
+          (placed-code (codes_of r) (length r) x at_whole)))
+      | inr e ↦ subst (λ (past : List Code). Placed past (latest_prefix (x ∷ r)) (suc (length r)))
+          (sym (codes-plain x r e))
+          (subst (λ (p : Prefix). Placed (note_latest (codes_of r) x) p (suc (length r)))
+          (sym (matched-more x r)) (placed-plain (codes_of r) (latest_prefix r) (length r) x e rest))
     ]
 
 need-span : (b : Bool) (p : Prefix) → cond b 3 4 ≤ need b p
@@ -385,7 +454,8 @@ room-after (d ∷ past) p n room = omega (arith, need-span (eqb d.kind 0) p)
 
 -- ---- the film's end
 
-unsliced : (b : Bool) (t : Tally) → ltb 0 t.slices ≡ false → cond b (Some NoSequence) (cond (ltb 0 t.slices) None (Some (open_fault t t.picture))) ≡ None → ⊥
+unsliced : (b : Bool) (t : Tally) → ltb 0 t.slices ≡ false
+    → cond b (Some NoSequence) (cond (ltb 0 t.slices) None (Some (open_fault t t.picture))) ≡ None → ⊥
 unsliced true t none e = cc
 unsliced false t none e =
     let left : Some (open_fault t t.picture) ≡ None = sym (ap (λ b. cond b None (Some (open_fault t t.picture))) none) ∙ e in cc
@@ -396,32 +466,51 @@ ended-none t e = elim (cases_Bool (ltb 0 t.slices)) [
   | inr none ↦ absurd (unsliced (not t.begun) t none e)
 ]
 
-end-step : (past : List Code) (n : ℕ) → 0 < slices_of past → slice_of past + 4 ≤ n → parts_after (Some (part_of past)) (unit_end (tally_of past) n) ≡ Some (between n)
+end-step : (past : List Code) (n : ℕ) → 0 < slices_of past → slice_of past + 4 ≤ n
+    → parts_after (Some (part_of past)) (unit_end (tally_of past) n) ≡ Some (between n)
 end-step past n some apart = elim (count-cases (slices_of past)) [
   | inl none ↦ absurd (omega arith)
-  | inr more ↦ (let ends : EndsAs (unit_at (tally_of past) n) (unit_of past) (head_end_of past) n (slices_of past) = record { from = refl; head = refl; to = refl; slices = refl } in
-      ap (λ (p : Part). parts_after (Some p) (unit_end (tally_of past) n)) (part_by-some (slices_of past) more.0 (unit_of past) (head_end_of past) (slice_of past) more.1)
+  | inr more ↦
+      (let ends : EndsAs (unit_at (tally_of past) n) (unit_of past) (head_end_of past) n (slices_of past) =
+      record { from = refl; head = refl; to = refl; slices = refl } in
+      ap (λ (p : Part). parts_after (Some p) (unit_end (tally_of past) n))
+      (part_by-some (slices_of past) more.0 (unit_of past) (head_end_of past) (slice_of past) more.1)
       ∙ takes-slice (unit_of past) (head_end_of past) (slice_of past) more.0 (unit_call (unit_at (tally_of past) n) ∷ []) apart
       ∙ takes-unit more.0 ends more.1)
 ]
 
-whole-tiles : (past : List Code) (n : ℕ) → first_fault past ≡ None → end_fault past n ≡ None → Spaced past → After n past → parts_after (Some (between (first_of past))) (calls_of past ++ unit_end (tally_of past) n) ≡ Some (between n)
+whole-tiles : (past : List Code) (n : ℕ) → first_fault past ≡ None → end_fault past n ≡ None → Spaced past
+    → After n past → parts_after (Some (between (first_of past))) (calls_of past ++ unit_end (tally_of past) n) ≡ Some (between n)
 unfolding end_fault
 whole-tiles [] n accepted ended spaced after = absurd (omega (arith, ended-none (tally_of []) ended))
 whole-tiles (c ∷ past) n accepted ended spaced after =
-    let some = ended-none (tally_of (c ∷ past)) (otherwise-second (latest_fault (c ∷ past) n) (last_fault (tally_of (c ∷ past))) ended) in
+    let some = ended-none (tally_of (c ∷ past))
+    (otherwise-second (latest_fault (c ∷ past) n) (last_fault (tally_of (c ∷ past))) ended) in
     parts-append (Some (between (first_of (c ∷ past)))) (calls_of (c ∷ past)) (unit_end (tally_of (c ∷ past)) n)
     ∙ ap (λ (o : Option Part). parts_after o (unit_end (tally_of (c ∷ past)) n)) (told-parts c past accepted spaced)
     ∙ end-step (c ∷ past) n some (slice-before (c ∷ past) n spaced after some)
 
-pub accepted-whole : (r : List ℕ) → refusal_of r ≡ None → first_refusal (first_fault (codes_of r)) (end_fault (codes_of r) (length r)) ≡ None
+pub accepted-whole : (r : List ℕ) → refusal_of r ≡ None
+    → first_refusal (first_fault (codes_of r)) (end_fault (codes_of r) (length r)) ≡ None
 unfolding refusal_of
 accepted-whole r e = elim (cases_Bool (eqb (length r) 0)) [
-  | inl none ↦ (let left : Some Empty ≡ None = sym (ap (λ b. cond b (Some Empty) (cond (ltb (2 ^ 40) (length r)) (Some TooLong) (first_refusal (first_fault (codes_of r)) (end_fault (codes_of r) (length r))))) none) ∙ e in absurd (cc))
-  | inr some ↦ (let past = sym (ap (λ b. cond b (Some Empty) (cond (ltb (2 ^ 40) (length r)) (Some TooLong) (first_refusal (first_fault (codes_of r)) (end_fault (codes_of r) (length r))))) some) ∙ e in
+  | inl none ↦
+      (let left : Some Empty ≡ None =
+      sym (ap (λ b. cond b (Some Empty)
+      (cond (ltb (2 ^ 40) (length r)) (Some TooLong)
+      (first_refusal (first_fault (codes_of r)) (end_fault (codes_of r) (length r))))) none) ∙ e in absurd (cc))
+  | inr some ↦
+      (let past = sym
+      (ap (λ b. cond b (Some Empty)
+      (cond (ltb (2 ^ 40) (length r)) (Some TooLong)
+      (first_refusal (first_fault (codes_of r)) (end_fault (codes_of r) (length r))))) some) ∙ e in
       elim (cases_Bool (ltb (2 ^ 40) (length r))) [
-        | inl far ↦ (let left : Some TooLong ≡ None = sym (ap (λ b. cond b (Some TooLong) (first_refusal (first_fault (codes_of r)) (end_fault (codes_of r) (length r)))) far) ∙ past in absurd (cc))
-        | inr near ↦ sym (ap (λ b. cond b (Some TooLong) (first_refusal (first_fault (codes_of r)) (end_fault (codes_of r) (length r)))) near) ∙ past
+        | inl far ↦ (let left : Some TooLong ≡ None =
+            sym (ap (λ b. cond b (Some TooLong)
+            (first_refusal (first_fault (codes_of r)) (end_fault (codes_of r) (length r)))) far) ∙ past in absurd (cc))
+        | inr near ↦
+            sym (ap (λ b. cond b (Some TooLong)
+            (first_refusal (first_fault (codes_of r)) (end_fault (codes_of r) (length r)))) near) ∙ past
       ])
 ]
 
@@ -430,4 +519,7 @@ pub film-tiles : (r : List ℕ) → refusal_of r ≡ None → Tiles r (all_calls
 film-tiles r e =
     let none = accepted-whole r e in
     let placed = placed-codes r in
-    whole-tiles (codes_of r) (length r) (otherwise-first (first_fault (codes_of r)) (end_fault (codes_of r) (length r)) none) (otherwise-second (first_fault (codes_of r)) (end_fault (codes_of r) (length r)) none) placed.spaced (room-after (codes_of r) (latest_prefix r) (length r) placed.room)
+    whole-tiles (codes_of r) (length r)
+    (otherwise-first (first_fault (codes_of r)) (end_fault (codes_of r) (length r)) none)
+    (otherwise-second (first_fault (codes_of r)) (end_fault (codes_of r) (length r)) none) placed.spaced
+    (room-after (codes_of r) (latest_prefix r) (length r) placed.room)

@@ -11,7 +11,8 @@ use Rattle.pacer.proofs.PacingLemmas.{boundary-from}
 use Rattle.pacer.proofs.SendingLemmas.{between-join}
 
 pub parts-join : (p : Pacing) → IsPacing p → DoPartsJoin p
-parts-join p is = λ from at to le more. between-join p.pieces (p.before + from) (p.before + at) (p.before + to) (omega arith) (omega arith)
+parts-join p is =
+    λ from at to le more. between-join p.pieces (p.before + from) (p.before + at) (p.before + to) (omega arith) (omega arith)
 
 pub sends-track : (p : Pacing) → IsPacing p → SendsTheTrack p
 sends-track p is =

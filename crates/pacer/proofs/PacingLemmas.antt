@@ -15,10 +15,13 @@ use Rattle.pacer.specs.Sending.{HasStopped}
 use Rattle.pacer.specs.Pacings.{IsPacing, Pacing, pacing_of, first_slots, at_slot, step_end}
 use Rattle.pacer.specs.Steps.{HasFailed}
 
-begin-cons : (piece : List ℕ) (pieces : List (List ℕ)) (k : ℕ) → begin_of (piece ∷ pieces) (suc k) ≡ length piece + begin_of pieces k
-begin-cons piece pieces k = ap length (flat_map-cons (λ (p : List ℕ). p) piece (take k pieces)) ∙ length-append piece (framed_bytes (take k pieces))
+begin-cons : (piece : List ℕ) (pieces : List (List ℕ)) (k : ℕ)
+    → begin_of (piece ∷ pieces) (suc k) ≡ length piece + begin_of pieces k
+begin-cons piece pieces k =
+    ap length (flat_map-cons (λ (p : List ℕ). p) piece (take k pieces)) ∙ length-append piece (framed_bytes (take k pieces))
 
-framed-cons : (piece : List ℕ) (pieces : List (List ℕ)) → length (framed_bytes (piece ∷ pieces)) ≡ length piece + length (framed_bytes pieces)
+framed-cons : (piece : List ℕ) (pieces : List (List ℕ))
+    → length (framed_bytes (piece ∷ pieces)) ≡ length piece + length (framed_bytes pieces)
 framed-cons piece pieces = ap length (flat_map-cons (λ (p : List ℕ). p) piece pieces) ∙ length-append piece (framed_bytes pieces)
 
 -- the least boundary past a first piece
@@ -27,11 +30,13 @@ least-cons : {pieces : List (List ℕ)} {at other : ℕ} (piece : List ℕ) (pla
     → IsBoundary (piece ∷ pieces) other → at ≤ other → length piece + place ≤ other
 least-cons {pieces} {at} {other} piece place some least boundary after = numbered boundary.number boundary.among boundary.place_is
   where
-    numbered : (number : ℕ) → number ≤ length (piece ∷ pieces) → other ≡ begin_of (piece ∷ pieces) number → length piece + place ≤ other
+    numbered : (number : ℕ) → number ≤ length (piece ∷ pieces) → other ≡ begin_of (piece ∷ pieces) number
+        → length piece + place ≤ other
     numbered zero among is = absurd (omega (arith, some, is, after))
     numbered (suc k) among is =
         let begins = begin-cons piece pieces k in
-        let h = least (begin_of pieces k) (record { number = k; among = omega (arith, among); place_is = refl }) (omega (arith, begins, is, after)) in
+        let h = least (begin_of pieces k) (record { number = k; among = omega (arith, among); place_is = refl })
+        (omega (arith, begins, is, after)) in
         omega (arith, h, begins, is)
 
 -- the choice between the place and what the rest of the pieces give
@@ -54,7 +59,8 @@ boundary-cons {piece} {pieces} {at} {b = false} none some rest =
       least = λ other b h. least-cons piece place (some refl) rest.least b h;
     }
 
-pub boundary-from : (pieces : List (List ℕ)) (at : ℕ) → at ≤ length (framed_bytes pieces) → IsBoundaryAfter pieces at (boundary_from pieces at)
+pub boundary-from : (pieces : List (List ℕ)) (at : ℕ) → at ≤ length (framed_bytes pieces)
+    → IsBoundaryAfter pieces at (boundary_from pieces at)
 boundary-from [] at within = record {
   boundary = record { number = 0; among = omega arith; place_is = refl };
   after = within;
@@ -65,7 +71,8 @@ boundary-from (piece ∷ pieces) at within =
     (boundary-from pieces (at - length piece) (omega (arith, within, framed-cons piece pieces)))
 
 -- it is the only one
-pub boundary-is : (pieces : List (List ℕ)) (at place : ℕ) → at ≤ length (framed_bytes pieces) → IsBoundaryAfter pieces at place → place ≡ boundary_from pieces at
+pub boundary-is : (pieces : List (List ℕ)) (at place : ℕ) → at ≤ length (framed_bytes pieces)
+    → IsBoundaryAfter pieces at place → place ≡ boundary_from pieces at
 boundary-is pieces at place within is =
     let other = boundary-from pieces at within in
     omega (arith, is.least (boundary_from pieces at) other.boundary other.after, other.least place is.boundary is.after)
@@ -108,9 +115,12 @@ step-failed {stop} {slot} {old} {to} {whole} {told_old} pacing are end order sto
     let rest = drop (before + sent) (framed_bytes pieces) in
     let ends : to ≡ step_end stop (at_slot slot old) = end ∙ ap (λ (p : Pacing). step_end stop p) are in
     let begins : sent ≡ old.sent = ap (λ (p : Pacing). p.sent) are in
-    let size : length (bytes_between pieces (before + sent) (before + to)) ≤ before + to - (before + sent) = omega (arith, length-take (before + to - (before + sent)) rest) in
-    let cut : take stopped.out (bytes_between pieces (before + sent) (before + to)) ≡ bytes_between pieces (before + sent) (before + (sent + stopped.out)) =
-    take-take stopped.out (before + to - (before + sent)) rest (omega (arith, stopped.out_most, size)) ∙ ap (λ n. take n rest) (omega arith) in
+    let size : length (bytes_between pieces (before + sent) (before + to)) ≤ before + to - (before + sent) =
+    omega (arith, length-take (before + to - (before + sent)) rest) in
+    let cut : take stopped.out (bytes_between pieces (before + sent) (before + to))
+    ≡ bytes_between pieces (before + sent) (before + (sent + stopped.out)) =
+    take-take stopped.out (before + to - (before + sent)) rest (omega (arith, stopped.out_most, size))
+    ∙ ap (λ n. take n rest) (omega arith) in
     record {
       state = ap (λ (p : Pacing). record p { sent = sent + whole }) are;
       least = omega (arith, begins);
@@ -127,13 +137,16 @@ step-failed {stop} {slot} {old} {to} {whole} {told_old} pacing are end order sto
           let there = subst (λ (p : Pacing). IsHeadEnd p.pieces (p.before + place)) (sym are) head in
           omega (arith, less, stopped.one_send (place - sent) (inr (subst (IsHeadEnd pieces) same there)) (omega (arith, less)));
       told = stopped.told ∙ ap (λ (l : List ℕ). told_more told_old (sends l)) cut
-          ∙ ap (λ (p : Pacing). told_more told_old (sends (bytes_between p.pieces (p.before + p.sent) (p.before + (sent + stopped.out))))) are;
+          ∙ ap (λ (p : Pacing). told_more told_old
+          (sends (bytes_between p.pieces (p.before + p.sent) (p.before + (sent + stopped.out))))) are;
     }
 
 -- ---- a pacing in which nothing was stepped
 
-pub new-pacing : {pieces : List (List ℕ)} {before : ℕ} {plan : List Segment} {total : ℕ} (start : ℕ) → IsBoundary pieces before → before + total_bytes plan ≡ length (framed_bytes pieces)
-    → total ≡ length (framed_bytes pieces) → total < 2 ^ 64 → IsPlan plan → IsPacing (pacing_of pieces before plan start (total - before) 0 0 0) × (total ≡ length (framed_bytes pieces))
+pub new-pacing : {pieces : List (List ℕ)} {before : ℕ} {plan : List Segment} {total : ℕ} (start : ℕ)
+    → IsBoundary pieces before → before + total_bytes plan ≡ length (framed_bytes pieces)
+    → total ≡ length (framed_bytes pieces) → total < 2 ^ 64 → IsPlan plan
+    → IsPacing (pacing_of pieces before plan start (total - before) 0 0 0) × (total ≡ length (framed_bytes pieces))
 new-pacing {pieces} {before} {plan} {total} start begins whole total_is short is =
     let end : before + (total - before) ≡ length (framed_bytes pieces) = omega (arith, whole, total_is) in (
       record {
@@ -141,7 +154,8 @@ new-pacing {pieces} {before} {plan} {total} start begins whole total_is short is
         whole = whole;
         short = omega (arith, total_is, short);
         begins = begins;
-        ends = subst (λ n. IsBoundary pieces n) (sym end) ((record { number = length pieces; among = omega arith; place_is = sym (begin-all pieces) }));
+        ends = subst (λ n. IsBoundary pieces n) (sym end)
+            ((record { number = length pieces; among = omega arith; place_is = sym (begin-all pieces) }));
         most = omega (arith, whole, total_is);
         due = omega arith;
         sent = omega arith;

@@ -14,28 +14,33 @@ told-more-twice None a b = refl
 told-more-twice (Some told) a b = ap (λ (l : List Doing). Some l) (append_assoc told a b)
 
 -- bytes, and further ones
-pub sends-more : {middle new : Option (List Doing)} (old : Option (List Doing)) (a b : List ℕ) → middle ≡ told_more old (sends a) → new ≡ told_more middle (sends b)
+pub sends-more : {middle new : Option (List Doing)} (old : Option (List Doing)) (a b : List ℕ)
+    → middle ≡ told_more old (sends a) → new ≡ told_more middle (sends b)
     → new ≡ told_more old (sends (a ++ b))
 sends-more {new} old a b first then =
     then ∙ ap (λ (t : Option (List Doing)). told_more t (sends b)) first ∙ told-more-twice old (sends a) (sends b)
     ∙ ap (λ (l : List Doing). told_more old l) (sym (map-append Sent a b))
 
 -- the first bytes of two texts, one after the other
-pub take-both : {c d : List ℕ} (most : ℕ) (a b : List ℕ) → c ≡ take most a → d ≡ take (most - length c) b → take most (a ++ b) ≡ c ++ d
+pub take-both : {c d : List ℕ} (most : ℕ) (a b : List ℕ) → c ≡ take most a → d ≡ take (most - length c) b
+    → take most (a ++ b) ≡ c ++ d
 take-both {c} most a b first then =
     elim (cases_lt (length a) most) [
       | inl l ↦
           let whole : take most a ≡ a = take_all most a (omega arith) in
           let same : c ≡ a = first ∙ whole in
           let count : most ≡ length a + (most - length c) = omega (arith, ap length same, l) in
-          ap (λ n. take n (a ++ b)) count ∙ take-append-add a b (most - length c) ∙ ap (λ (l : List ℕ). l ++ take (most - length c) b) (sym same) ∙ ap (λ (l : List ℕ). c ++ l) (sym then)
+          ap (λ n. take n (a ++ b)) count ∙ take-append-add a b (most - length c)
+          ∙ ap (λ (l : List ℕ). l ++ take (most - length c) b) (sym same) ∙ ap (λ (l : List ℕ). c ++ l) (sym then)
       | inr g ↦
           let count : most - length c ≡ 0 = omega (arith, ap length first, length-take most a, g) in
-          take-append-le most a b g ∙ sym first ∙ sym (append-nil c) ∙ ap (λ n. c ++ take n b) (sym count) ∙ ap (λ (l : List ℕ). c ++ l) (sym then)
+          take-append-le most a b g ∙ sym first ∙ sym (append-nil c) ∙ ap (λ n. c ++ take n b) (sym count)
+          ∙ ap (λ (l : List ℕ). c ++ l) (sym then)
     ]
 
 -- bytes in two sends
-pub both-sent : {middle new : Option (List Doing)} {all : List ℕ} (old : Option (List Doing)) (first then : List ℕ) → all ≡ first ++ then → middle ≡ told_more old (sends first)
+pub both-sent : {middle new : Option (List Doing)} {all : List ℕ} (old : Option (List Doing))
+    (first then : List ℕ) → all ≡ first ++ then → middle ≡ told_more old (sends first)
     → new ≡ told_more middle (sends then) → new ≡ told_more old (sends all)
 both-sent {new} {all} old first then are one other =
     sends-more old first then one other ∙ ap (λ (l : List ℕ). told_more old (sends l)) (sym are)
@@ -55,7 +60,9 @@ head-stopped {old} {new} {first} {then} most head payload first_is then_is front
       out_least = omega arith;
       out_most = omega (arith, front.1.0, size);
       one_send = λ seam is less. omega (arith, is, front.1.0, within);
-      told = front.1.1 ∙ ap (λ (l : List ℕ). told_more old (sends l)) (sym (take-append-le out first then front.1.0) ∙ ap (λ (l : List ℕ). take out l) (sym are));
+      told = front.1.1
+          ∙ ap (λ (l : List ℕ). told_more old (sends l))
+          (sym (take-append-le out first then front.1.0) ∙ ap (λ (l : List ℕ). take out l) (sym are));
     }
 
 -- the payload's send failed: then the head was sent to its end
@@ -68,7 +75,14 @@ payload-stopped {old} {new} {first} {then} most head payload first_is then_is on
     let are = take-both most head payload first_is then_is in
     let size : length (take most (head ++ payload)) ≡ length first + length then = ap length are ∙ length-append first then in
     let all : length head ≤ length first =
-    omega (arith, some, ap length first_is, length-take most head, ap length then_is, length-take (most - length first) payload) in
+    omega (
+      arith,
+      some,
+      ap length first_is,
+      length-take most head,
+      ap length then_is,
+      length-take (most - length first) payload,
+    ) in
     record {
       before_end = omega (arith, size, some);
       out = length first + out;
@@ -76,25 +90,36 @@ payload-stopped {old} {new} {first} {then} most head payload first_is then_is on
       out_most = omega (arith, front.1.0, size);
       one_send = λ seam is less. absurd (omega (arith, is, less, all));
       told = sends-more old first (take out then) one front.1.1
-          ∙ ap (λ (l : List ℕ). told_more old (sends l)) (sym (take-append-add first then out) ∙ ap (λ (l : List ℕ). take (length first + out) l) (sym are));
+          ∙ ap (λ (l : List ℕ). told_more old (sends l))
+          (sym (take-append-add first then out) ∙ ap (λ (l : List ℕ). take (length first + out) l) (sym are));
     }
 
 -- ---- bytes of a track
 
-pub between-join : (pieces : List (List ℕ)) (from at to : ℕ) → from ≤ at → at ≤ to → bytes_between pieces from at ++ bytes_between pieces at to ≡ bytes_between pieces from to
+pub between-join : (pieces : List (List ℕ)) (from at to : ℕ) → from ≤ at → at ≤ to
+    → bytes_between pieces from at ++ bytes_between pieces at to ≡ bytes_between pieces from to
 between-join pieces from at to first then =
     let all = framed_bytes pieces in
     let place : from + (at - from) ≡ at = omega (arith, first) in
     let moved : drop (at - from) (drop from all) ≡ drop at all = drop-drop (at - from) from all ∙ ap (λ n. drop n all) place in
     let count : at - from + (to - at) ≡ to - from = omega (arith, first, then) in
-    sym (ap (λ n. take n (drop from all)) (sym count) ∙ take-add (at - from) (to - at) (drop from all) ∙ ap (λ (l : List ℕ). take (at - from) (drop from all) ++ take (to - at) l) moved)
+    sym (ap (λ n. take n (drop from all)) (sym count) ∙ take-add (at - from) (to - at) (drop from all)
+    ∙ ap (λ (l : List ℕ). take (at - from) (drop from all) ++ take (to - at) l) moved)
 
-pub between-length : (pieces : List (List ℕ)) (from to : ℕ) → from ≤ to → to ≤ length (framed_bytes pieces) → length (bytes_between pieces from to) ≡ to - from
+pub between-length : (pieces : List (List ℕ)) (from to : ℕ) → from ≤ to → to ≤ length (framed_bytes pieces)
+    → length (bytes_between pieces from to) ≡ to - from
 between-length pieces from to order within =
-    omega (arith, length-take (to - from) (drop from (framed_bytes pieces)), length-drop from (framed_bytes pieces), order, within)
+    omega (
+      arith,
+      length-take (to - from) (drop from (framed_bytes pieces)),
+      length-drop from (framed_bytes pieces),
+      order,
+      within,
+    )
 
 -- the first of the next bytes
-pub next-are : (pieces : List (List ℕ)) (at most : ℕ) (next : List ℕ) → IsNext pieces at next → take most next ≡ bytes_between pieces at (at + min (length next) most)
+pub next-are : (pieces : List (List ℕ)) (at most : ℕ) (next : List ℕ) → IsNext pieces at next
+    → take most next ≡ bytes_between pieces at (at + min (length next) most)
 next-are pieces at most next is =
     let rest = drop at (framed_bytes pieces) in
     let span : at + min (length next) most - at ≡ min (length next) most = omega arith in
@@ -115,17 +140,20 @@ pub more-sent : {pieces : List (List ℕ)} {at : ℕ} {next : List ℕ} {middle 
     → new ≡ told_more old (sends (bytes_between pieces from (at + min (length next) most)))
 more-sent {pieces} {at} {next} {new} {from} most old is order first then =
     sends-more old (bytes_between pieces from at) (take most next) first then
-    ∙ ap (λ (l : List ℕ). told_more old (sends l)) (ap (λ (l : List ℕ). bytes_between pieces from at ++ l) (next-are pieces at most next is)
+    ∙ ap (λ (l : List ℕ). told_more old (sends l))
+    (ap (λ (l : List ℕ). bytes_between pieces from at ++ l) (next-are pieces at most next is)
     ∙ between-join pieces from at (at + min (length next) most) order (omega arith))
 
 -- a part failed
 pub part-stopped : {pieces : List (List ℕ)} {at head_bytes : ℕ} {old middle new : Option (List Doing)}
-    {whole from to : ℕ} (head payload : List ℕ) → IsNext pieces at (head ++ payload) → IsSplit pieces at head_bytes (length payload) → length head ≡ head_bytes
+    {whole from to : ℕ} (head payload : List ℕ) → IsNext pieces at (head ++ payload)
+    → IsSplit pieces at head_bytes (length payload) → length head ≡ head_bytes
     → from ≤ at → at ≤ to
     → to ≤ length (framed_bytes pieces) → middle ≡ told_more old (sends (bytes_between pieces from at))
     → HasStopped (λ place. place ≡ length head) (take (to - at) (head ++ payload)) middle new whole
     → HasStopped (λ place. IsSeam pieces (from + place)) (bytes_between pieces from to) old new (at - from + whole)
-part-stopped {pieces} {at} {head_bytes} {old} {new} {whole} {from} {to} head payload is split long order then within first stopped =
+part-stopped {pieces} {at} {head_bytes} {old} {new} {whole} {from} {to} head payload is split long order
+    then within first stopped =
     let next = head ++ payload in
     let most = to - at in
     let end = at + min (length next) most in
@@ -134,11 +162,15 @@ part-stopped {pieces} {at} {head_bytes} {old} {new} {whole} {from} {to} head pay
     let all = between-length pieces from to (omega (arith, order, then)) within in
     let out = stopped.out in
     let cut : take out (take most next) ≡ bytes_between pieces at (at + out) =
-    ap (λ (l : List ℕ). take out l) are ∙ take-take out (end - at) (drop at (framed_bytes pieces)) (omega (arith, stopped.out_most, length-take most next))
+    ap (λ (l : List ℕ). take out l) are
+    ∙ take-take out (end - at) (drop at (framed_bytes pieces)) (omega (arith, stopped.out_most, length-take most next))
     ∙ ap (λ n. take n (drop at (framed_bytes pieces))) (omega arith) in
-    let joined : bytes_between pieces from at ++ take out (take most next) ≡ take (at - from + out) (bytes_between pieces from to) =
+    let joined : bytes_between pieces from at ++ take out (take most next)
+    ≡ take (at - from + out) (bytes_between pieces from to) =
     ap (λ (l : List ℕ). bytes_between pieces from at ++ l) cut ∙ between-join pieces from at (at + out) order (omega arith)
-    ∙ ap (λ n. take n (drop from (framed_bytes pieces))) (omega (arith, order)) ∙ sym (take-take (at - from + out) (to - from) (drop from (framed_bytes pieces)) (omega (arith, order, then, stopped.out_most, size))) in
+    ∙ ap (λ n. take n (drop from (framed_bytes pieces))) (omega (arith, order))
+    ∙ sym (take-take (at - from + out) (to - from) (drop from (framed_bytes pieces))
+    (omega (arith, order, then, stopped.out_most, size))) in
     record {
       before_end = omega (arith, stopped.before_end, size, all, order, then);
       out = at - from + out;
@@ -146,7 +178,13 @@ part-stopped {pieces} {at} {head_bytes} {old} {new} {whole} {from} {to} head pay
       out_most = omega (arith, stopped.out_most, size, all, order, then);
       one_send = λ place seam less. elim seam [
         | inl boundary ↦
-            omega (arith, is.one_piece (from + place) boundary (omega (arith, order, less)), stopped.out_most, length-take most next, order)
+            omega (
+              arith,
+              is.one_piece (from + place) boundary (omega (arith, order, less)),
+              stopped.out_most,
+              length-take most next,
+              order,
+            )
         | inr end ↦
             elim (cases_lt (from + place) (at + head_bytes + length payload)) [
               | inl l ↦
@@ -156,12 +194,15 @@ part-stopped {pieces} {at} {head_bytes} {old} {new} {whole} {from} {to} head pay
                   omega (arith, g, order, long, length-append head payload, stopped.out_most, length-take most next)
             ]
       ];
-      told = sends-more old (bytes_between pieces from at) (take out (take most next)) first stopped.told ∙ ap (λ (l : List ℕ). told_more old (sends l)) joined;
+      told = sends-more old (bytes_between pieces from at) (take out (take most next)) first stopped.told
+          ∙ ap (λ (l : List ℕ). told_more old (sends l)) joined;
     }
 
 -- nothing yet
-pub none-sent : (pieces : List (List ℕ)) (from : ℕ) (told : Option (List Doing)) → told ≡ told_more told (sends (bytes_between pieces from from))
+pub none-sent : (pieces : List (List ℕ)) (from : ℕ) (told : Option (List Doing))
+    → told ≡ told_more told (sends (bytes_between pieces from from))
 none-sent pieces from None = refl
 none-sent pieces from (Some told) =
     let none : from - from ≡ 0 = omega arith in
-    ap (λ (l : List Doing). Some l) (sym (append-nil told) ∙ ap (λ n. told ++ sends (take n (drop from (framed_bytes pieces)))) (sym none))
+    ap (λ (l : List Doing). Some l)
+    (sym (append-nil told) ∙ ap (λ n. told ++ sends (take n (drop from (framed_bytes pieces)))) (sym none))

@@ -23,7 +23,8 @@ brings-nothing p slot is = λ before.
     ∙ ap (λ n. pacing_of p.pieces p.before p.plan p.start p.keep p.passed n p.sent) due
 
 -- what is due after the latest slot
-due-through : (p : Pacing) (slot : ℕ) → IsPacing p → IsLatest p slot → due_by p slot ≡ min (sum_through p.plan (slot - p.start)) p.keep
+due-through : (p : Pacing) (slot : ℕ) → IsPacing p → IsLatest p slot
+    → due_by p slot ≡ min (sum_through p.plan (slot - p.start)) p.keep
 due-through p slot is at =
     let begun = at.begun in
     let same : slots_by p slot ≡ slot - p.start + 1 = omega arith in

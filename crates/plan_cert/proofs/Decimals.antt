@@ -28,7 +28,9 @@ no_leading_zero n small long first =
 
 -- nor any byte but digits
 pub not_in_decimal : (c n : ℕ) → n < 2 ^ 64 → ¬ (IsInRange 48 57 c) → All (λ b. b ≢ c) (decimal n)
-not_in_decimal c n small other = All-from_get_or (λ b. b ≢ c) (decimal n) 0 (λ i inside. not_in_digits own (decimal n) c (digits_decimal own n small) other i inside)
+not_in_decimal c n small other =
+    All-from_get_or (λ b. b ≢ c) (decimal n) 0
+    (λ i inside. not_in_digits own (decimal n) c (digits_decimal own n small) other i inside)
 
 -- a text has one first place of a byte
 pub same_cut : {ws bs : List ℕ} (c : ℕ) (xs ys : List ℕ) → xs ++ c ∷ ws ≡ ys ++ c ∷ bs → All (λ b. b ≢ c) xs
@@ -44,15 +46,19 @@ same_cut {ws} {bs} c (x ∷ xs) (y ∷ ys) e none none' =
     (cc, rest.1)
 
 -- the two numbers of a text, by its first space
-pub numbers_cut : (text front after : List ℕ) (s : Segment) → IsSplitAtFirst 32 text front after → AreNumbers text s → (front ≡ decimal s.slots) × (after ≡ decimal s.bytes)
+pub numbers_cut : (text front after : List ℕ) (s : Segment) → IsSplitAtFirst 32 text front after
+    → AreNumbers text s → (front ≡ decimal s.slots) × (after ≡ decimal s.bytes)
 numbers_cut text front after s cut numbers =
     let not_digit : ¬ (IsInRange 48 57 32) = λ within. omega (arith, within.0) in
     let small : s.slots < 2 ^ 64 = omega (arith, numbers.few_slots) in
-    let whole : front ++ 32 ∷ after ≡ decimal s.slots ++ 32 ∷ decimal s.bytes = sym cut.parts ∙ numbers.words ∙ append_assoc (decimal s.slots) (codes " ") (decimal s.bytes) in
-    same_cut {ws = after} {bs = decimal s.bytes} 32 front (decimal s.slots) whole (none_is 32 front cut.first) (not_in_decimal 32 s.slots small not_digit)
+    let whole : front ++ 32 ∷ after ≡ decimal s.slots ++ 32 ∷ decimal s.bytes =
+    sym cut.parts ∙ numbers.words ∙ append_assoc (decimal s.slots) (codes " ") (decimal s.bytes) in
+    same_cut {ws = after} {bs = decimal s.bytes} 32 front (decimal s.slots) whole (none_is 32 front cut.first)
+    (not_in_decimal 32 s.slots small not_digit)
 
 -- a first digit 0 stands alone, where no more digits stand after it
-pub lead_one : (ds : List ℕ) (b : Bool) → b ≡ false → ((1 < length ds) × (slice_index ds 0 ≡ 48) → b ≡ true) → slice_index ds 0 ≡ 48 → length ds ≡ 1
+pub lead_one : (ds : List ℕ) (b : Bool) → b ≡ false → ((1 < length ds) × (slice_index ds 0 ≡ 48) → b ≡ true)
+    → slice_index ds 0 ≡ 48 → length ds ≡ 1
 lead_one [] b off test first = absurd (omega (arith, first))
 lead_one (d ∷ ds) b off test first =
     elim (cases_lt 1 (length (d ∷ ds))) [
@@ -63,7 +69,8 @@ lead_one (d ∷ ds) b off test first =
 -- what stands after a word
 pub after_from : {X : Type 0} (now : X → List ℕ) (r : Option X) (line word : List ℕ) →
     MatchOption r (pointwise nat_eq (take (length word) line) word ≡ false)
-    (λ x. (pointwise nat_eq (take (length word) line) word ≡ true) × (now x ≡ drop (length word) line) × (length (now x) + length word ≡ length line)) →
+    (λ x. (pointwise nat_eq (take (length word) line) word ≡ true) × (now x ≡ drop (length word) line)
+    × (length (now x) + length word ≡ length line)) →
     MatchOption r ((ds : List ℕ) → line ≢ word ++ ds) (λ x. line ≡ word ++ now x)
 after_from now None line word none = λ ds e.
     let front : take (length word) line ≡ word = ap (take (length word)) e ∙ take_at word ds (length word) refl in
@@ -76,5 +83,6 @@ after_from now (Some x) line word found =
 pub number_from : (o : Option ℕ) (word line ds : List ℕ) → line ≡ word ++ ds →
     MatchOption o ((n : ℕ) → n ≤ 2 ^ 42 → ds ≢ decimal n) (λ n. (n ≤ 2 ^ 42) × (ds ≡ decimal n)) →
     MatchOption o ((n : ℕ) → ¬ IsNumberLine word line n) (IsNumberLine word line)
-number_from None word line ds is none = λ n number. none n number.small (append_cancel_left word ds (decimal n) (sym is ∙ number.words))
+number_from None word line ds is none =
+    λ n number. none n number.small (append_cancel_left word ds (decimal n) (sym is ∙ number.words))
 number_from (Some n) word line ds is found = record { small = found.0; words = is ∙ ap (λ x. word ++ x) found.1 }

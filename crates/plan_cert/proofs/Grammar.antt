@@ -20,7 +20,8 @@ lines-cut (x ∷ front) after none =
     let other : (x == 10) ≡ false = ne_eqb x 10 (All-head (λ b. b ≢ 10) x front none) in
     let rest : lines_of (front ++ 10 ∷ after) ≡ record { whole = front ∷ (lines_of after).whole; rest = (lines_of after).rest } =
     lines-cut front after (All-tail (λ b. b ≢ 10) x front none) in
-    cond-false (x == 10) (record { whole = [] ∷ (lines_of (front ++ 10 ∷ after)).whole; rest = (lines_of (front ++ 10 ∷ after)).rest })
+    cond-false (x == 10)
+    (record { whole = [] ∷ (lines_of (front ++ 10 ∷ after)).whole; rest = (lines_of (front ++ 10 ∷ after)).rest })
     (with_front x (lines_of (front ++ 10 ∷ after)).whole (lines_of (front ++ 10 ∷ after)).rest) other
     ∙ ap (λ ls. with_front x ls.whole ls.rest) rest
 
@@ -29,7 +30,8 @@ pub lines-none : (text : List ℕ) → All (λ b. b ≢ 10) text → lines_of te
 lines-none [] none = refl
 lines-none (x ∷ text) none =
     let other : (x == 10) ≡ false = ne_eqb x 10 (All-head (λ b. b ≢ 10) x text none) in
-    cond-false (x == 10) (record { whole = [] ∷ (lines_of text).whole; rest = (lines_of text).rest }) (with_front x (lines_of text).whole (lines_of text).rest) other
+    cond-false (x == 10) (record { whole = [] ∷ (lines_of text).whole; rest = (lines_of text).rest })
+    (with_front x (lines_of text).whole (lines_of text).rest) other
     ∙ ap (λ ls. with_front x ls.whole ls.rest) (lines-none text (All-tail (λ b. b ≢ 10) x text none))
 
 -- a text that isn't empty has a whole line or something after its lines
@@ -38,18 +40,24 @@ something [] some = absurd (some refl)
 something (x ∷ text) some =
     elim (cases_Bool (x == 10)) [
       | inl lf ↦ (
-          let is = cond-true (x == 10) (record { whole = [] ∷ (lines_of text).whole; rest = (lines_of text).rest }) (with_front x (lines_of text).whole (lines_of text).rest) lf in
-          let e : length (lines_of (x ∷ text)).whole ≡ length (lines_of text).whole + 1 = ap (λ ls. length ls.whole) is ∙ omega arith in
+          let is = cond-true (x == 10)
+          (record { whole = [] ∷ (lines_of text).whole; rest = (lines_of text).rest })
+          (with_front x (lines_of text).whole (lines_of text).rest) lf in
+          let e : length (lines_of (x ∷ text)).whole ≡ length (lines_of text).whole + 1 =
+          ap (λ ls. length ls.whole) is ∙ omega arith in
           inl (omega (arith, e))
           )
       | inr other ↦ (
-          let is = cond-false (x == 10) (record { whole = [] ∷ (lines_of text).whole; rest = (lines_of text).rest }) (with_front x (lines_of text).whole (lines_of text).rest) other in
+          let is = cond-false (x == 10)
+          (record { whole = [] ∷ (lines_of text).whole; rest = (lines_of text).rest })
+          (with_front x (lines_of text).whole (lines_of text).rest) other in
           let P : Lines → Type 0 = λ ls. (0 < length ls.whole) ⊎ (ls.rest ≢ []) in
           subst P (sym is) (front_some (lines_of text).whole (lines_of text).rest)
           )
     ]
   where
-    front_some : (whole : List (List ℕ)) (rest : List ℕ) → (0 < length (with_front x whole rest).whole) ⊎ ((with_front x whole rest).rest ≢ [])
+    front_some : (whole : List (List ℕ)) (rest : List ℕ)
+        → (0 < length (with_front x whole rest).whole) ⊎ ((with_front x whole rest).rest ≢ [])
     front_some [] rest = inr (λ e. cc)
     front_some (line ∷ lines) rest = inl (omega arith)
 
@@ -64,12 +72,15 @@ pub record IsNext (text : List ℕ) (k : ℕ) (line after : List ℕ) : Type 0 w
   pub left : drop (k + 1) (lines_of text).whole ≡ (lines_of after).whole
   pub rest : (lines_of text).rest ≡ (lines_of after).rest
 
-pub next_is : {text : List ℕ} {k : ℕ} {rest line after : List ℕ} → HasRead text k rest → IsSplitAtFirst 10 rest line after → IsNext text k line after
+pub next_is : {text : List ℕ} {k : ℕ} {rest line after : List ℕ} → HasRead text k rest
+    → IsSplitAtFirst 10 rest line after → IsNext text k line after
 next_is {text} {k} {rest} {line} {after} read cut =
-    let lines : lines_of rest ≡ record { whole = line ∷ (lines_of after).whole; rest = (lines_of after).rest } = ap lines_of cut.parts ∙ lines-cut line after (none_is 10 line cut.first) in
+    let lines : lines_of rest ≡ record { whole = line ∷ (lines_of after).whole; rest = (lines_of after).rest } =
+    ap lines_of cut.parts ∙ lines-cut line after (none_is 10 line cut.first) in
     let left : drop k (lines_of text).whole ≡ line ∷ (lines_of after).whole = read.left ∙ ap (λ ls. ls.whole) lines in
     let count : length (drop k (lines_of text).whole) ≡ length (lines_of after).whole + 1 = ap length left ∙ omega arith in
-    let at : get_or (drop k (lines_of text).whole) 0 [] ≡ get_or (lines_of text).whole (k + 0) [] = get_or-drop k (lines_of text).whole 0 [] in
+    let at : get_or (drop k (lines_of text).whole) 0 [] ≡ get_or (lines_of text).whole (k + 0) [] =
+    get_or-drop k (lines_of text).whole 0 [] in
     record {
       inside = omega (arith, count, length-drop k (lines_of text).whole);
       line_is = ap (λ n. get_or (lines_of text).whole n []) (sym (add-zero k)) ∙ sym at ∙ ap (λ ls. get_or ls 0 []) left;
@@ -78,7 +89,8 @@ next_is {text} {k} {rest} {line} {after} read cut =
     }
 
 -- one line more
-pub read_more : {text : List ℕ} {k : ℕ} {rest line after : List ℕ} → HasRead text k rest → IsSplitAtFirst 10 rest line after → MayStand k line → HasRead text (k + 1) after
+pub read_more : {text : List ℕ} {k : ℕ} {rest line after : List ℕ} → HasRead text k rest
+    → IsSplitAtFirst 10 rest line after → MayStand k line → HasRead text (k + 1) after
 read_more {text} {k} {line} {after} read cut stands =
     let next = next_is read cut in
     record {
@@ -89,7 +101,8 @@ read_more {text} {k} {line} {after} read cut stands =
     }
 
 -- the text ends before line k does
-pub breaks_missing : (text : List ℕ) (k : ℕ) (rest : List ℕ) → HasRead text k rest → list_all (λ b. not (b == 10)) rest ≡ true → BreaksAt (lines_of text) k
+pub breaks_missing : (text : List ℕ) (k : ℕ) (rest : List ℕ) → HasRead text k rest
+    → list_all (λ b. not (b == 10)) rest ≡ true → BreaksAt (lines_of text) k
 breaks_missing text k rest read none =
     let left : drop k (lines_of text).whole ≡ [] = read.left ∙ ap (λ ls. ls.whole) (lines-none rest (none_is 10 rest none)) in
     let count : length (drop k (lines_of text).whole) ≡ 0 = ap length left in
@@ -102,11 +115,16 @@ breaks_here {text} {k} {line} read cut no_stand no_end =
     let next = next_is read cut in
     record {
       before = read.before;
-      here = inr (next.inside, (λ stands. no_stand (subst (λ l. MayStand k l) next.line_is stands)), (λ ends. no_end (subst (λ l. MayEnd k l) next.line_is ends)));
+      here = inr (
+        next.inside,
+        (λ stands. no_stand (subst (λ l. MayStand k l) next.line_is stands)),
+        (λ ends. no_end (subst (λ l. MayEnd k l) next.line_is ends)),
+      );
     }
 
 -- something stands after the end
-pub goes_after_end : {text : List ℕ} {k : ℕ} {rest line after : List ℕ} → HasRead text k rest → IsSplitAtFirst 10 rest line after →
+pub goes_after_end : {text : List ℕ} {k : ℕ} {rest line after : List ℕ} → HasRead text k rest →
+    IsSplitAtFirst 10 rest line after →
     MayEnd k line → after ≢ [] → IsAfterEnd (lines_of text) (k + 1)
 goes_after_end {text} {k} {line} {after} read cut ends some =
     let next = next_is read cut in
@@ -170,28 +188,36 @@ head_text {text} {rest} {rest2} rest3 slots bytes given =
     let third : rest2 ≡ (codes "bytes " ++ decimal bytes) ++ 10 ∷ rest3 = cut3 ∙ ap (λ l. l ++ 10 ∷ rest3) bytes_is in
     let second : rest ≡ (codes "slots " ++ decimal slots) ++ 10 ∷ ((codes "bytes " ++ decimal bytes) ++ 10 ∷ rest3) =
     cut2 ∙ ap (λ l. l ++ 10 ∷ rest2) slots_is ∙ ap (λ r. (codes "slots " ++ decimal slots) ++ 10 ∷ r) third in
-    let first : text ≡ codes "smooth 1" ++ 10 ∷ ((codes "slots " ++ decimal slots) ++ 10 ∷ ((codes "bytes " ++ decimal bytes) ++ 10 ∷ rest3)) =
+    let first : text
+    ≡ codes "smooth 1" ++ 10 ∷ ((codes "slots " ++ decimal slots) ++ 10 ∷ ((codes "bytes " ++ decimal bytes) ++ 10 ∷ rest3)) =
     cut1 ∙ ap (λ l. l ++ 10 ∷ rest) title_is ∙ ap (λ r. codes "smooth 1" ++ 10 ∷ r) second in
-    let joined : codes "smooth 1" ++ 10 ∷ ((codes "slots " ++ decimal slots) ++ 10 ∷ ((codes "bytes " ++ decimal bytes) ++ 10 ∷ rest3)) ≡ cert_head slots bytes ++ rest3 = simp append_assoc in
+    let joined : codes "smooth 1" ++ 10
+    ∷ ((codes "slots " ++ decimal slots) ++ 10 ∷ ((codes "bytes " ++ decimal bytes) ++ 10 ∷ rest3))
+    ≡ cert_head slots bytes ++ rest3 = simp append_assoc in
     first ∙ joined
   where
     open given use {title_cut as cut1, title_is, slots_cut as cut2, slots_is, bytes_cut as cut3, bytes_is}
 
 -- one more segment's line
-pub piece_text : {text rest line : List ℕ} (after : List ℕ) (segments : List Segment) (s : Segment) → text ≡ flat_map segment_line segments ++ rest →
+pub piece_text : {text rest line : List ℕ} (after : List ℕ) (segments : List Segment) (s : Segment) →
+    text ≡ flat_map segment_line segments ++ rest →
     rest ≡ line ++ 10 ∷ after → line ≡ segment_words s → text ≡ flat_map segment_line (segments ++ s ∷ []) ++ after
 piece_text {text} {line} after segments s so_far cut words =
     let whole : text ≡ flat_map segment_line segments ++ (segment_words s ++ 10 ∷ after) =
     so_far ∙ ap (λ r. flat_map segment_line segments ++ r) (cut ∙ ap (λ l. l ++ 10 ∷ after) words) in
-    let more : flat_map segment_line (segments ++ s ∷ []) ≡ flat_map segment_line segments ++ (segment_line s ++ []) = flat_map-append segment_line segments (s ∷ []) in
+    let more : flat_map segment_line (segments ++ s ∷ [])
+    ≡ flat_map segment_line segments ++ (segment_line s ++ []) = flat_map-append segment_line segments (s ∷ []) in
     let ended : segment_line s ++ [] ≡ segment_words s ++ 10 ∷ [] = append-nil (segment_line s) in
-    let joined : flat_map segment_line (segments ++ s ∷ []) ++ after ≡ flat_map segment_line segments ++ (segment_words s ++ 10 ∷ after) =
+    let joined : flat_map segment_line (segments ++ s ∷ []) ++ after
+    ≡ flat_map segment_line segments ++ (segment_words s ++ 10 ∷ after) =
     ap (λ x. x ++ after) (more ∙ ap (λ x. flat_map segment_line segments ++ x) ended)
     ∙ append_assoc (flat_map segment_line segments) (segment_words s ++ 10 ∷ []) after
     ∙ ap (λ x. flat_map segment_line segments ++ x) (append_assoc (segment_words s) (10 ∷ []) after) in
     whole ∙ sym joined
 
 pub whole_text : {text rest : List ℕ} (slots bytes : ℕ) (segments : List Segment) → text ≡ cert_head slots bytes ++ rest →
-    rest ≡ flat_map segment_line segments ++ codes "end\n" → text ≡ cert_head slots bytes ++ flat_map segment_line segments ++ codes "end\n"
+    rest ≡ flat_map segment_line segments ++ codes "end\n"
+    → text ≡ cert_head slots bytes ++ flat_map segment_line segments ++ codes "end\n"
 whole_text {text} slots bytes segments head body =
-    head ∙ ap (λ r. cert_head slots bytes ++ r) body ∙ sym (append_assoc (cert_head slots bytes) (flat_map segment_line segments) (codes "end\n"))
+    head ∙ ap (λ r. cert_head slots bytes ++ r) body
+    ∙ sym (append_assoc (cert_head slots bytes) (flat_map segment_line segments) (codes "end\n"))

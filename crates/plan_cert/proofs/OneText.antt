@@ -30,7 +30,8 @@ words_clean : (s : Segment) → s.slots ≤ 2 ^ 42 → s.bytes ≤ 2 ^ 42 → Al
 words_clean s few_slots few_bytes =
     All-append (λ b. b ≢ 10) (codes "segment " ++ decimal s.slots ++ codes " ") (decimal s.bytes)
     (All-append (λ b. b ≢ 10) (codes "segment " ++ decimal s.slots) (codes " ")
-    (All-append (λ b. b ≢ 10) (codes "segment ") (decimal s.slots) (no_lf_by (codes "segment ") refl) (number_clean s.slots few_slots))
+    (All-append (λ b. b ≢ 10) (codes "segment ") (decimal s.slots) (no_lf_by (codes "segment ") refl)
+    (number_clean s.slots few_slots))
     (no_lf_by (codes " ") refl))
     (number_clean s.bytes few_bytes)
 
@@ -40,18 +41,25 @@ body_of segments = map segment_words segments ++ codes "end" ∷ []
 
 abbrev pub lines_are : ℕ → ℕ → List Segment → Lines
 lines_are slots bytes segments =
-    record { whole = codes "smooth 1" ∷ (codes "slots " ++ decimal slots) ∷ (codes "bytes " ++ decimal bytes) ∷ body_of segments; rest = [] }
+    record {
+      whole =
+          codes "smooth 1" ∷ (codes "slots " ++ decimal slots) ∷ (codes "bytes " ++ decimal bytes) ∷ body_of segments;
+      rest = [];
+    }
 
 abbrev IsFew : Segment → Type 0
 IsFew s = (s.slots ≤ 2 ^ 42) × (s.bytes ≤ 2 ^ 42)
 
-lines-body : (segments : List Segment) → All IsFew segments → lines_of (flat_map segment_line segments ++ codes "end\n") ≡ record { whole = body_of segments; rest = [] }
+lines-body : (segments : List Segment) → All IsFew segments
+    → lines_of (flat_map segment_line segments ++ codes "end\n") ≡ record { whole = body_of segments; rest = [] }
 lines-body [] small = refl
 lines-body (s ∷ rest) small =
     let few : IsFew s = All-head IsFew s rest small in
     let others = lines-body rest (All-tail IsFew s rest small) in
-    let shape : (segment_line s ++ flat_map segment_line rest) ++ codes "end\n" ≡ segment_words s ++ 10 ∷ (flat_map segment_line rest ++ codes "end\n") =
-    append_assoc (segment_line s) (flat_map segment_line rest) (codes "end\n") ∙ append_assoc (segment_words s) (10 ∷ []) (flat_map segment_line rest ++ codes "end\n") in
+    let shape : (segment_line s ++ flat_map segment_line rest) ++ codes "end\n"
+    ≡ segment_words s ++ 10 ∷ (flat_map segment_line rest ++ codes "end\n") =
+    append_assoc (segment_line s) (flat_map segment_line rest) (codes "end\n")
+    ∙ append_assoc (segment_words s) (10 ∷ []) (flat_map segment_line rest ++ codes "end\n") in
     ap lines_of shape ∙ lines-cut (segment_words s) (flat_map segment_line rest ++ codes "end\n") (words_clean s few.0 few.1)
     ∙ ap (λ ls. record { whole = segment_words s ∷ ls.whole; rest = ls.rest }) others
 
@@ -72,8 +80,12 @@ lines-certificate slots bytes segments small_slots small_bytes small =
     }) in
     let whole : cert_head slots bytes ++ flat_map segment_line segments ++ codes "end\n" ≡ codes "smooth 1" ++ 10 ∷ second =
     append_assoc (cert_head slots bytes) (flat_map segment_line segments) (codes "end\n") ∙ sym shape in
-    let clean_slots = All-append (λ b. b ≢ 10) (codes "slots ") (decimal slots) (no_lf_by (codes "slots ") refl) (number_clean slots small_slots) in
-    let clean_bytes = All-append (λ b. b ≢ 10) (codes "bytes ") (decimal bytes) (no_lf_by (codes "bytes ") refl) (number_clean bytes small_bytes) in
+    let clean_slots =
+    All-append (λ b. b ≢ 10) (codes "slots ") (decimal slots) (no_lf_by (codes "slots ") refl)
+    (number_clean slots small_slots) in
+    let clean_bytes =
+    All-append (λ b. b ≢ 10) (codes "bytes ") (decimal bytes) (no_lf_by (codes "bytes ") refl)
+    (number_clean bytes small_bytes) in
     ap lines_of whole
     ∙ lines-cut (codes "smooth 1") second (no_lf_by (codes "smooth 1") refl)
     ∙ ap (λ ls. record { whole = codes "smooth 1" ∷ ls.whole; rest = ls.rest })
@@ -88,11 +100,15 @@ pair n b = record { slots = n; bytes = b }
 
 same_words : (s t : Segment) → IsFew s → IsFew t → segment_words s ≡ segment_words t → s ≡ t
 same_words s t few few' e =
-    let shape : (x : Segment) → segment_words x ≡ codes "segment " ++ (decimal x.slots ++ 32 ∷ decimal x.bytes) = λ (x : Segment). simp append_assoc in
+    let shape : (x : Segment)
+    → segment_words x ≡ codes "segment " ++ (decimal x.slots ++ 32 ∷ decimal x.bytes) = λ (x : Segment). simp append_assoc in
     let rest : decimal s.slots ++ 32 ∷ decimal s.bytes ≡ decimal t.slots ++ 32 ∷ decimal t.bytes =
-    append_cancel_left (codes "segment ") (decimal s.slots ++ 32 ∷ decimal s.bytes) (decimal t.slots ++ 32 ∷ decimal t.bytes) (sym (shape s) ∙ e ∙ shape t) in
-    let no_space : (n : ℕ) → n ≤ 2 ^ 42 → All (λ b. b ≢ 32) (decimal n) = λ (n : ℕ) small. not_in_decimal 32 n (omega arith) (λ within. omega (arith, within.0)) in
-    let parts = same_cut {ws = decimal s.bytes} {bs = decimal t.bytes} 32 (decimal s.slots) (decimal t.slots) rest (no_space s.slots few.0) (no_space t.slots few'.0) in
+    append_cancel_left (codes "segment ") (decimal s.slots ++ 32 ∷ decimal s.bytes)
+    (decimal t.slots ++ 32 ∷ decimal t.bytes) (sym (shape s) ∙ e ∙ shape t) in
+    let no_space : (n : ℕ) → n ≤ 2 ^ 42 → All (λ b. b ≢ 32) (decimal n) =
+    λ (n : ℕ) small. not_in_decimal 32 n (omega arith) (λ within. omega (arith, within.0)) in
+    let parts = same_cut {ws = decimal s.bytes} {bs = decimal t.bytes} 32 (decimal s.slots) (decimal t.slots)
+    rest (no_space s.slots few.0) (no_space t.slots few'.0) in
     let slots : s.slots ≡ t.slots = decimal_injective s.slots t.slots (omega (arith, few.0)) (omega (arith, few'.0)) parts.0 in
     let bytes : s.bytes ≡ t.bytes = decimal_injective s.bytes t.bytes (omega (arith, few.1)) (omega (arith, few'.1)) parts.1 in
     ap (λ n. pair n s.bytes) slots ∙ ap (λ b. pair t.slots b) bytes
@@ -128,18 +144,23 @@ pub one_text : (one other : Contents)
     → IsSame one other
 one_text one other e =
     let lines : lines_are slots bytes xs ≡ lines_are slots' bytes' ys =
-    sym (lines-certificate slots bytes xs few_slots few_bytes few) ∙ ap lines_of e ∙ lines-certificate slots' bytes' ys few_slots' few_bytes' few' in
+    sym (lines-certificate slots bytes xs few_slots few_bytes few) ∙ ap lines_of e
+    ∙ lines-certificate slots' bytes' ys few_slots' few_bytes' few' in
     let second : codes "slots " ++ decimal slots ≡ codes "slots " ++ decimal slots' = ap (λ ls. get_or ls.whole 1 []) lines in
     let third : codes "bytes " ++ decimal bytes ≡ codes "bytes " ++ decimal bytes' = ap (λ ls. get_or ls.whole 2 []) lines in
     let rest : body_of xs ≡ body_of ys = ap (λ ls. drop 3 ls.whole) lines in
     record {
-      slots_are = decimal_injective slots slots' (omega (arith, few_slots)) (omega (arith, few_slots')) (append_cancel_left (codes "slots ") (decimal slots) (decimal slots') second);
-      bytes_are = decimal_injective bytes bytes' (omega (arith, few_bytes)) (omega (arith, few_bytes')) (append_cancel_left (codes "bytes ") (decimal bytes) (decimal bytes') third);
-      segments_are = same_list xs ys few few' (append_cancel_right (map segment_words xs) (map segment_words ys) (codes "end" ∷ []) rest);
+      slots_are = decimal_injective slots slots' (omega (arith, few_slots)) (omega (arith, few_slots'))
+          (append_cancel_left (codes "slots ") (decimal slots) (decimal slots') second);
+      bytes_are = decimal_injective bytes bytes' (omega (arith, few_bytes)) (omega (arith, few_bytes'))
+          (append_cancel_left (codes "bytes ") (decimal bytes) (decimal bytes') third);
+      segments_are =
+          same_list xs ys few few' (append_cancel_right (map segment_words xs) (map segment_words ys) (codes "end" ∷ []) rest);
     }
   where
     open one use {slots, bytes, segments as xs, few_slots, few_bytes, few}
-    open other use {slots as slots', bytes as bytes', segments as ys, few_slots as few_slots', few_bytes as few_bytes', few as few'}
+    open other use
+        {slots as slots', bytes as bytes', segments as ys, few_slots as few_slots', few_bytes as few_bytes', few as few'}
 
 abbrev contents_of : {text : List ℕ} {slots bytes : ℕ} {segments : List Segment}
     → IsCertificate text slots bytes segments → Contents
@@ -168,34 +189,43 @@ end_is_no_piece i line after words (Piece s from few piece) =
     omega (arith, first)
 
 length-body : (segments : List Segment) → length (body_of segments) ≡ length segments + 1
-length-body segments = length-append (map segment_words segments) (codes "end" ∷ []) ∙ ap (λ n. n + 1) (length-map segments segment_words)
+length-body segments =
+    length-append (map segment_words segments) (codes "end" ∷ []) ∙ ap (λ n. n + 1) (length-map segments segment_words)
 
 stands : {segments : List Segment} (slots bytes : ℕ) → slots ≤ 2 ^ 42 → bytes ≤ 2 ^ 42 → AreSmall segments →
     {i : ℕ} → i < 3 + length segments → MayStand i (line_at (lines_are slots bytes segments) i)
 stands slots bytes small_slots small_bytes small {i = zero} few = Title refl refl
-stands slots bytes small_slots small_bytes small {i = suc zero} few = Slots slots refl (record { small = small_slots; words = refl })
-stands slots bytes small_slots small_bytes small {i = suc (suc zero)} few = Bytes bytes refl (record { small = small_bytes; words = refl })
+stands slots bytes small_slots small_bytes small {i = suc zero} few =
+    Slots slots refl (record { small = small_slots; words = refl })
+stands slots bytes small_slots small_bytes small {i = suc (suc zero)} few =
+    Bytes bytes refl (record { small = small_bytes; words = refl })
 stands {segments} slots bytes small_slots small_bytes small {i = suc (suc (suc j))} few =
     let s : Segment = get_or segments j (pair 0 0) in
     let inside : j < length segments = omega (arith, few) in
     let inside' : j < length (map segment_words segments) = omega (arith, inside, length-map segments segment_words) in
     let words : get_or (body_of segments) j [] ≡ segment_words s =
-    get_or_append_left (map segment_words segments) (codes "end" ∷ []) [] j inside' ∙ get_or-map segment_words segments j (pair 0 0) [] inside in
+    get_or_append_left (map segment_words segments) (codes "end" ∷ []) [] j inside'
+    ∙ get_or-map segment_words segments j (pair 0 0) [] inside in
     let one : IsFew s = All-get_or IsFew segments j (pair 0 0) inside small.small in
     Piece s (omega arith) (omega (arith, inside, small.few)) (record { few_slots = one.0; few_bytes = one.1; words = words })
 
-ends : (slots bytes : ℕ) (segments : List Segment) (i : ℕ) → i ≡ 3 + length segments → line_at (lines_are slots bytes segments) i ≡ codes "end"
+ends : (slots bytes : ℕ) (segments : List Segment) (i : ℕ) → i ≡ 3 + length segments
+    → line_at (lines_are slots bytes segments) i ≡ codes "end"
 ends slots bytes segments i is =
-    let front = codes "smooth 1" ∷ (codes "slots " ++ decimal slots) ∷ (codes "bytes " ++ decimal bytes) ∷ map segment_words segments in
+    let front = codes "smooth 1" ∷ (codes "slots " ++ decimal slots) ∷ (codes "bytes " ++ decimal bytes)
+    ∷ map segment_words segments in
     let count : length front ≡ i = omega (arith, is, length-map segments segment_words) in
     get_or_at front (codes "end") [] [] i count
 
-no_break : {segments : List Segment} (slots bytes : ℕ) → slots ≤ 2 ^ 42 → bytes ≤ 2 ^ 42 → AreSmall segments → {i : ℕ} → BreaksAt (lines_are slots bytes segments) i → ⊥
+no_break : {segments : List Segment} (slots bytes : ℕ) → slots ≤ 2 ^ 42 → bytes ≤ 2 ^ 42 → AreSmall segments
+    → {i : ℕ} → BreaksAt (lines_are slots bytes segments) i → ⊥
 no_break {segments} slots bytes small_slots small_bytes small {i} breaks =
     let last = 3 + length segments in
     let at_last : line_at (lines_are slots bytes segments) last ≡ codes "end" = ends slots bytes segments last refl in
     elim breaks.here [
-      | inl over ↦ end_is_no_piece last (line_at (lines_are slots bytes segments) last) (omega arith) at_last (breaks.before last (omega (arith, over, length-body segments)))
+      | inl over ↦
+          end_is_no_piece last (line_at (lines_are slots bytes segments) last) (omega arith) at_last
+          (breaks.before last (omega (arith, over, length-body segments)))
       | inr bad ↦ elim (cases_lt i (3 + length segments)) [
         | inl inside ↦ bad.1 (stands slots bytes small_slots small_bytes small inside)
         | inr after ↦ (
@@ -205,10 +235,12 @@ no_break {segments} slots bytes small_slots small_bytes small {i} breaks =
       ]
     ]
 
-nothing_after : {segments : List Segment} (slots bytes : ℕ) → slots ≤ 2 ^ 42 → bytes ≤ 2 ^ 42 → AreSmall segments → {i : ℕ} → IsAfterEnd (lines_are slots bytes segments) i → ⊥
+nothing_after : {segments : List Segment} (slots bytes : ℕ) → slots ≤ 2 ^ 42 → bytes ≤ 2 ^ 42
+    → AreSmall segments → {i : ℕ} → IsAfterEnd (lines_are slots bytes segments) i → ⊥
 nothing_after {segments} slots bytes small_slots small_bytes small after =
     elim (cases_lt after.last (3 + length segments)) [
-      | inl inside ↦ end_is_no_piece after.last (line_at (lines_are slots bytes segments) after.last) after.ends.after_head after.ends.words
+      | inl inside ↦
+          end_is_no_piece after.last (line_at (lines_are slots bytes segments) after.last) after.ends.after_head after.ends.words
           (stands slots bytes small_slots small_bytes small inside)
       | inr over ↦ elim after.more [
         | inl more ↦ omega (arith, more, over, after.last_is, length-body segments)
@@ -223,7 +255,8 @@ certificate_has_no_bad_line {text} {segments} line cert bad =
     let b = total_bytes segments in
     let small_slots : s ≤ 2 ^ 42 = omega (arith, cert.slots_are, cert.small_slots) in
     let small_bytes : b ≤ 2 ^ 42 = omega (arith, cert.bytes_are, cert.small_bytes) in
-    let lines : lines_of text ≡ lines_are s b segments = ap lines_of cert.text_is ∙ lines-certificate s b segments small_slots small_bytes cert.small.small in
+    let lines : lines_of text ≡ lines_are s b segments =
+    ap lines_of cert.text_is ∙ lines-certificate s b segments small_slots small_bytes cert.small.small in
     elim bad.2 [
       | inl breaks ↦ no_break s b small_slots small_bytes cert.small (subst (λ ls. BreaksAt ls bad.0) lines breaks)
       | inr other ↦ elim other [
@@ -246,7 +279,8 @@ certificate_has_no_bad_line {text} {segments} line cert bad =
     ]
 
 -- so a certificate is read, and as its own segments
-pub exact_reading : {text : List ℕ} (read : Result CertText CertRead) → IfOk read (λ cert. IsCertificate text cert.slots cert.bytes cert.segments.items) →
+pub exact_reading : {text : List ℕ} (read : Result CertText CertRead) →
+    IfOk read (λ cert. IsCertificate text cert.slots cert.bytes cert.segments.items) →
     IfErr read (IsRefused text) → {slots bytes : ℕ} {segments : List Segment} → IsCertificate text slots bytes segments →
     MatchResult read (λ cert. cert.segments.items ≡ segments) (λ refusal. refusal ≡ NoMemory)
 exact_reading (Ok cert) good bad certificate = one_certificate good certificate

@@ -16,12 +16,20 @@ use Rattle.plan_cert.proofs.Floors.{floor_rises}
 pub sum-first_slots : (s : Segment) (k : ℕ) → 0 < s.slots → sum (map (slot_of s) (range_with_len 0 k)) ≡ k * s.bytes / s.slots
 sum-first_slots s zero pos = sym (ap (λ x. x / s.slots) (zero-mul s.bytes) ∙ zero-div s.slots)
 sum-first_slots s (suc k) pos =
-    let more : map (slot_of s) (range_with_len 0 (k + 1)) ≡ map (slot_of s) (range_with_len 0 k) ++ slot_of s k ∷ [] = map-range_with_len_more (slot_of s) 0 k k (omega arith) in
-    let more' : map (slot_of s) (range_with_len 0 (suc k)) ≡ map (slot_of s) (range_with_len 0 k) ++ slot_of s k ∷ [] = subst (λ n. map (slot_of s) (range_with_len 0 n) ≡ map (slot_of s) (range_with_len 0 k) ++ slot_of s k ∷ []) (add-one k) more in
-    let pushed : sum (map (slot_of s) (range_with_len 0 k) ++ slot_of s k ∷ []) ≡ sum (map (slot_of s) (range_with_len 0 k)) + slot_of s k = sum_by_push (λ x. x) (map (slot_of s) (range_with_len 0 k)) (slot_of s k) in
+    let more : map (slot_of s) (range_with_len 0 (k + 1))
+    ≡ map (slot_of s) (range_with_len 0 k) ++ slot_of s k ∷ [] = map-range_with_len_more (slot_of s) 0 k k (omega arith) in
+    let more' : map (slot_of s) (range_with_len 0 (suc k))
+    ≡ map (slot_of s) (range_with_len 0 k) ++ slot_of s k ∷ [] =
+    subst (λ n. map (slot_of s) (range_with_len 0 n)
+    ≡ map (slot_of s) (range_with_len 0 k) ++ slot_of s k ∷ []) (add-one k) more in
+    let pushed : sum (map (slot_of s) (range_with_len 0 k) ++ slot_of s k ∷ [])
+    ≡ sum (map (slot_of s) (range_with_len 0 k)) + slot_of s k =
+    sum_by_push (λ x. x) (map (slot_of s) (range_with_len 0 k)) (slot_of s k) in
     let before : sum (map (slot_of s) (range_with_len 0 k)) ≡ k * s.bytes / s.slots = sum-first_slots s k pos in
-    let rises : k * s.bytes / s.slots ≤ (k + 1) * s.bytes / s.slots = floor_rises (k * s.bytes) ((k + 1) * s.bytes) s.slots pos (omega arith) in
-    let step : sum (map (slot_of s) (range_with_len 0 (suc k))) ≡ (k + 1) * s.bytes / s.slots = ap sum more' ∙ pushed ∙ (omega arith) in
+    let rises : k * s.bytes / s.slots ≤ (k + 1) * s.bytes / s.slots =
+    floor_rises (k * s.bytes) ((k + 1) * s.bytes) s.slots pos (omega arith) in
+    let step : sum (map (slot_of s) (range_with_len 0 (suc k))) ≡ (k + 1) * s.bytes / s.slots =
+    ap sum more' ∙ pushed ∙ (omega arith) in
     step ∙ ap (λ n. n * s.bytes / s.slots) (add-one k)
 
 pub length-slots_of : (s : Segment) → length (slots_of s) ≡ s.slots
@@ -45,24 +53,31 @@ sum-take-in s rest k pos few =
 pub sum-take-past : (s : Segment) (rest : List Segment) (k : ℕ) → 0 < s.slots →
     sum (take (s.slots + k) (plan_slots (s ∷ rest))) ≡ s.bytes + sum (take k (plan_slots rest))
 sum-take-past s rest k pos =
-    let whole : take (length (slots_of s) + k) (slots_of s ++ plan_slots rest) ≡ slots_of s ++ take k (plan_slots rest) = take-append-add (slots_of s) (plan_slots rest) k in
-    let whole' : take (s.slots + k) (slots_of s ++ plan_slots rest) ≡ slots_of s ++ take k (plan_slots rest) = subst (λ n. take (n + k) (slots_of s ++ plan_slots rest) ≡ slots_of s ++ take k (plan_slots rest)) (length-slots_of s) whole in
-    ap sum whole' ∙ sum_by-append (λ x. x) (slots_of s) (take k (plan_slots rest)) ∙ ap (λ n. n + sum (take k (plan_slots rest))) (sum-slots_of s pos)
+    let whole : take (length (slots_of s) + k) (slots_of s ++ plan_slots rest)
+    ≡ slots_of s ++ take k (plan_slots rest) = take-append-add (slots_of s) (plan_slots rest) k in
+    let whole' : take (s.slots + k) (slots_of s ++ plan_slots rest) ≡ slots_of s ++ take k (plan_slots rest) =
+    subst (λ n. take (n + k) (slots_of s ++ plan_slots rest) ≡ slots_of s ++ take k (plan_slots rest))
+    (length-slots_of s) whole in
+    ap sum whole' ∙ sum_by-append (λ x. x) (slots_of s) (take k (plan_slots rest))
+    ∙ ap (λ n. n + sum (take k (plan_slots rest))) (sum-slots_of s pos)
 
 -- a plan has the slots of its segments
 pub length-plan_slots : (segments : List Segment) → length (plan_slots segments) ≡ total_slots segments
 length-plan_slots [] = refl
 length-plan_slots (s ∷ rest) =
-    let both : length (slots_of s ++ plan_slots rest) ≡ length (slots_of s) + length (plan_slots rest) = length-append (slots_of s) (plan_slots rest) in
+    let both : length (slots_of s ++ plan_slots rest) ≡ length (slots_of s) + length (plan_slots rest) =
+    length-append (slots_of s) (plan_slots rest) in
     let all : total_slots (s ∷ rest) ≡ s.slots + total_slots rest = sum_by-cons (λ x. x.slots) s rest in
     omega (arith, both, all, length-slots_of s, length-plan_slots rest)
 
 -- and sends their bytes
-pub sum-plan_slots : (segments : List Segment) → All (λ s. 1 ≤ s.slots) segments → sum (plan_slots segments) ≡ total_bytes segments
+pub sum-plan_slots : (segments : List Segment) → All (λ s. 1 ≤ s.slots) segments
+    → sum (plan_slots segments) ≡ total_bytes segments
 sum-plan_slots [] some = refl
 sum-plan_slots (s ∷ rest) some =
     let pos : 0 < s.slots = All-head (λ x. 1 ≤ x.slots) s rest some in
-    let both : sum (slots_of s ++ plan_slots rest) ≡ sum (slots_of s) + sum (plan_slots rest) = sum_by-append (λ x. x) (slots_of s) (plan_slots rest) in
+    let both : sum (slots_of s ++ plan_slots rest) ≡ sum (slots_of s) + sum (plan_slots rest) =
+    sum_by-append (λ x. x) (slots_of s) (plan_slots rest) in
     let all : total_bytes (s ∷ rest) ≡ s.bytes + total_bytes rest = sum_by-cons (λ x. x.bytes) s rest in
     omega (arith, both, all, sum-slots_of s pos, sum-plan_slots rest (All-tail (λ x. 1 ≤ x.slots) s rest some))
 
@@ -85,18 +100,22 @@ sum-take-at {s} (x ∷ rest) zero j some given few =
     ap (λ n. sum (take n (plan_slots (x ∷ rest)))) none ∙ here ∙ same ∙ omega arith
 sum-take-at {s} (x ∷ rest) (suc i) j some given few =
     let pos : 0 < x.slots = All-head (λ y. 1 ≤ y.slots) x rest some in
-    let slots : total_slots (x ∷ take i rest) ≡ x.slots + total_slots (take i rest) = sum_by-cons (λ y. y.slots) x (take i rest) in
-    let bytes : total_bytes (x ∷ take i rest) ≡ x.bytes + total_bytes (take i rest) = sum_by-cons (λ y. y.bytes) x (take i rest) in
+    let slots : total_slots (x ∷ take i rest) ≡ x.slots + total_slots (take i rest) =
+    sum_by-cons (λ y. y.slots) x (take i rest) in
+    let bytes : total_bytes (x ∷ take i rest) ≡ x.bytes + total_bytes (take i rest) =
+    sum_by-cons (λ y. y.bytes) x (take i rest) in
     let place : total_slots (x ∷ take i rest) + j ≡ x.slots + (total_slots (take i rest) + j) = omega (arith, slots) in
     let after : sum (take (total_slots (take i rest) + j) (plan_slots rest)) ≡ total_bytes (take i rest) + j * s.bytes / s.slots =
     sum-take-at rest i j (All-tail (λ y. 1 ≤ y.slots) x rest some) (record {
       inside = omega (arith, given.inside);
       segment_is = given.segment_is;
     }) few in
-    ap (λ n. sum (take n (plan_slots (x ∷ rest)))) place ∙ sum-take-past x rest (total_slots (take i rest) + j) pos ∙ omega (arith, after, bytes)
+    ap (λ n. sum (take n (plan_slots (x ∷ rest)))) place
+    ∙ sum-take-past x rest (total_slots (take i rest) + j) pos ∙ omega (arith, after, bytes)
 
 -- the running sum through a slot that has a place
-pub sum_through-at : {segments : List Segment} {slot : ℕ} {s : Segment} {passed before : ℕ} → IsPlan segments → IsPlace segments slot s passed before →
+pub sum_through-at : {segments : List Segment} {slot : ℕ} {s : Segment} {passed before : ℕ} → IsPlan segments →
+    IsPlace segments slot s passed before →
     before + (passed + 1) * s.bytes / s.slots ≡ sum_through segments slot
 sum_through-at {segments} {slot} {s} {passed} plan place =
     let h = sum-take-at segments place.index (passed + 1) plan.no_empty (record {
@@ -104,18 +123,21 @@ sum_through-at {segments} {slot} {s} {passed} plan place =
       segment_is = place.segment_is;
     }) (omega (arith, place.within)) in
     let at : total_slots (take place.index segments) + (passed + 1) ≡ slot + 1 = omega (arith, place.slot_is) in
-    let whole : sum (take (slot + 1) (plan_slots segments)) ≡ total_bytes (take place.index segments) + (passed + 1) * s.bytes / s.slots =
+    let whole : sum (take (slot + 1) (plan_slots segments))
+    ≡ total_bytes (take place.index segments) + (passed + 1) * s.bytes / s.slots =
     ap (λ n. sum (take n (plan_slots segments))) (sym at) ∙ h in
     omega (arith, whole, place.before_is)
 
 -- the running sum past the end
-pub sum_through-past : (segments : List Segment) (slot : ℕ) → IsPlan segments → total_slots segments ≤ slot + 1 → total_bytes segments ≡ sum_through segments slot
+pub sum_through-past : (segments : List Segment) (slot : ℕ) → IsPlan segments → total_slots segments ≤ slot + 1
+    → total_bytes segments ≡ sum_through segments slot
 sum_through-past segments slot plan past =
     let short : length (plan_slots segments) ≤ slot + 1 = omega (arith, length-plan_slots segments, past) in
     sym (ap sum (take_all (slot + 1) (plan_slots segments) short) ∙ sum-plan_slots segments plan.no_empty)
 
 -- a slot that has a place
-pub slot-at : {segments : List Segment} {slot : ℕ} {s : Segment} {passed before : ℕ} → IsPlan segments → IsPlace segments slot s passed before →
+pub slot-at : {segments : List Segment} {slot : ℕ} {s : Segment} {passed before : ℕ} → IsPlan segments →
+    IsPlace segments slot s passed before →
     (passed + 1) * s.bytes / s.slots - passed * s.bytes / s.slots ≡ slice_index (plan_slots segments) slot
 slot-at {segments} {slot} {s} {passed} plan place =
     let through = sum_through-at plan place in
@@ -128,8 +150,10 @@ slot-at {segments} {slot} {s} {passed} plan place =
     let within : total_slots (take place.index segments) + (slice_index_or segments place.index s).slots ≤ total_slots segments =
     sum_by_more_le (λ x. x.slots) segments place.index s place.inside in
     let same : s.slots ≡ (slice_index_or segments place.index s).slots = ap (λ x. x.slots) place.segment_is in
-    let inside : slot < length (plan_slots segments) = omega (arith, length-plan_slots segments, within, same, place.within, place.slot_is) in
-    let more : sum (take (slot + 1) (plan_slots segments)) ≡ sum (take slot (plan_slots segments)) + slice_index (plan_slots segments) slot =
+    let inside : slot < length (plan_slots segments) =
+    omega (arith, length-plan_slots segments, within, same, place.within, place.slot_is) in
+    let more : sum (take (slot + 1) (plan_slots segments))
+    ≡ sum (take slot (plan_slots segments)) + slice_index (plan_slots segments) slot =
     sum_by_more (λ x. x) (plan_slots segments) slot 0 inside in
     omega (arith, through, up_to, more, place.before_is)
 

@@ -44,7 +44,8 @@ text_lines segments =
       bytes_is = refl;
     }))
 
-pub one_list : (segments others : List Segment) → IsNamed segments → IsNamed others → cert_text segments ≡ cert_text others → segments ≡ others
+pub one_list : (segments others : List Segment) → IsNamed segments → IsNamed others
+    → cert_text segments ≡ cert_text others → segments ≡ others
 one_list segments others one other e =
     let contents = λ (list : List Segment) (is : IsNamed list).
     let told : Contents = record {

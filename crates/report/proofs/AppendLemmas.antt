@@ -17,7 +17,8 @@ front_of_first before text next after cut = record {
 }
 
 -- after the whole first text, a front of the second one
-front_of_second : {before next mid after : List ℕ} (text : List ℕ) → mid ≡ before ++ text → HasFrontOf mid next after → HasFrontOf before (text ++ next) after
+front_of_second : {before next mid after : List ℕ} (text : List ℕ) → mid ≡ before ++ text
+    → HasFrontOf mid next after → HasFrontOf before (text ++ next) after
 front_of_second {before} {next} text whole cut = record {
   front = text ++ cut.front;
   rest = cut.rest;
@@ -26,32 +27,41 @@ front_of_second {before} {next} text whole cut = record {
 }
 
 -- both texts
-pub both : {mid after : List ℕ} (before text next : List ℕ) → mid ≡ before ++ text → after ≡ mid ++ next → after ≡ before ++ (text ++ next)
+pub both : {mid after : List ℕ} (before text next : List ℕ) → mid ≡ before ++ text → after ≡ mid ++ next
+    → after ≡ before ++ (text ++ next)
 both before text next first second = second ∙ ap (λ (l : List ℕ). l ++ next) first ∙ append_assoc before text next
 
-after_first : {before next mid after : List ℕ} {r : Answer} (text : List ℕ) → mid ≡ before ++ text → IsAppended mid next after r → IsAppended before (text ++ next) after r
-after_first {before} {next} {mid} {after} {r = Ok done} text whole more = record { whole = both before text next whole more.whole; cut = tt }
+after_first : {before next mid after : List ℕ} {r : Answer} (text : List ℕ) → mid ≡ before ++ text
+    → IsAppended mid next after r → IsAppended before (text ++ next) after r
+after_first {before} {next} {mid} {after} {r = Ok done} text whole more =
+    record { whole = both before text next whole more.whole; cut = tt }
 after_first {next} {r = Err e} text whole more = record { whole = tt; cut = front_of_second text whole more.cut }
 
 -- after the whole first text, the second one is appended
-pub then_appended : {before next mid after : List ℕ} {r : Answer} → (text : List ℕ) → mid ≡ before ++ text → IsAppended mid next after r → IsAppended before (text ++ next) after r
+pub then_appended : {before next mid after : List ℕ} {r : Answer} → (text : List ℕ) → mid ≡ before ++ text
+    → IsAppended mid next after r → IsAppended before (text ++ next) after r
 then_appended text whole more = after_first text whole more
 
 -- a text that was cut stays so, whatever was to follow
-pub cut_before : {before text after : List ℕ} {e : NoMemory} → (next : List ℕ) → IsAppended before text after (Err e) → IsAppended before (text ++ next) after (Err e)
+pub cut_before : {before text after : List ℕ} {e : NoMemory} → (next : List ℕ)
+    → IsAppended before text after (Err e) → IsAppended before (text ++ next) after (Err e)
 cut_before next cut = record { whole = tt; cut = front_of_first _ _ next _ cut.cut }
 
-handed : {before text after : List ℕ} {e : NoMemory} {r : Answer} → IsErr r → IsAppended before text after (Err e) → IsAppended before text after r
+handed : {before text after : List ℕ} {e : NoMemory} {r : Answer} → IsErr r
+    → IsAppended before text after (Err e) → IsAppended before text after r
 handed {text} {r = Ok done} none cut = absurd (false≢true none)
 handed {text} {r = Err other} none cut = record { whole = tt; cut = cut.cut }
 
 -- want of memory is handed on
-pub handed_on : {before text after : List ℕ} {e : NoMemory} (r : Answer) → IsErr r → IsAppended before text after (Err e) → IsAppended before text after r
+pub handed_on : {before text after : List ℕ} {e : NoMemory} (r : Answer) → IsErr r
+    → IsAppended before text after (Err e) → IsAppended before text after r
 handed_on r none cut = handed none cut
 
-same_text : {before text whole after : List ℕ} {r : Answer} → text ≡ whole → IsAppended before text after r → IsAppended before whole after r
+same_text : {before text whole after : List ℕ} {r : Answer} → text ≡ whole → IsAppended before text after r
+    → IsAppended before whole after r
 same_text {before} {text} {whole} {after} {r} same done = subst (λ (l : List ℕ). IsAppended before l after r) same done
 
 -- the same text in other words
-pub appended_as : {before text whole after : List ℕ} {r : Answer} → text ≡ whole → IsAppended before text after r → IsAppended before whole after r
+pub appended_as : {before text whole after : List ℕ} {r : Answer} → text ≡ whole
+    → IsAppended before text after r → IsAppended before whole after r
 appended_as same done = same_text same done

@@ -74,13 +74,19 @@ asked_play slot plan = record {
 }
 
 pub has_form : (place seat : ℕ) (command : Command) (answer : Answer) → IsOfKind command answer →
-    HasForm place seat (decimal place ++ field (codes " seat=") seat ++ command_words command ++ answer_words answer ++ codes "\n") command answer
+    HasForm place seat
+    (decimal place ++ field (codes " seat=") seat ++ command_words command ++ answer_words answer
+    ++ codes "\n") command answer
 has_form place seat (Play slot plan) (Admitted start) kind =
     line_spelled (decimal place) (labelled (codes " seat=") seat) (asked_play slot plan)
     (record { first = labelled (codes " admitted start=") start; more = [] })
 has_form place seat (Play slot plan) (Overflow over booked asked) kind =
     line_spelled (decimal place) (labelled (codes " seat=") seat) (asked_play slot plan)
-    (record { first = labelled (codes " overflow slot=") over; more = labelled (codes " booked=") booked ∷ labelled (codes " asked=") asked ∷ [] })
+    (record {
+      first = labelled (codes " overflow slot=") over;
+      more =
+          labelled (codes " booked=") booked ∷ labelled (codes " asked=") asked ∷ [];
+    })
 has_form place seat (Play slot plan) Halted kind = kind
 has_form place seat (Play slot plan) (Looked now at booked) kind = kind
 has_form place seat (Halt number keep) (Admitted start) kind = kind
@@ -95,5 +101,10 @@ has_form place seat (Look slot) (Admitted start) kind = kind
 has_form place seat (Look slot) (Overflow over booked asked) kind = kind
 has_form place seat (Look slot) Halted kind = kind
 has_form place seat (Look slot) (Looked now at booked) kind =
-    line_spelled (decimal place) (labelled (codes " seat=") seat) (record { first = labelled (codes " look slot=") slot; more = [] })
-    (record { first = labelled (codes " looked now=") now; more = labelled (codes " at=") at ∷ labelled (codes " booked=") booked ∷ [] })
+    line_spelled (decimal place) (labelled (codes " seat=") seat)
+    (record { first = labelled (codes " look slot=") slot; more = [] })
+    (record {
+      first = labelled (codes " looked now=") now;
+      more =
+          labelled (codes " at=") at ∷ labelled (codes " booked=") booked ∷ [];
+    })

@@ -11,7 +11,9 @@ use Rattle.report.proofs.LineLemmas.{all_booked, booked_stands, few_slots, lines
 ascending_slots : (booked : ℕ → ℕ) (a n : ℕ) → AreAscending (booked_among booked (range_with_len a n))
 ascending_slots booked a zero = tt
 ascending_slots booked a (suc n) =
-    pick (nat_lt 0 (booked a)) (all_booked booked (λ u. a < u) (a + 1) n (λ t after inside some. omega (arith, after))) (ascending_slots booked (a + 1) n)
+    pick (nat_lt 0 (booked a))
+    (all_booked booked (λ u. a < u) (a + 1) n (λ t after inside some. omega (arith, after)))
+    (ascending_slots booked (a + 1) n)
   where
     rest : List ℕ
     rest = booked_among booked (range_with_len (a + 1) n)
@@ -20,7 +22,8 @@ ascending_slots booked a (suc n) =
     pick true later others = (later, others)
     pick false later others = others
 
-pub calendar_told : (from : ℕ) (booked : ℕ → ℕ) → ring_slots < 2 ^ 62 → AreBookings from booked → IsCalendarTold from booked (lines_of (calendar_text from booked))
+pub calendar_told : (from : ℕ) (booked : ℕ → ℕ) → ring_slots < 2 ^ 62 → AreBookings from booked
+    → IsCalendarTold from booked (lines_of (calendar_text from booked))
 calendar_told from booked short are =
     let small : from < 2 ^ 64 = omega (arith, are.first_small) in
     let told = lines-text from booked small (few_slots from booked are short) in

@@ -56,8 +56,10 @@ text_from entries i entry inside at =
     ∙ ap (λ (e : Entry). entry_line i e ++ journal_text (i + 1) (drop (i + 1) entries)) (sym at)
 
 -- a line more
-pub one_more : {entries : List Entry} {from place : ℕ} {before mid after : List ℕ} (entry : Entry) → HasAppended entries from place before mid →
-    place < length entries → entry ≡ get_or entries place entry → after ≡ mid ++ entry_line place entry → HasAppended entries from (place + 1) before after
+pub one_more : {entries : List Entry} {from place : ℕ} {before mid after : List ℕ} (entry : Entry) →
+    HasAppended entries from place before mid →
+    place < length entries → entry ≡ get_or entries place entry → after ≡ mid ++ entry_line place entry
+    → HasAppended entries from (place + 1) before after
 one_more {entries = entries} {place = place} {before = before} entry so_far inside at is = record {
   done = so_far.done ++ entry_line place entry;
   after_is = both before so_far.done (entry_line place entry) so_far.after_is is;
@@ -66,7 +68,8 @@ one_more {entries = entries} {place = place} {before = before} entry so_far insi
 }
 
 -- a front of the line at a place is one of the text
-pub line_cut : {entries : List Entry} {from place : ℕ} {before mid after : List ℕ} {e : NoMemory} (entry : Entry) → HasAppended entries from place before mid →
+pub line_cut : {entries : List Entry} {from place : ℕ} {before mid after : List ℕ} {e : NoMemory}
+    (entry : Entry) → HasAppended entries from place before mid →
     place < length entries → entry ≡ get_or entries place entry → IsAppended mid (entry_line place entry) after (Err e) →
     IsAppended before (journal_text from (drop from entries)) after (Err e)
 line_cut {entries = entries} {place = place} entry so_far inside at cut =
@@ -74,8 +77,11 @@ line_cut {entries = entries} {place = place} entry so_far inside at cut =
     (then_appended so_far.done so_far.after_is (cut_before (journal_text (place + 1) (drop (place + 1) entries)) cut))
 
 -- after the last line
-pub all_appended : {entries : List Entry} {from place : ℕ} {before after : List ℕ} → HasAppended entries from place before after → length entries ≤ place →
+pub all_appended : {entries : List Entry} {from place : ℕ} {before after : List ℕ} →
+    HasAppended entries from place before after → length entries ≤ place →
     after ≡ before ++ journal_text from (drop from entries)
 all_appended {entries = entries} {place = place} {before = before} so_far past =
     let none : journal_text place (drop place entries) ≡ [] = ap (journal_text place) (drop_all place entries past) in
-    so_far.after_is ∙ ap (λ (l : List ℕ). before ++ l) (sym (append-nil so_far.done) ∙ ap (λ (l : List ℕ). so_far.done ++ l) (sym none) ∙ so_far.whole)
+    so_far.after_is
+    ∙ ap (λ (l : List ℕ). before ++ l)
+    (sym (append-nil so_far.done) ∙ ap (λ (l : List ℕ). so_far.done ++ l) (sym none) ∙ so_far.whole)

@@ -11,7 +11,8 @@ use Rattle.admission.specs.declared.entries.Entry.{Entry}
 use Rattle.admission.specs.Histories.{IsLegal, state_after}
 use Rattle.report.specs.Kinds.{AreOfKind, IsOfKind}
 
-pub kind_of_answer : (steps : List CapStep) (state : State) (command : Command) (answer : Answer) → IsAnswer steps state command answer → IsOfKind command answer
+pub kind_of_answer : (steps : List CapStep) (state : State) (command : Command) (answer : Answer)
+    → IsAnswer steps state command answer → IsOfKind command answer
 kind_of_answer steps state (Play slot plan) (Admitted start) is = tt
 kind_of_answer steps state (Play slot plan) (Overflow over booked asked) is = tt
 kind_of_answer steps state (Play slot plan) Halted is = is

@@ -25,7 +25,8 @@ line-booked bytes t some = ap (λ b. cond b (slot_line bytes t) []) (lt-ltb 0 (b
 pub line-free : (bytes : ℕ → ℕ) (t : ℕ) → bytes t ≤ 0 → line_at bytes t ≡ []
 line-free bytes t none = ap (λ b. cond b (slot_line bytes t) []) (le-ltb 0 (bytes t) none)
 
-pick : (f : ℕ → List ℕ) (b : Bool) (t : ℕ) (rest : List ℕ) → flat_map f (cond b (t ∷ rest) rest) ≡ cond b (f t) [] ++ flat_map f rest
+pick : (f : ℕ → List ℕ) (b : Bool) (t : ℕ) (rest : List ℕ)
+    → flat_map f (cond b (t ∷ rest) rest) ≡ cond b (f t) [] ++ flat_map f rest
 pick f true t rest = refl
 pick f false t rest = refl
 
@@ -45,11 +46,13 @@ range-split a zero m =
 range-split a (suc k) m =
     let count : suc k + m ≡ suc (k + m) = omega arith in
     let from : a + 1 + k ≡ a + suc k = omega arith in
-    ap (range_with_len a) count ∙ ap (λ l. a ∷ l) (range-split (a + 1) k m) ∙ ap (λ s. a ∷ (range_with_len (a + 1) k ++ range_with_len s m)) from
+    ap (range_with_len a) count ∙ ap (λ l. a ∷ l) (range-split (a + 1) k m)
+    ∙ ap (λ s. a ∷ (range_with_len (a + 1) k ++ range_with_len s m)) from
 
 -- the lines of the slots up to t, and then those from t on
 lines-split : (bytes : ℕ → ℕ) (a k m t : ℕ) → t ≡ a + k →
-    lines bytes (range_with_len a (k + suc m)) ≡ lines bytes (range_with_len a k) ++ (line_at bytes t ++ lines bytes (range_with_len (t + 1) m))
+    lines bytes (range_with_len a (k + suc m))
+    ≡ lines bytes (range_with_len a k) ++ (line_at bytes t ++ lines bytes (range_with_len (t + 1) m))
 lines-split bytes a k m t is =
     ap (lines bytes) (range-split a k (suc m) ∙ ap (λ s. range_with_len a k ++ range_with_len s (suc m)) (sym is))
     ∙ lines-append bytes (range_with_len a k) (t ∷ range_with_len (t + 1) m)
@@ -70,9 +73,11 @@ pub record IsAmong (a n k t : ℕ) : Type 0 where
 
 -- all slots, of which t is one in which bytes are booked
 pub lines-around : {a n k t : ℕ} (bytes : ℕ → ℕ) → IsAmong a n k t → 0 < bytes t →
-    lines bytes (range_with_len a k) ++ (slot_line bytes t ++ lines bytes (range_with_len (t + 1) (n - (k + 1)))) ≡ lines bytes (range_with_len a n)
+    lines bytes (range_with_len a k)
+    ++ (slot_line bytes t ++ lines bytes (range_with_len (t + 1) (n - (k + 1)))) ≡ lines bytes (range_with_len a n)
 lines-around {a} {n} {k} {t} bytes among some =
     let m = n - (k + 1) in
     let count : n ≡ k + suc m = omega (arith, among.inside) in
     sym (ap (λ i. lines bytes (range_with_len a i)) count ∙ lines-split bytes a k m t among.is
-    ∙ ap (λ (l : List ℕ). lines bytes (range_with_len a k) ++ (l ++ lines bytes (range_with_len (t + 1) m))) (line-booked bytes t some))
+    ∙ ap (λ (l : List ℕ). lines bytes (range_with_len a k) ++ (l ++ lines bytes (range_with_len (t + 1) m)))
+    (line-booked bytes t some))

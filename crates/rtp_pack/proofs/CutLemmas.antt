@@ -13,10 +13,12 @@ use Rattle.rtp_pack.specs.Packets.{before_slice, full_packets, packets_from}
 pub not_both : (b : Bool) → b ≡ true → b ≡ false → ⊥
 not_both b holds fails = let bad : true ≡ false = sym holds ∙ fails in cc
 
-pub full-once : {a b : ℕ} (start end : ℕ) → start + 1380 * a < end → end ≤ start + 1380 * a + 1380 → start + 1380 * b < end → end ≤ start + 1380 * b + 1380 → a ≡ b
+pub full-once : {a b : ℕ} (start end : ℕ) → start + 1380 * a < end → end ≤ start + 1380 * a + 1380
+    → start + 1380 * b < end → end ≤ start + 1380 * b + 1380 → a ≡ b
 full-once {a} start end p q r s = omega arith
 
-pub one-fill : {G : ℕ → List ℕ → Type 0} → ((last : ℕ) (a b : List ℕ) → G last a → G last b → a ≡ b) → {start end : ℕ} {a b : List ℕ} → Fills G start end a → Fills G start end b → a ≡ b
+pub one-fill : {G : ℕ → List ℕ → Type 0} → ((last : ℕ) (a b : List ℕ) → G last a → G last b → a ≡ b)
+    → {start end : ℕ} {a b : List ℕ} → Fills G start end a → Fills G start end b → a ≡ b
 one-fill {G} same {start} {end} {a} x y =
     let full : x.full ≡ y.full = full-once start end x.before x.within y.before y.within in
     let there : G (start + 1380 * y.full) x.rest = subst (λ k. G (start + 1380 * k) x.rest) full x.goes_on in
@@ -49,7 +51,8 @@ pub ends-append : (a b : List Packet) → ends (a ++ b) ≡ ends a ++ ends b
 ends-append [] b = refl
 ends-append (p ∷ a) b = ap (λ (l : List ℕ). p.to ∷ l) (ends-append a b)
 
-pub ends-full : (unit : PictureUnit) (begin : Bool) (start count : ℕ) → ends (full_packets unit begin start count) ≡ full_ends start count
+pub ends-full : (unit : PictureUnit) (begin : Bool) (start count : ℕ)
+    → ends (full_packets unit begin start count) ≡ full_ends start count
 ends-full unit begin start zero = refl
 ends-full unit begin start (suc count) = ap (λ (l : List ℕ). (start + 1380) ∷ l) (ends-full unit false (start + 1380) count)
 
@@ -59,14 +62,16 @@ full_before-less start end less = omega arith
 pub full_before-within : (start end : ℕ) → start < end → end ≤ start + 1380 * full_before start end + 1380
 full_before-within start end less = omega arith
 
-slice-fills : {G : ℕ → List ℕ → Type 0} {start end : ℕ} (unit : PictureUnit) (rest : List Packet) → start < end → G (last_start start end) (ends rest)
+slice-fills : {G : ℕ → List ℕ → Type 0} {start end : ℕ} (unit : PictureUnit) (rest : List Packet) → start < end
+    → G (last_start start end) (ends rest)
     → Fills G start end (ends (full_packets unit true start (full_before start end) ++ rest))
 slice-fills {start} {end} unit rest less goes_on = record {
   full = full_before start end;
   rest = ends rest;
   before = full_before-less start end less;
   within = full_before-within start end less;
-  filled = ends-append (full_packets unit true start (full_before start end)) rest ∙ ap (λ (l : List ℕ). l ++ ends rest) (ends-full unit true start (full_before start end));
+  filled = ends-append (full_packets unit true start (full_before start end)) rest
+      ∙ ap (λ (l : List ℕ). l ++ ends rest) (ends-full unit true start (full_before start end));
   goes_on = goes_on;
 }
 
@@ -78,10 +83,18 @@ record IsBefore (f : Filling) (end : ℕ) : Type 0 where
 slice-begins : {goes : Bool} {f : Filling} {end : ℕ} (G : ℕ → List ℕ → Type 0) (unit : PictureUnit)
     (rest : List Packet) → IsBefore f end
     → G (last_start (start_of goes f) end) (ends rest)
-    → Begins (λ start left. Fills G start end left) goes f.from f.at (ends ((before_slice goes unit f ++ full_packets unit true (start_of goes f) (full_before (start_of goes f) end)) ++ rest))
+    → Begins (λ start left. Fills G start end left) goes f.from f.at
+    (ends ((before_slice goes unit f
+    ++ full_packets unit true (start_of goes f) (full_before (start_of goes f) end)) ++ rest))
 slice-begins {goes = true} G unit rest before goes_on = inl (refl, slice-fills unit rest before.from goes_on)
 slice-begins {goes = false} {f} {end} G unit rest before goes_on =
-    inr (refl, (ends (full_packets unit true f.at (full_before f.at end) ++ rest), (refl, slice-fills unit rest before.at goes_on)))
+    inr (
+      refl,
+      (
+        ends (full_packets unit true f.at (full_before f.at end) ++ rest),
+        (refl, slice-fills unit rest before.at goes_on),
+      ),
+    )
 
 pub start-less : (f : Filling) (n : ℕ) (goes : Bool) → f.from ≤ f.at → 0 < n → start_of goes f < f.at + n
 start-less f n true order some = omega arith
@@ -91,10 +104,12 @@ pub next-order : (f : Filling) (n : ℕ) → f.from ≤ f.at → 0 < n → (next
 next-order f n order some = full_before-less (start_of (goes_in f n) f) (f.at + n) (start-less f n (goes_in f n) order some)
 
 -- the packets end where the rules say
-pub packets-cut : (unit : PictureUnit) (slices : List ℕ) (f : Filling) → f.from ≤ f.at → AreSome slices → Cuts f slices (ends (packets_from unit f slices))
+pub packets-cut : (unit : PictureUnit) (slices : List ℕ) (f : Filling) → f.from ≤ f.at → AreSome slices
+    → Cuts f slices (ends (packets_from unit f slices))
 packets-cut unit [] f order some = refl
 packets-cut unit (n ∷ slices) f order some =
     let next = next-order f n order some.0 in
     let before : IsBefore f (f.at + n) = record { from = omega (arith, order, some.0); at = omega (arith, some.0) } in
-    slice-begins (λ last rest. Cuts (filling_after f n last) slices rest) unit (packets_from unit (next_filling f n) slices) before
+    slice-begins (λ last rest. Cuts (filling_after f n last) slices rest) unit
+    (packets_from unit (next_filling f n) slices) before
     (packets-cut unit slices (next_filling f n) (omega (arith, next)) some.1)

@@ -35,12 +35,14 @@ later false false l m is more = absurd (true≢false (sym is))
 among-below : (starts : List ℕ) (at to x : ℕ) → AreInOrder at starts to → x < at → is_among x starts ≡ false
 among-below [] at to x order less = refl
 among-below (s ∷ starts) at to x order less =
-    or_from (eqb x s) (is_among x starts) (ne_eqb x s (λ e. absurd (omega (arith, e, order.0, less)))) (among-below starts (next_place to starts) to x order.1.1 (omega (arith, order.1.0)))
+    or_from (eqb x s) (is_among x starts) (ne_eqb x s (λ e. absurd (omega (arith, e, order.0, less))))
+    (among-below starts (next_place to starts) to x order.1.1 (omega (arith, order.1.0)))
 
 ends-below : (starts : List ℕ) (at to x : ℕ) → AreInOrder at starts to → x ≤ at → is_among x (ends_to to starts) ≡ false
 ends-below [] at to x order less = refl
 ends-below (s ∷ starts) at to x order less =
-    or_from (eqb x (next_place to starts)) (is_among x (ends_to to starts)) (ne_eqb x (next_place to starts) (λ e. absurd (omega (arith, e, order.1.0, less))))
+    or_from (eqb x (next_place to starts)) (is_among x (ends_to to starts))
+    (ne_eqb x (next_place to starts) (λ e. absurd (omega (arith, e, order.1.0, less))))
     (ends-below starts (next_place to starts) to x order.1.1 (omega (arith, order.1.0)))
 
 -- from a place on, all slices are those that are left
@@ -55,24 +57,32 @@ pub record Slice (to : ℕ) (all : List ℕ) (at next : ℕ) : Type 0 where
   pub no_start : (x : ℕ) → at < x → x < next → is_among x all ≡ false
   pub no_end : (x : ℕ) → at < x → x < next → is_among x (ends_to to all) ≡ false
 
-slice-known : {to : ℕ} {all : List ℕ} {s : ℕ} {left : List ℕ} {at : ℕ} → Agrees to all at (s ∷ left) → AreInOrder at (s ∷ left) to → Slice to all at (next_place to left)
+slice-known : {to : ℕ} {all : List ℕ} {s : ℕ} {left : List ℕ} {at : ℕ} → Agrees to all at (s ∷ left)
+    → AreInOrder at (s ∷ left) to → Slice to all at (next_place to left)
 slice-known {to} {all} {s} {left} {at} agrees order =
     let next = next_place to left in
     record {
       starts = agrees.starts at (omega arith) ∙ or_left (eqb at s) (is_among at left) (eq-eqb at s (sym order.0));
-      ends = agrees.ends next (omega (arith, order.1.0)) ∙ or_left (eqb next next) (is_among next (ends_to to left)) (eq-eqb next next refl);
+      ends = agrees.ends next (omega (arith, order.1.0))
+          ∙ or_left (eqb next next) (is_among next (ends_to to left)) (eq-eqb next next refl);
       no_start = λ x above below. agrees.starts x (omega (arith, above))
-          ∙ or_from (eqb x s) (is_among x left) (ne_eqb x s (λ e. absurd (omega (arith, e, order.0, above)))) (among-below left next to x order.1.1 below);
+          ∙ or_from (eqb x s) (is_among x left) (ne_eqb x s (λ e. absurd (omega (arith, e, order.0, above))))
+          (among-below left next to x order.1.1 below);
       no_end = λ x above below. agrees.ends x above
-          ∙ or_from (eqb x next) (is_among x (ends_to to left)) (ne_eqb x next (λ e. absurd (omega (arith, e, below)))) (ends-below left next to x order.1.1 (omega (arith, below)));
+          ∙ or_from (eqb x next) (is_among x (ends_to to left))
+          (ne_eqb x next (λ e. absurd (omega (arith, e, below))))
+          (ends-below left next to x order.1.1 (omega (arith, below)));
     }
 
-agrees-next : {to : ℕ} {all : List ℕ} {s : ℕ} {left : List ℕ} {at : ℕ} → Agrees to all at (s ∷ left) → AreInOrder at (s ∷ left) to → Agrees to all (next_place to left) left
+agrees-next : {to : ℕ} {all : List ℕ} {s : ℕ} {left : List ℕ} {at : ℕ} → Agrees to all at (s ∷ left)
+    → AreInOrder at (s ∷ left) to → Agrees to all (next_place to left) left
 agrees-next {to} {all} {s} {left} {at} agrees order =
     let next = next_place to left in
     record {
-      starts = λ x above. agrees.starts x (omega (arith, above, order.1.0)) ∙ or-rest (eqb x s) (is_among x left) (ne_eqb x s (λ e. absurd (omega (arith, e, order.0, order.1.0, above))));
-      ends = λ x above. agrees.ends x (omega (arith, above, order.1.0)) ∙ or-rest (eqb x next) (is_among x (ends_to to left)) (ne_eqb x next (λ e. absurd (omega (arith, e, above))));
+      starts = λ x above. agrees.starts x (omega (arith, above, order.1.0))
+          ∙ or-rest (eqb x s) (is_among x left) (ne_eqb x s (λ e. absurd (omega (arith, e, order.0, order.1.0, above))));
+      ends = λ x above. agrees.ends x (omega (arith, above, order.1.0))
+          ∙ or-rest (eqb x next) (is_among x (ends_to to left)) (ne_eqb x next (λ e. absurd (omega (arith, e, above))));
     }
 
 -- ---- pieces
@@ -89,7 +99,8 @@ pub record Right (unit : PictureUnit) (all : List ℕ) (f : Filling) : Type 0 wh
   pub alone : f.holds ≡ HeadAlone → (f.from ≡ unit.from) × (f.at ≡ unit.head_end)
   pub order : f.from ≤ f.at
 
-closed-right : (unit : PictureUnit) (all : List ℕ) (f : Filling) → Right unit all f → filling_packet unit f ≡ piece_packet unit all f.from f.at
+closed-right : (unit : PictureUnit) (all : List ℕ) (f : Filling) → Right unit all f
+    → filling_packet unit f ≡ piece_packet unit all f.from f.at
 closed-right unit all f right =
     ap (λ b. packet unit f.from f.at b (ends_slice f.holds)) (sym right.begin)
     ∙ ap (λ b. packet unit f.from f.at (begins unit all f.from f.at) b) (sym right.end)
@@ -100,7 +111,8 @@ record IsSliceOf (unit : PictureUnit) (all : List ℕ) (at next : ℕ) : Type 0 
   after : unit.from < at
 
 -- a piece that lies in a slice but for its first byte at most
-no-begin : {unit : PictureUnit} {all : List ℕ} {at next : ℕ} (x to : ℕ) → IsSliceOf unit all at next → at < x → x < next → begins unit all x to ≡ false
+no-begin : {unit : PictureUnit} {all : List ℕ} {at next : ℕ} (x to : ℕ) → IsSliceOf unit all at next → at < x
+    → x < next → begins unit all x to ≡ false
 no-begin {unit} {all} x to its above below =
     or_from (is_among x all) (eqb x unit.from && ltb unit.head_end to) (its.slice.no_start x above below)
     (and_left (eqb x unit.from) (ltb unit.head_end to) (ne_eqb x unit.from (λ e. absurd (omega (arith, e, its.after, above)))))
@@ -120,8 +132,10 @@ full-pieces {unit} {all} {at} {next} {begin} start (suc count) its first inside 
     let after : at < start + 1380 = inside.above some in
     let one : packet unit start (start + 1380) begin false ≡ piece_packet unit all start (start + 1380) =
     ap (λ b. packet unit start (start + 1380) b false) (sym (first some))
-    ∙ ap (λ b. packet unit start (start + 1380) (begins unit all start (start + 1380)) b) (sym (its.slice.no_end (start + 1380) after next_inside)) in
-    let rest : PiecesEndIn at next (start + 1380) count = record { above = λ _. omega (arith, after); below = omega (arith, inside.below) } in
+    ∙ ap (λ b. packet unit start (start + 1380) (begins unit all start (start + 1380)) b)
+    (sym (its.slice.no_end (start + 1380) after next_inside)) in
+    let rest : PiecesEndIn at next (start + 1380) count =
+    record { above = λ _. omega (arith, after); below = omega (arith, inside.below) } in
     ap (λ (p : Packet). p ∷ full_packets unit false (start + 1380) count) one
     ∙ ap (λ (l : List Packet). piece_packet unit all start (start + 1380) ∷ l)
     (full-pieces (start + 1380) count its (λ _. no-begin (start + 1380) (start + 1380 + 1380) its after next_inside) rest)
@@ -134,24 +148,35 @@ last_cut-full : (start count : ℕ) → last_cut start (full_ends start count) �
 last_cut-full start zero = omega arith
 last_cut-full start (suc count) = last_cut-full (start + 1380) count ∙ omega arith
 
-pieces-append : (unit : PictureUnit) (all : List ℕ) (cuts more : List ℕ) (from : ℕ) → piece_packets unit all from (cuts ++ more) ≡ piece_packets unit all from cuts ++ piece_packets unit all (last_cut from cuts) more
+pieces-append : (unit : PictureUnit) (all : List ℕ) (cuts more : List ℕ) (from : ℕ)
+    → piece_packets unit all from (cuts ++ more)
+    ≡ piece_packets unit all from cuts ++ piece_packets unit all (last_cut from cuts) more
 pieces-append unit all [] more from = refl
-pieces-append unit all (cut ∷ cuts) more from = ap (λ (l : List Packet). piece_packet unit all from cut ∷ l) (pieces-append unit all cuts more cut)
+pieces-append unit all (cut ∷ cuts) more from =
+    ap (λ (l : List Packet). piece_packet unit all from cut ∷ l) (pieces-append unit all cuts more cut)
 
 -- full pieces, then the rest
-full-rest : {rest : List Packet} (unit : PictureUnit) (all : List ℕ) (start count : ℕ) → full_packets unit true start count ≡ piece_packets unit all start (full_ends start count)
+full-rest : {rest : List Packet} (unit : PictureUnit) (all : List ℕ) (start count : ℕ)
+    → full_packets unit true start count ≡ piece_packets unit all start (full_ends start count)
     → rest ≡ piece_packets unit all (start + 1380 * count) (ends rest)
-    → full_packets unit true start count ++ rest ≡ piece_packets unit all start (ends (full_packets unit true start count ++ rest))
+    → full_packets unit true start count ++ rest
+    ≡ piece_packets unit all start (ends (full_packets unit true start count ++ rest))
 full-rest {rest} unit all start count full is =
     ap (λ (l : List Packet). l ++ rest) full
-    ∙ ap (λ (l : List Packet). piece_packets unit all start (full_ends start count) ++ l) (is ∙ ap (λ s. piece_packets unit all s (ends rest)) (sym (last_cut-full start count)))
+    ∙ ap (λ (l : List Packet). piece_packets unit all start (full_ends start count) ++ l)
+    (is ∙ ap (λ s. piece_packets unit all s (ends rest)) (sym (last_cut-full start count)))
     ∙ sym (pieces-append unit all (full_ends start count) (ends rest) start)
-    ∙ sym (ap (λ (l : List ℕ). piece_packets unit all start l) (ends-append (full_packets unit true start count) rest ∙ ap (λ (l : List ℕ). l ++ ends rest) (ends-full unit true start count)))
+    ∙ sym (ap (λ (l : List ℕ). piece_packets unit all start l)
+    (ends-append (full_packets unit true start count) rest
+    ∙ ap (λ (l : List ℕ). l ++ ends rest) (ends-full unit true start count)))
 
 slice-rest : {unit : PictureUnit} {all : List ℕ} {f : Filling} {rest : List Packet} (goes : Bool) (count : ℕ) → Right unit all f
-    → full_packets unit true (start_of goes f) count ≡ piece_packets unit all (start_of goes f) (full_ends (start_of goes f) count)
+    → full_packets unit true (start_of goes f) count
+    ≡ piece_packets unit all (start_of goes f) (full_ends (start_of goes f) count)
     → rest ≡ piece_packets unit all (start_of goes f + 1380 * count) (ends rest)
-    → (before_slice goes unit f ++ full_packets unit true (start_of goes f) count) ++ rest ≡ piece_packets unit all f.from (ends ((before_slice goes unit f ++ full_packets unit true (start_of goes f) count) ++ rest))
+    → (before_slice goes unit f ++ full_packets unit true (start_of goes f) count) ++ rest
+    ≡ piece_packets unit all f.from
+    (ends ((before_slice goes unit f ++ full_packets unit true (start_of goes f) count) ++ rest))
 slice-rest {unit} {all} {f} true count right full is = full-rest unit all f.from count full is
 slice-rest {unit} {all} {f} {rest} false count right full is =
     ap (λ (p : Packet). p ∷ (full_packets unit true f.at count ++ rest)) (closed-right unit all f right)
@@ -165,27 +190,34 @@ record BeginsBy (unit : PictureUnit) (all : List ℕ) (from at : ℕ) (holds : H
   begin : begins unit all from at ≡ begins_slice holds
   alone : holds ≡ HeadAlone → (from ≡ unit.from) × (at ≡ unit.head_end)
 
-begins-here : {unit : PictureUnit} {all : List ℕ} {from at : ℕ} {holds : Holds} (x : ℕ) → BeginsBy unit all from at holds → holds ≢ LastFragment → at < x → begins unit all from x ≡ true
+begins-here : {unit : PictureUnit} {all : List ℕ} {from at : ℕ} {holds : Holds} (x : ℕ)
+    → BeginsBy unit all from at holds → holds ≢ LastFragment → at < x → begins unit all from x ≡ true
 begins-here {unit} {all} {from} {holds = HeadAlone} x its other above =
     or_right (is_among from all) (eqb from unit.from && ltb unit.head_end x)
-    (and_from (eqb from unit.from) (ltb unit.head_end x) (eq-eqb from unit.from (its.alone refl).0) (lt-ltb unit.head_end x (omega (arith, its.after, above))))
+    (and_from (eqb from unit.from) (ltb unit.head_end x) (eq-eqb from unit.from (its.alone refl).0)
+    (lt-ltb unit.head_end x (omega (arith, its.after, above))))
 begins-here {unit} {all} {from} {at} {holds = Slices} x its other above =
-    later (is_among from all) (eqb from unit.from) (ltb unit.head_end at) (ltb unit.head_end x) its.begin (λ _. lt-ltb unit.head_end x (omega (arith, its.after, above)))
+    later (is_among from all) (eqb from unit.from) (ltb unit.head_end at) (ltb unit.head_end x) its.begin
+    (λ _. lt-ltb unit.head_end x (omega (arith, its.after, above)))
 begins-here {holds = LastFragment} x its other above = absurd (other refl)
 
-not-last : (from at n : ℕ) (holds : Holds) (short : Bool) → cond short (goes_in_whole from at holds n) (goes_in_cut from at holds) ≡ true → holds ≢ LastFragment
+not-last : (from at n : ℕ) (holds : Holds) (short : Bool)
+    → cond short (goes_in_whole from at holds n) (goes_in_cut from at holds) ≡ true → holds ≢ LastFragment
 not-last from at n HeadAlone short e is = cc
 not-last from at n Slices short e is = cc
 not-last from at n LastFragment true e is = true≢false (sym e)
 not-last from at n LastFragment false e is = true≢false (sym e)
 
-begins-start : {unit : PictureUnit} {all : List ℕ} {f : Filling} {goes : Bool} (n x : ℕ) → Right unit all f → is_among f.at all ≡ true → goes_in f n ≡ goes → f.at < x → begins unit all (start_of goes f) x ≡ true
+begins-start : {unit : PictureUnit} {all : List ℕ} {f : Filling} {goes : Bool} (n x : ℕ) → Right unit all f
+    → is_among f.at all ≡ true → goes_in f n ≡ goes → f.at < x → begins unit all (start_of goes f) x ≡ true
 begins-start {unit} {all} {f} {goes = true} n x right here e above =
     let its : BeginsBy unit all f.from f.at f.holds = record { after = right.after; begin = right.begin; alone = right.alone } in
     begins-here x its (not-last f.from f.at n f.holds (leb n 1380) e) above
-begins-start {unit} {all} {f} {goes = false} n x right here e above = or_left (is_among f.at all) (eqb f.at unit.from && ltb unit.head_end x) here
+begins-start {unit} {all} {f} {goes = false} n x right here e above =
+    or_left (is_among f.at all) (eqb f.at unit.from && ltb unit.head_end x) here
 
-room-whole : {at count : ℕ} (from n : ℕ) (holds : Holds) → goes_in_whole from at holds n ≡ true → from + 1380 * count < at + n → 0 < count → at < from + 1380
+room-whole : {at count : ℕ} (from n : ℕ) (holds : Holds) → goes_in_whole from at holds n ≡ true
+    → from + 1380 * count < at + n → 0 < count → at < from + 1380
 room-whole {at} from n HeadAlone e before some = absurd (omega (arith, leb-true (at + n) (from + 1380) e, before, some))
 room-whole {at} from n Slices e before some = absurd (omega (arith, leb-true (at + n) (from + 1380) e, before, some))
 room-whole from n LastFragment e before some = absurd (true≢false (sym e))
@@ -195,7 +227,9 @@ room-cut from at HeadAlone e = ltb-true at (from + 1380) e
 room-cut from at Slices e = absurd (true≢false (sym e))
 room-cut from at LastFragment e = absurd (true≢false (sym e))
 
-room-here : {count : ℕ} (f : Filling) (n : ℕ) (short : Bool) → cond short (goes_in_whole f.from f.at f.holds n) (goes_in_cut f.from f.at f.holds) ≡ true → f.from + 1380 * count < f.at + n → 0 < count →
+room-here : {count : ℕ} (f : Filling) (n : ℕ) (short : Bool) →
+    cond short (goes_in_whole f.from f.at f.holds n) (goes_in_cut f.from f.at f.holds) ≡ true →
+    f.from + 1380 * count < f.at + n → 0 < count →
     f.at < f.from + 1380
 room-here {count} f n true e before some = room-whole {count = count} f.from n f.holds e before some
 room-here f n false e before some = room-cut f.from f.at f.holds e
@@ -214,15 +248,18 @@ start-room {goes = false} full some = omega arith
 -- a short slice fills no piece, a longer one some
 pub none-full : {goes : Bool} {f : Filling} {n count : ℕ} → leb n 1380 ≡ true → FullBefore goes f n count → count ≡ 0
 none-full {goes = true} {f} {n} short full =
-    let fits = whole-fits f.from f.at n f.holds (sym (ap (λ b. cond b (goes_in_whole f.from f.at f.holds n) (goes_in_cut f.from f.at f.holds)) short) ∙ full.goes_is) in
+    let fits = whole-fits f.from f.at n f.holds
+    (sym (ap (λ b. cond b (goes_in_whole f.from f.at f.holds n) (goes_in_cut f.from f.at f.holds)) short) ∙ full.goes_is) in
     omega (arith, fits, full.before)
 none-full {goes = false} {n} short full = omega (arith, leb-true n 1380 short, full.before)
 
-some-full : {count : ℕ} (f : Filling) (n : ℕ) (goes : Bool) → f.from ≤ f.at → leb n 1380 ≡ false → f.at + n ≤ start_of goes f + 1380 * count + 1380 → 0 < count
+some-full : {count : ℕ} (f : Filling) (n : ℕ) (goes : Bool) → f.from ≤ f.at → leb n 1380 ≡ false
+    → f.at + n ≤ start_of goes f + 1380 * count + 1380 → 0 < count
 some-full f n true order long within = omega (arith, order, leb-false n 1380 long, within)
 some-full f n false order long within = omega (arith, leb-false n 1380 long, within)
 
-next-begin : {unit : PictureUnit} {all : List ℕ} {f : Filling} {goes short : Bool} {n count : ℕ} → Right unit all f → Slice unit.to all f.at (f.at + n) → 0 < n → leb n 1380 ≡ short → FullBefore goes f n count
+next-begin : {unit : PictureUnit} {all : List ℕ} {f : Filling} {goes short : Bool} {n count : ℕ}
+    → Right unit all f → Slice unit.to all f.at (f.at + n) → 0 < n → leb n 1380 ≡ short → FullBefore goes f n count
     → f.at + n ≤ start_of goes f + 1380 * count + 1380
     → begins unit all (start_of goes f + 1380 * count) (f.at + n) ≡ begins_slice (cond short Slices LastFragment)
 next-begin {unit} {all} {f} {goes} {short = true} {n} {count} right slice some is full within =
@@ -243,12 +280,14 @@ held-not_alone : (short : Bool) → cond short Slices LastFragment ≡ HeadAlone
 held-not_alone true e = cc
 held-not_alone false e = cc
 
-next-right : {unit : PictureUnit} {all : List ℕ} {f : Filling} (n : ℕ) → Right unit all f → Slice unit.to all f.at (f.at + n) → 0 < n → Right unit all (next_filling f n)
+next-right : {unit : PictureUnit} {all : List ℕ} {f : Filling} (n : ℕ) → Right unit all f
+    → Slice unit.to all f.at (f.at + n) → 0 < n → Right unit all (next_filling f n)
 next-right {all} {f} n right slice some =
     let goes = goes_in f n in
     let start = start_of goes f in
     let less = start-less f n goes right.order some in
-    let full : FullBefore goes f n (full_before start (f.at + n)) = record { goes_is = refl; before = full_before-less start (f.at + n) less } in
+    let full : FullBefore goes f n (full_before start (f.at + n)) =
+    record { goes_is = refl; before = full_before-less start (f.at + n) less } in
     record {
       first = right.first;
       after = omega (arith, right.after);
@@ -258,8 +297,10 @@ next-right {all} {f} n right slice some =
       order = omega (arith, full.before);
     }
 
-pub flags : {unit : PictureUnit} {all left : List ℕ} {f : Filling} → Right unit all f → Agrees unit.to all f.at left → AreInOrder f.at left unit.to
-    → packets_from unit f (lengths_to unit.to left) ≡ piece_packets unit all f.from (ends (packets_from unit f (lengths_to unit.to left)))
+pub flags : {unit : PictureUnit} {all left : List ℕ} {f : Filling} → Right unit all f
+    → Agrees unit.to all f.at left → AreInOrder f.at left unit.to
+    → packets_from unit f (lengths_to unit.to left)
+    ≡ piece_packets unit all f.from (ends (packets_from unit f (lengths_to unit.to left)))
 flags {unit} {all} {left = []} {f} right agrees order = ap (λ (p : Packet). p ∷ []) (closed-right unit all f right)
 flags {unit} {all} {left = s ∷ left} {f} right agrees order =
     let next = next_place unit.to left in
@@ -267,23 +308,30 @@ flags {unit} {all} {left = s ∷ left} {f} right agrees order =
     let end : f.at + n ≡ next = omega (arith, order.0, order.1.0) in
     let some : 0 < n = omega (arith, order.0, order.1.0) in
     let known : Slice unit.to all f.at (f.at + n) = subst (λ e. Slice unit.to all f.at e) (sym end) (slice-known agrees order) in
-    let after : Agrees unit.to all (f.at + n) left = subst (λ e. Agrees unit.to all e left) (sym end) (agrees-next agrees order) in
+    let after : Agrees unit.to all (f.at + n) left =
+    subst (λ e. Agrees unit.to all e left) (sym end) (agrees-next agrees order) in
     let ordered : AreInOrder (f.at + n) left unit.to = subst (λ e. AreInOrder e left unit.to) (sym end) order.1.1 in
     let goes = goes_in f n in
     let start = start_of goes f in
-    let before : FullBefore goes f n (full_before start (f.at + n)) = record { goes_is = refl; before = full_before-less start (f.at + n) (start-less f n goes right.order some) } in
+    let before : FullBefore goes f n (full_before start (f.at + n)) =
+    record { goes_is = refl; before = full_before-less start (f.at + n) (start-less f n goes right.order some) } in
     let its : IsSliceOf unit all f.at (f.at + n) = record { slice = known; after = omega (arith, right.first, right.after) } in
-    let inside : PiecesEndIn f.at (f.at + n) start (full_before start (f.at + n)) = record { above = λ more. start-room before more; below = before.before } in
-    let full = full-pieces start (full_before start (f.at + n)) its (λ more. begins-start n (start + 1380) right known.starts refl (start-room before more)) inside in
+    let inside : PiecesEndIn f.at (f.at + n) start (full_before start (f.at + n)) =
+    record { above = λ more. start-room before more; below = before.before } in
+    let full = full-pieces start (full_before start (f.at + n)) its
+    (λ more. begins-start n (start + 1380) right known.starts refl (start-room before more)) inside in
     slice-rest goes (full_before start (f.at + n)) right full
-    (flags {unit = unit} {all = all} {left = left} {f = next_filling f n} (next-right {unit = unit} {all = all} {f = f} n right known some) after ordered)
+    (flags {unit = unit} {all = all} {left = left} {f = next_filling f n}
+    (next-right {unit = unit} {all = all} {f = f} n right known some) after ordered)
 
 -- the first piece
-pub first-right : (unit : PictureUnit) (all : List ℕ) → unit.from < unit.head_end → AreInOrder unit.head_end all unit.to → Right unit all (first_piece unit.from unit.head_end)
+pub first-right : (unit : PictureUnit) (all : List ℕ) → unit.from < unit.head_end
+    → AreInOrder unit.head_end all unit.to → Right unit all (first_piece unit.from unit.head_end)
 first-right unit all first order = record {
   first = first;
   after = omega arith;
-  begin = or_from (is_among unit.from all) (eqb unit.from unit.from && ltb unit.head_end unit.head_end) (among-below all unit.head_end unit.to unit.from order first)
+  begin = or_from (is_among unit.from all) (eqb unit.from unit.from && ltb unit.head_end unit.head_end)
+      (among-below all unit.head_end unit.to unit.from order first)
       (and_right (eqb unit.from unit.from) (ltb unit.head_end unit.head_end) (le-ltb unit.head_end unit.head_end (omega arith)));
   end = ends-below all unit.head_end unit.to unit.head_end order (omega arith);
   alone = λ e. (refl, refl);

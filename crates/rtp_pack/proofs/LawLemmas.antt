@@ -24,24 +24,37 @@ sum-cons n slices = sum_by-cons (λ x. x) n slices
 abbrev pub Fit : Filling → Type 0
 Fit f = (f.from < f.at) × (f.at ≤ f.from + 1380)
 
-full-cover : (start count : ℕ) (rest : List ℕ) (to : ℕ) → ArePieces (start + 1380 * count) rest to → ArePieces start (full_ends start count ++ rest) to
+full-cover : (start count : ℕ) (rest : List ℕ) (to : ℕ) → ArePieces (start + 1380 * count) rest to
+    → ArePieces start (full_ends start count ++ rest) to
 full-cover start zero rest to pieces = subst (λ s. ArePieces s rest to) (omega arith) pieces
 full-cover start (suc count) rest to pieces =
     (omega arith, (omega arith, full-cover (start + 1380) count rest to (subst (λ s. ArePieces s rest to) (omega arith) pieces)))
 
-pub pieces-cover : (slices : List ℕ) (f : Filling) (cuts : List ℕ) → Fit f → Cuts f slices cuts → ArePieces f.from cuts (f.at + sum slices)
+pub pieces-cover : (slices : List ℕ) (f : Filling) (cuts : List ℕ) → Fit f → Cuts f slices cuts
+    → ArePieces f.from cuts (f.at + sum slices)
 pieces-cover [] f cuts fit e =
     let P : List ℕ → Type 0 = λ l. ArePieces f.from l (f.at + 0) in subst P (sym e) (fit.0, (fit.1, omega arith))
 pieces-cover (n ∷ slices) f cuts fit (inl x) =
     let rest = pieces-cover slices (filling_after f n (f.from + 1380 * x.1.full)) x.1.rest (x.1.before, x.1.within) x.1.goes_on in
     let P : List ℕ → Type 0 = λ l. ArePieces f.from l (f.at + sum (n ∷ slices)) in
-    subst P (sym x.1.filled) (full-cover f.from x.1.full x.1.rest (f.at + sum (n ∷ slices)) (subst (λ t. ArePieces (f.from + 1380 * x.1.full) x.1.rest t) (omega (arith, sum-cons n slices)) rest))
+    subst P (sym x.1.filled)
+    (full-cover f.from x.1.full x.1.rest (f.at + sum (n ∷ slices))
+    (subst (λ t. ArePieces (f.from + 1380 * x.1.full) x.1.rest t) (omega (arith, sum-cons n slices)) rest))
 pieces-cover (n ∷ slices) f cuts fit (inr x) =
     let fills = x.1.1.1 in
-    let rest = pieces-cover slices (filling_after f n (f.at + 1380 * fills.full)) fills.rest (fills.before, fills.within) fills.goes_on in
+    let rest = pieces-cover slices (filling_after f n (f.at + 1380 * fills.full)) fills.rest
+    (fills.before, fills.within) fills.goes_on in
     let P : List ℕ → Type 0 = λ l. ArePieces f.from l (f.at + sum (n ∷ slices)) in
     let Q : List ℕ → Type 0 = λ l. ArePieces f.at l (f.at + sum (n ∷ slices)) in
-    subst P (sym x.1.1.0) (fit.0, (fit.1, subst Q (sym fills.filled) (full-cover f.at fills.full fills.rest (f.at + sum (n ∷ slices)) (subst (λ t. ArePieces (f.at + 1380 * fills.full) fills.rest t) (omega (arith, sum-cons n slices)) rest))))
+    subst P (sym x.1.1.0) (
+      fit.0,
+      (
+        fit.1,
+        subst Q (sym fills.filled)
+            (full-cover f.at fills.full fills.rest (f.at + sum (n ∷ slices))
+            (subst (λ t. ArePieces (f.at + 1380 * fills.full) fills.rest t) (omega (arith, sum-cons n slices)) rest)),
+      ),
+    )
 
 -- ---- what is never cut
 
@@ -54,9 +67,11 @@ from-more : (a b : ℕ) (cuts : List ℕ) → a ≤ b → AreFrom b cuts → Are
 from-more a b [] less after = tt
 from-more a b (cut ∷ cuts) less after = (omega (arith, less, after.0), from-more a b cuts less after.1)
 
-from-full : (place start count : ℕ) (rest : List ℕ) → (0 < count → place ≤ start + 1380) → AreFrom place rest → AreFrom place (full_ends start count ++ rest)
+from-full : (place start count : ℕ) (rest : List ℕ) → (0 < count → place ≤ start + 1380) → AreFrom place rest
+    → AreFrom place (full_ends start count ++ rest)
 from-full place start zero rest less after = after
-from-full place start (suc count) rest less after = (less (omega arith), from-full place (start + 1380) count rest (λ some. omega (arith, less (omega arith))) after)
+from-full place start (suc count) rest less after =
+    (less (omega arith), from-full place (start + 1380) count rest (λ some. omega (arith, less (omega arith))) after)
 
 uncut-from : (from to : ℕ) (cuts : List ℕ) → AreFrom to cuts → IsUncut from to cuts
 uncut-from from to [] after = tt
@@ -68,33 +83,48 @@ cuts-from (n ∷ slices) f cuts order (inl x) =
     let rest = cuts-from slices (filling_after f n (f.from + 1380 * x.1.full)) x.1.rest (omega (arith, x.1.before)) x.1.goes_on in
     let full : FullBefore true f n x.1.full = record { goes_is = x.0; before = x.1.before } in
     let P : List ℕ → Type 0 = λ l. AreFrom f.at l in
-    subst P (sym x.1.filled) (from-full f.at f.from x.1.full x.1.rest (λ some. omega (arith, start-room full some)) (from-more f.at (f.at + n) x.1.rest (omega arith) rest))
+    subst P (sym x.1.filled)
+    (from-full f.at f.from x.1.full x.1.rest (λ some. omega (arith, start-room full some))
+    (from-more f.at (f.at + n) x.1.rest (omega arith) rest))
 cuts-from (n ∷ slices) f cuts order (inr x) =
     let fills = x.1.1.1 in
-    let rest = cuts-from slices (filling_after f n (f.at + 1380 * fills.full)) fills.rest (omega (arith, fills.before)) fills.goes_on in
+    let rest = cuts-from slices (filling_after f n (f.at + 1380 * fills.full)) fills.rest
+    (omega (arith, fills.before)) fills.goes_on in
     let P : List ℕ → Type 0 = λ l. AreFrom f.at l in
-    subst P (sym x.1.1.0) (omega arith, subst P (sym fills.filled) (from-full f.at f.at fills.full fills.rest (λ some. omega arith) (from-more f.at (f.at + n) fills.rest (omega arith) rest)))
+    subst P (sym x.1.1.0) (
+      omega arith,
+      subst P (sym fills.filled)
+          (from-full f.at f.at fills.full fills.rest (λ some. omega arith)
+          (from-more f.at (f.at + n) fills.rest (omega arith) rest)),
+    )
 
 pub head-uncut : (from head_end : ℕ) (cuts : List ℕ) → AreFrom head_end cuts → IsUncut from head_end cuts
 head-uncut from head_end cuts after = uncut-from from head_end cuts after
 
 -- a cut before the slices cuts none of them
-short-more : (slices : List ℕ) (at cut : ℕ) (cuts : List ℕ) → cut ≤ at → AreShortUncut at slices cuts → AreShortUncut at slices (cut ∷ cuts)
+short-more : (slices : List ℕ) (at cut : ℕ) (cuts : List ℕ) → cut ≤ at → AreShortUncut at slices cuts
+    → AreShortUncut at slices (cut ∷ cuts)
 short-more [] at cut cuts less uncut = tt
-short-more (n ∷ slices) at cut cuts less uncut = (λ short. (inl less, uncut.0 short), short-more slices (at + n) cut cuts (omega (arith, less)) uncut.1)
+short-more (n ∷ slices) at cut cuts less uncut =
+    (λ short. (inl less, uncut.0 short), short-more slices (at + n) cut cuts (omega (arith, less)) uncut.1)
 
-short-full : {at : ℕ} (slices : List ℕ) (start count : ℕ) (cuts : List ℕ) → start + 1380 * count ≤ at → AreShortUncut at slices cuts → AreShortUncut at slices (full_ends start count ++ cuts)
+short-full : {at : ℕ} (slices : List ℕ) (start count : ℕ) (cuts : List ℕ) → start + 1380 * count ≤ at
+    → AreShortUncut at slices cuts → AreShortUncut at slices (full_ends start count ++ cuts)
 short-full {at} slices start zero cuts less uncut = uncut
-short-full {at} slices start (suc count) cuts less uncut = short-more slices at (start + 1380) (full_ends (start + 1380) count ++ cuts) (omega (arith, less)) (short-full slices (start + 1380) count cuts (omega (arith, less)) uncut)
+short-full {at} slices start (suc count) cuts less uncut =
+    short-more slices at (start + 1380) (full_ends (start + 1380) count ++ cuts) (omega (arith, less))
+    (short-full slices (start + 1380) count cuts (omega (arith, less)) uncut)
 
 -- a short slice ends in the piece in which it begins
-short-rest : {goes : Bool} {f : Filling} {n count : ℕ} (rest : List ℕ) → FullBefore goes f n count → AreFrom (f.at + n) rest → n ≤ 1380 → IsUncut f.at (f.at + n) (full_ends (start_of goes f) count ++ rest)
+short-rest : {goes : Bool} {f : Filling} {n count : ℕ} (rest : List ℕ) → FullBefore goes f n count
+    → AreFrom (f.at + n) rest → n ≤ 1380 → IsUncut f.at (f.at + n) (full_ends (start_of goes f) count ++ rest)
 short-rest {goes} {f} {n} {count} rest full after short =
     let none : count ≡ 0 = none-full (le-leb n 1380 short) full in
     let P : ℕ → Type 0 = λ k. IsUncut f.at (f.at + n) (full_ends (start_of goes f) k ++ rest) in
     subst P (sym none) (uncut-from f.at (f.at + n) rest after)
 
-pub short-uncut : (slices : List ℕ) (f : Filling) (cuts : List ℕ) → f.from ≤ f.at → Cuts f slices cuts → AreShortUncut f.at slices cuts
+pub short-uncut : (slices : List ℕ) (f : Filling) (cuts : List ℕ) → f.from ≤ f.at → Cuts f slices cuts
+    → AreShortUncut f.at slices cuts
 short-uncut [] f cuts order e = tt
 short-uncut (n ∷ slices) f cuts order (inl x) =
     let g = filling_after f n (f.from + 1380 * x.1.full) in
@@ -102,7 +132,10 @@ short-uncut (n ∷ slices) f cuts order (inl x) =
     let after = cuts-from slices g x.1.rest (omega (arith, x.1.before)) x.1.goes_on in
     let full : FullBefore true f n x.1.full = record { goes_is = x.0; before = x.1.before } in
     let P : List ℕ → Type 0 = λ l. AreShortUncut f.at (n ∷ slices) l in
-    subst P (sym x.1.filled) (λ short. short-rest x.1.rest full after short, short-full slices f.from x.1.full x.1.rest (omega (arith, x.1.before)) rest)
+    subst P (sym x.1.filled) (
+      λ short. short-rest x.1.rest full after short,
+      short-full slices f.from x.1.full x.1.rest (omega (arith, x.1.before)) rest,
+    )
 short-uncut (n ∷ slices) f cuts order (inr x) =
     let fills = x.1.1.1 in
     let g = filling_after f n (f.at + 1380 * fills.full) in
@@ -113,35 +146,48 @@ short-uncut (n ∷ slices) f cuts order (inr x) =
     let Q : List ℕ → Type 0 = λ l. AreShortUncut f.at (n ∷ slices) (f.at ∷ l) in
     subst P (sym x.1.1.0) (subst Q (sym fills.filled) (
       λ short. (inl (omega arith), short-rest fills.rest full after short),
-      short-more slices (f.at + n) f.at (full_ends f.at fills.full ++ fills.rest) (omega arith) (short-full slices f.at fills.full fills.rest (omega (arith, fills.before)) rest),
+      short-more slices (f.at + n) f.at (full_ends f.at fills.full ++ fills.rest) (omega arith)
+          (short-full slices f.at fills.full fills.rest (omega (arith, fills.before)) rest),
     ))
 
 -- ---- the last fragment ends its piece
 
 pub among-full : (x start count : ℕ) (cuts : List ℕ) → is_among x cuts ≡ true → is_among x (full_ends start count ++ cuts) ≡ true
 among-full x start zero cuts is = is
-among-full x start (suc count) cuts is = or_right (eqb x (start + 1380)) (is_among x (full_ends (start + 1380) count ++ cuts)) (among-full x (start + 1380) count cuts is)
+among-full x start (suc count) cuts is =
+    or_right (eqb x (start + 1380)) (is_among x (full_ends (start + 1380) count ++ cuts))
+    (among-full x (start + 1380) count cuts is)
 
-long-more : (slices : List ℕ) (at cut : ℕ) (cuts : List ℕ) → DoLongEndPieces at slices cuts → DoLongEndPieces at slices (cut ∷ cuts)
+long-more : (slices : List ℕ) (at cut : ℕ) (cuts : List ℕ) → DoLongEndPieces at slices cuts
+    → DoLongEndPieces at slices (cut ∷ cuts)
 long-more [] at cut cuts ends = tt
-long-more (n ∷ slices) at cut cuts ends = (λ long. or_right (eqb (at + n) cut) (is_among (at + n) cuts) (ends.0 long), long-more slices (at + n) cut cuts ends.1)
+long-more (n ∷ slices) at cut cuts ends =
+    (λ long. or_right (eqb (at + n) cut) (is_among (at + n) cuts) (ends.0 long), long-more slices (at + n) cut cuts ends.1)
 
-long-full : (slices : List ℕ) (at start count : ℕ) (cuts : List ℕ) → DoLongEndPieces at slices cuts → DoLongEndPieces at slices (full_ends start count ++ cuts)
+long-full : (slices : List ℕ) (at start count : ℕ) (cuts : List ℕ) → DoLongEndPieces at slices cuts
+    → DoLongEndPieces at slices (full_ends start count ++ cuts)
 long-full slices at start zero cuts ends = ends
-long-full slices at start (suc count) cuts ends = long-more slices at (start + 1380) (full_ends (start + 1380) count ++ cuts) (long-full slices at (start + 1380) count cuts ends)
+long-full slices at start (suc count) cuts ends =
+    long-more slices at (start + 1380) (full_ends (start + 1380) count ++ cuts)
+    (long-full slices at (start + 1380) count cuts ends)
 
 -- no slice goes after a last fragment
-none-after : (from at n : ℕ) (short : Bool) → cond short (goes_in_whole from at LastFragment n) (goes_in_cut from at LastFragment) ≡ false
+none-after : (from at n : ℕ) (short : Bool)
+    → cond short (goes_in_whole from at LastFragment n) (goes_in_cut from at LastFragment) ≡ false
 none-after from at n true = refl
 none-after from at n false = refl
 
 goes-not : (f : Filling) (n : ℕ) → f.holds ≡ LastFragment → goes_in f n ≡ false
-goes-not f n last = ap (λ (h : Holds). cond (leb n 1380) (goes_in_whole f.from f.at h n) (goes_in_cut f.from f.at h)) last ∙ none-after f.from f.at n (leb n 1380)
+goes-not f n last =
+    ap (λ (h : Holds). cond (leb n 1380) (goes_in_whole f.from f.at h n) (goes_in_cut f.from f.at h)) last
+    ∙ none-after f.from f.at n (leb n 1380)
 
-fragment-ends : (slices : List ℕ) (f : Filling) (cuts : List ℕ) → f.holds ≡ LastFragment → Cuts f slices cuts → is_among f.at cuts ≡ true
+fragment-ends : (slices : List ℕ) (f : Filling) (cuts : List ℕ) → f.holds ≡ LastFragment → Cuts f slices cuts
+    → is_among f.at cuts ≡ true
 fragment-ends [] f cuts last e = ap (λ (l : List ℕ). is_among f.at l) e ∙ or_left (eqb f.at f.at) false (eq-eqb f.at f.at refl)
 fragment-ends (n ∷ slices) f cuts last (inl x) = absurd (not_both (goes_in f n) x.0 (goes-not f n last))
-fragment-ends (n ∷ slices) f cuts last (inr x) = ap (λ (l : List ℕ). is_among f.at l) x.1.1.0 ∙ or_left (eqb f.at f.at) (is_among f.at x.1.0) (eq-eqb f.at f.at refl)
+fragment-ends (n ∷ slices) f cuts last (inr x) =
+    ap (λ (l : List ℕ). is_among f.at l) x.1.1.0 ∙ or_left (eqb f.at f.at) (is_among f.at x.1.0) (eq-eqb f.at f.at refl)
 
 leb-not : (n : ℕ) → 1380 < n → leb n 1380 ≡ false
 leb-not n long = elim (cases_Bool (leb n 1380)) [ inl e ↦ absurd (omega (arith, leb-true n 1380 e, long)) | inr e ↦ e ]
@@ -164,6 +210,8 @@ long-ends (n ∷ slices) f cuts (inr x) =
     let P : List ℕ → Type 0 = λ l. DoLongEndPieces f.at (n ∷ slices) l in
     let Q : List ℕ → Type 0 = λ l. DoLongEndPieces f.at (n ∷ slices) (f.at ∷ l) in
     subst P (sym x.1.1.0) (subst Q (sym fills.filled) (
-      λ long. or_right (eqb (f.at + n) f.at) (is_among (f.at + n) (full_ends f.at fills.full ++ fills.rest)) (among-full (f.at + n) f.at fills.full fills.rest (fragment-ends slices g fills.rest (held-last n long) fills.goes_on)),
-      long-more slices (f.at + n) f.at (full_ends f.at fills.full ++ fills.rest) (long-full slices (f.at + n) f.at fills.full fills.rest (long-ends slices g fills.rest fills.goes_on)),
+      λ long. or_right (eqb (f.at + n) f.at) (is_among (f.at + n) (full_ends f.at fills.full ++ fills.rest))
+          (among-full (f.at + n) f.at fills.full fills.rest (fragment-ends slices g fills.rest (held-last n long) fills.goes_on)),
+      long-more slices (f.at + n) f.at (full_ends f.at fills.full ++ fills.rest)
+          (long-full slices (f.at + n) f.at fills.full fills.rest (long-ends slices g fills.rest fills.goes_on)),
     ))

@@ -11,16 +11,19 @@ covers-some : (from : ℕ) (packets : List Packet) (to : ℕ) → DoCover from p
 covers-some from [] to same = omega (arith, same)
 covers-some from (p ∷ packets) to cover = omega (arith, cover.1.0, covers-some p.to packets to cover.1.1.1)
 
-pieces-marked : (unit : PictureUnit) (starts : List ℕ) (from : ℕ) (cuts : List ℕ) → DoCover from (piece_packets unit starts from cuts) unit.to → IsLastMarked (piece_packets unit starts from cuts)
+pieces-marked : (unit : PictureUnit) (starts : List ℕ) (from : ℕ) (cuts : List ℕ)
+    → DoCover from (piece_packets unit starts from cuts) unit.to → IsLastMarked (piece_packets unit starts from cuts)
 pieces-marked unit starts from [] cover = tt
 pieces-marked unit starts from (cut ∷ []) cover = eq-eqb cut unit.to cover.1.1.1
 pieces-marked unit starts from (cut ∷ (next ∷ cuts)) cover =
     let rest = cover.1.1.1 in
-    let before : cut < unit.to = omega (arith, rest.1.0, covers-some next (piece_packets unit starts next cuts) unit.to rest.1.1.1) in
+    let before : cut < unit.to =
+    omega (arith, rest.1.0, covers-some next (piece_packets unit starts next cuts) unit.to rest.1.1.1) in
     let other : cut ≢ unit.to = λ same. omega (arith, same, before) in
     (ne_eqb cut unit.to other, pieces-marked unit starts cut (next ∷ cuts) rest)
 
-pub last-marked : (slice_starts : List ℕ) (unit : PictureUnit) (packets : List Packet) → ArePackets slice_starts unit packets → DoCover unit.from packets unit.to → IsLastMarked packets
+pub last-marked : (slice_starts : List ℕ) (unit : PictureUnit) (packets : List Packet)
+    → ArePackets slice_starts unit packets → DoCover unit.from packets unit.to → IsLastMarked packets
 last-marked slice_starts unit packets are cover =
     let starts = unit_starts slice_starts unit in
     let P : List Packet → Type 0 = λ l. DoCover unit.from l unit.to in

@@ -23,26 +23,60 @@ pub record Kept (count from at : ℕ) (holds : Holds) : Type 0 where
   pub last : holds ≡ LastFragment → 20 * count ≤ at
 
 -- a short slice in the piece, or in the next
-short-here : {pieces from at : ℕ} {holds : Holds} (n full : ℕ) → Kept pieces from at holds → at + n ≤ from + 1380 → from + 1380 * full < at + n → Kept (pieces + (0 + full)) (from + 1380 * full) (at + n) Slices
+short-here : {pieces from at : ℕ} {holds : Holds} (n full : ℕ) → Kept pieces from at holds
+    → at + n ≤ from + 1380 → from + 1380 * full < at + n → Kept (pieces + (0 + full)) (from + 1380 * full) (at + n) Slices
 short-here {pieces} {from} {at} n full kept fits before =
     let none : full ≡ 0 = omega arith in
-    record { some = before; pieces = omega (arith, none, kept.pieces); whole = omega (arith, none, kept.whole); ended = omega (arith, none, kept.ended); last = λ e. cc }
+    record {
+      some = before;
+      pieces = omega (arith, none, kept.pieces);
+      whole =
+          omega (arith, none, kept.whole);
+      ended = omega (arith, none, kept.ended);
+      last = λ e. cc;
+    }
 
-short-next : {pieces from at : ℕ} {holds : Holds} (n full : ℕ) → Kept pieces from at holds → n ≤ 1380 → 20 * pieces ≤ at + n → at + 1380 * full < at + n → Kept (pieces + (1 + full)) (at + 1380 * full) (at + n) Slices
+short-next : {pieces from at : ℕ} {holds : Holds} (n full : ℕ) → Kept pieces from at holds → n ≤ 1380
+    → 20 * pieces ≤ at + n → at + 1380 * full < at + n → Kept (pieces + (1 + full)) (at + 1380 * full) (at + n) Slices
 short-next {pieces} {from} {at} n full kept short room before =
     let none : full ≡ 0 = omega arith in
-    record { some = before; pieces = omega (arith, none, kept.pieces, kept.some); whole = omega (arith, none, room); ended = omega (arith, none, kept.whole); last = λ e. cc }
+    record {
+      some = before;
+      pieces = omega (arith, none, kept.pieces, kept.some);
+      whole =
+          omega (arith, none, room);
+      ended = omega (arith, none, kept.whole);
+      last = λ e. cc;
+    }
 
 -- a longer slice in the piece, or in the next
-long-here : {pieces from at : ℕ} {holds : Holds} (n full : ℕ) → Kept pieces from at holds → 1380 < n → from + 1380 * full < at + n → at + n ≤ from + 1380 * full + 1380 → Kept (pieces + (0 + full)) (from + 1380 * full) (at + n) LastFragment
+long-here : {pieces from at : ℕ} {holds : Holds} (n full : ℕ) → Kept pieces from at holds → 1380 < n
+    → from + 1380 * full < at + n → at + n ≤ from + 1380 * full + 1380
+    → Kept (pieces + (0 + full)) (from + 1380 * full) (at + n) LastFragment
 long-here {pieces} {from} {at} n full kept long before within =
     let some : 0 < full = omega (arith, kept.some) in
-    record { some = before; pieces = omega (arith, kept.pieces); whole = omega (arith, some, kept.ended); ended = omega (arith, kept.ended); last = λ e. omega (arith, some, kept.ended) }
+    record {
+      some = before;
+      pieces = omega (arith, kept.pieces);
+      whole =
+          omega (arith, some, kept.ended);
+      ended = omega (arith, kept.ended);
+      last = λ e. omega (arith, some, kept.ended);
+    }
 
-long-next : {pieces from at : ℕ} {holds : Holds} (n full : ℕ) → Kept pieces from at holds → 1380 < n → at + 1380 * full < at + n → at + n ≤ at + 1380 * full + 1380 → Kept (pieces + (1 + full)) (at + 1380 * full) (at + n) LastFragment
+long-next : {pieces from at : ℕ} {holds : Holds} (n full : ℕ) → Kept pieces from at holds → 1380 < n
+    → at + 1380 * full < at + n → at + n ≤ at + 1380 * full + 1380
+    → Kept (pieces + (1 + full)) (at + 1380 * full) (at + n) LastFragment
 long-next {pieces} {from} {at} n full kept long before within =
     let some : 0 < full = omega arith in
-    record { some = before; pieces = omega (arith, kept.pieces, kept.some); whole = omega (arith, some, kept.whole); ended = omega (arith, kept.whole); last = λ e. omega (arith, some, kept.whole) }
+    record {
+      some = before;
+      pieces = omega (arith, kept.pieces, kept.some);
+      whole =
+          omega (arith, some, kept.whole);
+      ended = omega (arith, kept.whole);
+      last = λ e. omega (arith, some, kept.whole);
+    }
 
 pub whole-fits : (from at n : ℕ) (holds : Holds) → goes_in_whole from at holds n ≡ true → at + n ≤ from + 1380
 whole-fits from at n HeadAlone e = leb-true (at + n) (from + 1380) e
@@ -50,7 +84,8 @@ whole-fits from at n Slices e = leb-true (at + n) (from + 1380) e
 whole-fits from at n LastFragment e = absurd (true≢false (sym e))
 
 -- where a short slice begins the next piece there is room for one more head
-whole-room : {pieces from at : ℕ} {holds : Holds} (n : ℕ) → Kept pieces from at holds → 4 ≤ n → goes_in_whole from at holds n ≡ false → 20 * pieces ≤ at + n
+whole-room : {pieces from at : ℕ} {holds : Holds} (n : ℕ) → Kept pieces from at holds → 4 ≤ n
+    → goes_in_whole from at holds n ≡ false → 20 * pieces ≤ at + n
 whole-room {from} {at} {holds = HeadAlone} n kept least e = omega (arith, leb-false (at + n) (from + 1380) e, kept.ended)
 whole-room {from} {at} {holds = Slices} n kept least e = omega (arith, leb-false (at + n) (from + 1380) e, kept.ended)
 whole-room {from} {at} {holds = LastFragment} n kept least e = omega (arith, kept.last refl)
@@ -62,12 +97,17 @@ record SliceFills (from at : ℕ) (holds : Holds) (n full : ℕ) (short goes : B
   before : cond goes from at + 1380 * full < at + n
   within : at + n ≤ cond goes from at + 1380 * full + 1380
 
-kept-slice : {pieces from at n full : ℕ} {holds : Holds} {short goes : Bool} → Kept pieces from at holds → 4 ≤ n → SliceFills from at holds n full short goes
+kept-slice : {pieces from at n full : ℕ} {holds : Holds} {short goes : Bool} → Kept pieces from at holds → 4 ≤ n
+    → SliceFills from at holds n full short goes
     → Kept (pieces + (cond goes 0 1 + full)) (cond goes from at + 1380 * full) (at + n) (cond short Slices LastFragment)
-kept-slice {from} {at} {n} {full} {holds} {short = true} {goes = true} kept least fills = short-here n full kept (whole-fits from at n holds fills.goes_is) fills.before
-kept-slice {n} {full} {short = true} {goes = false} kept least fills = short-next n full kept (leb-true n 1380 fills.short_is) (whole-room n kept least fills.goes_is) fills.before
-kept-slice {n} {full} {short = false} {goes = true} kept least fills = long-here n full kept (leb-false n 1380 fills.short_is) fills.before fills.within
-kept-slice {n} {full} {short = false} {goes = false} kept least fills = long-next n full kept (leb-false n 1380 fills.short_is) fills.before fills.within
+kept-slice {from} {at} {n} {full} {holds} {short = true} {goes = true} kept least fills =
+    short-here n full kept (whole-fits from at n holds fills.goes_is) fills.before
+kept-slice {n} {full} {short = true} {goes = false} kept least fills =
+    short-next n full kept (leb-true n 1380 fills.short_is) (whole-room n kept least fills.goes_is) fills.before
+kept-slice {n} {full} {short = false} {goes = true} kept least fills =
+    long-here n full kept (leb-false n 1380 fills.short_is) fills.before fills.within
+kept-slice {n} {full} {short = false} {goes = false} kept least fills =
+    long-next n full kept (leb-false n 1380 fills.short_is) fills.before fills.within
 
 abbrev pub IsKept : Measure → Type 0
 IsKept m = Kept m.pieces m.filling.from m.filling.at m.filling.holds
@@ -87,7 +127,8 @@ keeps-slice m n kept least =
 
 pub keeps-measure : (m : Measure) (n : ℕ) → IsMeasure m → 4 ≤ n → m.filling.at + n ≤ 2 ^ 40 → IsMeasure (with_slice m n)
 keeps-measure m n is least most =
-    let kept = keeps-slice m n (record { some = is.some; pieces = is.pieces; whole = is.whole; ended = is.ended; last = is.last }) least in
+    let kept = keeps-slice m n
+    (record { some = is.some; pieces = is.pieces; whole = is.whole; ended = is.ended; last = is.last }) least in
     record { most = most; some = kept.some; pieces = kept.pieces; whole = kept.whole; ended = kept.ended; last = kept.last }
 
 -- slices of at least 4 bytes
@@ -102,7 +143,8 @@ keeps-slices (n ∷ slices) m kept long = keeps-slices slices (with_slice m n) (
 pub begun-kept : (head : ℕ) → 0 < head → IsKept (measure_from_head head)
 begun-kept head some = record { some = some; pieces = omega arith; whole = omega arith; ended = omega arith; last = λ e. cc }
 
-pub slices-append : (slices : List ℕ) (m : Measure) (n : ℕ) → with_slices m (slices ++ n ∷ []) ≡ with_slice (with_slices m slices) n
+pub slices-append : (slices : List ℕ) (m : Measure) (n : ℕ)
+    → with_slices m (slices ++ n ∷ []) ≡ with_slice (with_slices m slices) n
 slices-append [] m n = refl
 slices-append (k ∷ slices) m n = slices-append slices (with_slice m k) n
 
@@ -132,7 +174,8 @@ ltb-moved {x'} {y'} base x y ex ey = elim (cases_Bool (ltb x y)) [
   ]
 ]
 
-cut-moved : {from' at' : ℕ} (base from at : ℕ) (holds : Holds) → from' ≡ base + from → at' ≡ base + at → goes_in_cut from' at' holds ≡ goes_in_cut from at holds
+cut-moved : {from' at' : ℕ} (base from at : ℕ) (holds : Holds) → from' ≡ base + from → at' ≡ base + at
+    → goes_in_cut from' at' holds ≡ goes_in_cut from at holds
 cut-moved base from at HeadAlone ef ea = ltb-moved base at (from + 1380) ea (omega (arith, ef))
 cut-moved base from at Slices ef ea = refl
 cut-moved base from at LastFragment ef ea = refl
@@ -143,7 +186,8 @@ pub record IsMoved (base : ℕ) (f g : Filling) : Type 0 where
   pub at : g.at ≡ base + f.at
   pub holds : g.holds ≡ f.holds
 
-whole-moved : {base : ℕ} {f g : Filling} (n : ℕ) (holds : Holds) → IsMoved base f g → goes_in_whole g.from g.at holds n ≡ goes_in_whole f.from f.at holds n
+whole-moved : {base : ℕ} {f g : Filling} (n : ℕ) (holds : Holds) → IsMoved base f g
+    → goes_in_whole g.from g.at holds n ≡ goes_in_whole f.from f.at holds n
 whole-moved {base} {f} n HeadAlone is = leb-moved base (f.at + n) (f.from + 1380) (omega (arith, is.at)) (omega (arith, is.from))
 whole-moved {base} {f} n Slices is = leb-moved base (f.at + n) (f.from + 1380) (omega (arith, is.at)) (omega (arith, is.from))
 whole-moved n LastFragment is = refl
@@ -154,12 +198,15 @@ goes-moved base n f g is =
     ∙ ap (λ b. cond (leb n 1380) b (goes_in_cut g.from g.at f.holds)) (whole-moved n f.holds is)
     ∙ ap (λ b. cond (leb n 1380) (goes_in_whole f.from f.at f.holds n) b) (cut-moved base f.from f.at f.holds is.from is.at)
 
-size-full : (start full : ℕ) (rest : List ℕ) → cuts_size start (full_ends start full ++ rest) ≡ 1400 * full + cuts_size (start + 1380 * full) rest
-size-full start zero rest = let place : cuts_size (start + 1380 * 0) rest ≡ cuts_size start rest = ap (λ s. cuts_size s rest) (omega arith) in omega (arith, place)
+size-full : (start full : ℕ) (rest : List ℕ)
+    → cuts_size start (full_ends start full ++ rest) ≡ 1400 * full + cuts_size (start + 1380 * full) rest
+size-full start zero rest = let place : cuts_size (start + 1380 * 0) rest ≡ cuts_size start rest =
+    ap (λ s. cuts_size s rest) (omega arith) in omega (arith, place)
 size-full start (suc full) rest =
     let more = size-full (start + 1380) full rest in
     let place : start + 1380 + 1380 * full ≡ start + 1380 * suc full = omega arith in
-    let rest-size : cuts_size (start + 1380 + 1380 * full) rest ≡ cuts_size (start + 1380 * suc full) rest = ap (λ s. cuts_size s rest) place in
+    let rest-size : cuts_size (start + 1380 + 1380 * full) rest ≡ cuts_size (start + 1380 * suc full) rest =
+    ap (λ s. cuts_size s rest) place in
     omega (arith, more, rest-size)
 
 -- the rest of the frames, after those of the pieces that ended
@@ -174,8 +221,10 @@ record StartsAt (m : Measure) (g : Filling) (n base start place : ℕ) (goes : B
   at_goes : goes_in m.filling n ≡ goes
 
 -- the measure and the cuts of such a slice: the frames of its full pieces, then the rest
-next-size : {m : Measure} {g : Filling} {n base start place : ℕ} {goes : Bool} {cuts : List ℕ} (slices : List ℕ) → StartsAt m g n base start place goes
-    → ((m' : Measure) (g' : Filling) (rest : List ℕ) → IsMoved base m'.filling g' → m'.filling.from ≤ m'.filling.at → Cuts g' slices rest → Rest m' g' slices rest)
+next-size : {m : Measure} {g : Filling} {n base start place : ℕ} {goes : Bool} {cuts : List ℕ} (slices : List ℕ)
+    → StartsAt m g n base start place goes
+    → ((m' : Measure) (g' : Filling) (rest : List ℕ) → IsMoved base m'.filling g'
+    → m'.filling.from ≤ m'.filling.at → Cuts g' slices rest → Rest m' g' slices rest)
     → Fills (λ last rest. Cuts (filling_after g n last) slices rest) place (g.at + n) cuts
     → cuts_size place cuts + 20 * (m.pieces + cond goes 0 1) + start ≡ frames_of (with_slices (with_slice m n) slices)
 next-size {m} {g} {n} {start} {place} {goes} {cuts} slices starts more fills =
@@ -185,33 +234,42 @@ next-size {m} {g} {n} {start} {place} {goes} {cuts} slices starts more fills =
     let full : fills.full ≡ full_before start (f.at + n) =
     full-once start (f.at + n) (omega (arith, is.at, at_place, fills.before)) (omega (arith, is.at, at_place, fills.within))
     (full_before-less start (f.at + n) less) (full_before-within start (f.at + n) less) in
-    let last : last_start (start_of (goes_in f n) f) (f.at + n) ≡ start + 1380 * fills.full = ap (λ s. last_start s (f.at + n)) all ∙ ap (λ k. start + 1380 * k) (sym full) in
+    let last : last_start (start_of (goes_in f n) f) (f.at + n) ≡ start + 1380 * fills.full =
+    ap (λ s. last_start s (f.at + n)) all ∙ ap (λ k. start + 1380 * k) (sym full) in
     let pieces : slice_pieces f n ≡ cond goes 0 1 + fills.full =
-    ap (λ b. cond b 0 1 + full_before (start_of (goes_in f n) f) (f.at + n)) at_goes ∙ ap (λ s. cond goes 0 1 + full_before s (f.at + n)) all ∙ ap (λ k. cond goes 0 1 + k) (sym full) in
+    ap (λ b. cond b 0 1 + full_before (start_of (goes_in f n) f) (f.at + n)) at_goes
+    ∙ ap (λ s. cond goes 0 1 + full_before s (f.at + n)) all ∙ ap (λ k. cond goes 0 1 + k) (sym full) in
     let rest = more (with_slice m n) (filling_after g n (place + 1380 * fills.full)) fills.rest
-    (record { from = omega (arith, at_place, last); at = omega (arith, is.at); holds = refl }) (omega (arith, last, fills.before, is.at, at_place)) fills.goes_on in
+    (record { from = omega (arith, at_place, last); at = omega (arith, is.at); holds = refl })
+    (omega (arith, last, fills.before, is.at, at_place)) fills.goes_on in
     let first : cuts_size place cuts ≡ 1400 * fills.full + cuts_size (place + 1380 * fills.full) fills.rest =
     ap (λ (l : List ℕ). cuts_size place l) fills.filled ∙ size-full place fills.full fills.rest in
     omega (arith, first, rest, last, pieces)
   where
     open starts use {moved as is, at_start, at_place, at_goes}
 
-pub size-from : {base : ℕ} {g : Filling} (slices : List ℕ) (m : Measure) (cuts : List ℕ) → IsMoved base m.filling g → m.filling.from ≤ m.filling.at → Cuts g slices cuts → Rest m g slices cuts
+pub size-from : {base : ℕ} {g : Filling} (slices : List ℕ) (m : Measure) (cuts : List ℕ)
+    → IsMoved base m.filling g → m.filling.from ≤ m.filling.at → Cuts g slices cuts → Rest m g slices cuts
 size-from {base} {g} [] m cuts is order e =
     let size : cuts_size g.from cuts ≡ 20 + (g.at - g.from) = ap (λ (l : List ℕ). cuts_size g.from l) e ∙ omega arith in
     omega (arith, size, is.from, is.at, order)
 size-from {base} {g} (n ∷ slices) m cuts is order (inl x) =
-    let starts : StartsAt m g n base m.filling.from g.from true = record { moved = is; at_start = refl; at_place = is.from; at_goes = sym (goes-moved base n m.filling g is) ∙ x.0 } in
+    let starts : StartsAt m g n base m.filling.from g.from true =
+    record { moved = is; at_start = refl; at_place = is.from; at_goes = sym (goes-moved base n m.filling g is) ∙ x.0 } in
     let rest = next-size slices starts (λ m' g' rest moved less cut. size-from slices m' rest moved less cut) x.1 in
     omega (arith, rest)
 size-from {base} {g} (n ∷ slices) m cuts is order (inr x) =
-    let starts : StartsAt m g n base m.filling.at g.at false = record { moved = is; at_start = refl; at_place = is.at; at_goes = sym (goes-moved base n m.filling g is) ∙ x.0 } in
+    let starts : StartsAt m g n base m.filling.at g.at false =
+    record { moved = is; at_start = refl; at_place = is.at; at_goes = sym (goes-moved base n m.filling g is) ∙ x.0 } in
     let rest = next-size slices starts (λ m' g' rest moved less cut. size-from slices m' rest moved less cut) x.1.1.1 in
-    let first : cuts_size g.from cuts ≡ 20 + (g.at - g.from) + cuts_size g.at x.1.0 = ap (λ (l : List ℕ). cuts_size g.from l) x.1.1.0 in
+    let first : cuts_size g.from cuts ≡ 20 + (g.at - g.from) + cuts_size g.at x.1.0 =
+    ap (λ (l : List ℕ). cuts_size g.from l) x.1.1.0 in
     omega (arith, rest, first, is.from, is.at, order)
 
 -- the frames of a unit
-pub size-unit : (head : ℕ) (slices : List ℕ) (from : ℕ) (cuts : List ℕ) → IsCutting from (from + head) slices cuts → frames_of (measure_of head slices) ≡ cuts_size from cuts
+pub size-unit : (head : ℕ) (slices : List ℕ) (from : ℕ) (cuts : List ℕ)
+    → IsCutting from (from + head) slices cuts → frames_of (measure_of head slices) ≡ cuts_size from cuts
 size-unit head slices from cuts cutting =
-    let all = size-from slices (measure_from_head head) cuts (record { from = omega arith; at = refl; holds = refl }) (omega arith) cutting in
+    let all = size-from slices (measure_from_head head) cuts
+    (record { from = omega arith; at = refl; holds = refl }) (omega arith) cutting in
     omega (arith, all)

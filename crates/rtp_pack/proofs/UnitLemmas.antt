@@ -17,19 +17,22 @@ use Rattle.rtp_pack.proofs.SizeLemmas.{AreLong, begun-kept, keeps-slices, size-u
 
 lengths-long : (starts : List ℕ) (at to : ℕ) → AreInOrder at starts to → AreLong (lengths_to to starts)
 lengths-long [] at to order = tt
-lengths-long (s ∷ starts) at to order = (omega (arith, order.0, order.1.0), lengths-long starts (next_place to starts) to order.1.1)
+lengths-long (s ∷ starts) at to order =
+    (omega (arith, order.0, order.1.0), lengths-long starts (next_place to starts) to order.1.1)
 
 long-some : (slices : List ℕ) → AreLong slices → AreSome slices
 long-some [] long = tt
 long-some (n ∷ slices) long = (omega (arith, long.0), long-some slices long.1)
 
-lengths-bytes : (starts : List ℕ) (at to : ℕ) (m : Measure) → AreInOrder at starts to → bytes_of (with_slices m (lengths_to to starts)) + at ≡ bytes_of m + to
+lengths-bytes : (starts : List ℕ) (at to : ℕ) (m : Measure) → AreInOrder at starts to
+    → bytes_of (with_slices m (lengths_to to starts)) + at ≡ bytes_of m + to
 lengths-bytes [] at to m order = omega (arith, order)
 lengths-bytes (s ∷ starts) at to m order =
     let rest = lengths-bytes starts (next_place to starts) to (with_slice m (next_place to starts - s)) order.1.1 in
     omega (arith, rest, order.0, order.1.0)
 
-frames-pieces : (unit : PictureUnit) (starts : List ℕ) (cuts : List ℕ) (from : ℕ) → frames_size (piece_packets unit starts from cuts) ≡ cuts_size from cuts
+frames-pieces : (unit : PictureUnit) (starts : List ℕ) (cuts : List ℕ) (from : ℕ)
+    → frames_size (piece_packets unit starts from cuts) ≡ cuts_size from cuts
 frames-pieces unit starts [] from = refl
 frames-pieces unit starts (cut ∷ cuts) from = ap (λ n. 20 + (cut - from) + n) (frames-pieces unit starts cuts cut)
 
@@ -39,7 +42,8 @@ packets-are starts unit laid =
     let packets = unit_packets starts unit in
     record {
       cuts = ends packets;
-      cutting = packets-cut unit (unit_lengths starts unit) f (omega (arith, laid.head)) (long-some (unit_lengths starts unit) (lengths-long (unit_starts starts unit) unit.head_end unit.to laid.in_order));
+      cutting = packets-cut unit (unit_lengths starts unit) f (omega (arith, laid.head))
+          (long-some (unit_lengths starts unit) (lengths-long (unit_starts starts unit) unit.head_end unit.to laid.in_order));
       pieces = flags (first-right unit (unit_starts starts unit) laid.head laid.in_order)
           (record { starts = λ x h. refl; ends = λ x h. refl }) laid.in_order;
     }
@@ -47,33 +51,46 @@ packets-are starts unit laid =
 lengths-sum : (starts : List ℕ) (at to : ℕ) → AreInOrder at starts to → at + sum (lengths_to to starts) ≡ to
 lengths-sum [] at to order = omega (arith, order)
 lengths-sum (s ∷ starts) at to order =
-    let rest = lengths-sum starts (next_place to starts) to order.1.1 in omega (arith, rest, order.0, order.1.0, sum-cons (next_place to starts - s) (lengths_to to starts))
+    let rest = lengths-sum starts (next_place to starts) to order.1.1 in
+    omega (arith, rest, order.0, order.1.0, sum-cons (next_place to starts - s) (lengths_to to starts))
 
-pieces-packets : (unit : PictureUnit) (starts cuts : List ℕ) (from to : ℕ) → ArePieces from cuts to → DoCover from (piece_packets unit starts from cuts) to
+pieces-packets : (unit : PictureUnit) (starts cuts : List ℕ) (from to : ℕ) → ArePieces from cuts to
+    → DoCover from (piece_packets unit starts from cuts) to
 pieces-packets unit starts [] from to pieces = pieces
-pieces-packets unit starts (cut ∷ cuts) from to pieces = (refl, (pieces.0, (pieces.1.0, pieces-packets unit starts cuts cut to pieces.1.1)))
+pieces-packets unit starts (cut ∷ cuts) from to pieces =
+    (refl, (pieces.0, (pieces.1.0, pieces-packets unit starts cuts cut to pieces.1.1)))
 
 -- they cover the unit
-pub packets-cover : (starts : List ℕ) (unit : PictureUnit) → IsLaid starts unit → DoCover unit.from (unit_packets starts unit) unit.to
+pub packets-cover : (starts : List ℕ) (unit : PictureUnit) → IsLaid starts unit
+    → DoCover unit.from (unit_packets starts unit) unit.to
 packets-cover starts unit laid =
     let are = packets-are starts unit laid in
-    let pieces = pieces-cover (unit_lengths starts unit) (first_piece unit.from unit.head_end) are.cuts (laid.head, laid.short) are.cutting in
-    let whole : ArePieces unit.from are.cuts unit.to = subst (λ t. ArePieces unit.from are.cuts t) (lengths-sum (unit_starts starts unit) unit.head_end unit.to laid.in_order) pieces in
+    let pieces =
+    pieces-cover (unit_lengths starts unit) (first_piece unit.from unit.head_end) are.cuts
+    (laid.head, laid.short) are.cutting in
+    let whole : ArePieces unit.from are.cuts unit.to =
+    subst (λ t. ArePieces unit.from are.cuts t)
+    (lengths-sum (unit_starts starts unit) unit.head_end unit.to laid.in_order) pieces in
     let P : List Packet → Type 0 = λ l. DoCover unit.from l unit.to in
     subst P (sym are.pieces) (pieces-packets unit (unit_starts starts unit) are.cuts unit.from unit.to whole)
 
 -- what the frames of the unit take
-pub packets-size : (starts : List ℕ) (unit : PictureUnit) → IsLaid starts unit → frames_size (unit_packets starts unit) ≡ frames_of (measure_of (unit.head_end - unit.from) (unit_lengths starts unit))
+pub packets-size : (starts : List ℕ) (unit : PictureUnit) → IsLaid starts unit
+    → frames_size (unit_packets starts unit) ≡ frames_of (measure_of (unit.head_end - unit.from) (unit_lengths starts unit))
 packets-size starts unit laid =
     let are = packets-are starts unit laid in
     let head : unit.from + (unit.head_end - unit.from) ≡ unit.head_end = omega (arith, laid.head) in
-    let cutting : IsCutting unit.from (unit.from + (unit.head_end - unit.from)) (unit_lengths starts unit) are.cuts = rw head are.cutting in
-    ap frames_size are.pieces ∙ frames-pieces unit (unit_starts starts unit) are.cuts unit.from ∙ sym (size-unit (unit.head_end - unit.from) (unit_lengths starts unit) unit.from are.cuts cutting)
+    let cutting : IsCutting unit.from (unit.from + (unit.head_end - unit.from)) (unit_lengths starts unit)
+    are.cuts = rw head are.cutting in
+    ap frames_size are.pieces ∙ frames-pieces unit (unit_starts starts unit) are.cuts unit.from
+    ∙ sym (size-unit (unit.head_end - unit.from) (unit_lengths starts unit) unit.from are.cuts cutting)
 
-pub packets-bound : (starts : List ℕ) (unit : PictureUnit) → IsLaid starts unit → frames_size (unit_packets starts unit) + 52 ≤ 2 * (unit.to - unit.from) + 112
+pub packets-bound : (starts : List ℕ) (unit : PictureUnit) → IsLaid starts unit
+    → frames_size (unit_packets starts unit) + 52 ≤ 2 * (unit.to - unit.from) + 112
 packets-bound starts unit laid =
     let slices = unit_lengths starts unit in
     let head = unit.head_end - unit.from in
-    let kept = keeps-slices slices (measure_from_head head) (begun-kept head (omega (arith, laid.head))) (lengths-long (unit_starts starts unit) unit.head_end unit.to laid.in_order) in
+    let kept = keeps-slices slices (measure_from_head head) (begun-kept head (omega (arith, laid.head)))
+    (lengths-long (unit_starts starts unit) unit.head_end unit.to laid.in_order) in
     let bytes = lengths-bytes (unit_starts starts unit) unit.head_end unit.to (measure_from_head head) laid.in_order in
     omega (arith, packets-size starts unit laid, kept.whole, bytes, laid.head)

@@ -35,11 +35,13 @@ request_spelled method url fields =
 -- the parts of each text, after its first one
 abbrev pub setup_rest : Wish → List (List ℕ)
 setup_rest wish =
-    film_url wish ∷ codes "/video RTSP/1.0\r\nCSeq: 1\r\n" ∷ codes "Transport: RTP/AVP/TCP;unicast;interleaved=0-1\r\n" ∷ codes "x-Buffer: "
+    film_url wish ∷ codes "/video RTSP/1.0\r\nCSeq: 1\r\n"
+    ∷ codes "Transport: RTP/AVP/TCP;unicast;interleaved=0-1\r\n" ∷ codes "x-Buffer: "
     ∷ decimal wish.buffer ∷ codes "\r\nx-Startup: " ∷ decimal wish.startup ∷ codes "\r\n\r\n" ∷ []
 
 abbrev pub play_rest : Wish → List ℕ → List (List ℕ)
-play_rest wish session = film_url wish ∷ codes " RTSP/1.0\r\nCSeq: 2\r\nSession: " ∷ session ∷ codes "\r\nRange: npt=0-\r\n\r\n" ∷ []
+play_rest wish session =
+    film_url wish ∷ codes " RTSP/1.0\r\nCSeq: 2\r\nSession: " ∷ session ∷ codes "\r\nRange: npt=0-\r\n\r\n" ∷ []
 
 abbrev pub teardown_rest : Wish → List ℕ → List (List ℕ)
 teardown_rest wish session = film_url wish ∷ codes " RTSP/1.0\r\nCSeq: 3\r\nSession: " ∷ session ∷ codes "\r\n\r\n" ∷ []
@@ -52,7 +54,8 @@ setup_is wish =
 
 pub play_is : (wish : Wish) (session : List ℕ) → play_text wish session ≡ request_text (play_parts wish session)
 play_is wish session =
-    put_in_row (codes "PLAY ") (play_rest wish session) ∙ sym (request_spelled (codes "PLAY") (film_url wish) (play_parts wish session).fields)
+    put_in_row (codes "PLAY ") (play_rest wish session)
+    ∙ sym (request_spelled (codes "PLAY") (film_url wish) (play_parts wish session).fields)
 
 pub teardown_is : (wish : Wish) (session : List ℕ) → teardown_text wish session ≡ request_text (teardown_parts wish session)
 teardown_is wish session =

@@ -25,7 +25,8 @@ use Rattle.rtsp_client.proofs.AskedTexts.{setup_is, setup_rest, play_is, play_re
 use Rattle.rtsp_client.proofs.Texts.{put_long}
 
 -- bytes of one kind are bytes of another
-all_of : (p q : ℕ → Bool) → ((c : ℕ) → p c ≡ true → q c ≡ true) → (text : List ℕ) → list_all p text ≡ true → list_all q text ≡ true
+all_of : (p q : ℕ → Bool) → ((c : ℕ) → p c ≡ true → q c ≡ true) → (text : List ℕ) → list_all p text ≡ true
+    → list_all q text ≡ true
 all_of p q is [] all = refl
 all_of p q is (c ∷ text) all =
     let parts = and_parts (p c) (list_all p text) all in
@@ -59,8 +60,10 @@ bare text all =
     let back : 0 < length (reverse text) → is_blank (get_or (reverse text) 0 0) ≡ false = λ some.
     let long : 0 < length text = omega (arith, some, length-reverse text) in
     let last : get_or (reverse text) 0 0 ≡ get_or text (length text - 1 - 0) 0 = get_or-reverse text 0 0 long in
-    ap is_blank last ∙ not_blank (get_or text (length text - 1 - 0) 0) (byte_at text (length text - 1 - 0) all (omega (arith, long))) in
-    ap (λ l. reverse (without_front_blanks (reverse l))) (bare_front text (λ some. not_blank (get_or text 0 0) (byte_at text 0 all some)))
+    ap is_blank last
+    ∙ not_blank (get_or text (length text - 1 - 0) 0) (byte_at text (length text - 1 - 0) all (omega (arith, long))) in
+    ap (λ l. reverse (without_front_blanks (reverse l)))
+    (bare_front text (λ some. not_blank (get_or text 0 0) (byte_at text 0 all some)))
     ∙ ap reverse (bare_front (reverse text) back) ∙ reverse-reverse text
 
 digits : (n : ℕ) → n < 2 ^ 64 → list_all is_url_byte (decimal n) ≡ true
@@ -75,7 +78,8 @@ name_bytes : (wish : Wish) → IsFilm wish → list_all is_url_byte (string_byte
 name_bytes wish film =
     let name = string_bytes wish.name in
     all_of is_name_byte is_url_byte name_in_url name
-    (and_parts (nat_lt 0 (length name) && nat_le (length name) 64 && not (get_or name 0 0 == 46)) (list_all is_name_byte name) film.is_wish.name).1
+    (and_parts (nat_lt 0 (length name) && nat_le (length name) 64 && not (get_or name 0 0 == 46))
+    (list_all is_name_byte name) film.is_wish.name).1
 
 both : (a b : List ℕ) → list_all is_url_byte a ≡ true → list_all is_url_byte b ≡ true → list_all is_url_byte (a ++ b) ≡ true
 both a b one other = list_all-append is_url_byte a b ∙ and_from (list_all is_url_byte a) (list_all is_url_byte b) one other
@@ -97,7 +101,8 @@ rtsp_url wish tail film = record {
   some = omega (arith, length-append (codes "127.0.0.1:") (decimal wish.port));
   no_slash = list_all-append (λ c. not (c == 47)) (codes "127.0.0.1:") (decimal wish.port)
       ∙ and_from (list_all (λ c. not (c == 47)) (codes "127.0.0.1:")) (list_all (λ c. not (c == 47)) (decimal wish.port)) refl
-      (all_of is_ascii_digit (λ c. not (c == 47)) no_slash (decimal wish.port) (digits_decimal decimal_numerals wish.port (omega (arith, film.port))));
+      (all_of is_ascii_digit (λ c. not (c == 47)) no_slash (decimal wish.port)
+      (digits_decimal decimal_numerals wish.port (omega (arith, film.port))));
   path_begins = λ some. refl;
 }
 
@@ -114,7 +119,8 @@ video_is_url wish film = record {
 }
 
 -- a field of printable bytes
-field_of : (name value : List ℕ) → is_token name ≡ true → list_all is_url_byte value ≡ true → IsHeaderField (record { name = name; value = value })
+field_of : (name value : List ℕ) → is_token name ≡ true → list_all is_url_byte value ≡ true
+    → IsHeaderField (record { name = name; value = value })
 field_of name value token all = record {
   name_is = word_of name token;
   value_is = value_of value (all_of is_url_byte is_value_byte url_in_value value all);
@@ -122,8 +128,11 @@ field_of name value token all = record {
 }
 
 -- one field more
-field_more : (name value : List ℕ) (more : List Field) → is_token name ≡ true → list_all is_url_byte value ≡ true → All IsHeaderField more → All IsHeaderField (record { name = name; value = value } ∷ more)
-field_more name value more token all rest = All-cons IsHeaderField (record { name = name; value = value }) more (field_of name value token all) rest
+field_more : (name value : List ℕ) (more : List Field) → is_token name ≡ true
+    → list_all is_url_byte value ≡ true → All IsHeaderField more
+    → All IsHeaderField (record { name = name; value = value } ∷ more)
+field_more name value more token all rest =
+    All-cons IsHeaderField (record { name = name; value = value }) more (field_of name value token all) rest
 
 -- how long the parts are
 decimal_short : (n : ℕ) → n < 2 ^ 64 → length (decimal n) ≤ 20
@@ -133,8 +142,10 @@ film_short : (wish : Wish) → IsFilm wish → length (film_url wish) ≤ 102
 film_short wish film =
     let name = string_bytes wish.name in
     let fits : nat_le (length name) 64 ≡ true =
-    (and_parts (nat_lt 0 (length name)) (nat_le (length name) 64) (and_parts (nat_lt 0 (length name) && nat_le (length name) 64) (not (get_or name 0 0 == 46))
-    (and_parts (nat_lt 0 (length name) && nat_le (length name) 64 && not (get_or name 0 0 == 46)) (list_all is_name_byte name) film.is_wish.name).0).0).1 in
+    (and_parts (nat_lt 0 (length name)) (nat_le (length name) 64)
+    (and_parts (nat_lt 0 (length name) && nat_le (length name) 64) (not (get_or name 0 0 == 46))
+    (and_parts (nat_lt 0 (length name) && nat_le (length name) 64 && not (get_or name 0 0 == 46))
+    (list_all is_name_byte name) film.is_wish.name).0).0).1 in
     let short : length name ≤ 64 = grind (arith, nat_tests) in
     omega (
       arith,
@@ -145,7 +156,8 @@ film_short wish film =
     )
 
 -- a request of these parts is asked by its text
-asked : (text : List ℕ) (parts : Parts) (sequence : ℕ) → text ≡ request_text parts → AreRequest parts sequence → AreShort parts → IsAsked text parts sequence
+asked : (text : List ℕ) (parts : Parts) (sequence : ℕ) → text ≡ request_text parts → AreRequest parts sequence
+    → AreShort parts → IsAsked text parts sequence
 asked text parts sequence is request short = subst (λ (t : List ℕ). IsAsked t parts sequence) (sym is) (record {
   found = λ later. request_found parts sequence later request short;
   read = request_of parts sequence request;
@@ -153,7 +165,8 @@ asked text parts sequence is request short = subst (λ (t : List ℕ). IsAsked t
 })
 
 -- a head is as long as the text of a request without a body
-head_long : (text : List ℕ) (parts : Parts) → text ≡ request_text parts → parts.body ≡ [] → length (request_head parts) ≡ length text
+head_long : (text : List ℕ) (parts : Parts) → text ≡ request_text parts → parts.body ≡ []
+    → length (request_head parts) ≡ length text
 head_long text parts is none =
     ap length (sym (append-nil (request_head parts)) ∙ ap (λ l. request_head parts ++ l) (sym none) ∙ sym is)
 
@@ -162,9 +175,17 @@ setup_front : (wish : Wish) → IsFilm wish → AreFront (setup_parts wish)
 setup_front wish film = record {
   method_is = word_of (codes "SETUP") refl;
   url_is = video_is_url wish film;
-  fields_are = field_more (codes "CSeq") (codes "1") (record { name = codes "Transport"; value = codes "RTP/AVP/TCP;unicast;interleaved=0-1" } ∷ record { name = codes "x-Buffer"; value = decimal wish.buffer } ∷ record { name = codes "x-Startup"; value = decimal wish.startup } ∷ []) refl refl
-      (field_more (codes "Transport") (codes "RTP/AVP/TCP;unicast;interleaved=0-1") (record { name = codes "x-Buffer"; value = decimal wish.buffer } ∷ record { name = codes "x-Startup"; value = decimal wish.startup } ∷ []) refl refl
-      (field_more (codes "x-Buffer") (decimal wish.buffer) (record { name = codes "x-Startup"; value = decimal wish.startup } ∷ []) refl (digits wish.buffer (omega (arith, film.is_wish.most_buffer)))
+  fields_are =
+      field_more (codes "CSeq") (codes "1")
+      (record { name = codes "Transport"; value = codes "RTP/AVP/TCP;unicast;interleaved=0-1" }
+      ∷ record { name = codes "x-Buffer"; value = decimal wish.buffer }
+      ∷ record { name = codes "x-Startup"; value = decimal wish.startup } ∷ []) refl refl
+      (field_more (codes "Transport") (codes "RTP/AVP/TCP;unicast;interleaved=0-1")
+      (record { name = codes "x-Buffer"; value = decimal wish.buffer }
+      ∷ record { name = codes "x-Startup"; value = decimal wish.startup } ∷ []) refl refl
+      (field_more (codes "x-Buffer") (decimal wish.buffer)
+      (record { name = codes "x-Startup"; value = decimal wish.startup } ∷ []) refl
+      (digits wish.buffer (omega (arith, film.is_wish.most_buffer)))
       (field_more (codes "x-Startup") (decimal wish.startup) [] refl (digits wish.startup (omega (arith, film.is_wish.startup)))
       (All-nil IsHeaderField))));
 }
@@ -196,7 +217,10 @@ play_front : (wish : Wish) (session : List ℕ) → IsFilm wish → IsSessionId 
 play_front wish session film id = record {
   method_is = word_of (codes "PLAY") refl;
   url_is = film_is_url wish film;
-  fields_are = field_more (codes "CSeq") (codes "2") (record { name = codes "Session"; value = session } ∷ record { name = codes "Range"; value = codes "npt=0-" } ∷ []) refl refl
+  fields_are =
+      field_more (codes "CSeq") (codes "2")
+      (record { name = codes "Session"; value = session }
+      ∷ record { name = codes "Range"; value = codes "npt=0-" } ∷ []) refl refl
       (field_more (codes "Session") (session) (record { name = codes "Range"; value = codes "npt=0-" } ∷ []) refl id.bytes
       (field_more (codes "Range") (codes "npt=0-") [] refl refl
       (All-nil IsHeaderField)));
@@ -218,10 +242,12 @@ play_short wish session film id = record {
   body_is = omega arith;
 }
 
-pub play_asked : (wish : Wish) (session : List ℕ) → IsWish wish → wish.port < 2 ^ 16 → IsSessionId session → IsAsked (play_text wish session) (play_parts wish session) 2
+pub play_asked : (wish : Wish) (session : List ℕ) → IsWish wish → wish.port < 2 ^ 16 → IsSessionId session
+    → IsAsked (play_text wish session) (play_parts wish session) 2
 play_asked wish session is port id =
     let film : IsFilm wish = record { is_wish = is; port = port } in
-    asked (play_text wish session) (play_parts wish session) 2 (play_is wish session) (play_request wish session film id) (play_short wish session film id)
+    asked (play_text wish session) (play_parts wish session) 2 (play_is wish session)
+    (play_request wish session film id) (play_short wish session film id)
 
 -- TEARDOWN
 teardown_front : (wish : Wish) (session : List ℕ) → IsFilm wish → IsSessionId session → AreFront (teardown_parts wish session)
@@ -233,9 +259,11 @@ teardown_front wish session film id = record {
       (All-nil IsHeaderField));
 }
 
-teardown_request : (wish : Wish) (session : List ℕ) → IsFilm wish → IsSessionId session → AreRequest (teardown_parts wish session) 3
+teardown_request : (wish : Wish) (session : List ℕ) → IsFilm wish → IsSessionId session
+    → AreRequest (teardown_parts wish session) 3
 unfolding value_named
-teardown_request wish session film id = record { front = teardown_front wish session film id; sequence_is = refl; length_is = refl }
+teardown_request wish session film id =
+    record { front = teardown_front wish session film id; sequence_is = refl; length_is = refl }
 
 teardown_short : (wish : Wish) (session : List ℕ) → IsFilm wish → IsSessionId session → AreShort (teardown_parts wish session)
 teardown_short wish session film id = record {
@@ -249,7 +277,9 @@ teardown_short wish session film id = record {
   body_is = omega arith;
 }
 
-pub teardown_asked : (wish : Wish) (session : List ℕ) → IsWish wish → wish.port < 2 ^ 16 → IsSessionId session → IsAsked (teardown_text wish session) (teardown_parts wish session) 3
+pub teardown_asked : (wish : Wish) (session : List ℕ) → IsWish wish → wish.port < 2 ^ 16 → IsSessionId session
+    → IsAsked (teardown_text wish session) (teardown_parts wish session) 3
 teardown_asked wish session is port id =
     let film : IsFilm wish = record { is_wish = is; port = port } in
-    asked (teardown_text wish session) (teardown_parts wish session) 3 (teardown_is wish session) (teardown_request wish session film id) (teardown_short wish session film id)
+    asked (teardown_text wish session) (teardown_parts wish session) 3 (teardown_is wish session)
+    (teardown_request wish session film id) (teardown_short wish session film id)

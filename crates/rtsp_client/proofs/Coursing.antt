@@ -26,7 +26,8 @@ use Rattle.rtsp_client.proofs.Taking.{after-on, payloads-on}
 
 -- ---- one event
 
-pub round-bytes : {wish : Wish} {h : History} {rest bytes : List ℕ} {new : Client} {s t : Sight} → HasTaken wish h (rest ++ bytes) new s t
+pub round-bytes : {wish : Wish} {h : History} {rest bytes : List ℕ} {new : Client} {s t : Sight}
+    → HasTaken wish h (rest ++ bytes) new s t
     → IsFirst new.input (Ok More) → HasRound wish h rest (HeardBytes bytes) new s t
 round-bytes {h} {new} {s} taken idle = record {
   moments = moments_in taken.pieces;
@@ -36,7 +37,8 @@ round-bytes {h} {new} {s} taken idle = record {
   sight_is = taken.passed.sight_is;
 }
 
-timed-from : (o : Option Source) → IfSome o (λ (s : Source). 0 < s.picture_units) → (s : Source) → o ≡ Some s → 0 < s.picture_units
+timed-from : (o : Option Source) → IfSome o (λ (s : Source). 0 < s.picture_units) → (s : Source) → o ≡ Some s
+    → 0 < s.picture_units
 timed-from o timed s is =
     let P : Option Source → Type 0 = λ x. IfSome x (λ (s : Source). 0 < s.picture_units) in
     let Q : IfSome (Some s) (λ (s : Source). 0 < s.picture_units) = subst P is timed in Q
@@ -56,7 +58,8 @@ pub record HasHeardSlot (wish : Wish) (c : Client) (slot cut : ℕ) (new : Clien
   pub input : new.input ≡ c.input
   pub watching : new.watching ≡ after_slot wish c.watching slot cut
 
-pub round-slot : {wish : Wish} {h : History} {c new : Client} {slot cut : ℕ} {s : Sight} → IsWaiting wish h c cut → HasHeardSlot wish c slot cut new
+pub round-slot : {wish : Wish} {h : History} {c new : Client} {slot cut : ℕ} {s : Sight}
+    → IsWaiting wish h c cut → HasHeardSlot wish c slot cut new
     → HasRound wish h c.input (HeardSlot slot) new s s
 round-slot {wish} {h} {c} {slot} {s} waits later = record {
   moments = Slot slot (cut_bytes c.input) ∷ [];
@@ -66,13 +69,15 @@ round-slot {wish} {h} {c} {slot} {s} waits later = record {
     session_is = later.session ∙ waits.keeps.session_is;
     state = subst (λ w. KeepsState wish (Slot slot (cut_bytes c.input) ∷ h) w)
         (sym (later.watching ∙ ap (after_slot wish c.watching slot) waits.cut_is))
-        (keeps-slot waits.keeps.state (record { slot_lasts = waits.slot_lasts; picture_lasts = timed-from c.watching.source waits.picture_lasts }));
+        (keeps-slot waits.keeps.state
+        (record { slot_lasts = waits.slot_lasts; picture_lasts = timed-from c.watching.source waits.picture_lasts }));
   };
   idle = subst (λ i. IsFirst i (Ok More)) (sym later.input) waits.idle;
   sight_is = sight-none s;
 }
 
-pub ended-bytes : {wish : Wish} {h : History} {rest bytes : List ℕ} {end : WatchEnd} {s t : Sight} → HasStopped wish h (rest ++ bytes) end s t
+pub ended-bytes : {wish : Wish} {h : History} {rest bytes : List ℕ} {end : WatchEnd} {s t : Sight}
+    → HasStopped wish h (rest ++ bytes) end s t
     → HasEnded wish h rest (HeardBytes bytes) end s t
 ended-bytes {h} {bytes} {end} {s} stopped = record {
   sent = stopped.sent;
@@ -92,7 +97,8 @@ ended-peer {h} {c} {end} {s} k is = record {
 
 -- ---- all events
 
-runs-on : {mid new : Stage} {round : Round} (old : Stage) (rounds : List Round) → RunsAll old rounds mid → Runs mid round new → IsFirst new.rest (Ok More)
+runs-on : {mid new : Stage} {round : Round} (old : Stage) (rounds : List Round) → RunsAll old rounds mid
+    → Runs mid round new → IsFirst new.rest (Ok More)
     → RunsAll old (rounds ++ round ∷ []) new
 runs-on {new} {round} old [] all runs idle =
     let R : Stage → Type 0 = λ x. Runs x round new in
@@ -100,30 +106,37 @@ runs-on {new} {round} old [] all runs idle =
 runs-on {mid} {new} {round} old (first ∷ rounds) all runs idle =
     (all.0, (all.1.0, all.1.1, runs-on {mid = mid} {new = new} {round = round} all.0 rounds all.1.2 runs idle))
 
-history-is : (old mid : Stage) (rounds : List Round) → RunsAll old rounds mid → mid.history ≡ after old.history (moments_of_rounds rounds)
+history-is : (old mid : Stage) (rounds : List Round) → RunsAll old rounds mid
+    → mid.history ≡ after old.history (moments_of_rounds rounds)
 history-is old mid [] all = ap (λ (s : Stage). s.history) all
 history-is old mid (round ∷ rounds) all =
     history-is all.0 mid rounds all.1.2
-    ∙ (ap (λ h. after h (moments_of_rounds rounds)) all.1.0.history_is ∙ sym (after-on old.history round.moments (moments_of_rounds rounds)))
+    ∙ (ap (λ h. after h (moments_of_rounds rounds)) all.1.0.history_is
+    ∙ sym (after-on old.history round.moments (moments_of_rounds rounds)))
 
 doings-on : (wish : Wish) (h : History) (rounds : List Round) (round : Round)
     → rounds_doings wish h (rounds ++ round ∷ [])
-    ≡ rounds_doings wish h rounds ++ (round.event ∷ sends (requests_after wish (after h (moments_of_rounds rounds)) round.moments))
+    ≡ rounds_doings wish h rounds
+    ++ (round.event ∷ sends (requests_after wish (after h (moments_of_rounds rounds)) round.moments))
 doings-on wish h [] round = append-nil (round.event ∷ sends (requests_after wish h round.moments))
 doings-on wish h (first ∷ rounds) round =
     let front = first.event ∷ sends (requests_after wish h first.moments) in
     ap (λ d. front ++ d) (doings-on wish (after h first.moments) rounds round)
-    ∙ (ap (λ g. front ++ (rounds_doings wish (after h first.moments) rounds ++ (round.event ∷ sends (requests_after wish g round.moments))))
+    ∙ (ap (λ g. front
+    ++ (rounds_doings wish (after h first.moments) rounds ++ (round.event ∷ sends (requests_after wish g round.moments))))
     (sym (after-on h first.moments (moments_of_rounds rounds)))
     ∙ sym (append_assoc front (rounds_doings wish (after h first.moments) rounds)
     (round.event ∷ sends (requests_after wish (after h (moments_of_rounds (first ∷ rounds))) round.moments))))
 
-moments-of-on : (rounds : List Round) (round : Round) → moments_of_rounds (rounds ++ round ∷ []) ≡ moments_of_rounds rounds ++ round.moments
+moments-of-on : (rounds : List Round) (round : Round)
+    → moments_of_rounds (rounds ++ round ∷ []) ≡ moments_of_rounds rounds ++ round.moments
 moments-of-on [] round = append-nil round.moments
 moments-of-on (first ∷ rounds) round =
-    ap (λ m. first.moments ++ m) (moments-of-on rounds round) ∙ sym (append_assoc first.moments (moments_of_rounds rounds) round.moments)
+    ap (λ m. first.moments ++ m) (moments-of-on rounds round)
+    ∙ sym (append_assoc first.moments (moments_of_rounds rounds) round.moments)
 
-pub run-none : {wish : Wish} {client : Client} {s : Sight} → client.replies ≡ 0 → client.session.items ≡ [] → client.watching ≡ new_state
+pub run-none : {wish : Wish} {client : Client} {s : Sight} → client.replies ≡ 0 → client.session.items ≡ []
+    → client.watching ≡ new_state
     → client.input ≡ [] → HasRun wish 0 client s s
 run-none {wish} {s} none empty new_ input = record {
   rounds = [];
@@ -135,7 +148,8 @@ run-none {wish} {s} none empty new_ input = record {
     session_is = empty;
     state = subst (λ w. KeepsState wish [] w) (sym new_) (keeps-new wish);
   };
-  sight_is = ap (λ t. sight t s.out) (sym (told_more-nil s.told)) ∙ ap (λ o. sight (told_more s.told []) o) (sym (told_more-nil s.out));
+  sight_is = ap (λ t. sight t s.out) (sym (told_more-nil s.told))
+      ∙ ap (λ o. sight (told_more s.told []) o) (sym (told_more-nil s.out));
 }
 
 -- one more event
@@ -146,17 +160,21 @@ pub run-on : {wish : Wish} {count : ℕ} {event : Doing} {c new : Client} {s t u
 run-on {wish} {event} {c} {new} {s} run heard next =
     let round = next run.history run.keeps in
     let r : Round = record { event = event; moments = round.moments } in
-    let h : run.history ≡ after [] (moments_of_rounds run.rounds) = history-is (stage [] []) (stage run.history c.input) run.rounds run.runs in
-    let told : told_more (told_more (told_more s.told (rounds_doings wish [] run.rounds)) (event ∷ [])) (sends (requests_after wish run.history round.moments))
+    let h : run.history ≡ after [] (moments_of_rounds run.rounds) =
+    history-is (stage [] []) (stage run.history c.input) run.rounds run.runs in
+    let told : told_more (told_more (told_more s.told (rounds_doings wish [] run.rounds)) (event ∷ []))
+    (sends (requests_after wish run.history round.moments))
     ≡ told_more s.told (rounds_doings wish [] (run.rounds ++ r ∷ [])) =
-    told_more-append (told_more s.told (rounds_doings wish [] run.rounds)) (event ∷ []) (sends (requests_after wish run.history round.moments))
+    told_more-append (told_more s.told (rounds_doings wish [] run.rounds)) (event ∷ [])
+    (sends (requests_after wish run.history round.moments))
     ∙ (told_more-append s.told (rounds_doings wish [] run.rounds) (event ∷ sends (requests_after wish run.history round.moments))
     ∙ ap (told_more s.told) (ap (λ g. rounds_doings wish [] run.rounds ++ (event ∷ sends (requests_after wish g round.moments))) h
     ∙ sym (doings-on wish [] run.rounds r))) in
     let out : told_more (told_more s.out (payloads_of (moments_of_rounds run.rounds))) (payloads_of round.moments)
     ≡ told_more s.out (payloads_of (moments_of_rounds (run.rounds ++ r ∷ []))) =
     told_more-append s.out (payloads_of (moments_of_rounds run.rounds)) (payloads_of round.moments)
-    ∙ ap (told_more s.out) (sym (payloads-on (moments_of_rounds run.rounds) round.moments) ∙ ap payloads_of (sym (moments-of-on run.rounds r))) in
+    ∙ ap (told_more s.out)
+    (sym (payloads-on (moments_of_rounds run.rounds) round.moments) ∙ ap payloads_of (sym (moments-of-on run.rounds r))) in
     record {
       rounds = run.rounds ++ r ∷ [];
       count_is = length-append run.rounds (r ∷ []) ∙ ap (λ n. n + 1) run.count_is;
@@ -166,7 +184,8 @@ run-on {wish} {event} {c} {new} {s} run heard next =
       sight_is = round.sight_is
           ∙ (ap (λ x. sight_more x (requests_after wish run.history round.moments) (payloads_of round.moments))
           (heard ∙ ap (λ (y : Sight). sight (told_more y.told (event ∷ [])) y.out) run.sight_is)
-          ∙ (ap (λ x. sight x (told_more (told_more s.out (payloads_of (moments_of_rounds run.rounds))) (payloads_of round.moments))) told
+          ∙ (ap (λ x. sight x
+          (told_more (told_more s.out (payloads_of (moments_of_rounds run.rounds))) (payloads_of round.moments))) told
           ∙ ap (λ o. sight (told_more s.told (rounds_doings wish [] (run.rounds ++ r ∷ []))) o) out));
     }
 
@@ -188,7 +207,8 @@ course-of {wish} {c} {end} {told0} {out0} {s} {doings} {out} run begun ends told
       told = told_is
           ∙ (ap (λ (x : Sight). told_more x.told doings) run.sight_is
           ∙ (ap (λ (x : Sight). told_more (told_more x.told d) doings) begun
-          ∙ (told_more-append (told_more told0 (sends (setup_text wish))) d doings ∙ told_more-append told0 (sends (setup_text wish)) (d ++ doings))));
+          ∙ (told_more-append (told_more told0 (sends (setup_text wish))) d doings
+          ∙ told_more-append told0 (sends (setup_text wish)) (d ++ doings))));
       out = out_is
           ∙ (ap (λ (x : Sight). told_more x.out out) run.sight_is
           ∙ (ap (λ (x : Sight). told_more (told_more x.out (payloads_of (moments_of_rounds run.rounds))) out) begun
@@ -197,7 +217,8 @@ course-of {wish} {c} {end} {told0} {out0} {s} {doings} {out} run begun ends told
 
 -- an event gave the answer
 pub watched-end : {wish : Wish} {count : ℕ} {event : Doing} {c : Client} {end : WatchEnd}
-    {told0 : Option (List Doing)} {out0 : Option (List ℕ)} {s t u v : Sight} (run : HasRun wish count c s t) → s ≡ sight (told_more told0 (sends (setup_text wish))) out0 → count < 1099511627776
+    {told0 : Option (List Doing)} {out0 : Option (List ℕ)} {s t u v : Sight} (run : HasRun wish count c s t)
+    → s ≡ sight (told_more told0 (sends (setup_text wish))) out0 → count < 1099511627776
     → u ≡ sight (told_more t.told (event ∷ [])) t.out → ((h : History) → Keeps wish h c → HasEnded wish h c.input event end u v)
     → HasWatched wish end told0 v.told out0 v.out
 watched-end {count} {event} {c} {end} {s} {t} run begun few heard next =
@@ -209,13 +230,15 @@ watched-end {count} {event} {c} {end} {s} {t} run begun few heard next =
 
 -- no further event was heard
 pub watched-lost : {wish : Wish} {count : ℕ} {c : Client} {end : WatchEnd} {told0 : Option (List Doing)}
-    {out0 : Option (List ℕ)} {s t : Sight} {new_told : Option (List Doing)} (run : HasRun wish count c s t) → s ≡ sight (told_more told0 (sends (setup_text wish))) out0
+    {out0 : Option (List ℕ)} {s t : Sight} {new_told : Option (List Doing)} (run : HasRun wish count c s t)
+    → s ≡ sight (told_more told0 (sends (setup_text wish))) out0
     → count < 1099511627776 → end ≡ LinkFault → new_told ≡ t.told → HasWatched wish end told0 new_told out0 t.out
 watched-lost {c} {end} {s} {t} run begun few is same =
     course-of run begun (inl (inl (is, few), refl, refl)) (same ∙ sym (told_more-nil t.told)) (sym (told_more-nil t.out))
 
 pub watched-spent : {wish : Wish} {count : ℕ} {c : Client} {told0 : Option (List Doing)} {out0 : Option (List ℕ)}
-    {s t : Sight} (run : HasRun wish count c s t) → s ≡ sight (told_more told0 (sends (setup_text wish))) out0 → count ≡ 1099511627776
+    {s t : Sight} (run : HasRun wish count c s t) → s ≡ sight (told_more told0 (sends (setup_text wish))) out0
+    → count ≡ 1099511627776
     → HasWatched wish (Fault TurnsSpent) told0 t.told out0 t.out
 watched-spent {c} {s} {t} run begun all =
     course-of run begun (inl (inr (refl, all), refl, refl)) (sym (told_more-nil t.told)) (sym (told_more-nil t.out))
@@ -223,9 +246,11 @@ watched-spent {c} {s} {t} run begun all =
 -- it didn't begin
 pub watched-not : (wish : Wish) (end : WatchEnd) (told : Option (List Doing)) (out : Option (List ℕ)) → end ≡ NoMemory
     → HasWatched wish end told told out out
-watched-not wish end told out is = inr (record { front = []; cause = inl (is, refl); told = sym (told_more-nil told); out = refl })
+watched-not wish end told out is =
+    inr (record { front = []; cause = inl (is, refl); told = sym (told_more-nil told); out = refl })
 
-pub watched-unsent : (wish : Wish) (end : WatchEnd) (told new_told : Option (List Doing)) (out : Option (List ℕ)) → IsUnsent end wish told new_told
+pub watched-unsent : (wish : Wish) (end : WatchEnd) (told new_told : Option (List Doing))
+    (out : Option (List ℕ)) → IsUnsent end wish told new_told
     → HasWatched wish end told new_told out out
 watched-unsent wish end told new_told out (inl none) =
     inr (record { front = []; cause = inl (none.0, refl); told = none.1 ∙ sym (told_more-nil told); out = refl })

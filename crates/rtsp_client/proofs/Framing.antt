@@ -26,10 +26,13 @@ use Rattle.rtsp_client.proofs.Sighting.{all-front, no-front, sight-both, sight-h
 pub bad-frame : {wish : Wish} {h : History} {c : Client} {b : List ℕ} {end : WatchEnd} {s : Sight} → Keeps wish h c
     → source_with c.watching b ≡ None → end ≡ Fault (BadFrame c.watching.watched.frames) → HasEndedAt wish h (Frame b) end s s
 bad-frame {wish} {h} {c} {b} {end} {s} k none is =
-    gives wish h (Frame b) end s
-    (good-is wish h c.watching b k.state ∙ ap is_some none, is ∙ ap (λ (w : Watched). Fault (BadFrame w.frames)) k.state.watched_is)
+    gives wish h (Frame b) end s (
+      good-is wish h c.watching b k.state ∙ ap is_some none,
+      is ∙ ap (λ (w : Watched). Fault (BadFrame w.frames)) k.state.watched_is,
+    )
 
-frame-good : {wish : Wish} {h : History} {c : Client} {next : Source} (b : List ℕ) → Keeps wish h c → source_with c.watching b ≡ Some next
+frame-good : {wish : Wish} {h : History} {c : Client} {next : Source} (b : List ℕ) → Keeps wish h c
+    → source_with c.watching b ≡ Some next
     → GoesOn h (Frame b)
 frame-good {wish} {h} {c} {next} b k some = good-is wish h c.watching b k.state ∙ ap is_some some
 
@@ -45,7 +48,8 @@ frame-starved {wish} {h} {c} {b} {next} {end} {s} k some is = record {
 }
 
 pub teardown-starved : {wish : Wish} {h : History} {c : Client} {b : List ℕ} {next : Source} {end : WatchEnd}
-    {out new_out : Option (List ℕ)} (told : Option (List Doing)) → Keeps wish h c → source_with c.watching b ≡ Some next → end ≡ NoMemory
+    {out new_out : Option (List ℕ)} (told : Option (List Doing)) → Keeps wish h c
+    → source_with c.watching b ≡ Some next → end ≡ NoMemory
     → new_out ≡ told_more out (drop 20 b) → HasEndedAt wish h (Frame b) end (sight told out) (sight told new_out)
 teardown-starved {wish} {h} {c} {b} {next} {end} {out} {new_out} told k some is handed = record {
   sent = [];
@@ -59,7 +63,8 @@ teardown-starved {wish} {h} {c} {b} {next} {end} {out} {new_out} told k some is 
 
 -- the output failed
 pub frame-cut : {wish : Wish} {h : History} {c : Client} {b : List ℕ} {next : Source} {end : WatchEnd}
-    {out new_out : Option (List ℕ)} (told : Option (List Doing)) → Keeps wish h c → source_with c.watching b ≡ Some next → end ≡ SinkFault
+    {out new_out : Option (List ℕ)} (told : Option (List Doing)) → Keeps wish h c
+    → source_with c.watching b ≡ Some next → end ≡ SinkFault
     → IsFrontMore out new_out (drop 20 b) → HasEndedAt wish h (Frame b) end (sight told out) (sight told new_out)
 frame-cut {wish} {h} {c} {b} {next} {end} {out} {new_out} told k some is front = record {
   sent = [];
@@ -80,7 +85,8 @@ pub record TakenFrame (wish : Wish) (h : History) (c mid : Client) (b : List ℕ
   pub session : mid.session.items ≡ c.session.items
   pub watching : mid.watching ≡ after_frame c.watching next (length b)
 
-frame-taken : {wish : Wish} {h : History} {c mid : Client} {b : List ℕ} {next : Source} → TakenFrame wish h c mid b next → GoesOn h (Frame b)
+frame-taken : {wish : Wish} {h : History} {c mid : Client} {b : List ℕ} {next : Source}
+    → TakenFrame wish h c mid b next → GoesOn h (Frame b)
 frame-taken {b} taken = frame-good b taken.keeps taken.next_is
 
 -- the client after the frame
@@ -89,7 +95,8 @@ keeps-taken : {wish : Wish} {h : History} {c mid : Client} {b : List ℕ} {next 
 keeps-taken {wish} {h} {b} taken = record {
   replies_are = taken.replies ∙ taken.keeps.replies_are;
   session_is = taken.session ∙ taken.keeps.session_is;
-  state = subst (λ w. KeepsState wish (Frame b ∷ h) w) (sym taken.watching) (keeps-frame taken.keeps.state taken.next_is taken.long);
+  state = subst (λ w. KeepsState wish (Frame b ∷ h) w) (sym taken.watching)
+      (keeps-frame taken.keeps.state taken.next_is taken.long);
 }
 
 -- it goes on, and no request is sent
@@ -101,7 +108,8 @@ frame-done {wish} {h} {mid} {b} {out} {new_out} told taken open_ handed =
     let unmet : is_complete (Frame b ∷ h) ≡ false = sym (complete-is wish (Frame b ∷ h) mid.watching keeps.state) ∙ open_ in
     passed-one (frame-taken taken) keeps
     (sight-handed told out new_out (drop 20 b) handed
-    ∙ ap (λ a. sight_more (sight told out) a (drop 20 b)) (sym (cond-false (is_complete (Frame b ∷ h)) (teardown_text wish (session h)) [] unmet)))
+    ∙ ap (λ a. sight_more (sight told out) a (drop 20 b))
+    (sym (cond-false (is_complete (Frame b ∷ h)) (teardown_text wish (session h)) [] unmet)))
 
 request-last : {wish : Wish} {h : History} {c mid : Client} {b : List ℕ} {next : Source} → TakenFrame wish h c mid b next
     → has_all mid.watching ≡ true
@@ -123,7 +131,8 @@ last-done {wish} {h} {b} {new_told} {out} told taken all handed sent =
     (subst P (sym (request-last taken all)) sent) handed)
 
 -- or TEARDOWN was cut
-pub last-cut : {wish : Wish} {h : History} {c mid : Client} {b : List ℕ} {next : Source} {end : WatchEnd} {told new_told : Option (List Doing)}
+pub last-cut : {wish : Wish} {h : History} {c mid : Client} {b : List ℕ} {next : Source} {end : WatchEnd}
+    {told new_told : Option (List Doing)}
     {out new_out : Option (List ℕ)} → TakenFrame wish h c mid b next → has_all mid.watching ≡ true → end ≡ LinkFault
     → new_out ≡ told_more out (drop 20 b) → IsFrontTold told new_told (teardown_text wish c.session.items)
     → HasEndedAt wish h (Frame b) end (sight told out) (sight new_told new_out)
@@ -144,7 +153,8 @@ last-cut {wish} {h} {c} {b} {told} {new_told} {out} {new_out} taken all is hande
 -- ---- a report
 
 pub report-done : {wish : Wish} {h : History} {c new : Client} {b : List ℕ} {s : Sight} → Keeps wish h c → new.replies ≡ c.replies
-    → new.session.items ≡ c.session.items → new.watching ≡ after_report c.watching (length b) → HasPassed wish h (Report b ∷ []) new s s
+    → new.session.items ≡ c.session.items → new.watching ≡ after_report c.watching (length b)
+    → HasPassed wish h (Report b ∷ []) new s s
 report-done {wish} {h} {c} {new} {b} {s} k replies_same session_same state =
     passed-one tt
     (record {

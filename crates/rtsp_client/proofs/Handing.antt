@@ -10,6 +10,7 @@ pub payloads-are : (moments : List Moment) → payloads_of moments ≡ payloads 
 payloads-are [] = refl
 payloads-are (Reply m ∷ moments) = payloads-are moments
 payloads-are (Frame b ∷ moments) =
-    ap (λ x. drop 20 b ++ x) (payloads-are moments) ∙ sym (flat_map-cons (λ (frame : List ℕ). drop 20 frame) b (frames_of moments))
+    ap (λ x. drop 20 b ++ x) (payloads-are moments)
+    ∙ sym (flat_map-cons (λ (frame : List ℕ). drop 20 frame) b (frames_of moments))
 payloads-are (Report b ∷ moments) = payloads-are moments
 payloads-are (Slot t cut ∷ moments) = payloads-are moments

@@ -48,7 +48,8 @@ source-first : (source : Option Source) (h : History) (m : List ℕ) → IsSourc
 source-first None h m is begun few = is
 source-first (Some source) h m is begun few = absurd (true≢false (sym (begun is.some) ∙ no-play h few))
 
-pub keeps-first : (wish : Wish) (h : History) (s : State) (m : List ℕ) → KeepsState wish h s → replies h ≡ 0 → KeepsState wish (Reply m ∷ h) s
+pub keeps-first : (wish : Wish) (h : History) (s : State) (m : List ℕ) → KeepsState wish h s → replies h ≡ 0
+    → KeepsState wish (Reply m ∷ h) s
 keeps-first wish h s m k none = record {
   last_slot_is = k.last_slot_is;
   play_is = play-first s.play h m k.play_is none;
@@ -86,7 +87,8 @@ keeps-play {h} {s} {m} k one starts ends = record {
 -- ---- which frames are good
 
 -- a test that refuses no head
-test-passed : {head : Head} (c : Bool) (fault : HeadFault) (rest : Result Head HeadFault) → cond c (Err fault) rest ≡ Ok head → rest ≡ Ok head
+test-passed : {head : Head} (c : Bool) (fault : HeadFault) (rest : Result Head HeadFault)
+    → cond c (Err fault) rest ≡ Ok head → rest ≡ Ok head
 test-passed {head} true fault rest is = cc
 test-passed false fault rest is = is
 
@@ -102,27 +104,34 @@ some-cond true x = refl
 some-cond false x = refl
 
 -- whether a frame goes on, by the source that is kept
-goes-on : {head : Head} {ms : ℕ} (source : Option Source) (h : History) (b : List ℕ) → IsSourceOf source h → head ≡ head_at (drop 4 b)
+goes-on : {head : Head} {ms : ℕ} (source : Option Source) (h : History) (b : List ℕ) → IsSourceOf source h
+    → head ≡ head_at (drop 4 b)
     → ms ≡ end_ms h
     → cond (frames h == 0) (is_first_good h b) (is_next_good h b) ≡ is_some (source_after source head (drop 20 b) ms)
 goes-on {head} {ms} None h b is at end =
     cond-true (frames h == 0) (is_first_good h b) (is_next_good h b) (eq-eqb (frames h) 0 is)
-    ∙ sym (some-cond (begins_film (drop 20 b) && (nat_le 1 (units_until ms (time_in b)) && nat_le (units_until ms (time_in b)) 4194304)) _
-    ∙ ap (λ n. begins_film (drop 20 b) && (nat_le 1 (units_until n (time_in b)) && nat_le (units_until n (time_in b)) 4194304)) end)
+    ∙ sym (some-cond
+    (begins_film (drop 20 b) && (nat_le 1 (units_until ms (time_in b)) && nat_le (units_until ms (time_in b)) 4194304)) _
+    ∙ ap (λ n. begins_film (drop 20 b)
+    && (nat_le 1 (units_until n (time_in b)) && nat_le (units_until n (time_in b)) 4194304)) end)
 goes-on {head} (Some source) h b is at end =
-    cond-false (frames h == 0) (is_first_good h b) (is_next_good h b) (ne_eqb (frames h) 0 (λ none. absurd (omega (arith, is.some, none))))
+    cond-false (frames h == 0) (is_first_good h b) (is_next_good h b)
+    (ne_eqb (frames h) 0 (λ none. absurd (omega (arith, is.some, none))))
     ∙ sym (some-cond ((head.ssrc == source.ssrc) && (head.sequence == (source.sequence + 1) % 2 ^ 16)) _
     ∙ (ap (λ (x : Head). (x.ssrc == source.ssrc) && (x.sequence == (source.sequence + 1) % 2 ^ 16)) at
     ∙ (ap (λ n. ((head_at (drop 4 b)).ssrc == n) && ((head_at (drop 4 b)).sequence == (source.sequence + 1) % 2 ^ 16)) is.ssrc_is
-    ∙ ap (λ n. ((head_at (drop 4 b)).ssrc == (head_at (drop 4 (first_frame h))).ssrc) && ((head_at (drop 4 b)).sequence == (n + 1) % 2 ^ 16)) is.sequence_is)))
+    ∙ ap (λ n. ((head_at (drop 4 b)).ssrc == (head_at (drop 4 (first_frame h))).ssrc)
+    && ((head_at (drop 4 b)).sequence == (n + 1) % 2 ^ 16)) is.sequence_is)))
 
 reads-on : {read : Result Head HeadFault} {ms : ℕ} (source : Option Source) (h : History) (b : List ℕ) → IsSourceOf source h
     → head_of (drop 4 b) ≡ read → ms ≡ end_ms h
-    → (is_ok read && cond (frames h == 0) (is_first_good h b) (is_next_good h b)) ≡ is_some (source_read source read (drop 20 b) ms)
+    → (is_ok read && cond (frames h == 0) (is_first_good h b) (is_next_good h b))
+    ≡ is_some (source_read source read (drop 20 b) ms)
 reads-on {read = Err fault} source h b is at end = refl
 reads-on {read = Ok head} source h b is at end = goes-on source h b is (head-read (drop 4 b) head at) end
 
-all-in : (source : Option Source) (h : History) (whole : ℕ) → IsSourceOf source h → whole ≡ length (sizes h) → is_all source whole ≡ is_complete h
+all-in : (source : Option Source) (h : History) (whole : ℕ) → IsSourceOf source h → whole ≡ length (sizes h)
+    → is_all source whole ≡ is_complete h
 all-in None h whole is same = sym (ap (λ n. nat_lt 0 n && (length (sizes h) == units h)) is)
 all-in (Some source) h whole is same =
     ap (λ n. n == source.units) same ∙ (ap (λ n. length (sizes h) == n) is.units_are
@@ -141,12 +150,15 @@ good-in {h} None b is k = ap (λ c. c && (not (is_complete h) &&
     (is_ok (head_of (drop 4 b)) && cond (frames h == 0) (is_first_good h b) (is_next_good h b)))) is
 good-in {wish} {h} {s} (Some play) b is k =
     let all : has_all s ≡ is_complete h = complete-is wish h s k in
-    ap (λ c. c && (not (is_complete h) && (is_ok (head_of (drop 4 b)) && cond (frames h == 0) (is_first_good h b) (is_next_good h b)))) is.playing
+    ap (λ c. c &&
+    (not (is_complete h)
+    && (is_ok (head_of (drop 4 b)) && cond (frames h == 0) (is_first_good h b) (is_next_good h b)))) is.playing
     ∙ (ap (λ c. not c && (is_ok (head_of (drop 4 b)) && cond (frames h == 0) (is_first_good h b) (is_next_good h b))) (sym all)
     ∙ (ap (λ c. not (has_all s) && c) (reads-on s.source h b k.source_is refl is.end_is)
     ∙ sym (some-unless (has_all s) (source_read s.source (head_of (drop 4 b)) (drop 20 b) play.end_ms))))
 
-pub good-is : (wish : Wish) (h : History) (s : State) (b : List ℕ) → KeepsState wish h s → is_good_frame h b ≡ is_some (source_with s b)
+pub good-is : (wish : Wish) (h : History) (s : State) (b : List ℕ) → KeepsState wish h s
+    → is_good_frame h b ≡ is_some (source_with s b)
 good-is wish h s b k = good-in s.play b k.play_is k
 
 -- ---- a frame
@@ -156,19 +168,25 @@ picked true x y is = cc
 picked false x y is = cc
 
 source-after : {h : History} {b : List ℕ} {head : Head} {ms : ℕ} {next : Source} (source : Option Source) → IsSourceOf source h
-    → head ≡ head_at (drop 4 b) → ms ≡ end_ms h → source_after source head (drop 20 b) ms ≡ Some next → IsSource next (Frame b ∷ h)
+    → head ≡ head_at (drop 4 b) → ms ≡ end_ms h → source_after source head (drop 20 b) ms ≡ Some next
+    → IsSource next (Frame b ∷ h)
 source-after {h} {b} {head} {ms} {next} None is at end after =
-    let its = picked (begins_film (drop 20 b) && (nat_le 1 (units_until ms (time_in b)) && nat_le (units_until ms (time_in b)) 4194304)) _ next after in
+    let its = picked
+    (begins_film (drop 20 b)
+    && (nat_le 1 (units_until ms (time_in b)) && nat_le (units_until ms (time_in b)) 4194304)) _ next after in
     let none : (frames h == 0) ≡ true = eq-eqb (frames h) 0 is in
     let first : cond (frames h == 0) b (first_frame h) ≡ b = cond-true (frames h == 0) b (first_frame h) none in
     record {
       some = omega arith;
-      ssrc_is = ap (λ (x : Source). x.ssrc) its ∙ (ap (λ (x : Head). x.ssrc) at ∙ sym (ap (λ f. (head_at (drop 4 f)).ssrc) first));
+      ssrc_is = ap (λ (x : Source). x.ssrc) its
+          ∙ (ap (λ (x : Head). x.ssrc) at ∙ sym (ap (λ f. (head_at (drop 4 f)).ssrc) first));
       sequence_is = ap (λ (x : Source). x.sequence) its ∙ ap (λ (x : Head). x.sequence) at;
       marker_is = ap (λ (x : Source). x.marker) its ∙ ap (λ (x : Head). x.marker) at;
       time_is = ap (λ (x : Source). x.picture_units) its ∙ sym (ap time_in first);
       units_are = ap (λ (x : Source). x.units) its ∙ (ap (λ n. units_until n (time_in b)) end
-          ∙ sym (cond-false (frames h + 1 == 0) 0 (units_until (end_ms h) (time_in (cond (frames h == 0) b (first_frame h)))) (ne_eqb (frames h + 1) 0 (λ e. absurd (omega (arith, e))))
+          ∙ sym (cond-false (frames h + 1 == 0) 0
+          (units_until (end_ms h) (time_in (cond (frames h == 0) b (first_frame h))))
+          (ne_eqb (frames h + 1) 0 (λ e. absurd (omega (arith, e))))
           ∙ ap (λ f. units_until (end_ms h) (time_in f)) first));
     }
 source-after {h} {b} {head} {next} (Some source) is at end after =
@@ -183,7 +201,9 @@ source-after {h} {b} {head} {next} (Some source) is at end after =
       time_is = ap (λ (x : Source). x.picture_units) its ∙ (is.time_is ∙ sym (ap time_in first));
       units_are = ap (λ (x : Source). x.units) its ∙ (is.units_are
           ∙ (cond-false (frames h == 0) 0 (units_until (end_ms h) (time_in (first_frame h))) some
-          ∙ sym (cond-false (frames h + 1 == 0) 0 (units_until (end_ms h) (time_in (cond (frames h == 0) b (first_frame h)))) (ne_eqb (frames h + 1) 0 (λ e. absurd (omega (arith, e))))
+          ∙ sym (cond-false (frames h + 1 == 0) 0
+          (units_until (end_ms h) (time_in (cond (frames h == 0) b (first_frame h))))
+          (ne_eqb (frames h + 1) 0 (λ e. absurd (omega (arith, e))))
           ∙ ap (λ f. units_until (end_ms h) (time_in f)) first)));
     }
 
@@ -191,13 +211,15 @@ source-read : {h : History} {b : List ℕ} {read : Result Head HeadFault} {ms : 
     (source : Option Source) → IsSourceOf source h
     → head_of (drop 4 b) ≡ read → ms ≡ end_ms h → source_read source read (drop 20 b) ms ≡ Some next → IsSource next (Frame b ∷ h)
 source-read {h} {read = Err fault} {next} source is at end after = cc
-source-read {h} {b} {read = Ok head} {next} source is at end after = source-after source is (head-read (drop 4 b) head at) end after
+source-read {h} {b} {read = Ok head} {next} source is at end after =
+    source-after source is (head-read (drop 4 b) head at) end after
 
 unless-all : (all : Bool) (o : Option Source) (next : Source) → cond all None o ≡ Some next → o ≡ Some next
 unless-all true o next is = cc
 unless-all false o next is = is
 
-source-played : {h : History} {b : List ℕ} {next : Source} (play : Option Play) (s : State) → IsPlayOf play h → IsSourceOf s.source h
+source-played : {h : History} {b : List ℕ} {next : Source} (play : Option Play) (s : State) → IsPlayOf play h
+    → IsSourceOf s.source h
     → source_played play s b ≡ Some next → IsSource next (Frame b ∷ h) × (is_playing h ≡ true)
 source-played {h} {next} None s is source after = cc
 source-played {h} {next} (Some play) s is source after = (
@@ -217,7 +239,8 @@ frame-taken : (l : Bool) (sizes : List ℕ) (bytes_pending n taken : ℕ) → ta
 frame-taken true sizes bytes_pending n taken is = omega (arith, is, sum-one sizes (bytes_pending + n))
 frame-taken false sizes bytes_pending n taken is = omega (arith, is)
 
-ends-more : (ends sizes : List ℕ) (end size : ℕ) → AreSumsOf ends sizes → end ≡ sum sizes + size → AreSumsOf (ends ++ end ∷ []) (sizes ++ size ∷ [])
+ends-more : (ends sizes : List ℕ) (end size : ℕ) → AreSumsOf ends sizes → end ≡ sum sizes + size
+    → AreSumsOf (ends ++ end ∷ []) (sizes ++ size ∷ [])
 ends-more ends sizes end size are is =
     let long = length-append ends (end ∷ []) in
     record {
@@ -233,7 +256,8 @@ ends-more ends sizes end size are is =
       ];
     }
 
-frame-ends : {m l : Bool} {ends sizes : List ℕ} {taken : ℕ} (bytes_pending n : ℕ) → m ≡ l → AreSumsOf ends sizes → taken ≡ sum sizes + bytes_pending
+frame-ends : {m l : Bool} {ends sizes : List ℕ} {taken : ℕ} (bytes_pending n : ℕ) → m ≡ l → AreSumsOf ends sizes
+    → taken ≡ sum sizes + bytes_pending
     → AreSumsOf (cond m (ends ++ (taken + n) ∷ []) ends) (cond l (sizes ++ (bytes_pending + n) ∷ []) sizes)
 frame-ends {m} {l = true} {ends} {sizes} {taken} bytes_pending n same are is =
     let E : Bool → Type 0 = λ b. AreSumsOf (cond b (ends ++ (taken + n) ∷ []) ends) (sizes ++ (bytes_pending + n) ∷ []) in
@@ -244,7 +268,8 @@ frame-ends {m} {l = false} {ends} {sizes} {taken} bytes_pending n same are is =
 
 whole-more : (m l : Bool) (sizes : List ℕ) (size : ℕ) → m ≡ l
     → cond m (length sizes + 1) (length sizes) ≡ length (cond l (sizes ++ size ∷ []) sizes)
-whole-more m true sizes size same = ap (λ b. cond b (length sizes + 1) (length sizes)) same ∙ sym (length-append sizes (size ∷ []))
+whole-more m true sizes size same =
+    ap (λ b. cond b (length sizes + 1) (length sizes)) same ∙ sym (length-append sizes (size ∷ []))
 whole-more m false sizes size same = ap (λ b. cond b (length sizes + 1) (length sizes)) same
 
 pub keeps-frame : {wish : Wish} {h : History} {s : State} {b : List ℕ} {next : Source} → KeepsState wish h s
@@ -270,7 +295,8 @@ keeps-frame {wish} {h} {s} {b} {next} k with_it long =
             units = cond next.marker (w.units + 1) w.units;
           } in
           ap step k.watched_is
-          ∙ (ap (λ u. record (step (watched_in wish h)) { units = u }) (whole-more next.marker (is_last b) (sizes h) (bytes_pending h + length b) src.marker_is)
+          ∙ (ap (λ u. record (step (watched_in wish h)) { units = u })
+          (whole-more next.marker (is_last b) (sizes h) (bytes_pending h + length b) src.marker_is)
           ∙ ap (λ n. record (watched_in wish (Frame b ∷ h)) { bytes = n }) (sym handed));
     }
 
@@ -312,7 +338,8 @@ report-state {play = None} {wish} {h} {s} {b} k is same = record {
   inside = k.inside;
   ends_are = k.ends_are;
   received_is = k.received_is ∙ sym (ap (λ c. cond c (bytes_received h + length b) (bytes_received h)) is);
-  taken_is = k.taken_is ∙ sym (ap (λ c. sum (sizes h) + cond (c && not (is_inside h)) (bytes_pending h + length b) (bytes_pending h)) is);
+  taken_is = k.taken_is
+      ∙ sym (ap (λ c. sum (sizes h) + cond (c && not (is_inside h)) (bytes_pending h + length b) (bytes_pending h)) is);
   watched_is = k.watched_is ∙ sym (ap (λ c. record (watched_in wish h) { reports = cond c (reports h + 1) (reports h) }) is);
 }
 report-state {play = Some play} {wish} {h} {s} {b} k is same = record {
@@ -322,7 +349,8 @@ report-state {play = Some play} {wish} {h} {s} {b} k is same = record {
   begun = k.begun;
   inside = k.inside;
   ends_are = k.ends_are;
-  received_is = ap (λ n. n + length b) k.received_is ∙ sym (ap (λ c. cond c (bytes_received h + length b) (bytes_received h)) is.playing);
+  received_is =
+      ap (λ n. n + length b) k.received_is ∙ sym (ap (λ c. cond c (bytes_received h + length b) (bytes_received h)) is.playing);
   taken_is = between-taken (is_inside h) (sum (sizes h)) (bytes_pending h) (length b)
       (not-twice (is_between s.source) (is_inside h) k.inside) k.taken_is
       ∙ sym (ap (λ c. sum (sizes h) + cond (c && not (is_inside h)) (bytes_pending h + length b) (bytes_pending h)) is.playing);

@@ -47,7 +47,8 @@ sum-cons x xs = sum_by-cons (λ (y : ℕ). y) x xs
 
 pub used-sum : {p : ℕ} (wish : Wish) (j unit : ℕ) (sizes : List ℕ) → Durations wish.slot_units p
     → used_before wish p j unit sizes ≡ sum (take (div_ceil ((j - wish.startup) * wish.slot_units) p - unit) sizes)
-used-sum {p} wish j unit [] lasts = sym (ap sum (take_all (div_ceil ((j - wish.startup) * wish.slot_units) p - unit) [] (omega arith)))
+used-sum {p} wish j unit [] lasts =
+    sym (ap sum (take_all (div_ceil ((j - wish.startup) * wish.slot_units) p - unit) [] (omega arith)))
 used-sum {p} wish j unit (size ∷ sizes) lasts =
     let c = div_ceil ((j - wish.startup) * wish.slot_units) p in
     let rest = used-sum wish j (unit + 1) sizes lasts in
@@ -72,7 +73,8 @@ no-items (x ∷ xs) none = absurd (omega (arith, none))
 none-is : (n : ℕ) → n ≤ 0 → n ≡ 0
 none-is n none = omega (arith, none)
 
-ends-sum : (ends sizes : List ℕ) (count : ℕ) → AreSumsOf ends sizes → used_bytes ends (min count (length ends)) ≡ sum (take count sizes)
+ends-sum : (ends sizes : List ℕ) (count : ℕ) → AreSumsOf ends sizes
+    → used_bytes ends (min count (length ends)) ≡ sum (take count sizes)
 ends-sum ends sizes count are =
     elim (cases_eq (min count (length ends)) 0) [
       | inl none ↦
@@ -90,7 +92,9 @@ ends-sum ends sizes count are =
           ∙ (are.each (m - 1) below
           ∙ elim (cases_lt count (length ends)) [
             | inl few ↦ ap (λ n. sum (take n sizes)) (omega (arith, some, few))
-            | inr many ↦ ap sum (take_all (m - 1 + 1) sizes (omega (arith, some, many, are.count)) ∙ sym (take_all count sizes (omega (arith, many, are.count))))
+            | inr many ↦
+                ap sum (take_all (m - 1 + 1) sizes (omega (arith, some, many, are.count))
+                ∙ sym (take_all count sizes (omega (arith, many, are.count))))
           ])
     ]
 
@@ -109,41 +113,51 @@ pub record HasDurations (wish : Wish) (source : Option Source) : Type 0 where
   pub slot_lasts : 0 < wish.slot_units
   pub picture_lasts : (src : Source) → source ≡ Some src → 0 < src.picture_units
 
-played-in : {source : Option Source} {ends : List ℕ} (wish : Wish) (h : History) (j : ℕ) → HasDurations wish source → IsSourceOf source h
+played-in : {source : Option Source} {ends : List ℕ} (wish : Wish) (h : History) (j : ℕ)
+    → HasDurations wish source → IsSourceOf source h
     → AreSumsOf ends (sizes h)
     → played_of wish source ends j ≡ played_before wish h j
 played-in {source = None} wish h j lasts is are = sym (ap (used_before wish (time h) j 0) (no-units h is))
 played-in {source = Some source} {ends} wish h j lasts is are =
     let p = source.picture_units in
-    let t : time h ≡ p = cond-false (frames h == 0) 0 (time_in (first_frame h)) (ne_eqb (frames h) 0 (λ none. absurd (omega (arith, is.some, none)))) ∙ sym is.time_is in
+    let t : time h ≡ p =
+    cond-false (frames h == 0) 0 (time_in (first_frame h))
+    (ne_eqb (frames h) 0 (λ none. absurd (omega (arith, is.some, none)))) ∙ sym is.time_is in
     ends-sum ends (sizes h) (div_ceil ((j - wish.startup) * wish.slot_units) p) are
     ∙ (ap (λ n. sum (take n (sizes h))) (less-none (div_ceil ((j - wish.startup) * wish.slot_units) p))
-    ∙ (sym (used-sum wish j 0 (sizes h) (record { slot_lasts = lasts.slot_lasts; picture_lasts = lasts.picture_lasts source refl }))
+    ∙ (sym (used-sum wish j 0 (sizes h)
+    (record { slot_lasts = lasts.slot_lasts; picture_lasts = lasts.picture_lasts source refl }))
     ∙ sym (ap (λ n. used_before wish n j 0 (sizes h)) t)))
 
 time-in : (h : History) (source : Option Source) → IsSourceOf source h → time_of source ≡ time h
 time-in h None is = sym (cond-true (frames h == 0) 0 (time_in (first_frame h)) (eq-eqb (frames h) 0 is))
 time-in h (Some source) is =
-    is.time_is ∙ sym (cond-false (frames h == 0) 0 (time_in (first_frame h)) (ne_eqb (frames h) 0 (λ none. absurd (omega (arith, is.some, none)))))
+    is.time_is ∙ sym
+    (cond-false (frames h == 0) 0 (time_in (first_frame h))
+    (ne_eqb (frames h) 0 (λ none. absurd (omega (arith, is.some, none)))))
 
 lacks-in : (wish : Wish) (h : History) (s : State) (j : ℕ) → KeepsState wish h s → is_lacking wish s j ≡ lacks_picture wish h j
 lacks-in wish h s j k =
     ap (λ c. not c && nat_le (s.watched.units * time_of s.source / wish.slot_units + wish.startup) j) (complete-is wish h s k)
-    ∙ (ap (λ n. not (is_complete h) && nat_le (n * time_of s.source / wish.slot_units + wish.startup) j) (ap (λ (w : Watched). w.units) k.watched_is)
-    ∙ ap (λ n. not (is_complete h) && nat_le (length (sizes h) * n / wish.slot_units + wish.startup) j) (time-in h s.source k.source_is))
+    ∙ (ap (λ n. not (is_complete h) && nat_le (n * time_of s.source / wish.slot_units + wish.startup) j)
+    (ap (λ (w : Watched). w.units) k.watched_is)
+    ∙ ap (λ n. not (is_complete h) && nat_le (length (sizes h) * n / wish.slot_units + wish.startup) j)
+    (time-in h s.source k.source_is))
 
 -- ---- a slot
 
 slot-late : (h : History) → slot_before h ≤ last_slot h
 slot-late [] = omega arith
-slot-late (Reply m ∷ h) = cond_both (replies h == 1) (last_slot h) (slot_before h) (λ n. n ≤ last_slot h) (λ e. omega arith) (λ e. slot-late h)
+slot-late (Reply m ∷ h) =
+    cond_both (replies h == 1) (last_slot h) (slot_before h) (λ n. n ≤ last_slot h) (λ e. omega arith) (λ e. slot-late h)
 slot-late (Frame b ∷ h) = slot-late h
 slot-late (Report b ∷ h) = slot-late h
 slot-late (Slot t cut ∷ h) = omega (arith, slot-late h)
 
 play-slot : (play : Option Play) (h : History) (t cut : ℕ) → IsPlayOf play h → IsPlayOf play (Slot t cut ∷ h)
 play-slot None h t cut is = is
-play-slot (Some play) h t cut is = record { playing = is.playing; start_is = is.start_is; slot_is = is.slot_is; end_is = is.end_is }
+play-slot (Some play) h t cut is =
+    record { playing = is.playing; start_is = is.start_is; slot_is = is.slot_is; end_is = is.end_is }
 
 source-slot : (source : Option Source) (h : History) (t cut : ℕ) → IsSourceOf source h → IsSourceOf source (Slot t cut ∷ h)
 source-slot None h t cut is = is
@@ -166,7 +180,8 @@ unread wish h t cut missed =
     } in
     sym (ap step missed)
 
-slot-with : {wish : Wish} {h : History} {s : State} {t cut last : ℕ} {w : Watched} → KeepsState wish h s → last ≡ max t (last_slot h)
+slot-with : {wish : Wish} {h : History} {s : State} {t cut last : ℕ} {w : Watched} → KeepsState wish h s
+    → last ≡ max t (last_slot h)
     → w ≡ watched_in wish (Slot t cut ∷ h) → KeepsState wish (Slot t cut ∷ h) (record s { last_slot = last; watched = w })
 slot-with {h} {s} {t} {cut} {last} {w} k greatest is = record {
   last_slot_is = greatest;
@@ -180,7 +195,8 @@ slot-with {h} {s} {t} {cut} {last} {w} k greatest is = record {
   watched_is = is;
 }
 
-read-at : {wish : Wish} {h : History} {s : State} (t cut : ℕ) → KeepsState wish h s → HasDurations wish s.source → is_read h t ≡ true
+read-at : {wish : Wish} {h : History} {s : State} (t cut : ℕ) → KeepsState wish h s → HasDurations wish s.source
+    → is_read h t ≡ true
     → (after_reading wish s (place_in h t) cut).watched ≡ watched_in wish (Slot t cut ∷ h)
 read-at {wish} {h} {s} t cut k lasts reads =
     let j = place_in h t in
@@ -211,7 +227,8 @@ and-end true true = refl
 and-end true false = refl
 and-end false b = refl
 
-keeps-later : {wish : Wish} {h : History} {s : State} {t cut : ℕ} (play : Option Play) → KeepsState wish h s → HasDurations wish s.source
+keeps-later : {wish : Wish} {h : History} {s : State} {t cut : ℕ} (play : Option Play) → KeepsState wish h s
+    → HasDurations wish s.source
     → last_slot h < t → IsPlayOf play h
     → KeepsState wish (Slot t cut ∷ h) (reading_at wish (record s { last_slot = t }) (place_of play t) cut)
 keeps-later {wish} {h} {s} {t} {cut} None k lasts later is =
@@ -219,15 +236,21 @@ keeps-later {wish} {h} {s} {t} {cut} None k lasts later is =
     (k.watched_is ∙ unread wish h t cut (ap (λ b. b && (nat_le (start h + slot_before h) t && nat_lt (last_slot h) t)) is))
 keeps-later {wish} {h} {s} {t} {cut} (Some play) k lasts later is =
     let late = slot-late h in
-    let P : Option ℕ → Type 0 = λ place. KeepsState wish (Slot t cut ∷ h) (reading_at wish (record s { last_slot = t }) place cut) in
+    let P : Option ℕ → Type 0 =
+    λ place. KeepsState wish (Slot t cut ∷ h) (reading_at wish (record s { last_slot = t }) place cut) in
     let j = (t - play.slot_before) - play.start in
     elim (cases_lt (t - play.slot_before) play.start) [
       | inl early ↦
           let unmet : nat_le (start h + slot_before h) t ≡ false =
           lt-leb (start h + slot_before h) t (omega (arith, early, is.start_is, is.slot_is, late, later)) in
-          subst P (sym (cond-false (nat_le play.start (t - play.slot_before)) (Some j) None (lt-leb play.start (t - play.slot_before) early)))
+          subst P (sym
+          (cond-false (nat_le play.start (t - play.slot_before)) (Some j) None
+          (lt-leb play.start (t - play.slot_before) early)))
           (slot-with k (omega (arith, later))
-          (k.watched_is ∙ unread wish h t cut (ap (λ b. is_playing h && (b && nat_lt (last_slot h) t)) unmet ∙ and-middle (is_playing h) (nat_lt (last_slot h) t))))
+          (k.watched_is
+          ∙ unread wish h t cut
+          (ap (λ b. is_playing h && (b && nat_lt (last_slot h) t)) unmet
+          ∙ and-middle (is_playing h) (nat_lt (last_slot h) t))))
       | inr due ↦
           let le : nat_le (start h + slot_before h) t ≡ true =
           le-leb (start h + slot_before h) t (omega (arith, due, is.start_is, is.slot_is, late, later)) in
@@ -235,7 +258,8 @@ keeps-later {wish} {h} {s} {t} {cut} (Some play) k lasts later is =
           ap (λ b. b && (nat_le (start h + slot_before h) t && nat_lt (last_slot h) t)) is.playing
           ∙ (ap (λ b. b && nat_lt (last_slot h) t) le ∙ lt-ltb (last_slot h) t later) in
           let place : j ≡ place_in h t = omega (arith, due, is.start_is, is.slot_is) in
-          subst P (sym (cond-true (nat_le play.start (t - play.slot_before)) (Some j) None (le-leb play.start (t - play.slot_before) due)))
+          subst P (sym
+          (cond-true (nat_le play.start (t - play.slot_before)) (Some j) None (le-leb play.start (t - play.slot_before) due)))
           (subst P (ap (λ n. Some n) (sym place))
           (slot-with k (omega (arith, later)) (read-at t cut k lasts reads)))
     ]
@@ -253,5 +277,8 @@ keeps-slot {wish} {h} {s} {t} {cut} k lasts =
           subst P (sym (cond-true (nat_le t s.last_slot) s (reading_at wish (record s { last_slot = t }) (place_of s.play t) cut)
           (le-leb t s.last_slot (omega (arith, old, k.last_slot_is)))))
           (slot-with k (omega (arith, old, k.last_slot_is))
-          (k.watched_is ∙ unread wish h t cut (ap (λ b. is_playing h && (nat_le (start h + slot_before h) t && b)) (le-ltb (last_slot h) t old) ∙ and-end (is_playing h) (nat_le (start h + slot_before h) t))))
+          (k.watched_is
+          ∙ unread wish h t cut
+          (ap (λ b. is_playing h && (nat_le (start h + slot_before h) t && b)) (le-ltb (last_slot h) t old)
+          ∙ and-end (is_playing h) (nat_le (start h + slot_before h) t))))
     ]

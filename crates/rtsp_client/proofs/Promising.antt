@@ -32,7 +32,8 @@ not-yet {wish} {all} {p} {j} n lasts between next =
     ]
 
 -- what is used of the whole units is what is used of the film
-pub same-used : {p : ℕ} (wish : Wish) (all : List ℕ) (j n : ℕ) → Durations wish.slot_units p → (n < length all → j ≤ use_slot wish p n)
+pub same-used : {p : ℕ} (wish : Wish) (all : List ℕ) (j n : ℕ) → Durations wish.slot_units p
+    → (n < length all → j ≤ use_slot wish p n)
     → used_before wish p j 0 (take n all) ≡ used_before wish p j 0 all
 same-used {p} wish all j n lasts early =
     let c = div_ceil ((j - wish.startup) * wish.slot_units) p in
@@ -47,7 +48,8 @@ same-used {p} wish all j n lasts early =
     ]
 
 -- before the first frame any time will do
-pub used-time : (wish : Wish) (h : History) (p j : ℕ) → (0 < frames h → time h ≡ p) → played_before wish h j ≡ used_before wish p j 0 (sizes h)
+pub used-time : (wish : Wish) (h : History) (p j : ℕ) → (0 < frames h → time h ≡ p)
+    → played_before wish h j ≡ used_before wish p j 0 (sizes h)
 used-time wish h p j is =
     elim (cases_lt 0 (frames h)) [
       | inl some ↦ ap (λ t. used_before wish t j 0 (sizes h)) (is some)
@@ -65,7 +67,8 @@ played-is {wish} {all} {p} {h} {j} {cut} lasts heard between =
     ∙ same-used wish all j n lasts (λ fewer. omega (arith, not-yet n lasts between (heard.next fewer))))
 
 -- the buffer holds what waits
-fits : {wish : Wish} {all : List ℕ} {p : ℕ} {h : History} {cut : ℕ} (slot : ℕ) → Durations wish.slot_units p → IsHeardOf all p h cut
+fits : {wish : Wish} {all : List ℕ} {p : ℕ} {h : History} {cut : ℕ} (slot : ℕ) → Durations wish.slot_units p
+    → IsHeardOf all p h cut
     → IsBetween wish all p (place_in h slot) (bytes_received h + cut) → bytes_waiting wish h slot cut ≤ wish.buffer
 fits {all} {p} {h} {cut} slot lasts heard between =
     omega (arith, played-is lasts heard between, between.up)
@@ -85,7 +88,8 @@ and-none false = refl
 pub use-first : (wish : Wish) (t : ℕ) → use_slot wish t 0 ≡ wish.startup
 use-first wish t = omega (arith, ap (λ n. n / wish.slot_units) (zero-times t), zero-over wish.slot_units)
 
-enough : {wish : Wish} {all : List ℕ} {p : ℕ} {h : History} {j cut : ℕ} → Durations wish.slot_units p → 0 < length all → IsHeardOf all p h cut
+enough : {wish : Wish} {all : List ℕ} {p : ℕ} {h : History} {j cut : ℕ} → Durations wish.slot_units p
+    → 0 < length all → IsHeardOf all p h cut
     → IsBetween wish all p j (bytes_received h + cut) → lacks_picture wish h j ≡ false
 enough {wish} {all} {p} {h} {j} {cut} lasts units_some heard between =
     let n = length (sizes h) in
@@ -117,23 +121,34 @@ pub record IsQuiet (wish : Wish) (h : History) : Type 0 where
   pub under_none : count_under wish h ≡ 0
   pub most_fits : most_waiting wish h ≤ wish.buffer
 
-read-quiet : {r : Bool} {wish : Wish} {all : List ℕ} {p : ℕ} {h : History} {slot cut : ℕ} → Durations wish.slot_units p → 0 < length all
+read-quiet : {r : Bool} {wish : Wish} {all : List ℕ} {p : ℕ} {h : History} {slot cut : ℕ}
+    → Durations wish.slot_units p → 0 < length all
     → IsQuiet wish h → is_read h slot ≡ r
     → (is_read h slot ≡ true → IsHeardOf all p h cut × IsBetween wish all p (place_in h slot) (bytes_received h + cut))
     → IsQuiet wish (Slot slot cut ∷ h)
 read-quiet {r = false} {wish} {all} {p} {h} {slot} {cut} lasts units_some quiet is met = record {
-  over_none = ap (λ r. cond (r && nat_lt wish.buffer (bytes_waiting wish h slot cut)) (count_over wish h + 1) (count_over wish h)) is ∙ quiet.over_none;
-  under_none = ap (λ r. cond (r && lacks_picture wish h (place_in h slot)) (count_under wish h + 1) (count_under wish h)) is ∙ quiet.under_none;
-  most_fits = omega (arith, ap (λ r. cond r (max (most_waiting wish h) (bytes_waiting wish h slot cut)) (most_waiting wish h)) is, quiet.most_fits);
+  over_none = ap
+      (λ r. cond (r && nat_lt wish.buffer (bytes_waiting wish h slot cut)) (count_over wish h + 1)
+      (count_over wish h)) is ∙ quiet.over_none;
+  under_none =
+      ap (λ r. cond (r && lacks_picture wish h (place_in h slot)) (count_under wish h + 1) (count_under wish h))
+      is ∙ quiet.under_none;
+  most_fits = omega (
+    arith,
+    ap (λ r. cond r (max (most_waiting wish h) (bytes_waiting wish h slot cut)) (most_waiting wish h)) is,
+    quiet.most_fits,
+  );
 }
 read-quiet {r = true} {wish} {all} {p} {h} {slot} {cut} lasts units_some quiet is met =
     let now = met is in
     let holds : bytes_waiting wish h slot cut ≤ wish.buffer = fits slot lasts now.0 now.1 in
-    let not_over : nat_lt wish.buffer (bytes_waiting wish h slot cut) ≡ false = le-ltb wish.buffer (bytes_waiting wish h slot cut) holds in
+    let not_over : nat_lt wish.buffer (bytes_waiting wish h slot cut) ≡ false =
+    le-ltb wish.buffer (bytes_waiting wish h slot cut) holds in
     let not_under : lacks_picture wish h (place_in h slot) ≡ false =
     enough lasts units_some now.0 now.1 in
     record {
-      over_none = ap (λ r. cond (r && nat_lt wish.buffer (bytes_waiting wish h slot cut)) (count_over wish h + 1) (count_over wish h)) is
+      over_none = ap
+          (λ r. cond (r && nat_lt wish.buffer (bytes_waiting wish h slot cut)) (count_over wish h + 1) (count_over wish h)) is
           ∙ (ap (λ b. cond (true && b) (count_over wish h + 1) (count_over wish h)) not_over ∙ quiet.over_none);
       under_none = ap (λ r. cond (r && lacks_picture wish h (place_in h slot)) (count_under wish h + 1) (count_under wish h)) is
           ∙ (ap (λ b. cond (true && b) (count_under wish h + 1) (count_under wish h)) not_under ∙ quiet.under_none);

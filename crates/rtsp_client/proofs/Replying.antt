@@ -24,22 +24,26 @@ use Rattle.rtsp_client.proofs.Sighting.{no-front, sight-none, sight-sent}
 
 awaited-is : (wish : Wish) (h : History) (c : Client) → Keeps wish h c → (nat_lt c.replies 2 || has_all c.watching) ≡ is_awaited h
 awaited-is wish h c k =
-    ap (λ n. nat_lt n 2 || has_all c.watching) k.replies_are ∙ ap (λ b. nat_lt (replies h) 2 || b) (complete-is wish h c.watching k.state)
+    ap (λ n. nat_lt n 2 || has_all c.watching) k.replies_are
+    ∙ ap (λ b. nat_lt (replies h) 2 || b) (complete-is wish h c.watching k.state)
 
-orderly : {wish : Wish} {h : History} {c : Client} {m : List ℕ} {code : ℕ} → Keeps wish h c → IsAwaited c m code → IsOrderly h m code
+orderly : {wish : Wish} {h : History} {c : Client} {m : List ℕ} {code : ℕ} → Keeps wish h c → IsAwaited c m code
+    → IsOrderly h m code
 orderly {wish} {h} {c} {m} {code} k is = record {
   awaited = sym (awaited-is wish h c k) ∙ is.awaited;
   answer = subst (λ n. IsAnswer m (n + 1) code) k.replies_are is.answer;
 }
 
-awaited-from : {wish : Wish} {h : History} {c : Client} {m : List ℕ} {code : ℕ} → Keeps wish h c → IsOrderly h m code → IsAwaited c m code
+awaited-from : {wish : Wish} {h : History} {c : Client} {m : List ℕ} {code : ℕ} → Keeps wish h c
+    → IsOrderly h m code → IsAwaited c m code
 awaited-from {wish} {h} {c} {m} {code} k is = record {
   awaited = awaited-is wish h c k ∙ is.awaited;
   answer = subst (λ n. IsAnswer m (n + 1) code) (sym k.replies_are) is.answer;
 }
 
 -- a moment gives the answer: nothing was sent or handed on
-pub gives : (wish : Wish) (h : History) (m : Moment) (end : WatchEnd) (s : Sight) → Gives wish h m end → HasEndedAt wish h m end s s
+pub gives : (wish : Wish) (h : History) (m : Moment) (end : WatchEnd) (s : Sight) → Gives wish h m end
+    → HasEndedAt wish h m end s s
 gives wish h m end s is = record { sent = []; out = []; comes = inl (is, refl, refl); sight_is = sight-none s }
 
 -- the reply isn't awaited, or isn't as it should be
@@ -70,7 +74,8 @@ fields-third h m two =
 
 -- ---- the reply to SETUP
 
-pub setup-lacks : {wish : Wish} {h : History} {c : Client} {m : List ℕ} {end : WatchEnd} {s : Sight} → Keeps wish h c → c.replies ≡ 0
+pub setup-lacks : {wish : Wish} {h : History} {c : Client} {m : List ℕ} {end : WatchEnd} {s : Sight}
+    → Keeps wish h c → c.replies ≡ 0
     → IsAwaited c m 200 → session_in m ≡ None → end ≡ Fault (BadReply 1) → HasEndedAt wish h (Reply m) end s s
 setup-lacks {wish} {h} {c} {m} {end} {s} k first is none end_is =
     let zero_ : replies h ≡ 0 = sym k.replies_are ∙ first in
@@ -94,7 +99,8 @@ setup-request : (wish : Wish) (h : History) (m id : List ℕ) → replies h ≡ 
 setup-request wish h m id none some =
     cond-true (replies h == 0) _ _ (eq-eqb (replies h) 0 none) ∙ ap (λ o. play_text wish (unwrap_or o [])) some
 
-pub setup-starved : {wish : Wish} {h : History} {c : Client} {m id : List ℕ} {end : WatchEnd} {s : Sight} → SetupReply wish h c m id → end ≡ NoMemory
+pub setup-starved : {wish : Wish} {h : History} {c : Client} {m id : List ℕ} {end : WatchEnd} {s : Sight}
+    → SetupReply wish h c m id → end ≡ NoMemory
     → HasEndedAt wish h (Reply m) end s s
 setup-starved {wish} {h} {m} {s} reply end_is = record {
   sent = [];
@@ -123,7 +129,8 @@ setup-cut {wish} {h} {m} {id} {told} {new} out reply end_is front =
     }
 
 -- one moment was taken up
-pub passed-one : {wish : Wish} {h : History} {m : Moment} {new : Client} {old_sight new_sight : Sight} → GoesOn h m → Keeps wish (m ∷ h) new
+pub passed-one : {wish : Wish} {h : History} {m : Moment} {new : Client} {old_sight new_sight : Sight}
+    → GoesOn h m → Keeps wish (m ∷ h) new
     → new_sight ≡ sight_more old_sight (request_after wish h m) (payload_of m) → HasPassed wish h (m ∷ []) new old_sight new_sight
 passed-one {wish} {h} {m} {new} {old_sight} good keeps is = record {
   good = (good, tt);
@@ -149,15 +156,20 @@ setup-done {wish} {h} {new} {m} {id} {new_told} told out reply later sent =
     passed-one (setup-good reply)
     (record {
       replies_are = later.replies ∙ ap (λ n. n + 1) (sym zero_);
-      session_is = later.session ∙ sym (cond-true (replies h == 0) _ _ (eq-eqb (replies h) 0 zero_) ∙ ap (λ o. unwrap_or o []) reply.session_is);
+      session_is =
+          later.session
+          ∙ sym (cond-true (replies h == 0) _ _ (eq-eqb (replies h) 0 zero_) ∙ ap (λ o. unwrap_or o []) reply.session_is);
       state = keeps-first wish h new.watching m (subst (λ w. KeepsState wish h w) (sym later.watching) reply.keeps.state) zero_;
     })
-    (sight-sent told new_told out (request_after wish h (Reply m)) (subst P (sym (setup-request wish h m id zero_ reply.session_is)) sent))
+    (sight-sent told new_told out (request_after wish h (Reply m))
+    (subst P (sym (setup-request wish h m id zero_ reply.session_is)) sent))
 
 -- ---- the reply to PLAY
 
-pub play-lacks : {wish : Wish} {h : History} {c : Client} {m : List ℕ} {end : WatchEnd} {s : Sight} → Keeps wish h c → c.replies ≡ 1
-    → IsAwaited c m 200 → (is_some (play_range m) && is_some (play_start m)) ≡ false → end ≡ Fault (BadReply 2) → HasEndedAt wish h (Reply m) end s s
+pub play-lacks : {wish : Wish} {h : History} {c : Client} {m : List ℕ} {end : WatchEnd} {s : Sight}
+    → Keeps wish h c → c.replies ≡ 1
+    → IsAwaited c m 200 → (is_some (play_range m) && is_some (play_start m)) ≡ false → end ≡ Fault (BadReply 2)
+    → HasEndedAt wish h (Reply m) end s s
 play-lacks {wish} {h} {c} {m} {end} {s} k second is none end_is =
     let one : replies h ≡ 1 = sym k.replies_are ∙ second in
     gives wish h (Reply m) end s
@@ -171,8 +183,10 @@ pub record PlayReply (wish : Wish) (h : History) (c : Client) (m : List ℕ) (be
   pub start_is : play_start m ≡ Some begin
   pub range_is : play_range m ≡ Some ms
 
-pub play-done : {wish : Wish} {h : History} {c new : Client} {m : List ℕ} {begin ms : ℕ} {s : Sight} → PlayReply wish h c m begin ms
-    → new.replies ≡ 2 → new.session.items ≡ c.session.items → new.watching ≡ after_play c.watching begin ms → HasPassed wish h (Reply m ∷ []) new s s
+pub play-done : {wish : Wish} {h : History} {c new : Client} {m : List ℕ} {begin ms : ℕ} {s : Sight}
+    → PlayReply wish h c m begin ms
+    → new.replies ≡ 2 → new.session.items ≡ c.session.items → new.watching ≡ after_play c.watching begin ms
+    → HasPassed wish h (Reply m ∷ []) new s s
 play-done {wish} {h} {m} {s} reply two same state =
     let k = reply.keeps in
     let one : replies h ≡ 1 = sym k.replies_are ∙ reply.second in
@@ -190,11 +204,13 @@ play-done {wish} {h} {m} {s} reply two same state =
       session_is = same ∙ (k.session_is ∙ sym (cond-false (replies h == 0) (unwrap_or (session_in m) []) (session h) later));
       state = subst (λ w. KeepsState wish (Reply m ∷ h) w) (sym state) (keeps-play k.state one reply.start_is reply.range_is);
     })
-    (sight-none s ∙ ap (λ a. sight_more s a []) (sym (cond-false (replies h == 0) (play_text wish (unwrap_or (session_in m) [])) [] later)))
+    (sight-none s
+    ∙ ap (λ a. sight_more s a []) (sym (cond-false (replies h == 0) (play_text wish (unwrap_or (session_in m) [])) [] later)))
 
 -- ---- the reply to TEARDOWN
 
-pub watch-done : {wish : Wish} {h : History} {c : Client} {m : List ℕ} {end : WatchEnd} {s : Sight} → Keeps wish h c → c.replies ≡ 2
+pub watch-done : {wish : Wish} {h : History} {c : Client} {m : List ℕ} {end : WatchEnd} {s : Sight}
+    → Keeps wish h c → c.replies ≡ 2
     → IsAwaited c m 200 → end ≡ Done c.watching.watched → HasEndedAt wish h (Reply m) end s s
 watch-done {wish} {h} {c} {m} {end} {s} k third is end_is =
     let two : replies h ≡ 2 = sym k.replies_are ∙ third in

@@ -10,11 +10,13 @@ pub sends-on : (a b : List ℕ) → sends (a ++ b) ≡ sends a ++ sends b
 sends-on a b = map-append Sent a b
 
 pub sight-none : (s : Sight) → s ≡ sight_more s [] []
-sight-none s = ap (λ t. sight t s.out) (sym (told_more-nil s.told)) ∙ ap (λ o. sight (told_more s.told []) o) (sym (told_more-nil s.out))
+sight-none s =
+    ap (λ t. sight t s.out) (sym (told_more-nil s.told)) ∙ ap (λ o. sight (told_more s.told []) o) (sym (told_more-nil s.out))
 
 pub sight-on : (s : Sight) (a b x y : List ℕ) → sight_more (sight_more s a x) b y ≡ sight_more s (a ++ b) (x ++ y)
 sight-on s a b x y =
-    ap (λ t. sight t (told_more (told_more s.out x) y)) (told_more-append s.told (sends a) (sends b) ∙ ap (told_more s.told) (sym (sends-on a b)))
+    ap (λ t. sight t (told_more (told_more s.out x) y))
+    (told_more-append s.told (sends a) (sends b) ∙ ap (told_more s.told) (sym (sends-on a b)))
     ∙ ap (λ o. sight (told_more s.told (sends (a ++ b))) o) (told_more-append s.out x y)
 
 -- bytes were sent alone
@@ -31,7 +33,8 @@ sight-handed told out new x is = ap (λ o. sight told o) is ∙ ap (λ t. sight 
 pub sight-both : {new : Option (List Doing)} {new_out : Option (List ℕ)} (told : Option (List Doing))
     (out : Option (List ℕ)) (a x : List ℕ) → new ≡ told_more told (sends a)
     → new_out ≡ told_more out x → sight new new_out ≡ sight_more (sight told out) a x
-sight-both {new} {new_out} told out a x is handed = ap (λ t. sight t new_out) is ∙ ap (λ o. sight (told_more told (sends a)) o) handed
+sight-both {new} {new_out} told out a x is handed =
+    ap (λ t. sight t new_out) is ∙ ap (λ o. sight (told_more told (sends a)) o) handed
 
 -- fronts
 pub no-front : (bytes : List ℕ) → IsFront [] bytes

@@ -12,7 +12,8 @@ use Rattle.rtsp_client.specs.declared.plays.Play.{Play}
 use Rattle.rtsp_client.specs.States.{State, has_all, source_played, source_read, source_with}
 
 -- a head that is read is whole
-not-short : {head : Head} (short : Bool) (rest : Result Head HeadFault) → (if short then Err Short else rest) ≡ Ok head → short ≡ false
+not-short : {head : Head} (short : Bool) (rest : Result Head HeadFault)
+    → (if short then Err Short else rest) ≡ Ok head → short ≡ false
 not-short true rest is = absurd cc
 not-short false rest is = refl
 
@@ -20,7 +21,8 @@ at-least : (n : ℕ) → nat_lt n 16 ≡ false → 16 ≤ n
 at-least n not = grind (arith, nat_tests)
 
 pub head-long : {head : Head} (block : List ℕ) → head_of (drop 4 block) ≡ Ok head → 20 ≤ length block
-head-long block is = omega (arith, length-drop 4 block, at-least (length (drop 4 block)) (not-short (nat_lt (length (drop 4 block)) 16) _ is))
+head-long block is =
+    omega (arith, length-drop 4 block, at-least (length (drop 4 block)) (not-short (nat_lt (length (drop 4 block)) 16) _ is))
 
 -- no reply to PLAY was heard
 pub source-unplayed : (s : State) (block : List ℕ) → s.play ≡ None → None ≡ source_with s block
@@ -31,7 +33,8 @@ pub source-all : {play : Play} (s : State) (block : List ℕ) → s.play ≡ Som
 source-all {play} s block is all = sym (ap (λ p. source_played p s block) is
     ∙ ap (λ (b : Bool). if b then None else source_read s.source (head_of (drop 4 block)) (drop 20 block) play.end_ms) all)
 
-pub source-read : {play : Play} {found : Option Source} {head : Result Head HeadFault} (s : State) (block : List ℕ) → s.play ≡ Some play → has_all s ≡ false →
+pub source-read : {play : Play} {found : Option Source} {head : Result Head HeadFault} (s : State)
+    (block : List ℕ) → s.play ≡ Some play → has_all s ≡ false →
     head_of (drop 4 block) ≡ head → found ≡ source_read s.source head (drop 20 block) play.end_ms → found ≡ source_with s block
 source-read {play} s block is some read found =
     found ∙ ap (λ h. source_read s.source h (drop 20 block) play.end_ms) (sym read)

@@ -39,11 +39,13 @@ requests-on wish h (m ∷ a) b =
 
 pub payloads-on : (a b : List Moment) → payloads_of (a ++ b) ≡ payloads_of a ++ payloads_of b
 payloads-on [] b = refl
-payloads-on (m ∷ a) b = ap (λ t. payload_of m ++ t) (payloads-on a b) ∙ sym (append_assoc (payload_of m) (payloads_of a) (payloads_of b))
+payloads-on (m ∷ a) b =
+    ap (λ t. payload_of m ++ t) (payloads-on a b) ∙ sym (append_assoc (payload_of m) (payloads_of a) (payloads_of b))
 
 moments-on : (p q : List (List ℕ)) → moments_in (p ++ q) ≡ moments_in p ++ moments_in q
 moments-on [] q = refl
-moments-on (piece ∷ p) q = ap (λ t. moments_of piece ++ t) (moments-on p q) ∙ sym (append_assoc (moments_of piece) (moments_in p) (moments_in q))
+moments-on (piece ∷ p) q =
+    ap (λ t. moments_of piece ++ t) (moments-on p q) ∙ sym (append_assoc (moments_of piece) (moments_in p) (moments_in q))
 
 -- bytes were cut, and then their rest
 record CutsInTurn (bytes mid end : List ℕ) (p q : List (List ℕ)) : Type 0 where
@@ -62,23 +64,27 @@ cut-on {bytes} {mid} {end} {p = piece ∷ p} {q} cuts =
 piece-start : (rest : List ℕ) (n : ℕ) → 0 < n → get_or (take n rest) 0 0 ≡ get_or rest 0 0
 piece-start rest n some = get_or-take n rest 0 0 some
 
-block-of : (rest : List ℕ) (n : ℕ) → 4 ≤ n → get_or rest 0 0 ≡ 36 → moments_of (take n rest) ≡ block_moments (get_or rest 1 0) (take n rest)
+block-of : (rest : List ℕ) (n : ℕ) → 4 ≤ n → get_or rest 0 0 ≡ 36
+    → moments_of (take n rest) ≡ block_moments (get_or rest 1 0) (take n rest)
 block-of rest n long starts =
     let front : get_or (take n rest) 0 0 ≡ 36 = piece-start rest n (omega (arith, long)) ∙ starts in
     let second : get_or (take n rest) 1 0 ≡ get_or rest 1 0 = get_or-take n rest 1 0 (omega (arith, long)) in
     let inside : ℕ → List Moment = λ b.
-    cond (is_line_end b) [] (cond (b == 36) (block_moments (get_or (take n rest) 1 0) (take n rest)) (Reply (take n rest) ∷ [])) in
+    cond (is_line_end b) []
+    (cond (b == 36) (block_moments (get_or (take n rest) 1 0) (take n rest)) (Reply (take n rest) ∷ [])) in
     ap inside front ∙ ap (λ c. block_moments c (take n rest)) second
 
 reply-of : (rest : List ℕ) (n : ℕ) → 0 < n → is_line_end (get_or rest 0 0) ≡ false → (get_or rest 0 0 == 36) ≡ false
     → moments_of (take n rest) ≡ Reply (take n rest) ∷ []
 reply-of rest n some no_end no_block =
     let inside : ℕ → List Moment = λ b.
-    cond (is_line_end b) [] (cond (b == 36) (block_moments (get_or (take n rest) 1 0) (take n rest)) (Reply (take n rest) ∷ [])) in
+    cond (is_line_end b) []
+    (cond (b == 36) (block_moments (get_or (take n rest) 1 0) (take n rest)) (Reply (take n rest) ∷ [])) in
     ap inside (piece-start rest n some)
     ∙ (cond-false (is_line_end (get_or rest 0 0)) _ _ no_end ∙ cond-false (get_or rest 0 0 == 36) _ _ no_block)
 
-ends-none : (bytes : List ℕ) → ((k : ℕ) → k < length bytes → is_line_end (get_or bytes k 0) ≡ true) → moments_in (map (λ c. c ∷ []) bytes) ≡ []
+ends-none : (bytes : List ℕ) → ((k : ℕ) → k < length bytes → is_line_end (get_or bytes k 0) ≡ true)
+    → moments_in (map (λ c. c ∷ []) bytes) ≡ []
 ends-none [] all = refl
 ends-none (b ∷ bytes) all =
     let first : is_line_end b ≡ true = all 0 (omega arith) in
@@ -100,7 +106,8 @@ keeps-moved {wish} {h} k same = record {
   state = subst (λ w. KeepsState wish h w) (sym same.watching) k.state;
 }
 
-pub passed-none : {wish : Wish} {h : History} {c new : Client} {s : Sight} → Keeps wish h c → IsSameClient c new → HasPassed wish h [] new s s
+pub passed-none : {wish : Wish} {h : History} {c new : Client} {s : Sight} → Keeps wish h c → IsSameClient c new
+    → HasPassed wish h [] new s s
 passed-none {s} k same = record {
   good = tt;
   keeps = keeps-moved k same;
@@ -170,11 +177,13 @@ taken-ends {wish} {h} {rest} {n} {c} {new} {s} first k same dropped =
     ap is_line_end (get_or-take n rest k 0 few') ∙ ends.line_ends k few') in
     record {
       pieces = map (λ c. c ∷ []) (take n rest);
-      cut = subst (λ r. AreCut rest (map (λ c. c ∷ []) (take n rest)) r) (sym dropped) (next_pieces rest (Ok (Skip n)) first rest [] refl);
+      cut = subst (λ r. AreCut rest (map (λ c. c ∷ []) (take n rest)) r) (sym dropped)
+          (next_pieces rest (Ok (Skip n)) first rest [] refl);
       passed = subst (λ ms. HasPassed wish h ms new s s) (sym none) (passed-none k same);
     }
 
-pub taken-none : {wish : Wish} {h : History} {c new : Client} {s : Sight} → Keeps wish h c → IsSameClient c new → new.input ≡ c.input
+pub taken-none : {wish : Wish} {h : History} {c new : Client} {s : Sight} → Keeps wish h c → IsSameClient c new
+    → new.input ≡ c.input
     → HasTaken wish h c.input new s s
 taken-none k same input_same = record {
   pieces = [];
@@ -216,7 +225,8 @@ stops-now {h} {rest} {end} {sent} {out} {s} stops is = record {
 }
 
 stops-at : {wish : Wish} {h : History} {rest : List ℕ} {n : ℕ} {moment : Moment} {end : WatchEnd} {s t : Sight}
-    → IsPieceLength rest n → moments_of (take n rest) ≡ moment ∷ [] → HasEndedAt wish h moment end s t → HasStopped wish h rest end s t
+    → IsPieceLength rest n → moments_of (take n rest) ≡ moment ∷ [] → HasEndedAt wish h moment end s t
+    → HasStopped wish h rest end s t
 stops-at {h} {n} {moment} {end} {s} piece is ended =
     stops-now (inr (moment, ((n, (piece, is)), ended.comes))) ended.sight_is
 
@@ -226,7 +236,8 @@ stopped-framing {h} {end} {s} fault first is =
     stops-now (inl (is, (fault, first), refl, refl)) (sight-none s)
 
 pub stopped-block : {wish : Wish} {h : History} {rest : List ℕ} {channel n : ℕ} {end : WatchEnd} {s t : Sight}
-    → IsFirst rest (Ok (Block channel n)) → (channel ≡ 0) × HasEndedAt wish h (Frame (take n rest)) end s t → HasStopped wish h rest end s t
+    → IsFirst rest (Ok (Block channel n)) → (channel ≡ 0) × HasEndedAt wish h (Frame (take n rest)) end s t
+    → HasStopped wish h rest end s t
 stopped-block {h} {rest} {n} {end} {s} first ended =
     stops-at (WholeBlock first.0 first.1 first.3 first.4)
     (block-of rest n (omega (arith, first.3)) first.0.1 ∙ ap (λ k. block_moments k (take n rest)) (sym first.2 ∙ ended.0)) ended.1
@@ -237,7 +248,8 @@ stopped-reply {h} {rest} {n} {end} {s} first ended =
     stops-at (WholeRequest first.0 first.1 first.2)
     (reply-of rest n (request-some rest n first) first.0.1 first.0.2) ended
 
-pub stopped-on : {wish : Wish} {h : History} {rest : List ℕ} {mid : Client} {end : WatchEnd} {s t u : Sight} → HasTaken wish h rest mid s t
+pub stopped-on : {wish : Wish} {h : History} {rest : List ℕ} {mid : Client} {end : WatchEnd} {s t u : Sight}
+    → HasTaken wish h rest mid s t
     → ((g : History) → Keeps wish g mid → HasStopped wish g mid.input end t u) → HasStopped wish h rest end s u
 stopped-on {wish} {h} {rest} {mid} {end} {s} first next =
     let g = after h (moments_in first.pieces) in
@@ -245,10 +257,12 @@ stopped-on {wish} {h} {rest} {mid} {end} {s} first next =
     let st = second.stops in
     let a = moments_in first.pieces in
     let b = moments_in st.pieces in
-    let sent_on : requests_after wish h a ++ second.sent ≡ requests_after wish h (moments_in (first.pieces ++ st.pieces)) ++ st.more_sent =
+    let sent_on : requests_after wish h a ++ second.sent
+    ≡ requests_after wish h (moments_in (first.pieces ++ st.pieces)) ++ st.more_sent =
     ap (λ x. requests_after wish h a ++ x) st.sent_is
     ∙ (sym (append_assoc (requests_after wish h a) (requests_after wish g b) st.more_sent)
-    ∙ ap (λ x. x ++ st.more_sent) (sym (requests-on wish h a b) ∙ ap (requests_after wish h) (sym (moments-on first.pieces st.pieces)))) in
+    ∙ ap (λ x. x ++ st.more_sent)
+    (sym (requests-on wish h a b) ∙ ap (requests_after wish h) (sym (moments-on first.pieces st.pieces)))) in
     let out_on : payloads_of a ++ second.out ≡ payloads_of (moments_in (first.pieces ++ st.pieces)) ++ st.more_out =
     ap (λ x. payloads_of a ++ x) st.out_is
     ∙ (sym (append_assoc (payloads_of a) (payloads_of b) st.more_out)

@@ -34,9 +34,11 @@ report-received false outside bytes n is = is
 whole-received : (h : History) → sum (sizes h) + bytes_pending h ≤ bytes_received h
 whole-received [] = omega arith
 whole-received (Reply m ∷ h) = whole-received h
-whole-received (Frame b ∷ h) = frame-received (is_last b) (sizes h) (bytes_pending h) (length b) (bytes_received h) (whole-received h)
+whole-received (Frame b ∷ h) =
+    frame-received (is_last b) (sizes h) (bytes_pending h) (length b) (bytes_received h) (whole-received h)
 whole-received (Report b ∷ h) =
-    report-received (is_playing h) (not (is_inside h)) (record { whole = sum (sizes h); pending = bytes_pending h; came = bytes_received h })
+    report-received (is_playing h) (not (is_inside h))
+    (record { whole = sum (sizes h); pending = bytes_pending h; came = bytes_received h })
     (length b) (whole-received h)
 whole-received (Slot slot cut ∷ h) = whole-received h
 
@@ -47,7 +49,8 @@ used-most {p} wish j xs lasts =
     omega (arith, used-sum wish j 0 xs lasts, sum_by-take-le (λ (x : ℕ). x) xs (c - 0))
 
 -- where none lacks_picture, the next unit isn't used yet
-next-early : {all : List ℕ} {p : ℕ} {h : History} {cut : ℕ} (wish : Wish) (j : ℕ) → IsHeardOf all p h cut → lacks_picture wish h j ≡ false
+next-early : {all : List ℕ} {p : ℕ} {h : History} {cut : ℕ} (wish : Wish) (j : ℕ) → IsHeardOf all p h cut
+    → lacks_picture wish h j ≡ false
     → length (sizes h) < length all → j < use_slot wish p (length (sizes h))
 next-early {all} {p} {h} {cut} wish j heard enough fewer =
     let n = length (sizes h) in
@@ -58,7 +61,8 @@ next-early {all} {p} {h} {cut} wish j heard enough fewer =
           let begun : 0 < frames h = grind (arith, nat_tests) in
           absurd (omega (arith, eqb-true n (units h) parts.1, heard.units_are begun, fewer))
       | inr open_ ↦
-          let late : nat_le (use_slot wish (time h) n) j ≡ false = sym (ap (λ b. not b && nat_le (use_slot wish (time h) n) j) open_) ∙ enough in
+          let late : nat_le (use_slot wish (time h) n) j ≡ false =
+          sym (ap (λ b. not b && nat_le (use_slot wish (time h) n) j) open_) ∙ enough in
           let below : j < use_slot wish (time h) n = grind (arith, nat_tests) in
           elim (cases_lt 0 (frames h)) [
             | inl begun ↦ subst (λ t. j < use_slot wish t n) (heard.time_is begun) below
@@ -70,7 +74,8 @@ next-early {all} {p} {h} {cut} wish j heard enough fewer =
           ]
     ]
 
-between : {wish : Wish} {all : List ℕ} {p : ℕ} {h : History} {cut : ℕ} (slot : ℕ) → Durations wish.slot_units p → IsHeardOf all p h cut
+between : {wish : Wish} {all : List ℕ} {p : ℕ} {h : History} {cut : ℕ} (slot : ℕ) → Durations wish.slot_units p
+    → IsHeardOf all p h cut
     → nat_lt wish.buffer (bytes_waiting wish h slot cut) ≡ false → lacks_picture wish h (place_in h slot) ≡ false
     → IsBetween wish all p (place_in h slot) (bytes_received h + cut)
 between {wish} {all} {p} {h} {cut} slot lasts heard not_over not_under =
@@ -106,9 +111,12 @@ pub between-always : {p : ℕ} (wish : Wish) (all : List ℕ) (h : History) → 
     → HasNoCounts wish h
     → IsBetweenAlways wish all p h
 between-always wish all [] lasts heard none = tt
-between-always wish all (Reply m ∷ h) lasts heard none = between-always wish all h lasts heard (record { over = none.over; under = none.under })
-between-always wish all (Frame b ∷ h) lasts heard none = between-always wish all h lasts heard (record { over = none.over; under = none.under })
-between-always wish all (Report b ∷ h) lasts heard none = between-always wish all h lasts heard (record { over = none.over; under = none.under })
+between-always wish all (Reply m ∷ h) lasts heard none =
+    between-always wish all h lasts heard (record { over = none.over; under = none.under })
+between-always wish all (Frame b ∷ h) lasts heard none =
+    between-always wish all h lasts heard (record { over = none.over; under = none.under })
+between-always wish all (Report b ∷ h) lasts heard none =
+    between-always wish all h lasts heard (record { over = none.over; under = none.under })
 between-always wish all (Slot slot cut ∷ h) lasts heard none =
     let o = no-count (is_read h slot && nat_lt wish.buffer (bytes_waiting wish h slot cut)) (count_over wish h) none.over in
     let u = no-count (is_read h slot && lacks_picture wish h (place_in h slot)) (count_under wish h) none.under in (
@@ -139,5 +147,6 @@ most_waiting-tells wish [] = ((λ fits. refl), (λ none. omega arith))
 most_waiting-tells wish (Reply m ∷ h) = most_waiting-tells wish h
 most_waiting-tells wish (Frame b ∷ h) = most_waiting-tells wish h
 most_waiting-tells wish (Report b ∷ h) = most_waiting-tells wish h
-most_waiting-tells wish (Slot slot cut ∷ h) = most_waiting-step (is_read h slot) (most_waiting wish h) (bytes_waiting wish h slot cut)
+most_waiting-tells wish (Slot slot cut ∷ h) =
+    most_waiting-step (is_read h slot) (most_waiting wish h) (bytes_waiting wish h slot cut)
     (count_over wish h) wish.buffer (most_waiting-tells wish h)

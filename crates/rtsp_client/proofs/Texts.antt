@@ -16,7 +16,8 @@ in_row text (next ∷ more) = text ++ in_row next more
 
 put_on-append : (text next : List ℕ) (more : List (List ℕ)) → put_on (text ++ next) more ≡ text ++ put_on next more
 put_on-append text next [] = refl
-put_on-append text next (last ∷ more) = ap (λ (l : List ℕ). put_on l more) (append_assoc text next last) ∙ put_on-append text (next ++ last) more
+put_on-append text next (last ∷ more) =
+    ap (λ (l : List ℕ). put_on l more) (append_assoc text next last) ∙ put_on-append text (next ++ last) more
 
 pub put_in_row : (text : List ℕ) (more : List (List ℕ)) → put_on text more ≡ in_row text more
 put_in_row text [] = refl

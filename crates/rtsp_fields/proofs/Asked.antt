@@ -10,7 +10,8 @@ use Rattle.rtsp_fields.specs.Pieces.{lower}
 use Rattle.rtsp_fields.specs.Urls.{IsAbsoluteUrl}
 
 -- an authority has no `/`
-authority_byte : (authority : List ℕ) (k : ℕ) → list_all (λ byte. not (byte == 47)) authority ≡ true → k < length authority → get_or authority k 0 ≢ 47
+authority_byte : (authority : List ℕ) (k : ℕ) → list_all (λ byte. not (byte == 47)) authority ≡ true
+    → k < length authority → get_or authority k 0 ≢ 47
 authority_byte authority k all inside = λ slash.
     let P : ℕ → Type 0 = λ n. not (n == 47) ≡ false in
     let other : not (get_or authority k 0 == 47) ≡ false = subst P (sym slash) refl in
@@ -18,7 +19,8 @@ authority_byte authority k all inside = λ slash.
     cc
 
 -- the byte after `front` at place k of the rest
-byte_after : {url : List ℕ} {n : ℕ} (front rest : List ℕ) (k : ℕ) → url ≡ front ++ rest → length front ≡ n → n ≤ k → get_or url k 0 ≡ get_or rest (k - n) 0
+byte_after : {url : List ℕ} {n : ℕ} (front rest : List ℕ) (k : ℕ) → url ≡ front ++ rest → length front ≡ n
+    → n ≤ k → get_or url k 0 ≡ get_or rest (k - n) 0
 byte_after {url} {n} front rest k parts size after =
     ap (λ l. get_or l k 0) parts ∙ get_or-append_right front rest n k 0 size after
 
@@ -26,7 +28,14 @@ rtsp_is_read : (url : List ℕ) → list_all is_url_byte url ≡ true → IsRtsp
 rtsp_is_read url bytes u =
     let seven : length u.scheme ≡ 7 = sym (length-map u.scheme to_ascii_lowercase) ∙ ap length u.scheme_is in
     let front : take 7 url ≡ u.scheme = ap (take 7) u.parts ∙ take_at u.scheme (u.authority ++ u.path) 7 seven in
-    let size : length url ≡ 7 + length u.authority + length u.path = omega (arith, ap length u.parts, length-append u.scheme (u.authority ++ u.path), length-append u.authority u.path, seven) in (
+    let size : length url ≡ 7 + length u.authority + length u.path =
+    omega (
+      arith,
+      ap length u.parts,
+      length-append u.scheme (u.authority ++ u.path),
+      length-append u.authority u.path,
+      seven,
+    ) in (
       7 + length u.authority,
       record {
         bytes = bytes;
@@ -38,14 +47,16 @@ rtsp_is_read url bytes u =
           none = λ k from below.
               let inside : k - 7 < length u.authority = omega (arith, from, below) in
               let here : get_or url k 0 ≡ get_or u.authority (k - 7) 0 =
-              byte_after u.scheme (u.authority ++ u.path) k u.parts seven from ∙ get_or_append_left u.authority u.path 0 (k - 7) inside in
+              byte_after u.scheme (u.authority ++ u.path) k u.parts seven from
+              ∙ get_or_append_left u.authority u.path 0 (k - 7) inside in
               λ slash. authority_byte u.authority (k - 7) u.no_slash inside (sym here ∙ slash);
           ends = λ inside.
               let some : 0 < length u.path = omega (arith, inside, size) in
               let left : 7 + length u.authority - 7 ≡ length u.authority = omega arith in
               let none : 7 + length u.authority - 7 - length u.authority ≡ 0 = omega arith in
               byte_after u.scheme (u.authority ++ u.path) (7 + length u.authority) u.parts seven (omega arith) ∙
-              get_or-append_right u.authority u.path (length u.authority) (7 + length u.authority - 7) 0 refl (omega arith) ∙ ap (λ n. get_or u.path n 0) none ∙ u.path_begins some;
+              get_or-append_right u.authority u.path (length u.authority) (7 + length u.authority - 7) 0 refl
+              (omega arith) ∙ ap (λ n. get_or u.path n 0) none ∙ u.path_begins some;
         };
       },
     )

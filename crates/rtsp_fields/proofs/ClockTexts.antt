@@ -31,7 +31,8 @@ digits_end front digits tail all =
           let same : length front + (k - length front) ≡ k = omega (arith, from) in
           let inside : k - length front < length digits = omega (arith, from, below) in
           let here : get_or (front ++ (digits ++ 58 ∷ tail)) k 0 ≡ get_or digits (k - length front) 0 =
-          ap (λ n. get_or (front ++ (digits ++ 58 ∷ tail)) n 0) (sym same) ∙ get_or-append-add front (digits ++ 58 ∷ tail) (k - length front) 0
+          ap (λ n. get_or (front ++ (digits ++ 58 ∷ tail)) n 0) (sym same)
+          ∙ get_or-append-add front (digits ++ 58 ∷ tail) (k - length front) 0
           ∙ get_or_append_left digits (58 ∷ tail) 0 (k - length front) inside in
           λ colon. digit_is_other digits (k - length front) all inside (sym here ∙ colon);
       ends = λ inside.
@@ -70,11 +71,14 @@ clock_of {h} {m} {s} {a} {b} {c} digits =
     let middle : drop (length h + 1) text ≡ m ++ 58 ∷ s =
     ap (drop (length h + 1)) (sym split) ∙ drop_at front (m ++ 58 ∷ s) (length h + 1) front_long in
     let last : drop (length h + 1 + length m + 1) text ≡ s =
-    ap (drop (length h + 1 + length m + 1)) (sym whole) ∙ drop_at (front ++ (m ++ 58 ∷ [])) s (length h + 1 + length m + 1) second_long in
+    ap (drop (length h + 1 + length m + 1)) (sym whole)
+    ∙ drop_at (front ++ (m ++ 58 ∷ [])) s (length h + 1 + length m + 1) second_long in
     let minutes_are : slice_range text (length h + 1) (length h + 1 + length m) ≡ m =
-    ap (λ (l : List ℕ). take (length h + 1 + length m - (length h + 1)) l) middle ∙ take_at m (58 ∷ s) (length h + 1 + length m - (length h + 1)) (omega arith) in
+    ap (λ (l : List ℕ). take (length h + 1 + length m - (length h + 1)) l) middle
+    ∙ take_at m (58 ∷ s) (length h + 1 + length m - (length h + 1)) (omega arith) in
     let seconds_are : slice_range text (length h + 1 + length m + 1) (length text) ≡ s =
-    ap (λ (l : List ℕ). take (length text - (length h + 1 + length m + 1)) l) last ∙ take_all (length text - (length h + 1 + length m + 1)) s (omega (arith, long)) in
+    ap (λ (l : List ℕ). take (length text - (length h + 1 + length m + 1)) l) last
+    ∙ take_all (length text - (length h + 1 + length m + 1)) s (omega (arith, long)) in
     let E : List ℕ → ℕ → Type 0 = λ t n. IsEnd 58 t n (n + length m) in
     record {
       first = length h;
@@ -132,25 +136,32 @@ short_digits : (most n : ℕ) → 1 ≤ most → most ≤ 9 → n < 10 ^ most �
 short_digits most n some few small below =
     let fits : n < 2 ^ 64 = omega (arith, below) in
     record {
-      decimal = and_from (nat_lt 0 (length (decimal n))) (list_all is_ascii_digit (decimal n)) (lt-ltb 0 (length (decimal n)) (decimal_nonempty n fits)) (digits_decimal decimal_numerals n fits);
+      decimal = and_from (nat_lt 0 (length (decimal n))) (list_all is_ascii_digit (decimal n))
+          (lt-ltb 0 (length (decimal n)) (decimal_nonempty n fits)) (digits_decimal decimal_numerals n fits);
       short = length-decimal-le most n some small fits;
       value = sym (digits_value-decimal decimal_numerals n fits);
     }
 
-all_text : (h m s : List ℕ) → list_all is_ascii_digit h ≡ true → list_all is_ascii_digit m ≡ true → list_all is_ascii_digit s ≡ true → list_all is_clock_byte (clock_text h m s) ≡ true
+all_text : (h m s : List ℕ) → list_all is_ascii_digit h ≡ true → list_all is_ascii_digit m ≡ true
+    → list_all is_ascii_digit s ≡ true → list_all is_clock_byte (clock_text h m s) ≡ true
 unfolding clock_text is_clock_byte
 all_text h m s hs ms ss =
     list_all-append is_clock_byte h (58 ∷ (m ++ (58 ∷ s)))
     ∙ and_from (list_all is_clock_byte h) (list_all is_clock_byte (m ++ (58 ∷ s))) (all_clock h hs)
-    (list_all-append is_clock_byte m (58 ∷ s) ∙ and_from (list_all is_clock_byte m) (list_all is_clock_byte s) (all_clock m ms) (all_clock s ss))
+    (list_all-append is_clock_byte m (58 ∷ s)
+    ∙ and_from (list_all is_clock_byte m) (list_all is_clock_byte s) (all_clock m ms) (all_clock s ss))
 
 pub clock_read : (hours minutes seconds : ℕ) → hours < 10 ^ 5 → minutes ≤ 59 → seconds ≤ 59 →
-    IsTime (decimal hours ++ 58 ∷ (decimal minutes ++ 58 ∷ decimal seconds)) ((hours * 3600 + minutes * 60 + seconds) * 1000000000)
+    IsTime (decimal hours ++ 58 ∷ (decimal minutes ++ 58 ∷ decimal seconds))
+    ((hours * 3600 + minutes * 60 + seconds) * 1000000000)
 unfolding clock_text
 clock_read hours minutes seconds h m s =
     let hd : IsDigits 5 (decimal hours) hours = short_digits 5 hours (omega arith) (omega arith) h (omega (arith, h)) in
-    let md : IsDigits 2 (decimal minutes) minutes = short_digits 2 minutes (omega arith) (omega arith) (omega (arith, m)) (omega (arith, m)) in
-    let sd : IsDigits 2 (decimal seconds) seconds = short_digits 2 seconds (omega arith) (omega arith) (omega (arith, s)) (omega (arith, s)) in
+    let md : IsDigits 2 (decimal minutes) minutes =
+    short_digits 2 minutes (omega arith) (omega arith) (omega (arith, m)) (omega (arith, m)) in
+    let sd : IsDigits 2 (decimal seconds) seconds =
+    short_digits 2 seconds (omega arith) (omega arith) (omega (arith, s)) (omega (arith, s)) in
     clock_is_time (clock_text (decimal hours) (decimal minutes) (decimal seconds)) (hours * 3600 + minutes * 60 + seconds)
-    (all_text (decimal hours) (decimal minutes) (decimal seconds) (digits_of 5 (decimal hours) hours hd) (digits_of 2 (decimal minutes) minutes md) (digits_of 2 (decimal seconds) seconds sd))
+    (all_text (decimal hours) (decimal minutes) (decimal seconds) (digits_of 5 (decimal hours) hours hd)
+    (digits_of 2 (decimal minutes) minutes md) (digits_of 2 (decimal seconds) seconds sd))
     (clock_of (record { hours = hd; minutes = md; seconds = sd; small_minutes = m; small_seconds = s }))

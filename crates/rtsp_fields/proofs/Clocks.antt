@@ -20,7 +20,8 @@ pub record IsClockAt (text : List ℕ) (first second seconds : ℕ) : Type 0 whe
 pub first_colon : (text : List ℕ) (first seconds : ℕ) (clock : IsClock text seconds) → IsEnd 58 text 0 first → clock.first ≡ first
 first_colon text first seconds clock e = end_once clock.hours_end e
 
-pub clock_at : {text : List ℕ} {first second seconds : ℕ} → IsEnd 58 text 0 first → IsEnd 58 text (first + 1) second → IsClock text seconds → IsClockAt text first second seconds
+pub clock_at : {text : List ℕ} {first second seconds : ℕ} → IsEnd 58 text 0 first
+    → IsEnd 58 text (first + 1) second → IsClock text seconds → IsClockAt text first second seconds
 clock_at {text} {first} {second} {seconds} e f clock =
     let same : clock.first ≡ first = first_colon text first seconds clock e in
     let E : ℕ → Type 0 = λ n. IsEnd 58 text (n + 1) clock.second in
@@ -64,7 +65,8 @@ pub record AreClockParts (text : List ℕ) (first second hours minutes seconds :
   pub small_seconds : seconds ≤ 59
 
 -- the clock time that was read
-pub whole_clock : {text : List ℕ} {first second hours minutes seconds : ℕ} → AreClockParts text first second hours minutes seconds →
+pub whole_clock : {text : List ℕ} {first second hours minutes seconds : ℕ} →
+    AreClockParts text first second hours minutes seconds →
     IsClock text (hours * 3600 + minutes * 60 + seconds) × (hours * 3600 + minutes * 60 + seconds < 10 ^ 13)
 whole_clock {first} {second} {hours} {minutes} {seconds} parts = (
   record {
@@ -87,7 +89,8 @@ whole_clock {first} {second} {hours} {minutes} {seconds} parts = (
 )
 
 -- no seconds as such, and a clock time or not
-pub digits_or_clock : (o : Option ℕ) (text : List ℕ) → ((n : ℕ) → ¬ IsDigits 9 text n) → MatchOption o ((n : ℕ) → ¬ IsClock text n) (λ n. IsClock text n × (n < 10 ^ 13)) →
+pub digits_or_clock : (o : Option ℕ) (text : List ℕ) → ((n : ℕ) → ¬ IsDigits 9 text n) →
+    MatchOption o ((n : ℕ) → ¬ IsClock text n) (λ n. IsClock text n × (n < 10 ^ 13)) →
     MatchOption o ((n : ℕ) → ¬ AreSeconds text n) (λ n. AreSeconds text n × (n < 10 ^ 13))
 digits_or_clock None text none h = λ n are. elim are [ inl digits ↦ none n digits | inr clock ↦ h n clock ]
 digits_or_clock (Some n) text none h = (inr h.0, h.1)
@@ -97,7 +100,8 @@ pub record IsTimeAt (text : List ℕ) (point : ℕ) : Type 0 where
   pub seconds : ℕ
   pub fraction : ℕ
   pub whole : AreSeconds (take point text) seconds
-  pub part : ((point ≡ length text) × (fraction ≡ 0)) ⊎ ((point < length text) × IsFraction (slice_range text (point + 1) (length text)) fraction)
+  pub part : ((point ≡ length text) × (fraction ≡ 0))
+      ⊎ ((point < length text) × IsFraction (slice_range text (point + 1) (length text)) fraction)
 
 pub time_at : (text : List ℕ) (point n : ℕ) → IsEnd 46 text 0 point → IsTime text n → IsTimeAt text point
 time_at text point n e t =

@@ -46,7 +46,8 @@ first_dash seconds = record {
         let C : ℕ → Type 0 = λ n. get_or (codes "npt=0-" ++ seconds) n 0 ≢ 45 in
         subst C (sym is) (λ e. absurd (omega (arith, e)))
 
-range_read : (seconds : List ℕ) (time : ℕ) → IsTime seconds time → IsSpan (range_text seconds) (record { from = At 0; to = Some time })
+range_read : (seconds : List ℕ) (time : ℕ) → IsTime seconds time
+    → IsSpan (range_text seconds) (record { from = At 0; to = Some time })
 unfolding range_text
 range_read seconds time is =
     let text = codes "npt=0-" ++ seconds in
@@ -66,23 +67,31 @@ described : (name seconds : List ℕ) →
     codes "v=0\r\no=- 0 0 IN IP4 127.0.0.1\r\ns=" ++ name
     ++ codes "\r\nc=IN IP4 0.0.0.0\r\nt=0 0\r\na=control:*\r\na=range:npt=0-" ++ seconds
     ++ codes "\r\nm=video 0 RTP/AVP 32\r\na=control:video\r\n"
-    ≡ flat_map whole_line (codes "v=0" ∷ codes "o=- 0 0 IN IP4 127.0.0.1" ∷ (codes "s=" ++ name) ∷ codes "c=IN IP4 0.0.0.0" ∷ codes "t=0 0" ∷ codes "a=control:*" ∷ (codes "a=range:" ++ (codes "npt=0-" ++ seconds)) ∷ codes "m=video 0 RTP/AVP 32" ∷ (codes "a=control:" ++ codes "video") ∷ [])
+    ≡ flat_map whole_line
+    (codes "v=0" ∷ codes "o=- 0 0 IN IP4 127.0.0.1" ∷ (codes "s=" ++ name) ∷ codes "c=IN IP4 0.0.0.0"
+    ∷ codes "t=0 0" ∷ codes "a=control:*" ∷ (codes "a=range:" ++ (codes "npt=0-" ++ seconds))
+    ∷ codes "m=video 0 RTP/AVP 32" ∷ (codes "a=control:" ++ codes "video") ∷ [])
 described name seconds =
     let front = codes "v=0\r\no=- 0 0 IN IP4 127.0.0.1\r\ns=" in
     let middle = codes "\r\nc=IN IP4 0.0.0.0\r\nt=0 0\r\na=control:*\r\na=range:npt=0-" in
     let back = codes "\r\nm=video 0 RTP/AVP 32\r\na=control:video\r\n" in
     let media = flat_map whole_line (codes "m=video 0 RTP/AVP 32" ∷ (codes "a=control:" ++ codes "video") ∷ []) in
-    let rest = flat_map whole_line (codes "c=IN IP4 0.0.0.0" ∷ codes "t=0 0" ∷ codes "a=control:*" ∷ (codes "a=range:" ++ (codes "npt=0-" ++ seconds)) ∷ codes "m=video 0 RTP/AVP 32" ∷ (codes "a=control:" ++ codes "video") ∷ []) in
+    let rest = flat_map whole_line
+    (codes "c=IN IP4 0.0.0.0" ∷ codes "t=0 0" ∷ codes "a=control:*"
+    ∷ (codes "a=range:" ++ (codes "npt=0-" ++ seconds)) ∷ codes "m=video 0 RTP/AVP 32"
+    ∷ (codes "a=control:" ++ codes "video") ∷ []) in
     let left : front ++ name ++ middle ++ seconds ++ back ≡ front ++ (name ++ (middle ++ (seconds ++ back))) =
     append_assoc (front ++ name ++ middle) seconds back ∙ append_assoc (front ++ name) middle (seconds ++ back)
     ∙ append_assoc front name (middle ++ (seconds ++ back)) in
-    let time : front ++ (name ++ (middle ++ (seconds ++ back))) ≡ front ++ (name ++ (middle ++ (seconds ++ codes "\r\n" ++ media))) =
+    let time : front ++ (name ++ (middle ++ (seconds ++ back)))
+    ≡ front ++ (name ++ (middle ++ (seconds ++ codes "\r\n" ++ media))) =
     ap (λ l. front ++ (name ++ (middle ++ l))) (sym (append_assoc seconds (codes "\r\n") media)) in
     let title : front ++ (name ++ (codes "\r\n" ++ rest)) ≡ front ++ (name ++ codes "\r\n" ++ rest) =
     ap (λ l. front ++ l) (sym (append_assoc name (codes "\r\n") rest)) in
     left ∙ time ∙ title
 
-pub description_is : (name : List ℕ) (ms : ℕ) → is_good_name name ≡ true → ms < 10 ^ 12 → IsDescription (description_text name ms) name (ms * 1000000)
+pub description_is : (name : List ℕ) (ms : ℕ) → is_good_name name ≡ true → ms < 10 ^ 12
+    → IsDescription (description_text name ms) name (ms * 1000000)
 unfolding range_text
 description_is name ms good small = record {
   range = codes "npt=0-" ++ seconds_text ms;

@@ -21,11 +21,15 @@ number_read text n read =
     let value = digits_value 10 text in
     elim (cases_Bool (is_decimal text && nat_lt (digits_value 10 text) (2 ^ 64))) [
       | inl good ↦ (
-          let found : number_of text ≡ Some (digits_value 10 text) = cond-true (is_decimal text && nat_lt (digits_value 10 text) (2 ^ 64)) (Some (digits_value 10 text)) None good in
-          ((and_parts (is_decimal text) (nat_lt (digits_value 10 text) (2 ^ 64)) good).0, same_Some n (digits_value 10 text) (sym read ∙ found))
+          let found : number_of text ≡ Some (digits_value 10 text) =
+          cond-true (is_decimal text && nat_lt (digits_value 10 text) (2 ^ 64)) (Some (digits_value 10 text)) None good in (
+            (and_parts (is_decimal text) (nat_lt (digits_value 10 text) (2 ^ 64)) good).0,
+            same_Some n (digits_value 10 text) (sym read ∙ found),
+          )
           )
       | inr wrong ↦ (
-          let none : number_of text ≡ None = cond-false (is_decimal text && nat_lt (digits_value 10 text) (2 ^ 64)) (Some (digits_value 10 text)) None wrong in
+          let none : number_of text ≡ None =
+          cond-false (is_decimal text && nat_lt (digits_value 10 text) (2 ^ 64)) (Some (digits_value 10 text)) None wrong in
           absurd (none-some n (sym none ∙ read))
           )
     ]
@@ -36,13 +40,16 @@ below_billion text decimal short =
     digits_value_short decimal_numerals text 9 (and_parts (nat_lt 0 (length text)) (list_all is_ascii_digit text) decimal).1 short
 
 -- such digits are read
-pub short_is_read : (most : ℕ) (text : List ℕ) (n : ℕ) → most ≤ 9 → IsDigits most text n → number_of text ≡ Some (digits_value 10 text)
+pub short_is_read : (most : ℕ) (text : List ℕ) (n : ℕ) → most ≤ 9 → IsDigits most text n
+    → number_of text ≡ Some (digits_value 10 text)
 short_is_read most text n few d =
     let small : digits_value 10 text < 10 ^ 9 = below_billion text d.decimal (omega (arith, few, d.short)) in
     let fits : nat_lt (digits_value 10 text) (2 ^ 64) ≡ true = lt-ltb (digits_value 10 text) (2 ^ 64) (omega (arith, small)) in
-    cond-true (is_decimal text && nat_lt (digits_value 10 text) (2 ^ 64)) (Some (digits_value 10 text)) None (and_from (is_decimal text) (nat_lt (digits_value 10 text) (2 ^ 64)) d.decimal fits)
+    cond-true (is_decimal text && nat_lt (digits_value 10 text) (2 ^ 64)) (Some (digits_value 10 text)) None
+    (and_from (is_decimal text) (nat_lt (digits_value 10 text) (2 ^ 64)) d.decimal fits)
 
-pub digits_read : (most : ℕ) (text : List ℕ) (n : ℕ) → most ≤ 9 → length text ≤ most → number_of text ≡ Some n → IsDigits most text n × (n < 10 ^ 9)
+pub digits_read : (most : ℕ) (text : List ℕ) (n : ℕ) → most ≤ 9 → length text ≤ most → number_of text ≡ Some n
+    → IsDigits most text n × (n < 10 ^ 9)
 digits_read most text n few short read =
     let found = number_read text n read in
     let small : digits_value 10 text < 10 ^ 9 = below_billion text found.0 (omega (arith, few, short)) in
@@ -54,7 +61,8 @@ digits_not_read most text n few none d = none-some (digits_value 10 text) (sym n
 digits_take : (n : ℕ) (text : List ℕ) → list_all is_ascii_digit text ≡ true → list_all is_ascii_digit (take n text) ≡ true
 digits_take n text all =
     let whole : list_all is_ascii_digit (take n text ++ drop n text) ≡ true = rw (take-append-drop n text) all in
-    (and_parts (list_all is_ascii_digit (take n text)) (list_all is_ascii_digit (drop n text)) (sym (list_all-append is_ascii_digit (take n text) (drop n text)) ∙ whole)).0
+    (and_parts (list_all is_ascii_digit (take n text)) (list_all is_ascii_digit (drop n text))
+    (sym (list_all-append is_ascii_digit (take n text) (drop n text)) ∙ whole)).0
 
 -- the first nine digits, where they were read or there are none
 pub counted_value : (o : Option ℕ) (text : List ℕ) → list_all is_ascii_digit text ≡ true → length text ≤ 9 →
@@ -62,7 +70,8 @@ pub counted_value : (o : Option ℕ) (text : List ℕ) → list_all is_ascii_dig
 counted_value None text all short h =
     elim (cases_lt 0 (length text)) [
       | inl some ↦ (
-          let decimal : is_decimal text ≡ true = and_from (nat_lt 0 (length text)) (list_all is_ascii_digit text) (lt-ltb 0 (length text) some) all in
+          let decimal : is_decimal text ≡ true =
+          and_from (nat_lt 0 (length text)) (list_all is_ascii_digit text) (lt-ltb 0 (length text) some) all in
           absurd (h (digits_value 10 text) (record { decimal = decimal; short = short; value = refl }))
           )
       | inr none ↦ let empty : text ≡ [] = nil_from_length text (omega (arith, none)) in sym (ap (digits_value 10) empty)
@@ -77,12 +86,16 @@ fraction_read {text} {k} {power} o all cut read is_power =
     let digits : list_all is_ascii_digit (take k text) ≡ true = digits_take k text all in
     let short : length (take k text) ≤ 9 = rw (length-take k text, cut) (omega arith) in
     let value : unwrap_or o 0 ≡ digits_value 10 (take k text) = counted_value o (take k text) digits short read in
-    let small : digits_value 10 (take k text) < 10 ^ length (take k text) = digits_value_short decimal_numerals (take k text) (length (take k text)) digits (omega arith) in
+    let small : digits_value 10 (take k text) < 10 ^ length (take k text) =
+    digits_value_short decimal_numerals (take k text) (length (take k text)) digits (omega arith) in
     let sum : length (take k text) + (9 - length (take k text)) ≡ 9 = omega (arith, short) in
-    let whole : 10 ^ length (take k text) * 10 ^ (9 - length (take k text)) ≡ 10 ^ 9 = sym (pow-add 10 (length (take k text)) (9 - length (take k text))) ∙ ap (λ n. 10 ^ n) sum in
+    let whole : 10 ^ length (take k text) * 10 ^ (9 - length (take k text)) ≡ 10 ^ 9 =
+    sym (pow-add 10 (length (take k text)) (9 - length (take k text))) ∙ ap (λ n. 10 ^ n) sum in
     let positive : 0 < 10 ^ (9 - length (take k text)) = one-le-pow (9 - length (take k text)) 10 (omega arith) in
-    let below : digits_value 10 (take k text) * 10 ^ (9 - length (take k text)) < 10 ^ 9 = rw (← whole) (mul-lt-mul_of_pos_right small positive) in
-    let total : unwrap_or o 0 * power ≡ digits_value 10 (take k text) * 10 ^ (9 - length (take k text)) = rw (value, is_power) refl in (
+    let below : digits_value 10 (take k text) * 10 ^ (9 - length (take k text)) < 10 ^ 9 =
+    rw (← whole) (mul-lt-mul_of_pos_right small positive) in
+    let total : unwrap_or o 0 * power ≡ digits_value 10 (take k text) * 10 ^ (9 - length (take k text)) =
+    rw (value, is_power) refl in (
       record { digits = all; value = total ∙ ap (λ (t : List ℕ). digits_value 10 t * 10 ^ (9 - length t)) nine },
       rw total below,
     )

@@ -15,7 +15,10 @@ pub one_line-hex : (bytes : List ℕ) → is_one_line (encode_lower bytes) ≡ t
 unfolding encode_with
 one_line-hex [] = refl
 one_line-hex (b ∷ bytes) =
-    let high : not (get_or lower_digits (b / 16) 0 == 10) ≡ true = passes_at (λ byte. not (byte == 10)) lower_digits (b / 16) 0 refl refl in
-    let low : not (get_or lower_digits (b % 16) 0 == 10) ≡ true = passes_at (λ byte. not (byte == 10)) lower_digits (b % 16) 0 refl refl in
-    and_from (not (get_or lower_digits (b / 16) 0 == 10)) (not (get_or lower_digits (b % 16) 0 == 10) && is_one_line (encode_lower bytes)) high
+    let high : not (get_or lower_digits (b / 16) 0 == 10) ≡ true =
+    passes_at (λ byte. not (byte == 10)) lower_digits (b / 16) 0 refl refl in
+    let low : not (get_or lower_digits (b % 16) 0 == 10) ≡ true =
+    passes_at (λ byte. not (byte == 10)) lower_digits (b % 16) 0 refl refl in
+    and_from (not (get_or lower_digits (b / 16) 0 == 10))
+    (not (get_or lower_digits (b % 16) 0 == 10) && is_one_line (encode_lower bytes)) high
     (and_from (not (get_or lower_digits (b % 16) 0 == 10)) (is_one_line (encode_lower bytes)) low (one_line-hex bytes))

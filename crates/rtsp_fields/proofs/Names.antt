@@ -6,6 +6,7 @@ use Rattle.rtsp_text.proofs.OneLines.{one_line-name}
 use Rattle.rtsp_fields.specs.Urls.{NamesFilm}
 
 pub line_of_name : {X : Type 0} (now : X → List ℕ) (r : Option X) (path : List ℕ) →
-    MatchOption r ((name : List ℕ) → ¬ NamesFilm path name) (λ x. NamesFilm path (now x)) → IfSome r (λ x. is_one_line (now x) ≡ true)
+    MatchOption r ((name : List ℕ) → ¬ NamesFilm path name) (λ x. NamesFilm path (now x))
+    → IfSome r (λ x. is_one_line (now x) ≡ true)
 line_of_name now None path h = tt
 line_of_name now (Some x) path h = one_line-name (now x) h.good

@@ -25,9 +25,11 @@ use Rattle.rtsp_fields.proofs.Parts.{IsPairAt, pair_at, within_once}
 use Rattle.rtsp_fields.proofs.Clocks.{value_once}
 
 -- a decimal text has no byte of another kind
-pub no_other_byte : (text : List ℕ) (c i : ℕ) → is_decimal text ≡ true → ¬ (IsInRange 48 57 c) → i < length text → get_or text i 0 ≢ c
+pub no_other_byte : (text : List ℕ) (c i : ℕ) → is_decimal text ≡ true → ¬ (IsInRange 48 57 c) → i < length text
+    → get_or text i 0 ≢ c
 no_other_byte text c i decimal other inside =
-    not_in_digits decimal_numerals text c (and_parts (nat_lt 0 (length text)) (list_all is_ascii_digit text) decimal).1 other i inside
+    not_in_digits decimal_numerals text c
+    (and_parts (nat_lt 0 (length text)) (list_all is_ascii_digit text) decimal).1 other i inside
 
 -- digits aren't a clock time
 pub digits_no_clock : (text : List ℕ) (a b : ℕ) → IsDigits 9 text a → IsClock text b → ⊥
@@ -44,9 +46,12 @@ clock_once text a b x y =
     let hours : x.hours ≡ y.hours = value_once 5 (take y.first text) x.hours y.hours (subst H first x.are_hours) y.are_hours in
     let M : ℕ → Type 0 = λ n. IsDigits 2 (slice_range text (n + 1) x.second) x.minutes in
     let N : ℕ → Type 0 = λ n. IsDigits 2 (slice_range text (y.first + 1) n) x.minutes in
-    let minutes : x.minutes ≡ y.minutes = value_once 2 (slice_range text (y.first + 1) y.second) x.minutes y.minutes (subst N second (subst M first x.are_minutes)) y.are_minutes in
+    let minutes : x.minutes ≡ y.minutes =
+    value_once 2 (slice_range text (y.first + 1) y.second) x.minutes y.minutes
+    (subst N second (subst M first x.are_minutes)) y.are_minutes in
     let S : ℕ → Type 0 = λ n. IsDigits 2 (slice_range text (n + 1) (length text)) x.rest in
-    let rest : x.rest ≡ y.rest = value_once 2 (slice_range text (y.second + 1) (length text)) x.rest y.rest (subst S second x.are_seconds) y.are_seconds in
+    let rest : x.rest ≡ y.rest =
+    value_once 2 (slice_range text (y.second + 1) (length text)) x.rest y.rest (subst S second x.are_seconds) y.are_seconds in
     omega (arith, hours, minutes, rest, x.seconds_are, y.seconds_are)
 
 pub seconds_once : (text : List ℕ) (a b : ℕ) → AreSeconds text a → AreSeconds text b → a ≡ b
@@ -55,8 +60,10 @@ seconds_once text a b (inl x) (inr y) = absurd (digits_no_clock text a b x y)
 seconds_once text a b (inr x) (inl y) = absurd (digits_no_clock text b a y x)
 seconds_once text a b (inr x) (inr y) = clock_once text a b x y
 
-part_once : (text : List ℕ) (point a b : ℕ) → ((point ≡ length text) × (a ≡ 0)) ⊎ ((point < length text) × IsFraction (slice_range text (point + 1) (length text)) a) →
-    ((point ≡ length text) × (b ≡ 0)) ⊎ ((point < length text) × IsFraction (slice_range text (point + 1) (length text)) b) → a ≡ b
+part_once : (text : List ℕ) (point a b : ℕ) →
+    ((point ≡ length text) × (a ≡ 0)) ⊎ ((point < length text) × IsFraction (slice_range text (point + 1) (length text)) a) →
+    ((point ≡ length text) × (b ≡ 0))
+    ⊎ ((point < length text) × IsFraction (slice_range text (point + 1) (length text)) b) → a ≡ b
 part_once text point a b (inl x) (inl y) = x.1 ∙ sym y.1
 part_once text point a b (inl x) (inr y) = omega (arith, x.0, y.0)
 part_once text point a b (inr x) (inl y) = omega (arith, x.0, y.0)
@@ -67,14 +74,18 @@ time_once text a b x y =
     let point : x.point ≡ y.point = end_once x.point_is y.point_is in
     let W : ℕ → Type 0 = λ n. AreSeconds (take n text) x.seconds in
     let seconds : x.seconds ≡ y.seconds = seconds_once (take y.point text) x.seconds y.seconds (subst W point x.whole) y.whole in
-    let P : ℕ → Type 0 = λ n. ((n ≡ length text) × (x.fraction ≡ 0)) ⊎ ((n < length text) × IsFraction (slice_range text (n + 1) (length text)) x.fraction) in
+    let P : ℕ → Type 0 =
+    λ n. ((n ≡ length text) × (x.fraction ≡ 0))
+    ⊎ ((n < length text) × IsFraction (slice_range text (n + 1) (length text)) x.fraction) in
     let fraction : x.fraction ≡ y.fraction = part_once text y.point x.fraction y.fraction (subst P point x.part) y.part in
     omega (arith, seconds, fraction, x.nanoseconds_are, y.nanoseconds_are)
 
 -- digits begin with a digit
 first_digit : (text : List ℕ) (n : ℕ) → is_decimal (take n text) ≡ true → ¬ (IsInRange 48 57 (get_or text 0 0)) → ⊥
 first_digit text n decimal other =
-    let some : 0 < length (take n text) = ltb-true 0 (length (take n text)) (and_parts (nat_lt 0 (length (take n text))) (list_all is_ascii_digit (take n text)) decimal).0 in
+    let some : 0 < length (take n text) =
+    ltb-true 0 (length (take n text))
+    (and_parts (nat_lt 0 (length (take n text))) (list_all is_ascii_digit (take n text)) decimal).0 in
     let many : 0 < n = omega (arith, length-take n text, some, min-le_left n (length text)) in
     no_other_byte (take n text) (get_or text 0 0) 0 decimal other some (get_or-take n text 0 0 many)
 
@@ -83,7 +94,8 @@ pub no_time : (text : List ℕ) (n : ℕ) → ¬ (IsInRange 48 57 (get_or text 0
 no_time text n other t = elim t.whole [
   | inl digits ↦ first_digit text t.point digits.decimal other
   | inr clock ↦
-      let within : clock.first ≤ t.point = omega (arith, clock.hours_end.within, length-take t.point text, min-le_left t.point (length text)) in
+      let within : clock.first ≤ t.point =
+      omega (arith, clock.hours_end.within, length-take t.point text, min-le_left t.point (length text)) in
       let P : List ℕ → Type 0 = λ ds. is_decimal ds ≡ true in
       first_digit text clock.first (subst P (take-take clock.first t.point text within) clock.are_hours.decimal) other
 ]
@@ -120,7 +132,8 @@ same_channels a b media control =
 -- one number has no dash
 not_both_forms : (text : List ℕ) (a b : Channels) → IsPair text a → IsSingle text b → ⊥
 not_both_forms text a b pair single =
-    no_other_byte text 45 pair.dash (number_read text b.media single.media.is_number).0 (λ r. omega (arith, r)) pair.inside (pair.is_dash.ends pair.inside)
+    no_other_byte text 45 pair.dash (number_read text b.media single.media.is_number).0 (λ r. omega (arith, r))
+    pair.inside (pair.is_dash.ends pair.inside)
 
 channels_once : (text : List ℕ) (a b : Channels) → AreChannels text a → AreChannels text b → a ≡ b
 channels_once text a b (inl x) (inl y) =

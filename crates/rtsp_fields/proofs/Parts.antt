@@ -16,16 +16,19 @@ pub record IsPairAt (text : List ℕ) (dash : ℕ) (channels : Channels) : Type 
   pub inside : dash < length text
   pub differ : channels.media ≢ channels.control
 
-pub pair_at : (text : List ℕ) (dash : ℕ) (channels : Channels) → IsEnd 45 text 0 dash → IsPair text channels → IsPairAt text dash channels
+pub pair_at : (text : List ℕ) (dash : ℕ) (channels : Channels) → IsEnd 45 text 0 dash → IsPair text channels
+    → IsPairAt text dash channels
 pair_at text dash channels e p =
     let same : p.dash ≡ dash = end_once p.is_dash e in
-    subst (λ (d : ℕ). IsPairAt text d channels) same (record { media = p.media; control = p.control; inside = p.inside; differ = p.differ })
+    subst (λ (d : ℕ). IsPairAt text d channels) same
+    (record { media = p.media; control = p.control; inside = p.inside; differ = p.differ })
 
 -- one text writes one number
 pub within_once : {low high : ℕ} {text : List ℕ} {a b : ℕ} → WritesNumber low high text a → WritesNumber low high text b → a ≡ b
 within_once {a} {b} x y = same_Some a b (sym x.is_number ∙ y.is_number)
 
-pub not_pair_equal : {text : List ℕ} {dash a b : ℕ} {channels : Channels} → IsEnd 45 text 0 dash → WritesNumber 0 255 (take dash text) a →
+pub not_pair_equal : {text : List ℕ} {dash a b : ℕ} {channels : Channels} → IsEnd 45 text 0 dash →
+    WritesNumber 0 255 (take dash text) a →
     WritesNumber 0 255 (slice_range text (dash + 1) (length text)) b → a ≡ b → IsPair text channels → ⊥
 not_pair_equal {text} {dash} {a} {b} {channels} e x y same p =
     let at : IsPairAt text dash channels = pair_at text dash channels e p in
@@ -33,7 +36,8 @@ not_pair_equal {text} {dash} {a} {b} {channels} e x y same p =
 
 -- no pair, and one number or not
 pub pair_or_single : (o : Option Channels) (text : List ℕ) → ((channels : Channels) → ¬ IsPair text channels) →
-    MatchOption o ((channels : Channels) → ¬ IsSingle text channels) (IsSingle text) → MatchOption o ((channels : Channels) → ¬ AreChannels text channels) (AreChannels text)
+    MatchOption o ((channels : Channels) → ¬ IsSingle text channels) (IsSingle text)
+    → MatchOption o ((channels : Channels) → ¬ AreChannels text channels) (AreChannels text)
 pair_or_single None text none h = λ channels are. elim are [ inl pair ↦ none channels pair | inr single ↦ h channels single ]
 pair_or_single (Some channels) text none h = inr h
 
@@ -42,9 +46,13 @@ pub name_within : (part : List ℕ) → Begins (codes "interleaved=") (lower par
 name_within part b = let e = simp (length-map, length-take) at (ap length b) in omega (arith, e)
 
 -- the first part that names channels tells them
-pub named_channels : {text : List ℕ} {from to : ℕ} (o : Option Channels) → IsPiece 59 text from to → NamesChannels (slice_range text from to) →
+pub named_channels : {text : List ℕ} {from to : ℕ} (o : Option Channels) → IsPiece 59 text from to →
+    NamesChannels (slice_range text from to) →
     NoneBefore 59 text from NamesChannels →
-    MatchOption o ((channels : Channels) → ¬ AreChannels (after_name (without_blanks (slice_range text from to))) channels) (AreChannels (after_name (without_blanks (slice_range text from to)))) →
+    MatchOption o
+    ((channels : Channels) →
+    ¬ AreChannels (after_name (without_blanks (slice_range text from to))) channels)
+    (AreChannels (after_name (without_blanks (slice_range text from to)))) →
     MatchOption o ((channels : Channels) → ¬ HasChannels text channels) (HasChannels text)
 named_channels {text} {from} {to} None piece names first h = λ channels has. elim has [
   | inl named ↦
@@ -59,15 +67,18 @@ named_channels {text} {from} {to} (Some channels) piece names first h =
     inl (record { from = from; to = to; piece = piece; names = names; first = first; are = h })
 
 -- no alternative with another first part can be taken
-pub other_protocol : (text : List ℕ) (end : ℕ) (channels : Channels) → IsEnd 59 text 0 end → (word (take end text) ≢ codes "rtp/avp/tcp") → IsTaken text channels → ⊥
+pub other_protocol : (text : List ℕ) (end : ℕ) (channels : Channels) → IsEnd 59 text 0 end
+    → (word (take end text) ≢ codes "rtp/avp/tcp") → IsTaken text channels → ⊥
 other_protocol text end channels e other t =
     let same : t.end ≡ end = end_once t.first.end e in
     let P : ℕ → Type 0 = λ n. word (take n text) ≡ codes "rtp/avp/tcp" in
     other (subst P same t.protocol)
 
 -- an alternative with that first part and no other part is taken with its channels
-pub taken_channels : {text : List ℕ} {end : ℕ} (o : Option Channels) → IsEnd 59 text 0 end → word (take end text) ≡ codes "rtp/avp/tcp" → NoPiece 59 text IsOther →
-    MatchOption o ((channels : Channels) → ¬ HasChannels text channels) (HasChannels text) → MatchOption o ((channels : Channels) → ¬ IsTaken text channels) (IsTaken text)
+pub taken_channels : {text : List ℕ} {end : ℕ} (o : Option Channels) → IsEnd 59 text 0 end →
+    word (take end text) ≡ codes "rtp/avp/tcp" → NoPiece 59 text IsOther →
+    MatchOption o ((channels : Channels) → ¬ HasChannels text channels) (HasChannels text)
+    → MatchOption o ((channels : Channels) → ¬ IsTaken text channels) (IsTaken text)
 taken_channels {text} {end} None e protocol plain h = λ channels t. h channels t.has
 taken_channels {text} {end} (Some channels) e protocol plain h =
     record { end = end; first = record { start = inl refl; end = e }; protocol = protocol; plain = plain; has = h }

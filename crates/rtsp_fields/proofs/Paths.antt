@@ -12,7 +12,8 @@ use Rattle.rtsp_fields.specs.Urls.{IsTail, NamesFilm}
 -- a good name has no `/`
 no_slash : (name : List ℕ) (k : ℕ) → is_good_name name ≡ true → k < length name → get_or name k 0 ≢ 47
 no_slash name k good inside = λ slash.
-    let bytes = and_parts (nat_lt 0 (length name) && nat_le (length name) 64 && not (slice_index name 0 == 46)) (list_all is_name_byte name) good in
+    let bytes = and_parts (nat_lt 0 (length name) && nat_le (length name) 64 && not (slice_index name 0 == 46))
+    (list_all is_name_byte name) good in
     let other : is_name_byte (get_or name k 0) ≡ false = rw slash refl in
     let wrong : true ≡ false = sym bytes.1 ∙ list_all_at is_name_byte name k 0 inside other in
     cc
@@ -36,7 +37,8 @@ path_end name tail good is_tail = record {
   ends = λ inside.
       let some : 0 < length tail = omega (arith, inside, length-append (47 ∷ name) tail) in
       let zero : 1 + length name - (1 + length name) ≡ 0 = omega arith in
-      get_or-append_right (47 ∷ name) tail (1 + length name) (1 + length name) 0 (omega arith) (omega arith) ∙ ap (λ n. get_or tail n 0) zero ∙ first_of_tail tail is_tail some;
+      get_or-append_right (47 ∷ name) tail (1 + length name) (1 + length name) 0 (omega arith) (omega arith)
+      ∙ ap (λ n. get_or tail n 0) zero ∙ first_of_tail tail is_tail some;
 }
 
 pub film_path : (name tail : List ℕ) → is_good_name name ≡ true → IsTail tail → NamesFilm (47 ∷ name ++ tail) name
@@ -46,7 +48,8 @@ film_path name tail good is_tail =
     let after : drop (1 + length name) (47 ∷ name ++ tail) ≡ tail = drop_at (47 ∷ name) tail (1 + length name) (omega arith) in
     let left : length (47 ∷ name ++ tail) - (1 + length name) ≡ length tail = omega (arith, length-append (47 ∷ name) tail) in
     let whole : slice_range (47 ∷ name ++ tail) (1 + length name) (length (47 ∷ name ++ tail)) ≡ tail =
-    ap (λ (xs : List ℕ). take (length (47 ∷ name ++ tail) - (1 + length name)) xs) after ∙ take_all (length (47 ∷ name ++ tail) - (1 + length name)) tail (omega (arith, left)) in
+    ap (λ (xs : List ℕ). take (length (47 ∷ name ++ tail) - (1 + length name)) xs) after
+    ∙ take_all (length (47 ∷ name ++ tail) - (1 + length name)) tail (omega (arith, left)) in
     record {
       slash = refl;
       end = 1 + length name;
@@ -78,7 +81,8 @@ path_written (x ∷ p) name n =
     let tail : slice_range (x ∷ p) n.end (length (x ∷ p)) ≡ drop (n.end - 1) p =
     ap (λ (xs : List ℕ). take (length (x ∷ p) - n.end) xs) after ∙ take_all (length (x ∷ p) - n.end) (drop (n.end - 1) p) left in
     let whole : x ∷ p ≡ 47 ∷ (name ++ drop (n.end - 1) p) =
-    ap (λ y. y ∷ p) n.slash ∙ ap (λ l. 47 ∷ l) (sym (take-append-drop (n.end - 1) p)) ∙ ap (λ l. 47 ∷ (l ++ drop (n.end - 1) p)) (sym n.name_is) in
+    ap (λ y. y ∷ p) n.slash ∙ ap (λ l. 47 ∷ l) (sym (take-append-drop (n.end - 1) p))
+    ∙ ap (λ l. 47 ∷ (l ++ drop (n.end - 1) p)) (sym n.name_is) in
     tail_path (x ∷ p) name (drop (n.end - 1) p) whole (subst IsTail tail n.tail)
 
 pub written_named : (path name : List ℕ) → is_good_name name ≡ true → IsFilmPath path name → NamesFilm path name

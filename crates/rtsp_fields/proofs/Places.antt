@@ -15,10 +15,12 @@ end_once {a} {b} x y =
 -- no piece begins after the place where one begins and before its end
 pub no_start_inside : {c : ℕ} {text : List ℕ} {from to k : ℕ} → IsEnd c text from to → from < k → k ≤ to → IsStart c text k → ⊥
 no_start_inside {c} {text} {from} e after before (inl zero) = omega (arith, after, zero)
-no_start_inside {c} {text} {from} {k} e after before (inr s) = e.none (k - 1) (omega (arith, after)) (omega (arith, after, before)) s.1
+no_start_inside {c} {text} {from} {k} e after before (inr s) =
+    e.none (k - 1) (omega (arith, after)) (omega (arith, after, before)) s.1
 
 -- the piece that begins at `from` isn't such a text either
-pub none_before_next : {c : ℕ} {text : List ℕ} {from to : ℕ} (P : List ℕ → Type 0) → IsEnd c text from to → NoneBefore c text from P →
+pub none_before_next : {c : ℕ} {text : List ℕ} {from to : ℕ} (P : List ℕ → Type 0) → IsEnd c text from to →
+    NoneBefore c text from P →
     ¬ P (slice_range text from to) → NoneBefore c text (to + 1) P
 none_before_next {c} {text} {from} {to} P e before here = λ k end below piece.
     elim (cases_order k from) [
@@ -37,7 +39,8 @@ next_start c text from to e inside =
     inr (omega arith, let same : to + 1 - 1 ≡ to = omega arith in rw same (e.ends (omega (arith, inside))))
 
 -- all pieces were passed
-pub passed_all : (c : ℕ) (text : List ℕ) (P : List ℕ → Type 0) (from : ℕ) → length text < from → NoneBefore c text from P → NoPiece c text P
+pub passed_all : (c : ℕ) (text : List ℕ) (P : List ℕ → Type 0) (from : ℕ) → length text < from
+    → NoneBefore c text from P → NoPiece c text P
 passed_all c text P from past before = λ k end piece. before k end (omega (arith, past, piece.end.after, piece.end.within)) piece
 
 -- the first piece of one kind
@@ -47,7 +50,8 @@ pub record IsFirstPiece (P : List ℕ → Type 0) (c : ℕ) (text : List ℕ) (a
   pub first : NoneBefore c text a P
 
 -- it is one piece
-pub first_once : {c : ℕ} {text : List ℕ} {a b a' b' : ℕ} (P : List ℕ → Type 0) → IsFirstPiece P c text a b → IsFirstPiece P c text a' b' →
+pub first_once : {c : ℕ} {text : List ℕ} {a b a' b' : ℕ} (P : List ℕ → Type 0) → IsFirstPiece P c text a b →
+    IsFirstPiece P c text a' b' →
     (a ≡ a') × (b ≡ b')
 first_once {c} {text} {a} {b} {a'} {b'} P x y =
     let same : a ≡ a' = elim (cases_order a a') [

@@ -28,7 +28,8 @@ at_place from to k low =
     let same : suc (suc (suc (suc (k - 4)))) ≡ k = omega (arith, low) in
     ap (λ n. get_or (codes "npt=" ++ (from ++ 45 ∷ to)) n 0) same
 
-pub span_read : (from to : List ℕ) (span : Span) → list_all (other_than 45) from ≡ true → IsOrigin from span.from → IsLimit to span.to →
+pub span_read : (from to : List ℕ) (span : Span) → list_all (other_than 45) from ≡ true →
+    IsOrigin from span.from → IsLimit to span.to →
     IsSpan (codes "npt=" ++ (from ++ 45 ∷ to)) span
 unfolding range_text
 span_read from to span free begins ends =
@@ -39,8 +40,10 @@ span_read from to span free begins ends =
     let front : slice_range text 4 dash ≡ from = take_at from (45 ∷ to) (dash - 4) (omega arith) in
     let whole : (codes "npt=" ++ from ++ 45 ∷ []) ++ to ≡ text =
     append_assoc (codes "npt=" ++ from) (45 ∷ []) to ∙ append_assoc (codes "npt=") from (45 ∷ to) in
-    let size : length (codes "npt=" ++ from ++ 45 ∷ []) ≡ dash + 1 = omega (arith, length-append (codes "npt=" ++ from) (45 ∷ []), length-append (codes "npt=") from) in
-    let rest : drop (dash + 1) text ≡ to = ap (drop (dash + 1)) (sym whole) ∙ drop_at (codes "npt=" ++ from ++ 45 ∷ []) to (dash + 1) size in
+    let size : length (codes "npt=" ++ from ++ 45 ∷ []) ≡ dash + 1 =
+    omega (arith, length-append (codes "npt=" ++ from) (45 ∷ []), length-append (codes "npt=") from) in
+    let rest : drop (dash + 1) text ≡ to =
+    ap (drop (dash + 1)) (sym whole) ∙ drop_at (codes "npt=" ++ from ++ 45 ∷ []) to (dash + 1) size in
     let back : slice_range text (dash + 1) (length text) ≡ to =
     ap (λ (l : List ℕ). take (length text - (dash + 1)) l) rest ∙ take_all (length text - (dash + 1)) to (omega (arith, long)) in
     record {
@@ -52,7 +55,8 @@ span_read from to span free begins ends =
         none = λ k low below is. none (k - 4) (omega arith) (omega (arith, low, below))
             (sym (get_or_append_left from (45 ∷ to) 0 (k - 4) (omega (arith, low, below))) ∙ at_place from to k low ∙ is);
         ends = λ inside.
-            sym (at_place from to dash (omega arith)) ∙ ap (λ n. get_or (from ++ 45 ∷ to) n 0) (let e : dash - 4 ≡ length from + 0 = omega arith in e)
+            sym (at_place from to dash (omega arith))
+            ∙ ap (λ n. get_or (from ++ 45 ∷ to) n 0) (let e : dash - 4 ≡ length from + 0 = omega arith in e)
             ∙ get_or-append-add from (45 ∷ to) 0 0;
       };
       inside = omega (arith, long);
@@ -61,8 +65,10 @@ span_read from to span free begins ends =
     }
 
 -- a text of seconds has no `-`
-both : (a b : List ℕ) → list_all (other_than 45) a ≡ true → list_all (other_than 45) b ≡ true → list_all (other_than 45) (a ++ b) ≡ true
-both a b one other = list_all-append (other_than 45) a b ∙ and_from (list_all (other_than 45) a) (list_all (other_than 45) b) one other
+both : (a b : List ℕ) → list_all (other_than 45) a ≡ true → list_all (other_than 45) b ≡ true
+    → list_all (other_than 45) (a ++ b) ≡ true
+both a b one other =
+    list_all-append (other_than 45) a b ∙ and_from (list_all (other_than 45) a) (list_all (other_than 45) b) one other
 
 number_free : (n : ℕ) → n < 2 ^ 64 → list_all (other_than 45) (decimal n) ≡ true
 number_free n fits = digits_other 45 (decimal n) refl (digits_decimal decimal_numerals n fits)
@@ -78,12 +84,15 @@ seconds_free ms small =
     (number_free (ms / 10 % 10) (omega arith)))
     (number_free (ms % 10) (omega arith))
 
-pub from_read : (ms : ℕ) → ms < 10 ^ 12 → IsSpan (codes "npt=" ++ (seconds_text ms ++ codes "-")) (record { from = At (ms * 1000000); to = None })
-from_read ms small = span_read (seconds_text ms) [] (record { from = At (ms * 1000000); to = None }) (seconds_free ms (omega (arith, small)))
+pub from_read : (ms : ℕ) → ms < 10 ^ 12
+    → IsSpan (codes "npt=" ++ (seconds_text ms ++ codes "-")) (record { from = At (ms * 1000000); to = None })
+from_read ms small =
+    span_read (seconds_text ms) [] (record { from = At (ms * 1000000); to = None }) (seconds_free ms (omega (arith, small)))
     (seconds_read ms small) refl
 
 pub between_read : (ms end_ms : ℕ) → ms < 10 ^ 12 → end_ms < 10 ^ 12 →
-    IsSpan (codes "npt=" ++ (seconds_text ms ++ (codes "-" ++ seconds_text end_ms))) (record { from = At (ms * 1000000); to = Some (end_ms * 1000000) })
+    IsSpan (codes "npt=" ++ (seconds_text ms ++ (codes "-" ++ seconds_text end_ms)))
+    (record { from = At (ms * 1000000); to = Some (end_ms * 1000000) })
 between_read ms end_ms small fits =
     span_read (seconds_text ms) (seconds_text end_ms) (record { from = At (ms * 1000000); to = Some (end_ms * 1000000) })
     (seconds_free ms (omega (arith, small))) (seconds_read ms small) (seconds_read end_ms fits)

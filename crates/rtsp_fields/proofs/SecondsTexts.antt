@@ -26,8 +26,15 @@ one_line-seconds ms small =
 -- a digit's byte
 value_of_digit : (a : ℕ) → a < 10 → digit_value (48 + a) ≡ a
 value_of_digit a small =
-    cond-false (nat_lt (48 + a) 48) 36 (cond (nat_lt (48 + a) 58) (48 + a - 48) (cond (nat_lt (48 + a) 65) 36 (cond (nat_lt (48 + a) 91) (48 + a - 55) (cond (nat_lt (48 + a) 97) 36 (cond (nat_lt (48 + a) 123) (48 + a - 87) 36))))) (grind (arith, nat_tests))
-    ∙ cond-true (nat_lt (48 + a) 58) (48 + a - 48) (cond (nat_lt (48 + a) 65) 36 (cond (nat_lt (48 + a) 91) (48 + a - 55) (cond (nat_lt (48 + a) 97) 36 (cond (nat_lt (48 + a) 123) (48 + a - 87) 36)))) (grind (arith, nat_tests))
+    cond-false (nat_lt (48 + a) 48) 36
+    (cond (nat_lt (48 + a) 58) (48 + a - 48)
+    (cond (nat_lt (48 + a) 65) 36
+    (cond (nat_lt (48 + a) 91) (48 + a - 55)
+    (cond (nat_lt (48 + a) 97) 36 (cond (nat_lt (48 + a) 123) (48 + a - 87) 36))))) (grind (arith, nat_tests))
+    ∙ cond-true (nat_lt (48 + a) 58) (48 + a - 48)
+    (cond (nat_lt (48 + a) 65) 36
+    (cond (nat_lt (48 + a) 91) (48 + a - 55)
+    (cond (nat_lt (48 + a) 97) 36 (cond (nat_lt (48 + a) 123) (48 + a - 87) 36)))) (grind (arith, nat_tests))
     ∙ omega arith
 
 is_digit_byte : (a : ℕ) → a < 10 → is_ascii_digit (48 + a) ≡ true
@@ -57,15 +64,18 @@ digit_not_point w k all inside = λ point.
     cc
 
 -- digits, a point and a fraction are a time
-pub time_of : (w : List ℕ) (n : ℕ) (digits : List ℕ) (part : ℕ) → IsDigits 9 w n → IsFraction digits part → IsTime (w ++ 46 ∷ digits) (n * 1000000000 + part)
+pub time_of : (w : List ℕ) (n : ℕ) (digits : List ℕ) (part : ℕ) → IsDigits 9 w n → IsFraction digits part
+    → IsTime (w ++ 46 ∷ digits) (n * 1000000000 + part)
 time_of w n digits part d is_part =
     let text = w ++ 46 ∷ digits in
     let size : length text ≡ length w + (length digits + 1) = length-append w (46 ∷ digits) ∙ omega arith in
     let all : list_all is_ascii_digit w ≡ true = (and_parts (nat_lt 0 (length w)) (list_all is_ascii_digit w) d.decimal).1 in
     let rest : drop (length w + 1) text ≡ digits =
-    ap (drop (length w + 1)) (sym (append_assoc w (46 ∷ []) digits)) ∙ drop_at (w ++ 46 ∷ []) digits (length w + 1) (length-append w (46 ∷ [])) in
+    ap (drop (length w + 1)) (sym (append_assoc w (46 ∷ []) digits))
+    ∙ drop_at (w ++ 46 ∷ []) digits (length w + 1) (length-append w (46 ∷ [])) in
     let whole : slice_range text (length w + 1) (length text) ≡ digits =
-    ap (λ (xs : List ℕ). take (length text - (length w + 1)) xs) rest ∙ take_all (length text - (length w + 1)) digits (omega (arith, size)) in
+    ap (λ (xs : List ℕ). take (length text - (length w + 1)) xs) rest
+    ∙ take_all (length text - (length w + 1)) digits (omega (arith, size)) in
     record {
       point = length w;
       point_is = record {
@@ -88,7 +98,8 @@ seconds_digits n below =
     let fits : n < 2 ^ 64 = omega (arith, below) in
     let w = decimal n in
     record {
-      decimal = and_from (nat_lt 0 (length w)) (list_all is_ascii_digit w) (lt-ltb 0 (length w) (decimal_nonempty n fits)) (digits_decimal decimal_numerals n fits);
+      decimal = and_from (nat_lt 0 (length w)) (list_all is_ascii_digit w)
+          (lt-ltb 0 (length w) (decimal_nonempty n fits)) (digits_decimal decimal_numerals n fits);
       short = length-decimal-le 9 n (omega arith) below fits;
       value = sym (digits_value-decimal decimal_numerals n fits);
     }
@@ -97,7 +108,11 @@ seconds_digits n below =
 seconds_text-is : (ms : ℕ) → seconds_text ms ≡ decimal (ms / 1000) ++ 46 ∷ three_digits (ms / 100 % 10) (ms / 10 % 10) (ms % 10)
 unfolding three_digits
 seconds_text-is ms =
-    rw (decimal_digit (ms / 100 % 10) (omega arith), decimal_digit (ms / 10 % 10) (omega arith), decimal_digit (ms % 10) (omega arith)) (simp append_assoc)
+    rw (
+      decimal_digit (ms / 100 % 10) (omega arith),
+      decimal_digit (ms / 10 % 10) (omega arith),
+      decimal_digit (ms % 10) (omega arith),
+    ) (simp append_assoc)
 
 pub seconds_read : (ms : ℕ) → ms < 10 ^ 12 → IsTime (seconds_text ms) (ms * 1000000)
 seconds_read ms small =
@@ -105,7 +120,8 @@ seconds_read ms small =
     let a = ms / 100 % 10 in
     let b = ms / 10 % 10 in
     let c = ms % 10 in
-    let time = time_of (decimal (ms / 1000)) (ms / 1000) (three_digits a b c) ((a * 100 + b * 10 + c) * 1000000) d (three_fraction a b c (omega arith) (omega arith) (omega arith)) in
+    let time = time_of (decimal (ms / 1000)) (ms / 1000) (three_digits a b c) ((a * 100 + b * 10 + c) * 1000000)
+    d (three_fraction a b c (omega arith) (omega arith) (omega arith)) in
     let same : ms / 1000 * 1000000000 + (a * 100 + b * 10 + c) * 1000000 ≡ ms * 1000000 = omega arith in
     subst (λ (t : List ℕ). IsTime t (ms * 1000000)) (sym (seconds_text-is ms))
     (subst (λ (v : ℕ). IsTime (decimal (ms / 1000) ++ 46 ∷ three_digits a b c) v) same time)

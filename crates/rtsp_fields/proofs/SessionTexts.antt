@@ -21,7 +21,8 @@ letters_other (b ∷ text) all =
     let parts = and_parts (is_ascii_alphanumeric b) (list_all is_ascii_alphanumeric text) all in
     and_from (other_than 59 b) (list_all (other_than 59) text) (letter_other b parts.0) (letters_other text parts.1)
 
-letter_at : (text : List ℕ) (k : ℕ) → list_all is_ascii_alphanumeric text ≡ true → k < length text → is_ascii_alphanumeric (get_or text k 0) ≡ true
+letter_at : (text : List ℕ) (k : ℕ) → list_all is_ascii_alphanumeric text ≡ true → k < length text
+    → is_ascii_alphanumeric (get_or text k 0) ≡ true
 letter_at text k all inside = grind (arith, common_steps, list_all_at)
 
 letter_blank : (b : ℕ) → is_ascii_alphanumeric b ≡ true → is_blank b ≡ false
@@ -39,7 +40,8 @@ id_read id all some = record {
   same = ap (λ (t : List ℕ). lower (without_blanks t)) (take_all (length id) id (omega arith)) ∙ ap lower (id_bare id all some);
 }
 
-pub id_read_before : (id rest : List ℕ) → list_all is_ascii_alphanumeric id ≡ true → 0 < length id → IsSession (id ++ 59 ∷ rest) id
+pub id_read_before : (id rest : List ℕ) → list_all is_ascii_alphanumeric id ≡ true → 0 < length id
+    → IsSession (id ++ 59 ∷ rest) id
 unfolding text_of
 id_read_before id rest all some = record {
   end = length id;

@@ -38,7 +38,8 @@ record IsOnePart (P : List ℕ → Type 0) (part : List ℕ) : Type 0 where
   isnt : ¬ P part
 
 -- none of the parts is such a text
-none_of : {part : List ℕ} (P : List ℕ → Type 0) → ((part : List ℕ) → IsOtherParameter part → ¬ P part) → (parts : List (List ℕ)) → IsOnePart P part →
+none_of : {part : List ℕ} (P : List ℕ → Type 0) → ((part : List ℕ) → IsOtherParameter part → ¬ P part) →
+    (parts : List (List ℕ)) → IsOnePart P part →
     All IsOtherParameter parts → NoPiece 59 (joined part parts) P
 unfolding joined
 none_of {part} P is_other [] one all = none_whole 59 part P one.no_semicolon one.isnt
@@ -48,7 +49,8 @@ none_of P is_other (next ∷ more) one all =
     (none_of P is_other more (record { no_semicolon = no_semicolon next other; isnt = is_other next other })
     (All-tail IsOtherParameter next more all))
 
-first_of : (part : List ℕ) (parts : List (List ℕ)) → HasNone 59 part 0 (length part) → IsPiece 59 (joined part parts) 0 (length part)
+first_of : (part : List ℕ) (parts : List (List ℕ)) → HasNone 59 part 0 (length part)
+    → IsPiece 59 (joined part parts) 0 (length part)
 unfolding joined
 first_of part [] none = piece_whole 59 part none
 first_of part (next ∷ more) none = piece_first 59 part (joined next more) none
@@ -58,7 +60,8 @@ unfolding joined
 front_of part [] = take_all (length part - 0) part (omega arith)
 front_of part (next ∷ more) = slice_first 59 part (joined next more)
 
-no_comma : (part : List ℕ) (parts : List (List ℕ)) → list_all (other_than 44) part ≡ true → All IsOtherParameter parts → list_all (other_than 44) (joined part parts) ≡ true
+no_comma : (part : List ℕ) (parts : List (List ℕ)) → list_all (other_than 44) part ≡ true
+    → All IsOtherParameter parts → list_all (other_than 44) (joined part parts) ≡ true
 unfolding joined text_of other_than
 no_comma part [] none all = none
 no_comma part (next ∷ more) none all =
@@ -77,9 +80,11 @@ taken parts all = record {
   end = 11;
   first = first_of protocol parts protocol_none;
   protocol = ap word (front_of protocol parts);
-  plain = none_of IsOther plain parts (record { no_semicolon = protocol_none; isnt = first_letter protocol 114 refl (omega arith) }) all;
+  plain = none_of IsOther plain parts
+      (record { no_semicolon = protocol_none; isnt = first_letter protocol 114 refl (omega arith) }) all;
   has = inr (record {
-    none = none_of NamesChannels nameless parts (record { no_semicolon = protocol_none; isnt = names_none protocol 114 refl (omega arith) }) all;
+    none = none_of NamesChannels nameless parts
+        (record { no_semicolon = protocol_none; isnt = names_none protocol 114 refl (omega arith) }) all;
     media = refl;
     control = refl;
   });
@@ -90,7 +95,8 @@ unfolding other_than
 comma_free = refl
 
 -- the channels are 0 and 1
-pub default_read : (parts : List (List ℕ)) → All IsOtherParameter parts → IsTransport (codes "RTP/AVP/TCP" ++ flat_map (λ p. codes ";" ++ p) parts) (record { media = 0; control = 1 })
+pub default_read : (parts : List (List ℕ)) → All IsOtherParameter parts
+    → IsTransport (codes "RTP/AVP/TCP" ++ flat_map (λ p. codes ";" ++ p) parts) (record { media = 0; control = 1 })
 default_read parts all =
     let text = joined protocol parts in
     let whole : slice_range text 0 (length text) ≡ text = take_all (length text - 0) text (omega arith) in

@@ -14,13 +14,15 @@ comma_free text none = none_from 44 text none
 
 -- the one alternative of a value without a comma
 one_taken : (text : List ℕ) (channels : Channels) → HasNoComma text → IsTransport text channels → IsTaken text channels
-one_taken text channels none t = subst (λ (s : List ℕ). IsTaken s channels) (whole_slice 44 text t.from t.to (comma_free text none) t.piece) t.taken
+one_taken text channels none t =
+    subst (λ (s : List ℕ). IsTaken s channels) (whole_slice 44 text t.from t.to (comma_free text none) t.piece) t.taken
 
 text_is : (first rest : List ℕ) → text_of 44 first rest ≡ first ++ codes "," ++ rest
 unfolding text_of
 text_is first rest = sym (append_assoc first (codes ",") rest)
 
-pub first_taken : (first rest : List ℕ) (channels : Channels) → HasNoComma first → IsTransport first channels → IsTransport (first ++ codes "," ++ rest) channels
+pub first_taken : (first rest : List ℕ) (channels : Channels) → HasNoComma first → IsTransport first channels
+    → IsTransport (first ++ codes "," ++ rest) channels
 first_taken first rest channels none is = subst (λ (t : List ℕ). IsTransport t channels) (text_is first rest) (record {
   from = 0;
   to = length first;
@@ -29,43 +31,52 @@ first_taken first rest channels none is = subst (λ (t : List ℕ). IsTransport 
   first = λ k end below p. absurd (omega (arith, below));
 })
 
-pub later_taken : (first rest : List ℕ) (channels : Channels) → HasNoComma first → ((any : Channels) → ¬ IsTransport first any) → IsTransport rest channels → IsTransport (first ++ codes "," ++ rest) channels
+pub later_taken : (first rest : List ℕ) (channels : Channels) → HasNoComma first
+    → ((any : Channels) → ¬ IsTransport first any) → IsTransport rest channels → IsTransport (first ++ codes "," ++ rest) channels
 later_taken first rest channels none refused is =
     let free = comma_free first none in
     subst (λ (t : List ℕ). IsTransport t channels) (text_is first rest) (record {
       from = length first + 1 + is.from;
       to = length first + 1 + is.to;
       piece = piece_later 44 first rest is.from is.to is.piece;
-      taken = subst (λ (t : List ℕ). IsTaken t channels) (sym (slice_later 44 first rest is.from is.to is.piece.end.after)) is.taken;
+      taken = subst (λ (t : List ℕ). IsTaken t channels)
+          (sym (slice_later 44 first rest is.from is.to is.piece.end.after)) is.taken;
       first = none_before CanBeTaken free (λ can. refused can.0 (alone first can.0 free can.1)) is.first;
     })
 
 -- an alternative whose last part asks for another thing isn't taken
-pub not_taken : (front part : List ℕ) (channels : Channels) → HasNoComma (front ++ codes ";" ++ part) → list_all (other_than 59) part ≡ true → IsOther part → ¬ IsTransport (front ++ codes ";" ++ part) channels
+pub not_taken : (front part : List ℕ) (channels : Channels) → HasNoComma (front ++ codes ";" ++ part)
+    → list_all (other_than 59) part ≡ true → IsOther part → ¬ IsTransport (front ++ codes ";" ++ part) channels
 unfolding text_of
 not_taken front part channels none plain other = λ is.
     let text = text_of 59 front part in
     let same : front ++ codes ";" ++ part ≡ text = append_assoc front (codes ";") part in
-    let taken : IsTaken text channels = subst (λ (t : List ℕ). IsTaken t channels) same (one_taken (front ++ codes ";" ++ part) channels none is) in
+    let taken : IsTaken text channels =
+    subst (λ (t : List ℕ). IsTaken t channels) same (one_taken (front ++ codes ";" ++ part) channels none is) in
     let piece = piece_later 59 front part 0 (length part) (piece_whole 59 part (none_from 59 part plain)) in
     let is_part : slice_range text (length front + 1 + 0) (length front + 1 + length part) ≡ part =
     slice_later 59 front part 0 (length part) (omega arith) ∙ take_all (length part - 0) part (omega arith) in
     taken.plain (length front + 1 + 0) (length front + 1 + length part) piece (subst IsOther (sym is_part) other)
 
-pub multicast_not_taken : (front : List ℕ) (channels : Channels) → HasNoComma (front ++ codes ";multicast") → ¬ IsTransport (front ++ codes ";multicast") channels
+pub multicast_not_taken : (front : List ℕ) (channels : Channels) → HasNoComma (front ++ codes ";multicast")
+    → ¬ IsTransport (front ++ codes ";multicast") channels
 unfolding other_than
 multicast_not_taken front channels none = λ is.
-    let same : front ++ codes ";multicast" ≡ front ++ codes ";" ++ codes "multicast" = sym (append_assoc front (codes ";") (codes "multicast")) in
-    not_taken front (codes "multicast") channels (subst HasNoComma same none) refl (inl refl) (subst (λ (t : List ℕ). IsTransport t channels) same is)
+    let same : front ++ codes ";multicast" ≡ front ++ codes ";" ++ codes "multicast" =
+    sym (append_assoc front (codes ";") (codes "multicast")) in
+    not_taken front (codes "multicast") channels (subst HasNoComma same none) refl (inl refl)
+    (subst (λ (t : List ℕ). IsTransport t channels) same is)
 
 -- the sixth byte tells the modes apart
 other_mode : (byte : ℕ) (rest : List ℕ) → byte ≢ 114 → word (codes "mode=record") ≢ codes "mode=" ++ byte ∷ rest
 other_mode byte rest other = λ e. other (sym (ap (λ (l : List ℕ). get_or l 5 0) e))
 
-pub record_not_taken : (front : List ℕ) (channels : Channels) → HasNoComma (front ++ codes ";mode=record") → ¬ IsTransport (front ++ codes ";mode=record") channels
+pub record_not_taken : (front : List ℕ) (channels : Channels) → HasNoComma (front ++ codes ";mode=record")
+    → ¬ IsTransport (front ++ codes ";mode=record") channels
 unfolding other_than
 record_not_taken front channels none = λ is.
-    let same : front ++ codes ";mode=record" ≡ front ++ codes ";" ++ codes "mode=record" = sym (append_assoc front (codes ";") (codes "mode=record")) in
+    let same : front ++ codes ";mode=record" ≡ front ++ codes ";" ++ codes "mode=record" =
+    sym (append_assoc front (codes ";") (codes "mode=record")) in
     not_taken front (codes "mode=record") channels (subst HasNoComma same none) refl
     (inr (refl, other_mode 112 (codes "lay") (omega arith), other_mode 34 (codes "play\"") (omega arith)))
     (subst (λ (t : List ℕ). IsTransport t channels) same is)

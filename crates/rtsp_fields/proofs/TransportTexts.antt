@@ -28,7 +28,8 @@ here_of c a rest k inside = get_or_append_left a (c ∷ rest) 0 k inside
 
 cut_of : (c : ℕ) (a rest : List ℕ) → get_or (text_of c a rest) (length a) 0 ≡ c
 unfolding text_of
-cut_of c a rest = ap (λ n. get_or (a ++ c ∷ rest) n 0) (let e : length a ≡ length a + 0 = omega arith in e) ∙ get_or-append-add a (c ∷ rest) 0 0
+cut_of c a rest =
+    ap (λ n. get_or (a ++ c ∷ rest) n 0) (let e : length a ≡ length a + 0 = omega arith in e) ∙ get_or-append-add a (c ∷ rest) 0 0
 
 later_of : (c : ℕ) (a rest : List ℕ) (k : ℕ) → get_or (text_of c a rest) (length a + 1 + k) 0 ≡ get_or rest k 0
 unfolding text_of
@@ -41,7 +42,8 @@ unfolding text_of
 long_of c a rest = length-append a (c ∷ rest) ∙ omega arith
 
 -- a piece of the rest is one of the text
-pub piece_later : (c : ℕ) (a rest : List ℕ) (k end : ℕ) → IsPiece c rest k end → IsPiece c (text_of c a rest) (length a + 1 + k) (length a + 1 + end)
+pub piece_later : (c : ℕ) (a rest : List ℕ) (k end : ℕ) → IsPiece c rest k end
+    → IsPiece c (text_of c a rest) (length a + 1 + k) (length a + 1 + end)
 piece_later c a rest k end p = record {
   start = inr (omega arith, start p.start);
   end = record {
@@ -56,7 +58,9 @@ piece_later c a rest k end p = record {
 }
   where
     start : IsStart c rest k → get_or (text_of c a rest) (length a + 1 + k - 1) 0 ≡ c
-    start (inl e) = ap (λ n. get_or (text_of c a rest) n 0) (let s : length a + 1 + k - 1 ≡ length a = omega (arith, e) in s) ∙ cut_of c a rest
+    start (inl e) =
+        ap (λ n. get_or (text_of c a rest) n 0) (let s : length a + 1 + k - 1 ≡ length a =
+        omega (arith, e) in s) ∙ cut_of c a rest
     start (inr e) =
         ap (λ n. get_or (text_of c a rest) n 0) (let s : length a + 1 + k - 1 ≡ length a + 1 + (k - 1) = omega (arith, e.0) in s)
         ∙ later_of c a rest (k - 1) ∙ e.1
@@ -95,7 +99,9 @@ end_first c a rest end none is =
       | inr fits ↦ omega (arith, fits)
     ] in
     elim (cases_lt end (length a)) [
-      | inl inside ↦ absurd (none end (omega arith) inside (sym (here_of c a rest end inside) ∙ is.ends (omega (arith, inside, long_of c a rest))))
+      | inl inside ↦
+          absurd (none end (omega arith) inside
+          (sym (here_of c a rest end inside) ∙ is.ends (omega (arith, inside, long_of c a rest))))
       | inr least ↦ omega (arith, least, most)
     ]
 
@@ -122,16 +128,19 @@ piece_cases {c} {a} {rest} {k} {end} none p = go p.start
                   end = record {
                     after = omega (arith, p.end.after);
                     within = omega (arith, p.end.within, long_of c a rest);
-                    none = λ j low below is. p.end.none (L + j) (omega (arith, low)) (omega (arith, below)) (later_of c a rest j ∙ is);
+                    none = λ j low below is. p.end.none (L + j) (omega (arith, low)) (omega (arith, below))
+                        (later_of c a rest j ∙ is);
                     ends = λ inside.
-                        sym (later_of c a rest (end - L)) ∙ ap (λ n. get_or (text_of c a rest) n 0) to ∙ p.end.ends (omega (arith, inside, long_of c a rest));
+                        sym (later_of c a rest (end - L)) ∙ ap (λ n. get_or (text_of c a rest) n 0) to
+                        ∙ p.end.ends (omega (arith, inside, long_of c a rest));
                   };
                 };
               })
               )
         ]
       where
-        start : length a + 1 + (k - (length a + 1)) ≡ k → get_or (text_of c a rest) (k - 1) 0 ≡ c → IsStart c rest (k - (length a + 1))
+        start : length a + 1 + (k - (length a + 1)) ≡ k → get_or (text_of c a rest) (k - 1) 0 ≡ c
+            → IsStart c rest (k - (length a + 1))
         start from is =
             elim (cases_lt 0 (k - (length a + 1))) [
               | inl some ↦ (
@@ -145,7 +154,8 @@ pub slice_first : (c : ℕ) (a rest : List ℕ) → slice_range (text_of c a res
 unfolding text_of
 slice_first c a rest = take_at a (c ∷ rest) (length a - 0) (omega arith)
 
-pub slice_later : (c : ℕ) (a rest : List ℕ) (k end : ℕ) → k ≤ end → slice_range (text_of c a rest) (length a + 1 + k) (length a + 1 + end) ≡ slice_range rest k end
+pub slice_later : (c : ℕ) (a rest : List ℕ) (k end : ℕ) → k ≤ end
+    → slice_range (text_of c a rest) (length a + 1 + k) (length a + 1 + end) ≡ slice_range rest k end
 unfolding text_of
 slice_later c a rest k end order =
     let cut : drop (length a + 1 + k) (a ++ c ∷ rest) ≡ drop k rest = dropped a rest k in
@@ -155,14 +165,17 @@ slice_later c a rest k end order =
     dropped : (front rest : List ℕ) (k : ℕ) → drop (length front + 1 + k) (front ++ c ∷ rest) ≡ drop k rest
     dropped [] rest k = ap (λ n. drop n (c ∷ rest)) (let e : 0 + 1 + k ≡ suc k = omega arith in e)
     dropped (x ∷ front) rest k =
-        ap (λ n. drop n (x ∷ (front ++ c ∷ rest))) (let e : length (x ∷ front) + 1 + k ≡ suc (length front + 1 + k) = omega arith in e)
+        ap (λ n. drop n (x ∷ (front ++ c ∷ rest)))
+        (let e : length (x ∷ front) + 1 + k ≡ suc (length front + 1 + k) = omega arith in e)
         ∙ dropped front rest k
 
 -- no piece is such a text
-pub none_more : {c : ℕ} {a rest : List ℕ} (P : List ℕ → Type 0) → HasNone c a 0 (length a) → ¬ P a → NoPiece c rest P → NoPiece c (text_of c a rest) P
+pub none_more : {c : ℕ} {a rest : List ℕ} (P : List ℕ → Type 0) → HasNone c a 0 (length a) → ¬ P a
+    → NoPiece c rest P → NoPiece c (text_of c a rest) P
 none_more {c} {a} {rest} P none first more = λ k end p. go k end p (piece_cases none p)
   where
-    go : (k end : ℕ) → IsPiece c (text_of c a rest) k end → ((k ≡ 0) × (end ≡ length a)) ⊎ Later c a rest k end → ¬ P (slice_range (text_of c a rest) k end)
+    go : (k end : ℕ) → IsPiece c (text_of c a rest) k end → ((k ≡ 0) × (end ≡ length a)) ⊎ Later c a rest k end
+        → ¬ P (slice_range (text_of c a rest) k end)
     go k end p (inl e) = λ is.
         let S : ℕ → Type 0 = λ n. P (slice_range (text_of c a rest) n end) in
         let E : ℕ → Type 0 = λ n. P (slice_range (text_of c a rest) 0 n) in
@@ -170,7 +183,8 @@ none_more {c} {a} {rest} P none first more = λ k end p. go k end p (piece_cases
     go k end p (inr l) = λ is.
         let S : ℕ → Type 0 = λ n. P (slice_range (text_of c a rest) n end) in
         let E : ℕ → Type 0 = λ n. P (slice_range (text_of c a rest) (length a + 1 + l.from) n) in
-        more l.from l.to l.piece (subst P (slice_later c a rest l.from l.to l.piece.end.after) (subst E l.to_is (subst S l.from_is is)))
+        more l.from l.to l.piece
+        (subst P (slice_later c a rest l.from l.to l.piece.end.after) (subst E l.to_is (subst S l.from_is is)))
 
 -- the piece of a text without the separator is the whole text
 pub piece_is_whole : (c : ℕ) (a : List ℕ) (k end : ℕ) → HasNone c a 0 (length a) → IsPiece c a k end → (k ≡ 0) × (end ≡ length a)
@@ -194,10 +208,12 @@ whole_slice c a k end none p =
 pub none_whole : (c : ℕ) (a : List ℕ) (P : List ℕ → Type 0) → HasNone c a 0 (length a) → ¬ P a → NoPiece c a P
 none_whole c a P none other = λ k end p is. other (subst P (whole_slice c a k end none p) is)
 
-pub none_before : {c : ℕ} {a rest : List ℕ} {at : ℕ} (P : List ℕ → Type 0) → HasNone c a 0 (length a) → ¬ P a → NoneBefore c rest at P → NoneBefore c (text_of c a rest) (length a + 1 + at) P
+pub none_before : {c : ℕ} {a rest : List ℕ} {at : ℕ} (P : List ℕ → Type 0) → HasNone c a 0 (length a) → ¬ P a
+    → NoneBefore c rest at P → NoneBefore c (text_of c a rest) (length a + 1 + at) P
 none_before {c} {a} {rest} {at} P none first more = λ k end below p. go k end below (piece_cases none p)
   where
-    go : (k end : ℕ) → k < length a + 1 + at → ((k ≡ 0) × (end ≡ length a)) ⊎ Later c a rest k end → ¬ P (slice_range (text_of c a rest) k end)
+    go : (k end : ℕ) → k < length a + 1 + at → ((k ≡ 0) × (end ≡ length a)) ⊎ Later c a rest k end
+        → ¬ P (slice_range (text_of c a rest) k end)
     go k end below (inl e) = λ is.
         let S : ℕ → Type 0 = λ n. P (slice_range (text_of c a rest) n end) in
         let E : ℕ → Type 0 = λ n. P (slice_range (text_of c a rest) 0 n) in
@@ -205,7 +221,8 @@ none_before {c} {a} {rest} {at} P none first more = λ k end below p. go k end b
     go k end below (inr l) = λ is.
         let S : ℕ → Type 0 = λ n. P (slice_range (text_of c a rest) n end) in
         let E : ℕ → Type 0 = λ n. P (slice_range (text_of c a rest) (length a + 1 + l.from) n) in
-        more l.from l.to (omega (arith, below, l.from_is)) l.piece (subst P (slice_later c a rest l.from l.to l.piece.end.after) (subst E l.to_is (subst S l.from_is is)))
+        more l.from l.to (omega (arith, below, l.from_is)) l.piece
+        (subst P (slice_later c a rest l.from l.to l.piece.end.after) (subst E l.to_is (subst S l.from_is is)))
 
 -- no byte is the separator
 unfoldable pub other_than : ℕ → ℕ → Bool
@@ -223,7 +240,8 @@ digit_other : (c b : ℕ) → is_ascii_digit c ≡ false → is_ascii_digit b �
 unfolding other_than
 digit_other c b no_digit digit = grind arith
 
-pub digits_other : (c : ℕ) (ds : List ℕ) → is_ascii_digit c ≡ false → list_all is_ascii_digit ds ≡ true → list_all (other_than c) ds ≡ true
+pub digits_other : (c : ℕ) (ds : List ℕ) → is_ascii_digit c ≡ false → list_all is_ascii_digit ds ≡ true
+    → list_all (other_than c) ds ≡ true
 digits_other c [] no_digit all = refl
 digits_other c (d ∷ ds) no_digit all =
     let parts = and_parts (is_ascii_digit d) (list_all is_ascii_digit ds) all in
@@ -235,7 +253,8 @@ bare_front : (text : List ℕ) → 0 < length text → is_blank (get_or text 0 0
 bare_front [] some other = refl
 bare_front (x ∷ text) some other = cond-false (is_blank x) (without_front_blanks text) (x ∷ text) other
 
-pub bare : (text : List ℕ) → 0 < length text → is_blank (get_or text 0 0) ≡ false → is_blank (get_or text (length text - 1) 0) ≡ false → without_blanks text ≡ text
+pub bare : (text : List ℕ) → 0 < length text → is_blank (get_or text 0 0) ≡ false
+    → is_blank (get_or text (length text - 1) 0) ≡ false → without_blanks text ≡ text
 bare text some first last =
     let back : get_or (reverse text) 0 0 ≡ get_or text (length text - 1) 0 =
     get_or-reverse text 0 0 some ∙ ap (λ n. get_or text n 0) (let e : length text - 1 - 0 ≡ length text - 1 = omega arith in e) in
@@ -263,17 +282,20 @@ value : List ℕ → List ℕ
 value numbers = text_of 59 (codes "RTP/AVP/TCP") (text_of 59 (codes "unicast") (named numbers))
 
 -- no part has `;`, and the value no `,`
-named_none : (numbers : List ℕ) (channels : Channels) → AreWritten numbers channels → HasNone 59 (named numbers) 0 (length (named numbers))
+named_none : (numbers : List ℕ) (channels : Channels) → AreWritten numbers channels
+    → HasNone 59 (named numbers) 0 (length (named numbers))
 unfolding named other_than
 named_none numbers channels w =
     none_from 59 (named numbers) (list_all-append (other_than 59) (codes "interleaved=") numbers
     ∙ and_from (list_all (other_than 59) (codes "interleaved=")) (list_all (other_than 59) numbers) refl w.no_semicolon)
 
-value_none : (numbers : List ℕ) (channels : Channels) → AreWritten numbers channels → HasNone 44 (value numbers) 0 (length (value numbers))
+value_none : (numbers : List ℕ) (channels : Channels) → AreWritten numbers channels
+    → HasNone 44 (value numbers) 0 (length (value numbers))
 unfolding value named text_of other_than
 value_none numbers channels w =
     none_from 44 (value numbers) (list_all-append (other_than 44) (codes "RTP/AVP/TCP;unicast;interleaved=") numbers
-    ∙ and_from (list_all (other_than 44) (codes "RTP/AVP/TCP;unicast;interleaved=")) (list_all (other_than 44) numbers) refl w.no_comma)
+    ∙ and_from (list_all (other_than 44) (codes "RTP/AVP/TCP;unicast;interleaved="))
+    (list_all (other_than 44) numbers) refl w.no_comma)
 
 pub protocol_none : HasNone 59 (codes "RTP/AVP/TCP") 0 (length (codes "RTP/AVP/TCP"))
 unfolding other_than
@@ -311,26 +333,31 @@ named_first : (numbers : List ℕ) → is_blank (get_or (named numbers) 0 0) ≡
 unfolding named
 named_first numbers = refl
 
-named_last : (numbers : List ℕ) (channels : Channels) → AreWritten numbers channels → is_blank (get_or (named numbers) (length (named numbers) - 1) 0) ≡ false
+named_last : (numbers : List ℕ) (channels : Channels) → AreWritten numbers channels
+    → is_blank (get_or (named numbers) (length (named numbers) - 1) 0) ≡ false
 unfolding named
 named_last numbers channels w =
     let place : length (named numbers) - 1 ≡ 12 + (length numbers - 1) = omega (arith, named_long numbers, w.some) in
     ap (λ k. is_blank (get_or (named numbers) k 0)) place
     ∙ ap is_blank (get_or-append-add (codes "interleaved=") numbers (length numbers - 1) 0) ∙ w.no_blank
 
-named_bare : (numbers : List ℕ) (channels : Channels) → AreWritten numbers channels → without_blanks (named numbers) ≡ named numbers
-named_bare numbers channels w = bare (named numbers) (omega (arith, named_long numbers)) (named_first numbers) (named_last numbers channels w)
+named_bare : (numbers : List ℕ) (channels : Channels) → AreWritten numbers channels
+    → without_blanks (named numbers) ≡ named numbers
+named_bare numbers channels w =
+    bare (named numbers) (omega (arith, named_long numbers)) (named_first numbers) (named_last numbers channels w)
 
 named_word : (numbers : List ℕ) (channels : Channels) → AreWritten numbers channels → word (named numbers) ≡ lower (named numbers)
 named_word numbers channels w = ap lower (named_bare numbers channels w)
 
 named_names : (numbers : List ℕ) (channels : Channels) → AreWritten numbers channels → NamesChannels (named numbers)
 unfolding named
-named_names numbers channels w = subst (λ (l : List ℕ). Begins (codes "interleaved=") l) (sym (named_word numbers channels w)) refl
+named_names numbers channels w =
+    subst (λ (l : List ℕ). Begins (codes "interleaved=") l) (sym (named_word numbers channels w)) refl
 
 named_plain : (numbers : List ℕ) (channels : Channels) → AreWritten numbers channels → ¬ IsOther (named numbers)
 unfolding named
-named_plain numbers channels w = first_letter (named numbers) 105 (ap (λ (l : List ℕ). get_or l 0 0) (named_word numbers channels w)) (omega arith)
+named_plain numbers channels w =
+    first_letter (named numbers) 105 (ap (λ (l : List ℕ). get_or l 0 0) (named_word numbers channels w)) (omega arith)
 
 after_named : (numbers : List ℕ) → after_name (named numbers) ≡ numbers
 unfolding named
@@ -348,7 +375,8 @@ are_named numbers channels w =
     let middle = piece_later 59 (codes "unicast") I 0 (length I) last in
     let to = 7 + 1 + length I in
     let is : slice_range (value numbers) (11 + 1 + (7 + 1 + 0)) (11 + 1 + to) ≡ I =
-    slice_later 59 (codes "RTP/AVP/TCP") U (7 + 1 + 0) to (omega arith) ∙ slice_later 59 (codes "unicast") I 0 (length I) (omega arith)
+    slice_later 59 (codes "RTP/AVP/TCP") U (7 + 1 + 0) to (omega arith)
+    ∙ slice_later 59 (codes "unicast") I 0 (length I) (omega arith)
     ∙ take_all (length I - 0) I (omega arith) in
     record {
       from = 11 + 1 + (7 + 1 + 0);
@@ -356,7 +384,8 @@ are_named numbers channels w =
       piece = piece_later 59 (codes "RTP/AVP/TCP") U (7 + 1 + 0) to middle;
       names = subst NamesChannels (sym is) (named_names numbers channels w);
       first = none_before NamesChannels protocol_none (names_none (codes "RTP/AVP/TCP") 114 refl (omega arith))
-          (none_before {c = 59} {a = codes "unicast"} {rest = I} {at = 0} NamesChannels unicast_none (names_none (codes "unicast") 117 refl (omega arith)) (λ k end below p. absurd (omega (arith, below))));
+          (none_before {c = 59} {a = codes "unicast"} {rest = I} {at = 0} NamesChannels unicast_none
+          (names_none (codes "unicast") 117 refl (omega arith)) (λ k end below p. absurd (omega (arith, below))));
       are = subst (λ (t : List ℕ). AreChannels (after_name (without_blanks t)) channels) (sym is)
           (subst (λ (t : List ℕ). AreChannels (after_name t) channels) (sym (named_bare numbers channels w))
           (subst (λ (t : List ℕ). AreChannels t channels) (sym (after_named numbers)) w.are));
@@ -375,7 +404,8 @@ taken numbers channels w = record {
 }
 
 -- one alternative that can be taken is the value's
-pub alone : (text : List ℕ) (channels : Channels) → HasNone 44 text 0 (length text) → IsTaken text channels → IsTransport text channels
+pub alone : (text : List ℕ) (channels : Channels) → HasNone 44 text 0 (length text) → IsTaken text channels
+    → IsTransport text channels
 alone text channels none is =
     let whole : slice_range text 0 (length text) ≡ text = take_all (length text - 0) text (omega arith) in
     record {
@@ -386,7 +416,8 @@ alone text channels none is =
       first = λ k end below p. absurd (omega (arith, below));
     }
 
-written_read_back : (numbers : List ℕ) (channels : Channels) → AreWritten numbers channels → IsTransport (codes "RTP/AVP/TCP;unicast;interleaved=" ++ numbers) channels
+written_read_back : (numbers : List ℕ) (channels : Channels) → AreWritten numbers channels
+    → IsTransport (codes "RTP/AVP/TCP;unicast;interleaved=" ++ numbers) channels
 unfolding value named text_of
 written_read_back numbers channels w = alone (value numbers) channels (value_none numbers channels w) (taken numbers channels w)
 
@@ -410,20 +441,25 @@ record IsSeparator (c : ℕ) : Type 0 where
 pair_free : {c : ℕ} (m n : ℕ) → IsSeparator c → m ≤ 255 → n ≤ 255 → list_all (other_than c) (decimal m ++ 45 ∷ decimal n) ≡ true
 pair_free {c} m n separator small fits =
     list_all-append (other_than c) (decimal m) (45 ∷ decimal n)
-    ∙ and_from (list_all (other_than c) (decimal m)) (list_all (other_than c) (45 ∷ decimal n)) (number_free c m separator.no_digit small)
-    (and_from (other_than c 45) (list_all (other_than c) (decimal n)) (dash_other c separator.no_dash) (number_free c n separator.no_digit fits))
+    ∙ and_from (list_all (other_than c) (decimal m)) (list_all (other_than c) (45 ∷ decimal n))
+    (number_free c m separator.no_digit small)
+    (and_from (other_than c 45) (list_all (other_than c) (decimal n)) (dash_other c separator.no_dash)
+    (number_free c n separator.no_digit fits))
 
 number_some : (n : ℕ) → n ≤ 255 → 0 < length (decimal n)
 number_some n small = decimal_nonempty n (omega (arith, small))
 
 -- a number after other bytes ends with no blank
-last_digit : (front : List ℕ) (n : ℕ) → n ≤ 255 → is_blank (get_or (front ++ decimal n) (length (front ++ decimal n) - 1) 0) ≡ false
+last_digit : (front : List ℕ) (n : ℕ) → n ≤ 255
+    → is_blank (get_or (front ++ decimal n) (length (front ++ decimal n) - 1) 0) ≡ false
 last_digit front n fits =
     let some = number_some n fits in
-    let place : length (front ++ decimal n) - 1 ≡ length front + (length (decimal n) - 1) = omega (arith, length-append front (decimal n), some) in
+    let place : length (front ++ decimal n) - 1 ≡ length front + (length (decimal n) - 1) =
+    omega (arith, length-append front (decimal n), some) in
     ap (λ k. is_blank (get_or (front ++ decimal n) k 0)) place
     ∙ ap is_blank (get_or-append-add front (decimal n) (length (decimal n) - 1) 0)
-    ∙ digit_blank (get_or (decimal n) (length (decimal n) - 1) 0) (is_digit_at (decimal n) (length (decimal n) - 1) (digits n fits) (omega (arith, some)))
+    ∙ digit_blank (get_or (decimal n) (length (decimal n) - 1) 0)
+    (is_digit_at (decimal n) (length (decimal n) - 1) (digits n fits) (omega (arith, some)))
 
 within : (most n : ℕ) → n ≤ most → most ≤ 255 → WritesNumber 0 most (decimal n) n
 within most n fits few = record { is_number = written_read 0 n (omega (arith, fits, few)); above = omega arith; below = fits }
@@ -439,8 +475,10 @@ pair m n small fits differ =
     let first : take dash text ≡ decimal m =
     ap (λ k. take k text) (let e : dash ≡ dash - 0 = omega arith in e) ∙ slice_first 45 (decimal m) (decimal n) in
     let last : slice_range text (dash + 1) (length text) ≡ decimal n =
-    ap (λ k. slice_range text (dash + 1) k) long ∙ ap (λ k. slice_range text k (dash + 1 + length (decimal n))) (let e : dash + 1 ≡ dash + 1 + 0 = omega arith in e)
-    ∙ slice_later 45 (decimal m) (decimal n) 0 (length (decimal n)) (omega arith) ∙ take_all (length (decimal n) - 0) (decimal n) (omega arith) in
+    ap (λ k. slice_range text (dash + 1) k) long
+    ∙ ap (λ k. slice_range text k (dash + 1 + length (decimal n))) (let e : dash + 1 ≡ dash + 1 + 0 = omega arith in e)
+    ∙ slice_later 45 (decimal m) (decimal n) 0 (length (decimal n)) (omega arith)
+    ∙ take_all (length (decimal n) - 0) (decimal n) (omega arith) in
     record {
       dash = dash;
       is_dash = piece.end;
@@ -452,19 +490,23 @@ pair m n small fits differ =
 
 -- two channels
 pub transport_read : (media control : ℕ) → media ≤ 255 → control ≤ 255 → media ≢ control →
-    IsTransport (codes "RTP/AVP/TCP;unicast;interleaved=" ++ (decimal media ++ 45 ∷ decimal control)) (record { media = media; control = control })
+    IsTransport (codes "RTP/AVP/TCP;unicast;interleaved=" ++ (decimal media ++ 45 ∷ decimal control))
+    (record { media = media; control = control })
 transport_read m n small fits differ =
-    let whole : (decimal m ++ 45 ∷ []) ++ decimal n ≡ decimal m ++ 45 ∷ decimal n = append_assoc (decimal m) (45 ∷ []) (decimal n) in
+    let whole : (decimal m ++ 45 ∷ []) ++ decimal n ≡ decimal m ++ 45 ∷ decimal n =
+    append_assoc (decimal m) (45 ∷ []) (decimal n) in
     written_read_back (decimal m ++ 45 ∷ decimal n) (record { media = m; control = n }) (record {
       no_semicolon = pair_free m n (record { no_digit = refl; no_dash = omega arith }) small fits;
       no_comma = pair_free m n (record { no_digit = refl; no_dash = omega arith }) small fits;
       some = omega (arith, length-append (decimal m) (45 ∷ decimal n));
-      no_blank = subst (λ (l : List ℕ). is_blank (get_or l (length l - 1) 0) ≡ false) whole (last_digit (decimal m ++ 45 ∷ []) n fits);
+      no_blank = subst (λ (l : List ℕ). is_blank (get_or l (length l - 1) 0) ≡ false) whole
+          (last_digit (decimal m ++ 45 ∷ []) n fits);
       are = inl (pair m n small fits differ);
     })
 
 -- one channel, which means the next one too
-pub single_read : (media : ℕ) → media ≤ 254 → IsTransport (codes "RTP/AVP/TCP;unicast;interleaved=" ++ decimal media) (record { media = media; control = media + 1 })
+pub single_read : (media : ℕ) → media ≤ 254
+    → IsTransport (codes "RTP/AVP/TCP;unicast;interleaved=" ++ decimal media) (record { media = media; control = media + 1 })
 single_read m small =
     let fits : m ≤ 255 = omega (arith, small) in
     written_read_back (decimal m) (record { media = m; control = m + 1 }) (record {

@@ -8,5 +8,6 @@ use Rattle.rtsp_fields.specs.Pieces.{Begins, lower}
 pub begins_by_test : (start text : List ℕ) (Holds : Type 0) → lower start ≡ start →
     Holds ↔ (lower (take (length start) text) ≡ lower start) → Holds ↔ Begins start (lower text)
 begins_by_test start text Holds is_lower test =
-    let lowered : take (length start) (lower text) ≡ lower (take (length start) text) = take-map to_ascii_lowercase (length start) text in
+    let lowered : take (length start) (lower text) ≡ lower (take (length start) text) =
+    take-map to_ascii_lowercase (length start) text in
     (λ h. lowered ∙ test.0 h ∙ is_lower, λ b. test.1 (sym lowered ∙ b ∙ sym is_lower))

@@ -26,7 +26,8 @@ lower_colon : (c : ℕ) → to_ascii_lowercase c ≡ 58 → c ≡ 58
 lower_colon c e = grind arith
 
 -- a name without a colon has none in lower case
-lower_other : (name : List ℕ) → list_all (λ b. not (b == 58)) name ≡ true → list_all (λ b. not (b == 58)) (map to_ascii_lowercase name) ≡ true
+lower_other : (name : List ℕ) → list_all (λ b. not (b == 58)) name ≡ true
+    → list_all (λ b. not (b == 58)) (map to_ascii_lowercase name) ≡ true
 lower_other [] all = refl
 lower_other (c ∷ name) all =
     let here = is_other c 58 (and_parts (not (c == 58)) (list_all (λ b. not (b == 58)) name) all).0 in
@@ -39,7 +40,8 @@ name_same : (name rest : List ℕ) → map to_ascii_lowercase name ≡ map to_as
 name_same name rest same =
     let size : length name ≡ 14 = sym (length-map name to_ascii_lowercase) ∙ ap length same in
     let front : take 15 (name ++ 58 ∷ rest) ≡ name ++ 58 ∷ [] =
-    ap (take 15) (sym (append_assoc name (58 ∷ []) rest)) ∙ take_at (name ++ 58 ∷ []) rest 15 (length-append name (58 ∷ []) ∙ omega (arith, size)) in
+    ap (take 15) (sym (append_assoc name (58 ∷ []) rest))
+    ∙ take_at (name ++ 58 ∷ []) rest 15 (length-append name (58 ∷ []) ∙ omega (arith, size)) in
     ap (map to_ascii_lowercase) front ∙ map-append to_ascii_lowercase name (58 ∷ []) ∙ ap (λ t. t ++ 58 ∷ []) same
 
 name_is : (name rest : List ℕ) → list_all (λ b. not (b == 58)) name ≡ true →
@@ -49,49 +51,63 @@ name_is name rest none same =
     let t = name ++ 58 ∷ rest in
     let more = map to_ascii_lowercase (drop 15 t) in
     let parts : map to_ascii_lowercase t ≡ map to_ascii_lowercase (codes "Content-Length") ++ 58 ∷ more =
-    ap (map to_ascii_lowercase) (sym (take-append-drop 15 t)) ∙ map-append to_ascii_lowercase (take 15 t) (drop 15 t) ∙ ap (λ l. l ++ more) same in
-    let cut : IsSplitAtFirst 58 (map to_ascii_lowercase t) (map to_ascii_lowercase (codes "Content-Length")) more = record { parts = parts; first = refl } in
+    ap (map to_ascii_lowercase) (sym (take-append-drop 15 t))
+    ∙ map-append to_ascii_lowercase (take 15 t) (drop 15 t) ∙ ap (λ l. l ++ more) same in
+    let cut : IsSplitAtFirst 58 (map to_ascii_lowercase t) (map to_ascii_lowercase (codes "Content-Length"))
+    more = record { parts = parts; first = refl } in
     sym (cut_once cut
     (map-append to_ascii_lowercase name (58 ∷ rest)) (lower_other name none)).front
 
 -- what stands at a line's begin
-begin_slice : (a name value rest : List ℕ) → slice_range (line_bytes a name value rest) (length a) (length a + 15) ≡ take 15 (name ++ 58 ∷ 32 ∷ (value ++ 13 ∷ 10 ∷ rest))
+begin_slice : (a name value rest : List ℕ)
+    → slice_range (line_bytes a name value rest) (length a) (length a + 15)
+    ≡ take 15 (name ++ 58 ∷ 32 ∷ (value ++ 13 ∷ 10 ∷ rest))
 begin_slice a name value rest =
     let t = name ++ 58 ∷ 32 ∷ (value ++ 13 ∷ 10 ∷ rest) in
-    ap (λ n. take n (drop (length a) (a ++ t))) (let n : length a + 15 - length a ≡ 15 = omega arith in n) ∙ ap (take 15) (drop_at a t (length a) refl)
+    ap (λ n. take n (drop (length a) (a ++ t))) (let n : length a + 15 - length a ≡ 15 = omega arith in n)
+    ∙ ap (take 15) (drop_at a t (length a) refl)
 
 -- the text ends with LF
 record EndsWithFeed (a : List ℕ) : Type 0 where
   some : 0 < length a
   feed : get_or a (length a - 1) 0 ≡ 10
 
-named_line : (a name value rest : List ℕ) → EndsWithFeed a → map to_ascii_lowercase name ≡ map to_ascii_lowercase (codes "Content-Length") →
+named_line : (a name value rest : List ℕ) → EndsWithFeed a →
+    map to_ascii_lowercase name ≡ map to_ascii_lowercase (codes "Content-Length") →
     IsLengthLine (line_bytes a name value rest) (length a)
 named_line a name value rest ended same = record {
   after = ended.some;
-  begins = get_or_append_left a (name ++ 58 ∷ 32 ∷ (value ++ 13 ∷ 10 ∷ rest)) 0 (length a - 1) (omega (arith, ended.some)) ∙ ended.feed;
+  begins = get_or_append_left a (name ++ 58 ∷ 32 ∷ (value ++ 13 ∷ 10 ∷ rest)) 0 (length a - 1)
+      (omega (arith, ended.some)) ∙ ended.feed;
   name = ap (map to_ascii_lowercase) (begin_slice a name value rest) ∙ name_same name (32 ∷ (value ++ 13 ∷ 10 ∷ rest)) same;
 }
 
-other_line : (a name value rest : List ℕ) → list_all (λ b. not (b == 58)) name ≡ true → IsLengthLine (line_bytes a name value rest) (length a) →
+other_line : (a name value rest : List ℕ) → list_all (λ b. not (b == 58)) name ≡ true →
+    IsLengthLine (line_bytes a name value rest) (length a) →
     map to_ascii_lowercase name ≡ map to_ascii_lowercase (codes "Content-Length")
 other_line a name value rest none line =
-    name_is name (32 ∷ (value ++ 13 ∷ 10 ∷ rest)) none (ap (map to_ascii_lowercase) (sym (begin_slice a name value rest)) ∙ line.name)
+    name_is name (32 ∷ (value ++ 13 ∷ 10 ∷ rest)) none
+    (ap (map to_ascii_lowercase) (sym (begin_slice a name value rest)) ∙ line.name)
 
 -- the value of the line
-value_at : {value : List ℕ} (a name rest : List ℕ) → length name ≡ 14 → is_one_line value ≡ true → without_blanks value ≡ value → IsValueAt (line_bytes a name value rest) (length a + 15) (written_length value)
+value_at : {value : List ℕ} (a name rest : List ℕ) → length name ≡ 14 → is_one_line value ≡ true
+    → without_blanks value ≡ value → IsValueAt (line_bytes a name value rest) (length a + 15) (written_length value)
 value_at {value} a name rest size one bare =
     let b = a ++ (name ++ 58 ∷ []) in
     let w = line_bytes a name value rest in
     let shape : b ++ ((32 ∷ value) ++ 13 ∷ 10 ∷ rest) ≡ w =
-    append_assoc a (name ++ 58 ∷ []) ((32 ∷ value) ++ 13 ∷ 10 ∷ rest) ∙ ap (λ l. a ++ l) (append_assoc name (58 ∷ []) ((32 ∷ value) ++ 13 ∷ 10 ∷ rest)) in
-    let place : length b ≡ length a + 15 = length-append a (name ++ 58 ∷ []) ∙ omega (arith, length-append name (58 ∷ []), size) in
+    append_assoc a (name ++ 58 ∷ []) ((32 ∷ value) ++ 13 ∷ 10 ∷ rest)
+    ∙ ap (λ l. a ++ l) (append_assoc name (58 ∷ []) ((32 ∷ value) ++ 13 ∷ 10 ∷ rest)) in
+    let place : length b ≡ length a + 15 =
+    length-append a (name ++ 58 ∷ []) ∙ omega (arith, length-append name (58 ∷ []), size) in
     let line : IsLine w (length a + 15) (length b + length (32 ∷ value)) (length b + length (32 ∷ value) + 2) =
     subst (λ n. IsLine w n (length b + length (32 ∷ value)) (length b + length (32 ∷ value) + 2)) place
-    (subst (λ (v : List ℕ). IsLine v (length b) (length b + length (32 ∷ value)) (length b + length (32 ∷ value) + 2)) shape (line_here b (32 ∷ value) rest one)) in
+    (subst (λ (v : List ℕ). IsLine v (length b) (length b + length (32 ∷ value))
+    (length b + length (32 ∷ value) + 2)) shape (line_here b (32 ∷ value) rest one)) in
     let text : slice_range w (length a + 15) (length b + length (32 ∷ value)) ≡ 32 ∷ value =
     ap (λ (v : List ℕ). slice_range v (length a + 15) (length b + length (32 ∷ value))) (sym shape)
-    ∙ ap (λ l. take (length b + length (32 ∷ value) - (length a + 15)) l) (drop_at b ((32 ∷ value) ++ 13 ∷ 10 ∷ rest) (length a + 15) place)
+    ∙ ap (λ l. take (length b + length (32 ∷ value) - (length a + 15)) l)
+    (drop_at b ((32 ∷ value) ++ 13 ∷ 10 ∷ rest) (length a + 15) place)
     ∙ take_at (32 ∷ value) (13 ∷ 10 ∷ rest) (length b + length (32 ∷ value) - (length a + 15)) (omega (arith, place)) in
     record {
       text_end = length b + length (32 ∷ value);
@@ -105,9 +121,11 @@ pub record IsWithinLine (a text : List ℕ) (k : ℕ) : Type 0 where
   pub after : length a < k
   pub below : k < length a + length text + 2
 
-pub inner_line : {k : ℕ} (a text rest : List ℕ) → is_one_line text ≡ true → IsWithinLine a text k → ¬ IsLengthLine (a ++ (text ++ 13 ∷ 10 ∷ rest)) k
+pub inner_line : {k : ℕ} (a text rest : List ℕ) → is_one_line text ≡ true → IsWithinLine a text k
+    → ¬ IsLengthLine (a ++ (text ++ 13 ∷ 10 ∷ rest)) k
 inner_line {k} a text rest one place =
-    λ line. (line_here a text rest one).first (k - 1) (omega (arith, place.after)) (omega (arith, place.after, place.below)) line.begins
+    λ line. (line_here a text rest one).first (k - 1) (omega (arith, place.after))
+    (omega (arith, place.after, place.below)) line.begins
 
 -- the length that a value gives, if there is one
 abbrev pub length_given : Option (List ℕ) → ℕ
@@ -127,9 +145,12 @@ scan a (f ∷ fs) all ended none =
     let w = a ++ (flat (map text_of (f ∷ fs)) ++ codes "\r\n") in
     let folded : (text_of f ++ codes "\r\n") ++ rest ≡ flat (map text_of (f ∷ fs)) ++ codes "\r\n" =
     sym (append_assoc (text_of f ++ codes "\r\n") (flat (map text_of fs)) (codes "\r\n")) in
-    let shape : a ++ (text_of f ++ 13 ∷ 10 ∷ rest) ≡ w = ap (λ l. a ++ l) (sym (append_assoc (text_of f) (codes "\r\n") rest) ∙ folded) in
+    let shape : a ++ (text_of f ++ 13 ∷ 10 ∷ rest) ≡ w =
+    ap (λ l. a ++ l) (sym (append_assoc (text_of f) (codes "\r\n") rest) ∙ folded) in
     let spelled : line_bytes a f.name f.value rest ≡ w =
-    ap (λ l. a ++ l) (sym (append_assoc f.name (codes ": ") (f.value ++ 13 ∷ 10 ∷ rest)) ∙ sym (append_assoc (f.name ++ codes ": ") f.value (13 ∷ 10 ∷ rest))) ∙ shape in
+    ap (λ l. a ++ l)
+    (sym (append_assoc f.name (codes ": ") (f.value ++ 13 ∷ 10 ∷ rest))
+    ∙ sym (append_assoc (f.name ++ codes ": ") f.value (13 ∷ 10 ∷ rest))) ∙ shape in
     let given : Option (List ℕ) → Type 0 = λ o. IsBodyLength w (length_given o) in
     elim (cases_Bool (str_eq_ignore_ascii_case f.name (codes "Content-Length"))) [
       | inl same ↦ (
@@ -139,30 +160,39 @@ scan a (f ∷ fs) all ended none =
             at = length a;
             is_line = subst (λ (v : List ℕ). IsLengthLine v (length a)) spelled (named_line a f.name f.value rest ended lower);
             first = none;
-            value = inl (subst (λ (v : List ℕ). IsValueAt v (length a + 15) (written_length f.value)) spelled (value_at a f.name rest size plain.one_line plain.bare));
+            value = inl (subst (λ (v : List ℕ). IsValueAt v (length a + 15) (written_length f.value)) spelled
+                (value_at a f.name rest size plain.one_line plain.bare));
           } in
-          subst given (sym (cond-true (str_eq_ignore_ascii_case f.name (codes "Content-Length")) (Some f.value) (value_named (codes "Content-Length") fs) same)) (inl here)
+          subst given (sym
+          (cond-true (str_eq_ignore_ascii_case f.name (codes "Content-Length")) (Some f.value)
+          (value_named (codes "Content-Length") fs) same)) (inl here)
           )
       | inr other ↦ (
           let next = a ++ (text_of f ++ codes "\r\n") in
           let moved : next ++ rest ≡ w = append_assoc a (text_of f ++ codes "\r\n") rest ∙ ap (λ l. a ++ l) folded in
-          let size : length next ≡ length a + length (text_of f) + 2 = length-append a (text_of f ++ codes "\r\n") ∙ omega (arith, length-append (text_of f) (codes "\r\n")) in
-          let last : get_or next (length next - 1) 0 ≡ 10 = feed_last (a ++ text_of f) next (append_assoc a (text_of f) (codes "\r\n")) in
+          let size : length next ≡ length a + length (text_of f) + 2 =
+          length-append a (text_of f ++ codes "\r\n") ∙ omega (arith, length-append (text_of f) (codes "\r\n")) in
+          let last : get_or next (length next - 1) 0 ≡ 10 =
+          feed_last (a ++ text_of f) next (append_assoc a (text_of f) (codes "\r\n")) in
           let none_next : (k : ℕ) → k < length next → ¬ IsLengthLine (next ++ rest) k = λ k below line.
           let line_w = subst (λ (v : List ℕ). IsLengthLine v k) moved line in
           elim (cases_lt k (length a)) [
             | inl before ↦ none k before line_w
             | inr from ↦ elim (cases_eq k (length a)) [
-              | inl here ↦ other_text (map to_ascii_lowercase f.name) (map to_ascii_lowercase (codes "Content-Length")) (sym other)
+              | inl here ↦
+                  other_text (map to_ascii_lowercase f.name) (map to_ascii_lowercase (codes "Content-Length")) (sym other)
                   (other_line a f.name f.value rest (token_without 58 refl f.name plain.name_is)
-                  (subst (λ n. IsLengthLine (line_bytes a f.name f.value rest) n) here (subst (λ (v : List ℕ). IsLengthLine v k) (sym spelled) line_w)))
+                  (subst (λ n. IsLengthLine (line_bytes a f.name f.value rest) n) here
+                  (subst (λ (v : List ℕ). IsLengthLine v k) (sym spelled) line_w)))
               | inr past ↦ inner_line a (text_of f) rest (text_line f plain).one_line
                   (record { after = omega (arith, from, past); below = omega (arith, below, size) })
                   (subst (λ (v : List ℕ). IsLengthLine v k) (sym shape) line_w)
             ]
           ] in
           let there = scan next fs (All-tail IsPlain f fs all) (record { some = omega (arith, size); feed = last }) none_next in
-          subst given (sym (cond-false (str_eq_ignore_ascii_case f.name (codes "Content-Length")) (Some f.value) (value_named (codes "Content-Length") fs) other))
+          subst given (sym
+          (cond-false (str_eq_ignore_ascii_case f.name (codes "Content-Length")) (Some f.value)
+          (value_named (codes "Content-Length") fs) other))
           (subst (λ (v : List ℕ). IsBodyLength v (length_given (value_named (codes "Content-Length") fs))) moved there)
           )
     ]

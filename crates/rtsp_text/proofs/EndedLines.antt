@@ -12,35 +12,48 @@ use Rattle.rtsp_text.proofs.Heads.{no_head_first, no_head_more, head_here}
 use Rattle.rtsp_text.proofs.ReadBack.{line_here, other_byte}
 
 -- the line that ends with LF alone and stands after these bytes
-line_here_lf : (a t rest : List ℕ) → is_one_line t ≡ true → (0 < length t → get_or t (length t - 1) 0 ≢ 13) → IsLine (a ++ (t ++ 10 ∷ rest)) (length a) (length a + length t) (length a + length t + 1)
+line_here_lf : (a t rest : List ℕ) → is_one_line t ≡ true → (0 < length t → get_or t (length t - 1) 0 ≢ 13)
+    → IsLine (a ++ (t ++ 10 ∷ rest)) (length a) (length a + length t) (length a + length t + 1)
 line_here_lf a t rest one bare =
     let w = a ++ (t ++ 10 ∷ rest) in
-    let size : length w ≡ length a + (length t + (length rest + 1)) = length-append a (t ++ 10 ∷ rest) ∙ omega (arith, length-append t (10 ∷ rest)) in
+    let size : length w ≡ length a + (length t + (length rest + 1)) =
+    length-append a (t ++ 10 ∷ rest) ∙ omega (arith, length-append t (10 ∷ rest)) in
     let here : (k : ℕ) → length a ≤ k → k < length a + length t → get_or w k 0 ≡ get_or t (k - length a) 0 =
-    λ k from below. get_or-append_right a (t ++ 10 ∷ rest) (length a) k 0 refl from ∙ get_or_append_left t (10 ∷ rest) 0 (k - length a) (omega (arith, from, below)) in
+    λ k from below. get_or-append_right a (t ++ 10 ∷ rest) (length a) k 0 refl from
+    ∙ get_or_append_left t (10 ∷ rest) 0 (k - length a) (omega (arith, from, below)) in
     record {
       after = omega arith;
       within = omega (arith, size);
       feed = get_or-append_right a (t ++ 10 ∷ rest) (length a) (length a + length t + 1 - 1) 0 refl (omega arith)
           ∙ get_or-append_right t (10 ∷ rest) (length t) (length a + length t + 1 - 1 - length a) 0 refl (omega arith)
           ∙ ap (λ n. get_or (10 ∷ rest) n 0) (let n : length a + length t + 1 - 1 - length a - length t ≡ 0 = omega arith in n);
-      first = λ k from below feed. other_byte t (k - length a) one (omega (arith, from, below)) (sym (here k from (omega (arith, below))) ∙ feed);
+      first = λ k from below feed. other_byte t (k - length a) one (omega (arith, from, below))
+          (sym (here k from (omega (arith, below))) ∙ feed);
       text = (let e : length a + length t ≡ length a + length t + 1 - 1 = omega arith in e)
-          ∙ sym (cond-false (nat_lt (length a + 1) (length a + length t + 1) && (get_or w (length a + length t + 1 - 2) 0 == 13)) (length a + length t + 1 - 2) (length a + length t + 1 - 1) (no_cr here));
+          ∙ sym (cond-false
+          (nat_lt (length a + 1) (length a + length t + 1)
+          && (get_or w (length a + length t + 1 - 2) 0 == 13)) (length a + length t + 1 - 2)
+          (length a + length t + 1 - 1) (no_cr here));
     }
   where
     no_cr : ((k : ℕ) → length a ≤ k → k < length a + length t → get_or (a ++ (t ++ 10 ∷ rest)) k 0 ≡ get_or t (k - length a) 0) →
-        (nat_lt (length a + 1) (length a + length t + 1) && (get_or (a ++ (t ++ 10 ∷ rest)) (length a + length t + 1 - 2) 0 == 13)) ≡ false
+        (nat_lt (length a + 1) (length a + length t + 1)
+        && (get_or (a ++ (t ++ 10 ∷ rest)) (length a + length t + 1 - 2) 0 == 13)) ≡ false
     no_cr here =
         elim (cases_lt 0 (length t)) [
           | inl some ↦ (
               let same : get_or (a ++ (t ++ 10 ∷ rest)) (length a + length t + 1 - 2) 0 ≡ get_or t (length t - 1) 0 =
               here (length a + length t + 1 - 2) (omega (arith, some)) (omega (arith, some))
-              ∙ ap (λ n. get_or t n 0) (let n : length a + length t + 1 - 2 - length a ≡ length t - 1 = omega (arith, some) in n) in
-              right (nat_lt (length a + 1) (length a + length t + 1)) (get_or (a ++ (t ++ 10 ∷ rest)) (length a + length t + 1 - 2) 0 == 13)
+              ∙ ap (λ n. get_or t n 0) (let n : length a + length t + 1 - 2 - length a ≡ length t - 1 =
+              omega (arith, some) in n) in
+              right (nat_lt (length a + 1) (length a + length t + 1))
+              (get_or (a ++ (t ++ 10 ∷ rest)) (length a + length t + 1 - 2) 0 == 13)
               (ne_eqb (get_or (a ++ (t ++ 10 ∷ rest)) (length a + length t + 1 - 2) 0) 13 (λ e. bare some (sym same ∙ e)))
               )
-          | inr none ↦ left (nat_lt (length a + 1) (length a + length t + 1)) (get_or (a ++ (t ++ 10 ∷ rest)) (length a + length t + 1 - 2) 0 == 13) (short (length a) (length t) (omega (arith, none)))
+          | inr none ↦
+              left (nat_lt (length a + 1) (length a + length t + 1))
+              (get_or (a ++ (t ++ 10 ∷ rest)) (length a + length t + 1 - 2) 0 == 13)
+              (short (length a) (length t) (omega (arith, none)))
         ]
       where
         right : (p q : Bool) → q ≡ false → (p && q) ≡ false
@@ -54,21 +67,28 @@ line_here_lf a t rest one bare =
         short m n none = grind (arith, nat_tests)
 
 -- the line that stands after these bytes, however it ends
-crlf_here : (a t rest : List ℕ) → is_one_line t ≡ true → IsLine (a ++ ((t ++ 13 ∷ 10 ∷ []) ++ rest)) (length a) (length a + length t) (length a + length (t ++ 13 ∷ 10 ∷ []))
+crlf_here : (a t rest : List ℕ) → is_one_line t ≡ true
+    → IsLine (a ++ ((t ++ 13 ∷ 10 ∷ []) ++ rest)) (length a) (length a + length t) (length a + length (t ++ 13 ∷ 10 ∷ []))
 crlf_here a t rest one =
     let size : length a + length t + 2 ≡ length a + length (t ++ 13 ∷ 10 ∷ []) = omega (arith, length-append t (13 ∷ 10 ∷ [])) in
     subst (λ n. IsLine (a ++ ((t ++ 13 ∷ 10 ∷ []) ++ rest)) (length a) (length a + length t) n) size
-    (subst (λ (w : List ℕ). IsLine (a ++ w) (length a) (length a + length t) (length a + length t + 2)) (sym (append_assoc t (13 ∷ 10 ∷ []) rest)) (line_here a t rest one))
+    (subst (λ (w : List ℕ). IsLine (a ++ w) (length a) (length a + length t) (length a + length t + 2))
+    (sym (append_assoc t (13 ∷ 10 ∷ []) rest)) (line_here a t rest one))
 
-lf_here : (a t rest : List ℕ) → is_one_line t ≡ true → (0 < length t → get_or t (length t - 1) 0 ≢ 13) → IsLine (a ++ ((t ++ 10 ∷ []) ++ rest)) (length a) (length a + length t) (length a + length (t ++ 10 ∷ []))
+lf_here : (a t rest : List ℕ) → is_one_line t ≡ true → (0 < length t → get_or t (length t - 1) 0 ≢ 13)
+    → IsLine (a ++ ((t ++ 10 ∷ []) ++ rest)) (length a) (length a + length t) (length a + length (t ++ 10 ∷ []))
 lf_here a t rest one bare =
     let size : length a + length t + 1 ≡ length a + length (t ++ 10 ∷ []) = omega (arith, length-append t (10 ∷ [])) in
     subst (λ n. IsLine (a ++ ((t ++ 10 ∷ []) ++ rest)) (length a) (length a + length t) n) size
-    (subst (λ (w : List ℕ). IsLine (a ++ w) (length a) (length a + length t) (length a + length t + 1)) (sym (append_assoc t (10 ∷ []) rest)) (line_here_lf a t rest one bare))
+    (subst (λ (w : List ℕ). IsLine (a ++ w) (length a) (length a + length t) (length a + length t + 1))
+    (sym (append_assoc t (10 ∷ []) rest)) (line_here_lf a t rest one bare))
 
-here : (a : List ℕ) (line : EndedLine) (rest : List ℕ) → IsEnded line → IsLine (a ++ (line_bytes line ++ rest)) (length a) (length a + length line.text) (length a + length (line_bytes line))
+here : (a : List ℕ) (line : EndedLine) (rest : List ℕ) → IsEnded line
+    → IsLine (a ++ (line_bytes line ++ rest)) (length a) (length a + length line.text) (length a + length (line_bytes line))
 here a line rest ended =
-    let P : List ℕ → Type 0 = λ e. IsLine (a ++ ((line.text ++ e) ++ rest)) (length a) (length a + length line.text) (length a + length (line.text ++ e)) in
+    let P : List ℕ → Type 0 =
+    λ e. IsLine (a ++ ((line.text ++ e) ++ rest)) (length a) (length a + length line.text)
+    (length a + length (line.text ++ e)) in
     elim ended.end_is [
       | inl crlf ↦ subst P (sym crlf) (crlf_here a line.text rest ended.one_line)
       | inr lf ↦ subst P (sym lf.0) (lf_here a line.text rest ended.one_line lf.1)
@@ -81,14 +101,16 @@ record IsAfterLine (w : List ℕ) (n : ℕ) : Type 0 where
   none : HasNoHead w n
 
 -- the header lines are walked over
-walk : (a : List ℕ) (headers : List EndedLine) (rest : List ℕ) → All IsHeader headers → IsAfterLine (a ++ (flat_map line_bytes headers ++ rest)) (length a) →
+walk : (a : List ℕ) (headers : List EndedLine) (rest : List ℕ) → All IsHeader headers →
+    IsAfterLine (a ++ (flat_map line_bytes headers ++ rest)) (length a) →
     IsAfterLine (a ++ (flat_map line_bytes headers ++ rest)) (length a + length (flat_map line_bytes headers))
 walk a [] rest all at = subst (λ n. IsAfterLine (a ++ rest) n) (let e : length a ≡ length a + 0 = omega arith in e) at
 walk a (l ∷ ls) rest all at =
     let header = All-head IsHeader l ls all in
     let w = a ++ (flat_map line_bytes (l ∷ ls) ++ rest) in
     let tail = flat_map line_bytes ls ++ rest in
-    let shape : a ++ (line_bytes l ++ tail) ≡ w = ap (λ t. a ++ t) (sym (append_assoc (line_bytes l) (flat_map line_bytes ls) rest)) in
+    let shape : a ++ (line_bytes l ++ tail) ≡ w =
+    ap (λ t. a ++ t) (sym (append_assoc (line_bytes l) (flat_map line_bytes ls) rest)) in
     let moved : w ≡ (a ++ line_bytes l) ++ tail = sym shape ∙ sym (append_assoc a (line_bytes l) tail) in
     let n = length a + length (line_bytes l) in
     let line : IsLine w (length a) (length a + length l.text) n =
@@ -104,7 +126,8 @@ walk a (l ∷ ls) rest all at =
     let end = walk (a ++ line_bytes l) ls rest (All-tail IsHeader l ls all) start in
     let total : length (a ++ line_bytes l) + length (flat_map line_bytes ls) ≡ length a + length (flat_map line_bytes (l ∷ ls)) =
     omega (arith, length-append a (line_bytes l), length-append (line_bytes l) (flat_map line_bytes ls)) in
-    subst (λ k. IsAfterLine w k) total (subst (λ (v : List ℕ). IsAfterLine v (length (a ++ line_bytes l) + length (flat_map line_bytes ls))) (sym moved) end)
+    subst (λ k. IsAfterLine w k) total
+    (subst (λ (v : List ℕ). IsAfterLine v (length (a ++ line_bytes l) + length (flat_map line_bytes ls))) (sym moved) end)
 
 -- the lines of a head
 pub record AreHeadLines (first : EndedLine) (headers : List EndedLine) (last : EndedLine) : Type 0 where
@@ -113,7 +136,8 @@ pub record AreHeadLines (first : EndedLine) (headers : List EndedLine) (last : E
   pub last_is : IsEmpty last
 
 -- the head is found
-pub head_found : {first : EndedLine} {headers : List EndedLine} {last : EndedLine} (later : List ℕ) → AreHeadLines first headers last →
+pub head_found : {first : EndedLine} {headers : List EndedLine} {last : EndedLine} (later : List ℕ) →
+    AreHeadLines first headers last →
     IsHead (head_bytes first headers last ++ later) (length (head_bytes first headers last))
 head_found {first} {headers} {last} later lines =
     let a = line_bytes first in
@@ -137,12 +161,16 @@ head_found {first} {headers} {last} later lines =
     let size : n ≡ length (a ++ fields) = sym (length-append a fields) in
     let no_text : length (a ++ fields) + length last.text ≡ length (a ++ fields) =
     ap (λ (t : List ℕ). length (a ++ fields) + length t) lines.last_is.none ∙ omega arith in
-    let there : IsLine ((a ++ fields) ++ rest) (length (a ++ fields)) (length (a ++ fields) + length last.text) (length (a ++ fields) + length (line_bytes last)) =
+    let there : IsLine ((a ++ fields) ++ rest) (length (a ++ fields)) (length (a ++ fields) + length last.text)
+    (length (a ++ fields) + length (line_bytes last)) =
     here (a ++ fields) last later lines.last_is.is_ended in
     let line : IsLine w (length (a ++ fields)) (length (a ++ fields)) (length (a ++ fields) + length (line_bytes last)) =
-    subst (λ (v : List ℕ). IsLine v (length (a ++ fields)) (length (a ++ fields)) (length (a ++ fields) + length (line_bytes last))) (sym (append_assoc (a ++ fields) (line_bytes last) later))
-    (subst (λ k. IsLine ((a ++ fields) ++ rest) (length (a ++ fields)) k (length (a ++ fields) + length (line_bytes last))) no_text there) in
+    subst (λ (v : List ℕ). IsLine v (length (a ++ fields)) (length (a ++ fields))
+    (length (a ++ fields) + length (line_bytes last))) (sym (append_assoc (a ++ fields) (line_bytes last) later))
+    (subst (λ k. IsLine ((a ++ fields) ++ rest) (length (a ++ fields)) k
+    (length (a ++ fields) + length (line_bytes last))) no_text there) in
     let done : IsAfterLine w (length (a ++ fields)) =
-    subst (λ (v : List ℕ). IsAfterLine v (length (a ++ fields))) shape (subst (λ k. IsAfterLine (a ++ (fields ++ rest)) k) size at) in
+    subst (λ (v : List ℕ). IsAfterLine v (length (a ++ fields))) shape
+    (subst (λ k. IsAfterLine (a ++ (fields ++ rest)) k) size at) in
     subst (λ k. IsHead w k) (sym (length-append (a ++ fields) (line_bytes last)))
     (head_here done.some done.feed line done.none)

@@ -25,12 +25,14 @@ first_is message first texts has = ap (λ (ls : List (List ℕ)). slice_index_or
 before_some : (texts rest : List (List ℕ)) → All (λ text. 0 < length text) texts → before_empty (texts ++ [] ∷ rest) ≡ texts
 before_some [] rest all = while_no (λ text. nat_lt 0 (length text)) [] rest refl
 before_some (t ∷ ts) rest all =
-    while_yes (λ text. nat_lt 0 (length text)) t (ts ++ [] ∷ rest) (lt-ltb 0 (length t) (All-head (λ text. 0 < length text) t ts all))
+    while_yes (λ text. nat_lt 0 (length text)) t (ts ++ [] ∷ rest)
+    (lt-ltb 0 (length t) (All-head (λ text. 0 < length text) t ts all))
     ∙ ap (λ l. t ∷ l) (before_some ts rest (All-tail (λ text. 0 < length text) t ts all))
 
 headers_are : (message first : List ℕ) (texts : List (List ℕ)) → HasLines message first texts → header_lines message ≡ texts
 unfolding header_lines
-headers_are message first texts has = ap (λ (ls : List (List ℕ)). before_empty (drop 1 ls)) has.lines_are ∙ before_some texts has.others has.some
+headers_are message first texts has =
+    ap (λ (ls : List (List ℕ)). before_empty (drop 1 ls)) has.lines_are ∙ before_some texts has.others has.some
 
 -- a request line
 spaced : (method url version : List ℕ) → method ++ codes " " ++ url ++ codes " " ++ version ≡ method ++ 32 ∷ (url ++ 32 ∷ version)
@@ -58,7 +60,8 @@ request_line_of first version line = record {
 }
 
 -- the first field of a name, as the function of the lines finds it
-found_value : (name : List ℕ) (texts : List (List ℕ)) (value : List ℕ) → IsFirstField name texts value → (o : Option (List ℕ)) → first_value name texts ≡ o → o ≡ Some value
+found_value : (name : List ℕ) (texts : List (List ℕ)) (value : List ℕ) → IsFirstField name texts value
+    → (o : Option (List ℕ)) → first_value name texts ≡ o → o ≡ Some value
 found_value name texts value f None is = absurd ((first_tells name texts).none is f.index value f.inside f.field)
 found_value name texts value f (Some v) is =
     let g = (first_tells name texts).first v is in
@@ -72,16 +75,20 @@ found_value name texts value f (Some v) is =
       | inr (inr below) ↦ absurd (f.before g.index v below g.field)
     ]
 
-written : (name : List ℕ) (texts : List (List ℕ)) (number : ℕ) → Writes name texts number → option_and_then number_of (first_value name texts) ≡ Some number
-written name texts number w = ap (option_and_then number_of) (found_value name texts w.value w.field (first_value name texts) refl) ∙ w.number_is
+written : (name : List ℕ) (texts : List (List ℕ)) (number : ℕ) → Writes name texts number
+    → option_and_then number_of (first_value name texts) ≡ Some number
+written name texts number w =
+    ap (option_and_then number_of) (found_value name texts w.value w.field (first_value name texts) refl) ∙ w.number_is
 
-writes : (name : List ℕ) (texts : List (List ℕ)) (number : ℕ) → option_and_then number_of (first_value name texts) ≡ Some number → Writes name texts number
+writes : (name : List ℕ) (texts : List (List ℕ)) (number : ℕ)
+    → option_and_then number_of (first_value name texts) ≡ Some number → Writes name texts number
 writes name texts number is =
     let read = read_of (first_value name texts) number is in
     record { value = read.value; field = (first_tells name texts).first read.value read.value_is; number_is = read.number_is }
 
 -- a value that isn't all digits
-no_digits : (name : List ℕ) (texts : List (List ℕ)) (o : Option (List ℕ)) → first_value name texts ≡ o → ¬ IfSome o (λ value. is_decimal value ≡ true) → WritesNoDigits name texts
+no_digits : (name : List ℕ) (texts : List (List ℕ)) (o : Option (List ℕ)) → first_value name texts ≡ o
+    → ¬ IfSome o (λ value. is_decimal value ≡ true) → WritesNoDigits name texts
 no_digits name texts None is wrong = absurd (wrong tt)
 no_digits name texts (Some v) is wrong =
     elim (cases_Bool (is_decimal v)) [
@@ -105,7 +112,8 @@ wrong : {first : List ℕ} {texts : List (List ℕ)} (message : List ℕ) (fault
 wrong {first} {texts} message fault line_is texts_are is = go fault is
   where
     line : (version : List ℕ) → HasVersion message version → IsLineOf version first
-    line version has = line_of first has.0 has.1.0 version (subst (λ (t : List ℕ). IsRequestLine t has.0 has.1.0 version) line_is has.1.1)
+    line version has =
+        line_of first has.0 has.1.0 version (subst (λ (t : List ℕ). IsRequestLine t has.0 has.1.0 version) line_is has.1.1)
 
     named : All IsHeaderLine (header_lines message) → All IsNamedText texts
     named all = named_texts texts (subst (All IsHeaderLine) texts_are all)
@@ -114,36 +122,55 @@ wrong {first} {texts} message fault line_is texts_are is = go fault is
     value name = ap (first_value name) texts_are
 
     go : (f : RequestFault) → IsFault message f → IsWrong first texts f
-    go BadLine none = λ version l. none version (l.method, (l.url, subst (λ (t : List ℕ). IsRequestLine t l.method l.url version) (sym line_is) (request_line_of first version l)))
+    go BadLine none =
+        λ version l. none version (
+          l.method,
+          (
+            l.url,
+            subst (λ (t : List ℕ). IsRequestLine t l.method l.url version) (sym line_is) (request_line_of first version l),
+          ),
+        )
     go BadVersion has = (has.0, (line has.0 has.1.0, has.1.1))
-    go (BadHeader number) has = (line (codes "RTSP/1.0") has.0, first_unnamed texts number (subst (λ ts. IsFirstBad ts number) texts_are has.1))
+    go (BadHeader number) has =
+        (line (codes "RTSP/1.0") has.0, first_unnamed texts number (subst (λ ts. IsFirstBad ts number) texts_are has.1))
     go NoSequenceNumber has = (
       record { line = line (codes "RTSP/1.0") has.0; named = named has.1 },
-      λ number w. let bad : None ≡ Some number = sym has.2 ∙ ap (option_and_then number_of) (value (codes "CSeq")) ∙ written (codes "CSeq") texts number w in let no : ⊥ = cc in no,
+      λ number w. let bad : None ≡ Some number =
+          sym has.2 ∙ ap (option_and_then number_of) (value (codes "CSeq"))
+          ∙ written (codes "CSeq") texts number w in let no : ⊥ = cc in no,
     )
     go BadLength has = (
       record { line = line (codes "RTSP/1.0") has.0; named = named has.1 },
       (
         (has.2.0, writes (codes "CSeq") texts has.2.0 (ap (option_and_then number_of) (sym (value (codes "CSeq"))) ∙ has.2.1)),
         no_digits (codes "Content-Length") texts (first_value (codes "Content-Length") texts) refl
-            (λ good. has.3 (subst (λ (o : Option (List ℕ)). IfSome o (λ value. is_decimal value ≡ true)) (sym (value (codes "Content-Length"))) good)),
+            (λ good. has.3
+            (subst (λ (o : Option (List ℕ)). IfSome o (λ value. is_decimal value ≡ true))
+            (sym (value (codes "Content-Length"))) good)),
       ),
     )
 
-pub fault_wrong : (message first : List ℕ) (texts : List (List ℕ)) (fault : RequestFault) → HasLines message first texts → IsFault message fault → IsWrong first texts fault
-fault_wrong message first texts fault has is = wrong message fault (first_is message first texts has) (headers_are message first texts has) is
+pub fault_wrong : (message first : List ℕ) (texts : List (List ℕ)) (fault : RequestFault)
+    → HasLines message first texts → IsFault message fault → IsWrong first texts fault
+fault_wrong message first texts fault has is =
+    wrong message fault (first_is message first texts has) (headers_are message first texts has) is
 
 -- the sequence number of a request, and its length
-pub sequence_written : {message first : List ℕ} {texts : List (List ℕ)} {method url : List ℕ} {sequence : ℕ} {head body : List ℕ} →
+pub sequence_written : {message first : List ℕ} {texts : List (List ℕ)} {method url : List ℕ} {sequence : ℕ}
+    {head body : List ℕ} →
     HasLines message first texts → IsRequest message method url sequence head body →
     Writes (codes "CSeq") texts sequence
 sequence_written {message} {first} {texts} {sequence} has request =
-    writes (codes "CSeq") texts sequence (ap (λ ls. option_and_then number_of (first_value (codes "CSeq") ls)) (sym (headers_are message first texts has)) ∙ request.sequence_is)
+    writes (codes "CSeq") texts sequence
+    (ap (λ ls. option_and_then number_of (first_value (codes "CSeq") ls))
+    (sym (headers_are message first texts has)) ∙ request.sequence_is)
 
-pub length_digits : {message first : List ℕ} {texts : List (List ℕ)} {method url : List ℕ} {sequence : ℕ} {head body value : List ℕ} →
+pub length_digits : {message first : List ℕ} {texts : List (List ℕ)} {method url : List ℕ} {sequence : ℕ}
+    {head body value : List ℕ} →
     HasLines message first texts → IsRequest message method url sequence head body →
     IsFirstField (codes "Content-Length") texts value → is_decimal value ≡ true
 length_digits {message} {first} {texts} {value} has request field =
     let found : header_value message (codes "Content-Length") ≡ Some value =
-    ap (first_value (codes "Content-Length")) (headers_are message first texts has) ∙ found_value (codes "Content-Length") texts value field (first_value (codes "Content-Length") texts) refl in
+    ap (first_value (codes "Content-Length")) (headers_are message first texts has)
+    ∙ found_value (codes "Content-Length") texts value field (first_value (codes "Content-Length") texts) refl in
     subst (λ (o : Option (List ℕ)). IfSome o (λ v. is_decimal v ≡ true)) found request.length_is

@@ -17,7 +17,8 @@ use Rattle.rtsp_text.proofs.Values.{value_some, value_other, value_none, first_v
 -- a line that is a field of that name gives its value
 pub field_value : (name line value : List ℕ) → IsField name line value → value_in name line ≡ Some value
 field_value name line value f =
-    value_some name line f.front f.after f.cut ((bytes_decides (map to_ascii_lowercase f.front) (map to_ascii_lowercase name)).1 f.name_is)
+    value_some name line f.front f.after f.cut
+    ((bytes_decides (map to_ascii_lowercase f.front) (map to_ascii_lowercase name)).1 f.name_is)
     ∙ ap Some (sym f.value_is)
 
 no_value : (name line other : List ℕ) → value_in name line ≡ None → IsField name line other → ⊥
@@ -29,7 +30,8 @@ data Colon (line : List ℕ) : Type 0 where
   Cut : (front after : List ℕ) → IsSplitAtFirst 58 line front after → Colon line
 
 colon_more : (x : ℕ) (line : List ℕ) → x ≢ 58 → Colon line → Colon (x ∷ line)
-colon_more x line other (NoColon none) = NoColon (and_from (not (x == 58)) (list_all (λ byte. not (byte == 58)) line) (other_is x 58 other) none)
+colon_more x line other (NoColon none) =
+    NoColon (and_from (not (x == 58)) (list_all (λ byte. not (byte == 58)) line) (other_is x 58 other) none)
 colon_more x line other (Cut front after cut) = Cut (x ∷ front) after (record {
   parts = ap (λ l. x ∷ l) cut.parts;
   first = and_from (not (x == 58)) (list_all (λ byte. not (byte == 58)) front) (other_is x 58 other) cut.first;
@@ -62,7 +64,8 @@ value_field name line value is = go (colon_of line)
         ]
 
 -- one line in front
-first_more : (name line : List ℕ) (lines : List (List ℕ)) (value : List ℕ) → value_in name line ≡ None → IsFirstField name lines value → IsFirstField name (line ∷ lines) value
+first_more : (name line : List ℕ) (lines : List (List ℕ)) (value : List ℕ) → value_in name line ≡ None
+    → IsFirstField name lines value → IsFirstField name (line ∷ lines) value
 first_more name line lines value none f = record {
   index = suc f.index;
   inside = omega (arith, f.inside);
@@ -74,7 +77,8 @@ first_more name line lines value none f = record {
     before zero other below field = no_value name line other none field
     before (suc k) other below field = f.before k other (omega (arith, below)) field
 
-none_more : (name line : List ℕ) (lines : List (List ℕ)) → value_in name line ≡ None → HasNoField name lines → HasNoField name (line ∷ lines)
+none_more : (name line : List ℕ) (lines : List (List ℕ)) → value_in name line ≡ None → HasNoField name lines
+    → HasNoField name (line ∷ lines)
 none_more name line lines none f zero other below field = no_value name line other none field
 none_more name line lines none f (suc k) other below field = f k other (omega (arith, below)) field
 
@@ -90,7 +94,8 @@ first_tells name [] = record {
 }
 first_tells name (line ∷ lines) = go (value_in name line) refl (first_tells name lines)
   where
-    go : (o : Option (List ℕ)) → value_in name line ≡ o → TellsFirst name lines (first_value name lines) → TellsFirst name (line ∷ lines) (first_value name (line ∷ lines))
+    go : (o : Option (List ℕ)) → value_in name line ≡ o → TellsFirst name lines (first_value name lines)
+        → TellsFirst name (line ∷ lines) (first_value name (line ∷ lines))
     go None o_is rest =
         let same = first_value_more name line (line ∷ lines) lines refl o_is in
         record {
@@ -110,19 +115,23 @@ first_tells name (line ∷ lines) = go (value_in name line) refl (first_tells na
         }
 
 -- the same of what was found
-pub found_first : {X : Type 0} (now : X → List ℕ) (r : Option X) (name : List ℕ) (lines : List (List ℕ)) → option_map now r ≡ first_value name lines → IfSome r (λ x. IsFirstField name lines (now x))
+pub found_first : {X : Type 0} (now : X → List ℕ) (r : Option X) (name : List ℕ) (lines : List (List ℕ))
+    → option_map now r ≡ first_value name lines → IfSome r (λ x. IsFirstField name lines (now x))
 found_first now None name lines is = tt
 found_first now (Some x) name lines is = (first_tells name lines).first (now x) (sym is)
 
-pub found_none : {X : Type 0} (now : X → List ℕ) (r : Option X) (name : List ℕ) (lines : List (List ℕ)) → option_map now r ≡ first_value name lines → IfNone r (HasNoField name lines)
+pub found_none : {X : Type 0} (now : X → List ℕ) (r : Option X) (name : List ℕ) (lines : List (List ℕ))
+    → option_map now r ≡ first_value name lines → IfNone r (HasNoField name lines)
 found_none now None name lines is = (first_tells name lines).none (sym is)
 found_none now (Some x) name lines is = tt
 
 -- the same of numbers: a field whose value is no number is passed over
-number_less : (name line value : List ℕ) → option_and_then number_of (value_in name line) ≡ None → IsField name line value → number_of value ≡ None
+number_less : (name line value : List ℕ) → option_and_then number_of (value_in name line) ≡ None
+    → IsField name line value → number_of value ≡ None
 number_less name line value none f = ap (option_and_then number_of) (sym (field_value name line value f)) ∙ none
 
-number_first_more : (name line : List ℕ) (lines : List (List ℕ)) (n : ℕ) → option_and_then number_of (value_in name line) ≡ None → IsFirstNumber name lines n → IsFirstNumber name (line ∷ lines) n
+number_first_more : (name line : List ℕ) (lines : List (List ℕ)) (n : ℕ)
+    → option_and_then number_of (value_in name line) ≡ None → IsFirstNumber name lines n → IsFirstNumber name (line ∷ lines) n
 number_first_more name line lines n none f = record {
   index = suc f.index;
   value = f.value;
@@ -136,7 +145,8 @@ number_first_more name line lines n none f = record {
     before zero other below field = number_less name line other none field
     before (suc k) other below field = f.before k other (omega (arith, below)) field
 
-number_none_more : (name line : List ℕ) (lines : List (List ℕ)) → option_and_then number_of (value_in name line) ≡ None → HasNoNumber name lines → HasNoNumber name (line ∷ lines)
+number_none_more : (name line : List ℕ) (lines : List (List ℕ))
+    → option_and_then number_of (value_in name line) ≡ None → HasNoNumber name lines → HasNoNumber name (line ∷ lines)
 number_none_more name line lines none f zero other below field = number_less name line other none field
 number_none_more name line lines none f (suc k) other below field = f k other (omega (arith, below)) field
 
@@ -161,7 +171,8 @@ number_tells name [] = record {
 }
 number_tells name (line ∷ lines) = go (option_and_then number_of (value_in name line)) refl (number_tells name lines)
   where
-    go : (o : Option ℕ) → option_and_then number_of (value_in name line) ≡ o → TellsNumber name lines (first_number name lines) → TellsNumber name (line ∷ lines) (first_number name (line ∷ lines))
+    go : (o : Option ℕ) → option_and_then number_of (value_in name line) ≡ o
+        → TellsNumber name lines (first_number name lines) → TellsNumber name (line ∷ lines) (first_number name (line ∷ lines))
     go None o_is rest =
         let same = first_number_more name line (line ∷ lines) lines refl o_is in
         record {
@@ -184,10 +195,12 @@ number_tells name (line ∷ lines) = go (option_and_then number_of (value_in nam
           none = λ is. absurd (let bad : Some m ≡ None = sym same ∙ is in cc);
         }
 
-pub number_first : (r : Option ℕ) (name : List ℕ) (lines : List (List ℕ)) → r ≡ first_number name lines → IfSome r (IsFirstNumber name lines)
+pub number_first : (r : Option ℕ) (name : List ℕ) (lines : List (List ℕ)) → r ≡ first_number name lines
+    → IfSome r (IsFirstNumber name lines)
 number_first None name lines is = tt
 number_first (Some n) name lines is = (number_tells name lines).first n (sym is)
 
-pub number_none : (r : Option ℕ) (name : List ℕ) (lines : List (List ℕ)) → r ≡ first_number name lines → IfNone r (HasNoNumber name lines)
+pub number_none : (r : Option ℕ) (name : List ℕ) (lines : List (List ℕ)) → r ≡ first_number name lines
+    → IfNone r (HasNoNumber name lines)
 number_none None name lines is = (number_tells name lines).none (sym is)
 number_none (Some n) name lines is = tt

@@ -14,14 +14,16 @@ use Rattle.rtsp_text.proofs.Walks.{next_here, first_line-next, header_lines-next
 not_feed : (w : List ℕ) (k : ℕ) → get_or w k 0 ≢ 10 → empty_line_ends w k ≡ false
 not_feed w k other = rw (ne_eqb (get_or w k 0) 10 other) refl
 
-not_after_feed : (w : List ℕ) (k : ℕ) → (0 < k → get_or w (k - 1) 0 ≢ 10) → (1 < k → get_or w (k - 1) 0 ≡ 13 → get_or w (k - 2) 0 ≢ 10) → empty_line_ends w k ≡ false
+not_after_feed : (w : List ℕ) (k : ℕ) → (0 < k → get_or w (k - 1) 0 ≢ 10)
+    → (1 < k → get_or w (k - 1) 0 ≡ 13 → get_or w (k - 2) 0 ≢ 10) → empty_line_ends w k ≡ false
 not_after_feed w k one two = grind (arith, nat_tests)
 
 -- a byte that ends an empty line
 ends_one : (w : List ℕ) (k : ℕ) → get_or w k 0 ≡ 10 → 0 < k → get_or w (k - 1) 0 ≡ 10 → empty_line_ends w k ≡ true
 ends_one w k feed some before = rw (feed, before) (grind (arith, nat_tests))
 
-ends_two : (w : List ℕ) (k : ℕ) → get_or w k 0 ≡ 10 → 1 < k → get_or w (k - 1) 0 ≡ 13 → get_or w (k - 2) 0 ≡ 10 → empty_line_ends w k ≡ true
+ends_two : (w : List ℕ) (k : ℕ) → get_or w k 0 ≡ 10 → 1 < k → get_or w (k - 1) 0 ≡ 13 → get_or w (k - 2) 0 ≡ 10
+    → empty_line_ends w k ≡ true
 ends_two w k feed some cr before = rw (feed, cr, before) (grind (arith, nat_tests))
 
 not_less : (m n : ℕ) (b : Bool) → n ≤ m → (nat_lt m n && b) ≡ false
@@ -45,7 +47,10 @@ no_head_more {w} {at} {n} after line some none = λ k below. (
             not_after_feed w k
             (λ some_before e10. elim (cases_lt at k) [
               | inl longer ↦ line.first (k - 1) (omega arith) (omega arith) e10
-              | inr short ↦ some (line.text ∙ cond-false (nat_lt (at + 1) n && (get_or w (n - 2) 0 == 13)) (n - 2) (n - 1) (not_less (at + 1) n (get_or w (n - 2) 0 == 13) (omega arith)) ∙ omega (arith, line.after))
+              | inr short ↦
+                  some (line.text
+                  ∙ cond-false (nat_lt (at + 1) n && (get_or w (n - 2) 0 == 13)) (n - 2) (n - 1)
+                  (not_less (at + 1) n (get_or w (n - 2) 0 == 13) (omega arith)) ∙ omega (arith, line.after))
             ])
             (λ two_before e13 e10. elim (cases_lt (at + 1) k) [
               | inl longer ↦ line.first (k - 2) (omega arith) (omega arith) e10
@@ -53,9 +58,14 @@ no_head_more {w} {at} {n} after line some none = λ k below. (
                 | inl here ↦ (
                     let same : k - 1 ≡ n - 2 = omega arith in
                     let cr : get_or w (n - 2) 0 ≡ 13 = ap (λ j. get_or w j 0) (sym same) ∙ e13 in
-                    some (line.text ∙ cond-true (nat_lt (at + 1) n && (get_or w (n - 2) 0 == 13)) (n - 2) (n - 1) (cr_line (at + 1) n (get_or w (n - 2) 0) (omega arith) cr) ∙ omega arith)
+                    some (line.text
+                    ∙ cond-true (nat_lt (at + 1) n && (get_or w (n - 2) 0 == 13)) (n - 2) (n - 1)
+                    (cr_line (at + 1) n (get_or w (n - 2) 0) (omega arith) cr) ∙ omega arith)
                     )
-                | inr other ↦ some (line.text ∙ cond-false (nat_lt (at + 1) n && (get_or w (n - 2) 0 == 13)) (n - 2) (n - 1) (not_less (at + 1) n (get_or w (n - 2) 0 == 13) (omega arith)) ∙ omega (arith, line.after))
+                | inr other ↦
+                    some (line.text
+                    ∙ cond-false (nat_lt (at + 1) n && (get_or w (n - 2) 0 == 13)) (n - 2) (n - 1)
+                    (not_less (at + 1) n (get_or w (n - 2) 0 == 13) (omega arith)) ∙ omega (arith, line.after))
               ]
             ])
             )
@@ -71,14 +81,18 @@ head_here {w} {at} {n} after feed line none = record {
     | inl cr ↦ (
         let text_end : at ≡ n - 2 = line.text ∙ cond-true (nat_lt (at + 1) n && (get_or w (n - 2) 0 == 13)) (n - 2) (n - 1) cr in
         let more : 2 ≤ n = omega (arith, line.after) in
-        let byte : get_or w (n - 1 - 1) 0 ≡ get_or w (n - 2) 0 = ap (λ j. get_or w j 0) (let j : n - 1 - 1 ≡ n - 2 = omega arith in j) in
-        let before : get_or w (n - 1 - 2) 0 ≡ 10 = ap (λ j. get_or w j 0) (let j : n - 1 - 2 ≡ at - 1 = omega arith in j) ∙ feed in
+        let byte : get_or w (n - 1 - 1) 0 ≡ get_or w (n - 2) 0 =
+        ap (λ j. get_or w j 0) (let j : n - 1 - 1 ≡ n - 2 = omega arith in j) in
+        let before : get_or w (n - 1 - 2) 0 ≡ 10 =
+        ap (λ j. get_or w j 0) (let j : n - 1 - 2 ≡ at - 1 = omega arith in j) ∙ feed in
         let bytes : get_or w (n - 2) 0 ≡ 13 = cr_byte (at + 1) n (get_or w (n - 2) 0) cr in
         ends_two w (n - 1) line.feed (omega (arith, after, text_end)) (byte ∙ bytes) before
         )
     | inr other ↦ (
-        let text_end : at ≡ n - 1 = line.text ∙ cond-false (nat_lt (at + 1) n && (get_or w (n - 2) 0 == 13)) (n - 2) (n - 1) other in
-        let before : get_or w (n - 1 - 1) 0 ≡ 10 = ap (λ j. get_or w j 0) (let j : n - 1 - 1 ≡ at - 1 = omega (arith, line.after) in j) ∙ feed in
+        let text_end : at ≡ n - 1 =
+        line.text ∙ cond-false (nat_lt (at + 1) n && (get_or w (n - 2) 0 == 13)) (n - 2) (n - 1) other in
+        let before : get_or w (n - 1 - 1) 0 ≡ 10 =
+        ap (λ j. get_or w j 0) (let j : n - 1 - 1 ≡ at - 1 = omega (arith, line.after) in j) ∙ feed in
         ends_one w (n - 1) line.feed (omega arith) before
         )
   ];
@@ -93,7 +107,9 @@ pub no_head_first : (w : List ℕ) (e n : ℕ) → IsLine w 0 e n → HasNoHead 
 no_head_first w e n line = λ k below.
     elim (cases_lt (k + 1) n) [
       | inl inside ↦ not_feed w k (line.first k (omega arith) inside)
-      | inr last ↦ not_after_feed w k (λ some. line.first (k - 1) (omega arith) (omega arith)) (λ two cr. line.first (k - 2) (omega arith) (omega arith))
+      | inr last ↦
+          not_after_feed w k (λ some. line.first (k - 1) (omega arith) (omega arith))
+          (λ two cr. line.first (k - 2) (omega arith) (omega arith))
     ]
 
 -- no head ends where no line does
@@ -116,7 +132,8 @@ line_bounds w at e n line =
           (omega arith, omega arith)
           )
       | inr other ↦ (
-          let text_end : e ≡ n - 1 = line.text ∙ cond-false (nat_lt (at + 1) n && (get_or w (n - 2) 0 == 13)) (n - 2) (n - 1) other in
+          let text_end : e ≡ n - 1 =
+          line.text ∙ cond-false (nat_lt (at + 1) n && (get_or w (n - 2) 0 == 13)) (n - 2) (n - 1) other in
           (omega (arith, line.after), omega (arith, line.after))
           )
     ]
@@ -126,7 +143,8 @@ line_drop : (w : List ℕ) (at e n : ℕ) → IsLine w at e n → IsLine (drop a
 line_drop w at e n line = record {
   after = omega (arith, line.after);
   within = omega (arith, length-drop at w, line.within);
-  feed = get_or-drop at w (n - at - 1) 0 ∙ ap (λ j. get_or w j 0) (let j : at + (n - at - 1) ≡ n - 1 = omega (arith, line.after) in j) ∙ line.feed;
+  feed = get_or-drop at w (n - at - 1) 0
+      ∙ ap (λ j. get_or w j 0) (let j : at + (n - at - 1) ≡ n - 1 = omega (arith, line.after) in j) ∙ line.feed;
   first = λ k from below e10. line.first (at + k) (omega arith) (omega arith) (sym (get_or-drop at w k 0) ∙ e10);
   text = elim (cases_lt (at + 1) n) [
     | inl more ↦ (
@@ -134,22 +152,30 @@ line_drop w at e n line = record {
         get_or-drop at w (n - at - 2) 0 ∙ ap (λ j. get_or w j 0) (let j : at + (n - at - 2) ≡ n - 2 = omega arith in j) in
         elim (cases_Bool (get_or w (n - 2) 0 == 13)) [
           | inl cr ↦ (
-              let text_end : e ≡ n - 2 = line.text ∙ cond-true (nat_lt (at + 1) n && (get_or w (n - 2) 0 == 13)) (n - 2) (n - 1) (grind (arith, nat_tests)) in
+              let text_end : e ≡ n - 2 =
+              line.text ∙ cond-true (nat_lt (at + 1) n && (get_or w (n - 2) 0 == 13)) (n - 2) (n - 1)
+              (grind (arith, nat_tests)) in
               let e' : e - at ≡ n - at - 2 = omega arith in
-              e' ∙ sym (cond-true (nat_lt 1 (n - at) && (get_or (drop at w) (n - at - 2) 0 == 13)) (n - at - 2) (n - at - 1) (rw byte (grind (arith, nat_tests))))
+              e' ∙ sym (cond-true (nat_lt 1 (n - at) && (get_or (drop at w) (n - at - 2) 0 == 13)) (n - at - 2)
+              (n - at - 1) (rw byte (grind (arith, nat_tests))))
               )
           | inr other ↦ (
-              let text_end : e ≡ n - 1 = line.text ∙ cond-false (nat_lt (at + 1) n && (get_or w (n - 2) 0 == 13)) (n - 2) (n - 1) (grind (arith, nat_tests)) in
+              let text_end : e ≡ n - 1 =
+              line.text ∙ cond-false (nat_lt (at + 1) n && (get_or w (n - 2) 0 == 13)) (n - 2) (n - 1)
+              (grind (arith, nat_tests)) in
               let e' : e - at ≡ n - at - 1 = omega arith in
-              e' ∙ sym (cond-false (nat_lt 1 (n - at) && (get_or (drop at w) (n - at - 2) 0 == 13)) (n - at - 2) (n - at - 1) (rw byte (grind (arith, nat_tests))))
+              e' ∙ sym (cond-false (nat_lt 1 (n - at) && (get_or (drop at w) (n - at - 2) 0 == 13)) (n - at - 2)
+              (n - at - 1) (rw byte (grind (arith, nat_tests))))
               )
         ]
         )
     | inr less ↦ (
-        let text_end : e ≡ n - 1 = line.text ∙ cond-false (nat_lt (at + 1) n && (get_or w (n - 2) 0 == 13)) (n - 2) (n - 1) (grind (arith, nat_tests)) in
+        let text_end : e ≡ n - 1 =
+        line.text ∙ cond-false (nat_lt (at + 1) n && (get_or w (n - 2) 0 == 13)) (n - 2) (n - 1) (grind (arith, nat_tests)) in
         let e' : e - at ≡ n - at - 1 = omega arith in
         let short : n - at ≤ 1 = omega (arith, less) in
-        e' ∙ sym (cond-false (nat_lt 1 (n - at) && (get_or (drop at w) (n - at - 2) 0 == 13)) (n - at - 2) (n - at - 1) (grind (arith, nat_tests)))
+        e' ∙ sym (cond-false (nat_lt 1 (n - at) && (get_or (drop at w) (n - at - 2) 0 == 13)) (n - at - 2)
+        (n - at - 1) (grind (arith, nat_tests)))
         )
   ];
 }
@@ -161,14 +187,17 @@ line_take {w} {at} {n} m few line = record {
   within = omega (arith, length-take m w, line.within);
   feed = get_or-take m w (n - 1) 0 (omega (arith, line.after)) ∙ line.feed;
   first = λ k from below e10. line.first k from below (sym (get_or-take m w k 0 (omega arith)) ∙ e10);
-  text = line.text ∙ ap (λ b. cond (nat_lt (at + 1) n && (b == 13)) (n - 2) (n - 1)) (sym (get_or-take m w (n - 2) 0 (omega (arith, line.after))));
+  text = line.text
+      ∙ ap (λ b. cond (nat_lt (at + 1) n && (b == 13)) (n - 2) (n - 1))
+      (sym (get_or-take m w (n - 2) 0 (omega (arith, line.after))));
 }
 
 -- the line that begins at a place
 next_at : (w : List ℕ) (at e n : ℕ) → IsLine w at e n → IsNextLine (drop at w) (take (e - at) (drop at w)) (drop n w)
 next_at w at e n line =
     let next = next_here (drop at w) (e - at) (n - at) (line_drop w at e n line) in
-    let rest : drop (n - at) (drop at w) ≡ drop n w = drop-drop (n - at) at w ∙ ap (λ k. drop k w) (let k : at + (n - at) ≡ n = omega (arith, line.after) in k) in
+    let rest : drop (n - at) (drop at w) ≡ drop n w =
+    drop-drop (n - at) at w ∙ ap (λ k. drop k w) (let k : at + (n - at) ≡ n = omega (arith, line.after) in k) in
     record {
       lines_are = next.lines_are ∙ ap (λ r. take (e - at) (drop at w) ∷ lines r) rest;
       shorter = omega (arith, length-drop at w, length-drop n w, line.after, line.within);
@@ -204,7 +233,10 @@ walk_first w e n line =
       whole = sym (header_lines-next w (take e w) (drop n w) next);
       front = λ m few.
           let there = next_here (take m w) e n (line_take m few line) in
-          there.lines_are ∙ ap (λ t. t ∷ lines (drop n (take m w))) (take-take e m w (omega (arith, (line_bounds w 0 e n line).1)) ∙ sym (first_line-next w (take e w) (drop n w) next));
+          there.lines_are
+          ∙ ap (λ t. t ∷ lines (drop n (take m w)))
+          (take-take e m w (omega (arith, (line_bounds w 0 e n line).1))
+          ∙ sym (first_line-next w (take e w) (drop n w) next));
     }
 
 -- after one line more
@@ -212,7 +244,8 @@ pub walk_more : {w : List ℕ} {at e n : ℕ} → HasWalked w at → IsLine w at
 walk_more {w} {at} {e} {n} walked line some =
     let bounds = line_bounds w at e n line in
     let text = take (e - at) (drop at w) in
-    let long : 0 < length text = omega (arith, length-take (e - at) (drop at w), length-drop at w, bounds.0, bounds.1, line.within, some) in
+    let long : 0 < length text =
+    omega (arith, length-take (e - at) (drop at w), length-drop at w, bounds.0, bounds.1, line.within, some) in
     let next = next_header (drop at w) text (drop n w) (next_at w at e n line) long in
     record {
       after = omega (arith, line.after);
@@ -220,16 +253,21 @@ walk_more {w} {at} {e} {n} walked line some =
       feed = line.feed;
       none = no_head_more walked.after line some walked.none;
       seen = walked.seen ++ text ∷ [];
-      whole = walked.whole ∙ ap (λ l. walked.seen ++ l) next.lines_are ∙ sym (append_assoc walked.seen (text ∷ []) (lines_before_empty (drop n w)));
+      whole = walked.whole ∙ ap (λ l. walked.seen ++ l) next.lines_are
+          ∙ sym (append_assoc walked.seen (text ∷ []) (lines_before_empty (drop n w)));
       front = λ m few.
           let there = next_at (take m w) at e n (line_take m few line) in
           walked.front m (omega (arith, line.after))
-          ∙ ap (λ l. first_line w ∷ (walked.seen ++ l)) (there.lines_are ∙ ap (λ t. t ∷ lines (drop n (take m w))) (text_take w at e m (omega (arith, line.after)) (omega (arith, bounds.1))))
+          ∙ ap (λ l. first_line w ∷ (walked.seen ++ l))
+          (there.lines_are
+          ∙ ap (λ t. t ∷ lines (drop n (take m w)))
+          (text_take w at e m (omega (arith, line.after)) (omega (arith, bounds.1))))
           ∙ ap (λ l. first_line w ∷ l) (sym (append_assoc walked.seen (text ∷ []) (lines (drop n (take m w)))));
     }
 
 -- the lines of a head
-same_header_lines : (head message : List ℕ) → lines head ≡ first_line message ∷ (header_lines message ++ [] ∷ []) → header_lines head ≡ header_lines message
+same_header_lines : (head message : List ℕ)
+    → lines head ≡ first_line message ∷ (header_lines message ++ [] ∷ []) → header_lines head ≡ header_lines message
 unfolding header_lines
 same_header_lines head message e = ap (λ l. before_empty (drop 1 l)) e ∙ before_empty-closed (drop 1 (lines message))
 
@@ -239,13 +277,17 @@ walk_end w at n walked line =
     let empty : take (at - at) (drop at w) ≡ [] = ap (λ k. take k (drop at w)) (let k : at - at ≡ 0 = omega arith in k) in
     let none : length (take (at - at) (drop at w)) ≡ 0 = ap length empty in
     let last : header_lines w ≡ walked.seen =
-    walked.whole ∙ ap (λ l. walked.seen ++ l) (next_empty (drop at w) (take (at - at) (drop at w)) (drop n w) (next_at w at at n line) none) ∙ append-nil walked.seen in
+    walked.whole
+    ∙ ap (λ l. walked.seen ++ l)
+    (next_empty (drop at w) (take (at - at) (drop at w)) (drop n w) (next_at w at at n line) none) ∙ append-nil walked.seen in
     let there = next_at (take n w) at at n (line_take n (omega arith) line) in
     let rest : drop n (take n w) ≡ [] = drop_all n (take n w) (omega (arith, length-take n w)) in
-    let text : take (at - at) (drop at (take n w)) ≡ [] = ap (λ k. take k (drop at (take n w))) (let k : at - at ≡ 0 = omega arith in k) in
+    let text : take (at - at) (drop at (take n w)) ≡ [] =
+    ap (λ k. take k (drop at (take n w))) (let k : at - at ≡ 0 = omega arith in k) in
     let lines_are : lines (take n w) ≡ first_line w ∷ (header_lines w ++ [] ∷ []) =
     walked.front n (omega (arith, line.after))
-    ∙ ap (λ l. first_line w ∷ (walked.seen ++ l)) (there.lines_are ∙ ap (λ t. t ∷ lines (drop n (take n w))) text ∙ ap (λ r. [] ∷ lines r) rest)
+    ∙ ap (λ l. first_line w ∷ (walked.seen ++ l))
+    (there.lines_are ∙ ap (λ t. t ∷ lines (drop n (take n w))) text ∙ ap (λ r. [] ∷ lines r) rest)
     ∙ ap (λ l. first_line w ∷ (l ++ [] ∷ [])) (sym last) in
     let len : length (take n w) ≡ n = length-take-le n w line.within in
     let P : ℕ → Type 0 = λ k. IsHead w k in

@@ -25,14 +25,21 @@ inside_nil : (n : ℕ) → IsInside n []
 inside_nil n = record { short = omega arith; one_line = refl }
 
 -- one byte more in front of the first part
-onto_inside : (n x : ℕ) → (x == 10) ≡ false → (parts : List (List ℕ)) → All (IsInside n) parts → All (IsInside (n + 1)) (onto_first x parts)
+onto_inside : (n x : ℕ) → (x == 10) ≡ false → (parts : List (List ℕ)) → All (IsInside n) parts
+    → All (IsInside (n + 1)) (onto_first x parts)
 onto_inside n x other [] all =
-    All-cons (IsInside (n + 1)) (x ∷ []) [] (record { short = omega arith; one_line = rw other refl }) (All-nil (IsInside (n + 1)))
+    All-cons (IsInside (n + 1)) (x ∷ []) [] (record { short = omega arith; one_line = rw other refl })
+    (All-nil (IsInside (n + 1)))
 onto_inside n x other (part ∷ parts) all =
     let first = All-head (IsInside n) part parts all in
     All-cons (IsInside (n + 1)) (x ∷ part) parts
-    (record { short = omega (arith, first.short); one_line = and_from (not (x == 10)) (is_one_line part) (ap not other) first.one_line })
-    (All-weaker (IsInside n) (IsInside (n + 1)) (inside_more n (n + 1) (omega arith)) parts (All-tail (IsInside n) part parts all))
+    (record {
+      short = omega (arith, first.short);
+      one_line =
+          and_from (not (x == 10)) (is_one_line part) (ap not other) first.one_line;
+    })
+    (All-weaker (IsInside n) (IsInside (n + 1)) (inside_more n (n + 1) (omega arith)) parts
+    (All-tail (IsInside n) part parts all))
 
 -- the parts between the LFs
 parts_inside : (bytes : List ℕ) → All (IsInside (length bytes)) (slice_split (λ b. b == 10) bytes)
@@ -45,7 +52,8 @@ parts_inside (x ∷ bytes) =
     elim (cases_Bool (x == 10)) [
       | inl feed ↦ subst P (sym (slice_split-cons_yes (λ b. b == 10) x bytes feed))
           (All-cons (IsInside (length (x ∷ bytes))) [] (slice_split (λ b. b == 10) bytes) (inside_nil (length (x ∷ bytes)))
-          (All-weaker (IsInside n) (IsInside (length (x ∷ bytes))) (inside_more n (length (x ∷ bytes)) (omega arith)) (slice_split (λ b. b == 10) bytes) rest))
+          (All-weaker (IsInside n) (IsInside (length (x ∷ bytes)))
+          (inside_more n (length (x ∷ bytes)) (omega arith)) (slice_split (λ b. b == 10) bytes) rest))
       | inr other ↦ subst P (sym (slice_split-cons_no (λ b. b == 10) x bytes other))
           (let Q : ℕ → Type 0 = λ m. All (IsInside m) (onto_first x (slice_split (λ b. b == 10) bytes)) in
           subst Q long (onto_inside n x other (slice_split (λ b. b == 10) bytes) rest))
@@ -53,10 +61,14 @@ parts_inside (x ∷ bytes) =
 
 -- fewer bytes
 pub all-take : (p : ℕ → Bool) (n : ℕ) (text : List ℕ) → list_all p text ≡ true → list_all p (take n text) ≡ true
-all-take p n text all = (and_parts (list_all p (take n text)) (list_all p (drop n text)) (sym (list_all-append p (take n text) (drop n text)) ∙ ap (list_all p) (take-append-drop n text) ∙ all)).0
+all-take p n text all =
+    (and_parts (list_all p (take n text)) (list_all p (drop n text))
+    (sym (list_all-append p (take n text) (drop n text)) ∙ ap (list_all p) (take-append-drop n text) ∙ all)).0
 
 pub all-drop : (p : ℕ → Bool) (n : ℕ) (text : List ℕ) → list_all p text ≡ true → list_all p (drop n text) ≡ true
-all-drop p n text all = (and_parts (list_all p (take n text)) (list_all p (drop n text)) (sym (list_all-append p (take n text) (drop n text)) ∙ ap (list_all p) (take-append-drop n text) ∙ all)).1
+all-drop p n text all =
+    (and_parts (list_all p (take n text)) (list_all p (drop n text))
+    (sym (list_all-append p (take n text) (drop n text)) ∙ ap (list_all p) (take-append-drop n text) ∙ all)).1
 
 strip_inside : (n : ℕ) (text : List ℕ) → IsInside n text → IsInside n (strip_carriage_return text)
 strip_inside n text i =
@@ -64,7 +76,11 @@ strip_inside n text i =
     let P : List ℕ → Type 0 = IsInside n in
     elim (cases_Bool b) [
       | inl cr ↦ subst P (sym (cond-true b (take (length text - 1) text) text cr))
-          (record { short = omega (arith, i.short, length-take (length text - 1) text); one_line = all-take (λ byte. not (byte == 10)) (length text - 1) text i.one_line })
+          (record {
+            short = omega (arith, i.short, length-take (length text - 1) text);
+            one_line =
+                all-take (λ byte. not (byte == 10)) (length text - 1) text i.one_line;
+          })
       | inr other ↦ subst P (sym (cond-false b (take (length text - 1) text) text other)) i
     ]
 
@@ -77,7 +93,8 @@ of_parts_inside n (x ∷ []) all =
       | inr some ↦ subst P (sym (cond-false (length x == 0) [] (x ∷ []) some)) all
     ]
 of_parts_inside n (x ∷ y ∷ more) all =
-    All-cons (IsInside n) (strip_carriage_return x) (lines_of_parts (y ∷ more)) (strip_inside n x (All-head (IsInside n) x (y ∷ more) all))
+    All-cons (IsInside n) (strip_carriage_return x) (lines_of_parts (y ∷ more))
+    (strip_inside n x (All-head (IsInside n) x (y ∷ more) all))
     (of_parts_inside n (y ∷ more) (All-tail (IsInside n) x (y ∷ more) all))
 
 lines_inside : (bytes : List ℕ) → All (IsInside (length bytes)) (lines bytes)
@@ -86,7 +103,8 @@ lines_inside bytes = of_parts_inside (length bytes) (slice_split (λ b. b == 10)
 header_lines_inside : (bytes : List ℕ) → All (IsInside (length bytes)) (header_lines bytes)
 unfolding header_lines
 header_lines_inside bytes =
-    All-take (IsInside (length bytes)) _ (drop 1 (lines bytes)) (All-drop (IsInside (length bytes)) 1 (lines bytes) (lines_inside bytes))
+    All-take (IsInside (length bytes)) _ (drop 1 (lines bytes))
+    (All-drop (IsInside (length bytes)) 1 (lines bytes) (lines_inside bytes))
 
 -- a text without the blanks around it
 all-front : (p : ℕ → Bool) (text : List ℕ) → list_all p text ≡ true → list_all p (without_front_blanks text) ≡ true
@@ -137,7 +155,14 @@ field_inside n name line value i f =
     sym (list_all-append (λ byte. not (byte == 10)) f.front (58 ∷ f.after)) ∙ ap is_one_line (sym f.cut.parts) ∙ i.one_line in
     let rest : is_one_line f.after ≡ true = (and_parts (is_one_line f.front) (is_one_line f.after) whole).1 in
     record {
-      short = omega (arith, ap length f.value_is, length-trimmed f.after, ap length f.cut.parts, length-append f.front (58 ∷ f.after), i.short);
+      short = omega (
+        arith,
+        ap length f.value_is,
+        length-trimmed f.after,
+        ap length f.cut.parts,
+        length-append f.front (58 ∷ f.after),
+        i.short,
+      );
       one_line = ap is_one_line f.value_is ∙ all-trimmed (λ byte. not (byte == 10)) f.after rest;
     }
 
@@ -149,13 +174,16 @@ value_inside head name value f =
 
 -- the first line
 pub first_line_inside : (bytes line : List ℕ) (more : List (List ℕ)) → lines bytes ≡ line ∷ more → IsInside (length bytes) line
-first_line_inside bytes line more are = All-head (IsInside (length bytes)) line more (subst (All (IsInside (length bytes))) are (lines_inside bytes))
+first_line_inside bytes line more are =
+    All-head (IsInside (length bytes)) line more (subst (All (IsInside (length bytes))) are (lines_inside bytes))
 
 -- the same of what was found
-pub found_short : {X : Type 0} (now : X → List ℕ) (r : Option X) (name head : List ℕ) → IfSome r (λ x. IsFirstField name (header_lines head) (now x)) → IfSome r (λ x. length (now x) ≤ length head)
+pub found_short : {X : Type 0} (now : X → List ℕ) (r : Option X) (name head : List ℕ)
+    → IfSome r (λ x. IsFirstField name (header_lines head) (now x)) → IfSome r (λ x. length (now x) ≤ length head)
 found_short now None name head first = tt
 found_short now (Some x) name head first = (value_inside head name (now x) first).short
 
-pub found_one_line : {X : Type 0} (now : X → List ℕ) (r : Option X) (name head : List ℕ) → IfSome r (λ x. IsFirstField name (header_lines head) (now x)) → IfSome r (λ x. is_one_line (now x) ≡ true)
+pub found_one_line : {X : Type 0} (now : X → List ℕ) (r : Option X) (name head : List ℕ)
+    → IfSome r (λ x. IsFirstField name (header_lines head) (now x)) → IfSome r (λ x. is_one_line (now x) ≡ true)
 found_one_line now None name head first = tt
 found_one_line now (Some x) name head first = (value_inside head name (now x) first).one_line

@@ -63,7 +63,8 @@ fault_once message BadLength BadLength a b = refl
 pub no_fault : {message method url : List ℕ} {sequence : ℕ} {head body : List ℕ} (f : RequestFault) →
     IsRequest message method url sequence head body → IsFault message f → ⊥
 no_fault {method} {url} BadLine r f = f (codes "RTSP/1.0") (method, (url, r.line))
-no_fault {message} {method} {url} BadVersion r f = f.1.1 (version_once message f.0 (codes "RTSP/1.0") f.1.0 (method, (url, r.line)))
+no_fault {message} {method} {url} BadVersion r f =
+    f.1.1 (version_once message f.0 (codes "RTSP/1.0") f.1.0 (method, (url, r.line)))
 no_fault {message} (BadHeader n) r f = no_bad (header_lines message) n r.headers f.1
 no_fault {sequence} NoSequenceNumber r f = none-some sequence (sym f.2 ∙ r.sequence_is)
 no_fault BadLength r f = f.3 r.length_is
@@ -83,9 +84,11 @@ request_once {message} {s} {h} {b} {s'} {h'} {b'} x y =
     let line = line_once x.line y.line in
     let len : length h ≡ length h' = head_once message (length h) (length h') x.split.is_head y.split.is_head in
     let front : h ≡ h' =
-    sym (take_at h b (length h) refl) ∙ ap (take (length h)) (sym x.split.parts) ∙ ap (λ n. take n message) len ∙ ap (take (length h')) y.split.parts ∙ take_at h' b' (length h') refl in
+    sym (take_at h b (length h) refl) ∙ ap (take (length h)) (sym x.split.parts) ∙ ap (λ n. take n message) len
+    ∙ ap (take (length h')) y.split.parts ∙ take_at h' b' (length h') refl in
     let after : b ≡ b' =
-    sym (drop_at h b (length h) refl) ∙ ap (drop (length h)) (sym x.split.parts) ∙ ap (λ n. drop n message) len ∙ ap (drop (length h')) y.split.parts ∙ drop_at h' b' (length h') refl in
+    sym (drop_at h b (length h) refl) ∙ ap (drop (length h)) (sym x.split.parts) ∙ ap (λ n. drop n message) len
+    ∙ ap (drop (length h')) y.split.parts ∙ drop_at h' b' (length h') refl in
     record {
       method_is = line.method_is;
       url_is = line.url_is;
@@ -95,11 +98,13 @@ request_once {message} {s} {h} {b} {s'} {h'} {b'} x y =
     }
 
 -- from what an answer says to the answer
-pub ok_and : {X E : Type 0} {P Q : X → Type 0} {R : E → Type 0} (r : Result X E) → IfOk r P → IfErr r R → ((x : X) → P x → Q x) → ((e : E) → R e → ⊥) → IsOkAnd r Q
+pub ok_and : {X E : Type 0} {P Q : X → Type 0} {R : E → Type 0} (r : Result X E) → IfOk r P → IfErr r R
+    → ((x : X) → P x → Q x) → ((e : E) → R e → ⊥) → IsOkAnd r Q
 ok_and {P} (Ok x) read refused read_is refused_is = read_is x read
 ok_and {P} (Err e) read refused read_is refused_is = absurd (refused_is e refused)
 
-pub err_is : {X E : Type 0} {r : Result X E} {P : X → Type 0} {R : E → Type 0} {f : E} → IfOk r P → IfErr r R → ((x : X) → P x → ⊥) → ((e : E) → R e → e ≡ f) → r ≡ Err f
+pub err_is : {X E : Type 0} {r : Result X E} {P : X → Type 0} {R : E → Type 0} {f : E} → IfOk r P → IfErr r R
+    → ((x : X) → P x → ⊥) → ((e : E) → R e → e ≡ f) → r ≡ Err f
 err_is {r = Ok x} {P} read refused refused_is read_is = absurd (refused_is x read)
 err_is {r = Err e} {P} read refused refused_is read_is = ap Err (read_is e refused)
 
@@ -109,16 +114,19 @@ pub record IsAt (lines : List (List ℕ)) (n : ℕ) (line : List ℕ) (more : Li
   pub line_is : get_or lines n [] ≡ line
   pub left : drop (n + 1) lines ≡ more
 
-pub line_at : (lines : List (List ℕ)) (n : ℕ) (line : List ℕ) (more : List (List ℕ)) → drop n lines ≡ line ∷ more → IsAt lines n line more
+pub line_at : (lines : List (List ℕ)) (n : ℕ) (line : List ℕ) (more : List (List ℕ))
+    → drop n lines ≡ line ∷ more → IsAt lines n line more
 line_at lines n line more e =
     let count : length (drop n lines) ≡ length more + 1 = ap length e ∙ omega arith in
     record {
       inside = omega (arith, count, length-drop n lines);
-      line_is = ap (λ k. get_or lines k []) (let k : n ≡ n + 0 = omega arith in k) ∙ sym (get_or-drop n lines 0 []) ∙ ap (λ l. get_or l 0 []) e;
+      line_is = ap (λ k. get_or lines k []) (let k : n ≡ n + 0 = omega arith in k)
+          ∙ sym (get_or-drop n lines 0 []) ∙ ap (λ l. get_or l 0 []) e;
       left = sym (drop-drop 1 n lines) ∙ ap (drop 1) e;
     }
 
-pub all_good : (lines : List (List ℕ)) (n : ℕ) → drop n lines ≡ [] → ((k : ℕ) → k < n → IsHeaderLine (get_or lines k [])) → All IsHeaderLine lines
+pub all_good : (lines : List (List ℕ)) (n : ℕ) → drop n lines ≡ []
+    → ((k : ℕ) → k < n → IsHeaderLine (get_or lines k [])) → All IsHeaderLine lines
 all_good lines n e before =
     let count : length (drop n lines) ≡ 0 = ap length e in
     All-from_get_or IsHeaderLine lines [] (λ k inside. before k (omega (arith, inside, count, length-drop n lines)))

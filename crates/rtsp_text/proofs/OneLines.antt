@@ -17,14 +17,17 @@ pub one_line_from : (q : ℕ → Bool) → q 10 ≡ false → (text : List ℕ) 
 one_line_from q fails text all = all_other q 10 fails text all
 
 pub one_line-append : (a b : List ℕ) → is_one_line a ≡ true → is_one_line b ≡ true → is_one_line (a ++ b) ≡ true
-one_line-append a b one other = list_all-append (λ byte. not (byte == 10)) a b ∙ and_from (is_one_line a) (is_one_line b) one other
+one_line-append a b one other =
+    list_all-append (λ byte. not (byte == 10)) a b ∙ and_from (is_one_line a) (is_one_line b) one other
 
 pub one_line-url : (text : List ℕ) → list_all is_url_byte text ≡ true → is_one_line text ≡ true
 one_line-url text all = one_line_from is_url_byte refl text all
 
 pub one_line-name : (name : List ℕ) → is_good_name name ≡ true → is_one_line name ≡ true
 one_line-name name good =
-    one_line_from is_name_byte refl name (and_parts (nat_lt 0 (length name) && nat_le (length name) 64 && not (get_or name 0 0 == 46)) (list_all is_name_byte name) good).1
+    one_line_from is_name_byte refl name
+    (and_parts (nat_lt 0 (length name) && nat_le (length name) 64 && not (get_or name 0 0 == 46))
+    (list_all is_name_byte name) good).1
 
 -- digits are numerals in base 10
 pub decimal_numerals : IsNumeralModel (λ ds. list_all is_ascii_digit ds ≡ true) (digits_value 10)

@@ -31,8 +31,10 @@ record IsShort (head body : List ℕ) : Type 0 where
   body_is : length body ≤ 65536
 
 whole_message : {s : List ℕ} (fields : List Field) (body : List ℕ) → IsLineText s → All IsPlain fields →
-    length_given (value_named (codes "Content-Length") fields) ≡ length body → IsShort (flat (s ∷ map text_of fields) ++ codes "\r\n") body →
-    IsRequestLength ((flat (s ∷ map text_of fields) ++ codes "\r\n") ++ body) (length ((flat (s ∷ map text_of fields) ++ codes "\r\n") ++ body))
+    length_given (value_named (codes "Content-Length") fields) ≡ length body →
+    IsShort (flat (s ∷ map text_of fields) ++ codes "\r\n") body →
+    IsRequestLength ((flat (s ∷ map text_of fields) ++ codes "\r\n") ++ body)
+    (length ((flat (s ∷ map text_of fields) ++ codes "\r\n") ++ body))
 whole_message {s} fields body one all given short =
     let head = flat (s ∷ map text_of fields) ++ codes "\r\n" in
     let is_body : IsBodyLength head (length body) = subst (λ n. IsBodyLength head n) given (body_length_of s fields one all) in
@@ -52,11 +54,16 @@ some_number value n read =
     elim (cases_Bool (is_decimal value && nat_lt (digits_value 10 value) (2 ^ 64))) [
       | inl good ↦ (
           let is : Some (digits_value 10 value) ≡ Some n =
-          sym (cond-true (is_decimal value && nat_lt (digits_value 10 value) (2 ^ 64)) (Some (digits_value 10 value)) None good) ∙ read in
-          ((and_parts (is_decimal value) (nat_lt (digits_value 10 value) (2 ^ 64)) good).0, (let e : digits_value 10 value ≡ n = cc in e))
+          sym (cond-true (is_decimal value && nat_lt (digits_value 10 value) (2 ^ 64))
+          (Some (digits_value 10 value)) None good) ∙ read in (
+            (and_parts (is_decimal value) (nat_lt (digits_value 10 value) (2 ^ 64)) good).0,
+            (let e : digits_value 10 value ≡ n = cc in e),
+          )
           )
       | inr wrong ↦ (
-          let bad : None ≡ Some n = sym (cond-false (is_decimal value && nat_lt (digits_value 10 value) (2 ^ 64)) (Some (digits_value 10 value)) None wrong) ∙ read in
+          let bad : None ≡ Some n =
+          sym (cond-false (is_decimal value && nat_lt (digits_value 10 value) (2 ^ 64))
+          (Some (digits_value 10 value)) None wrong) ∙ read in
           absurd (let no : ⊥ = cc in no)
           )
     ]
@@ -64,21 +71,30 @@ some_number value n read =
 written_is : (value : List ℕ) → is_decimal value ≡ true → written_length value ≡ digits_value 10 value
 written_is value decimal = cond-true (is_decimal value) (digits_value 10 value) 0 decimal
 
-given_is : (o : Option (List ℕ)) (body : List ℕ) → MatchOption o (body ≡ []) (λ value. number_of value ≡ Some (length body)) → length_given o ≡ length body
+given_is : (o : Option (List ℕ)) (body : List ℕ)
+    → MatchOption o (body ≡ []) (λ value. number_of value ≡ Some (length body)) → length_given o ≡ length body
 given_is None body none = sym (ap length none)
 given_is (Some value) body read = let is = some_number value (length body) read in written_is value is.0 ∙ is.1
 
-given_digits : (o : Option (List ℕ)) (body : List ℕ) → MatchOption o (body ≡ []) (λ value. number_of value ≡ Some (length body)) → IfSome o (λ value. is_decimal value ≡ true)
+given_digits : (o : Option (List ℕ)) (body : List ℕ)
+    → MatchOption o (body ≡ []) (λ value. number_of value ≡ Some (length body)) → IfSome o (λ value. is_decimal value ≡ true)
 given_digits None body none = tt
 given_digits (Some value) body read = (some_number value (length body) read).0
 
 -- header fields are read as they were written
 plain_field : (field : Field) → IsHeaderField field → IsPlain field
-plain_field field h = record { name_is = word_is field.name h.name_is; one_line = one_line_from is_value_byte refl field.value (value_is field.value h.value_is); bare = h.bare }
+plain_field field h =
+    record {
+      name_is = word_is field.name h.name_is;
+      one_line =
+          one_line_from is_value_byte refl field.value (value_is field.value h.value_is);
+      bare = h.bare;
+    }
 
 plain_fields : (fields : List Field) → All IsHeaderField fields → All IsPlain fields
 plain_fields [] all = All-nil IsPlain
-plain_fields (f ∷ fs) all = All-cons IsPlain f fs (plain_field f (All-head IsHeaderField f fs all)) (plain_fields fs (All-tail IsHeaderField f fs all))
+plain_fields (f ∷ fs) all =
+    All-cons IsPlain f fs (plain_field f (All-head IsHeaderField f fs all)) (plain_fields fs (All-tail IsHeaderField f fs all))
 
 header_line_of : (field : Field) → IsHeaderField field → IsHeaderLine (text_of field)
 header_line_of field h = record {
@@ -92,14 +108,18 @@ header_line_of field h = record {
 header_lines_of : (fields : List Field) → All IsHeaderField fields → All IsHeaderLine (map text_of fields)
 header_lines_of [] all = All-nil IsHeaderLine
 header_lines_of (f ∷ fs) all =
-    All-cons IsHeaderLine (text_of f) (map text_of fs) (header_line_of f (All-head IsHeaderField f fs all)) (header_lines_of fs (All-tail IsHeaderField f fs all))
+    All-cons IsHeaderLine (text_of f) (map text_of fs) (header_line_of f (All-head IsHeaderField f fs all))
+    (header_lines_of fs (All-tail IsHeaderField f fs all))
 
 -- the request line
 line_text : (parts : Parts) → AreFront parts → IsLineText (request_line parts)
 line_text parts front = record {
   some = omega (arith, length-append (parts.method ++ codes " " ++ parts.url) (codes " RTSP/1.0"));
   one_line = one_line-append (parts.method ++ codes " " ++ parts.url) (codes " RTSP/1.0")
-      (one_line-append (parts.method ++ codes " ") parts.url (one_line-append parts.method (codes " ") (token_without 10 refl parts.method (word_is parts.method front.method_is)) refl) (one_line-url parts.url front.url_is.bytes)) refl;
+      (one_line-append (parts.method ++ codes " ") parts.url
+      (one_line-append parts.method (codes " ")
+      (token_without 10 refl parts.method (word_is parts.method front.method_is)) refl)
+      (one_line-url parts.url front.url_is.bytes)) refl;
 }
 
 version_1_0 : IsVersion (codes "RTSP/1.0")
@@ -111,7 +131,8 @@ version_1_0 = record {
 
 line_of : (parts : Parts) → AreFront parts → IsRequestLine (request_line parts) parts.method parts.url (codes "RTSP/1.0")
 line_of parts front = record {
-  parts = append_assoc (parts.method ++ codes " ") parts.url (codes " RTSP/1.0") ∙ append_assoc parts.method (codes " ") (parts.url ++ codes " RTSP/1.0");
+  parts = append_assoc (parts.method ++ codes " ") parts.url (codes " RTSP/1.0")
+      ∙ append_assoc parts.method (codes " ") (parts.url ++ codes " RTSP/1.0");
   method_is = word_is parts.method front.method_is;
   url_is = front.url_is;
   version_is = version_1_0;
@@ -130,7 +151,8 @@ record IsSpelled (parts : Parts) : Type 0 where
 
 spelled : (parts : Parts) → AreFront parts → IsSpelled parts
 spelled parts front =
-    let c = core (request_line parts) (map text_of parts.fields) parts.body (line_text parts front) (texts_lines parts.fields (plain_fields parts.fields front.fields_are)) in
+    let c = core (request_line parts) (map text_of parts.fields) parts.body (line_text parts front)
+    (texts_lines parts.fields (plain_fields parts.fields front.fields_are)) in
     let same = sym (front_of parts) in
     record {
       split = subst (λ (f : List ℕ). IsSplit ((f ++ codes "\r\n") ++ parts.body) (f ++ codes "\r\n") parts.body) same c.split;
@@ -138,12 +160,15 @@ spelled parts front =
       headers = ap (λ (f : List ℕ). header_lines (f ++ codes "\r\n")) (front_of parts) ∙ c.headers;
     }
 
-pub values_of : (parts : Parts) → AreFront parts → (name : List ℕ) → header_value (request_head parts) name ≡ value_named name parts.fields
+pub values_of : (parts : Parts) → AreFront parts → (name : List ℕ)
+    → header_value (request_head parts) name ≡ value_named name parts.fields
 values_of parts front name =
-    ap (first_value name) (spelled parts front).headers ∙ values_named name parts.fields (plain_fields parts.fields front.fields_are)
+    ap (first_value name) (spelled parts front).headers
+    ∙ values_named name parts.fields (plain_fields parts.fields front.fields_are)
 
 -- it is a request with these parts
-pub request_of : (parts : Parts) (sequence : ℕ) → AreRequest parts sequence → IsRequest (request_text parts) parts.method parts.url sequence (request_head parts) parts.body
+pub request_of : (parts : Parts) (sequence : ℕ) → AreRequest parts sequence
+    → IsRequest (request_text parts) parts.method parts.url sequence (request_head parts) parts.body
 request_of parts sequence request =
     let front = request.front in
     let s = spelled parts front in
@@ -157,19 +182,23 @@ request_of parts sequence request =
     (body_length_of (request_line parts) parts.fields (line_text parts front) (plain_fields parts.fields front.fields_are)) in
     record {
       split = s.split;
-      line = subst (λ (t : List ℕ). IsRequestLine t parts.method parts.url (codes "RTSP/1.0")) (sym s.first) (line_of parts front);
+      line = subst (λ (t : List ℕ). IsRequestLine t parts.method parts.url (codes "RTSP/1.0")) (sym s.first)
+          (line_of parts front);
       headers = subst (All IsHeaderLine) (sym headers) (header_lines_of parts.fields front.fields_are);
       sequence_is = ap (option_and_then number_of) (values (codes "CSeq")) ∙ request.sequence_is;
-      length_is = subst digits (sym (values (codes "Content-Length"))) (given_digits (value_named (codes "Content-Length") parts.fields) parts.body request.length_is);
+      length_is = subst digits (sym (values (codes "Content-Length")))
+          (given_digits (value_named (codes "Content-Length") parts.fields) parts.body request.length_is);
       body_is = subst (λ (f : List ℕ). IsBodyLength (f ++ codes "\r\n") (length parts.body)) (sym (front_of parts)) body;
     }
 
 -- it is whole by itself
-pub request_whole : (parts : Parts) (sequence : ℕ) → AreRequest parts sequence → AreShort parts → IsRequestLength (request_text parts) (length (request_text parts))
+pub request_whole : (parts : Parts) (sequence : ℕ) → AreRequest parts sequence → AreShort parts
+    → IsRequestLength (request_text parts) (length (request_text parts))
 request_whole parts sequence request short =
     let front = request.front in
     let long : List ℕ → Type 0 = λ f. length (f ++ codes "\r\n") ≤ 16384 in
-    subst (λ (f : List ℕ). IsRequestLength ((f ++ codes "\r\n") ++ parts.body) (length ((f ++ codes "\r\n") ++ parts.body))) (sym (front_of parts))
+    subst (λ (f : List ℕ). IsRequestLength ((f ++ codes "\r\n") ++ parts.body)
+    (length ((f ++ codes "\r\n") ++ parts.body))) (sym (front_of parts))
     (whole_message parts.fields parts.body (line_text parts front) (plain_fields parts.fields front.fields_are)
     (given_is (value_named (codes "Content-Length") parts.fields) parts.body request.length_is)
     (record { head_is = subst long (front_of parts) short.head_is; body_is = short.body_is }))
@@ -184,14 +213,18 @@ byte_begins c token =
 token_begins : (method rest : List ℕ) → is_token method ≡ true → StartsRequest (method ++ rest)
 token_begins [] rest token = let bad : false ≡ true = token in absurd (let no : ⊥ = cc in no)
 token_begins (c ∷ method) rest token =
-    let here = byte_begins c (and_parts (is_token_byte c) (list_all is_token_byte method) (and_parts (nat_lt 0 (length (c ∷ method))) (list_all is_token_byte (c ∷ method)) token).1).0 in
+    let here = byte_begins c
+    (and_parts (is_token_byte c) (list_all is_token_byte method)
+    (and_parts (nat_lt 0 (length (c ∷ method))) (list_all is_token_byte (c ∷ method)) token).1).0 in
     (omega arith, here.0, here.1)
 
 -- the bytes after a request's method
 head_begins : (parts : Parts) (later : List ℕ) → is_token parts.method ≡ true → StartsRequest (request_head parts ++ later)
 unfolding request_front
 head_begins parts later token =
-    let tail = (codes " " ++ (parts.url ++ (codes " RTSP/1.0" ++ (codes "\r\n" ++ (flat_map field_line parts.fields ++ (codes "\r\n" ++ later)))))) in
+    let tail = (codes " "
+    ++ (parts.url
+    ++ (codes " RTSP/1.0" ++ (codes "\r\n" ++ (flat_map field_line parts.fields ++ (codes "\r\n" ++ later)))))) in
     let shape : request_head parts ++ later ≡ parts.method ++ tail = simp append_assoc in
     subst StartsRequest (sym shape) (token_begins parts.method tail token)
 
@@ -199,7 +232,8 @@ head_begins parts later token =
 pub request_found : (parts : Parts) (sequence : ℕ) (later : List ℕ) → AreRequest parts sequence → AreShort parts →
     IsFirst (request_text parts ++ later) (Ok (Request (length (request_text parts))))
 request_found parts sequence later request short = (
-  subst StartsRequest (sym (append_assoc (request_head parts) parts.body later)) (head_begins parts (parts.body ++ later) (word_is parts.method request.front.method_is)),
+  subst StartsRequest (sym (append_assoc (request_head parts) parts.body later))
+      (head_begins parts (parts.body ++ later) (word_is parts.method request.front.method_is)),
   IsRequestLength-append (request_text parts) later (length (request_text parts)) (request_whole parts sequence request short),
   omega (arith, length-append (request_text parts) later),
 )
@@ -209,30 +243,37 @@ head_of : (parts : Parts) → AreFront parts → IsHead (request_head parts) (le
 unfolding request_front
 head_of parts front =
     let empty : Parts = record { method = parts.method; url = parts.url; fields = parts.fields; body = [] } in
-    let bodiless : AreFront empty = record { method_is = front.method_is; url_is = front.url_is; fields_are = front.fields_are } in
-    subst (λ (w : List ℕ). IsHead w (length (request_head parts))) (append-nil (request_head parts)) (spelled empty bodiless).split.is_head
+    let bodiless : AreFront empty =
+    record { method_is = front.method_is; url_is = front.url_is; fields_are = front.fields_are } in
+    subst (λ (w : List ℕ). IsHead w (length (request_head parts))) (append-nil (request_head parts))
+    (spelled empty bodiless).split.is_head
 
 -- a head that is too long is refused
-pub head_refused : (parts : Parts) (later : List ℕ) → AreFront parts → 16384 < length (request_head parts) → IsFirst (request_head parts ++ later) (Err HeadTooLong)
+pub head_refused : (parts : Parts) (later : List ℕ) → AreFront parts → 16384 < length (request_head parts)
+    → IsFirst (request_head parts ++ later) (Err HeadTooLong)
 head_refused parts later front long =
     let head = head_of parts front in (
       head_begins parts later (word_is parts.method front.method_is),
       omega (arith, long, length-append (request_head parts) later),
-      (λ k below. (IsHead-append (request_head parts) later (length (request_head parts)) head).first k (omega (arith, below, long))),
+      (λ k below. (IsHead-append (request_head parts) later (length (request_head parts)) head).first k
+          (omega (arith, below, long))),
     )
 
 -- a body that is given too long is refused
-pub body_refused : (parts : Parts) (later : List ℕ) → AreFront parts → GivesLongBody parts.fields → length (request_head parts) ≤ 16384 → IsFirst (request_head parts ++ later) (Err BodyTooLong)
+pub body_refused : (parts : Parts) (later : List ℕ) → AreFront parts → GivesLongBody parts.fields
+    → length (request_head parts) ≤ 16384 → IsFirst (request_head parts ++ later) (Err BodyTooLong)
 body_refused parts later front long short =
     let head = head_of parts front in
     let n = digits_value 10 long.value in
-    let given : length_given (value_named (codes "Content-Length") parts.fields) ≡ n = ap length_given long.given ∙ written_is long.value long.decimal in
+    let given : length_given (value_named (codes "Content-Length") parts.fields) ≡ n =
+    ap length_given long.given ∙ written_is long.value long.decimal in
     let body : IsBodyLength (request_head parts) n =
     subst (λ (f : List ℕ). IsBodyLength (f ++ codes "\r\n") n) (sym (front_of parts))
     (subst (λ m. IsBodyLength (flat (request_line parts ∷ map text_of parts.fields) ++ codes "\r\n") m) given
     (body_length_of (request_line parts) parts.fields (line_text parts front) (plain_fields parts.fields front.fields_are))) in
     let w = request_head parts ++ later in
-    let taken : take (length (request_head parts)) w ≡ request_head parts = take_at (request_head parts) later (length (request_head parts)) refl in (
+    let taken : take (length (request_head parts)) w ≡ request_head parts =
+    take_at (request_head parts) later (length (request_head parts)) refl in (
       head_begins parts later (word_is parts.method front.method_is),
       record {
         head = length (request_head parts);
@@ -246,7 +287,9 @@ body_refused parts later front long short =
 pub reply_whole : (parts : ReplyParts) → is_code parts.code ≡ true → All IsPlain (all_fields parts.sequence parts.fields) →
     HasGivenLength (all_fields parts.sequence parts.fields) parts.body →
     length (reply_front parts.code parts.sequence parts.fields ++ codes "\r\n") ≤ 16384 →
-    length parts.body ≤ 65536 → IsRequestLength (reply_text parts.code parts.sequence parts.fields parts.body) (length (reply_text parts.code parts.sequence parts.fields parts.body))
+    length parts.body ≤ 65536
+    → IsRequestLength (reply_text parts.code parts.sequence parts.fields parts.body)
+    (length (reply_text parts.code parts.sequence parts.fields parts.body))
 unfolding reply_text
 reply_whole parts is plain given short small =
     let lines_are = front_lines code sequence fields in
@@ -259,11 +302,14 @@ reply_whole parts is plain given short small =
     open parts use {code, sequence, fields, body}
 
 -- what is read as a request has a request's form
-pub form_of : {message method url : List ℕ} {sequence : ℕ} {head body : List ℕ} → IsRequest message method url sequence head body →
+pub form_of : {message method url : List ℕ} {sequence : ℕ} {head body : List ℕ} →
+    IsRequest message method url sequence head body →
     HasForm message method url head body
 form_of {message} {method} {url} request =
     let line : first_line message ≡ method ++ codes " " ++ url ++ codes " RTSP/1.0" =
-    request.line.parts ∙ sym (append_assoc (method ++ codes " ") url (codes " RTSP/1.0") ∙ append_assoc method (codes " ") (url ++ codes " RTSP/1.0")) in
+    request.line.parts
+    ∙ sym (append_assoc (method ++ codes " ") url (codes " RTSP/1.0")
+    ∙ append_assoc method (codes " ") (url ++ codes " RTSP/1.0")) in
     record {
       texts = header_lines message;
       parts = request.split.parts;

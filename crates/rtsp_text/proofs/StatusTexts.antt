@@ -16,23 +16,29 @@ use Rattle.rtsp_text.proofs.OneLines.{decimal_numerals}
 
 code_small : (text : List ℕ) → length text ≡ 3 → is_decimal text ≡ true → digits_value 10 text < 10 ^ 3
 code_small text three decimal =
-    digits_value_short decimal_numerals text 3 (and_parts (nat_lt 0 (length text)) (list_all is_ascii_digit text) decimal).1 (omega (arith, three))
+    digits_value_short decimal_numerals text 3
+    (and_parts (nat_lt 0 (length text)) (list_all is_ascii_digit text) decimal).1 (omega (arith, three))
 
 -- three digits are read as a number
 digits_number : (text : List ℕ) → length text ≡ 3 → is_decimal text ≡ true → number_of text ≡ Some (digits_value 10 text)
 digits_number text three decimal =
     cond-true (is_decimal text && nat_lt (digits_value 10 text) (2 ^ 64)) (Some (digits_value 10 text)) None
-    (and_from (is_decimal text) (nat_lt (digits_value 10 text) (2 ^ 64)) decimal (lt-ltb (digits_value 10 text) (2 ^ 64) (omega (arith, code_small text three decimal))))
+    (and_from (is_decimal text) (nat_lt (digits_value 10 text) (2 ^ 64)) decimal
+    (lt-ltb (digits_value 10 text) (2 ^ 64) (omega (arith, code_small text three decimal))))
 
 pub code_read : (text : List ℕ) (n : ℕ) → length text ≡ 3 → number_of text ≡ Some n → IsCode text n × (n < 1000)
 code_read text n three read =
     elim (cases_Bool (is_decimal text && nat_lt (digits_value 10 text) (2 ^ 64))) [
       | inl good ↦ (
           let decimal = (and_parts (is_decimal text) (nat_lt (digits_value 10 text) (2 ^ 64)) good).0 in
-          let same : n ≡ digits_value 10 text = same_Some n (digits_value 10 text) (sym read ∙ digits_number text three decimal) in
+          let same : n ≡ digits_value 10 text =
+          same_Some n (digits_value 10 text) (sym read ∙ digits_number text three decimal) in
           (record { three = three; decimal = decimal; code_is = same }, omega (arith, same, code_small text three decimal))
           )
-      | inr wrong ↦ absurd (none-some n (sym (cond-false (is_decimal text && nat_lt (digits_value 10 text) (2 ^ 64)) (Some (digits_value 10 text)) None wrong) ∙ read))
+      | inr wrong ↦
+          absurd (none-some n
+          (sym (cond-false (is_decimal text && nat_lt (digits_value 10 text) (2 ^ 64))
+          (Some (digits_value 10 text)) None wrong) ∙ read))
     ]
 
 pub code_none : (text : List ℕ) (n : ℕ) → number_of text ≡ None → IsCode text n → ⊥
@@ -42,7 +48,8 @@ code_none text n none code = none-some (digits_value 10 text) (sym none ∙ digi
 digits_cut : (digits reason : List ℕ) (code : ℕ) → IsCode digits code → IsSplitAtFirst 32 (digits ++ 32 ∷ reason) digits reason
 digits_cut digits reason code is = record {
   parts = refl;
-  first = all_other is_ascii_digit 32 refl digits (and_parts (nat_lt 0 (length digits)) (list_all is_ascii_digit digits) is.decimal).1;
+  first = all_other is_ascii_digit 32 refl digits
+      (and_parts (nat_lt 0 (length digits)) (list_all is_ascii_digit digits) is.decimal).1;
 }
 
 -- the words of a status line are the parts at its first two spaces
@@ -51,21 +58,26 @@ pub record AreStatusParts (version digits reason d r : List ℕ) : Type 0 where
   pub digits_are : digits ≡ d
   pub reason_is : reason ≡ r
 
-pub status_rest : {text version rest : List ℕ} {code : ℕ} {r : List ℕ} → IsSplitAtFirst 32 text version rest → (line : IsStatusLine text code r) → (version ≡ codes "RTSP/1.0") × (rest ≡ line.digits ++ 32 ∷ r)
+pub status_rest : {text version rest : List ℕ} {code : ℕ} {r : List ℕ} → IsSplitAtFirst 32 text version rest
+    → (line : IsStatusLine text code r) → (version ≡ codes "RTSP/1.0") × (rest ≡ line.digits ++ 32 ∷ r)
 status_rest {text} {version} {code} {r} first line =
     let one = cut_once first line.parts refl in
     (one.front, one.after)
 
-pub status_none : {text version rest : List ℕ} {code : ℕ} {r : List ℕ} → IsSplitAtFirst 32 text version rest → list_all (λ byte. not (byte == 32)) rest ≡ true → IsStatusLine text code r → ⊥
+pub status_none : {text version rest : List ℕ} {code : ℕ} {r : List ℕ} → IsSplitAtFirst 32 text version rest
+    → list_all (λ byte. not (byte == 32)) rest ≡ true → IsStatusLine text code r → ⊥
 status_none {text} {version} {rest} {code} {r} first none line = cut_none 32 rest line.digits r none (status_rest first line).1
 
-pub status_parts : {text version rest digits reason : List ℕ} {code : ℕ} {r : List ℕ} → IsSplitAtFirst 32 text version rest → IsSplitAtFirst 32 rest digits reason → (line : IsStatusLine text code r) → AreStatusParts version digits reason line.digits r
+pub status_parts : {text version rest digits reason : List ℕ} {code : ℕ} {r : List ℕ}
+    → IsSplitAtFirst 32 text version rest → IsSplitAtFirst 32 rest digits reason
+    → (line : IsStatusLine text code r) → AreStatusParts version digits reason line.digits r
 status_parts {text} {version} {code} {r} first second line =
     let one = status_rest first line in
     let two = cut_once second one.1 (digits_cut line.digits r code line.is_code).first in
     record { version_is = one.0; digits_are = two.front; reason_is = two.after }
 
-pub whole_status : {text version rest digits reason : List ℕ} {code : ℕ} → IsSplitAtFirst 32 text version rest → IsSplitAtFirst 32 rest digits reason → version ≡ codes "RTSP/1.0" → IsCode digits code →
+pub whole_status : {text version rest digits reason : List ℕ} {code : ℕ} → IsSplitAtFirst 32 text version rest →
+    IsSplitAtFirst 32 rest digits reason → version ≡ codes "RTSP/1.0" → IsCode digits code →
     0 < length reason → get_or reason 0 0 ≢ 32 → IsStatusLine text code reason
 whole_status {text} {version} {rest} {digits} {code} first second version_is is some no_space = record {
   digits = digits;
@@ -76,7 +88,8 @@ whole_status {text} {version} {rest} {digits} {code} first second version_is is 
 }
 
 -- a status line has one code and one reason
-line_once : {text : List ℕ} {c : ℕ} {r : List ℕ} {d : ℕ} {s : List ℕ} → IsStatusLine text c r → IsStatusLine text d s → (c ≡ d) × (r ≡ s)
+line_once : {text : List ℕ} {c : ℕ} {r : List ℕ} {d : ℕ} {s : List ℕ} → IsStatusLine text c r
+    → IsStatusLine text d s → (c ≡ d) × (r ≡ s)
 line_once {text} {c} {r} {s} a b =
     let first : IsSplitAtFirst 32 text (codes "RTSP/1.0") (a.digits ++ 32 ∷ r) = record { parts = a.parts; first = refl } in
     let same = status_parts first (digits_cut a.digits r c a.is_code) b in
@@ -89,13 +102,16 @@ pub record AreSameReply (c : ℕ) (r h b : List ℕ) (c' : ℕ) (r' h' b' : List
   pub head_is : h ≡ h'
   pub body_is : b ≡ b'
 
-pub reply_once : {message : List ℕ} {c : ℕ} {r h b : List ℕ} {c' : ℕ} {r' h' b' : List ℕ} → IsReply message c r h b → IsReply message c' r' h' b' → AreSameReply c r h b c' r' h' b'
+pub reply_once : {message : List ℕ} {c : ℕ} {r h b : List ℕ} {c' : ℕ} {r' h' b' : List ℕ}
+    → IsReply message c r h b → IsReply message c' r' h' b' → AreSameReply c r h b c' r' h' b'
 reply_once {message} {c} {r} {h} {b} {h'} {b'} x y =
     let line = line_once x.line y.line in
     let len : length h ≡ length h' = head_once message (length h) (length h') x.split.is_head y.split.is_head in
     record {
       code_is = line.0;
       reason_is = line.1;
-      head_is = sym (take_at h b (length h) refl) ∙ ap (take (length h)) (sym x.split.parts) ∙ ap (λ n. take n message) len ∙ ap (take (length h')) y.split.parts ∙ take_at h' b' (length h') refl;
-      body_is = sym (drop_at h b (length h) refl) ∙ ap (drop (length h)) (sym x.split.parts) ∙ ap (λ n. drop n message) len ∙ ap (drop (length h')) y.split.parts ∙ drop_at h' b' (length h') refl;
+      head_is = sym (take_at h b (length h) refl) ∙ ap (take (length h)) (sym x.split.parts)
+          ∙ ap (λ n. take n message) len ∙ ap (take (length h')) y.split.parts ∙ take_at h' b' (length h') refl;
+      body_is = sym (drop_at h b (length h) refl) ∙ ap (drop (length h)) (sym x.split.parts)
+          ∙ ap (λ n. drop n message) len ∙ ap (drop (length h')) y.split.parts ∙ drop_at h' b' (length h') refl;
     }

@@ -9,21 +9,27 @@ pub two_put : {t1 t2 : List ℕ} (old a b : List ℕ) → t1 ≡ old ++ a → t2
 two_put old a b h1 h2 = h2 ∙ ap (λ t. t ++ b) h1 ∙ append_assoc old a b
 
 -- the front of a reply grows by its fields
-pub front_start : (code : ℕ) (sequence : Option ℕ) (old new : List ℕ) → new ≡ old ++ (status_line code ++ sequence_line sequence) → old ≡ [] → new ≡ reply_front code sequence []
+pub front_start : (code : ℕ) (sequence : Option ℕ) (old new : List ℕ)
+    → new ≡ old ++ (status_line code ++ sequence_line sequence) → old ≡ [] → new ≡ reply_front code sequence []
 unfolding reply_front
-front_start code sequence old new h none = h ∙ ap (λ t. t ++ (status_line code ++ sequence_line sequence)) none ∙ sym (append-nil (status_line code ++ sequence_line sequence))
+front_start code sequence old new h none =
+    h ∙ ap (λ t. t ++ (status_line code ++ sequence_line sequence)) none
+    ∙ sym (append-nil (status_line code ++ sequence_line sequence))
 
-pub front_field : {old new : List ℕ} (code : ℕ) (sequence : Option ℕ) (fields : List Field) (field : Field) → new ≡ old ++ field_line field →
+pub front_field : {old new : List ℕ} (code : ℕ) (sequence : Option ℕ) (fields : List Field) (field : Field) →
+    new ≡ old ++ field_line field →
     old ≡ reply_front code sequence fields →
     new ≡ reply_front code sequence (fields ++ field ∷ [])
 unfolding reply_front
 front_field code sequence fields field h is =
     let more : flat_map field_line (fields ++ field ∷ []) ≡ flat_map field_line fields ++ field_line field =
     flat_map-append field_line fields (field ∷ []) ∙ ap (λ t. flat_map field_line fields ++ t) (append-nil (field_line field)) in
-    h ∙ ap (λ t. t ++ field_line field) is ∙ append_assoc (status_line code ++ sequence_line sequence) (flat_map field_line fields) (field_line field)
+    h ∙ ap (λ t. t ++ field_line field) is
+    ∙ append_assoc (status_line code ++ sequence_line sequence) (flat_map field_line fields) (field_line field)
     ∙ ap (λ t. (status_line code ++ sequence_line sequence) ++ t) (sym more)
 
-pub whole_reply : {old new : List ℕ} (code : ℕ) (sequence : Option ℕ) (fields : List Field) (body : List ℕ) → new ≡ old ++ (codes "\r\n" ++ body) →
+pub whole_reply : {old new : List ℕ} (code : ℕ) (sequence : Option ℕ) (fields : List Field) (body : List ℕ) →
+    new ≡ old ++ (codes "\r\n" ++ body) →
     old ≡ reply_front code sequence fields → new ≡ reply_text code sequence fields body
 unfolding reply_text
 whole_reply code sequence fields body h is =

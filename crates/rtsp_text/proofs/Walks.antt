@@ -12,12 +12,14 @@ use Rattle.vod_base.specs.Lines.{IsLine, HasNoLine}
 use Rattle.rtsp_text.specs.Lines.{before_empty, first_line, lines_before_empty, header_lines, IsNextLine, IsNextHeaderLine}
 
 -- a part before a newline is a line
-parts_more : (x : List ℕ) (parts : List (List ℕ)) → 0 < length parts → lines_of_parts (x ∷ parts) ≡ strip_carriage_return x ∷ lines_of_parts parts
+parts_more : (x : List ℕ) (parts : List (List ℕ)) → 0 < length parts
+    → lines_of_parts (x ∷ parts) ≡ strip_carriage_return x ∷ lines_of_parts parts
 parts_more x [] some = absurd (omega (arith, some))
 parts_more x (y ∷ parts) some = refl
 
 -- a text that begins with a whole line
-pub lines-at : (front after : List ℕ) → All (λ b. (b == 10) ≡ false) front → lines (front ++ 10 ∷ after) ≡ strip_carriage_return front ∷ lines after
+pub lines-at : (front after : List ℕ) → All (λ b. (b == 10) ≡ false) front
+    → lines (front ++ 10 ∷ after) ≡ strip_carriage_return front ∷ lines after
 lines-at front after none =
     ap lines_of_parts (slice_split_at (λ b. b == 10) front 10 after none refl)
     ∙ parts_more front (slice_split (λ b. b == 10) after) (omega (arith, length-slice_split (λ b. b == 10) after))
@@ -29,25 +31,37 @@ strip-take bytes e n line =
     elim (cases_lt 1 n) [
       | inl more ↦ (
           let last : get_or (take (n - 1) bytes) (length (take (n - 1) bytes) - 1) 0 ≡ get_or bytes (n - 2) 0 =
-          ap (λ k. get_or (take (n - 1) bytes) (k - 1) 0) len ∙ get_or-take (n - 1) bytes (n - 1 - 1) 0 (omega arith) ∙ ap (λ k. get_or bytes k 0) (let e' : n - 1 - 1 ≡ n - 2 = omega arith in e') in
+          ap (λ k. get_or (take (n - 1) bytes) (k - 1) 0) len
+          ∙ get_or-take (n - 1) bytes (n - 1 - 1) 0 (omega arith)
+          ∙ ap (λ k. get_or bytes k 0) (let e' : n - 1 - 1 ≡ n - 2 = omega arith in e') in
           elim (cases_Bool (get_or bytes (n - 2) 0 == 13)) [
             | inl cr ↦ (
-                let text_end : e ≡ n - 2 = line.text ∙ cond-true (nat_lt 1 n && (get_or bytes (n - 2) 0 == 13)) (n - 2) (n - 1) (grind (arith, nat_tests)) in
-                cond-true (get_or (take (n - 1) bytes) (length (take (n - 1) bytes) - 1) 0 == 13) (take (length (take (n - 1) bytes) - 1) (take (n - 1) bytes)) (take (n - 1) bytes) (ap (λ b. b == 13) last ∙ cr)
+                let text_end : e ≡ n - 2 =
+                line.text ∙ cond-true (nat_lt 1 n && (get_or bytes (n - 2) 0 == 13)) (n - 2) (n - 1)
+                (grind (arith, nat_tests)) in
+                cond-true (get_or (take (n - 1) bytes) (length (take (n - 1) bytes) - 1) 0 == 13)
+                (take (length (take (n - 1) bytes) - 1) (take (n - 1) bytes)) (take (n - 1) bytes)
+                (ap (λ b. b == 13) last ∙ cr)
                 ∙ ap (λ k. take (k - 1) (take (n - 1) bytes)) len
                 ∙ take-take (n - 1 - 1) (n - 1) bytes (omega arith)
                 ∙ ap (λ k. take k bytes) (let k' : n - 1 - 1 ≡ e = omega (arith, text_end) in k')
                 )
             | inr other ↦ (
-                let text_end : e ≡ n - 1 = line.text ∙ cond-false (nat_lt 1 n && (get_or bytes (n - 2) 0 == 13)) (n - 2) (n - 1) (grind (arith, nat_tests)) in
-                cond-false (get_or (take (n - 1) bytes) (length (take (n - 1) bytes) - 1) 0 == 13) (take (length (take (n - 1) bytes) - 1) (take (n - 1) bytes)) (take (n - 1) bytes) (ap (λ b. b == 13) last ∙ other)
+                let text_end : e ≡ n - 1 =
+                line.text ∙ cond-false (nat_lt 1 n && (get_or bytes (n - 2) 0 == 13)) (n - 2) (n - 1)
+                (grind (arith, nat_tests)) in
+                cond-false (get_or (take (n - 1) bytes) (length (take (n - 1) bytes) - 1) 0 == 13)
+                (take (length (take (n - 1) bytes) - 1) (take (n - 1) bytes)) (take (n - 1) bytes)
+                (ap (λ b. b == 13) last ∙ other)
                 ∙ ap (λ k. take k bytes) (sym text_end)
                 )
           ]
           )
       | inr less ↦ (
           let one : n - 1 ≡ 0 = omega (arith, less) in
-          let text_end : e ≡ 0 = line.text ∙ cond-false (nat_lt 1 n && (get_or bytes (n - 2) 0 == 13)) (n - 2) (n - 1) (grind (arith, nat_tests)) ∙ one in
+          let text_end : e ≡ 0 =
+          line.text ∙ cond-false (nat_lt 1 n && (get_or bytes (n - 2) 0 == 13)) (n - 2) (n - 1)
+          (grind (arith, nat_tests)) ∙ one in
           let P : ℕ → Type 0 = λ k. strip_carriage_return (take k bytes) ≡ take e bytes in
           let Q : ℕ → Type 0 = λ k. strip_carriage_return (take 0 bytes) ≡ take k bytes in
           subst P (sym one) (subst Q (sym text_end) refl)
@@ -60,12 +74,15 @@ next_here bytes e n line =
     let back : n - 1 + 1 ≡ n = omega (arith, line.after) in
     let cut : bytes ≡ take (n - 1) bytes ++ 10 ∷ drop n bytes =
     sym (take-append-drop (n - 1) bytes)
-    ∙ ap (λ l. take (n - 1) bytes ++ l) (drop_more bytes (n - 1) 0 (omega (arith, line.after, line.within)) ∙ rw (line.feed, back) refl) in
-    let none : All (λ b. (b == 10) ≡ false) (take (n - 1) bytes) = All-from_get_or (λ b. (b == 10) ≡ false) (take (n - 1) bytes) 0 (λ i within.
+    ∙ ap (λ l. take (n - 1) bytes ++ l)
+    (drop_more bytes (n - 1) 0 (omega (arith, line.after, line.within)) ∙ rw (line.feed, back) refl) in
+    let none : All (λ b. (b == 10) ≡ false) (take (n - 1) bytes) =
+    All-from_get_or (λ b. (b == 10) ≡ false) (take (n - 1) bytes) 0 (λ i within.
     let few : i < n - 1 = omega (arith, within, length-take (n - 1) bytes) in
     rw (get_or-take (n - 1) bytes i 0 few) (ne_eqb (get_or bytes i 0) 10 (line.first i (omega arith) (omega (arith, few))))) in
     record {
-      lines_are = ap lines cut ∙ lines-at (take (n - 1) bytes) (drop n bytes) none ∙ ap (λ x. x ∷ lines (drop n bytes)) (strip-take bytes e n line);
+      lines_are = ap lines cut ∙ lines-at (take (n - 1) bytes) (drop n bytes) none
+          ∙ ap (λ x. x ∷ lines (drop n bytes)) (strip-take bytes e n line);
       shorter = omega (arith, length-drop n bytes, line.after, line.within);
     }
 
@@ -73,7 +90,9 @@ next_here bytes e n line =
 pub next_open : (bytes : List ℕ) → bytes ≢ [] → HasNoLine bytes 0 → IsNextLine bytes bytes []
 next_open [] some none = absurd (some refl)
 next_open (x ∷ bytes) some none =
-    let all : All (λ b. (b == 10) ≡ false) (x ∷ bytes) = All-from_get_or (λ b. (b == 10) ≡ false) (x ∷ bytes) 0 (λ i within. ne_eqb (get_or (x ∷ bytes) i 0) 10 (none i (omega arith) within)) in
+    let all : All (λ b. (b == 10) ≡ false) (x ∷ bytes) =
+    All-from_get_or (λ b. (b == 10) ≡ false) (x ∷ bytes) 0
+    (λ i within. ne_eqb (get_or (x ∷ bytes) i 0) 10 (none i (omega arith) within)) in
     record {
       lines_are = ap lines_of_parts (slice_split_none (λ b. b == 10) (x ∷ bytes) all)
           ∙ cond-false (length (x ∷ bytes) == 0) [] ((x ∷ bytes) ∷ []) (ne_eqb (length (x ∷ bytes)) 0 (λ e. omega (arith, e)));
@@ -110,7 +129,8 @@ while_no p x xs fails =
 pub next_header : (bytes line rest : List ℕ) → IsNextLine bytes line rest → 0 < length line → IsNextHeaderLine bytes line rest
 unfolding lines_before_empty
 next_header bytes line rest h some = record {
-  lines_are = ap before_empty h.lines_are ∙ while_yes (λ text. nat_lt 0 (length text)) line (lines rest) (grind (arith, nat_tests));
+  lines_are = ap before_empty h.lines_are
+      ∙ while_yes (λ text. nat_lt 0 (length text)) line (lines rest) (grind (arith, nat_tests));
   shorter = h.shorter;
 }
 

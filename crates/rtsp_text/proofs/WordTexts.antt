@@ -12,11 +12,14 @@ use Rattle.rtsp_text.proofs.Cuts.{is_other}
 
 all_from : (P : ℕ → Type 0) (q : ℕ → Bool) → ((c : ℕ) → P c → q c ≡ true) → (text : List ℕ) → All P text → list_all q text ≡ true
 all_from P q is [] all = refl
-all_from P q is (c ∷ text) all = and_from (q c) (list_all q text) (is c (All-head P c text all)) (all_from P q is text (All-tail P c text all))
+all_from P q is (c ∷ text) all =
+    and_from (q c) (list_all q text) (is c (All-head P c text all)) (all_from P q is text (All-tail P c text all))
 
 all_to : (P : ℕ → Type 0) (q : ℕ → Bool) → ((c : ℕ) → q c ≡ true → P c) → (text : List ℕ) → list_all q text ≡ true → All P text
 all_to P q is [] all = All-nil P
-all_to P q is (c ∷ text) all = All-cons P c text (is c (and_parts (q c) (list_all q text) all).0) (all_to P q is text (and_parts (q c) (list_all q text) all).1)
+all_to P q is (c ∷ text) all =
+    All-cons P c text (is c (and_parts (q c) (list_all q text) all).0)
+    (all_to P q is text (and_parts (q c) (list_all q text) all).1)
 
 word_byte : (c : ℕ) → IsWordByte c → is_token_byte c ≡ true
 word_byte c (inl letter) = rw letter refl
@@ -56,7 +59,9 @@ pub visible_of : (text : List ℕ) → list_all is_url_byte text ≡ true → Al
 visible_of text all = all_to IsVisibleByte is_url_byte byte_visible text all
 
 pub word_is : (text : List ℕ) → IsWord text → is_token text ≡ true
-word_is text word = and_from (nat_lt 0 (length text)) (list_all is_token_byte text) (lt-ltb 0 (length text) word.some) (all_from IsWordByte is_token_byte word_byte text word.bytes)
+word_is text word =
+    and_from (nat_lt 0 (length text)) (list_all is_token_byte text) (lt-ltb 0 (length text) word.some)
+    (all_from IsWordByte is_token_byte word_byte text word.bytes)
 
 pub word_of : (text : List ℕ) → is_token text ≡ true → IsWord text
 word_of text token =
@@ -90,4 +95,5 @@ named_line text named = record {
 
 pub named_texts : (texts : List (List ℕ)) → All IsHeaderLine texts → All IsNamedText texts
 named_texts [] all = All-nil IsNamedText
-named_texts (t ∷ ts) all = All-cons IsNamedText t ts (line_named t (All-head IsHeaderLine t ts all)) (named_texts ts (All-tail IsHeaderLine t ts all))
+named_texts (t ∷ ts) all =
+    All-cons IsNamedText t ts (line_named t (All-head IsHeaderLine t ts all)) (named_texts ts (All-tail IsHeaderLine t ts all))

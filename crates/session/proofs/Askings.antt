@@ -57,7 +57,8 @@ pub record PlayPrepared
     : Type 0 where
   pub playable : IsPlayable stored source settings setup prepared.counts prepared.run plan
   pub frames : prepared.frames ≡ sending_of stored.film source setup prepared.counts prepared.run
-  pub bytes : length (framed_bytes (run_pieces prepared.frames)) ≡ bytes_between (stored_sizes stored) prepared.run.first_unit prepared.run.end_unit
+  pub bytes : length (framed_bytes (run_pieces prepared.frames))
+      ≡ bytes_between (stored_sizes stored) prepared.run.first_unit prepared.run.end_unit
   pub own : prepared.plan ≡ plan
   pub paced : prepared.paced ≡ plan
 
@@ -86,7 +87,8 @@ pub record PlayAdmitted (prepared : Prepared) (play : Played) : Type 0 where
 
 -- what an admission makes of it
 pub admitted_state : {source : Source} {settings : Settings} {setup : Setup} {prepared : Prepared} {play : Played}
-    (films : List Stored) (paused : Option Run) → IsSetup (length films) setup → IsPreparedIn films source settings (Ready setup paused) prepared
+    (films : List Stored) (paused : Option Run) → IsSetup (length films) setup
+    → IsPreparedIn films source settings (Ready setup paused) prepared
     → PlayAdmitted prepared play → IsStateKept films source settings prepared.counts (Playing setup play)
 admitted_state {source} {settings} {setup} {prepared} {play} films paused is_setup kept given = (
   is_setup,
@@ -99,7 +101,8 @@ admitted_state {source} {settings} {setup} {prepared} {play} films paused is_set
       let made : IsPreparedAs stored source settings setup prepared = kept.1 stored at in
       record {
         playable = subst (λ (r : Run). IsPlayable stored source settings setup prepared.counts r play.plan) (sym run)
-            (subst (λ (l : List Segment). IsPlayable stored source settings setup prepared.counts prepared.run l) (sym plan) made.playable);
+            (subst (λ (l : List Segment). IsPlayable stored source settings setup prepared.counts prepared.run
+            l) (sym plan) made.playable);
         pieces = ap (λ (p : Pacing). p.pieces) pacer ∙ ap run_pieces made.frames_are
             ∙ ap (λ (r : Run). run_pieces (sending_of stored.film source setup prepared.counts r)) (sym run);
       },
@@ -128,7 +131,8 @@ next_in ground lost state (Offer sequence) kept = tt
 
 -- a play of which a halt is asked is the same but for what is kept
 halting_kept : {source : Source} {settings : Settings} {counts : Counts} {setup : Setup} {play : Played}
-    {pacer : Pacing} (films : List Stored) (keep : ℕ) → IsStateKept films source settings counts (Playing setup play) → IsPacing pacer
+    {pacer : Pacing} (films : List Stored) (keep : ℕ)
+    → IsStateKept films source settings counts (Playing setup play) → IsPacing pacer
     → pacer ≡ record play.pacer { keep = keep }
     → IsStateKept films source settings counts (Playing setup (record play { pacer = pacer }))
 halting_kept films keep kept pacing is = (
@@ -159,7 +163,8 @@ playing_in {inside} hand =
 
 pub unhalted : {inside : Inside} (hand : HeardInPlay inside) → IsUnhalted hand.play
 unhalted {inside} hand = subst (λ (s : State). IsGoing inside.lost s) hand.state
-    (subst (λ (a : Awaited). IsAwaitedKept inside.films.now inside.source inside.settings inside.counts inside.lost inside.state a)
+    (subst (λ (a : Awaited). IsAwaitedKept inside.films.now inside.source inside.settings inside.counts
+    inside.lost inside.state a)
     (nothing_of inside.awaited hand.hear.rest) hand.kept.awaited) hand.hear.lost
 
 -- a halt that was asked for: the pacer, what is kept, what comes then, and the reply
@@ -174,11 +179,12 @@ pub record AskedHalt (inside : Inside) (setup : Setup) (play : Played) : Type 0 
   pub left : IsNextIn inside.films.now inside.source inside.counts (Playing setup (record play { pacer = pacer })) next
 
 -- how the session is kept once its halt was asked for
-pub halt_asked : {inside : Inside} (hand : HeardInPlay inside) (halt : AskedHalt inside hand.setup hand.play) → IsKept (record inside {
-  state = Playing hand.setup (record hand.play { pacer = halt.pacer });
-  awaited = Halt halt.keep halt.next;
-  reply = halt.reply;
-})
+pub halt_asked : {inside : Inside} (hand : HeardInPlay inside) (halt : AskedHalt inside hand.setup hand.play)
+    → IsKept (record inside {
+      state = Playing hand.setup (record hand.play { pacer = halt.pacer });
+      awaited = Halt halt.keep halt.next;
+      reply = halt.reply;
+    })
 halt_asked {inside} hand halt =
     let open_one : open_receipts inside.state ≡ 1 = ap open_receipts state in
     record {

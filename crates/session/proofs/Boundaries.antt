@@ -27,7 +27,8 @@ stops_at {pieces} {end} before sent due given left =
     let itself : IsBoundaryAfter pieces place place =
     record { boundary = next.boundary; after = omega arith; least = λ other boundary order. order } in
     let stays : place ≡ boundary_from pieces place = boundary-is pieces place place fits itself in
-    let moved : boundary_from pieces (before + min due (place - before)) ≡ place = ap (boundary_from pieces) reached ∙ sym stays in
+    let moved : boundary_from pieces (before + min due (place - before)) ≡ place =
+    ap (boundary_from pieces) reached ∙ sym stays in
     omega arith
 
 pub stop_between : (slot : ℕ) (old new : Pacing) → IsPacing old → new ≡ after_step true slot old → 0 < new.due - new.sent

@@ -26,7 +26,8 @@ use Rattle.session.specs.declared.states.State.{State}
 use Rattle.session.specs.declared.states.State.TheVariants.{Init, Ready, Playing, Stopping}
 use Rattle.session.proofs.Grounds.{Ground}
 
-play_kept : (old new : Played) → IsPacedPlay old → new.run ≡ old.run → new.plan ≡ old.plan → IsSamePacing old.pacer new.pacer → IsPacedPlay new
+play_kept : (old new : Played) → IsPacedPlay old → new.run ≡ old.run → new.plan ≡ old.plan
+    → IsSamePacing old.pacer new.pacer → IsPacedPlay new
 play_kept old new kept run plan same = record {
   pacing = same.pacing;
   before = same.before ∙ kept.before ∙ ap (λ (r : Run). r.sent) (sym run);
@@ -52,7 +53,8 @@ state_kept ground Init (Playing s p) kept carried = absurd carried
 state_kept ground Init (Stopping s p) kept carried = absurd carried
 state_kept ground (Ready setup paused) Init kept carried = absurd carried
 state_kept ground (Ready setup paused) (Ready s p) kept carried =
-    subst (λ (x : State). IsStateKept films source settings counts x) (let same : Ready setup paused ≡ Ready s p = cc in same) kept
+    subst (λ (x : State). IsStateKept films source settings counts x)
+    (let same : Ready setup paused ≡ Ready s p = cc in same) kept
   where
     open ground use {films, source, settings, counts}
 state_kept ground (Ready setup paused) (Playing s p) kept carried = absurd carried
@@ -110,7 +112,8 @@ pub awaited_kept : {lost : Bool} {old new : State} (ground : Ground) (awaited : 
 awaited_kept {old} {new} ground Nothing step is = going_kept old new step is
 awaited_kept ground (Play prepared) step is = absurd is
 awaited_kept {lost} {new} ground (Halt keep next) step is =
-    subst (λ (n : Next). IsAwaitedKept ground.films ground.source ground.settings ground.counts lost new (Halt keep n)) (sym is.1) (is.0, tt)
+    subst (λ (n : Next). IsAwaitedKept ground.films ground.source ground.settings ground.counts lost new
+    (Halt keep n)) (sym is.1) (is.0, tt)
 awaited_kept ground (Look sequence) step is = absurd is
 awaited_kept ground (Offer sequence) step is = absurd is
 
@@ -121,7 +124,8 @@ pub awaited_settled : {lost : Bool} {old : State} (ground : Ground) (new : State
 awaited_settled {lost} ground Init awaited step is =
     awaited_kept {lost = lost} {old = Init} {new = Init} ground awaited (record { going = tt; carried = tt; even = tt }) is
 awaited_settled {lost} ground (Ready s p) awaited step is =
-    awaited_kept {lost = lost} {old = Ready s p} {new = Ready s p} ground awaited (record { going = tt; carried = (refl, refl); even = tt }) is
+    awaited_kept {lost = lost} {old = Ready s p} {new = Ready s p} ground awaited
+    (record { going = tt; carried = (refl, refl); even = tt }) is
 awaited_settled ground (Playing s p) awaited step is =
     awaited_kept ground awaited step is
 awaited_settled {lost} ground (Stopping s p) awaited step is =

@@ -34,7 +34,8 @@ replied_changes old text ask new is =
     )
 
 play_asked : {old new : Standing} {stored : Stored} {setup : Setup} {paused : Option Run} {range : Option (List ℕ)}
-    {planned : Planned} (sequence : ℕ) (authority : List ℕ) → old.state ≡ Ready setup paused → IsPlannedRun old stored setup paused range planned
+    {planned : Planned} (sequence : ℕ) (authority : List ℕ) → old.state ≡ Ready setup paused
+    → IsPlannedRun old stored setup paused range planned
     → new ≡ record old {
       awaited = Play (prepared_of old stored setup planned sequence);
       text = play_front old stored setup planned sequence authority;
@@ -79,17 +80,20 @@ comes_changes old new message ask (AsksForPlay stored setup paused range planned
     )
 comes_changes old new message ask (AsksForHalt sequence setup play next playing told by halts) =
     subst (λ a. Changes a old new) (sym halts.command) (
-      subst (IsSameGround old) (sym halts.state) (record { films = refl; settings = refl; source = refl; counts = refl; heard = refl }),
+      subst (IsSameGround old) (sym halts.state)
+          (record { films = refl; settings = refl; source = refl; counts = refl; heard = refl }),
       record { setup = setup; play = play; keep = halts.keep; was = playing; now = ap (λ (s : Standing). s.state) halts.state },
     )
 comes_changes old new message ask (AsksForLook sequence look) =
     subst (λ a. Changes a old new) (sym look.command) (
-      subst (IsSameGround old) (sym look.state) (record { films = refl; settings = refl; source = refl; counts = refl; heard = refl }),
+      subst (IsSameGround old) (sym look.state)
+          (record { films = refl; settings = refl; source = refl; counts = refl; heard = refl }),
       ap (λ (s : Standing). s.state) look.state,
     )
 comes_changes old new message ask (AsksForOffer sequence wait planned asks) =
     subst (λ a. Changes a old new) (sym asks.command) (
-      subst (IsSameGround old) (sym asks.state) (record { films = refl; settings = refl; source = refl; counts = refl; heard = refl }),
+      subst (IsSameGround old) (sym asks.state)
+          (record { films = refl; settings = refl; source = refl; counts = refl; heard = refl }),
       ap (λ (s : Standing). s.state) asks.state,
     )
 
@@ -106,7 +110,8 @@ no_refusal : {old : Standing} {request : Request} {setup : Setup} {paused : Opti
     → AsksPlayOr old request.sequence authority setup planned ask new → AsksOrLacks old ask new
 no_refusal {old} {request} {setup} {paused} {ask} {new} authority (Ok planned) ready good is (inl asks) =
     let range = header_value request.head.now (codes "Range") in
-    let own = of_film old.films setup.film is.0 (λ s. IsPlannedRun old s setup paused range planned) is.1.at is.1 asks.stored asks.at in
+    let own = of_film old.films setup.film is.0 (λ s. IsPlannedRun old s setup paused range planned) is.1.at
+    is.1 asks.stored asks.at in
     inl (subst (λ a. IsPlayAskedFor old a new) (sym asks.command)
     (play_asked request.sequence authority ready own asks.state))
 no_refusal {request} {ask} {new} authority (Ok planned) ready good is (inr refused) =
@@ -122,14 +127,16 @@ no_refusal {old} {request} {ask} {new} authority (Err refusal) ready good is ref
 
 good_plays : {old : Standing} {request : Request} {setup : Setup} {paused : Option Run} {ask : Ask} {new : Standing}
     (authority : List ℕ)
-    → old.state ≡ Ready setup paused → IsGoodPlay old setup paused request → Plays old.state old request authority ask new → AsksOrLacks old ask new
+    → old.state ≡ Ready setup paused → IsGoodPlay old setup paused request
+    → Plays old.state old request authority ask new → AsksOrLacks old ask new
 good_plays {old} {request} {ask} {new} authority ready good plays =
     let is = subst (λ (s : State). Plays s old request authority ask new) ready plays in
     no_refusal authority is.planned ready good is.is_planned is.asks
 
 good_takes : {old : Standing} {request : Request} {setup : Setup} {paused : Option Run} {ask : Ask} {new : Standing}
     (judgement : Result Task Refusal) → old.state ≡ Ready setup paused → IsGoodPlay old setup paused request
-    → IsJudged old.films old.id (place_of old.state) request judgement → Takes old request judgement ask new → AsksOrLacks old ask new
+    → IsJudged old.films old.id (place_of old.state) request judgement → Takes old request judgement ask new
+    → AsksOrLacks old ask new
 good_takes {ask} {new} (Ok (ToPlay asked)) ready good judged takes =
     good_plays asked.authority.now ready good takes
 good_takes {ask} {new} (Err refusal) ready good judged takes = absurd (good.taken refusal judged)
@@ -146,7 +153,8 @@ good_takes {ask} {new} (Ok ToTeardown) ready good judged takes =
 good_takes {ask} {new} (Ok ToGetParameter) ready good judged takes =
     absurd (let no : ⊥ = cc (judged.talk.spoken.named, good.method) in no)
 
-hears_on_good : {lost : Bool} {old : Standing} {message : List ℕ} {ask : Ask} {new : Standing} → lost ≡ false → CanBePlayed old message
+hears_on_good : {lost : Bool} {old : Standing} {message : List ℕ} {ask : Ask} {new : Standing} → lost ≡ false
+    → CanBePlayed old message
     → HearsOn lost old message ask new → AsksOrLacks old ask new
 hears_on_good {lost = true} {ask} {new} linked can hears = absurd (let no : ⊥ = cc in no)
 hears_on_good {lost = false} {ask} {new} linked can (inl fault) = absurd (can.sound fault.fault fault.is_fault)

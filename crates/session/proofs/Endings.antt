@@ -86,7 +86,8 @@ paused_play {old} {sequence} {setup} {play} {ask} {new} is pauses = record {
   sequence = sequence;
   playing = is;
   command = pauses.asks.command ∙ ap AskHalt pauses.asks.keep_is;
-  told = subst (IsSessionTold sequence old.id) (sym (ap (λ (s : Standing). s.text) pauses.asks.state)) (session_told sequence old.id);
+  told = subst (IsSessionTold sequence old.id) (sym (ap (λ (s : Standing). s.text) pauses.asks.state))
+      (session_told sequence old.id);
   at = pauses.at;
   last_is = pauses.last_is;
   left_is = pauses.left_is;
@@ -137,7 +138,8 @@ pauses_task taken ToTeardown is takes = absurd cc
 pauses_task taken ToGetParameter is takes = absurd cc
 
 -- a message of a method is refused, or comes to what its request does
-hears_on : {method : List ℕ} (P : Standing → Ask → Standing → Type 0) → TakesMethod P method → (lost : Bool) {old : Standing} {message : List ℕ} {ask : Ask} {new : Standing} → IsOfMethod method message
+hears_on : {method : List ℕ} (P : Standing → Ask → Standing → Type 0) → TakesMethod P method
+    → (lost : Bool) {old : Standing} {message : List ℕ} {ask : Ask} {new : Standing} → IsOfMethod method message
     → HearsOn lost old message ask new → Comes P old ask new
 hears_on P takes true {ask} {new} is hears = inl (refused _ Memory [] hears)
 hears_on P takes false {message} {ask} {new} is (inl fault) =
@@ -145,18 +147,21 @@ hears_on P takes false {message} {ask} {new} is (inl fault) =
     absurd (no_fault fault.fault is.is_request fault.is_fault)
 hears_on P takes false {old} {message} {ask} {new} is (inr whole) =
     let alike = same_request message is.request whole.request is.is_request whole.is_request in
-    takes (record { old = old; new = new; request = whole.request; ask = ask }) whole.hears.judgement (alike.method ∙ is.method_is)
+    takes (record { old = old; new = new; request = whole.request; ask = ask }) whole.hears.judgement
+    (alike.method ∙ is.method_is)
     whole.hears.judged whole.hears.takes
 
 pub teardown_ends : (old new : Standing) (message : List ℕ) (ask : Ask) → IsTeardown message → Hears old message ask new
     → IsDeclined old ask new ⊎ IsTornDown old ask new
 teardown_ends old new message ask is hears =
-    hears_on IsTornDown (does_task IsTornDown Teardown tears_task) old.lost {old = old} {message = message} {ask = ask} {new = new} is hears
+    hears_on IsTornDown (does_task IsTornDown Teardown tears_task) old.lost {old = old} {message = message}
+    {ask = ask} {new = new} is hears
 
 pub pause_leaves : (old new : Standing) (message : List ℕ) (ask : Ask) → IsPause message → Hears old message ask new
     → IsDeclined old ask new ⊎ IsPausedPlay old ask new
 pause_leaves old new message ask is hears =
-    hears_on IsPausedPlay (does_task IsPausedPlay Pause pauses_task) old.lost {old = old} {message = message} {ask = ask} {new = new} is hears
+    hears_on IsPausedPlay (does_task IsPausedPlay Pause pauses_task) old.lost {old = old} {message = message}
+    {ask = ask} {new = new} is hears
 
 -- a message that is taken up, with its task
 record IsTakenUp (old : Standing) (message : List ℕ) (task : Task) : Type 0 where
@@ -164,7 +169,8 @@ record IsTakenUp (old : Standing) (message : List ℕ) (task : Task) : Type 0 wh
   is_request : IsReadAs message request
   judged : IsJudged old.films old.id (place_of old.state) request (Ok task)
 
-takes_up : (P : Standing → Ask → Standing → Type 0) {message : List ℕ} {task : Task} → DoesTask P (method_of task) → (taken : TakenRequest)
+takes_up : (P : Standing → Ask → Standing → Type 0) {message : List ℕ} {task : Task}
+    → DoesTask P (method_of task) → (taken : TakenRequest)
     (judgement : Result Task Refusal) (is : IsTakenUp taken.old message task) → AreAlike is.request taken.request
     → IsJudged taken.old.films taken.old.id (place_of taken.old.state) taken.request judgement
     → Takes taken.old taken.request judgement taken.ask taken.new → P taken.old taken.ask taken.new
@@ -187,7 +193,8 @@ hears_up P does {lost = false} {old} {message} {ask} {new} linked is (inr whole)
 pub teardown_taken : (old new : Standing) (message : List ℕ) (ask : Ask) → CanBeTornDown old message → Hears old message ask new
     → IsTornDown old ask new
 teardown_taken old new message ask can hears =
-    hears_up IsTornDown {task = ToTeardown} tears_task {old = old} {message = message} {ask = ask} {new = new} can.good.linked (record {
+    hears_up IsTornDown {task = ToTeardown} tears_task {old = old} {message = message} {ask = ask} {new = new}
+    can.good.linked (record {
       request = can.request;
       is_request = can.is_request;
       judged = record { talk = can.good.talk; film = can.good.film; state = tt };
@@ -196,7 +203,8 @@ teardown_taken old new message ask can hears =
 pub pause_taken : (old new : Standing) (message : List ℕ) (ask : Ask) → CanBePaused old message → Hears old message ask new
     → IsPausedPlay old ask new
 pause_taken old new message ask can hears =
-    hears_up IsPausedPlay {task = ToPause} pauses_task {old = old} {message = message} {ask = ask} {new = new} can.good.linked (record {
+    hears_up IsPausedPlay {task = ToPause} pauses_task {old = old} {message = message} {ask = ask} {new = new}
+    can.good.linked (record {
       request = can.request;
       is_request = can.is_request;
       judged = record {
@@ -225,7 +233,8 @@ calm_by old new calm tearing torn awaited = record {
   awaited = awaited;
 }
 
-comes_calm : (old new : Standing) (message : List ℕ) (ask : Ask) → IsCalm old → ComesTo old message ask new → IsTeardown message ⊎ IsCalm new
+comes_calm : (old new : Standing) (message : List ℕ) (ask : Ask) → IsCalm old → ComesTo old message ask new
+    → IsTeardown message ⊎ IsCalm new
 comes_calm old new message ask calm (Lacks may is) =
     inr (calm_by old new calm (ap (λ (s : Standing). s.tearing) is.1) (ap (λ (s : Standing). s.torn) is.1)
     (ap (λ (s : Standing). is_ending s.awaited) is.1 ∙ calm.awaited))
@@ -239,7 +248,8 @@ comes_calm old new message ask calm (Says sequence fields body tearing (inr tear
 comes_calm old new message ask calm (SettlesSetup sequence setup init ranges command is) =
     inr (calm_by old new calm (ap (λ (s : Standing). s.tearing) is) (ap (λ (s : Standing). s.torn) is)
     (ap (λ (s : Standing). is_ending s.awaited) is ∙ calm.awaited))
-comes_calm old new message ask calm (AsksForPlay stored setup paused range planned sequence authority ready planned_is command is) =
+comes_calm old new message ask calm
+    (AsksForPlay stored setup paused range planned sequence authority ready planned_is command is) =
     inr (calm_by old new calm (ap (λ (s : Standing). s.tearing) is) (ap (λ (s : Standing). s.torn) is)
     (ap (λ (s : Standing). is_ending s.awaited) is))
 comes_calm old new message ask calm (AsksForHalt sequence setup play next playing told (inl not_torn) halts) =
@@ -305,7 +315,8 @@ happening_calm old (Slot slot) new is calm =
     inr (subst IsCalm (sym is) (slot_calm (is_taken old slot) (is_sending old.state) old slot calm))
 happening_calm old Sending new is calm = inr (subst IsCalm (sym is) (reply_calm old calm))
 
-all_calm : (happenings : List Happening) (old new : Standing) → AreAfter old happenings new → IsCalm old → HasTeardown happenings ⊎ IsCalm new
+all_calm : (happenings : List Happening) (old new : Standing) → AreAfter old happenings new → IsCalm old
+    → HasTeardown happenings ⊎ IsCalm new
 all_calm [] old new is calm = inr (subst IsCalm (sym is) calm)
 all_calm (happening ∷ rest) old new is calm =
     elim (happening_calm old happening is.0 is.1.0 calm) [
@@ -321,7 +332,8 @@ pub torn_by_teardown : (begun : Beginning) (happenings : List Happening) (now : 
     → AreAfter (new_standing begun.films begun.settings begun.words) happenings now → now.torn ≡ true
     → HasTeardown happenings
 torn_by_teardown begun happenings now are torn =
-    elim (all_calm happenings (new_standing films settings words) now are (record { tearing = refl; torn = refl; awaited = refl })) [
+    elim (all_calm happenings (new_standing films settings words) now are
+    (record { tearing = refl; torn = refl; awaited = refl })) [
       | inl heard ↦ heard
       | inr quiet ↦ absurd (let no : ⊥ = cc (quiet.torn, torn) in no)
     ]

@@ -22,33 +22,46 @@ on_err (Err e) p = p
 any_front : (bytes : List ℕ) (k : ℕ) → (n : ℕ) × ((n ≤ length bytes) × (take n bytes ≡ take k bytes))
 any_front bytes k =
     elim (cases_lt (length bytes) k) [
-      | inl long ↦ (length bytes, (omega (arith), take_all (length bytes) bytes (omega (arith)) ∙ sym (take_all k bytes (omega (arith, long)))))
+      | inl long ↦ (
+        length bytes,
+        (omega (arith), take_all (length bytes) bytes (omega (arith)) ∙ sym (take_all k bytes (omega (arith, long)))),
+      )
       | inr short ↦ (k, (short, refl))
     ]
 
-pub front_of : (old new : Option (List Doing)) (bytes : List ℕ) (k : ℕ) → new ≡ told_more old (sends (take k bytes)) → IsFrontTold old new bytes
+pub front_of : (old new : Option (List Doing)) (bytes : List ℕ) (k : ℕ)
+    → new ≡ told_more old (sends (take k bytes)) → IsFrontTold old new bytes
 front_of old new bytes k told =
     let front = any_front bytes k in (front.0, (front.1.0, told ∙ ap (λ bs. told_more old (sends bs)) (sym front.1.1)))
 
 -- a front of what comes first is a front of all
-pub front_left : (old new : Option (List Doing)) (bytes more : List ℕ) → IsFrontTold old new bytes → IsFrontTold old new (bytes ++ more)
-front_left old new bytes more front =
-    (front.0, (omega (arith, front.1.0, length-append bytes more), front.1.1 ∙ ap (λ bs. told_more old (sends bs)) (sym (take-append-le front.0 bytes more front.1.0))))
+pub front_left : (old new : Option (List Doing)) (bytes more : List ℕ) → IsFrontTold old new bytes
+    → IsFrontTold old new (bytes ++ more)
+front_left old new bytes more front = (
+  front.0,
+  (
+    omega (arith, front.1.0, length-append bytes more),
+    front.1.1 ∙ ap (λ bs. told_more old (sends bs)) (sym (take-append-le front.0 bytes more front.1.0)),
+  ),
+)
 
-pub front_right : {mid new : Option (List Doing)} (old : Option (List Doing)) (bytes more : List ℕ) → mid ≡ told_more old (sends bytes) → IsFrontTold mid new more →
+pub front_right : {mid new : Option (List Doing)} (old : Option (List Doing)) (bytes more : List ℕ) →
+    mid ≡ told_more old (sends bytes) → IsFrontTold mid new more →
     IsFrontTold old new (bytes ++ more)
 front_right {new} old bytes more whole front = (
   length bytes + front.0,
   (
     omega (arith, front.1.0, length-append bytes more),
-    front.1.1 ∙ ap (λ t. told_more t (sends (take front.0 more))) whole ∙ told_more-append old (sends bytes) (sends (take front.0 more))
+    front.1.1 ∙ ap (λ t. told_more t (sends (take front.0 more))) whole
+        ∙ told_more-append old (sends bytes) (sends (take front.0 more))
         ∙ ap (told_more old) (sym (map-append Sent bytes (take front.0 more)))
         ∙ ap (λ bs. told_more old (sends bs)) (sym (take-append-add bytes more front.0)),
   ),
 )
 
 -- a step that failed
-pub failed_front : {stop : Bool} {slot : ℕ} {p new : Pacing} {told next : Option (List Doing)} → HasFailed stop slot p new told next →
+pub failed_front : {stop : Bool} {slot : ℕ} {p new : Pacing} {told next : Option (List Doing)} →
+    HasFailed stop slot p new told next →
     IsFrontTold told next (plan_bytes p p.sent (step_end stop (at_slot slot p)))
 failed_front {stop} {slot} {p} {new} {told} {next} failed =
     let end : ℕ = step_end stop (at_slot slot p) in
@@ -56,9 +69,12 @@ failed_front {stop} {slot} {p} {new} {told} {next} failed =
     let whole : ℕ = (p.before + end) - (p.before + p.sent) in
     let within : part ≤ whole = omega (arith, failed.out_most) in
     front_of told next (plan_bytes p p.sent end) part
-    (failed.told ∙ ap (λ bs. told_more told (sends bs)) (sym (take-take part whole (drop (p.before + p.sent) (framed_bytes p.pieces)) within)))
+    (failed.told
+    ∙ ap (λ bs. told_more told (sends bs))
+    (sym (take-take part whole (drop (p.before + p.sent) (framed_bytes p.pieces)) within)))
 
-pub failed_due : {stop : Bool} {slot : ℕ} {p new : Pacing} {told next : Option (List Doing)} → HasFailed stop slot p new told next → new.due ≡ due_by p slot
+pub failed_due : {stop : Bool} {slot : ℕ} {p new : Pacing} {told next : Option (List Doing)}
+    → HasFailed stop slot p new told next → new.due ≡ due_by p slot
 failed_due {stop} {slot} {p} {new} {next} failed = ap (λ (q : Pacing). q.due) failed.state
 
 max_twice : (a b : ℕ) → max (max a b) b ≡ max a b
@@ -76,12 +92,14 @@ pub front_both : {waits between : Bool} {mid new : Option (List Doing)} (old : O
     (sent : SlotSends) → waits ≡ true → between ≡ true → mid ≡ told_more old (sends sent.one)
     → IsFrontTold mid new (sent.text ++ sent.after)
     → IsFrontTold old new (if waits then sent.one ++ (if between then sent.text ++ sent.after else []) else sent.plain)
-front_both {waits = true} {between = true} {new} old sent waiting between told front = front_right old sent.one (sent.text ++ sent.after) told front
+front_both {waits = true} {between = true} {new} old sent waiting between told front =
+    front_right old sent.one (sent.text ++ sent.after) told front
 front_both {waits = true} {between = false} {new} old sent waiting between told front = absurd (true≢false (sym between))
 front_both {waits = false} {between} {new} old sent waiting is told front = absurd (true≢false (sym waiting))
 
 -- a slot that was stepped makes nothing more due as it is stepped again
-pub raised_twice : (stop : Bool) (slot : ℕ) (state : State) → open_in (stepped_in false slot (stepped_in stop slot state)) ≡ open_in (stepped_in stop slot state)
+pub raised_twice : (stop : Bool) (slot : ℕ) (state : State)
+    → open_in (stepped_in false slot (stepped_in stop slot state)) ≡ open_in (stepped_in stop slot state)
 raised_twice stop slot Init = refl
 raised_twice stop slot (Ready setup paused) = refl
 raised_twice stop slot (Playing setup play) =
@@ -90,7 +108,8 @@ raised_twice stop slot (Playing setup play) =
 raised_twice stop slot (Stopping setup halted) = refl
 
 pub due_between : (between : Bool) (slot : ℕ) (state : State) →
-    open_in (if between then stepped_in false slot (stepped_in true slot state) else stepped_in true slot state) ≡ open_in (stepped_in true slot state)
+    open_in (if between then stepped_in false slot (stepped_in true slot state) else stepped_in true slot state)
+    ≡ open_in (stepped_in true slot state)
 due_between false slot state = refl
 due_between true slot state = raised_twice true slot state
 

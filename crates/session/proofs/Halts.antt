@@ -61,5 +61,6 @@ or_if false false = refl
 -- a session that hears a request stands between halts
 pub going_in : {inside : Inside} → IsKept inside → CanHear (standing_of inside) → IsGoing false inside.state
 going_in {inside} kept hear = subst (λ (lost : Bool). IsGoing lost inside.state) hear.lost
-    (subst (λ (a : Awaited). IsAwaitedKept inside.films.now inside.source inside.settings inside.counts inside.lost inside.state a)
+    (subst (λ (a : Awaited). IsAwaitedKept inside.films.now inside.source inside.settings inside.counts
+    inside.lost inside.state a)
     (nothing_of inside.awaited hear.rest) kept.awaited)

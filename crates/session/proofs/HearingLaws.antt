@@ -25,7 +25,8 @@ comes_plays {old} {new} {ask} (Says sequence fields body tearing by command is) 
     plays_on old new (ap (λ (s : Standing). s.state) is) (ap (λ (s : Standing). s.heard) is)
 comes_plays {new} {ask} (SettlesSetup sequence own init ranges command is) playing free =
     absurd (let no : ⊥ = cc in no)
-comes_plays {new} {ask} (AsksForPlay stored own paused range planned sequence authority ready planned_is command is) playing free =
+comes_plays {new} {ask}
+    (AsksForPlay stored own paused range planned sequence authority ready planned_is command is) playing free =
     absurd (let no : ⊥ = cc in no)
 comes_plays {new} {ask} (AsksForHalt sequence own going next was told by halts) playing free =
     absurd (subst IsNoHalt halts.command free)
@@ -50,12 +51,14 @@ comes_leaves old new message ask (Says sequence fields body tearing by command i
     inl (record { sequence = Some sequence; fields = fields; body = body; text_is = ap (λ (s : Standing). s.text) is })
 comes_leaves old new message ask (SettlesSetup sequence own init ranges command is) reply =
     inl (record { sequence = Some sequence; fields = _; body = _; text_is = ap (λ (s : Standing). s.text) is })
-comes_leaves old new message ask (AsksForPlay stored own paused range planned sequence authority ready planned_is command is) reply =
+comes_leaves old new message ask
+    (AsksForPlay stored own paused range planned sequence authority ready planned_is command is) reply =
     absurd (let no : ⊥ = cc (command, reply) in no)
 comes_leaves old new message ask (AsksForHalt sequence own going next was told by halts) reply =
     absurd (let no : ⊥ = cc (halts.command, reply) in no)
 comes_leaves old new message ask (AsksForLook sequence look) reply = absurd (let no : ⊥ = cc (look.command, reply) in no)
-comes_leaves old new message ask (AsksForOffer sequence wait planned asks) reply = absurd (let no : ⊥ = cc (asks.command, reply) in no)
+comes_leaves old new message ask (AsksForOffer sequence wait planned asks) reply =
+    absurd (let no : ⊥ = cc (asks.command, reply) in no)
 
 pub hears_leaves : (old new : Standing) (message : List ℕ) → Hears old message Reply new → LeavesOr old new
 hears_leaves old new message hears = comes_leaves old new message Reply (comes_to old message Reply new hears) refl

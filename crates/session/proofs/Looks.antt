@@ -47,12 +47,14 @@ comes_room old new message ask (SettlesSetup sequence setup init ranges command 
 comes_room old new message ask (AsksForPlay stored setup paused range planned sequence authority ready planned_is command is) =
     subst (λ a. Keeps (looks_in a) old new) (sym command) (same_room old new (ap (λ (s : Standing). s.looks_left) is))
 comes_room old new message ask (AsksForHalt sequence setup play next playing told by halts) =
-    subst (λ a. Keeps (looks_in a) old new) (sym halts.command) (same_room old new (ap (λ (s : Standing). s.looks_left) halts.state))
+    subst (λ a. Keeps (looks_in a) old new) (sym halts.command)
+    (same_room old new (ap (λ (s : Standing). s.looks_left) halts.state))
 comes_room old new message ask (AsksForLook sequence look) =
     let left : new.looks_left ≡ old.looks_left - 1 = ap (λ (s : Standing). s.looks_left) look.state in
     subst (λ a. Keeps (looks_in a) old new) (sym look.command) (omega (arith, left))
 comes_room old new message ask (AsksForOffer sequence wait planned asks) =
-    subst (λ a. Keeps (looks_in a) old new) (sym asks.command) (same_room old new (ap (λ (s : Standing). s.looks_left) asks.state))
+    subst (λ a. Keeps (looks_in a) old new) (sym asks.command)
+    (same_room old new (ap (λ (s : Standing). s.looks_left) asks.state))
 
 sent_room : (b : Bool) (standing : Standing) → (cond b (sent_reply standing) standing).looks_left ≡ standing.looks_left
 sent_room true standing = refl
@@ -64,7 +66,8 @@ slot_room true true old slot = sent_room (old.waits && is_between (stepped_in tr
 slot_room true false old slot = refl
 slot_room false sending old slot = refl
 
-happening_room : (old : Standing) (happening : Happening) (new : Standing) → IsAfter old happening new → Keeps (looks_of happening) old new
+happening_room : (old : Standing) (happening : Happening) (new : Standing) → IsAfter old happening new
+    → Keeps (looks_of happening) old new
 happening_room old (Message message ask) new is = comes_room old new message ask (comes_to old message ask new is)
 happening_room old (Admission place start) new is = same_room old new (ap (λ (s : Standing). s.looks_left) is)
 happening_room old (Overflow place slot booked asked) new is = same_room old new (ap (λ (s : Standing). s.looks_left) is)
@@ -76,7 +79,8 @@ happening_room old (Slot slot) new is =
     same_room old new (ap (λ (s : Standing). s.looks_left) is ∙ slot_room (is_taken old slot) (is_sending old.state) old slot)
 happening_room old Sending new is = same_room old new (ap (λ (s : Standing). s.looks_left) is)
 
-all_room : (happenings : List Happening) (old new : Standing) → AreAfter old happenings new → Keeps (looks_asked happenings) old new
+all_room : (happenings : List Happening) (old new : Standing) → AreAfter old happenings new
+    → Keeps (looks_asked happenings) old new
 all_room [] old new is = same_room old new (ap (λ (s : Standing). s.looks_left) is)
 all_room (happening ∷ rest) old new is =
     let first = happening_room old happening is.0 is.1.0 in

@@ -15,10 +15,12 @@ use Rattle.session.specs.Sendings.{admitted_in, halted_in, next_of, state_after}
 use Rattle.session.specs.Standings.{Standing}
 use Rattle.session.proofs.Results.{ComesTo, Lacks, Refuses, Says, SettlesSetup, AsksForPlay, AsksForHalt, AsksForLook, AsksForOffer, comes_to}
 
-comes_moves : (old new : Standing) (message : List ℕ) (ask : Ask) → ComesTo old message ask new → StaysOr InitStage ReadyStage old new
+comes_moves : (old new : Standing) (message : List ℕ) (ask : Ask) → ComesTo old message ask new
+    → StaysOr InitStage ReadyStage old new
 comes_moves old new message ask (Lacks may is) = inl (ap (λ (s : Standing). stage_of s.state) is.1)
 comes_moves old new message ask (Refuses sequence refusal option other is) = inl (ap (λ (s : Standing). stage_of s.state) is.1)
-comes_moves old new message ask (Says sequence fields body tearing by command is) = inl (ap (λ (s : Standing). stage_of s.state) is)
+comes_moves old new message ask (Says sequence fields body tearing by command is) =
+    inl (ap (λ (s : Standing). stage_of s.state) is)
 comes_moves old new message ask (SettlesSetup sequence setup init ranges command is) =
     inr (record { begins = ap stage_of init; ends = ap (λ (s : Standing). stage_of s.state) is })
 comes_moves old new message ask (AsksForPlay stored setup paused range planned sequence authority ready planned_is command is) =
@@ -26,7 +28,8 @@ comes_moves old new message ask (AsksForPlay stored setup paused range planned s
 comes_moves old new message ask (AsksForHalt sequence setup play next playing told by halts) =
     inl (ap (λ (s : Standing). stage_of s.state) halts.state ∙ sym (ap stage_of playing))
 comes_moves old new message ask (AsksForLook sequence look) = inl (ap (λ (s : Standing). stage_of s.state) look.state)
-comes_moves old new message ask (AsksForOffer sequence wait planned asks) = inl (ap (λ (s : Standing). stage_of s.state) asks.state)
+comes_moves old new message ask (AsksForOffer sequence wait planned asks) =
+    inl (ap (λ (s : Standing). stage_of s.state) asks.state)
 
 -- a request moves Init to Ready, or leaves the state
 pub hears_moves : (old new : Standing) (message : List ℕ) (ask : Ask) → Hears old message ask new

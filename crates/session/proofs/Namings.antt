@@ -27,7 +27,8 @@ film_once {films} {name} {i} {j} are one other =
     λ less. are.differ i j less (within films name j other) (name_at films name i one ∙ sym (name_at films name j other)) in
     let above : j < i → ⊥ =
     λ less. are.differ j i less (within films name i one) (name_at films name j other ∙ sym (name_at films name i one)) in
-    elim (cases_order i j) [ inl same ↦ same | inr differ ↦ elim differ [ inl less ↦ absurd (below less) | inr more ↦ absurd (above more) ] ]
+    elim (cases_order i j)
+    [ inl same ↦ same | inr differ ↦ elim differ [ inl less ↦ absurd (below less) | inr more ↦ absurd (above more) ] ]
 
 -- what two readings of a URL have in common
 rest_once : {url a b n m : List ℕ} → (one : IsRead url a (Some n)) → (other : IsRead url b (Some m)) → n ≡ m

@@ -25,7 +25,8 @@ half n =
     let parts : n % 4294967296 + 4294967296 * (n / 4294967296) ≡ n = mod-add-div n 4294967296 in
     sym (add-mul-mod_self_left (n % 4294967296) 65536 (65536 * (n / 4294967296))) ∙ ap (λ m. m % 65536) (omega arith)
 
-pub number_goes_on : (source frames more : ℕ) → (source + (frames + more) % 4294967296) % 65536 ≡ ((source + frames) % 65536 + more) % 65536
+pub number_goes_on : (source frames more : ℕ)
+    → (source + (frames + more) % 4294967296) % 65536 ≡ ((source + frames) % 65536 + more) % 65536
 number_goes_on source frames more =
     sym (sum_mod source ((frames + more) % 4294967296) 65536)
     ∙ ap (λ n. (source + n) % 65536) (half (frames + more))

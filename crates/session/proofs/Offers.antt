@@ -38,9 +38,11 @@ use Rattle.session.specs.Standings.{Standing, sequence_of}
 
 -- ---- what is asked
 
-wait_in : (head : List ℕ) (value : Option (List ℕ)) (wait : ℕ) → header_value head (codes "x-Wait") ≡ value → IsWaitOf value wait → IsWaitIn head wait
+wait_in : (head : List ℕ) (value : Option (List ℕ)) (wait : ℕ) → header_value head (codes "x-Wait") ≡ value
+    → IsWaitOf value wait → IsWaitIn head wait
 wait_in head None wait same is = absurd is
-wait_in head (Some text) wait same is = record { text = text; named = same; number_is = is.is_number; fits = omega (arith, is.below) }
+wait_in head (Some text) wait same is =
+    record { text = text; named = same; number_is = is.is_number; fits = omega (arith, is.below) }
 
 -- a request for an offer, with the wait that it names, which is heard in Ready
 record OfferHeard (old : Standing) (message : List ℕ) : Type 0 where
@@ -110,7 +112,8 @@ module _ (old : Standing) (message : List ℕ) (plan : List Segment) (offers : O
   no_play_asked sequence authority setup (Ok planned) (inr refused) = let no : ⊥ = cc (refused.0) in no
   no_play_asked sequence authority setup (Err refusal) refused = let no : ⊥ = cc (refused.0) in no
 
-  no_play : (state : State) (request : Request) (authority : List ℕ) → Plays state old request authority (AskOffer plan offers) new → ⊥
+  no_play : (state : State) (request : Request) (authority : List ℕ)
+      → Plays state old request authority (AskOffer plan offers) new → ⊥
   no_play Init request authority is = is
   no_play (Ready setup paused) request authority is = no_play_asked request.sequence authority setup is.planned is.asks
   no_play (Playing setup play) request authority is = let no : ⊥ = cc (is.0) in no
@@ -133,7 +136,8 @@ module _ (old : Standing) (message : List ℕ) (plan : List Segment) (offers : O
   no_look sequence (inr short) = let no : ⊥ = cc (short.refused.0) in no
 
   gets : (request : Request) (topic : Topic) → IsReadAs message request
-      → request.method.now ≡ codes "GET_PARAMETER" → IsTopic request.body.now topic → Gets old request topic (AskOffer plan offers) new → Asked
+      → request.method.now ≡ codes "GET_PARAMETER" → IsTopic request.body.now topic
+      → Gets old request topic (AskOffer plan offers) new → Asked
   gets request NoTopic is method about its = absurd (let no : ⊥ = cc (its.0) in no)
   gets request Booked is method about its = absurd (no_look request.sequence its)
   gets request OfferTopic is method about its =
@@ -141,7 +145,8 @@ module _ (old : Standing) (message : List ℕ) (plan : List Segment) (offers : O
   gets request Unknown is method about its = absurd (let no : ⊥ = cc (its.0) in no)
 
   takes : (request : Request) (judgement : Result Task Refusal) → IsReadAs message request
-      → IsJudged old.films old.id (place_of old.state) request judgement → Takes old request judgement (AskOffer plan offers) new → Asked
+      → IsJudged old.films old.id (place_of old.state) request judgement
+      → Takes old request judgement (AskOffer plan offers) new → Asked
   takes request (Ok ToOptions) is judged its = absurd (let no : ⊥ = cc (its.0) in no)
   takes request (Ok (ToDescribe asked)) is judged its = absurd (let no : ⊥ = cc (its.reply.0) in no)
   takes request (Ok (ToSetup film)) is judged its = absurd (no_setup request.sequence its.read its.done)
@@ -154,7 +159,8 @@ module _ (old : Standing) (message : List ℕ) (plan : List Segment) (offers : O
   hears_on_offer : (lost : Bool) → HearsOn lost old message (AskOffer plan offers) new → Asked
   hears_on_offer true refused = absurd (let no : ⊥ = cc (refused.0) in no)
   hears_on_offer false (inl fault) = absurd (let no : ⊥ = cc (fault.refused.0) in no)
-  hears_on_offer false (inr whole) = takes whole.request whole.hears.judgement whole.is_request whole.hears.judged whole.hears.takes
+  hears_on_offer false (inr whole) =
+      takes whole.request whole.hears.judgement whole.is_request whole.hears.judged whole.hears.takes
 
   pub offer_asked : Hears old message (AskOffer plan offers) new → Asked
   offer_asked hears = hears_on_offer old.lost hears
@@ -165,7 +171,8 @@ start_is : (start : Option ℕ) → start_line start ≡ found_line start ++ cod
 start_is None = refl
 start_is (Some start) = refl
 
-over_lines : (s a b c : List ℕ) → joined_parts (codes "x-Over: " ∷ s ∷ codes " " ∷ a ∷ codes " " ∷ b ∷ codes " " ∷ c ∷ codes "\r\n" ∷ [])
+over_lines : (s a b c : List ℕ)
+    → joined_parts (codes "x-Over: " ∷ s ∷ codes " " ∷ a ∷ codes " " ∷ b ∷ codes " " ∷ c ∷ codes "\r\n" ∷ [])
     ≡ (codes "x-Over: " ++ (s ++ (codes " " ++ (a ++ (codes " " ++ (b ++ (codes " " ++ c))))))) ++ codes "\r\n"
 over_lines s a b c =
     let end = codes "\r\n" in
@@ -180,7 +187,8 @@ over_lines s a b c =
 over_is : (tried : Tried) → over_line tried ≡ tried_line tried ++ codes "\r\n"
 over_is tried = over_lines (decimal tried.start) (decimal tried.over.slot) (decimal tried.over.booked) (decimal tried.over.asked)
 
-overs_are : (tried : List Tried) → flat_map over_line tried ≡ flat_map (λ (line : List ℕ). line ++ codes "\r\n") (map tried_line tried)
+overs_are : (tried : List Tried)
+    → flat_map over_line tried ≡ flat_map (λ (line : List ℕ). line ++ codes "\r\n") (map tried_line tried)
 overs_are [] = refl
 overs_are (first ∷ tried) =
     flat_map-cons over_line first tried
@@ -195,7 +203,8 @@ offer_lines start tried =
     ∙ ap (λ l. (found_line start ++ codes "\r\n") ++ l) (overs_are tried)
     ∙ sym (flat_map-cons (λ (line : List ℕ). line ++ codes "\r\n") (found_line start) (map tried_line tried))
 
-pub offer_told : (old : Standing) (note : OfferNote) → IsOfferTold (sequence_of old.awaited) note.offers (after_offer old note).text
+pub offer_told : (old : Standing) (note : OfferNote)
+    → IsOfferTold (sequence_of old.awaited) note.offers (after_offer old note).text
 unfolding value_named
 offer_told old note = record {
   fields = field (codes "Content-Type") (codes "text/parameters")
@@ -234,6 +243,8 @@ least_buffer old setup paused range least is =
     least_of (rest_sizes (stored_sizes is.stored) (run_of is.wanted))
     (timing_of (playback_of is.stored.film old.settings setup) (run_of is.wanted)) is.refused least is.no_curves is.refusal_is
 
-pub least_told : (sequence : Option ℕ) (least : ℕ) (option : List ℕ) → IsLeastTold sequence least (refusal_text sequence (Buffer least) option)
+pub least_told : (sequence : Option ℕ) (least : ℕ) (option : List ℕ)
+    → IsLeastTold sequence least (refusal_text sequence (Buffer least) option)
 unfolding value_named
-least_told sequence least option = record { fields = field (codes "x-Least-Buffer") (decimal least) ∷ []; text_is = refl; least_is = refl }
+least_told sequence least option =
+    record { fields = field (codes "x-Least-Buffer") (decimal least) ∷ []; text_is = refl; least_is = refl }

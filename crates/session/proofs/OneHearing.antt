@@ -54,7 +54,8 @@ use Rattle.session.proofs.OnePlan.{film_at_once, planned_once}
 use Rattle.session.proofs.OneVerdict.{AreAlike, method_once, not_both, refusal_once, turned}
 
 -- what a SETUP asks for
-chosen_once : {a b : ℕ} (value : Option (List ℕ)) (own least most : ℕ) → IsChosen value own least most a → IsChosen value own least most b → b ≡ a
+chosen_once : {a b : ℕ} (value : Option (List ℕ)) (own least most : ℕ) → IsChosen value own least most a
+    → IsChosen value own least most b → b ≡ a
 chosen_once {a} None own least most is its = its ∙ sym is
 chosen_once {a} {b} (Some value) own least most is its = within_once its is
 
@@ -65,7 +66,8 @@ channels_once (Some value) a b is its = transport_once value b a its is
 setup_once : {settings : Settings} {head : List ℕ} {film : ℕ} {one other : Setup} → AsksForSetup settings head film one
     → AsksForSetup settings head film other → other ≡ one
 setup_once {settings} {head} {film} {one} {other} is its =
-    let S : ℕ → Channels → ℕ → ℕ → Setup = λ f c b d. record { film = f; media = c.media; control = c.control; buffer = b; delay = d } in
+    let S : ℕ → Channels → ℕ → ℕ → Setup =
+    λ f c b d. record { film = f; media = c.media; control = c.control; buffer = b; delay = d } in
     let C : Setup → Channels = λ s. record { media = s.media; control = s.control } in
     let film_is = its.film_is ∙ sym is.film_is in
     let channels = channels_once (header_value head (codes "Transport")) (C one) (C other) is.channels its.channels in
@@ -94,19 +96,22 @@ unread settings head film (Buffer least) is = absurd is
 unread settings head film Range is = absurd is
 unread settings head film Memory is = absurd is
 
-unread_once : (settings : Settings) (head : List ℕ) (one other : Refusal) → Unread settings head one → Unread settings head other → other ≡ one
+unread_once : (settings : Settings) (head : List ℕ) (one other : Refusal) → Unread settings head one
+    → Unread settings head other → other ≡ one
 unread_once settings head one other (NoChannels is none) (NoChannels its free) = its ∙ sym is
 unread_once settings head one other (NoChannels is none) (NoMeaning its bad) = absurd (none bad.channels.0 bad.channels.1)
 unread_once settings head one other (NoMeaning is bad) (NoChannels its none) = absurd (none bad.channels.0 bad.channels.1)
 unread_once settings head one other (NoMeaning is bad) (NoMeaning its worse) = its ∙ sym is
 
-not_unread : {settings : Settings} {head : List ℕ} {film : ℕ} {setup : Setup} {refusal : Refusal} → AsksForSetup settings head film setup
+not_unread : {settings : Settings} {head : List ℕ} {film : ℕ} {setup : Setup} {refusal : Refusal}
+    → AsksForSetup settings head film setup
     → Unread settings head refusal → ⊥
 not_unread {head} {setup} is (NoChannels its none) = none (record { media = setup.media; control = setup.control }) is.channels
 not_unread {head} {setup} is (NoMeaning its none) =
     elim none.none [ inl buffer ↦ buffer setup.buffer is.buffer | inr delay ↦ delay setup.delay is.delay ]
 
-read_once : {one other : Result Setup Refusal} (settings : Settings) (head : List ℕ) (film : ℕ) → IsSetupRead settings head film one
+read_once : {one other : Result Setup Refusal} (settings : Settings) (head : List ℕ) (film : ℕ)
+    → IsSetupRead settings head film one
     → IsSetupRead settings head film other → other ≡ one
 read_once {one = Ok one} {other = Ok other} settings head film is its = ap (λ s. Ok s) (setup_once is its)
 read_once {one = Ok one} {other = Err other} settings head film is its =
@@ -135,15 +140,21 @@ differ body n m is its other = other (sym is ∙ its)
 
 pub topic_once : (body : List ℕ) (one other : Topic) → IsTopic body one → IsTopic body other → other ≡ one
 topic_once body NoTopic NoTopic is its = refl
-topic_once body NoTopic Booked is its = absurd (differ body 0 66 (ap third is) (booked_third body its) (λ same. omega (arith, same)))
-topic_once body NoTopic OfferTopic is its = absurd (differ body 0 79 (ap third is) (offer_third body its) (λ same. omega (arith, same)))
+topic_once body NoTopic Booked is its =
+    absurd (differ body 0 66 (ap third is) (booked_third body its) (λ same. omega (arith, same)))
+topic_once body NoTopic OfferTopic is its =
+    absurd (differ body 0 79 (ap third is) (offer_third body its) (λ same. omega (arith, same)))
 topic_once body NoTopic Unknown is its = absurd (its.0 is)
-topic_once body Booked NoTopic is its = absurd (differ body 0 66 (ap third its) (booked_third body is) (λ same. omega (arith, same)))
+topic_once body Booked NoTopic is its =
+    absurd (differ body 0 66 (ap third its) (booked_third body is) (λ same. omega (arith, same)))
 topic_once body Booked Booked is its = refl
-topic_once body Booked OfferTopic is its = absurd (differ body 66 79 (booked_third body is) (offer_third body its) (λ same. omega (arith, same)))
+topic_once body Booked OfferTopic is its =
+    absurd (differ body 66 79 (booked_third body is) (offer_third body its) (λ same. omega (arith, same)))
 topic_once body Booked Unknown is its = absurd (its.1 is)
-topic_once body OfferTopic NoTopic is its = absurd (differ body 0 79 (ap third its) (offer_third body is) (λ same. omega (arith, same)))
-topic_once body OfferTopic Booked is its = absurd (differ body 66 79 (booked_third body its) (offer_third body is) (λ same. omega (arith, same)))
+topic_once body OfferTopic NoTopic is its =
+    absurd (differ body 0 79 (ap third its) (offer_third body is) (λ same. omega (arith, same)))
+topic_once body OfferTopic Booked is its =
+    absurd (differ body 66 79 (booked_third body its) (offer_third body is) (λ same. omega (arith, same)))
 topic_once body OfferTopic OfferTopic is its = refl
 topic_once body OfferTopic Unknown is its = absurd (its.2 is)
 topic_once body Unknown NoTopic is its = absurd (is.0 its)
@@ -171,7 +182,8 @@ first_of_values : (values : List (List ℕ)) (sequence : ℕ) → option_and_the
 first_of_values [] sequence is = is
 first_of_values (value ∷ values) sequence is = rw is refl
 
-pub first_is : (message : List ℕ) (sequence : ℕ) → sequence_number message ≡ Some sequence → first_sequence message ≡ Some sequence
+pub first_is : (message : List ℕ) (sequence : ℕ) → sequence_number message ≡ Some sequence
+    → first_sequence message ≡ Some sequence
 unfolding first_number first_value
 first_is message sequence is = first_of_values (filter_map (value_in (codes "CSeq")) (header_lines message)) sequence is
 
@@ -200,7 +212,8 @@ module _ (old : Standing) (message : List ℕ) (ask again : Ask) (one other : St
   first_wants : (sequence : ℕ) → first_sequence message ≡ Some sequence → IsRefused old (Some sequence) Memory [] ask one → Agree
   first_wants sequence number is = inr (inl (subst (λ s. IsRefused old s Memory [] ask one) (sym number) is))
 
-  second_wants : (sequence : ℕ) → first_sequence message ≡ Some sequence → IsRefused old (Some sequence) Memory [] again other → Agree
+  second_wants : (sequence : ℕ) → first_sequence message ≡ Some sequence
+      → IsRefused old (Some sequence) Memory [] again other → Agree
   second_wants sequence number is = inr (inr (subst (λ s. IsRefused old s Memory [] again other) (sym number) is))
 
   describes_once : (sequence film : ℕ) (authority : List ℕ) → Describes old sequence film authority ask one
@@ -209,7 +222,8 @@ module _ (old : Standing) (message : List ℕ) (ask again : Ask) (one other : St
       replied_once _ _ (ap (λ (s : Stored). describe_text sequence authority (string_bytes s.name) (length_ms s.film))
       (film_at_once old.films film is.stored its.stored is.at its.at)) is.reply its.reply
 
-  set_up_once : (sequence : ℕ) (read : Result Setup Refusal) → IsSetUp old sequence read ask one → IsSetUp old sequence read again other
+  set_up_once : (sequence : ℕ) (read : Result Setup Refusal) → IsSetUp old sequence read ask one
+      → IsSetUp old sequence read again other
       → Agree
   set_up_once sequence (Ok setup) is its = same (its.0 ∙ sym is.0) (its.1 ∙ sym is.1)
   set_up_once sequence (Err refusal) is its = replied_once _ _ refl is its
@@ -226,7 +240,8 @@ module _ (old : Standing) (message : List ℕ) (ask again : Ask) (one other : St
         text = session_text sequence old.id;
       }) keep ∙ sym is.state)
 
-  tears_once : (state : State) (sequence : ℕ) → TearsDown state old sequence ask one → TearsDown state old sequence again other → Agree
+  tears_once : (state : State) (sequence : ℕ) → TearsDown state old sequence ask one
+      → TearsDown state old sequence again other → Agree
   tears_once Init sequence is its = same (its.0 ∙ sym is.0) (its.1 ∙ sym is.1)
   tears_once (Ready setup paused) sequence is its = same (its.0 ∙ sym is.0) (its.1 ∙ sym is.1)
   tears_once (Playing setup play) sequence is its = halts_once {next = Torn} {next' = Torn} refl is its
@@ -237,9 +252,11 @@ module _ (old : Standing) (message : List ℕ) (ask again : Ask) (one other : St
   pauses_play_once sequence setup play is its =
       let film = film_at_once old.films setup.film is.stored its.stored is.at its.at in
       let last = through_once is.last its.last (its.last_is ∙ sym is.last_is) in
-      let of_film = subst (λ (s : Stored). IsLeft (stored_sizes s) (playback_of s.film old.settings setup) play.run play.plan its.last
+      let of_film =
+      subst (λ (s : Stored). IsLeft (stored_sizes s) (playback_of s.film old.settings setup) play.run play.plan its.last
       (next_boundary play.pacer) its.left) film its.left_is in
-      let left = subst (λ (l : Option ℕ). IsLeft (stored_sizes is.stored) (playback_of is.stored.film old.settings setup) play.run play.plan l
+      let left = subst (λ (l : Option ℕ). IsLeft (stored_sizes is.stored)
+      (playback_of is.stored.film old.settings setup) play.run play.plan l
       (next_boundary play.pacer) its.left) last of_film in
       let runs = left-one is.left_is left in
       halts_once {next = Paused is.left} {next' = Paused its.left} (ap (λ r. Paused r) runs) is.asks its.asks
@@ -263,7 +280,8 @@ module _ (old : Standing) (message : List ℕ) (ask again : Ask) (one other : St
   play_or_once : {sequence : ℕ} (authority : List ℕ) (setup : Setup) (planned : Result Planned Refusal)
       → first_sequence message ≡ Some sequence → AsksPlayOr old sequence authority setup planned ask one
       → AsksPlayOr old sequence authority setup planned again other → Agree
-  play_or_once {sequence} authority setup (Ok planned) number (inl is) (inl its) = asks_play_once sequence authority setup planned is its
+  play_or_once {sequence} authority setup (Ok planned) number (inl is) (inl its) =
+      asks_play_once sequence authority setup planned is its
   play_or_once {sequence} authority setup (Ok planned) number (inl is) (inr its) = second_wants sequence number its
   play_or_once {sequence} authority setup (Ok planned) number (inr is) its = first_wants sequence number is
   play_or_once authority setup (Err refusal) number is its = replied_once _ _ refl is its
@@ -278,7 +296,8 @@ module _ (old : Standing) (message : List ℕ) (ask again : Ask) (one other : St
   plays_ready_once {sequence} authority setup number (inr (inr lacks)) is its =
       second_wants sequence number (subst (λ p. AsksPlayOr old sequence authority setup p again other) lacks its)
 
-  looks_once : (sequence : ℕ) → first_sequence message ≡ Some sequence → Looks old sequence ask one → Looks old sequence again other → Agree
+  looks_once : (sequence : ℕ) → first_sequence message ≡ Some sequence → Looks old sequence ask one
+      → Looks old sequence again other → Agree
   looks_once sequence number (inl is) (inl its) = same (its.command ∙ sym is.command) (its.state ∙ sym is.state)
   looks_once sequence number (inl is) (inr its) = second_wants sequence number its.refused
   looks_once sequence number (inr is) its = first_wants sequence number is.refused
@@ -365,16 +384,21 @@ module _ (old : Standing) (message : List ℕ) (ask again : Ask) (one other : St
       → Plays state old request' authority again other → Agreed
   plays_once Init authority is its = absurd is
   plays_once (Ready setup paused) authority is its =
-      let planned = subst (λ h. IsPlanned old setup paused (header_value h (codes "Range")) its.planned) alike.head its.is_planned in
+      let planned =
+      subst (λ h. IsPlanned old setup paused (header_value h (codes "Range")) its.planned) alike.head its.is_planned in
       plays_ready_once old message ask again one other {a = is.planned} {b = its.planned} authority setup number
-      (planned_once old setup paused (header_value request.head.now (codes "Range")) is.planned its.planned is.is_planned planned) is.asks
+      (planned_once old setup paused (header_value request.head.now (codes "Range")) is.planned its.planned
+      is.is_planned planned) is.asks
       (subst (λ s. AsksPlayOr old s authority setup its.planned again other) alike.sequence its.asks)
-  plays_once (Playing setup play) authority is its = replied_once old message ask again one other _ _ (ap (λ s. session_text s old.id) alike.sequence) is its
-  plays_once (Stopping setup stop) authority is its = replied_once old message ask again one other _ _ (ap (λ s. session_text s old.id) alike.sequence) is its
+  plays_once (Playing setup play) authority is its =
+      replied_once old message ask again one other _ _ (ap (λ s. session_text s old.id) alike.sequence) is its
+  plays_once (Stopping setup stop) authority is its =
+      replied_once old message ask again one other _ _ (ap (λ s. session_text s old.id) alike.sequence) is its
 
   refused_alike : (refusal : Refusal) → IsRefused old (Some request.sequence) refusal [] ask one
       → IsRefused old (Some request'.sequence) refusal [] again other → Agreed
-  refused_alike refusal is its = replied_once old message ask again one other _ _ (ap (λ s. refusal_text (Some s) refusal []) alike.sequence) is its
+  refused_alike refusal is its =
+      replied_once old message ask again one other _ _ (ap (λ s. refusal_text (Some s) refusal []) alike.sequence) is its
 
   gets_offer_once : (state : State) → GetsOffer state old request ask one → GetsOffer state old request' again other → Agreed
   gets_offer_once Init is its = refused_alike Session is its
@@ -394,7 +418,9 @@ module _ (old : Standing) (message : List ℕ) (ask again : Ask) (one other : St
 
   gets_once : (topic : Topic) → Gets old request topic ask one → Gets old request' topic again other → Agreed
   gets_once NoTopic is its = replied_once old message ask again one other _ _ (ap plain_text alike.sequence) is its
-  gets_once Booked is its = looks_once old message ask again one other request.sequence number is (subst (λ s. Looks old s again other) alike.sequence its)
+  gets_once Booked is its =
+      looks_once old message ask again one other request.sequence number is
+      (subst (λ s. Looks old s again other) alike.sequence its)
   gets_once OfferTopic is its = gets_offer_once old.state is its
   gets_once Unknown is its = refused_alike Parameter is its
 
@@ -430,7 +456,8 @@ module _ (old : Standing) (message : List ℕ) (ask again : Ask) (one other : St
       → Takes old request a ask one → Takes old request' b again other → Agreed
   takes_once (Ok a) (Ok b) twice is its =
       let method : method_of b ≡ method_of a =
-      method_once request.method.now (method_of b) (method_of a) (sym alike.method ∙ judged'.talk.spoken.named) judged.talk.spoken.named in
+      method_once request.method.now (method_of b) (method_of a) (sym alike.method ∙ judged'.talk.spoken.named)
+      judged.talk.spoken.named in
       let first : TakenRequest = record { old = old; new = one; request = request; ask = ask } in
       let second : TakenRequest = record { old = old; new = other; request = request'; ask = again } in
       by_once films (method_of a) (by_method first (place_of old.state) a judged.film is)

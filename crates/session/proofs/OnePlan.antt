@@ -32,12 +32,14 @@ use Rattle.session.specs.Playing.{IsAskedRun, IsNoRange, IsWanted, WantsNothing,
 use Rattle.session.specs.Standings.{Standing}
 use Rattle.session.proofs.Playables.{span_of_once}
 
-pub film_at_once : (films : List Stored) (number : ℕ) (one other : Stored) → IsFilmAt films number one → IsFilmAt films number other
+pub film_at_once : (films : List Stored) (number : ℕ) (one other : Stored) → IsFilmAt films number one
+    → IsFilmAt films number other
     → other ≡ one
 film_at_once films number one other is its = cc
 
 -- the units at which a run begins and ends
-group_by_once : {units : List PictureUnit} {picture time k j : ℕ} → IsGroupBy units picture time k → IsGroupBy units picture time j → j ≡ k
+group_by_once : {units : List PictureUnit} {picture time k j : ℕ} → IsGroupBy units picture time k
+    → IsGroupBy units picture time j → j ≡ k
 group_by_once {k} {j} is its =
     let below = is.last j its.group its.by_then in
     let above = its.last k is.group is.by_then in
@@ -75,7 +77,8 @@ new_run_once {first} {end} {one} {other} is its =
     let e = ap (λ n. R one.first_unit one.end_unit one.from_unit one.sent n) (its.played_is ∙ sym is.played_is) in
     a ∙ b ∙ c ∙ d ∙ e
 
-asked_once : {film : Film} {from : ℕ} {to : Option ℕ} {one other : Run} → IsAsked film from to one → IsAsked film from to other → other ≡ one
+asked_once : {film : Film} {from : ℕ} {to : Option ℕ} {one other : Run} → IsAsked film from to one
+    → IsAsked film from to other → other ≡ one
 asked_once {film} {from} {to} {one} {other} is its =
     let units = film.units.items in
     let time = picture_time film.rate in
@@ -86,7 +89,8 @@ asked_once {film} {from} {to} {one} {other} is its =
     new_run_once is.new
     (subst (λ n. IsNewRun sizes one.first_unit n other) end (subst (λ n. IsNewRun sizes n other.end_unit other) first its.new))
 
-wanted_once : {one other : Wanted} (film : Film) (paused : Option Run) (from : Origin) (to : Option ℕ) → IsWanted film paused from to one
+wanted_once : {one other : Wanted} (film : Film) (paused : Option Run) (from : Origin) (to : Option ℕ)
+    → IsWanted film paused from to one
     → IsWanted film paused from to other → other ≡ one
 wanted_once {one = Resumed run} {other} film None Now to is its = absurd is
 wanted_once {one = New run} {other = Resumed other} film None Now to is its = absurd its
@@ -101,14 +105,16 @@ wanted_once {one = Resumed run} {other} film (Some paused) (At time) to is its =
 wanted_once {one = New run} {other = Resumed other} film (Some paused) (At time) to is its = absurd its
 wanted_once {one = New run} {other = New other} film (Some paused) (At time) to is its = ap (λ r. New r) (asked_once is its)
 
-asked_run_once : {film : Film} {paused : Option Run} {range : Option (List ℕ)} {one other : Wanted} → IsAskedRun film paused range one
+asked_run_once : {film : Film} {paused : Option Run} {range : Option (List ℕ)} {one other : Wanted}
+    → IsAskedRun film paused range one
     → IsAskedRun film paused range other → other ≡ one
 asked_run_once {film} {paused} {range} {one} {other} is its =
     let same = span_of_once range its.span is.span its.is_span is.is_span in
     wanted_once film paused is.span.from is.span.to is.is_wanted
     (subst (λ (s : Span). IsWanted film paused s.from s.to other) same its.is_wanted)
 
-wants_some : (film : Film) (paused : Option Run) (from : Origin) (to : Option ℕ) (wanted : Wanted) → IsWanted film paused from to wanted
+wants_some : (film : Film) (paused : Option Run) (from : Origin) (to : Option ℕ) (wanted : Wanted)
+    → IsWanted film paused from to wanted
     → ¬ WantsNothing film paused from to
 wants_some film None Now to (Resumed run) is none = is
 wants_some film None Now to (New run) is none = is.some none
@@ -120,7 +126,8 @@ wants_some film (Some paused) (At time) to (New run) is none = is.some none
 
 asks_some : (film : Film) (paused : Option Run) (range : Option (List ℕ)) (wanted : Wanted) → IsAskedRun film paused range wanted
     → IsNoRange film paused range → ⊥
-asks_some film paused range wanted is none = wants_some film paused is.span.from is.span.to wanted is.is_wanted (none is.span is.is_span)
+asks_some film paused range wanted is none =
+    wants_some film paused is.span.from is.span.to wanted is.is_wanted (none is.span is.is_span)
 
 -- why a run has no plan: one cause, or want of memory
 least_once : {sizes : List ℕ} {timing : Timing} {slot used least slot' used' least' : ℕ} → IsOverfull sizes timing slot used least
@@ -133,18 +140,21 @@ least_once {slot} is its =
 abbrev Refuses : CurveRefused → CurveRefused → Type 0
 Refuses one other = (curve_refusal other ≡ curve_refusal one) ⊎ ((curve_refusal one ≡ Memory) ⊎ (curve_refusal other ≡ Memory))
 
-curves_once : (sizes : List ℕ) (timing : Timing) (one other : CurveRefused) → IsRefused sizes timing one → IsRefused sizes timing other
+curves_once : (sizes : List ℕ) (timing : Timing) (one other : CurveRefused) → IsRefused sizes timing one
+    → IsRefused sizes timing other
     → Refuses one other
 curves_once sizes timing NoMemory other is its = inr (inl refl)
 curves_once sizes timing (Fault fault) NoMemory is its = inr (inr refl)
 curves_once sizes timing (Fault NoPictures) (Fault NoPictures) is its = inl refl
 curves_once sizes timing (Fault NoPictures) (Fault (TooManySlots slots)) is its = inl refl
-curves_once sizes timing (Fault NoPictures) (Fault (BufferTooSmall slot used least)) is its = absurd (let some = its.0 in omega (arith, is, some))
+curves_once sizes timing (Fault NoPictures) (Fault (BufferTooSmall slot used least)) is its =
+    absurd (let some = its.0 in omega (arith, is, some))
 curves_once sizes timing (Fault (TooManySlots slots)) (Fault NoPictures) is its = inl refl
 curves_once sizes timing (Fault (TooManySlots slots)) (Fault (TooManySlots n)) is its = inl refl
 curves_once sizes timing (Fault (TooManySlots slots)) (Fault (BufferTooSmall slot used least)) is its =
     absurd (let many = is.2 in let same = is.1 in let few = its.1 in omega (arith, many, same, few))
-curves_once sizes timing (Fault (BufferTooSmall slot used least)) (Fault NoPictures) is its = absurd (let some = is.0 in omega (arith, its, some))
+curves_once sizes timing (Fault (BufferTooSmall slot used least)) (Fault NoPictures) is its =
+    absurd (let some = is.0 in omega (arith, its, some))
 curves_once sizes timing (Fault (BufferTooSmall slot used least)) (Fault (TooManySlots slots)) is its =
     absurd (let many = its.2 in let same = its.1 in let few = is.1 in omega (arith, many, same, few))
 curves_once sizes timing (Fault (BufferTooSmall slot used least)) (Fault (BufferTooSmall slot' used' least')) is its =
@@ -152,7 +162,8 @@ curves_once sizes timing (Fault (BufferTooSmall slot used least)) (Fault (Buffer
     let above = least_once its.2 is.2 in
     inl (ap (λ n. curve_refusal (Fault (BufferTooSmall 0 0 n))) (let same : least' ≡ least = omega (arith, below, above) in same))
 
-accepted_once : (sizes : List ℕ) (timing : Timing) (refused : CurveRefused) → IsAccepted sizes timing → IsRefused sizes timing refused
+accepted_once : (sizes : List ℕ) (timing : Timing) (refused : CurveRefused) → IsAccepted sizes timing
+    → IsRefused sizes timing refused
     → curve_refusal refused ≡ Memory
 accepted_once sizes timing NoMemory is its = refl
 accepted_once sizes timing (Fault NoPictures) is its = absurd (let some = is.some_picture in omega (arith, some, its))
@@ -177,7 +188,8 @@ module _ (old : Standing) (setup : Setup) (paused : Option Run) (range : Option 
       let run : other.run ≡ one.run = its.run_is ∙ ap run_of wanted ∙ sym is.run_is in
       let counts : other.counts ≡ one.counts =
       its.counts_is ∙ ap (λ w. counts_for stored.film old.source setup old.counts paused w) wanted ∙ sym is.counts_is in
-      let plan : other.plan ≡ one.plan = sending-one sizes playback one.run one.plan (record { can_play = is.can_play; plan_is = is.plan_is })
+      let plan : other.plan ≡ one.plan =
+      sending-one sizes playback one.run one.plan (record { can_play = is.can_play; plan_is = is.plan_is })
       other.plan (subst (λ (r : Run). IsPlanOf sizes playback r other.plan) run its.plan_is) in
       let P : Run → Counts → List Segment → Planned = λ r c p. record { run = r; counts = c; plan = p } in
       ap (λ r. P r other.counts other.plan) run ∙ ap (λ c. P one.run c other.plan) counts ∙ ap (λ p. P one.run one.counts p) plan
@@ -187,7 +199,8 @@ module _ (old : Standing) (setup : Setup) (paused : Option Run) (range : Option 
       → HasNoRun old setup paused range refusal ⊎ HasNoPlan old setup paused range refusal → refusal ≡ Memory
   plan_or_none stored planned refusal is (inl none) =
       let film = film_at_once old.films setup.film stored none.stored is.at none.at in
-      absurd (asks_some stored.film paused range is.wanted is.asked (subst (λ (s : Stored). IsNoRange s.film paused range) film none.none))
+      absurd (asks_some stored.film paused range is.wanted is.asked
+      (subst (λ (s : Stored). IsNoRange s.film paused range) film none.none))
   plan_or_none stored planned refusal is (inr that) =
       let film = film_at_once old.films setup.film stored that.stored is.at that.at in
       let asked = subst (λ (s : Stored). IsAskedRun s.film paused range that.wanted) film that.asked in
@@ -236,7 +249,8 @@ module _ (old : Standing) (setup : Setup) (paused : Option Run) (range : Option 
   refused_once one other (inr is) (inr its) = no_plan_once one other is its
 
   -- one run with one plan, or one refusal, or want of memory
-  pub planned_once : (one other : Result Planned Refusal) → IsPlanned old setup paused range one → IsPlanned old setup paused range other
+  pub planned_once : (one other : Result Planned Refusal) → IsPlanned old setup paused range one
+      → IsPlanned old setup paused range other
       → (other ≡ one) ⊎ ((one ≡ Err Memory) ⊎ (other ≡ Err Memory))
   planned_once (Ok one) (Ok other) is its = inl (ap (λ p. Ok p) (planned_run_once is.0 its.0 one other is.1 its.1))
   planned_once (Ok one) (Err other) is its = inr (inr (ap (λ r. Err r) (plan_or_none is.0 one other is.1 its)))

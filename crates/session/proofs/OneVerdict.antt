@@ -98,7 +98,8 @@ module _ (films : List Stored) (id : List ℕ) (place : Place) (name url head : 
   stops_once n m is its =
       elim (cases_order n m) [
         | inl same ↦ same
-        | inr differ ↦ elim differ [ inl less ↦ absurd (is.at (its.before n less)) | inr more ↦ absurd (its.at (is.before m more)) ]
+        | inr differ ↦
+            elim differ [ inl less ↦ absurd (is.at (its.before n less)) | inr more ↦ absurd (its.at (is.before m more)) ]
       ]
 
   before_0 : (k : ℕ) → k < 0 → Passes k
@@ -167,7 +168,8 @@ stops films id place request (Err Required) is = record {
 stops films id place request (Err Session) is =
     let Fits : Method → Type 0 = λ m. Owns films id place request.method.now request.url.now request.head.now m in
     record {
-      before = before_2 films id place request.method.now request.url.now request.head.now (is.method, is.spoken.named) is.spoken.free;
+      before = before_2 films id place request.method.now request.url.now request.head.now
+          (is.method, is.spoken.named) is.spoken.free;
       at = λ own. is.session (subst Fits (method_once request.method.now own.0 is.method own.1.0 is.spoken.named) own.1.1);
     }
 stops films id place request (Err Film) is =
@@ -247,7 +249,8 @@ same_rank {request} {other} {films} {id} {place} verdicts =
     let stop = stops films id place other b its in
     let by_name = subst (λ (n : List ℕ). StopsAt films id place n other.url.now other.head.now (rank b)) alike.method stop in
     let by_url = subst (λ (u : List ℕ). StopsAt films id place request.method.now u other.head.now (rank b)) alike.url by_name in
-    let by_head = subst (λ (h : List ℕ). StopsAt films id place request.method.now request.url.now h (rank b)) alike.head by_url in
+    let by_head =
+    subst (λ (h : List ℕ). StopsAt films id place request.method.now request.url.now h (rank b)) alike.head by_url in
     stops_once films id place request.method.now request.url.now request.head.now (rank a) (rank b)
     (stops films id place request a is) by_head
   where
@@ -256,7 +259,8 @@ same_rank {request} {other} {films} {id} {place} verdicts =
 pub refusal_once : {request other : Request} {a b : Refusal} (films : List Stored) (id : List ℕ) (place : Place)
     → AreAlike request other → IsJudged films id place request (Err a) → IsJudged films id place other (Err b) → b ≡ a
 refusal_once {request} {other} {a} {b} films id place alike is its =
-    let verdicts : TwoVerdicts request other films id place = record { a = Err a; b = Err b; alike = alike; is = is; its = its } in
+    let verdicts : TwoVerdicts request other films id place =
+    record { a = Err a; b = Err b; alike = alike; is = is; its = its } in
     let same = same_rank verdicts in
     (ranked films id place other b its).is ∙ ap refusal_at (sym same) ∙ sym (ranked films id place request a is).is
 
@@ -264,7 +268,8 @@ pub not_both : {films : List Stored} {id : List ℕ} {place : Place} {request ot
     (refusal : Refusal)
     → AreAlike request other → IsJudged films id place request (Ok task) → IsJudged films id place other (Err refusal) → ⊥
 not_both {films} {id} {place} {request} {other} {task} refusal alike is its =
-    let verdicts : TwoVerdicts request other films id place = record { a = Ok task; b = Err refusal; alike = alike; is = is; its = its } in
+    let verdicts : TwoVerdicts request other films id place =
+    record { a = Ok task; b = Err refusal; alike = alike; is = is; its = its } in
     let same = same_rank verdicts in
     let below = (ranked films id place other refusal its).below in
     omega (arith, same, below)

@@ -116,14 +116,16 @@ left_boundary {stored} {source} {setup} {counts} {play} {keep} {left} is playing
     let p = play.pacer in
     let place : p.before + keep ≡ left.sent = ap (λ n. n + keep) is.before ∙ sym left_is.sent_is in
     let same : p.pieces ≡ run_pieces (sending_of stored.film source setup counts left) =
-    playing.pieces ∙ ap (λ n. run_pieces (run_of stored.film n play.run.end_unit (identity_of source setup counts))) (sym left_is.first_is)
+    playing.pieces
+    ∙ ap (λ n. run_pieces (run_of stored.film n play.run.end_unit (identity_of source setup counts))) (sym left_is.first_is)
     ∙ ap (λ n. run_pieces (run_of stored.film left.first_unit n (identity_of source setup counts))) (sym left_is.end_is) in
     subst (λ (n : ℕ). IsBoundary (run_pieces (sending_of stored.film source setup counts left)) n) place
     (subst (λ (all : List (List ℕ)). IsBoundary all (p.before + keep)) same boundary)
 
 -- what it leaves can be sent on
 pub left_runs : {stored : Stored} {source : Source} {settings : Settings} {setup : Setup} {counts : Counts} {play : Played}
-    {playback : Playback} {last : Option ℕ} {keep : ℕ} {left : Run} → IsPacedPlay play → IsPlaying stored source settings setup counts play
+    {playback : Playback} {last : Option ℕ} {keep : ℕ} {left : Run} → IsPacedPlay play
+    → IsPlaying stored source settings setup counts play
     → playback ≡ playback_of stored.film settings setup → IsBoundary play.pacer.pieces (play.pacer.before + keep)
     → LeftRun stored play playback last keep left → IsRunOf stored source setup counts left
 left_runs {left} is playing same boundary rest = record {

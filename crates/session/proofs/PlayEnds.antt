@@ -55,10 +55,12 @@ play_in (Ready setup paused) other = other
 play_in (Playing setup play) other = play
 play_in (Stopping setup stop) other = other
 
-same_play : {state : State} {setup its : Setup} {play other : Played} → state ≡ Playing setup play → state ≡ Playing its other → play ≡ other
+same_play : {state : State} {setup its : Setup} {play other : Played} → state ≡ Playing setup play
+    → state ≡ Playing its other → play ≡ other
 same_play {play} {other} is is_too = ap (λ s. play_in s play) (sym is ∙ is_too)
 
-comes_halts : {old new : Standing} {message : List ℕ} {keep : ℕ} {setup : Setup} {play : Played} → ComesTo old message (AskHalt keep) new
+comes_halts : {old new : Standing} {message : List ℕ} {keep : ℕ} {setup : Setup} {play : Played}
+    → ComesTo old message (AskHalt keep) new
     → old.state ≡ Playing setup play → IsPacing play.pacer → KeepsToBoundary play keep
 comes_halts {new} (Lacks may is) playing pacing = absurd (let no : ⊥ = cc (is.0) in no)
 comes_halts {new} (Refuses sequence refusal option other is) playing pacing =
@@ -113,7 +115,8 @@ pub run_counted : {stored : Stored} (old : Standing) (place : ℕ) (hand : PlayI
     → is_answered (next_of old.awaited) ≡ false → IsFilmAt old.films hand.setup.film stored
     → hand.play.run.sent + kept_of old.awaited hand.play.pacer.due
     ≡ length (framed_bytes (run_pieces (sending_of stored.film old.source hand.setup old.counts hand.play.run)))
-    → HasCountedAll (identity_of old.source hand.setup old.counts) (identity_of old.source hand.setup (after_halt old place).counts)
+    → HasCountedAll (identity_of old.source hand.setup old.counts)
+    (identity_of old.source hand.setup (after_halt old place).counts)
     (sending_of stored.film old.source hand.setup old.counts hand.play.run)
 run_counted {stored} old place hand none at all =
     let sending = sending_of stored.film old.source setup old.counts play.run in
@@ -155,12 +158,14 @@ play_noted old place stored hand playable within = record {
 -- ---- what is admitted
 
 sent_as_asked : {old : Standing} {stored : Stored} {setup : Setup} {paused : Option Run} {planned : Planned}
-    {place start : ℕ} {state : State} {awaited : Awaited} (asked : Standing) (sequence : ℕ) → asked.state ≡ state → asked.awaited ≡ awaited → state ≡ Ready setup paused
+    {place start : ℕ} {state : State} {awaited : Awaited} (asked : Standing) (sequence : ℕ)
+    → asked.state ≡ state → asked.awaited ≡ awaited → state ≡ Ready setup paused
     → awaited ≡ Play (prepared_of old stored setup planned sequence)
     → IsSentAsAsked old stored setup planned place start (after_admission asked place start)
 sent_as_asked {old} {stored} {setup} {paused} {planned} {place} {start} {awaited} asked sequence s a ready is =
     let prepared = prepared_of old stored setup planned sequence in
-    let counts : counts_of asked.awaited asked.counts ≡ planned.counts = ap (λ (x : Awaited). counts_of x asked.counts) (a ∙ is) in
+    let counts : counts_of asked.awaited asked.counts ≡ planned.counts =
+    ap (λ (x : Awaited). counts_of x asked.counts) (a ∙ is) in
     record {
       play = record {
         run = planned.run;

@@ -56,7 +56,8 @@ wanted_goes_on (Some paused) before (At time) to (New run) is =
     new_goes_on is
 
 pub goes_on : {stored : Stored} {source : Source} {setup : Setup} {paused : Option Run} {range : Option (List ℕ)}
-    {wanted : Wanted} (counts : Counts) → IfSome paused (λ run. IsRunOf stored source setup counts run) → IsAskedRun stored.film paused range wanted
+    {wanted : Wanted} (counts : Counts) → IfSome paused (λ run. IsRunOf stored source setup counts run)
+    → IsAskedRun stored.film paused range wanted
     → IsRunOf stored source setup (counts_for stored.film source setup counts paused wanted) (run_of wanted)
 goes_on {paused} {wanted} counts kept asked =
     wanted_goes_on paused (record { counts = counts; kept = kept }) asked.span.from asked.span.to wanted asked.is_wanted

@@ -109,7 +109,8 @@ hears_on_refused {old} {message} {ask} {new} {request} false is ranged (inr whol
     whole.hears.judged whole.hears.takes
 
 -- what a PLAY with a Range is in Playing
-ranged_in : (old : Standing) (message : List ℕ) (request : Request) → HasRangeInPlaying old message request → IsRanged (place_of old.state) request
+ranged_in : (old : Standing) (message : List ℕ) (request : Request) → HasRangeInPlaying old message request
+    → IsRanged (place_of old.state) request
 ranged_in old message request is = record {
   method = is.method;
   range = ap is_some is.range;
@@ -146,7 +147,8 @@ takes_455 {old} {request} {other} (Err refusal) ask new play judged takes =
     subst (λ (t : List ℕ). HasCode 455 t) (sym text) (refusal_code (Some other.sequence) NotNow (option_of other.head.now))
 
 hears_455 : {lost : Bool} {old : Standing} {message : List ℕ} {request : Request} (ask : Ask) (new : Standing) → lost ≡ false
-    → HasRangeInPlaying old message request → IsElseGood PlayMethod old request → HearsOn lost old message ask new → HasCode 455 new.text
+    → HasRangeInPlaying old message request → IsElseGood PlayMethod old request
+    → HearsOn lost old message ask new → HasCode 455 new.text
 hears_455 {lost = true} ask new linked is good hears = absurd (let no : ⊥ = cc in no)
 hears_455 {lost = false} {message} {request} ask new linked is good (inl fault) =
     absurd (no_fault fault.fault is.is_request fault.is_fault)

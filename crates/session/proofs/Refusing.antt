@@ -28,7 +28,8 @@ ok_text_code : (sequence : Option ℕ) (fields : List Field) (body : List ℕ) �
 unfolding reply_text reply_front status_line digits
 ok_text_code sequence fields body = refl
 
-pub refusal_code : (sequence : Option ℕ) (refusal : Refusal) (option : List ℕ) → HasCode (code_of refusal) (refusal_text sequence refusal option)
+pub refusal_code : (sequence : Option ℕ) (refusal : Refusal) (option : List ℕ)
+    → HasCode (code_of refusal) (refusal_text sequence refusal option)
 unfolding reply_text reply_front status_line digits
 refusal_code sequence BadRequest option = refl
 refusal_code sequence Version option = refl
@@ -51,18 +52,96 @@ pub record IsOwnCode (refusal : Refusal) : Type 0 where
   pub memory : code_of refusal ≡ 500 → refusal ≡ Memory
 
 pub own_code : (refusal : Refusal) → IsOwnCode refusal
-own_code BadRequest = record { small = omega arith; no_overflow = λ is. omega (arith, is); not_full = λ is. omega (arith, is); memory = λ is. absurd (omega (arith, is)) }
-own_code Version = record { small = omega arith; no_overflow = λ is. omega (arith, is); not_full = λ is. omega (arith, is); memory = λ is. absurd (omega (arith, is)) }
-own_code Method = record { small = omega arith; no_overflow = λ is. omega (arith, is); not_full = λ is. omega (arith, is); memory = λ is. absurd (omega (arith, is)) }
-own_code Required = record { small = omega arith; no_overflow = λ is. omega (arith, is); not_full = λ is. omega (arith, is); memory = λ is. absurd (omega (arith, is)) }
-own_code Session = record { small = omega arith; no_overflow = λ is. omega (arith, is); not_full = λ is. omega (arith, is); memory = λ is. absurd (omega (arith, is)) }
-own_code Film = record { small = omega arith; no_overflow = λ is. omega (arith, is); not_full = λ is. omega (arith, is); memory = λ is. absurd (omega (arith, is)) }
-own_code NotNow = record { small = omega arith; no_overflow = λ is. omega (arith, is); not_full = λ is. omega (arith, is); memory = λ is. absurd (omega (arith, is)) }
-own_code Transport = record { small = omega arith; no_overflow = λ is. omega (arith, is); not_full = λ is. omega (arith, is); memory = λ is. absurd (omega (arith, is)) }
-own_code Parameter = record { small = omega arith; no_overflow = λ is. omega (arith, is); not_full = λ is. omega (arith, is); memory = λ is. absurd (omega (arith, is)) }
-own_code (Buffer least) = record { small = omega arith; no_overflow = λ is. omega (arith, is); not_full = λ is. omega (arith, is); memory = λ is. absurd (omega (arith, is)) }
-own_code Range = record { small = omega arith; no_overflow = λ is. omega (arith, is); not_full = λ is. omega (arith, is); memory = λ is. absurd (omega (arith, is)) }
-own_code Memory = record { small = omega arith; no_overflow = λ is. omega (arith, is); not_full = λ is. omega (arith, is); memory = λ is. refl }
+own_code BadRequest =
+    record {
+      small = omega arith;
+      no_overflow = λ is. omega (arith, is);
+      not_full =
+          λ is. omega (arith, is);
+      memory = λ is. absurd (omega (arith, is));
+    }
+own_code Version =
+    record {
+      small = omega arith;
+      no_overflow = λ is. omega (arith, is);
+      not_full =
+          λ is. omega (arith, is);
+      memory = λ is. absurd (omega (arith, is));
+    }
+own_code Method =
+    record {
+      small = omega arith;
+      no_overflow = λ is. omega (arith, is);
+      not_full =
+          λ is. omega (arith, is);
+      memory = λ is. absurd (omega (arith, is));
+    }
+own_code Required =
+    record {
+      small = omega arith;
+      no_overflow = λ is. omega (arith, is);
+      not_full =
+          λ is. omega (arith, is);
+      memory = λ is. absurd (omega (arith, is));
+    }
+own_code Session =
+    record {
+      small = omega arith;
+      no_overflow = λ is. omega (arith, is);
+      not_full =
+          λ is. omega (arith, is);
+      memory = λ is. absurd (omega (arith, is));
+    }
+own_code Film =
+    record {
+      small = omega arith;
+      no_overflow = λ is. omega (arith, is);
+      not_full =
+          λ is. omega (arith, is);
+      memory = λ is. absurd (omega (arith, is));
+    }
+own_code NotNow =
+    record {
+      small = omega arith;
+      no_overflow = λ is. omega (arith, is);
+      not_full =
+          λ is. omega (arith, is);
+      memory = λ is. absurd (omega (arith, is));
+    }
+own_code Transport =
+    record {
+      small = omega arith;
+      no_overflow = λ is. omega (arith, is);
+      not_full =
+          λ is. omega (arith, is);
+      memory = λ is. absurd (omega (arith, is));
+    }
+own_code Parameter =
+    record {
+      small = omega arith;
+      no_overflow = λ is. omega (arith, is);
+      not_full =
+          λ is. omega (arith, is);
+      memory = λ is. absurd (omega (arith, is));
+    }
+own_code (Buffer least) =
+    record {
+      small = omega arith;
+      no_overflow = λ is. omega (arith, is);
+      not_full =
+          λ is. omega (arith, is);
+      memory = λ is. absurd (omega (arith, is));
+    }
+own_code Range =
+    record {
+      small = omega arith;
+      no_overflow = λ is. omega (arith, is);
+      not_full =
+          λ is. omega (arith, is);
+      memory = λ is. absurd (omega (arith, is));
+    }
+own_code Memory =
+    record { small = omega arith; no_overflow = λ is. omega (arith, is); not_full = λ is. omega (arith, is); memory = λ is. refl }
 
 plain : (text : List ℕ) → HasCode 200 text → IsNoRefusal text
 plain text ok = record {
@@ -107,7 +186,8 @@ found_front sequence fields rest = record {
 }
 
 -- what is shown of a reply's text
-of_text : {text : List ℕ} {ask : Ask} (old new : Standing) → ask ≡ Reply → new.text ≡ text → IsNoRefusal text → RefusesNone ask new
+of_text : {text : List ℕ} {ask : Ask} (old new : Standing) → ask ≡ Reply → new.text ≡ text → IsNoRefusal text
+    → RefusesNone ask new
 of_text {text} {ask} old new reply is refuses = subst (λ a. RefusesNone a new) (sym reply) (subst IsNoRefusal (sym is) refuses)
 
 comes_text : (old new : Standing) (message : List ℕ) (ask : Ask) → ComesTo old message ask new → RefusesNone ask new
@@ -147,7 +227,8 @@ comes_500 old new message (SettlesSetup sequence setup init ranges command is) c
     absurd ((subst IsFound (sym (ap (λ (s : Standing). s.text) is)) (found_text (Some sequence) _ [])).found code)
 comes_500 old new message (AsksForPlay stored setup paused range planned sequence authority ready planned_is command is) code =
     absurd (let no : ⊥ = cc in no)
-comes_500 old new message (AsksForHalt sequence setup play next playing told by halts) code = absurd (let no : ⊥ = cc (halts.command) in no)
+comes_500 old new message (AsksForHalt sequence setup play next playing told by halts) code =
+    absurd (let no : ⊥ = cc (halts.command) in no)
 comes_500 old new message (AsksForLook sequence look) code = absurd (let no : ⊥ = cc (look.command) in no)
 comes_500 old new message (AsksForOffer sequence wait planned asks) code = absurd (let no : ⊥ = cc (asks.command) in no)
 
@@ -159,10 +240,12 @@ hears_wanting old new message (AskHalt keep) hears code = absurd code
 hears_wanting old new message (AskLook slot) hears code = absurd code
 hears_wanting old new message (AskOffer plan offers) hears code = absurd code
 
-pub hears_500 : (old new : Standing) (message : List ℕ) (ask : Ask) → Hears old message ask new → Is500 ask new → IsWanting old message ask new
+pub hears_500 : (old new : Standing) (message : List ℕ) (ask : Ask) → Hears old message ask new → Is500 ask new
+    → IsWanting old message ask new
 hears_500 old new message ask hears code = (hears_wanting old new message ask hears code).1
 
-pub hears_may : (old new : Standing) (message : List ℕ) (ask : Ask) → Hears old message ask new → Is500 ask new → MayWantMemory old message
+pub hears_may : (old new : Standing) (message : List ℕ) (ask : Ask) → Hears old message ask new → Is500 ask new
+    → MayWantMemory old message
 hears_may old new message ask hears code = (hears_wanting old new message ask hears code).0
 
 -- and the other way round
@@ -171,7 +254,8 @@ wanting_500 old new message ask is =
     subst (λ a. Is500 a new) (sym is.0)
     (subst (λ (t : List ℕ). HasCode 500 t) (sym (ap (λ (s : Standing). s.text) is.1)) (refusal_code _ Memory []))
 
-same_wanting : {one other : Standing} {ask again : Ask} (old : Standing) (message : List ℕ) → IsWanting old message ask one → IsWanting old message again other
+same_wanting : {one other : Standing} {ask again : Ask} (old : Standing) (message : List ℕ)
+    → IsWanting old message ask one → IsWanting old message again other
     → (ask ≡ again) × (one ≡ other)
 same_wanting {one} {other} {ask} old message is its = (is.0 ∙ sym its.0, is.1 ∙ sym its.1)
 
@@ -197,7 +281,8 @@ comes_never : (old new : Standing) (message : List ℕ) (ask : Ask) → ComesTo 
 comes_never old new message ask (Lacks may is) = subst (λ a. NeverLacks a new) (sym is.0) tt
 comes_never old new message ask (Refuses sequence refusal option other is) = subst (λ a. NeverLacks a new) (sym is.0) tt
 comes_never old new message ask (Says sequence fields body tearing by command is) = subst (λ a. NeverLacks a new) (sym command) tt
-comes_never old new message ask (SettlesSetup sequence setup init ranges command is) = subst (λ a. NeverLacks a new) (sym command) tt
+comes_never old new message ask (SettlesSetup sequence setup init ranges command is) =
+    subst (λ a. NeverLacks a new) (sym command) tt
 comes_never old new message ask (AsksForPlay stored setup paused range planned sequence authority ready planned_is command is) =
     subst (λ a. NeverLacks a new) (sym command)
     (λ rest. (subst (λ (t : List ℕ). IsFound (t ++ rest)) (sym (ap (λ (s : Standing). s.text) is))

@@ -51,9 +51,11 @@ pub data ComesTo (old : Standing) (message : List ℕ) (ask : Ask) (new : Standi
       → ComesTo old message ask new
   SettlesSetup : (sequence : ℕ) (setup : Setup) → old.state ≡ Init
       → (AreSettings old.settings → IsSetup (length old.films) setup) → ask ≡ Reply
-      → new ≡ record (with_reply old (setup_text sequence setup.media setup.control old.source.ssrc old.id)) { state = Ready setup None }
+      → new ≡ record (with_reply old (setup_text sequence setup.media setup.control old.source.ssrc old.id))
+      { state = Ready setup None }
       → ComesTo old message ask new
-  AsksForPlay : (stored : Stored) (setup : Setup) (paused : Option Run) (range : Option (List ℕ)) (planned : Planned) (sequence : ℕ)
+  AsksForPlay : (stored : Stored) (setup : Setup) (paused : Option Run) (range : Option (List ℕ))
+      (planned : Planned) (sequence : ℕ)
       (authority : List ℕ) → old.state ≡ Ready setup paused → IsPlannedRun old stored setup paused range planned
       → ask ≡ AskPlay planned.plan
       → new ≡ record old {
@@ -64,7 +66,8 @@ pub data ComesTo (old : Standing) (message : List ℕ) (ask : Ask) (new : Standi
       → is_answered next ≡ true → (is_torn next ≡ false) ⊎ IsTeardown message → AsksHalt old sequence setup play next ask new
       → ComesTo old message ask new
   AsksForLook : (sequence : ℕ) → AsksLook old sequence ask new → ComesTo old message ask new
-  AsksForOffer : (sequence wait : ℕ) (planned : Planned) → AsksOffer old sequence wait planned ask new → ComesTo old message ask new
+  AsksForOffer : (sequence wait : ℕ) (planned : Planned) → AsksOffer old sequence wait planned ask new
+      → ComesTo old message ask new
 
 pub is_memory : (refusal : Refusal) → (refusal ≡ Memory) ⊎ (refusal ≢ Memory)
 is_memory Memory = inl refl
@@ -92,7 +95,8 @@ record IsIn (least most n : ℕ) : Type 0 where
   above : least ≤ n
   below : n ≤ most
 
-chosen : {own least most n : ℕ} (value : Option (List ℕ)) → IsChosen value own least most n → least ≤ own → own ≤ most → IsIn least most n
+chosen : {own least most n : ℕ} (value : Option (List ℕ)) → IsChosen value own least most n → least ≤ own
+    → own ≤ most → IsIn least most n
 chosen {least} {most} None is low high = subst (IsIn least most) (sym is) (record { above = low; below = high })
 chosen (Some value) is low high = record { above = is.above; below = is.below }
 
@@ -147,7 +151,8 @@ module _ (old : Standing) (message : List ℕ) (ask : Ask) (new : Standing) wher
   lacks sequence number may is = Lacks may (subst (λ s. IsRefused old s Memory [] ask new) (sym number) is)
 
   -- a refusal, or want of memory where it may be
-  refuses : (sequence : ℕ) (refusal : Refusal) → first_sequence message ≡ Some sequence → (refusal ≡ Memory → MayWantMemory old message)
+  refuses : (sequence : ℕ) (refusal : Refusal) → first_sequence message ≡ Some sequence
+      → (refusal ≡ Memory → MayWantMemory old message)
       → IsRefused old (Some sequence) refusal [] ask new → Comes
   refuses sequence refusal number may is =
       elim (is_memory refusal) [
@@ -158,7 +163,8 @@ module _ (old : Standing) (message : List ℕ) (ask : Ask) (new : Standing) wher
   ready_in : (setup : Setup) (paused : Option Run) → old.state ≡ Ready setup paused → IsReadyIn old.state setup
   ready_in setup paused same = subst (λ (s : State). IsReadyIn s setup) (sym same) refl
 
-  says : (sequence : ℕ) (fields : List Field) (body : List ℕ) → IsReplied old (reply_text 200 (Some sequence) fields body) ask new → Comes
+  says : (sequence : ℕ) (fields : List Field) (body : List ℕ)
+      → IsReplied old (reply_text 200 (Some sequence) fields body) ask new → Comes
   says sequence fields body is = Says sequence fields body old.tearing (inl refl) is.0 is.1
 
   looks_to : (request : Request) → ParameterHeard old message request → IsWord (codes "x-Booked") request.body.now
@@ -176,7 +182,8 @@ module _ (old : Standing) (message : List ℕ) (ask : Ask) (new : Standing) wher
   asks_offer_to sequence wait (Ok planned) number may (inr refused) = lacks sequence number may refused
   asks_offer_to sequence wait (Err refusal) number may refused = refuses sequence refusal number (λ memory. may) refused
 
-  gets_offer_to : (state : State) (request : Request) → ParameterHeard old message request → IsWord (codes "x-Offer") request.body.now
+  gets_offer_to : (state : State) (request : Request) → ParameterHeard old message request
+      → IsWord (codes "x-Offer") request.body.now
       → old.state ≡ state → GetsOffer state old request ask new → Comes
   gets_offer_to Init request heard offer same is = Refuses (Some request.sequence) Session [] (λ memory. cc) is
   gets_offer_to (Ready setup paused) request heard offer same (inl short) =
@@ -207,7 +214,8 @@ module _ (old : Standing) (message : List ℕ) (ask : Ask) (new : Standing) wher
       (λ memory. absurd (subst (λ r. IsSetupRead old.settings request.head.now film (Err r)) memory read)) is
 
   may_play : PlayHeard old message → MayWantMemory old message
-  may_play heard = inr (inl (record { setup = heard.setup; ready = ready_in heard.setup heard.paused heard.ready; play = heard.play }))
+  may_play heard =
+      inr (inl (record { setup = heard.setup; ready = ready_in heard.setup heard.paused heard.ready; play = heard.play }))
 
   asks_play_to : (heard : PlayHeard old message) (planned : Result Planned Refusal)
       → IsPlanned old heard.setup heard.paused heard.range planned
@@ -244,7 +252,8 @@ module _ (old : Standing) (message : List ℕ) (ask : Ask) (new : Standing) wher
   pauses_to (Playing setup play) sequence same is = AsksForHalt sequence setup play (Paused is.left) same refl (inl refl) is.asks
   pauses_to (Stopping setup stop) sequence same is = absurd is
 
-  tears_to : (state : State) (sequence : ℕ) → IsTeardown message → old.state ≡ state → TearsDown state old sequence ask new → Comes
+  tears_to : (state : State) (sequence : ℕ) → IsTeardown message → old.state ≡ state
+      → TearsDown state old sequence ask new → Comes
   tears_to Init sequence torn same is = Says sequence _ [] true (inr torn) is.0 is.1
   tears_to (Ready setup paused) sequence torn same is = Says sequence _ [] true (inr torn) is.0 is.1
   tears_to (Playing setup play) sequence torn same is = AsksForHalt sequence setup play Torn same refl (inr torn) is
@@ -280,9 +289,11 @@ module _ (old : Standing) (message : List ℕ) (ask : Ask) (new : Standing) wher
 
   hears_on_to : (lost : Bool) → old.lost ≡ lost → HearsOn lost old message ask new → Comes
   hears_on_to true lost refused = Lacks (inl lost) refused
-  hears_on_to false linked (inl fault) = Refuses (first_sequence message) (fault_refusal fault.fault) [] (fault_refuses fault.fault) fault.refused
+  hears_on_to false linked (inl fault) =
+      Refuses (first_sequence message) (fault_refusal fault.fault) [] (fault_refuses fault.fault) fault.refused
   hears_on_to false linked (inr whole) =
-      takes_to whole.request whole.hears.judgement linked whole.is_request (first_is message whole.request.sequence whole.is_request.sequence_is)
+      takes_to whole.request whole.hears.judgement linked whole.is_request
+      (first_is message whole.request.sequence whole.is_request.sequence_is)
       whole.hears.judged whole.hears.takes
 
   pub comes_to : Hears old message ask new → Comes

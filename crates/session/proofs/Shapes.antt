@@ -19,17 +19,25 @@ use Rattle.session.proofs.Results.{ComesTo, Lacks, Refuses, Says, SettlesSetup, 
 
 -- what was asked of the station, and the session then
 pub data HearsAs (old : Standing) (ask : Ask) (new : Standing) : Type 0 where
-  Replies : (text : List ℕ) (tearing : Bool) → ask ≡ Reply → new ≡ record old { text = text; waits = true; tearing = tearing } → HearsAs old ask new
+  Replies : (text : List ℕ) (tearing : Bool) → ask ≡ Reply
+      → new ≡ record old { text = text; waits = true; tearing = tearing } → HearsAs old ask new
   SetsUp : (text : List ℕ) (setup : Setup) → old.state ≡ Init → ask ≡ Reply
       → new ≡ record old { text = text; waits = true; state = Ready setup None } → HearsAs old ask new
   AsksPlay : (setup : Setup) (paused : Option Run) (prepared : Prepared) (text : List ℕ) → old.state ≡ Ready setup paused
       → ask ≡ AskPlay prepared.plan → new ≡ record old { awaited = Play prepared; text = text } → HearsAs old ask new
   Stops : (setup : Setup) (play : Played) (keep : ℕ) (next : Next) (text : List ℕ) → old.state ≡ Playing setup play
       → is_answered next ≡ true → keep ≡ next_boundary play.pacer → ask ≡ AskHalt keep
-      → new ≡ record old { state = Playing setup (record play { pacer = record play.pacer { keep = keep } }); awaited = Halt keep next; text = text }
+      → new ≡ record old {
+        state =
+            Playing setup (record play { pacer = record play.pacer { keep = keep } });
+        awaited = Halt keep next;
+        text = text;
+      }
       → HearsAs old ask new
-  AsksLook : (looks sequence : ℕ) → ask ≡ AskLook old.heard → new ≡ record old { looks_left = looks; awaited = Look sequence } → HearsAs old ask new
-  AsksOffer : (plan : List Segment) (offers : Offers) (sequence : ℕ) → ask ≡ AskOffer plan offers → new ≡ record old { awaited = Offer sequence }
+  AsksLook : (looks sequence : ℕ) → ask ≡ AskLook old.heard
+      → new ≡ record old { looks_left = looks; awaited = Look sequence } → HearsAs old ask new
+  AsksOffer : (plan : List Segment) (offers : Offers) (sequence : ℕ) → ask ≡ AskOffer plan offers
+      → new ≡ record old { awaited = Offer sequence }
       → HearsAs old ask new
 
 comes_as : (old : Standing) (message : List ℕ) (ask : Ask) (new : Standing) → ComesTo old message ask new → HearsAs old ask new
@@ -42,7 +50,8 @@ comes_as old message ask new (AsksForPlay stored setup paused range planned sequ
 comes_as old message ask new (AsksForHalt sequence setup play next playing told by halts) =
     Stops setup play halts.keep next _ playing told halts.keep_is halts.command halts.state
 comes_as old message ask new (AsksForLook sequence look) = AsksLook _ sequence look.command look.state
-comes_as old message ask new (AsksForOffer sequence wait planned asks) = AsksOffer planned.plan asks.offers sequence asks.command asks.state
+comes_as old message ask new (AsksForOffer sequence wait planned asks) =
+    AsksOffer planned.plan asks.offers sequence asks.command asks.state
 
 pub hears_as : (old : Standing) (message : List ℕ) (ask : Ask) (new : Standing) → Hears old message ask new → HearsAs old ask new
 hears_as old message ask new hears = comes_as old message ask new (comes_to old message ask new hears)

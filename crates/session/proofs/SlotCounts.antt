@@ -48,7 +48,8 @@ late_of : (b : Bool) (standing : Standing) → (cond b (sent_reply standing) sta
 late_of true standing = refl
 late_of false standing = refl
 
-late_of_slot : (old : Standing) (slot : ℕ) → (after_play (sent_slot old slot)).late ≡ old.late + slots_missed old.heard slot (start_in old.state)
+late_of_slot : (old : Standing) (slot : ℕ)
+    → (after_play (sent_slot old slot)).late ≡ old.late + slots_missed old.heard slot (start_in old.state)
 late_of_slot old slot =
     late_of (old.waits && is_between (stepped_in true slot old.state)) (sent_due old slot)
     ∙ ap (λ n. old.late + n) (missed_is old.heard (start_in old.state) slot)
@@ -95,7 +96,8 @@ above_taken : (heard slot : ℕ) → 2 ^ 62 < slot → (ltb heard slot && leb sl
 above_taken heard slot above = grind (arith, nat_tests)
 
 pub later_slot : (old : Standing) (slot : ℕ) → old.heard < slot → slot ≤ 2 ^ 62 → (after_slot old slot).heard ≡ slot
-later_slot old slot later most = slot_heard (is_taken old slot) (is_sending old.state) old slot (later_taken old.heard slot later most)
+later_slot old slot later most =
+    slot_heard (is_taken old slot) (is_sending old.state) old slot (later_taken old.heard slot later most)
 
 not_taken : (old : Standing) (slot : ℕ) → is_taken old slot ≡ false → after_slot old slot ≡ old
 not_taken old slot is =
@@ -119,10 +121,12 @@ pub play_done : (old : Standing) (setup : Setup) (play : Played) → old.state �
     → play.pacer.sent ≡ play.pacer.keep → awaited_answer (after_play old) ≡ HaltAnswer play.pacer.keep
 play_done old setup play playing some same =
     ap (λ s. awaited_answer_of (finished_in s old.awaited)) playing
-    ∙ ap (λ b. awaited_answer_of (cond b (Halt play.pacer.sent Done) old.awaited)) (is_whole play.pacer.passed play.pacer.sent play.pacer.keep some same)
+    ∙ ap (λ b. awaited_answer_of (cond b (Halt play.pacer.sent Done) old.awaited))
+    (is_whole play.pacer.passed play.pacer.sent play.pacer.keep some same)
     ∙ ap HaltAnswer same
 
-pub play_goes : (old : Standing) (setup : Setup) (play : Played) → old.state ≡ Playing setup play → play.pacer.sent < play.pacer.keep
+pub play_goes : (old : Standing) (setup : Setup) (play : Played) → old.state ≡ Playing setup play
+    → play.pacer.sent < play.pacer.keep
     → after_play old ≡ old
 play_goes old setup play playing less =
     ap (λ a. record old { awaited = a }) (ap (λ s. finished_in s old.awaited) playing

@@ -97,7 +97,8 @@ range_read : {s e : List ℕ} {from to : ℕ} → list_all (λ x. not (x == 45))
     → IsSpan (codes "npt=" ++ (s ++ 45 ∷ e)) (record { from = At from; to = Some to })
 range_read {s} {e} {from} {to} free first last =
     let text = codes "npt=" ++ (s ++ 45 ∷ e) in
-    let size : length text ≡ 4 + (length s + (1 + length e)) = omega (arith, length-append (codes "npt=") (s ++ 45 ∷ e), length-append s (45 ∷ e)) in
+    let size : length text ≡ 4 + (length s + (1 + length e)) =
+    omega (arith, length-append (codes "npt=") (s ++ 45 ∷ e), length-append s (45 ∷ e)) in
     let at : ℕ = 4 + length s in
     let front : slice_range text 4 (4 + length s) ≡ s = take_at s (45 ∷ e) (4 + length s - 4) (omega arith) in
     let whole : text ≡ (codes "npt=" ++ s ++ codes "-") ++ e =
@@ -108,7 +109,8 @@ range_read {s} {e} {from} {to} free first last =
     let dropped : drop (4 + length s + 1) text ≡ e =
     ap (drop (4 + length s + 1)) whole ∙ drop_at (codes "npt=" ++ s ++ codes "-") e (4 + length s + 1) long in
     let rest : slice_range text (4 + length s + 1) (length text) ≡ e =
-    ap (λ l. take (length text - (4 + length s + 1)) l) dropped ∙ take_all (length text - (4 + length s + 1)) e (omega (arith, size)) in
+    ap (λ l. take (length text - (4 + length s + 1)) l) dropped
+    ∙ take_all (length text - (4 + length s + 1)) e (omega (arith, size)) in
     record {
       unit = refl;
       dash = 4 + length s;
@@ -131,7 +133,9 @@ range_read {s} {e} {from} {to} free first last =
     }
 
 pub span_told : (film : Film) (first end : ℕ) → milliseconds_at film first < 10 ^ 12 → milliseconds_at film end < 10 ^ 12
-    → TellsSpan film first end (joined_parts (codes "npt=" ∷ seconds_text (milliseconds_at film first) ∷ codes "-" ∷ seconds_text (milliseconds_at film end) ∷ []))
+    → TellsSpan film first end
+    (joined_parts
+    (codes "npt=" ∷ seconds_text (milliseconds_at film first) ∷ codes "-" ∷ seconds_text (milliseconds_at film end) ∷ []))
 span_told film first end small short =
     let s = seconds_text (milliseconds_at film first) in
     let e = seconds_text (milliseconds_at film end) in
@@ -142,7 +146,8 @@ span_told film first end small short =
       to = milliseconds_at film end;
       from_is = ticks_360 (first * picture_time film.rate);
       to_is = ticks_360 (end * picture_time film.rate);
-      read = subst (λ (t : List ℕ). IsSpan t (record { from = At (milliseconds_at film first * 1000000); to = Some (milliseconds_at film end * 1000000) })) same
+      read = subst (λ (t : List ℕ). IsSpan t
+          (record { from = At (milliseconds_at film first * 1000000); to = Some (milliseconds_at film end * 1000000) })) same
           (range_read (no_dash-seconds (milliseconds_at film first) small)
           (seconds_read (milliseconds_at film first) small) (seconds_read (milliseconds_at film end) short));
     }
@@ -163,8 +168,10 @@ tail_prints tail (inr (inl is)) = rw is refl
 tail_prints tail (inr (inr (inl is))) = rw is refl
 tail_prints tail (inr (inr (inr is))) = rw is refl
 
-prints-append : (a b : List ℕ) → list_all is_url_byte a ≡ true → list_all is_url_byte b ≡ true → list_all is_url_byte (a ++ b) ≡ true
-prints-append a b here there = list_all-append is_url_byte a b ∙ and_from (list_all is_url_byte a) (list_all is_url_byte b) here there
+prints-append : (a b : List ℕ) → list_all is_url_byte a ≡ true → list_all is_url_byte b ≡ true
+    → list_all is_url_byte (a ++ b) ≡ true
+prints-append a b here there =
+    list_all-append is_url_byte a b ∙ and_from (list_all is_url_byte a) (list_all is_url_byte b) here there
 
 -- what is known of an authority
 record IsAuthority (authority : List ℕ) : Type 0 where
@@ -197,13 +204,16 @@ film_url authority name tail is good is_tail =
     let at : ℕ = 7 + length authority in
     let size : length url ≡ 7 + (length authority + length path) =
     omega (arith, length-append (codes "rtsp://") (authority ++ path), length-append authority path) in
-    let bytes = and_parts (nat_lt 0 (length name) && nat_le (length name) 64 && not (slice_index name 0 == 46)) (list_all is_name_byte name) good in
+    let bytes = and_parts (nat_lt 0 (length name) && nat_le (length name) 64 && not (slice_index name 0 == 46))
+    (list_all is_name_byte name) good in
     let whole : url ≡ (codes "rtsp://" ++ authority) ++ path = sym (append_assoc (codes "rtsp://") authority path) in
     let dropped : drop (7 + length authority) url ≡ path =
     ap (drop (7 + length authority)) whole
-    ∙ drop_at (codes "rtsp://" ++ authority) path (7 + length authority) (omega (arith, length-append (codes "rtsp://") authority)) in
+    ∙ drop_at (codes "rtsp://" ++ authority) path (7 + length authority)
+    (omega (arith, length-append (codes "rtsp://") authority)) in
     let rest : slice_range url (7 + length authority) (length url) ≡ path =
-    ap (λ l. take (length url - (7 + length authority)) l) dropped ∙ take_all (length url - (7 + length authority)) path (omega (arith, size)) in
+    ap (λ l. take (length url - (7 + length authority)) l) dropped
+    ∙ take_all (length url - (7 + length authority)) path (omega (arith, size)) in
     record {
       path = 7 + length authority;
       is_url = record {
@@ -272,7 +282,8 @@ info_told {stored} {authority} old setup planned is good =
         ap (λ n. n % 65536) (add_comm ((a + b) % 65536) c) ∙ sum_mod c (a + b) 65536
         ∙ ap (λ n. n % 65536) (let same : c + (a + b) ≡ a + (b + c) = omega arith in same)
 
-    value : (a n q t : List ℕ) → joined_parts (codes "url=rtsp://" ∷ a ∷ codes "/" ∷ n ∷ codes "/video;seq=" ∷ q ∷ codes ";rtptime=" ∷ t ∷ [])
+    value : (a n q t : List ℕ)
+        → joined_parts (codes "url=rtsp://" ∷ a ∷ codes "/" ∷ n ∷ codes "/video;seq=" ∷ q ∷ codes ";rtptime=" ∷ t ∷ [])
         ≡ codes "url=" ++ (codes "rtsp://" ++ (a ++ (47 ∷ n ++ codes "/video"))) ++ codes ";seq=" ++ q ++ codes ";rtptime=" ++ t
     value a n q t =
         let x = codes ";rtptime=" ++ t in
@@ -284,7 +295,8 @@ info_told {stored} {authority} old setup planned is good =
         let inner : u ++ y ≡ codes "url=rtsp://" ++ (a ++ (47 ∷ (n ++ (codes "/video" ++ y)))) =
         ap (λ l. codes "url=rtsp://" ++ l) (append_assoc a (47 ∷ n ++ codes "/video") y
         ∙ ap (λ l. a ++ (47 ∷ l)) (append_assoc n (codes "/video") y)) in
-        ap (λ l. codes "url=rtsp://" ++ (a ++ (47 ∷ (n ++ (codes "/video;seq=" ++ (q ++ (codes ";rtptime=" ++ l))))))) (append-nil t)
+        ap (λ l. codes "url=rtsp://"
+        ++ (a ++ (47 ∷ (n ++ (codes "/video;seq=" ++ (q ++ (codes ";rtptime=" ++ l))))))) (append-nil t)
         ∙ sym inner ∙ sym right
 
 pub play_told : (old : Standing) (stored : Stored) (setup : Setup) (planned : Planned) (sequence : ℕ) {authority : List ℕ}
@@ -297,8 +309,10 @@ play_told old stored setup planned sequence {authority} is =
     let brief = can.playback_is.picture_units_fit in
     let few = can.sizes_are.few in
     record {
-      fields = play_fields old.id (milliseconds_at stored.film planned.run.from_unit) (milliseconds_at stored.film planned.run.end_unit) authority
-          (string_bytes stored.name) (first_number old stored setup planned) (timestamp_at stored.film old.source planned.run.from_unit);
+      fields = play_fields old.id (milliseconds_at stored.film planned.run.from_unit)
+          (milliseconds_at stored.film planned.run.end_unit) authority
+          (string_bytes stored.name) (first_number old stored setup planned)
+          (timestamp_at stored.film old.source planned.run.from_unit);
       text_is = refl;
       told = record {
         session = refl;
@@ -324,7 +338,8 @@ film_text : {url authority : List ℕ} {asked : Option (List ℕ)} {film : Film}
     → IsFilmTold sequence authority name film (describe_text sequence authority name (length_ms film))
 unfolding value_named
 film_text {url} {authority} {asked} {film} sequence name read good short =
-    let base : codes "rtsp://" ++ (authority ++ (47 ∷ name ++ codes "/")) ≡ joined_parts (codes "rtsp://" ∷ authority ∷ codes "/" ∷ name ∷ codes "/" ∷ []) =
+    let base : codes "rtsp://" ++ (authority ++ (47 ∷ name ++ codes "/"))
+    ≡ joined_parts (codes "rtsp://" ∷ authority ∷ codes "/" ∷ name ∷ codes "/" ∷ []) =
     base_is authority name in
     record {
       fields = _;
@@ -342,7 +357,8 @@ film_text {url} {authority} {asked} {film} sequence name read good short =
           (few_ms 4194304 (length film.units.items) (picture_time film.rate) short.few (omega arith) short.brief);
     }
   where
-    base_is : (a n : List ℕ) → codes "rtsp://" ++ (a ++ (47 ∷ n ++ codes "/")) ≡ joined_parts (codes "rtsp://" ∷ a ∷ codes "/" ∷ n ∷ codes "/" ∷ [])
+    base_is : (a n : List ℕ)
+        → codes "rtsp://" ++ (a ++ (47 ∷ n ++ codes "/")) ≡ joined_parts (codes "rtsp://" ∷ a ∷ codes "/" ∷ n ∷ codes "/" ∷ [])
     base_is a n = refl
 
 pub film_told : {old new : Standing} {sequence number : ℕ} {url authority : List ℕ} {asked : Option (List ℕ)}
@@ -357,7 +373,8 @@ film_told {new} {sequence} {number} {url} {authority} {asked} {ask} is read good
 
 -- the start of an admitted play
 pub start_told : {sequence : ℕ} {fields : List Field} (old : Standing) (place start : ℕ) → old.heard < start
-    → old.text ≡ reply_front 200 (Some sequence) fields → IsStartTold old start sequence fields (after_admission old place start).text
+    → old.text ≡ reply_front 200 (Some sequence) fields
+    → IsStartTold old start sequence fields (after_admission old place start).text
 start_told {sequence} {fields} old place start later front =
     let slots : ℕ = start - old.heard in
     let own = field (codes "x-Start") (decimal (start - old.heard)) in
@@ -375,7 +392,8 @@ pub setup_told : {ask : Ask} (old new : Standing) (sequence : ℕ) (setup : Setu
     → IsSetupTold sequence (identity_of old.source setup counts) old.id new.text
 unfolding value_named
 setup_told old new sequence setup counts is = record {
-  fields = field (codes "Transport") (transport_value setup.media setup.control old.source.ssrc) ∷ field (codes "Session") old.id ∷ [];
+  fields = field (codes "Transport") (transport_value setup.media setup.control old.source.ssrc)
+      ∷ field (codes "Session") old.id ∷ [];
   transport = transport_value setup.media setup.control old.source.ssrc;
   text_is = ap (λ (s : Standing). s.text) is.1;
   session = refl;
@@ -389,14 +407,16 @@ pub overflow_told : (old : Standing) (place slot booked asked : ℕ)
     → IsOverflowTold (sequence_of old.awaited) slot booked asked (after_overflow old place slot booked asked).text
 unfolding value_named
 overflow_told old place slot booked asked = record {
-  fields = field (codes "x-Slot") (decimal slot) ∷ field (codes "x-Booked") (decimal booked) ∷ field (codes "x-Asked") (decimal asked) ∷ [];
+  fields = field (codes "x-Slot") (decimal slot) ∷ field (codes "x-Booked") (decimal booked)
+      ∷ field (codes "x-Asked") (decimal asked) ∷ [];
   text_is = refl;
   slot_is = refl;
   booked_is = refl;
   asked_is = refl;
 }
 
-pub full_told : (old : Standing) (entries live : ℕ) → IsFullTold (sequence_of old.awaited) entries live (after_full old entries live).text
+pub full_told : (old : Standing) (entries live : ℕ)
+    → IsFullTold (sequence_of old.awaited) entries live (after_full old entries live).text
 unfolding value_named
 full_told old entries live = record {
   fields = field (codes "x-Entries") (decimal entries) ∷ field (codes "x-Open") (decimal live) ∷ [];
@@ -405,12 +425,14 @@ full_told old entries live = record {
   open_is = refl;
 }
 
-look_lines : (n a b : List ℕ) → joined_parts (codes "x-Now: " ∷ n ∷ codes "\r\nx-Slot: " ∷ a ∷ codes "\r\nx-Booked: " ∷ b ∷ codes "\r\n" ∷ [])
+look_lines : (n a b : List ℕ)
+    → joined_parts (codes "x-Now: " ∷ n ∷ codes "\r\nx-Slot: " ∷ a ∷ codes "\r\nx-Booked: " ∷ b ∷ codes "\r\n" ∷ [])
     ≡ (codes "x-Now" ++ (codes ": " ++ (n ++ codes "\r\n"))) ++ ((codes "x-Slot" ++ (codes ": " ++ (a ++ codes "\r\n")))
     ++ (codes "x-Booked" ++ (codes ": " ++ (b ++ codes "\r\n"))))
 look_lines n a b =
     let last = codes "x-Booked: " ++ (b ++ codes "\r\n") in
-    let slot : (codes "x-Slot" ++ (codes ": " ++ (a ++ codes "\r\n"))) ++ last ≡ codes "x-Slot: " ++ (a ++ (codes "\r\n" ++ last)) =
+    let slot : (codes "x-Slot" ++ (codes ": " ++ (a ++ codes "\r\n"))) ++ last
+    ≡ codes "x-Slot: " ++ (a ++ (codes "\r\n" ++ last)) =
     ap (λ l. codes "x-Slot: " ++ l) (append_assoc a (codes "\r\n") last) in
     let now : (codes "x-Now" ++ (codes ": " ++ (n ++ codes "\r\n"))) ++ (codes "x-Slot: " ++ (a ++ (codes "\r\n" ++ last)))
     ≡ codes "x-Now: " ++ (n ++ (codes "\r\n" ++ (codes "x-Slot: " ++ (a ++ (codes "\r\n" ++ last))))) =

@@ -10,7 +10,8 @@ pub block_in : (p : ℕ) → p < 1048576 → p / 1024 < 1024
 block_in p inside = omega (arith, inside)
 
 -- a place whose number rises
-pub topped-raise : {places tops : List ℕ} {stale : Option ℕ} (p v : ℕ) → IsTopped places tops stale → p < 1048576 → get_or places p 0 ≤ v →
+pub topped-raise : {places tops : List ℕ} {stale : Option ℕ} (p v : ℕ) → IsTopped places tops stale →
+    p < 1048576 → get_or places p 0 ≤ v →
     IsTopped (set places p v) (set tops (p / 1024) (max (get_or tops (p / 1024) 0) v)) stale
 topped-raise {places} {tops} p v topped inside rises = record {
   places_are = length-set places p v ∙ topped.places_are;
@@ -18,7 +19,8 @@ topped-raise {places} {tops} p v topped inside rises = record {
   bounded = λ i less. elim (cases_eq i p) [
     | inl is ↦ (
         let value : get_or (set places p v) i 0 ≡ v = ap (λ k. get_or (set places p v) k 0) is ∙ here in
-        let bound : get_or (set tops block top) (i / 1024) 0 ≡ top = ap (λ k. get_or (set tops block top) (k / 1024) 0) is ∙ new_top in
+        let bound : get_or (set tops block top) (i / 1024) 0 ≡ top =
+        ap (λ k. get_or (set tops block top) (k / 1024) 0) is ∙ new_top in
         omega (arith, value, bound)
         )
     | inr other ↦ (
@@ -26,12 +28,14 @@ topped-raise {places} {tops} p v topped inside rises = record {
         let before : get_or places i 0 ≤ get_or tops (i / 1024) 0 = topped.bounded i less in
         elim (cases_eq (i / 1024) block) [
           | inl same ↦ (
-              let bound : get_or (set tops block top) (i / 1024) 0 ≡ top = ap (λ k. get_or (set tops block top) k 0) same ∙ new_top in
+              let bound : get_or (set tops block top) (i / 1024) 0 ≡ top =
+              ap (λ k. get_or (set tops block top) k 0) same ∙ new_top in
               let old : get_or tops (i / 1024) 0 ≡ get_or tops block 0 = ap (λ k. get_or tops k 0) same in
               omega (arith, value, bound, before, old)
               )
           | inr apart ↦ (
-              let bound : get_or (set tops block top) (i / 1024) 0 ≡ get_or tops (i / 1024) 0 = get_or-set_other tops block (i / 1024) top 0 apart in
+              let bound : get_or (set tops block top) (i / 1024) 0 ≡ get_or tops (i / 1024) 0 =
+              get_or-set_other tops block (i / 1024) top 0 apart in
               omega (arith, value, bound, before)
               )
         ]
@@ -87,10 +91,12 @@ topped-raise {places} {tops} p v topped inside rises = record {
     here = get_or-set_same places p v 0 (omega (arith, topped.places_are, inside))
 
     new_top : get_or (set tops (p / 1024) (max (get_or tops (p / 1024) 0) v)) (p / 1024) 0 ≡ max (get_or tops (p / 1024) 0) v
-    new_top = get_or-set_same tops (p / 1024) (max (get_or tops (p / 1024) 0) v) 0 (omega (arith, topped.tops_are, block_in p inside))
+    new_top = get_or-set_same tops (p / 1024) (max (get_or tops (p / 1024) 0) v) 0
+        (omega (arith, topped.tops_are, block_in p inside))
 
 -- a place of the stale block whose number falls
-pub topped-lower : {places tops : List ℕ} (p v : ℕ) → IsTopped places tops (Some (p / 1024)) → p < 1048576 → v ≤ get_or places p 0 →
+pub topped-lower : {places tops : List ℕ} (p v : ℕ) → IsTopped places tops (Some (p / 1024)) → p < 1048576 →
+    v ≤ get_or places p 0 →
     IsTopped (set places p v) tops (Some (p / 1024))
 topped-lower {places} {tops} p v topped inside falls = record {
   places_are = length-set places p v ∙ topped.places_are;
@@ -99,7 +105,8 @@ topped-lower {places} {tops} p v topped inside falls = record {
       let before : get_or places i 0 ≤ get_or tops (i / 1024) 0 = topped.bounded i less in
       elim (cases_eq i p) [
         | inl is ↦ (
-            let value : get_or (set places p v) i 0 ≡ v = ap (λ k. get_or (set places p v) k 0) is ∙ get_or-set_same places p v 0 (omega (arith, topped.places_are)) in
+            let value : get_or (set places p v) i 0 ≡ v =
+            ap (λ k. get_or (set places p v) k 0) is ∙ get_or-set_same places p v 0 (omega (arith, topped.places_are)) in
             let same : get_or places i 0 ≡ get_or places p 0 = ap (λ k. get_or places k 0) is in
             omega (arith, value, same, before, falls)
             )
@@ -178,7 +185,8 @@ topped-settle {places} {tops} {stale} {b} {top} topped is greatest = record {
     b_in = topped.stale_in b is
 
     block_len : length (take 1024 (drop (b * 1024) places)) ≡ 1024
-    block_len = length-take-le 1024 (drop (b * 1024) places) (omega (arith, length-drop (b * 1024) places, topped.places_are, topped.stale_in b is))
+    block_len = length-take-le 1024 (drop (b * 1024) places)
+        (omega (arith, length-drop (b * 1024) places, topped.places_are, topped.stale_in b is))
 
     inside_is : (r : ℕ) → r < 1024 → get_or (take 1024 (drop (b * 1024) places)) r 0 ≡ get_or places (b * 1024 + r) 0
     inside_is r low = get_or-take 1024 (drop (b * 1024) places) r 0 low ∙ get_or-drop (b * 1024) places r 0

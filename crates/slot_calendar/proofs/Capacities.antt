@@ -6,7 +6,8 @@ use Rattle.slot_calendar.specs.declared.profiles.CapStep.{CapStep}
 use Rattle.slot_calendar.specs.Profiles.{IsProfile, IsCapacity, IsSpan, capacity_after, capacity_at, step_at}
 
 -- steps that begin after the slot leave its capacity
-capacity-rest : (steps : List CapStep) (t bytes : ℕ) → ((i : ℕ) → i < length steps → t < (step_at steps i).from) → fold (capacity_after t) bytes steps ≡ bytes
+capacity-rest : (steps : List CapStep) (t bytes : ℕ) → ((i : ℕ) → i < length steps → t < (step_at steps i).from)
+    → fold (capacity_after t) bytes steps ≡ bytes
 capacity-rest [] t bytes later = refl
 capacity-rest (s ∷ rest) t bytes later =
     let after : t < s.from = later 0 (omega arith) in
@@ -36,7 +37,8 @@ pub capacity-is : (steps : List CapStep) (t bytes : ℕ) → IsCapacity steps t 
 capacity-is steps t bytes is =
     capacity-from steps is.index t 0 (record { inside = is.inside; begun = is.begun; last = is.last }) ∙ sym is.bytes_are
 
-pub ascends : (steps : List CapStep) (i d : ℕ) → IsProfile steps → i + d < length steps → (step_at steps i).from ≤ (step_at steps (i + d)).from
+pub ascends : (steps : List CapStep) (i d : ℕ) → IsProfile steps → i + d < length steps
+    → (step_at steps i).from ≤ (step_at steps (i + d)).from
 ascends steps i zero profile inside =
     let at : i + 0 ≡ i = omega arith in
     let same : (step_at steps (i + 0)).from ≡ (step_at steps i).from = ap (λ k. (step_at steps k).from) at in
@@ -49,7 +51,8 @@ ascends steps i (suc d) profile inside =
     omega (arith, before, step, same)
 
 -- a step and a later one
-pub ascends-to : (steps : List CapStep) (i j : ℕ) → IsProfile steps → i ≤ j → j < length steps → (step_at steps i).from ≤ (step_at steps j).from
+pub ascends-to : (steps : List CapStep) (i j : ℕ) → IsProfile steps → i ≤ j → j < length steps
+    → (step_at steps i).from ≤ (step_at steps j).from
 ascends-to steps i j profile later inside =
     let at : i + (j - i) ≡ j = omega arith in
     let same : (step_at steps (i + (j - i))).from ≡ (step_at steps j).from = ap (λ k. (step_at steps k).from) at in
@@ -91,7 +94,8 @@ capacity-last {steps} {i} profile count all from = record {
   bytes_are = all.bytes_are (i - 1) (omega (arith, count, profile.some));
 }
 
-pub span-is : (steps : List CapStep) (t bytes until : ℕ) → t < until → ((u : ℕ) → t ≤ u → u < until → IsCapacity steps u bytes) → IsSpan steps t bytes until
+pub span-is : (steps : List CapStep) (t bytes until : ℕ) → t < until
+    → ((u : ℕ) → t ≤ u → u < until → IsCapacity steps u bytes) → IsSpan steps t bytes until
 span-is steps t bytes until some same = record {
   some = some;
   here = same t (omega arith) some;
@@ -101,11 +105,13 @@ span-is steps t bytes until some same = record {
 pub capacity-small : (steps : List CapStep) (t bytes : ℕ) → IsProfile steps → IsCapacity steps t bytes → bytes ≤ 2 ^ 42
 capacity-small steps t bytes profile is = omega (arith, is.bytes_are, profile.small is.index is.inside)
 
-fold-most : (steps : List CapStep) (t bytes most : ℕ) → bytes ≤ most → ((i : ℕ) → i < length steps → (step_at steps i).bytes ≤ most) → fold (capacity_after t) bytes steps ≤ most
+fold-most : (steps : List CapStep) (t bytes most : ℕ) → bytes ≤ most
+    → ((i : ℕ) → i < length steps → (step_at steps i).bytes ≤ most) → fold (capacity_after t) bytes steps ≤ most
 fold-most [] t bytes most small rest = small
 fold-most (s ∷ steps) t bytes most small rest =
     let first : s.bytes ≤ most = rest 0 (omega arith) in
-    let next : capacity_after t bytes s ≤ most = elim (cases_cond (nat_le s.from t) s.bytes bytes (capacity_after t bytes s) refl) [
+    let next : capacity_after t bytes s ≤ most =
+    elim (cases_cond (nat_le s.from t) s.bytes bytes (capacity_after t bytes s) refl) [
       | inl e ↦ omega (arith, e, first)
       | inr e ↦ omega (arith, e, small)
     ] in

@@ -53,7 +53,8 @@ first-overflow {capacity} {from} {over} at later before here =
     }
 
 -- it fits into the slots after it
-pub room-all : {calendar : Entries} {segments : List Segment} {start until : ℕ} → IsCalendar calendar → start + total_slots segments ≤ until →
+pub room-all : {calendar : Entries} {segments : List Segment} {start until : ℕ} → IsCalendar calendar →
+    start + total_slots segments ≤ until →
     FitsIn calendar.first until (booked_at calendar) (capacity_at calendar.steps) start segments →
     HasRoom calendar.first (booked_at calendar) (capacity_at calendar.steps) start segments
 room-all {segments} {start} {until} is past fits = record {

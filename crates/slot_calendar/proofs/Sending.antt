@@ -48,7 +48,8 @@ pub sent-append : (xs ys : List Segment) (start t : ℕ) →
     sent_before (xs ++ ys) start t ≡ sent_before xs start t + sent_before ys (start + total_slots xs) t
 sent-append xs ys start t =
     let rest : t - start - length (plan_slots xs) ≡ t - (start + total_slots xs) = omega (arith, length-plan_slots xs) in
-    ap (λ l. sum (take (t - start) l)) (flat_map-append slots_of xs ys) ∙ sum-take-append (plan_slots xs) (plan_slots ys) (t - start)
+    ap (λ l. sum (take (t - start) l)) (flat_map-append slots_of xs ys)
+    ∙ sum-take-append (plan_slots xs) (plan_slots ys) (t - start)
     ∙ ap (λ n. sum (take (t - start) (plan_slots xs)) + sum (take n (plan_slots ys))) rest
 
 pub sent-none : (segments : List Segment) (start t : ℕ) → t ≤ start → sent_before segments start t ≡ 0
@@ -56,19 +57,24 @@ sent-none segments start t before =
     let none : t - start ≡ 0 = omega arith in
     ap (λ n. sum (take n (plan_slots segments))) none
 
-pub sent-end : (segments : List Segment) (start t : ℕ) → start + total_slots segments ≤ t → sent_before segments start t ≡ sum (plan_slots segments)
+pub sent-end : (segments : List Segment) (start t : ℕ) → start + total_slots segments ≤ t
+    → sent_before segments start t ≡ sum (plan_slots segments)
 sent-end segments start t past = ap sum (take_all (t - start) (plan_slots segments) (omega (arith, length-plan_slots segments)))
 
-pub sent-all : (segments : List Segment) (start t : ℕ) → All (λ s. 1 ≤ s.slots) segments → start + total_slots segments ≤ t → sent_before segments start t ≡ total_bytes segments
+pub sent-all : (segments : List Segment) (start t : ℕ) → All (λ s. 1 ≤ s.slots) segments
+    → start + total_slots segments ≤ t → sent_before segments start t ≡ total_bytes segments
 sent-all segments start t some past = sent-end segments start t past ∙ sum-plan_slots segments some
 
-pub sent-most : (segments : List Segment) (start t : ℕ) → All (λ s. 1 ≤ s.slots) segments → sent_before segments start t ≤ total_bytes segments
+pub sent-most : (segments : List Segment) (start t : ℕ) → All (λ s. 1 ≤ s.slots) segments
+    → sent_before segments start t ≤ total_bytes segments
 sent-most segments start t some =
-    let part : sum (take (t - start) (plan_slots segments)) ≤ sum (plan_slots segments) = sum_by-take-le (λ x. x) (plan_slots segments) (t - start) in
+    let part : sum (take (t - start) (plan_slots segments)) ≤ sum (plan_slots segments) =
+    sum_by-take-le (λ x. x) (plan_slots segments) (t - start) in
     omega (arith, part, sum-plan_slots segments some)
 
 -- the first j slots of one segment
-pub sent-one : (s : Segment) (from j : ℕ) → 0 < s.slots → j ≤ s.slots → sent_before (s ∷ []) from (from + j) ≡ j * s.bytes / s.slots
+pub sent-one : (s : Segment) (from j : ℕ) → 0 < s.slots → j ≤ s.slots
+    → sent_before (s ∷ []) from (from + j) ≡ j * s.bytes / s.slots
 sent-one s from j pos few =
     let at : from + j - from ≡ j = omega arith in
     ap (λ n. sum (take n (plan_slots (s ∷ [])))) at ∙ sum-take-in s [] j pos few
@@ -95,18 +101,21 @@ pub asked-after : (segments : List Segment) (start t : ℕ) → start + total_sl
 asked-after segments start t past =
     omega (arith, sent-end segments start t past, sent-end segments start (t + 1) (omega arith))
 
-pub front-next : (segments : List Segment) (i : ℕ) (s : Segment) → i < length segments → s ≡ get_or segments i s → take (i + 1) segments ≡ take i segments ++ s ∷ []
+pub front-next : (segments : List Segment) (i : ℕ) (s : Segment) → i < length segments → s ≡ get_or segments i s
+    → take (i + 1) segments ≡ take i segments ++ s ∷ []
 front-next segments i s inside is = take_more segments i s inside ∙ ap (λ x. take i segments ++ x ∷ []) (sym is)
 
 pub slots-next : (segments : List Segment) (i : ℕ) (s : Segment) → i < length segments → s ≡ get_or segments i s →
     total_slots (take (i + 1) segments) ≡ total_slots (take i segments) + s.slots
 slots-next segments i s inside is =
-    ap total_slots (front-next segments i s inside is) ∙ sum_by-append (λ x. x.slots) (take i segments) (s ∷ []) ∙ ap (λ n. total_slots (take i segments) + n) (one-slots s)
+    ap total_slots (front-next segments i s inside is) ∙ sum_by-append (λ x. x.slots) (take i segments) (s ∷ [])
+    ∙ ap (λ n. total_slots (take i segments) + n) (one-slots s)
 
 pub bytes-next : (segments : List Segment) (i : ℕ) (s : Segment) → i < length segments → s ≡ get_or segments i s →
     total_bytes (take (i + 1) segments) ≡ total_bytes (take i segments) + s.bytes
 bytes-next segments i s inside is =
-    ap total_bytes (front-next segments i s inside is) ∙ sum_by-append (λ x. x.bytes) (take i segments) (s ∷ []) ∙ ap (λ n. total_bytes (take i segments) + n) (one-bytes s)
+    ap total_bytes (front-next segments i s inside is) ∙ sum_by-append (λ x. x.bytes) (take i segments) (s ∷ [])
+    ∙ ap (λ n. total_bytes (take i segments) + n) (one-bytes s)
 
 -- segment i of a plan that begins in slot `start`, and the slot in which it begins
 pub record IsSegmentFrom (segments : List Segment) (i : ℕ) (s : Segment) (start from : ℕ) : Type 0 where
@@ -119,12 +128,14 @@ pub asked-next : {segments : List Segment} {i : ℕ} {s : Segment} {start from :
     → IsSegmentFrom segments i s start from
     → asked_at (take (i + 1) segments) start t ≡ asked_at (take i segments) start t + asked_at (s ∷ []) from t
 asked-next {segments} {i} {s} {start} t at =
-    ap (λ l. asked_at l start t) (front-next segments i s at.inside at.segment_is) ∙ asked-append (take i segments) (s ∷ []) start t
+    ap (λ l. asked_at l start t) (front-next segments i s at.inside at.segment_is)
+    ∙ asked-append (take i segments) (s ∷ []) start t
     ∙ ap (λ n. asked_at (take i segments) start t + asked_at (s ∷ []) n t) (sym at.from_is)
 
 -- the first segments of a plan ask for no more than all of it
 pub asked-front : (segments : List Segment) (i start t : ℕ) →
-    asked_at segments start t ≡ asked_at (take i segments) start t + asked_at (drop i segments) (start + total_slots (take i segments)) t
+    asked_at segments start t
+    ≡ asked_at (take i segments) start t + asked_at (drop i segments) (start + total_slots (take i segments)) t
 asked-front segments i start t =
     ap (λ l. asked_at l start t) (sym (take-append-drop i segments)) ∙ asked-append (take i segments) (drop i segments) start t
 
@@ -136,8 +147,10 @@ asked-in {segments} {i} {s} {start} t at begun ends =
     let front = asked-next t at in
     let slots = slots-next segments i s at.inside at.segment_is in
     let after : asked_at (drop (i + 1) segments) (start + total_slots (take (i + 1) segments)) t ≡ 0 =
-    asked-before (drop (i + 1) segments) (start + total_slots (take (i + 1) segments)) t (omega (arith, slots, at.from_is, ends)) in
-    let before : asked_at (take i segments) start t ≡ 0 = asked-after (take i segments) start t (omega (arith, at.from_is, begun)) in
+    asked-before (drop (i + 1) segments) (start + total_slots (take (i + 1) segments)) t
+    (omega (arith, slots, at.from_is, ends)) in
+    let before : asked_at (take i segments) start t ≡ 0 =
+    asked-after (take i segments) start t (omega (arith, at.from_is, begun)) in
     omega (arith, split, front, after, before)
 
 -- ---- the bytes after the first `keep`
@@ -161,7 +174,8 @@ over-append {xs} {start} {keep} {from} ys t front =
           omega (arith, whole, none)
           )
       | inr past ↦ (
-          let all : sent_before xs start t ≡ total_bytes xs = sent-all xs start t front.some (omega (arith, front.from_is, past)) in
+          let all : sent_before xs start t ≡ total_bytes xs =
+          sent-all xs start t front.some (omega (arith, front.from_is, past)) in
           omega (arith, whole, all, front.left_is)
           )
     ]
@@ -174,7 +188,8 @@ cut-append {xs} {start} {keep} {from} {left} ys t front =
     let here = over-append ys t front in
     let next = over-append ys (t + 1) front in
     sum-parts (sent_before (xs ++ ys) start t - keep) (sent_before (xs ++ ys) start (t + 1) - keep)
-    (sent_before xs start t - keep) (sent_before xs start (t + 1) - keep) (sent_before ys from t - left) (sent_before ys from (t + 1) - left)
+    (sent_before xs start t - keep) (sent_before xs start (t + 1) - keep) (sent_before ys from t - left)
+    (sent_before ys from (t + 1) - left)
     here next (omega (arith, x)) (omega (arith, y))
   where
     sum-parts : (a b c d e f : ℕ) → a ≡ c + e → b ≡ d + f → c ≤ d → e ≤ f → b - a ≡ (d - c) + (f - e)
@@ -188,9 +203,12 @@ cut-next {segments} {i} {s} {start} keep t some at rest =
     ap (λ l. cut_at l start keep t) (front-next segments i s at.inside at.segment_is)
     ∙ cut-append (s ∷ []) t (record { some = all-front segments i some; from_is = at.from_is; left_is = rest })
 
-pub cut-front : (segments : List Segment) (i start keep t : ℕ) → All (λ x. 1 ≤ x.slots) segments → cut_at (take i segments) start keep t ≤ cut_at segments start keep t
+pub cut-front : (segments : List Segment) (i start keep t : ℕ) → All (λ x. 1 ≤ x.slots) segments
+    → cut_at (take i segments) start keep t ≤ cut_at segments start keep t
 cut-front segments i start keep t some =
-    let whole : cut_at segments start keep t ≡ cut_at (take i segments) start keep t + cut_at (drop i segments) (start + total_slots (take i segments)) (keep - total_bytes (take i segments)) t =
+    let whole : cut_at segments start keep t
+    ≡ cut_at (take i segments) start keep t
+    + cut_at (drop i segments) (start + total_slots (take i segments)) (keep - total_bytes (take i segments)) t =
     ap (λ l. cut_at l start keep t) (sym (take-append-drop i segments))
     ∙ cut-append (drop i segments) t (record { some = all-front segments i some; from_is = refl; left_is = refl }) in
     omega (arith, whole)
@@ -218,8 +236,10 @@ asked-most s from c t pos most =
             let j = t - from in
             let at : from + j ≡ t = omega arith in
             let next : from + (j + 1) ≡ t + 1 = omega arith in
-            let here : sent_before (s ∷ []) from t ≡ j * s.bytes / s.slots = ap (sent_before (s ∷ []) from) (sym at) ∙ sent-one s from j pos (omega (arith, inside)) in
-            let then : sent_before (s ∷ []) from (t + 1) ≡ (j + 1) * s.bytes / s.slots = ap (sent_before (s ∷ []) from) (sym next) ∙ sent-one s from (j + 1) pos (omega (arith, inside)) in
+            let here : sent_before (s ∷ []) from t ≡ j * s.bytes / s.slots =
+            ap (sent_before (s ∷ []) from) (sym at) ∙ sent-one s from j pos (omega (arith, inside)) in
+            let then : sent_before (s ∷ []) from (t + 1) ≡ (j + 1) * s.bytes / s.slots =
+            ap (sent_before (s ∷ []) from) (sym next) ∙ sent-one s from (j + 1) pos (omega (arith, inside)) in
             omega (arith, here, then, slot_most s.bytes s.slots c j pos most)
             )
         | inr past ↦ omega (arith, asked-after (s ∷ []) from t (omega (arith, one-slots s, past)))
@@ -230,17 +250,20 @@ asked-most s from c t pos most =
 pub one-some : (s : Segment) → IsPlan (s ∷ []) → 0 < s.slots
 one-some s plan = All-head (λ x. 1 ≤ x.slots) s [] plan.no_empty
 
-pub asked-here : {before sent : ℕ} (segments : List Segment) (from j : ℕ) → before ≡ sent_before segments from (from + j) → sent_before segments from (from + (j + 1)) ≡ sent →
+pub asked-here : {before sent : ℕ} (segments : List Segment) (from j : ℕ) →
+    before ≡ sent_before segments from (from + j) → sent_before segments from (from + (j + 1)) ≡ sent →
     asked_at segments from (from + j) ≡ sent - before
 asked-here {sent} segments from j was is =
-    let next : sent_before segments from (from + j + 1) ≡ sent = ap (sent_before segments from) (let e : from + j + 1 ≡ from + (j + 1) = omega arith in e) ∙ is in
+    let next : sent_before segments from (from + j + 1) ≡ sent =
+    ap (sent_before segments from) (let e : from + j + 1 ≡ from + (j + 1) = omega arith in e) ∙ is in
     omega (arith, was, next)
 
 pub cut-here : {before over : ℕ} (segments : List Segment) (from keep j : ℕ)
     → before ≡ sent_before segments from (from + j) - keep → over ≡ sent_before segments from (from + (j + 1)) - keep
     → cut_at segments from keep (from + j) ≡ over - before
 cut-here segments from keep j was is =
-    let next : sent_before segments from (from + j + 1) ≡ sent_before segments from (from + (j + 1)) = ap (sent_before segments from) (omega arith) in
+    let next : sent_before segments from (from + j + 1) ≡ sent_before segments from (from + (j + 1)) =
+    ap (sent_before segments from) (omega arith) in
     omega (arith, was, next, is)
 
 -- the totals from slot `first` on at first, before slot `place` was changed and after it: that slot alone was, and none after it before
@@ -300,7 +323,8 @@ pub unchanged-next : (step : OneSlotMore) {t : ℕ} → step.first ≤ t → ste
 unchanged-next step {t} since more =
     step.others t since (λ e. omega (arith, e, more)) ∙ step.rest t since (omega (arith, more))
 
-pub sent-step : {before sent : ℕ} (segments : List Segment) (from j : ℕ) → before ≡ sent_before segments from (from + j) → sent_before segments from (from + (j + 1)) ≡ sent → before ≤ sent
+pub sent-step : {before sent : ℕ} (segments : List Segment) (from j : ℕ)
+    → before ≡ sent_before segments from (from + j) → sent_before segments from (from + (j + 1)) ≡ sent → before ≤ sent
 sent-step segments from j was is = omega (arith, was, is, sent-rises segments from (from + j) (from + (j + 1)) (omega arith))
 
 -- no slot of a segment has more than its bytes over its slots, rounded up
@@ -325,7 +349,8 @@ ceil_most b n c pos is =
     rounded x other = omega arith
 
 -- ---- in the words of the plan
-pub sent-through : (segments : List Segment) (start t : ℕ) → start ≤ t → sent_before segments start (t + 1) ≡ sum_through segments (t - start)
+pub sent-through : (segments : List Segment) (start t : ℕ) → start ≤ t
+    → sent_before segments start (t + 1) ≡ sum_through segments (t - start)
 sent-through segments start t from =
     let at : t + 1 - start ≡ t - start + 1 = omega arith in
     ap (λ n. sum (take n (plan_slots segments))) at
@@ -333,8 +358,10 @@ sent-through segments start t from =
 pub asked-slot : (segments : List Segment) (start j : ℕ) → asked_at segments start (start + j) ≡ get_or (plan_slots segments) j 0
 asked-slot segments start j =
     let slots = plan_slots segments in
-    let here : sent_before segments start (start + j) ≡ sum (take j slots) = ap (λ n. sum (take n slots)) (let e : start + j - start ≡ j = omega arith in e) in
-    let next : sent_before segments start (start + j + 1) ≡ sum (take (j + 1) slots) = ap (λ n. sum (take n slots)) (let e : start + j + 1 - start ≡ j + 1 = omega arith in e) in
+    let here : sent_before segments start (start + j) ≡ sum (take j slots) =
+    ap (λ n. sum (take n slots)) (let e : start + j - start ≡ j = omega arith in e) in
+    let next : sent_before segments start (start + j + 1) ≡ sum (take (j + 1) slots) =
+    ap (λ n. sum (take n slots)) (let e : start + j + 1 - start ≡ j + 1 = omega arith in e) in
     elim (cases_lt j (length slots)) [
       | inl inside ↦ omega (arith, here, next, sum_by_more (λ x. x) slots j 0 inside)
       | inr past ↦ (

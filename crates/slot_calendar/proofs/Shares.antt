@@ -16,14 +16,17 @@ share_parts a b k rises = omega arith
 share_whole : (a b k : ℕ) → a ≤ k → b ≤ k → min b k - min a k ≡ b - a
 share_whole a b k left right = omega arith
 
-pub share-whole : (segments : List Segment) (start t : ℕ) → IsPlan segments → share_at t (whole_play start segments) ≡ asked_at segments start t
+pub share-whole : (segments : List Segment) (start t : ℕ) → IsPlan segments
+    → share_at t (whole_play start segments) ≡ asked_at segments start t
 share-whole segments start t plan =
     share_whole (sent_before segments start t) (sent_before segments start (t + 1)) (total_bytes segments)
     (sent-most segments start t plan.no_empty) (sent-most segments start (t + 1) plan.no_empty)
 
-pub share-cut : (segments : List Segment) (start keep t : ℕ) → share_at t (cut_play start segments keep) + cut_at segments start keep t ≡ asked_at segments start t
+pub share-cut : (segments : List Segment) (start keep t : ℕ)
+    → share_at t (cut_play start segments keep) + cut_at segments start keep t ≡ asked_at segments start t
 share-cut segments start keep t =
-    share_parts (sent_before segments start t) (sent_before segments start (t + 1)) keep (sent-rises segments start t (t + 1) (omega arith))
+    share_parts (sent_before segments start t) (sent_before segments start (t + 1)) keep
+    (sent-rises segments start t (t + 1) (omega arith))
 
 -- up to a slot it books what its plan has sent by then, and no more than it keeps
 map_same : (xs : List ℕ) → map (λ (u : ℕ). u) xs ≡ xs
@@ -40,40 +43,54 @@ shares_more f t =
 min_next : (a b k n : ℕ) → a ≤ b → n ≡ min a k → n + (min b k - min a k) ≡ min b k
 min_next a b k n rises is = omega (arith, is)
 
-pub shares-first : (segments : List Segment) (start keep t : ℕ) → sum_by (λ u. share_at u (cut_play start segments keep)) (range_with_len 0 t) ≡ min (sent_before segments start t) keep
+pub shares-first : (segments : List Segment) (start keep t : ℕ)
+    → sum_by (λ u. share_at u (cut_play start segments keep)) (range_with_len 0 t) ≡ min (sent_before segments start t) keep
 shares-first segments start keep zero = omega (arith, sent-none segments start 0 (omega arith))
 shares-first segments start keep (suc t) =
     let at : t + 1 ≡ suc t = omega arith in
     shares_more (λ u. share_at u (cut_play start segments keep)) t
-    ∙ min_next (sent_before segments start t) (sent_before segments start (t + 1)) keep (sum_by (λ u. share_at u (cut_play start segments keep)) (range_with_len 0 t)) (sent-rises segments start t (t + 1) (omega arith)) (shares-first segments start keep t)
+    ∙ min_next (sent_before segments start t) (sent_before segments start (t + 1)) keep
+    (sum_by (λ u. share_at u (cut_play start segments keep)) (range_with_len 0 t))
+    (sent-rises segments start t (t + 1) (omega arith)) (shares-first segments start keep t)
     ∙ ap (λ n. min (sent_before segments start n) keep) at
 
 -- a play more
 pub booked-push : (plays : List Play) (segments : List Segment) (start t : ℕ) → IsPlan segments →
     booked_by (plays ++ whole_play start segments ∷ []) t ≡ booked_by plays t + asked_at segments start t
 booked-push plays segments start t plan =
-    sum_by_push (share_at t) plays (whole_play start segments) ∙ ap (λ n. booked_by plays t + n) (share-whole segments start t plan)
+    sum_by_push (share_at t) plays (whole_play start segments)
+    ∙ ap (λ n. booked_by plays t + n) (share-whole segments start t plan)
 
-booked-around : (before after : List Play) (play : Play) (t : ℕ) → booked_by (before ++ play ∷ after) t ≡ booked_by before t + (share_at t play + booked_by after t)
+booked-around : (before after : List Play) (play : Play) (t : ℕ)
+    → booked_by (before ++ play ∷ after) t ≡ booked_by before t + (share_at t play + booked_by after t)
 booked-around before after play t =
     sum_by-append (share_at t) before (play ∷ after) ∙ ap (λ n. booked_by before t + n) (sum_by-cons (share_at t) play after)
 
 -- a play that is cut
 pub booked-cut : (before after : List Play) (play : Play) (t : ℕ) → IsPlan play.segments
-    → booked_by (before ++ play ∷ after) t + cut_at play.segments play.start play.keep t ≡ booked_by (before ++ whole_play play.start play.segments ∷ after) t
+    → booked_by (before ++ play ∷ after) t + cut_at play.segments play.start play.keep t
+    ≡ booked_by (before ++ whole_play play.start play.segments ∷ after) t
 booked-cut before after play t plan =
-    omega (arith, booked-around before after play t, booked-around before after (whole_play start segments) t, share-whole segments start t plan, share-cut segments start keep t)
+    omega (
+      arith,
+      booked-around before after play t,
+      booked-around before after (whole_play start segments) t,
+      share-whole segments start t plan,
+      share-cut segments start keep t,
+    )
   where
     open play use {start, segments, keep}
 
 -- ---- calendars and the lists that they stand for
-pub stands-push : {old new : Entries} {plays : List Play} {segments : List Segment} (start : ℕ) → IsPlan segments → new.first ≡ old.first →
+pub stands-push : {old new : Entries} {plays : List Play} {segments : List Segment} (start : ℕ) →
+    IsPlan segments → new.first ≡ old.first →
     ((t : ℕ) → old.first ≤ t → booked_at new t ≡ booked_at old t + asked_at segments start t) → StandsFor old plays →
     StandsFor new (plays ++ whole_play start segments ∷ [])
 stands-push {old} {new} {plays} {segments} start plan first totals stands = record {
   each = λ t from. (
       let since : old.first ≤ t = omega (arith, first, from) in
-      totals t since ∙ ap (λ n. n + asked_at segments start t) (stands.each t since) ∙ sym (booked-push plays segments start t plan)
+      totals t since ∙ ap (λ n. n + asked_at segments start t) (stands.each t since)
+      ∙ sym (booked-push plays segments start t plan)
       );
 }
 

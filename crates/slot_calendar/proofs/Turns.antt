@@ -36,11 +36,14 @@ rotation-at {n} {xs} first k places inside =
     elim (cases_lt k (n - h)) [
       | inl less ↦ (
           let here : (first + k) % n ≡ h + k = mod_is (first + k) n (first / n) (h + k) (omega arith) (omega arith) in
-          get_or_append_left (drop h xs) (take h xs) 0 k (omega (arith, front)) ∙ get_or-drop h xs k 0 ∙ ap (λ i. get_or xs i 0) (sym here)
+          get_or_append_left (drop h xs) (take h xs) 0 k (omega (arith, front)) ∙ get_or-drop h xs k 0
+          ∙ ap (λ i. get_or xs i 0) (sym here)
           )
       | inr more ↦ (
-          let here : (first + k) % n ≡ k - (n - h) = mod_is (first + k) n (first / n + 1) (k - (n - h)) (omega arith) (omega arith) in
-          get_or-append_right (drop h xs) (take h xs) (n - h) k 0 front more ∙ get_or-take h xs (k - (n - h)) 0 (omega arith) ∙ ap (λ i. get_or xs i 0) (sym here)
+          let here : (first + k) % n ≡ k - (n - h) =
+          mod_is (first + k) n (first / n + 1) (k - (n - h)) (omega arith) (omega arith) in
+          get_or-append_right (drop h xs) (take h xs) (n - h) k 0 front more
+          ∙ get_or-take h xs (k - (n - h)) 0 (omega arith) ∙ ap (λ i. get_or xs i 0) (sym here)
           )
     ]
 
@@ -111,8 +114,12 @@ total-next {n} {xs} first t places none since =
           ∙ sym (total-in {first = first} places (record { from = omega arith; inside = inside }))
       | inr past ↦ elim (cases_eq t (first + n)) [
         | inl is ↦ (
-            let same : t % n ≡ first % n = ap (λ u. u % n) is ∙ mod_is (first + n) n (first / n + 1) (first % n) (omega (arith, div-add-mod' first n)) (mod_below first n pos) in
-            total-in {first = first + 1} places (record { from = since; inside = omega (arith, is) }) ∙ ap (λ i. get_or xs i 0) same
+            let same : t % n ≡ first % n =
+            ap (λ u. u % n) is
+            ∙ mod_is (first + n) n (first / n + 1) (first % n) (omega (arith, div-add-mod' first n))
+            (mod_below first n pos) in
+            total-in {first = first + 1} places (record { from = since; inside = omega (arith, is) })
+            ∙ ap (λ i. get_or xs i 0) same
             ∙ sym (total-in {first = first} {t = first} places (record { from = omega arith; inside = omega arith })) ∙ none
             ∙ sym (total-past first t places past)
             )
@@ -143,7 +150,8 @@ total-bounded {xs} {tops} {first} {slot} {t} topped from since same =
           let here = total-in {first = first} places (record { from = omega arith; inside = inside }) in
           let bound = topped.bounded (t % 1048576) (mod_below t 1048576 (omega arith)) in
           let block : t % 1048576 / 1024 ≡ slot % 1048576 / 1024 = block_of t ∙ ap (λ b. b % 1024) same ∙ sym (block_of slot) in
-          let top : get_or tops (t % 1048576 / 1024) 0 ≡ get_or tops (slot % 1048576 / 1024) 0 = ap (λ b. get_or tops b 0) block in
+          let top : get_or tops (t % 1048576 / 1024) 0 ≡ get_or tops (slot % 1048576 / 1024) 0 =
+          ap (λ b. get_or tops b 0) block in
           omega (arith, here, bound, top)
           )
       | inr past ↦ (let none = total-past first t places past in omega (arith, none))

@@ -53,7 +53,8 @@ back_at {old} p v longer own terms = record {
   own = subst (λ (s : Sitting). s.mine ≡ made_by s.number old.entries) v own;
 }
 
-pub same_after : (seat : Sitting) (old new : Journal) → IsAt seat old → IsPrefix old.entries new.entries → IsSameSeat seat (seat_after seat new)
+pub same_after : (seat : Sitting) (old new : Journal) → IsAt seat old → IsPrefix old.entries new.entries
+    → IsSameSeat seat (seat_after seat new)
 same_after seat old new at longer = record {
   id = refl;
   steps = refl;
@@ -64,13 +65,18 @@ same_after seat old new at longer = record {
   longer = prefix_trans seat.seen old.entries new.entries at.longer longer;
 }
 
-pub entered_longer : {old new : Journal} {maker more : ℕ} {command : Command} {place : ℕ} {answer : Answer} → IsEntered old new maker more command place answer
+pub entered_longer : {old new : Journal} {maker more : ℕ} {command : Command} {place : ℕ} {answer : Answer}
+    → IsEntered old new maker more command place answer
     → IsPrefix old.entries new.entries
 entered_longer {new} {maker} {more} {command} {place} {answer} e =
-    let last : Entry = record { maker = maker; command = command; answer = answer } in (last ∷ [], sym (ap (λ (j : Journal). j.entries) e.noted.journal_is))
+    let last : Entry =
+    record { maker = maker; command = command; answer = answer } in
+    (last ∷ [], sym (ap (λ (j : Journal). j.entries) e.noted.journal_is))
 
-pub full_longer : (old new : Journal) (more entries live_plays : ℕ) → IsFullFor old new more entries live_plays → IsPrefix old.entries new.entries
-full_longer old new more entries live_plays f = subst (λ (j : Journal). IsPrefix old.entries j.entries) (sym f.left) (prefix_self old.entries)
+pub full_longer : (old new : Journal) (more entries live_plays : ℕ) → IsFullFor old new more entries live_plays
+    → IsPrefix old.entries new.entries
+full_longer old new more entries live_plays f =
+    subst (λ (j : Journal). IsPrefix old.entries j.entries) (sym f.left) (prefix_self old.entries)
 
 -- a maker's call at the book
 pub record BookCall : Type 0 where
@@ -83,7 +89,8 @@ pub play_longer : (r : Result Booking PlayRefused) (call : BookCall) (heard : �
     → IfErr r (IsPlayRefused call.old call.new call.maker heard plan)
     → IsPrefix call.old.entries call.new.entries
 play_longer (Ok b) call heard plan is not = entered_longer is
-play_longer (Err (JournalFull back entries live_plays)) call heard plan is not = full_longer call.old call.new 2 entries live_plays not.1
+play_longer (Err (JournalFull back entries live_plays)) call heard plan is not =
+    full_longer call.old call.new 2 entries live_plays not.1
 play_longer (Err (PlayOverflow place slot booked asked)) call heard plan is not =
     entered_longer not
 
@@ -118,7 +125,8 @@ pub visit : {taken back : PassState} {seat : Sitting} {lent old last new : Journ
 visit {taken} {seat} {old} {new} p v turn given maker_is = record {
   at = subst (IsAt seat) (sym given.lent_is) (back_at p v turn.longer turn.own turn.terms);
   back_is = back_seat p old new v turn.pass
-      (given.left ∙ ap (λ (j : Journal). let q : PassState = record taken { seen = j.entries; mine = made_by taken.number j.entries } in q) given.last_is);
+      (given.left ∙ ap (λ (j : Journal). let q : PassState =
+      record taken { seen = j.entries; mine = made_by taken.number j.entries } in q) given.last_is);
   maker_is = maker_is ∙ ap (λ (s : Sitting). s.number) v;
 }
 

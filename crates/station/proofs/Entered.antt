@@ -22,7 +22,8 @@ use Rattle.station.proofs.Halts.{halts-push}
 
 -- an entry keeps each play halted by its own maker
 pub halts-noted : {old new : Journal} {maker : ℕ} {command : Command} {noted : Noted} → IsNoted old maker command noted new
-    → AreHaltsOwn old.entries → ((number keep : ℕ) (none : Entry) → command ≡ Halt number keep → maker ≡ (get_or old.entries number none).maker)
+    → AreHaltsOwn old.entries
+    → ((number keep : ℕ) (none : Entry) → command ≡ Halt number keep → maker ≡ (get_or old.entries number none).maker)
     → AreHaltsOwn new.entries
 halts-noted {old} {new} {maker} {command} {noted} e own mine =
     let last : Entry = record { maker = maker; command = command; answer = noted.answer } in
@@ -71,7 +72,8 @@ entry_made {seat} {old} {new} {more} {command} {place} {answer} at e =
       room = (let r = e.room in let l = at.limit in omega arith);
     }
 
-pub full_for : {seat : Sitting} {old new : Journal} {more entries live_plays : ℕ} → IsAt seat old → IsFullFor old new more entries live_plays
+pub full_for : {seat : Sitting} {old new : Journal} {more entries live_plays : ℕ} → IsAt seat old
+    → IsFullFor old new more entries live_plays
     → IsFull seat (seat_after seat new) more entries live_plays
 full_for {seat} {old} {new} {more} at f =
     let same : new.entries ≡ old.entries = ap (λ (j : Journal). j.entries) f.left in record {

@@ -25,22 +25,32 @@ halts-push steps xs e legal own last = record {
       dite (dec_le (suc i) (length xs))
       (λ (within : suc i ≤ length xs).
       let here : i < length xs = omega arith in
-      let before : IsHalt xs i number keep = record { inside = here; command_is = λ d. ap (λ (z : Entry). z.command) (sym (get_or_append_left xs (e ∷ []) d i here)) ∙ halt.command_is d } in
-      ap (λ (z : Entry). z.maker) (get_or_append_left xs (e ∷ []) none i here) ∙ (own.each i number keep none before ∙ ap (λ (z : Entry). z.maker) (sym old)))
+      let before : IsHalt xs i number keep =
+      record {
+        inside = here;
+        command_is =
+            λ d. ap (λ (z : Entry). z.command) (sym (get_or_append_left xs (e ∷ []) d i here)) ∙ halt.command_is d;
+      } in
+      ap (λ (z : Entry). z.maker) (get_or_append_left xs (e ∷ []) none i here)
+      ∙ (own.each i number keep none before ∙ ap (λ (z : Entry). z.maker) (sym old)))
       (λ outside.
       let at : length xs ≡ i = omega arith in
       let is : get_or (xs ++ e ∷ []) i none ≡ e = get_or_push xs e none i at in
-      ap (λ (z : Entry). z.maker) is ∙ (last number keep none (ap (λ (z : Entry). z.command) (sym is) ∙ halt.command_is none) ∙ ap (λ (z : Entry). z.maker) (sym old)));
+      ap (λ (z : Entry). z.maker) is
+      ∙ (last number keep none (ap (λ (z : Entry). z.command) (sym is) ∙ halt.command_is none)
+      ∙ ap (λ (z : Entry). z.maker) (sym old)));
 }
 
 -- what is open stays open while its maker halts other plays alone
-pub open-push : (mine : List Placed) (m : Placed) (number keep : ℕ) → (Halts number m.entry.command → ⊥) → IsOpenAmong mine number keep → IsOpenAmong (mine ++ m ∷ []) number keep
+pub open-push : (mine : List Placed) (m : Placed) (number keep : ℕ) → (Halts number m.entry.command → ⊥)
+    → IsOpenAmong mine number keep → IsOpenAmong (mine ++ m ∷ []) number keep
 open-push mine m number keep other o = record {
   start = o.start;
   segments = o.segments;
   index = o.index;
   inside = (let h = o.inside in let long = length-append mine (m ∷ []) in omega arith);
-  admission = λ none. subst (λ (p : Placed). Admits p number o.start o.segments) (sym (get_or_append_left mine (m ∷ []) none o.index o.inside)) (o.admission none);
+  admission = λ none. subst (λ (p : Placed). Admits p number o.start o.segments)
+      (sym (get_or_append_left mine (m ∷ []) none o.index o.inside)) (o.admission none);
   unhalted = All-push (λ (p : Placed). Halts number p.entry.command → ⊥) mine m o.unhalted other;
   small = o.small;
 }

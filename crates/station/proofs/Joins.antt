@@ -22,7 +22,8 @@ pub seat_joins : {back : PassState} (pass other : PassState) → IsSeat (seat_of
     → IsJoinOf pass other back → IsSeat (seat_of back)
 seat_joins {back} pass other p q join = record {
   legal = subst (λ (b : PassState). IsLegal b.terms.steps b.seen) (sym join.is)
-      (either_of (IsLegal pass.terms.steps) (ltb (length pass.seen) (length other.seen)) pass.seen other.seen p.legal (subst (λ (s : List CapStep). IsLegal s other.seen) join.same_steps q.legal));
+      (either_of (IsLegal pass.terms.steps) (ltb (length pass.seen) (length other.seen)) pass.seen other.seen
+      p.legal (subst (λ (s : List CapStep). IsLegal s other.seen) join.same_steps q.legal));
   halts = subst (λ (b : PassState). AreHaltsOwn b.seen) (sym join.is)
       (either_of AreHaltsOwn (ltb (length pass.seen) (length other.seen)) pass.seen other.seen p.halts q.halts);
   own = join.own;

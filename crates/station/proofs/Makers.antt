@@ -18,17 +18,35 @@ all-at place maker d (e ∷ rest) =
     let P = IsAt place maker d (e ∷ rest) in
     let here : Placed = record { place = place; entry = e } in
     let more : List Placed = made_from (place + 1) maker rest in
-    let later : All P more = All-weaker (IsAt (place + 1) maker d rest) P (λ p h. record { at = suc h.at; inside = omega (arith, h.inside); entry_is = h.entry_is; place_is = omega (arith, h.place_is); maker_is = h.maker_is }) more
+    let later : All P more =
+    All-weaker (IsAt (place + 1) maker d rest) P
+    (λ p h. record {
+      at = suc h.at;
+      inside = omega (arith, h.inside);
+      entry_is = h.entry_is;
+      place_is =
+          omega (arith, h.place_is);
+      maker_is = h.maker_is;
+    }) more
     (all-at (place + 1) maker d rest) in
     elim (cases_Bool (eqb e.maker maker)) [
       | inl his ↦ (
-          let first : P here = record { at = 0; inside = omega arith; entry_is = refl; place_is = omega arith; maker_is = eqb-true e.maker maker his } in
+          let first : P here =
+          record {
+            at = 0;
+            inside = omega arith;
+            entry_is = refl;
+            place_is = omega arith;
+            maker_is =
+                eqb-true e.maker maker his;
+          } in
           subst (All P) (sym (cond-true (eqb e.maker maker) (here ∷ more) more his)) (All-cons P here more first later)
           )
       | inr other ↦ subst (All P) (sym (cond-false (eqb e.maker maker) (here ∷ more) more other)) later
     ]
 
-pub maker-of : (xs : List Entry) (maker number keep : ℕ) (d : Entry) → IsOpenAmong (made_by maker xs) number keep → (get_or xs number d).maker ≡ maker
+pub maker-of : (xs : List Entry) (maker number keep : ℕ) (d : Entry)
+    → IsOpenAmong (made_by maker xs) number keep → (get_or xs number d).maker ≡ maker
 maker-of xs maker number keep d o =
     let none : Placed = record { place = 0; entry = d } in
     let h = all-at 0 maker d xs o.index none o.inside in

@@ -8,9 +8,11 @@ use Rattle.early_start.specs.Offered.{IsOffer, IsStart, Offers}
 -- where another start than the first is found, or none, a start was tried
 some-tried : {from : ℕ} {booked capacity : ℕ → ℕ} {segments : List Segment} {first : ℕ} {found : Offers}
     → IsOffer from booked capacity segments first found → (found.start ≡ Some first → ⊥) → 0 < length found.tried
-some-tried {from} {booked} {capacity} {segments} {first} {found} offer other = tried found.start (length found.tried) offer.start other
+some-tried {from} {booked} {capacity} {segments} {first} {found} offer other =
+    tried found.start (length found.tried) offer.start other
   where
-    tried : (start : Option ℕ) (n : ℕ) → IsStart from booked capacity segments first found.wait n start → (start ≡ Some first → ⊥) → 0 < n
+    tried : (start : Option ℕ) (n : ℕ) → IsStart from booked capacity segments first found.wait n start
+        → (start ≡ Some first → ⊥) → 0 < n
     tried None n is other = omega (arith, is)
     tried (Some s) zero is other = let same : s ≡ first = omega (arith, is.1) in absurd (other (ap (λ k. Some k) same))
     tried (Some s) (suc n) is other = omega arith
@@ -22,4 +24,5 @@ pub first-refusal : {from : ℕ} {booked capacity : ℕ → ℕ} {segments : Lis
 first-refusal {from} {booked} {capacity} {segments} {first} {found} none is other =
     let some = some-tried is other in
     let at : (get_or found.tried 0 none).start ≡ first = is.refusals.starts 0 none some ∙ omega arith in
-    subst (λ (b : ℕ). IsFirstOverflow from booked capacity b segments (get_or found.tried 0 none).over) at (is.refusals.refused 0 none some)
+    subst (λ (b : ℕ). IsFirstOverflow from booked capacity b segments
+    (get_or found.tried 0 none).over) at (is.refusals.refused 0 none some)

@@ -23,7 +23,8 @@ halt_is number (Play slot segments) same = absurd same
 halt_is number (Look slot) same = absurd same
 
 -- no entry of a legal history halts a play that would come after it
-none-later : {steps : List CapStep} {xs : List Entry} {maker number : ℕ} {d : Entry} → IsLegal steps xs → length xs ≤ number + 1 → {p : Placed} → IsAt 0 maker d xs p
+none-later : {steps : List CapStep} {xs : List Entry} {maker number : ℕ} {d : Entry} → IsLegal steps xs
+    → length xs ≤ number + 1 → {p : Placed} → IsAt 0 maker d xs p
     → p.place < number → Halts number p.entry.command → ⊥
 none-later {steps} {xs} {number} {d} legal long {p} h before halts =
     let is = halt_is number p.entry.command halts in
@@ -52,7 +53,8 @@ play_open {new} {maker} {number} {start} {keep} {old} heard plan e small =
       segments = plan;
       index = length mine;
       inside = omega arith;
-      admission = λ none. subst (λ (q : Placed). Admits q number start plan) (sym (get_or_push mine p none (length mine) refl)) record { place_is = sym place; admitted = refl };
+      admission = λ none. subst (λ (q : Placed). Admits q number start plan)
+          (sym (get_or_push mine p none (length mine) refl)) record { place_is = sym place; admitted = refl };
       unhalted = All-push (λ (q : Placed). Halts number q.entry.command → ⊥) mine p
           (All-weaker (IsAt 0 maker last old.entries) (λ (q : Placed). Halts number q.entry.command → ⊥)
           (λ q h. none-later legal (omega arith) record {

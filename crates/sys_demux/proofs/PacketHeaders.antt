@@ -23,11 +23,14 @@ after_some count front video long =
 stamp_read : (stamp video : List ℕ) → IsStampField stamp → from_stamp (stamp ++ video) ≡ Some video
 stamp_read [] video (inl h) = absurd (omega (arith, h.0))
 stamp_read (b ∷ rest) video (inl h) =
-    cond-true (b / 16 == 2) (after_bytes 4 (rest ++ video)) (cond (b / 16 == 3) (after_bytes 9 (rest ++ video)) (cond (b == 15) (Some (rest ++ video)) None)) (eq-eqb (b / 16) 2 h.1)
+    cond-true (b / 16 == 2) (after_bytes 4 (rest ++ video))
+    (cond (b / 16 == 3) (after_bytes 9 (rest ++ video)) (cond (b == 15) (Some (rest ++ video)) None)) (eq-eqb (b / 16) 2 h.1)
     ∙ after_some 4 rest video (omega (arith, h.0))
 stamp_read [] video (inr (inl h)) = absurd (omega (arith, h.0))
 stamp_read (b ∷ rest) video (inr (inl h)) =
-    cond-false (b / 16 == 2) (after_bytes 4 (rest ++ video)) (cond (b / 16 == 3) (after_bytes 9 (rest ++ video)) (cond (b == 15) (Some (rest ++ video)) None)) (ne_eqb (b / 16) 2 (λ e. omega (arith, e, h.1)))
+    cond-false (b / 16 == 2) (after_bytes 4 (rest ++ video))
+    (cond (b / 16 == 3) (after_bytes 9 (rest ++ video)) (cond (b == 15) (Some (rest ++ video)) None))
+    (ne_eqb (b / 16) 2 (λ e. omega (arith, e, h.1)))
     ∙ cond-true (b / 16 == 3) (after_bytes 9 (rest ++ video)) (cond (b == 15) (Some (rest ++ video)) None) (eq-eqb (b / 16) 3 h.1)
     ∙ after_some 9 rest video (omega (arith, h.0))
 stamp_read stamp video (inr (inr is)) = ap (λ (s : List ℕ). from_stamp (s ++ video)) is
@@ -44,14 +47,16 @@ stamp_starts [] video (inl h) = absurd (omega (arith, h.0))
 stamp_starts (b ∷ rest) video (inl h) = record { first = b; rest = rest ++ video; is = refl; low = omega (arith, h.1) }
 stamp_starts [] video (inr (inl h)) = absurd (omega (arith, h.0))
 stamp_starts (b ∷ rest) video (inr (inl h)) = record { first = b; rest = rest ++ video; is = refl; low = omega (arith, h.1) }
-stamp_starts stamp video (inr (inr is)) = record { first = 15; rest = video; is = ap (λ (s : List ℕ). s ++ video) is; low = omega arith }
+stamp_starts stamp video (inr (inr is)) =
+    record { first = 15; rest = video; is = ap (λ (s : List ℕ). s ++ video) is; low = omega arith }
 
 size_read : (size stamp video : List ℕ) → IsSizeField size → IsStampField stamp → from_size (size ++ stamp ++ video) ≡ Some video
 size_read size stamp video (inl none) stamp_is =
     let starts = stamp_starts stamp video stamp_is in
     ap (λ (s : List ℕ). from_size (s ++ stamp ++ video)) none
     ∙ ap from_size starts.is
-    ∙ cond-false (starts.first / 64 == 1) (from_stamp (drop 1 starts.rest)) (from_stamp (starts.first ∷ starts.rest)) (ne_eqb (starts.first / 64) 1 (λ e. omega (arith, e, starts.low)))
+    ∙ cond-false (starts.first / 64 == 1) (from_stamp (drop 1 starts.rest))
+    (from_stamp (starts.first ∷ starts.rest)) (ne_eqb (starts.first / 64) 1 (λ e. omega (arith, e, starts.low)))
     ∙ ap from_stamp (sym starts.is)
     ∙ stamp_read stamp video stamp_is
 size_read [] stamp video (inr h) stamp_is = absurd (omega (arith, h.0))
@@ -61,17 +66,20 @@ size_read (b ∷ c ∷ []) stamp video (inr h) stamp_is =
     ∙ stamp_read stamp video stamp_is
 size_read (b ∷ c ∷ d ∷ more) stamp video (inr h) stamp_is = absurd (omega (arith, h.0))
 
-size_starts : (size stamp video : List ℕ) → IsSizeField size → IsStampField stamp → (first : ℕ) × ((rest : List ℕ) × ((size ++ stamp ++ video ≡ first ∷ rest) × (first < 128)))
+size_starts : (size stamp video : List ℕ) → IsSizeField size → IsStampField stamp
+    → (first : ℕ) × ((rest : List ℕ) × ((size ++ stamp ++ video ≡ first ∷ rest) × (first < 128)))
 size_starts size stamp video (inl none) stamp_is =
     let starts = stamp_starts stamp video stamp_is in
     (starts.first, (starts.rest, (ap (λ (s : List ℕ). s ++ stamp ++ video) none ∙ starts.is, omega (arith, starts.low))))
 size_starts [] stamp video (inr h) stamp_is = absurd (omega (arith, h.0))
 size_starts (b ∷ rest) stamp video (inr h) stamp_is = (b, (rest ++ stamp ++ video, (refl, omega (arith, h.1))))
 
-stuffing_read : {bytes video : List ℕ} {first : ℕ} {rest : List ℕ} (most count : ℕ) → count ≤ most → bytes ≡ first ∷ rest → first < 128 → from_size bytes ≡ Some video →
+stuffing_read : {bytes video : List ℕ} {first : ℕ} {rest : List ℕ} (most count : ℕ) → count ≤ most →
+    bytes ≡ first ∷ rest → first < 128 → from_size bytes ≡ Some video →
     from_stuffing most (replicate count 255 ++ bytes) ≡ Some video
 stuffing_read {first} {rest} most zero few is low read =
-    ap (from_stuffing most) is ∙ stuffing_other most first rest (ne_eqb first 255 (λ e. omega (arith, e, low))) ∙ ap from_size (sym is) ∙ read
+    ap (from_stuffing most) is ∙ stuffing_other most first rest (ne_eqb first 255 (λ e. omega (arith, e, low)))
+    ∙ ap from_size (sym is) ∙ read
 stuffing_read {first} zero (suc count) few is low read = absurd (omega (arith, few))
 stuffing_read {first} (suc most) (suc count) few is low read = stuffing_read most count (omega (arith, few)) is low read
 
@@ -93,9 +101,11 @@ after_stands count bytes video e =
     elim (cases_Bool (nat_le count (length bytes))) [
       | inl there ↦ record {
         enough = leb-true count (length bytes) there;
-        rest = same_Some (drop count bytes) video (sym (cond-true (nat_le count (length bytes)) (Some (drop count bytes)) None there) ∙ e);
+        rest = same_Some (drop count bytes) video
+            (sym (cond-true (nat_le count (length bytes)) (Some (drop count bytes)) None there) ∙ e);
       }
-      | inr lacking ↦ absurd (none-some video (sym (cond-false (nat_le count (length bytes)) (Some (drop count bytes)) None lacking) ∙ e))
+      | inr lacking ↦
+          absurd (none-some video (sym (cond-false (nat_le count (length bytes)) (Some (drop count bytes)) None lacking) ∙ e))
     ]
 
 -- the field of a time stamp, and the video after it
@@ -104,13 +114,15 @@ record HasStamp (bytes video : List ℕ) : Type 0 where
   stamp_is : IsStampField stamp
   is : bytes ≡ stamp ++ video
 
-stamp_of : (b count : ℕ) (bytes video : List ℕ) → after_bytes count bytes ≡ Some video → (length (b ∷ take count bytes) ≡ count + 1 → IsStampField (b ∷ take count bytes)) → HasStamp (b ∷ bytes) video
+stamp_of : (b count : ℕ) (bytes video : List ℕ) → after_bytes count bytes ≡ Some video
+    → (length (b ∷ take count bytes) ≡ count + 1 → IsStampField (b ∷ take count bytes)) → HasStamp (b ∷ bytes) video
 stamp_of b count bytes video e field =
     let stands = after_stands count bytes video e in
     record {
       stamp = b ∷ take count bytes;
       stamp_is = field (omega (arith, length-take-le count bytes stands.enough));
-      is = ap (λ (l : List ℕ). b ∷ l) (sym (take-append-drop count bytes)) ∙ ap (λ (v : List ℕ). b ∷ (take count bytes ++ v)) stands.rest;
+      is = ap (λ (l : List ℕ). b ∷ l) (sym (take-append-drop count bytes))
+          ∙ ap (λ (v : List ℕ). b ∷ (take count bytes ++ v)) stands.rest;
     }
 
 stamp_stands : (bytes video : List ℕ) → from_stamp bytes ≡ Some video → HasStamp bytes video
@@ -118,25 +130,34 @@ stamp_stands [] video e = absurd (none-some video e)
 stamp_stands (b ∷ bytes) video e =
     elim (cases_eq (b / 16) 2) [
       | inl two ↦
-          stamp_of b 4 bytes video (sym (cond-true (b / 16 == 2) (after_bytes 4 bytes) (cond (b / 16 == 3) (after_bytes 9 bytes) (cond (b == 15) (Some bytes) None)) (eq-eqb (b / 16) 2 two)) ∙ e)
+          stamp_of b 4 bytes video
+          (sym (cond-true (b / 16 == 2) (after_bytes 4 bytes)
+          (cond (b / 16 == 3) (after_bytes 9 bytes) (cond (b == 15) (Some bytes) None)) (eq-eqb (b / 16) 2 two)) ∙ e)
           (λ long. inl (long, two))
       | inr other ↦
           (let e1 : cond (b / 16 == 3) (after_bytes 9 bytes) (cond (b == 15) (Some bytes) None) ≡ Some video =
-          sym (cond-false (b / 16 == 2) (after_bytes 4 bytes) (cond (b / 16 == 3) (after_bytes 9 bytes) (cond (b == 15) (Some bytes) None)) (ne_eqb (b / 16) 2 other)) ∙ e in
+          sym (cond-false (b / 16 == 2) (after_bytes 4 bytes)
+          (cond (b / 16 == 3) (after_bytes 9 bytes) (cond (b == 15) (Some bytes) None)) (ne_eqb (b / 16) 2 other)) ∙ e in
           elim (cases_eq (b / 16) 3) [
             | inl three ↦
-                stamp_of b 9 bytes video (sym (cond-true (b / 16 == 3) (after_bytes 9 bytes) (cond (b == 15) (Some bytes) None) (eq-eqb (b / 16) 3 three)) ∙ e1)
+                stamp_of b 9 bytes video
+                (sym (cond-true (b / 16 == 3) (after_bytes 9 bytes) (cond (b == 15) (Some bytes) None)
+                (eq-eqb (b / 16) 3 three)) ∙ e1)
                 (λ long. inr (inl (long, three)))
             | inr none ↦
                 (let e2 : cond (b == 15) (Some bytes) None ≡ Some video =
-                sym (cond-false (b / 16 == 3) (after_bytes 9 bytes) (cond (b == 15) (Some bytes) None) (ne_eqb (b / 16) 3 none)) ∙ e1 in
+                sym (cond-false (b / 16 == 3) (after_bytes 9 bytes) (cond (b == 15) (Some bytes) None)
+                (ne_eqb (b / 16) 3 none)) ∙ e1 in
                 elim (cases_eq b 15) [
                   | inl is ↦ record {
                     stamp = 15 ∷ [];
                     stamp_is = inr (inr refl);
-                    is = ap (λ k. k ∷ bytes) is ∙ ap (λ (v : List ℕ). 15 ∷ v) (same_Some bytes video (sym (cond-true (b == 15) (Some bytes) None (eq-eqb b 15 is)) ∙ e2));
+                    is = ap (λ k. k ∷ bytes) is
+                        ∙ ap (λ (v : List ℕ). 15 ∷ v)
+                        (same_Some bytes video (sym (cond-true (b == 15) (Some bytes) None (eq-eqb b 15 is)) ∙ e2));
                   }
-                  | inr other15 ↦ absurd (none-some video (sym (cond-false (b == 15) (Some bytes) None (ne_eqb b 15 other15)) ∙ e2))
+                  | inr other15 ↦
+                      absurd (none-some video (sym (cond-false (b == 15) (Some bytes) None (ne_eqb b 15 other15)) ∙ e2))
                 ])
           ])
     ]
@@ -152,11 +173,13 @@ size_stands : (bytes video : List ℕ) → from_size bytes ≡ Some video → Ha
 size_stands [] video e = absurd (none-some video e)
 size_stands (b ∷ bytes) video e =
     elim (cases_eq (b / 64) 1) [
-      | inl one ↦ with_size b bytes video one (sym (cond-true (b / 64 == 1) (from_stamp (drop 1 bytes)) (from_stamp (b ∷ bytes)) (eq-eqb (b / 64) 1 one)) ∙ e)
+      | inl one ↦ with_size b bytes video one
+          (sym (cond-true (b / 64 == 1) (from_stamp (drop 1 bytes)) (from_stamp (b ∷ bytes)) (eq-eqb (b / 64) 1 one)) ∙ e)
       | inr other ↦ record {
         size = [];
         size_is = inl refl;
-        stamp = stamp_stands (b ∷ bytes) video (sym (cond-false (b / 64 == 1) (from_stamp (drop 1 bytes)) (from_stamp (b ∷ bytes)) (ne_eqb (b / 64) 1 other)) ∙ e);
+        stamp = stamp_stands (b ∷ bytes) video
+            (sym (cond-false (b / 64 == 1) (from_stamp (drop 1 bytes)) (from_stamp (b ∷ bytes)) (ne_eqb (b / 64) 1 other)) ∙ e);
         is = refl;
       }
     ]
@@ -179,22 +202,27 @@ record HasHeaderWithin (most : ℕ) (content video : List ℕ) : Type 0 where
   is : content ≡ replicate stuffing 255 ++ rest
 
 unstuffed : (most : ℕ) (content video : List ℕ) → from_size content ≡ Some video → HasHeaderWithin most content video
-unstuffed most content video e = record { stuffing = 0; few = omega arith; rest = content; size = size_stands content video e; is = refl }
+unstuffed most content video e =
+    record { stuffing = 0; few = omega arith; rest = content; size = size_stands content video e; is = refl }
 
-stuffing_stands : (most : ℕ) (content video : List ℕ) → from_stuffing most content ≡ Some video → HasHeaderWithin most content video
+stuffing_stands : (most : ℕ) (content video : List ℕ) → from_stuffing most content ≡ Some video
+    → HasHeaderWithin most content video
 stuffing_stands most [] video e = absurd (none-some video e)
 stuffing_stands zero (b ∷ bytes) video e = unstuffed zero (b ∷ bytes) video e
 stuffing_stands (suc most) (b ∷ bytes) video e =
     elim (cases_eq b 255) [
       | inl is ↦
-          (let more = stuffing_stands most bytes video (sym (cond-true (b == 255) (from_stuffing most bytes) (from_size (b ∷ bytes)) (eq-eqb b 255 is)) ∙ e) in record {
+          (let more = stuffing_stands most bytes video
+          (sym (cond-true (b == 255) (from_stuffing most bytes) (from_size (b ∷ bytes)) (eq-eqb b 255 is)) ∙ e) in record {
             stuffing = suc more.stuffing;
             few = omega (arith, more.few);
             rest = more.rest;
             size = more.size;
             is = ap (λ k. k ∷ bytes) is ∙ ap (λ (l : List ℕ). 255 ∷ l) more.is;
           })
-      | inr other ↦ unstuffed (suc most) (b ∷ bytes) video (sym (cond-false (b == 255) (from_stuffing most bytes) (from_size (b ∷ bytes)) (ne_eqb b 255 other)) ∙ e)
+      | inr other ↦
+          unstuffed (suc most) (b ∷ bytes) video
+          (sym (cond-false (b == 255) (from_stuffing most bytes) (from_size (b ∷ bytes)) (ne_eqb b 255 other)) ∙ e)
     ]
 
 header_stands : (content video : List ℕ) → video_in content ≡ Some video → HasHeader content video
@@ -208,7 +236,9 @@ header_stands content video e =
       few = h.few;
       size_is = h.size.size_is;
       stamp_is = h.size.stamp.stamp_is;
-      is = h.is ∙ ap (λ (l : List ℕ). replicate h.stuffing 255 ++ l) (h.size.is ∙ ap (λ (l : List ℕ). h.size.size ++ l) h.size.stamp.is ∙ sym (append_assoc h.size.size h.size.stamp.stamp video));
+      is = h.is ∙ ap (λ (l : List ℕ). replicate h.stuffing 255 ++ l)
+          (h.size.is ∙ ap (λ (l : List ℕ). h.size.size ++ l) h.size.stamp.is
+          ∙ sym (append_assoc h.size.size h.size.stamp.stamp video));
     }
 
 pub header_is : (content video : List ℕ) → (video_in content ≡ Some video) ↔ HasHeader content video

@@ -22,10 +22,12 @@ pub prefixed_more : (zeros : ℕ) (rest more : List ℕ) → with_prefix zeros r
 prefixed_more zeros rest more = append_assoc (replicate zeros 0) (0 ∷ 0 ∷ 1 ∷ rest) more
 
 pub length-prefixed : (zeros : ℕ) (rest : List ℕ) → length (with_prefix zeros rest) ≡ zeros + 3 + length rest
-length-prefixed zeros rest = length-append (replicate zeros 0) (0 ∷ 0 ∷ 1 ∷ rest) ∙ omega (arith, length-replicate {A = ℕ} zeros 0)
+length-prefixed zeros rest =
+    length-append (replicate zeros 0) (0 ∷ 0 ∷ 1 ∷ rest) ∙ omega (arith, length-replicate {A = ℕ} zeros 0)
 
 -- bytes 00
-pub zeros_more : {chosen : Option ℕ} {zeros byte least : ℕ} {now : Option ℕ} {part kept : List ℕ} → IsAtZeros chosen zeros now part kept → byte ≡ 0 → least ≡ min zeros 1 →
+pub zeros_more : {chosen : Option ℕ} {zeros byte least : ℕ} {now : Option ℕ} {part kept : List ℕ} →
+    IsAtZeros chosen zeros now part kept → byte ≡ 0 → least ≡ min zeros 1 →
     IsAtZeros chosen (least + 1) now (part ++ byte ∷ []) kept
 zeros_more {byte} {kept} h zero_is least_is = record {
   count = h.count + 1;
@@ -36,26 +38,32 @@ zeros_more {byte} {kept} h zero_is least_is = record {
 }
 
 -- a prefix after two of them or more
-pub zeros_prefix : {chosen : Option ℕ} {zeros byte at start : ℕ} {now : Option ℕ} {part kept : List ℕ} → IsAtZeros chosen zeros now part kept → byte ≡ 1 → 2 ≤ zeros → at ≡ start + length part →
+pub zeros_prefix : {chosen : Option ℕ} {zeros byte at start : ℕ} {now : Option ℕ} {part kept : List ℕ} →
+    IsAtZeros chosen zeros now part kept → byte ≡ 1 → 2 ≤ zeros → at ≡ start + length part →
     IsAtPrefix start (at - 2) [] now chosen (part ++ byte ∷ []) kept
 zeros_prefix {byte} {at} {start} {part} {kept} h one many at_is =
     let two : 2 ≤ h.count = omega (arith, many, h.zeros_are) in
     let size : length part ≡ h.count = ap length h.are ∙ length-replicate {A = ℕ} h.count 0 in
     let split : replicate {A = ℕ} h.count 0 ≡ replicate (h.count - 2) 0 ++ (0 ∷ 0 ∷ []) =
-    ap (λ n. replicate n 0) (let n : h.count ≡ h.count - 2 + 2 = omega arith in n) ∙ sym (replicate-append-replicate (h.count - 2) 2 0) in
+    ap (λ n. replicate n 0) (let n : h.count ≡ h.count - 2 + 2 = omega arith in n)
+    ∙ sym (replicate-append-replicate (h.count - 2) 2 0) in
     record {
       zeros = h.count - 2;
-      are = ap (λ (l : List ℕ). l ++ byte ∷ []) (h.are ∙ split) ∙ ap (λ b. (replicate (h.count - 2) 0 ++ (0 ∷ 0 ∷ [])) ++ b ∷ []) one ∙ append_assoc (replicate (h.count - 2) 0) (0 ∷ 0 ∷ []) (1 ∷ []);
+      are = ap (λ (l : List ℕ). l ++ byte ∷ []) (h.are ∙ split)
+          ∙ ap (λ b. (replicate (h.count - 2) 0 ++ (0 ∷ 0 ∷ [])) ++ b ∷ []) one
+          ∙ append_assoc (replicate (h.count - 2) 0) (0 ∷ 0 ∷ []) (1 ∷ []);
       place_is = omega (arith, two, size, at_is);
       now_is = h.now_is;
       none = h.none;
     }
 
 -- a pack header
-pub pack_begins : {chosen : Option ℕ} {start place : ℕ} {now : Option ℕ} {part kept : List ℕ} (mark : ℕ) → IsAtPrefix start place (186 ∷ []) now chosen part kept → mark / 16 ≡ 2 →
+pub pack_begins : {chosen : Option ℕ} {start place : ℕ} {now : Option ℕ} {part kept : List ℕ} (mark : ℕ) →
+    IsAtPrefix start place (186 ∷ []) now chosen part kept → mark / 16 ≡ 2 →
     IsAtRest chosen start place now (part ++ mark ∷ []) kept 7 (λ rest. [])
 pack_begins {start} {place} {part} {kept} mark h is =
-    let grown : part ++ mark ∷ [] ≡ with_prefix h.zeros (186 ∷ mark ∷ []) = ap (λ (l : List ℕ). l ++ mark ∷ []) h.are ∙ prefixed_more h.zeros (186 ∷ []) (mark ∷ []) in
+    let grown : part ++ mark ∷ [] ≡ with_prefix h.zeros (186 ∷ mark ∷ []) =
+    ap (λ (l : List ℕ). l ++ mark ∷ []) h.are ∙ prefixed_more h.zeros (186 ∷ []) (mark ∷ []) in
     record {
       zeros = h.zeros;
       begun = omega (arith, ap length grown, length-prefixed h.zeros (186 ∷ mark ∷ []));
@@ -74,22 +82,34 @@ pack_begins {start} {place} {part} {kept} mark h is =
 -- a whole packet of another kind
 other_done : {before : Option ℕ} {kind high start place : ℕ} {now : Option ℕ} {part kept : List ℕ} (low : ℕ)
     (rest : List ℕ) → (h : IsAtPrefix start place (kind ∷ high ∷ []) now (choose before kind) part kept) → 187 ≤ kind →
-    is_chosen (choose before kind) kind ≡ false → length rest ≡ high * 256 + low → IsDone before h.zeros now ((part ++ low ∷ []) ++ rest) kept
+    is_chosen (choose before kind) kind ≡ false → length rest ≡ high * 256 + low
+    → IsDone before h.zeros now ((part ++ low ∷ []) ++ rest) kept
 other_done {before} {kind} {high} {start} {place} {kept} low rest h kind_is other long = record {
   item = Packet h.zeros kind high low rest;
-  is_item = record { kind_is = kind_is; length_is = long; header = λ chosen. absurd (both_ways (is_chosen (choose before kind) kind) other chosen) };
-  bytes_are = sym (ap (λ (l : List ℕ). (l ++ low ∷ []) ++ rest) h.are ∙ ap (λ (l : List ℕ). l ++ rest) (prefixed_more h.zeros (kind ∷ high ∷ []) (low ∷ [])) ∙ prefixed_more h.zeros (kind ∷ high ∷ low ∷ []) rest);
+  is_item = record {
+    kind_is = kind_is;
+    length_is = long;
+    header =
+        λ chosen. absurd (both_ways (is_chosen (choose before kind) kind) other chosen);
+  };
+  bytes_are = sym
+      (ap (λ (l : List ℕ). (l ++ low ∷ []) ++ rest) h.are
+      ∙ ap (λ (l : List ℕ). l ++ rest) (prefixed_more h.zeros (kind ∷ high ∷ []) (low ∷ []))
+      ∙ prefixed_more h.zeros (kind ∷ high ∷ low ∷ []) rest);
   zeros_are = refl;
   next_is = sym h.now_is;
   video_is = cond-false (is_chosen (choose before kind) kind) (unwrap_or (video_in rest) []) [] other ∙ sym h.none;
 }
 
-length_more : {part : List ℕ} (rest : List ℕ) (zeros kind high low : ℕ) → part ≡ with_prefix zeros (kind ∷ high ∷ []) → zeros + 3 ≤ length (part ++ low ∷ [])
-length_more {part} rest zeros kind high low are = omega (arith, ap length are, length-prefixed zeros (kind ∷ high ∷ []), length-append part (low ∷ []))
+length_more : {part : List ℕ} (rest : List ℕ) (zeros kind high low : ℕ)
+    → part ≡ with_prefix zeros (kind ∷ high ∷ []) → zeros + 3 ≤ length (part ++ low ∷ [])
+length_more {part} rest zeros kind high low are =
+    omega (arith, ap length are, length-prefixed zeros (kind ∷ high ∷ []), length-append part (low ∷ []))
 
 pub length_passed : {before : Option ℕ} {kind high total start place : ℕ} {now : Option ℕ} {part kept : List ℕ}
     (low : ℕ) → IsAtPrefix start place (kind ∷ high ∷ []) now (choose before kind) part kept → 187 ≤ kind →
-    is_chosen (choose before kind) kind ≡ false → total ≡ high * 256 + low → LeadsTo before start place now (part ++ low ∷ []) kept (cond (total == 0) (Zeros 0) (Pass total))
+    is_chosen (choose before kind) kind ≡ false → total ≡ high * 256 + low
+    → LeadsTo before start place now (part ++ low ∷ []) kept (cond (total == 0) (Zeros 0) (Pass total))
 length_passed {before} {kind} {high} {total} {start} {place} {now} {part} {kept} low h kind_is other total_is =
     elim (cases_eq total 0) [
       | inl none ↦ (
@@ -108,16 +128,19 @@ length_passed {before} {kind} {high} {total} {start} {place} {now} {part} {kept}
             zeros = h.zeros;
             begun = length_more [] h.zeros kind high low h.are;
             some = omega (arith, some);
-            ends = λ rest long. subst (λ (l : List ℕ). IsDone before h.zeros now ((part ++ low ∷ []) ++ rest) l) (sym (append-nil kept))
+            ends = λ rest long. subst (λ (l : List ℕ). IsDone before h.zeros now ((part ++ low ∷ []) ++ rest) l)
+                (sym (append-nil kept))
                 (other_done low rest h kind_is other (long ∙ total_is));
             place_is = h.place_is;
           } in
-          inl (subst (λ s. IsPart before start place now (part ++ low ∷ []) kept s) (sym (cond-false (total == 0) (Zeros 0) (Pass total) (ne_eqb total 0 some))) at_rest)
+          inl (subst (λ s. IsPart before start place now (part ++ low ∷ []) kept s)
+          (sym (cond-false (total == 0) (Zeros 0) (Pass total) (ne_eqb total 0 some))) at_rest)
           )
     ]
 
 -- the length of a packet of the chosen kind ends with this byte
-pub record LengthRead (before : Option ℕ) (start place : ℕ) (now : Option ℕ) (part kept : List ℕ) (kind low total : ℕ) : Type 0 where
+pub record LengthRead (before : Option ℕ) (start place : ℕ) (now : Option ℕ) (part kept : List ℕ)
+    (kind low total : ℕ) : Type 0 where
   pub high : ℕ
   pub at_prefix : IsAtPrefix start place (kind ∷ high ∷ []) now (choose before kind) part kept
   pub kind_is : 187 ≤ kind
@@ -125,7 +148,8 @@ pub record LengthRead (before : Option ℕ) (start place : ℕ) (now : Option �
   pub total_is : total ≡ high * 256 + low
 
 -- the packet has no content
-pub length_none : {before : Option ℕ} {start place : ℕ} {now : Option ℕ} {part kept : List ℕ} {kind low total : ℕ} → LengthRead before start place now part kept kind low total →
+pub length_none : {before : Option ℕ} {start place : ℕ} {now : Option ℕ} {part kept : List ℕ}
+    {kind low total : ℕ} → LengthRead before start place now part kept kind low total →
     total ≡ 0 → LeadsTo before start place now (part ++ low ∷ []) kept (Failed (BadPacket place))
 unfolding video_in
 length_none {before} {start} {place} {part} {kind} {low} read none =
@@ -148,7 +172,8 @@ length_none {before} {start} {place} {part} {kind} {low} read none =
     open read use {high, at_prefix as h, kind_is, chosen_is, total_is}
 
 -- the packet has some content
-pub length_header : {before : Option ℕ} {start place : ℕ} {now : Option ℕ} {part kept : List ℕ} {kind low total : ℕ} → LengthRead before start place now part kept kind low total →
+pub length_header : {before : Option ℕ} {start place : ℕ} {now : Option ℕ} {part kept : List ℕ}
+    {kind low total : ℕ} → LengthRead before start place now part kept kind low total →
     LeadsTo before start place now (part ++ low ∷ []) kept (InHeader (Stuffing 0) total)
 unfolding video_in
 length_header {kind} {low} read =
@@ -171,13 +196,15 @@ length_header {kind} {low} read =
     open read use {high, at_prefix as h, kind_is, chosen_is, total_is}
 
 -- one byte more of a content
-front_more : {part : List ℕ} (zeros : ℕ) (front : List ℕ) (byte : ℕ) → part ≡ with_prefix zeros front → part ++ byte ∷ [] ≡ with_prefix zeros (front ++ byte ∷ [])
+front_more : {part : List ℕ} (zeros : ℕ) (front : List ℕ) (byte : ℕ) → part ≡ with_prefix zeros front
+    → part ++ byte ∷ [] ≡ with_prefix zeros (front ++ byte ∷ [])
 front_more zeros front byte are = ap (λ (l : List ℕ). l ++ byte ∷ []) are ∙ prefixed_more zeros front (byte ∷ [])
 
 -- a byte that no content has there
 pub header_bad : {chosen : Option ℕ} {start place left : ℕ} {now : Option ℕ} {part kept : List ℕ} {header : Header}
     (byte : ℕ) → IsAtHeader chosen start place now part kept header (left + 1) →
-    ((rest : List ℕ) → length rest ≡ left → video_from header (byte ∷ rest) ≡ None) → LeadsTo chosen start place now (part ++ byte ∷ []) kept (Failed (BadPacket place))
+    ((rest : List ℕ) → length rest ≡ left → video_from header (byte ∷ rest) ≡ None)
+    → LeadsTo chosen start place now (part ++ byte ∷ []) kept (Failed (BadPacket place))
 header_bad {chosen} {start} {place} {left} {part} {kept} {header} byte h none =
     let size : length (h.front ++ byte ∷ []) ≡ length h.front + 1 = length-append h.front (byte ∷ []) in
     let bad : IsBadPacket chosen start (part ++ byte ∷ []) place = record {
@@ -187,7 +214,8 @@ header_bad {chosen} {start} {place} {left} {part} {kept} {header} byte h none =
       low = h.low;
       front = h.front ++ byte ∷ [];
       rest = [];
-      is = front_more h.zeros (h.kind ∷ h.high ∷ h.low ∷ h.front) byte h.are ∙ ap (λ (l : List ℕ). with_prefix h.zeros (h.kind ∷ h.high ∷ h.low ∷ l)) (sym (append-nil (h.front ++ byte ∷ [])));
+      is = front_more h.zeros (h.kind ∷ h.high ∷ h.low ∷ h.front) byte h.are
+          ∙ ap (λ (l : List ℕ). with_prefix h.zeros (h.kind ∷ h.high ∷ h.low ∷ l)) (sym (append-nil (h.front ++ byte ∷ [])));
       kind_is = h.kind_is;
       chosen_is = h.chosen_is;
       within = omega (arith, size, h.length_is);
@@ -201,22 +229,33 @@ header_bad {chosen} {start} {place} {left} {part} {kept} {header} byte h none =
 -- a whole packet of the chosen kind
 chosen_done : {chosen : Option ℕ} {start place left : ℕ} {now : Option ℕ} {part kept video : List ℕ}
     {header : Header} (byte : ℕ) (rest : List ℕ) → (h : IsAtHeader chosen start place now part kept header (left + 1)) →
-    length rest ≡ left → video_from header (byte ∷ rest) ≡ Some video → IsDone chosen h.zeros now ((part ++ byte ∷ []) ++ rest) (kept ++ video)
+    length rest ≡ left → video_from header (byte ∷ rest) ≡ Some video
+    → IsDone chosen h.zeros now ((part ++ byte ∷ []) ++ rest) (kept ++ video)
 chosen_done {chosen} {start} {place} {left} {kept} {video} {header} byte rest h long is =
     let content = (h.front ++ byte ∷ []) ++ rest in
-    let found : video_in content ≡ Some video = ap video_in (append_assoc h.front (byte ∷ []) rest) ∙ h.video_is (byte ∷ rest) (omega (arith, long)) ∙ is in
+    let found : video_in content ≡ Some video =
+    ap video_in (append_assoc h.front (byte ∷ []) rest) ∙ h.video_is (byte ∷ rest) (omega (arith, long)) ∙ is in
     let P : Option (List ℕ) → Type 0 = IsSome in
     record {
       item = Packet h.zeros h.kind h.high h.low content;
       is_item = record {
         kind_is = h.kind_is;
-        length_is = omega (arith, length-append (h.front ++ byte ∷ []) rest, length-append h.front (byte ∷ []), long, h.length_is);
+        length_is = omega (
+          arith,
+          length-append (h.front ++ byte ∷ []) rest,
+          length-append h.front (byte ∷ []),
+          long,
+          h.length_is,
+        );
         header = λ _. subst P (sym found) refl;
       };
-      bytes_are = sym (ap (λ (l : List ℕ). l ++ rest) (front_more h.zeros (h.kind ∷ h.high ∷ h.low ∷ h.front) byte h.are) ∙ prefixed_more h.zeros (h.kind ∷ h.high ∷ h.low ∷ (h.front ++ byte ∷ [])) rest);
+      bytes_are = sym
+          (ap (λ (l : List ℕ). l ++ rest) (front_more h.zeros (h.kind ∷ h.high ∷ h.low ∷ h.front) byte h.are)
+          ∙ prefixed_more h.zeros (h.kind ∷ h.high ∷ h.low ∷ (h.front ++ byte ∷ [])) rest);
       zeros_are = refl;
       next_is = sym h.now_is;
-      video_is = cond-true (is_chosen (choose chosen h.kind) h.kind) (unwrap_or (video_in content) []) [] h.chosen_is ∙ ap (λ o. unwrap_or o []) found ∙ sym (ap (λ (l : List ℕ). l ++ video) h.none);
+      video_is = cond-true (is_chosen (choose chosen h.kind) h.kind) (unwrap_or (video_in content) []) []
+          h.chosen_is ∙ ap (λ o. unwrap_or o []) found ∙ sym (ap (λ (l : List ℕ). l ++ video) h.none);
     }
 
 after_none : (rest : List ℕ) → after_bytes 0 rest ≡ Some rest
@@ -225,7 +264,8 @@ after_none rest = cond-true (nat_le 0 (length rest)) (Some (drop 0 rest)) None (
 -- a byte after which the header goes on
 goes_on : {chosen : Option ℕ} {start place left : ℕ} {now : Option ℕ} {part kept : List ℕ} {header next : Header}
     (byte : ℕ) → IsAtHeader chosen start place now part kept header (left + 1) →
-    ((rest : List ℕ) → length rest ≡ left → video_from header (byte ∷ rest) ≡ video_from next rest) → IsAtHeader chosen start place now (part ++ byte ∷ []) kept next left
+    ((rest : List ℕ) → length rest ≡ left → video_from header (byte ∷ rest) ≡ video_from next rest)
+    → IsAtHeader chosen start place now (part ++ byte ∷ []) kept next left
 goes_on {start} {place} {left} {kept} {header} {next} byte h same =
     let size : length (h.front ++ byte ∷ []) ≡ length h.front + 1 = length-append h.front (byte ∷ []) in
     record {
@@ -238,7 +278,8 @@ goes_on {start} {place} {left} {kept} {header} {next} byte h same =
       kind_is = h.kind_is;
       chosen_is = h.chosen_is;
       length_is = omega (arith, size, h.length_is);
-      video_is = λ rest long. ap video_in (append_assoc h.front (byte ∷ []) rest) ∙ h.video_is (byte ∷ rest) (omega (arith, long)) ∙ same rest long;
+      video_is = λ rest long. ap video_in (append_assoc h.front (byte ∷ []) rest)
+          ∙ h.video_is (byte ∷ rest) (omega (arith, long)) ∙ same rest long;
       place_is = h.place_is;
       now_is = h.now_is;
       none = h.none;
@@ -247,7 +288,8 @@ goes_on {start} {place} {left} {kept} {header} {next} byte h same =
 -- a byte after which the video begins
 video_begins : {chosen : Option ℕ} {start place left : ℕ} {now : Option ℕ} {part kept : List ℕ} {header : Header}
     (byte : ℕ) → IsAtHeader chosen start place now part kept header (left + 1) →
-    ((rest : List ℕ) → length rest ≡ left → video_from header (byte ∷ rest) ≡ Some rest) → LeadsTo chosen start place now (part ++ byte ∷ []) kept (cond (left == 0) (Zeros 0) (Video left))
+    ((rest : List ℕ) → length rest ≡ left → video_from header (byte ∷ rest) ≡ Some rest)
+    → LeadsTo chosen start place now (part ++ byte ∷ []) kept (cond (left == 0) (Zeros 0) (Video left))
 video_begins {chosen} {start} {place} {left} {now} {part} {kept} {header} byte h same =
     elim (cases_eq left 0) [
       | inl none ↦ (
@@ -264,29 +306,41 @@ video_begins {chosen} {start} {place} {left} {now} {part} {kept} {header} byte h
       | inr some ↦ (
           let at_rest : IsAtRest chosen start place now (part ++ byte ∷ []) kept left (λ rest. rest) = record {
             zeros = h.zeros;
-            begun = omega (arith, ap length h.are, length-prefixed h.zeros (h.kind ∷ h.high ∷ h.low ∷ h.front), length-append part (byte ∷ []));
+            begun = omega (
+              arith,
+              ap length h.are,
+              length-prefixed h.zeros (h.kind ∷ h.high ∷ h.low ∷ h.front),
+              length-append part (byte ∷ []),
+            );
             some = omega (arith, some);
             ends = λ rest long. chosen_done byte rest h long (same rest long);
             place_is = h.place_is;
           } in
-          inl (subst (λ s. IsPart chosen start place now (part ++ byte ∷ []) kept s) (sym (cond-false (left == 0) (Zeros 0) (Video left) (ne_eqb left 0 some))) at_rest)
+          inl (subst (λ s. IsPart chosen start place now (part ++ byte ∷ []) kept s)
+          (sym (cond-false (left == 0) (Zeros 0) (Video left) (ne_eqb left 0 some))) at_rest)
           )
     ]
 
 pub header_leads : {chosen : Option ℕ} {start place left : ℕ} {now : Option ℕ} {part kept : List ℕ} {header : Header}
     (byte : ℕ) (next : Header) → IsAtHeader chosen start place now part kept header (left + 1) →
-    ((rest : List ℕ) → length rest ≡ left → video_from header (byte ∷ rest) ≡ video_from next rest) → LeadsTo chosen start place now (part ++ byte ∷ []) kept (place_in next left)
+    ((rest : List ℕ) → length rest ≡ left → video_from header (byte ∷ rest) ≡ video_from next rest)
+    → LeadsTo chosen start place now (part ++ byte ∷ []) kept (place_in next left)
 header_leads {start} {place} {left} {kept} {header} byte (Stuffing count) h same = inl (goes_on byte h same)
 header_leads {start} {place} {left} {kept} {header} byte Second h same = inl (goes_on byte h same)
 header_leads {start} {place} {left} {kept} {header} byte Stamp h same = inl (goes_on byte h same)
 header_leads {chosen} {start} {place} {left} {now} {part} {kept} {header} byte (Rest count) h same =
     elim (cases_eq count 0) [
       | inl whole ↦ (
-          let at_video = video_begins byte h (λ rest long. same rest long ∙ ap (λ n. after_bytes n rest) whole ∙ after_none rest) in
-          subst (λ s. LeadsTo chosen start place now (part ++ byte ∷ []) kept s) (sym (cond-true (count == 0) (cond (left == 0) (Zeros 0) (Video left)) (InHeader (Rest count) left) (eq-eqb count 0 whole))) at_video
+          let at_video =
+          video_begins byte h (λ rest long. same rest long ∙ ap (λ n. after_bytes n rest) whole ∙ after_none rest) in
+          subst (λ s. LeadsTo chosen start place now (part ++ byte ∷ []) kept s)
+          (sym (cond-true (count == 0) (cond (left == 0) (Zeros 0) (Video left))
+          (InHeader (Rest count) left) (eq-eqb count 0 whole))) at_video
           )
       | inr some ↦
-          subst (λ s. LeadsTo chosen start place now (part ++ byte ∷ []) kept s) (sym (cond-false (count == 0) (cond (left == 0) (Zeros 0) (Video left)) (InHeader (Rest count) left) (ne_eqb count 0 some)))
+          subst (λ s. LeadsTo chosen start place now (part ++ byte ∷ []) kept s)
+          (sym (cond-false (count == 0) (cond (left == 0) (Zeros 0) (Video left))
+          (InHeader (Rest count) left) (ne_eqb count 0 some)))
           (inl (goes_on byte h same))
     ]
 
@@ -298,17 +352,26 @@ rest_leads {chosen} {start} {place} {left} {count} {now} {part} {kept} taken h s
     elim (cases_eq (left - count) 0) [
       | inl none ↦ (
           let done = h.ends taken (omega (arith, size, within, none)) in
-          inr (h.zeros, (subst (λ (l : List ℕ). IsDone chosen h.zeros now (part ++ taken) l) (append-nil kept) done, cond-true (left - count == 0) (Zeros 0) (Pass (left - count)) (eq-eqb (left - count) 0 none)))
+          inr (
+            h.zeros,
+            (
+              subst (λ (l : List ℕ). IsDone chosen h.zeros now (part ++ taken) l) (append-nil kept) done,
+              cond-true (left - count == 0) (Zeros 0) (Pass (left - count)) (eq-eqb (left - count) 0 none),
+            ),
+          )
           )
       | inr some ↦ (
           let at_rest : IsAtRest chosen start place now (part ++ taken) kept (left - count) (λ rest. []) = record {
             zeros = h.zeros;
             begun = omega (arith, h.begun, length-append part taken);
             some = omega (arith, some);
-            ends = λ rest long. subst (λ (l : List ℕ). IsDone chosen h.zeros now l (kept ++ [])) (sym (append_assoc part taken rest)) (h.ends (taken ++ rest) (omega (arith, length-append taken rest, size, long, within)));
+            ends = λ rest long. subst (λ (l : List ℕ). IsDone chosen h.zeros now l (kept ++ []))
+                (sym (append_assoc part taken rest))
+                (h.ends (taken ++ rest) (omega (arith, length-append taken rest, size, long, within)));
             place_is = h.place_is;
           } in
-          inl (subst (λ s. IsPart chosen start place now (part ++ taken) kept s) (sym (cond-false (left - count == 0) (Zeros 0) (Pass (left - count)) (ne_eqb (left - count) 0 some))) at_rest)
+          inl (subst (λ s. IsPart chosen start place now (part ++ taken) kept s)
+          (sym (cond-false (left - count == 0) (Zeros 0) (Pass (left - count)) (ne_eqb (left - count) 0 some))) at_rest)
           )
     ]
 
@@ -317,7 +380,14 @@ pub video_leads : {chosen : Option ℕ} {start place left count : ℕ} {now : Op
     LeadsTo chosen start place now (part ++ taken) (kept ++ taken) (cond (left - count == 0) (Zeros 0) (Video (left - count)))
 video_leads {chosen} {start} {place} {left} {count} {now} {part} {kept} taken h size within =
     elim (cases_eq (left - count) 0) [
-      | inl none ↦ inr (h.zeros, (h.ends taken (omega (arith, size, within, none)), cond-true (left - count == 0) (Zeros 0) (Video (left - count)) (eq-eqb (left - count) 0 none)))
+      | inl none ↦
+          inr (
+            h.zeros,
+            (
+              h.ends taken (omega (arith, size, within, none)),
+              cond-true (left - count == 0) (Zeros 0) (Video (left - count)) (eq-eqb (left - count) 0 none),
+            ),
+          )
       | inr some ↦ (
           let at_rest : IsAtRest chosen start place now (part ++ taken) (kept ++ taken) (left - count) (λ rest. rest) = record {
             zeros = h.zeros;
@@ -325,15 +395,20 @@ video_leads {chosen} {start} {place} {left} {count} {now} {part} {kept} taken h 
             some = omega (arith, some);
             ends = λ rest long.
                 subst (λ (l : List ℕ). IsDone chosen h.zeros now l ((kept ++ taken) ++ rest)) (sym (append_assoc part taken rest))
-                (subst (λ (l : List ℕ). IsDone chosen h.zeros now (part ++ (taken ++ rest)) l) (sym (append_assoc kept taken rest)) (h.ends (taken ++ rest) (omega (arith, length-append taken rest, size, long, within))));
+                (subst (λ (l : List ℕ). IsDone chosen h.zeros now (part ++ (taken ++ rest)) l)
+                (sym (append_assoc kept taken rest))
+                (h.ends (taken ++ rest) (omega (arith, length-append taken rest, size, long, within))));
             place_is = h.place_is;
           } in
-          inl (subst (λ s. IsPart chosen start place now (part ++ taken) (kept ++ taken) s) (sym (cond-false (left - count == 0) (Zeros 0) (Video (left - count)) (ne_eqb (left - count) 0 some))) at_rest)
+          inl (subst (λ s. IsPart chosen start place now (part ++ taken) (kept ++ taken) s)
+          (sym (cond-false (left - count == 0) (Zeros 0) (Video (left - count)) (ne_eqb (left - count) 0 some))) at_rest)
           )
     ]
 
 -- the first byte of a packet's length
-pub high_more : {start place kind byte : ℕ} {now wanted : Option ℕ} {part kept : List ℕ} → IsAtPrefix start place (kind ∷ []) now wanted part kept → IsAtPrefix start place (kind ∷ byte ∷ []) now wanted (part ++ byte ∷ []) kept
+pub high_more : {start place kind byte : ℕ} {now wanted : Option ℕ} {part kept : List ℕ}
+    → IsAtPrefix start place (kind ∷ []) now wanted part kept
+    → IsAtPrefix start place (kind ∷ byte ∷ []) now wanted (part ++ byte ∷ []) kept
 high_more {start} {place} {kind} {byte} {kept} h = record {
   zeros = h.zeros;
   are = ap (λ (l : List ℕ). l ++ byte ∷ []) h.are ∙ prefixed_more h.zeros (kind ∷ []) (byte ∷ []);

@@ -28,26 +28,32 @@ use Rattle.sys_demux.proofs.ContentSteps.{stuffing_ends}
 use Rattle.sys_demux.proofs.Parts.{prefixed_more, length-prefixed}
 
 -- items and one more
-are_more : (chosen : Option ℕ) (items : List Item) (item : Item) → AreItems chosen items → IsItem (chosen_after chosen items) item → AreItems chosen (items ++ item ∷ [])
+are_more : (chosen : Option ℕ) (items : List Item) (item : Item) → AreItems chosen items
+    → IsItem (chosen_after chosen items) item → AreItems chosen (items ++ item ∷ [])
 are_more chosen [] item are is = (is, tt)
 are_more chosen (x ∷ items) item are is = (are.0, are_more (chosen_next chosen x) items item are.1 is)
 
-chosen_more : (chosen : Option ℕ) (items : List Item) (item : Item) → chosen_after chosen (items ++ item ∷ []) ≡ chosen_next (chosen_after chosen items) item
+chosen_more : (chosen : Option ℕ) (items : List Item) (item : Item)
+    → chosen_after chosen (items ++ item ∷ []) ≡ chosen_next (chosen_after chosen items) item
 chosen_more chosen [] item = refl
 chosen_more chosen (x ∷ items) item = chosen_more (chosen_next chosen x) items item
 
-video_more : (chosen : Option ℕ) (items : List Item) (item : Item) → video_of chosen (items ++ item ∷ []) ≡ video_of chosen items ++ item_video (chosen_after chosen items) item
+video_more : (chosen : Option ℕ) (items : List Item) (item : Item)
+    → video_of chosen (items ++ item ∷ []) ≡ video_of chosen items ++ item_video (chosen_after chosen items) item
 video_more chosen [] item = append-nil (item_video chosen item)
 video_more chosen (x ∷ items) item =
     ap (λ (l : List ℕ). item_video chosen x ++ l) (video_more (chosen_next chosen x) items item)
-    ∙ sym (append_assoc (item_video chosen x) (video_of (chosen_next chosen x) items) (item_video (chosen_after (chosen_next chosen x) items) item))
+    ∙ sym (append_assoc (item_video chosen x) (video_of (chosen_next chosen x) items)
+    (item_video (chosen_after (chosen_next chosen x) items) item))
 
 bytes_more : (items : List Item) (item : Item) → bytes_of (items ++ item ∷ []) ≡ bytes_of items ++ item_bytes item
-bytes_more items item = flat_map-append item_bytes items (item ∷ []) ∙ ap (λ (l : List ℕ). bytes_of items ++ l) (append-nil (item_bytes item))
+bytes_more items item =
+    flat_map-append item_bytes items (item ∷ []) ∙ ap (λ (l : List ℕ). bytes_of items ++ l) (append-nil (item_bytes item))
 
 -- a part that leads to a state, after items
 pub reached_leads : {place : ℕ} {now : Option ℕ} {part kept : List ℕ} {state : Place} (items : List Item) → AreItems None items →
-    LeadsTo (chosen_after None items) (length (bytes_of items)) place now part kept state → IsReached state place now (bytes_of items ++ part) (video_of None items ++ kept)
+    LeadsTo (chosen_after None items) (length (bytes_of items)) place now part kept state
+    → IsReached state place now (bytes_of items ++ part) (video_of None items ++ kept)
 reached_leads {place} {part} {kept} items are (inl is) = record {
   items = items;
   part = part;
@@ -72,35 +78,49 @@ reached_leads {place} {now} {part} {kept} items are (inr done) =
       part = [];
       kept = [];
       are = are_more None items d.item are d.is_item;
-      seen_is = ap (λ (l : List ℕ). bytes_of items ++ l) (sym d.bytes_are) ∙ sym (bytes_more items d.item) ∙ sym (append-nil (bytes_of all));
-      video_is = ap (λ (l : List ℕ). video_of None items ++ l) (sym d.video_is) ∙ sym (video_more None items d.item) ∙ sym (append-nil (video_of None all));
+      seen_is = ap (λ (l : List ℕ). bytes_of items ++ l) (sym d.bytes_are) ∙ sym (bytes_more items d.item)
+          ∙ sym (append-nil (bytes_of all));
+      video_is = ap (λ (l : List ℕ). video_of None items ++ l) (sym d.video_is)
+          ∙ sym (video_more None items d.item) ∙ sym (append-nil (video_of None all));
       is_part = subst (λ s. IsPart (chosen_after None all) (length (bytes_of all)) place now [] [] s) (sym done.1.1) at_zeros;
     }
 
 -- bytes more
-pub step : {state next : Place} {place place' : ℕ} {now now' : Option ℕ} {seen video : List ℕ} (bytes more : List ℕ) → IsReached state place now seen video →
-    ((chosen : Option ℕ) (start : ℕ) (part kept : List ℕ) → start + length part ≡ length seen → IsPart chosen start place now part kept state → LeadsTo chosen start place' now' (part ++ bytes) (kept ++ more) next) →
+pub step : {state next : Place} {place place' : ℕ} {now now' : Option ℕ} {seen video : List ℕ}
+    (bytes more : List ℕ) → IsReached state place now seen video →
+    ((chosen : Option ℕ) (start : ℕ) (part kept : List ℕ) → start + length part ≡ length seen →
+    IsPart chosen start place now part kept state → LeadsTo chosen start place' now' (part ++ bytes) (kept ++ more) next) →
     IsReached next place' now' (seen ++ bytes) (video ++ more)
 step {next} {place} {place'} {now'} {seen} {video} bytes more r leads =
-    let size : length (bytes_of r.items) + length r.part ≡ length seen = sym (ap length r.seen_is ∙ length-append (bytes_of r.items) r.part) in
+    let size : length (bytes_of r.items) + length r.part ≡ length seen =
+    sym (ap length r.seen_is ∙ length-append (bytes_of r.items) r.part) in
     let after = reached_leads r.items r.are
     (leads (chosen_after None r.items) (length (bytes_of r.items)) r.part r.kept size r.is_part) in
-    let seen_is : bytes_of r.items ++ (r.part ++ bytes) ≡ seen ++ bytes = sym (append_assoc (bytes_of r.items) r.part bytes) ∙ ap (λ (l : List ℕ). l ++ bytes) (sym r.seen_is) in
-    let video_is : video_of None r.items ++ (r.kept ++ more) ≡ video ++ more = sym (append_assoc (video_of None r.items) r.kept more) ∙ ap (λ (l : List ℕ). l ++ more) (sym r.video_is) in
-    subst (λ (s : List ℕ). IsReached next place' now' s (video ++ more)) seen_is (subst (λ (v : List ℕ). IsReached next place' now' (bytes_of r.items ++ (r.part ++ bytes)) v) video_is after)
+    let seen_is : bytes_of r.items ++ (r.part ++ bytes) ≡ seen ++ bytes =
+    sym (append_assoc (bytes_of r.items) r.part bytes) ∙ ap (λ (l : List ℕ). l ++ bytes) (sym r.seen_is) in
+    let video_is : video_of None r.items ++ (r.kept ++ more) ≡ video ++ more =
+    sym (append_assoc (video_of None r.items) r.kept more) ∙ ap (λ (l : List ℕ). l ++ more) (sym r.video_is) in
+    subst (λ (s : List ℕ). IsReached next place' now' s (video ++ more)) seen_is
+    (subst (λ (v : List ℕ). IsReached next place' now' (bytes_of r.items ++ (r.part ++ bytes)) v) video_is after)
 
 -- one byte more, and no video
-pub step_byte : {state next : Place} {place place' : ℕ} {now now' : Option ℕ} {seen video : List ℕ} (byte : ℕ) → IsReached state place now seen video →
-    ((chosen : Option ℕ) (start : ℕ) (part kept : List ℕ) → start + length part ≡ length seen → IsPart chosen start place now part kept state → LeadsTo chosen start place' now' (part ++ byte ∷ []) kept next) →
+pub step_byte : {state next : Place} {place place' : ℕ} {now now' : Option ℕ} {seen video : List ℕ} (byte : ℕ) →
+    IsReached state place now seen video →
+    ((chosen : Option ℕ) (start : ℕ) (part kept : List ℕ) → start + length part ≡ length seen →
+    IsPart chosen start place now part kept state → LeadsTo chosen start place' now' (part ++ byte ∷ []) kept next) →
     IsReached next place' now' (seen ++ byte ∷ []) video
 step_byte {next} {place} {place'} {now'} {seen} {video} byte r leads =
     let more = step (byte ∷ []) [] r (λ chosen start part kept size is.
-    subst (λ (k : List ℕ). LeadsTo chosen start place' now' (part ++ byte ∷ []) k next) (sym (append-nil kept)) (leads chosen start part kept size is)) in
+    subst (λ (k : List ℕ). LeadsTo chosen start place' now' (part ++ byte ∷ []) k next) (sym (append-nil kept))
+    (leads chosen start part kept size is)) in
     subst (λ (v : List ℕ). IsReached next place' now' (seen ++ byte ∷ []) v) (append-nil video) more
 
-pub moved : {state state' : Place} {place place' : ℕ} {now now' : Option ℕ} {seen video : List ℕ} → state ≡ state' → place ≡ place' → now ≡ now' → IsReached state' place' now' seen video → IsReached state place now seen video
+pub moved : {state state' : Place} {place place' : ℕ} {now now' : Option ℕ} {seen video : List ℕ}
+    → state ≡ state' → place ≡ place' → now ≡ now' → IsReached state' place' now' seen video
+    → IsReached state place now seen video
 moved {state'} {place} {place'} {now} {seen} {video} s p n r =
-    subst (λ x. IsReached x place now seen video) (sym s) (subst (λ x. IsReached state' x now seen video) (sym p) (subst (λ x. IsReached state' place' x seen video) (sym n) r))
+    subst (λ x. IsReached x place now seen video) (sym s)
+    (subst (λ x. IsReached state' x now seen video) (sym p) (subst (λ x. IsReached state' place' x seen video) (sym n) r))
 
 -- a fault that bytes show stays
 more_after : (tail front rest more : List ℕ) → tail ≡ front ++ rest → tail ++ more ≡ front ++ (rest ++ more)
@@ -111,7 +131,8 @@ pub record Shows (chosen : Option ℕ) (start : ℕ) (tail : List ℕ) (fault : 
   pub shown : IsShown fault
   pub fault_is : IsFault chosen start tail fault
 
-pub fault_stays : {chosen : Option ℕ} {start : ℕ} {tail : List ℕ} {fault : SystemFault} (more : List ℕ) → Shows chosen start tail fault → IsFault chosen start (tail ++ more) fault
+pub fault_stays : {chosen : Option ℕ} {start : ℕ} {tail : List ℕ} {fault : SystemFault} (more : List ℕ)
+    → Shows chosen start tail fault → IsFault chosen start (tail ++ more) fault
 fault_stays {fault = NotPack place} more shows =
     let f = shows.fault_is in
     record {
@@ -161,18 +182,21 @@ fault_stays {fault = BadPacket place} more shows =
     }
 fault_stays {fault = Truncated place} more shows = absurd shows.shown
 
-pub failed_refused : {fault : SystemFault} {place : ℕ} {now : Option ℕ} {seen video : List ℕ} (more : List ℕ) → IsReached (Failed fault) place now seen video → IsRefused (seen ++ more) fault
+pub failed_refused : {fault : SystemFault} {place : ℕ} {now : Option ℕ} {seen video : List ℕ} (more : List ℕ)
+    → IsReached (Failed fault) place now seen video → IsRefused (seen ++ more) fault
 failed_refused {fault} {place} {seen} more r = record {
   items = r.items;
   tail = r.part ++ more;
   are = r.are;
   bytes_are = more_after seen (bytes_of r.items) r.part more r.seen_is;
-  fault_is = fault_stays {chosen = chosen_after None r.items} {start = length (bytes_of r.items)} {tail = r.part} {fault = fault} more
+  fault_is = fault_stays {chosen = chosen_after None r.items} {start = length (bytes_of r.items)}
+      {tail = r.part} {fault = fault} more
       (record { shown = r.is_part.2; fault_is = r.is_part.0 });
 }
 
 -- a place in a header, or in an item
-pub sound_header : (header : Header) (left : ℕ) → is_sound (InHeader header left) ≡ true → (0 < least_rest header) × (least_rest header ≤ left)
+pub sound_header : (header : Header) (left : ℕ) → is_sound (InHeader header left) ≡ true
+    → (0 < least_rest header) × (least_rest header ≤ left)
 sound_header header left sound =
     let parts = and_parts (nat_lt 0 (least_rest header)) (nat_le (least_rest header) left) sound in
     (ltb-true 0 (least_rest header) parts.0, leb-true (least_rest header) left parts.1)
@@ -207,10 +231,12 @@ can_end (Rest count) left enough = record {
   rest = replicate left 0;
   long = length-replicate {A = ℕ} left 0;
   video = drop count (replicate left 0);
-  is = cond-true (nat_le count (length (replicate left 0))) (Some (drop count (replicate left 0))) None (le-leb count (length (replicate left 0)) (omega (arith, length-replicate {A = ℕ} left 0, enough)));
+  is = cond-true (nat_le count (length (replicate left 0))) (Some (drop count (replicate left 0))) None
+      (le-leb count (length (replicate left 0)) (omega (arith, length-replicate {A = ℕ} left 0, enough)));
 }
 
-header_cut : {chosen : Option ℕ} {start place : ℕ} {now : Option ℕ} {part kept : List ℕ} {header : Header} {left : ℕ} → IsAtHeader chosen start place now part kept header left →
+header_cut : {chosen : Option ℕ} {start place : ℕ} {now : Option ℕ} {part kept : List ℕ} {header : Header}
+    {left : ℕ} → IsAtHeader chosen start place now part kept header left →
     0 < least_rest header → least_rest header ≤ left → LacksEnd chosen start part place
 header_cut {start} {place} {kept} {header} {left} h some enough =
     let end = can_end header left enough in
@@ -256,7 +282,8 @@ record WholeItem (chosen : Option ℕ) (rest : List ℕ) : Type 0 where
   bytes_are : (zeros : ℕ) → item_bytes (item zeros) ≡ with_prefix zeros (rest ++ lacking)
   some : 0 < length lacking
 
-prefix_cut : {chosen : Option ℕ} {start place : ℕ} {now wanted : Option ℕ} {rest part kept : List ℕ} → IsAtPrefix start place rest now wanted part kept →
+prefix_cut : {chosen : Option ℕ} {start place : ℕ} {now wanted : Option ℕ} {rest part kept : List ℕ} →
+    IsAtPrefix start place rest now wanted part kept →
     WholeItem chosen rest → LacksEnd chosen start part place
 prefix_cut {start} {rest} h whole = record {
   item = item h.zeros;
@@ -321,11 +348,16 @@ high_lacks chosen kind kind_is = record {
 }
 
 -- the stream ends inside an item
-inside_cut : {fault : SystemFault} {state : Place} {place : ℕ} {now : Option ℕ} {seen video : List ℕ} (r : IsReached state place now seen video) → is_sound state ≡ true →
+inside_cut : {fault : SystemFault} {state : Place} {place : ℕ} {now : Option ℕ} {seen video : List ℕ}
+    (r : IsReached state place now seen video) → is_sound state ≡ true →
     end_fault state place ≡ Some fault → IsFault (chosen_after None r.items) (length (bytes_of r.items)) r.part fault
 inside_cut {fault} {state = Zeros zeros} r sound ends = absurd (none-some fault ends)
-inside_cut {fault} {state = Kind} {place} r sound ends = subst (IsFault (chosen_after None r.items) (length (bytes_of r.items)) r.part) (same_Some (Truncated place) fault ends) (prefix_cut r.is_part kind_lacks)
-inside_cut {fault} {state = Mark} {place} r sound ends = subst (IsFault (chosen_after None r.items) (length (bytes_of r.items)) r.part) (same_Some (Truncated place) fault ends) (prefix_cut r.is_part pack_lacks)
+inside_cut {fault} {state = Kind} {place} r sound ends =
+    subst (IsFault (chosen_after None r.items) (length (bytes_of r.items)) r.part)
+    (same_Some (Truncated place) fault ends) (prefix_cut r.is_part kind_lacks)
+inside_cut {fault} {state = Mark} {place} r sound ends =
+    subst (IsFault (chosen_after None r.items) (length (bytes_of r.items)) r.part)
+    (same_Some (Truncated place) fault ends) (prefix_cut r.is_part pack_lacks)
 inside_cut {fault} {state = High kind} {place} r sound ends =
     subst (IsFault (chosen_after None r.items) (length (bytes_of r.items)) r.part) (same_Some (Truncated place) fault ends)
     (prefix_cut r.is_part.0 (high_lacks (chosen_after None r.items) kind r.is_part.1))
@@ -334,13 +366,20 @@ inside_cut {fault} {state = Low kind high} {place} r sound ends =
     (prefix_cut r.is_part.0 (low_lacks (chosen_after None r.items) kind high r.is_part.1))
 inside_cut {fault} {state = InHeader header left} {place} r sound ends =
     let enough = sound_header header left sound in
-    subst (IsFault (chosen_after None r.items) (length (bytes_of r.items)) r.part) (same_Some (Truncated place) fault ends) (header_cut r.is_part enough.0 enough.1)
-inside_cut {fault} {state = Pass left} {place} r sound ends = subst (IsFault (chosen_after None r.items) (length (bytes_of r.items)) r.part) (same_Some (Truncated place) fault ends) (rest_cut r.is_part)
-inside_cut {fault} {state = Video left} {place} r sound ends = subst (IsFault (chosen_after None r.items) (length (bytes_of r.items)) r.part) (same_Some (Truncated place) fault ends) (rest_cut r.is_part)
+    subst (IsFault (chosen_after None r.items) (length (bytes_of r.items)) r.part)
+    (same_Some (Truncated place) fault ends) (header_cut r.is_part enough.0 enough.1)
+inside_cut {fault} {state = Pass left} {place} r sound ends =
+    subst (IsFault (chosen_after None r.items) (length (bytes_of r.items)) r.part)
+    (same_Some (Truncated place) fault ends) (rest_cut r.is_part)
+inside_cut {fault} {state = Video left} {place} r sound ends =
+    subst (IsFault (chosen_after None r.items) (length (bytes_of r.items)) r.part)
+    (same_Some (Truncated place) fault ends) (rest_cut r.is_part)
 inside_cut {fault} {state = End} r sound ends = absurd (none-some fault ends)
-inside_cut {fault} {state = Failed other} r sound ends = subst (IsFault (chosen_after None r.items) (length (bytes_of r.items)) r.part) (same_Some other fault ends) r.is_part.0
+inside_cut {fault} {state = Failed other} r sound ends =
+    subst (IsFault (chosen_after None r.items) (length (bytes_of r.items)) r.part) (same_Some other fault ends) r.is_part.0
 
-pub ended_refused : {state : Place} {place : ℕ} {now : Option ℕ} {seen video : List ℕ} {fault : SystemFault} → is_sound state ≡ true → IsReached state place now seen video → end_fault state place ≡ Some fault → IsRefused seen fault
+pub ended_refused : {state : Place} {place : ℕ} {now : Option ℕ} {seen video : List ℕ} {fault : SystemFault}
+    → is_sound state ≡ true → IsReached state place now seen video → end_fault state place ≡ Some fault → IsRefused seen fault
 ended_refused sound r ends = record {
   items = r.items;
   tail = r.part;
@@ -350,7 +389,8 @@ ended_refused sound r ends = record {
 }
 
 -- the stream ends where it may
-at_end : {state : Place} {place : ℕ} {now : Option ℕ} {seen video : List ℕ} (r : IsReached state place now seen video) → end_fault state place ≡ None → IsEnd r.part × (r.kept ≡ [])
+at_end : {state : Place} {place : ℕ} {now : Option ℕ} {seen video : List ℕ}
+    (r : IsReached state place now seen video) → end_fault state place ≡ None → IsEnd r.part × (r.kept ≡ [])
 at_end {state = Zeros zeros} r ends = (inl (record { count = r.is_part.count; are = r.is_part.are }), r.is_part.none)
 at_end {state = Kind} {place} r ends = absurd (none-some (Truncated place) (sym ends))
 at_end {state = Mark} {place} r ends = absurd (none-some (Truncated place) (sym ends))
@@ -359,10 +399,12 @@ at_end {state = Low kind high} {place} r ends = absurd (none-some (Truncated pla
 at_end {state = InHeader header left} {place} r ends = absurd (none-some (Truncated place) (sym ends))
 at_end {state = Pass left} {place} r ends = absurd (none-some (Truncated place) (sym ends))
 at_end {state = Video left} {place} r ends = absurd (none-some (Truncated place) (sym ends))
-at_end {state = End} r ends = (inr (record { zeros = r.is_part.zeros; rest = r.is_part.rest; is = r.is_part.are }), r.is_part.none)
+at_end {state = End} r ends =
+    (inr (record { zeros = r.is_part.zeros; rest = r.is_part.rest; is = r.is_part.are }), r.is_part.none)
 at_end {state = Failed fault} r ends = absurd (none-some fault (sym ends))
 
-pub ended_system : {state : Place} {place : ℕ} {now : Option ℕ} {seen video : List ℕ} → IsReached state place now seen video → end_fault state place ≡ None → IsSystem seen video
+pub ended_system : {state : Place} {place : ℕ} {now : Option ℕ} {seen video : List ℕ}
+    → IsReached state place now seen video → end_fault state place ≡ None → IsSystem seen video
 ended_system r ends =
     let end = at_end r ends in
     record {
@@ -388,13 +430,15 @@ failed_at End fault e = absurd (none-some fault e)
 failed_at (Failed other) fault e = ap Failed (same_Some other fault e)
 
 -- the first byte of a piece was taken, and the rest follows
-pub first_taken : (seen piece more : List ℕ) → 0 < length piece → (seen ++ get_or piece 0 0 ∷ []) ++ (drop 1 piece ++ more) ≡ (seen ++ piece) ++ more
+pub first_taken : (seen piece more : List ℕ) → 0 < length piece
+    → (seen ++ get_or piece 0 0 ∷ []) ++ (drop 1 piece ++ more) ≡ (seen ++ piece) ++ more
 first_taken seen [] more some = absurd (omega (arith, some))
 first_taken seen (b ∷ piece) more some =
     append_assoc seen (b ∷ []) (piece ++ more) ∙ sym (append_assoc seen (b ∷ piece) more)
 
 -- at the end a fault that bytes show was answered before
-pub end_shown : (state : Place) (item : ℕ) (fault : SystemFault) → end_fault state item ≡ Some fault → IsShown fault → fault_at state ≡ Some fault
+pub end_shown : (state : Place) (item : ℕ) (fault : SystemFault) → end_fault state item ≡ Some fault
+    → IsShown fault → fault_at state ≡ Some fault
 end_shown (Zeros zeros) item fault e shown = absurd (none-some fault e)
 end_shown Kind item fault e shown = absurd (subst IsShown (sym (same_Some (Truncated item) fault e)) shown)
 end_shown Mark item fault e shown = absurd (subst IsShown (sym (same_Some (Truncated item) fault e)) shown)

@@ -22,7 +22,8 @@ abbrev first_of : Option ℕ → Option ℕ → Option ℕ
 first_of None later = later
 first_of (Some number) later = Some number
 
-first_more : (first : Option ℕ) (element : Element) (elements : List Element) → first_of (next first element) (first_stream elements) ≡ first_of first (first_stream (element ∷ elements))
+first_more : (first : Option ℕ) (element : Element) (elements : List Element)
+    → first_of (next first element) (first_stream elements) ≡ first_of first (first_stream (element ∷ elements))
 first_more None (PackHeader _ clock_reference mux_rate) elements = refl
 first_more (Some number) (PackHeader _ clock_reference mux_rate) elements = refl
 first_more None (VideoPacket _ stream stuffing buffer stamps video) elements = refl
@@ -34,7 +35,8 @@ first_none : (first : Option ℕ) → first ≡ first_of first None
 first_none None = refl
 first_none (Some number) = refl
 
-chosen_all : (first : Option ℕ) (elements : List Element) → Fits first → AreElements elements → chosen_after (kind_by first) (items_of elements) ≡ kind_by (first_of first (first_stream elements))
+chosen_all : (first : Option ℕ) (elements : List Element) → Fits first → AreElements elements
+    → chosen_after (kind_by first) (items_of elements) ≡ kind_by (first_of first (first_stream elements))
 chosen_all first [] fits are = ap kind_by (first_none first)
 chosen_all first (element ∷ elements) fits are =
     let read = element_read first element fits are.0 in
@@ -43,7 +45,9 @@ chosen_all first (element ∷ elements) fits are =
     ∙ ap kind_by (first_more first element elements)
 
 -- a fault after elements is one of the stream
-refused : (elements : List Element) (tail : List ℕ) (fault : SystemFault) → AreElements elements → IsFault (kind_by (first_stream elements)) (length (stream_bytes elements)) tail fault → IsRefused (stream_bytes elements ++ tail) fault
+refused : (elements : List Element) (tail : List ℕ) (fault : SystemFault) → AreElements elements
+    → IsFault (kind_by (first_stream elements)) (length (stream_bytes elements)) tail fault
+    → IsRefused (stream_bytes elements ++ tail) fault
 refused elements tail fault are is =
     let start = ap (λ (l : List ℕ). length l) (sym (items_bytes elements)) in
     let chosen = sym (chosen_all None elements tt are) in
@@ -52,7 +56,8 @@ refused elements tail fault are is =
       tail = tail;
       are = (elements_read None elements tt are).items;
       bytes_are = ap (λ (l : List ℕ). l ++ tail) (sym (items_bytes elements));
-      fault_is = subst (λ n. IsFault (chosen_after None (items_of elements)) n tail fault) start (subst (λ c. IsFault c (length (stream_bytes elements)) tail fault) chosen is);
+      fault_is = subst (λ n. IsFault (chosen_after None (items_of elements)) n tail fault) start
+          (subst (λ c. IsFault c (length (stream_bytes elements)) tail fault) chosen is);
     }
 
 pub pack_refused : (elements : List Element) (front mark : ℕ) (rest : List ℕ) → AreElements elements → mark / 16 ≢ 2 →
@@ -71,13 +76,15 @@ none_of : (o : Option (List ℕ)) → ((video : List ℕ) → o ≡ Some video �
 none_of None never = refl
 none_of (Some video) never = absurd (never video refl)
 
-its_kind : (first : Option ℕ) (stream : ℕ) → stream < 16 → ((first ≡ None) ⊎ (first ≡ Some stream)) → is_chosen (choose (kind_by first) (video_kind stream)) (video_kind stream) ≡ true
+its_kind : (first : Option ℕ) (stream : ℕ) → stream < 16 → ((first ≡ None) ⊎ (first ≡ Some stream))
+    → is_chosen (choose (kind_by first) (video_kind stream)) (video_kind stream) ≡ true
 its_kind first stream fits (inl none) =
     ap (λ o. is_chosen (choose (kind_by o) (video_kind stream)) (video_kind stream)) none
     ∙ ap (λ o. is_chosen o (video_kind stream)) (video_chosen stream fits)
     ∙ eq-eqb (video_kind stream) (video_kind stream) refl
 its_kind first stream fits (inr same) =
-    ap (λ o. is_chosen (choose (kind_by o) (video_kind stream)) (video_kind stream)) same ∙ eq-eqb (video_kind stream) (video_kind stream) refl
+    ap (λ o. is_chosen (choose (kind_by o) (video_kind stream)) (video_kind stream)) same
+    ∙ eq-eqb (video_kind stream) (video_kind stream) refl
 
 -- a packet of the first stream of video, and a content that has no header
 pub record HasNoHeader (first : Option ℕ) (stream : ℕ) (content : List ℕ) : Type 0 where
@@ -85,8 +92,10 @@ pub record HasNoHeader (first : Option ℕ) (stream : ℕ) (content : List ℕ) 
   pub first_is : (first ≡ None) ⊎ (first ≡ Some stream)
   pub never : (video : List ℕ) → HasHeader content video → ⊥
 
-pub packet_refused : {stream : ℕ} {content : List ℕ} (elements : List Element) (front : ℕ) → AreElements elements → HasNoHeader (first_stream elements) stream content →
-    IsRefused (stream_bytes elements ++ packet_bytes front (video_kind stream) content) (BadPacket (length (stream_bytes elements) + front))
+pub packet_refused : {stream : ℕ} {content : List ℕ} (elements : List Element) (front : ℕ) →
+    AreElements elements → HasNoHeader (first_stream elements) stream content →
+    IsRefused (stream_bytes elements ++ packet_bytes front (video_kind stream) content)
+    (BadPacket (length (stream_bytes elements) + front))
 packet_refused {stream} {content} elements front are bad =
     let kind = video_kind stream in
     let high = length content / 256 in
@@ -104,7 +113,8 @@ packet_refused {stream} {content} elements front are bad =
       kind_is = omega arith;
       chosen_is = its_kind (first_stream elements) stream fits first_is;
       within = omega arith;
-      none = λ more long. ap (λ (l : List ℕ). video_in (content ++ l)) (nil_from_length more (omega (arith, long))) ∙ ap video_in (append-nil content) ∙ none;
+      none = λ more long. ap (λ (l : List ℕ). video_in (content ++ l))
+          (nil_from_length more (omega (arith, long))) ∙ ap video_in (append-nil content) ∙ none;
       place_is = refl;
     })
   where

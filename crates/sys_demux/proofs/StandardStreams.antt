@@ -88,14 +88,19 @@ pub record IsRead (first : Option ℕ) (element : Element) : Type 0 where
   pub fits : Fits (next first element)
 
 -- ---- a pack header
-pack_read : (first : Option ℕ) (front clock_reference mux_rate : ℕ) → Fits first → clock_reference < 2 ^ 33 → IsRead first (PackHeader front clock_reference mux_rate)
+pack_read : (first : Option ℕ) (front clock_reference mux_rate : ℕ) → Fits first → clock_reference < 2 ^ 33
+    → IsRead first (PackHeader front clock_reference mux_rate)
 pack_read first front clock_reference mux_rate fits short =
     record { item = record { eight = refl; mark = omega (arith, short) }; next_is = refl; video = refl; fits = fits }
 
 -- ---- another packet
 none_chosen : (kind : ℕ) → IsOtherKind kind → choose None kind ≡ None
-none_chosen kind (inl low) = cond-false (is_video_kind kind) (Some kind) None (and_left (nat_le 224 kind) (nat_le kind 239) (lt-leb 224 kind (omega (arith, low.1))))
-none_chosen kind (inr high) = cond-false (is_video_kind kind) (Some kind) None (and_right (nat_le 224 kind) (nat_le kind 239) (lt-leb kind 239 (omega (arith, high.0))))
+none_chosen kind (inl low) =
+    cond-false (is_video_kind kind) (Some kind) None
+    (and_left (nat_le 224 kind) (nat_le kind 239) (lt-leb 224 kind (omega (arith, low.1))))
+none_chosen kind (inr high) =
+    cond-false (is_video_kind kind) (Some kind) None
+    (and_right (nat_le 224 kind) (nat_le kind 239) (lt-leb kind 239 (omega (arith, high.0))))
 
 not_chosen : (first : Option ℕ) (kind : ℕ) → Fits first → IsOtherKind kind → is_chosen (choose (kind_by first) kind) kind ≡ false
 not_chosen None kind fits other =
@@ -111,7 +116,8 @@ other_low : (kind : ℕ) → IsOtherKind kind → 187 ≤ kind
 other_low kind (inl low) = low.0
 other_low kind (inr high) = omega (arith, high.0)
 
-other_read : (first : Option ℕ) (front kind : ℕ) (content : List ℕ) → Fits first → IsOtherKind kind → IsRead first (OtherPacket front kind content)
+other_read : (first : Option ℕ) (front kind : ℕ) (content : List ℕ) → Fits first → IsOtherKind kind
+    → IsRead first (OtherPacket front kind content)
 other_read first front kind content fits other =
     let other_is = not_chosen first kind fits other in
     record {
@@ -135,7 +141,8 @@ stamp_field NoStamp fit = inr (inr refl)
 stamp_field (Shown shown) fit = inl (refl, omega (arith, fit))
 stamp_field (ShownAndDecoded shown decoded) fit = inr (inl (refl, omega (arith, fit.0)))
 
-pub content_read : (stream stuffing : ℕ) (buffer : Option Buffer) (stamps : Stamps) (video : List ℕ) → IsVideoPacket stream stuffing buffer stamps video → video_in (content_of stuffing buffer stamps video) ≡ Some video
+pub content_read : (stream stuffing : ℕ) (buffer : Option Buffer) (stamps : Stamps) (video : List ℕ)
+    → IsVideoPacket stream stuffing buffer stamps video → video_in (content_of stuffing buffer stamps video) ≡ Some video
 content_read stream stuffing buffer stamps video is =
     (header_is (content_of stuffing buffer stamps video) video).1 (record {
       stuffing = stuffing;
@@ -150,9 +157,11 @@ content_read stream stuffing buffer stamps video is =
 pub video_chosen : (stream : ℕ) → stream < 16 → choose None (video_kind stream) ≡ Some (video_kind stream)
 video_chosen stream fits =
     cond-true (is_video_kind (video_kind stream)) (Some (video_kind stream)) None
-    (and_from (nat_le 224 (video_kind stream)) (nat_le (video_kind stream) 239) (le-leb 224 (video_kind stream) (omega arith)) (le-leb (video_kind stream) 239 (omega (arith, fits))))
+    (and_from (nat_le 224 (video_kind stream)) (nat_le (video_kind stream) 239)
+    (le-leb 224 (video_kind stream) (omega arith)) (le-leb (video_kind stream) 239 (omega (arith, fits))))
 
-video_item : (chosen : Option ℕ) (front stream : ℕ) (content video : List ℕ) → video_in content ≡ Some video → IsItem chosen (packet_item front (video_kind stream) content)
+video_item : (chosen : Option ℕ) (front stream : ℕ) (content video : List ℕ) → video_in content ≡ Some video
+    → IsItem chosen (packet_item front (video_kind stream) content)
 video_item chosen front stream content video read = record {
   kind_is = omega arith;
   length_is = omega arith;
@@ -184,10 +193,12 @@ video_read {first = Some number} {front} {stream} {stuffing} {buffer} {stamps} {
       next_is = refl;
       video = elim (cases_eq number stream) [
         | inl same ↦
-            cond-true (video_kind number == kind) (unwrap_or (video_in content) []) [] (eq-eqb (video_kind number) kind (omega (arith, same)))
+            cond-true (video_kind number == kind) (unwrap_or (video_in content) []) []
+            (eq-eqb (video_kind number) kind (omega (arith, same)))
             ∙ ap (λ o. unwrap_or o []) read ∙ sym (cond-true (number == stream) video [] (eq-eqb number stream same))
         | inr other ↦
-            cond-false (video_kind number == kind) (unwrap_or (video_in content) []) [] (ne_eqb (video_kind number) kind (λ e. other (omega (arith, e))))
+            cond-false (video_kind number == kind) (unwrap_or (video_in content) []) []
+            (ne_eqb (video_kind number) kind (λ e. other (omega (arith, e))))
             ∙ sym (cond-false (number == stream) video [] (ne_eqb number stream other))
       ];
       fits = fits;
@@ -200,21 +211,27 @@ element_read first (OtherPacket front kind content) fits is = other_read first f
 
 -- ---- all of them
 
-pack_skipped : (first : Option ℕ) (front clock_reference mux_rate : ℕ) (elements : List Element) → video_by first (PackHeader front clock_reference mux_rate ∷ elements) ≡ video_by first elements
+pack_skipped : (first : Option ℕ) (front clock_reference mux_rate : ℕ) (elements : List Element)
+    → video_by first (PackHeader front clock_reference mux_rate ∷ elements) ≡ video_by first elements
 pack_skipped None front clock_reference mux_rate elements = refl
 pack_skipped (Some number) front clock_reference mux_rate elements = refl
 
-other_skipped : (first : Option ℕ) (front kind : ℕ) (content : List ℕ) (elements : List Element) → video_by first (OtherPacket front kind content ∷ elements) ≡ video_by first elements
+other_skipped : (first : Option ℕ) (front kind : ℕ) (content : List ℕ) (elements : List Element)
+    → video_by first (OtherPacket front kind content ∷ elements) ≡ video_by first elements
 other_skipped None front kind content elements = refl
 other_skipped (Some number) front kind content elements = refl
 
-videos_more : (first : Option ℕ) (element : Element) (elements : List Element) → own first element ++ videos (next first element) elements ≡ videos first (element ∷ elements)
-videos_more None (PackHeader front clock_reference mux_rate) elements = sym (pack_skipped (first_stream elements) front clock_reference mux_rate elements)
+videos_more : (first : Option ℕ) (element : Element) (elements : List Element)
+    → own first element ++ videos (next first element) elements ≡ videos first (element ∷ elements)
+videos_more None (PackHeader front clock_reference mux_rate) elements =
+    sym (pack_skipped (first_stream elements) front clock_reference mux_rate elements)
 videos_more (Some number) (PackHeader front clock_reference mux_rate) elements = refl
 videos_more None (VideoPacket front stream stuffing buffer stamps video) elements =
-    ap (λ (l : List ℕ). l ++ video_of_stream stream elements) (sym (cond-true (stream == stream) video [] (eq-eqb stream stream refl)))
+    ap (λ (l : List ℕ). l ++ video_of_stream stream elements)
+    (sym (cond-true (stream == stream) video [] (eq-eqb stream stream refl)))
 videos_more (Some number) (VideoPacket front stream stuffing buffer stamps video) elements = refl
-videos_more None (OtherPacket front kind content) elements = sym (other_skipped (first_stream elements) front kind content elements)
+videos_more None (OtherPacket front kind content) elements =
+    sym (other_skipped (first_stream elements) front kind content elements)
 videos_more (Some number) (OtherPacket front kind content) elements = refl
 
 pub record AreRead (first : Option ℕ) (elements : List Element) : Type 0 where
@@ -242,7 +259,8 @@ end_is : (tail : List ℕ) → IsStreamEnd tail → IsEnd tail
 end_is tail (inl none) = inl (record { count = 0; are = none })
 end_is tail (inr code) = inr (record { zeros = 0; rest = code.0; is = code.1 })
 
-pub stream_read : (elements : List Element) (tail : List ℕ) → AreElements elements → IsStreamEnd tail → IsSystem (stream_bytes elements ++ tail) (first_video elements)
+pub stream_read : (elements : List Element) (tail : List ℕ) → AreElements elements → IsStreamEnd tail
+    → IsSystem (stream_bytes elements ++ tail) (first_video elements)
 stream_read elements tail are end =
     let read = elements_read None elements tt are in
     record {

@@ -27,20 +27,26 @@ record IsStripped (chosen : Option ℕ) (items items' : List Item) (l t : List �
   bytes : l ≡ bytes_of more ++ t
   video : video_of chosen items' ≡ video_of chosen items ++ video_of (chosen_after chosen items) more
 
-strip : {chosen : Option ℕ} {items items' : List Item} {l t : List ℕ} → AreItems chosen items → AreItems chosen items' → bytes_of items ++ l ≡ bytes_of items' ++ t → IsEnd t → IsStripped chosen items items' l t
+strip : {chosen : Option ℕ} {items items' : List Item} {l t : List ℕ} → AreItems chosen items
+    → AreItems chosen items' → bytes_of items ++ l ≡ bytes_of items' ++ t → IsEnd t → IsStripped chosen items items' l t
 strip {items = []} {items'} {l} p q e end = record { more = items'; are = q; bytes = e; video = refl }
-strip {chosen} {items = x ∷ xs} {items' = []} {l} p q e end = absurd (item_no_end chosen x (bytes_of xs ++ l) p.0 (sym (append_assoc (item_bytes x) (bytes_of xs) l) ∙ e) end)
+strip {chosen} {items = x ∷ xs} {items' = []} {l} p q e end =
+    absurd (item_no_end chosen x (bytes_of xs ++ l) p.0 (sym (append_assoc (item_bytes x) (bytes_of xs) l) ∙ e) end)
 strip {chosen} {items = x ∷ xs} {items' = y ∷ ys} {l} {t} p q e end =
-    let same = item_once chosen p.0 q.0 (sym (append_assoc (item_bytes x) (bytes_of xs) l) ∙ e ∙ append_assoc (item_bytes y) (bytes_of ys) t) in
+    let same = item_once chosen p.0 q.0
+    (sym (append_assoc (item_bytes x) (bytes_of xs) l) ∙ e ∙ append_assoc (item_bytes y) (bytes_of ys) t) in
     let next : chosen_next chosen y ≡ chosen_next chosen x = ap (chosen_next chosen) (sym same.item) in
-    let rest = strip {chosen = chosen_next chosen x} {items = xs} {items' = ys} {l = l} {t = t} p.1 (subst (λ c. AreItems c ys) next q.1) same.rest end in
+    let rest = strip {chosen = chosen_next chosen x} {items = xs} {items' = ys} {l = l} {t = t} p.1
+    (subst (λ c. AreItems c ys) next q.1) same.rest end in
     record {
       more = rest.more;
       are = rest.are;
       bytes = rest.bytes;
-      video = ap (λ (v : List ℕ). v ++ video_of (chosen_next chosen y) ys) (ap (item_video chosen) (sym same.item)) ∙ ap (λ c. item_video chosen x ++ video_of c ys) next
+      video = ap (λ (v : List ℕ). v ++ video_of (chosen_next chosen y) ys)
+          (ap (item_video chosen) (sym same.item)) ∙ ap (λ c. item_video chosen x ++ video_of c ys) next
           ∙ ap (λ (v : List ℕ). item_video chosen x ++ v) rest.video
-          ∙ sym (append_assoc (item_video chosen x) (video_of (chosen_next chosen x) xs) (video_of (chosen_after (chosen_next chosen x) xs) rest.more));
+          ∙ sym (append_assoc (item_video chosen x) (video_of (chosen_next chosen x) xs)
+          (video_of (chosen_after (chosen_next chosen x) xs) rest.more));
     }
 
 none_begins : (kept whole : List ℕ) → kept ≡ [] → Begins kept whole
@@ -77,7 +83,9 @@ short_rest {chosen} {start} {place} {part} {more} {t} {left} {items = y ∷ ys} 
     let size : length pad ≡ left - length more = length-replicate {A = ℕ} (left - length more) 0 in
     let d = h.ends (more ++ pad) (omega (arith, length-append more pad, size, less)) in
     let same = item_once chosen d.is_item are.0
-    (append-nil (item_bytes d.item) ∙ d.bytes_are ∙ sym (append_assoc part more pad) ∙ ap (λ (l : List ℕ). l ++ pad) (bytes ∙ append_assoc (item_bytes y) (bytes_of ys) t) ∙ append_assoc (item_bytes y) (bytes_of ys ++ t) pad) in
+    (append-nil (item_bytes d.item) ∙ d.bytes_are ∙ sym (append_assoc part more pad)
+    ∙ ap (λ (l : List ℕ). l ++ pad) (bytes ∙ append_assoc (item_bytes y) (bytes_of ys) t)
+    ∙ append_assoc (item_bytes y) (bytes_of ys ++ t) pad) in
     absurd (omega (arith, ap length same.rest, length-append (bytes_of ys ++ t) pad, size, less))
   where
     open followed use {are, bytes}
@@ -88,14 +96,16 @@ long_rest : {chosen : Option ℕ} {start place : ℕ} {now : Option ℕ} {part k
 long_rest {chosen} {part} {more} {left} {items = []} h enough followed =
     let d = h.ends (take left more) (length-take-le left more enough) in
     let whole : item_bytes d.item ++ drop left more ≡ part ++ more =
-    ap (λ (l : List ℕ). l ++ drop left more) d.bytes_are ∙ append_assoc part (take left more) (drop left more) ∙ ap (λ (l : List ℕ). part ++ l) (take-append-drop left more) in
+    ap (λ (l : List ℕ). l ++ drop left more) d.bytes_are ∙ append_assoc part (take left more) (drop left more)
+    ∙ ap (λ (l : List ℕ). part ++ l) (take-append-drop left more) in
     absurd (item_no_end chosen d.item (drop left more) d.is_item (whole ∙ bytes) end)
   where
     open followed use {bytes, end}
 long_rest {chosen} {part} {kept} {more} {t} {left} {video} {items = y ∷ ys} h enough followed =
     let d = h.ends (take left more) (length-take-le left more enough) in
     let whole : item_bytes d.item ++ drop left more ≡ part ++ more =
-    ap (λ (l : List ℕ). l ++ drop left more) d.bytes_are ∙ append_assoc part (take left more) (drop left more) ∙ ap (λ (l : List ℕ). part ++ l) (take-append-drop left more) in
+    ap (λ (l : List ℕ). l ++ drop left more) d.bytes_are ∙ append_assoc part (take left more) (drop left more)
+    ∙ ap (λ (l : List ℕ). part ++ l) (take-append-drop left more) in
     let same = item_once chosen d.is_item are.0 (whole ∙ bytes ∙ append_assoc (item_bytes y) (bytes_of ys) t) in
     record {
       rest = video (take left more) ++ video_of (chosen_next chosen y) ys;
@@ -115,26 +125,35 @@ rest_begins {more} {left} h followed =
     ]
 
 part_begins : {state : Place} {place : ℕ} {now : Option ℕ} {seen video more t : List ℕ} {items : List Item}
-    (r : IsReached state place now seen video) → IsFollowed (chosen_after None r.items) r.part more items t → Begins r.kept (video_of (chosen_after None r.items) items)
-part_begins {state = Zeros zeros} {items} r followed = none_begins r.kept (video_of (chosen_after None r.items) items) r.is_part.none
+    (r : IsReached state place now seen video) → IsFollowed (chosen_after None r.items) r.part more items t
+    → Begins r.kept (video_of (chosen_after None r.items) items)
+part_begins {state = Zeros zeros} {items} r followed =
+    none_begins r.kept (video_of (chosen_after None r.items) items) r.is_part.none
 part_begins {state = Kind} {items} r followed = none_begins r.kept (video_of (chosen_after None r.items) items) r.is_part.none
 part_begins {state = Mark} {items} r followed = none_begins r.kept (video_of (chosen_after None r.items) items) r.is_part.none
-part_begins {state = High kind} {items} r followed = none_begins r.kept (video_of (chosen_after None r.items) items) r.is_part.0.none
-part_begins {state = Low kind high} {items} r followed = none_begins r.kept (video_of (chosen_after None r.items) items) r.is_part.0.none
-part_begins {state = InHeader header left} {items} r followed = none_begins r.kept (video_of (chosen_after None r.items) items) r.is_part.none
+part_begins {state = High kind} {items} r followed =
+    none_begins r.kept (video_of (chosen_after None r.items) items) r.is_part.0.none
+part_begins {state = Low kind high} {items} r followed =
+    none_begins r.kept (video_of (chosen_after None r.items) items) r.is_part.0.none
+part_begins {state = InHeader header left} {items} r followed =
+    none_begins r.kept (video_of (chosen_after None r.items) items) r.is_part.none
 part_begins {state = Pass left} r followed = rest_begins r.is_part followed
 part_begins {state = Video left} r followed = rest_begins r.is_part followed
 part_begins {state = End} {items} r followed = none_begins r.kept (video_of (chosen_after None r.items) items) r.is_part.none
-part_begins {state = Failed fault} {items} r followed = none_begins r.kept (video_of (chosen_after None r.items) items) r.is_part.1
+part_begins {state = Failed fault} {items} r followed =
+    none_begins r.kept (video_of (chosen_after None r.items) items) r.is_part.1
 
-pub video_begins : {state : Place} {place : ℕ} {now : Option ℕ} {seen video whole : List ℕ} (more : List ℕ) → IsReached state place now seen video → IsSystem (seen ++ more) whole → (rest : List ℕ) × (whole ≡ video ++ rest)
+pub video_begins : {state : Place} {place : ℕ} {now : Option ℕ} {seen video whole : List ℕ} (more : List ℕ)
+    → IsReached state place now seen video → IsSystem (seen ++ more) whole → (rest : List ℕ) × (whole ≡ video ++ rest)
 video_begins more r system =
     let bytes : bytes_of r.items ++ (r.part ++ more) ≡ bytes_of system.items ++ system.tail =
     sym (append_assoc (bytes_of r.items) r.part more) ∙ ap (λ (l : List ℕ). l ++ more) (sym r.seen_is) ∙ system.bytes_are in
     let known = strip r.are system.are bytes system.end in
-    let followed : IsFollowed (chosen_after None r.items) r.part more known.more system.tail = record { are = known.are; bytes = known.bytes; end = system.end } in
+    let followed : IsFollowed (chosen_after None r.items) r.part more known.more system.tail =
+    record { are = known.are; bytes = known.bytes; end = system.end } in
     let begins = part_begins r followed in (
       begins.rest,
-      system.video_is ∙ known.video ∙ ap (λ (l : List ℕ). video_of None r.items ++ l) begins.is ∙ sym (append_assoc (video_of None r.items) r.kept begins.rest)
+      system.video_is ∙ known.video ∙ ap (λ (l : List ℕ). video_of None r.items ++ l) begins.is
+          ∙ sym (append_assoc (video_of None r.items) r.kept begins.rest)
           ∙ ap (λ (l : List ℕ). l ++ begins.rest) (sym r.video_is),
     )

@@ -67,11 +67,13 @@ corner_of {side} {curve} {other} {t} {s} {o} {b} state ordered crossed =
         | inl lt ↦ lt
         | inr ge ↦ (let at : b.place ≡ t = omega (arith, ge, near, most) in
             let height : b.height ≡ other t = on ∙ ap other at in
-            let level = ordered_within side o (on_curve curve t) b (sym at) (subst (λ h. IsOrdered side (curve t) h) (sym height) ordered) in
+            let level = ordered_within side o (on_curve curve t) b (sym at)
+            (subst (λ h. IsOrdered side (curve t) h) (sym height) ordered) in
             absurd (inside_not_within side o b (on_curve curve t) crossed level))
       ];
       on = on;
-      own_within = λ i after before. subst (λ h. IsWithin side o (on_curve curve i) (record { place = b.place; height = h })) (sym on)
+      own_within =
+          λ i after before. subst (λ h. IsWithin side o (on_curve curve i) (record { place = b.place; height = h })) (sym on)
           (state.apart.apart i b.place after before later near);
       others_beyond = λ j after upto. other_within side o (on_curve other j) b (edge.before j after upto);
       others_after = λ j past upto. other_inside side o (on_curve other j) b (edge.beyond j past upto);
@@ -81,7 +83,8 @@ corner_of {side} {curve} {other} {t} {s} {o} {b} state ordered crossed =
 -- the chain with the new point is that point alone, and stays so
 own_moves : {side : Side} {curve other : ℕ → ℕ} {t s : ℕ} {o b : Point} (own : List Point)
     → IsChain side curve t o own → IsCorner side curve other t s o b → IsChain side curve t b own
-own_moves {other} {s} [] at_end corner = let one = corner.later in let two = corner.before_new in absurd (omega (arith, at_end, one, two))
+own_moves {other} {s} [] at_end corner = let one = corner.later in let two =
+    corner.before_new in absurd (omega (arith, at_end, one, two))
 own_moves {side} {curve} {other} {t} {s} {o} {b} (p ∷ rest) chain corner =
     let edge = chain.0 in
     let later = edge.later in
@@ -89,13 +92,15 @@ own_moves {side} {curve} {other} {t} {s} {o} {b} (p ∷ rest) chain corner =
     let on = edge.on in
     let gone = corner.before_new in
     elim (cases_lt p.place t) [
-      | inl lt ↦ (let within_p : IsWithin side o p b = subst (λ h. IsWithin side o (record { place = p.place; height = h }) b) (sym on) (corner.own_within p.place later lt) in
+      | inl lt ↦ (let within_p : IsWithin side o p b =
+          subst (λ h. IsWithin side o (record { place = p.place; height = h }) b) (sym on) (corner.own_within p.place later lt) in
           let seen : Seen = record { from = o; first = on_curve curve t; second = p; third = b } in
           let new = inside_within side seen corner.later (edge.beyond t lt (omega arith)) within_p in
           absurd (inside_not_within side o b (on_curve curve t) corner.crossed (inside_weaker side o (on_curve curve t) b new)))
       | inr ge ↦ (let at : p.place ≡ t = omega (arith, ge, near) in
           let is : p ≡ on_curve curve t = is_on_curve curve p on ∙ ap (on_curve curve) at in
-          let out : IsWithin side o b p = subst (λ q. IsWithin side o b q) (sym is) (inside_weaker side o b (on_curve curve t) corner.crossed) in (
+          let out : IsWithin side o b p =
+          subst (λ q. IsWithin side o b q) (sym is) (inside_weaker side o b (on_curve curve t) corner.crossed) in (
             record {
               later = omega (arith, at, gone);
               near = near;
@@ -163,7 +168,8 @@ uncrossed_within {side} {curve} {other} {t} {o} {others = b ∷ rest} state un j
     let seen : Seen = record { from = o; first = on_curve curve t; second = b; third = on_curve other j } in
     within_within side seen later un
     (elim (cases_lt b.place j) [
-      | inl beyond ↦ inside_weaker side o b (on_curve other j) (other_inside side o (on_curve other j) b (edge.beyond j beyond upto))
+      | inl beyond ↦
+          inside_weaker side o b (on_curve other j) (other_inside side o (on_curve other j) b (edge.beyond j beyond upto))
       | inr before ↦ other_within side o (on_curve other j) b (edge.before j after before)
     ])
 
@@ -175,6 +181,7 @@ apart_again {side} {curve} {other} {t} {s} {o} {own} state un = record {
       elim (cases_lt i t) [
         | inl old ↦ state.apart.apart i j i_after old j_after j_upto
         | inr new ↦ (let e : t ≡ i = omega (arith, new, i_before) in
-            subst (λ k. IsWithin side o (on_curve curve k) (on_curve other j)) e (uncrossed_within {own = own} state un j j_after j_upto))
+            subst (λ k. IsWithin side o (on_curve curve k) (on_curve other j)) e
+            (uncrossed_within {own = own} state un j j_after j_upto))
       ];
 }

@@ -9,7 +9,8 @@ use Rattle.taut_plan.proofs.SlopeLaws.{Seen, SeenCorner, within_within, within_i
 
 -- A chain up to place s that place s + 1 is to join: beyond its last point, place s + 1 is the furthest out.
 abbrev pub IsOpen : Side → (ℕ → ℕ) → ℕ → Point → List Point → Type 0
-IsOpen side curve s o [] = (o.place ≤ s) × ((j : ℕ) → o.place < j → j ≤ s → IsWithin side o (on_curve curve j) (on_curve curve (s + 1)))
+IsOpen side curve s o [] =
+    (o.place ≤ s) × ((j : ℕ) → o.place < j → j ≤ s → IsWithin side o (on_curve curve j) (on_curve curve (s + 1)))
 IsOpen side curve s o (p ∷ rest) = IsFurthest side curve s o p × IsOpen side curve s p rest
 
 pub chain_opens : (side : Side) (curve : ℕ → ℕ) (s : ℕ) (o : Point) (chain : List Point)
@@ -36,7 +37,8 @@ open_pops read o [] q open_ out =
       λ j after upto.
           let seen : Seen = record { from = o; first = on_curve curve j; second = q; third = on_curve curve (s + 1) } in
           elim (cases_lt q.place j) [
-            | inl beyond ↦ within_within side seen later (inside_weaker side o (on_curve curve j) q (edge.beyond j beyond upto)) out
+            | inl beyond ↦
+                within_within side seen later (inside_weaker side o (on_curve curve j) q (edge.beyond j beyond upto)) out
             | inr before ↦ within_within side seen later (edge.before j after before) out
           ],
     )
@@ -54,7 +56,10 @@ open_joins_alone side curve s o open_ =
         near = omega arith;
         on = refl;
         before = λ j after upto. elim (cases_lt s j) [
-          | inl past ↦ let e : s + 1 ≡ j = omega (arith, past, upto) in subst (λ i. IsWithin side o (on_curve curve i) (on_curve curve (s + 1))) e (within_itself side o (on_curve curve (s + 1)))
+          | inl past ↦ let e : s + 1 ≡ j =
+              omega (arith, past, upto) in
+              subst (λ i. IsWithin side o (on_curve curve i) (on_curve curve (s + 1))) e
+              (within_itself side o (on_curve curve (s + 1)))
           | inr within ↦ open_.1 j after within
         ];
         beyond = λ j past upto. absurd (omega (arith, past, upto));
@@ -88,7 +93,8 @@ turns_before {side} {curve} {s} {o} {p} (x ∷ rest) edge open_ turns =
       one_beyond = omega (arith, two);
       other_beyond = omega (arith, two, three);
     } in
-    turns_on side seen (omega (arith, two, three)) (subst (λ y. IsInside side o (record { place = x.place; height = y }) p) (sym same) beyond) turns
+    turns_on side seen (omega (arith, two, three))
+    (subst (λ y. IsInside side o (record { place = x.place; height = y }) p) (sym same) beyond) turns
 
 -- the edge of a point that place s + 1 stands inside of goes on
 longer : {side : Side} {curve : ℕ → ℕ} {s : ℕ} {o p : Point} → IsFurthest side curve s o p

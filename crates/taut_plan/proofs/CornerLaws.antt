@@ -127,7 +127,8 @@ rise_of_corner {lo} {hi} {t} {s} {o} {b} corner newest above below up ordered =
             let same : t - o.place ≡ i = omega (arith, at) in
             let height : lo t * n ≤ hi t * n = mul-le-mul_right n ordered in
             let all : o.height * n + (t - o.place) * (b.height - o.height) < hi t * n = omega (arith, leaves, height) in
-            subst (λ p. o.height * n + i * (b.height - o.height) < hi p * n) at (subst (λ j. o.height * n + j * (b.height - o.height) < hi t * n) same all))
+            subst (λ p. o.height * n + i * (b.height - o.height)
+            < hi p * n) at (subst (λ j. o.height * n + j * (b.height - o.height) < hi t * n) same all))
       ];
     }
 
@@ -165,7 +166,9 @@ fall_of_corner {lo} {hi} {t} {s} {o} {b} corner newest above below up ordered =
             let same : t - o.place ≡ i = omega (arith, at) in
             let height : lo t * n ≤ hi t * n = mul-le-mul_right n ordered in
             let all : lo t * n < o.height * n + (t - o.place) * (b.height - o.height) = omega (arith, leaves, height) in
-            subst (λ p. lo p * n < o.height * n + i * (b.height - o.height)) at (subst (λ j. lo t * n < o.height * n + j * (b.height - o.height)) same all))
+            subst (λ p. lo p * n
+            < o.height * n
+            + i * (b.height - o.height)) at (subst (λ j. lo t * n < o.height * n + j * (b.height - o.height)) same all))
       ];
     }
 
@@ -223,14 +226,16 @@ path_bends {side} {lo} {hi} {from} {n} {t} {s} {o} {b} {segments} band new path 
     stands_above : (side : Side) (lo hi : ℕ → ℕ) → IsBand lo hi from n → IsNewPlace n t s o
         → IsCorner side (curve_on lo hi side) (curve_on lo hi (other_side side)) t s o b → lo b.place ≤ b.height
     stands_above Lower lo hi band new corner =
-        let near = corner.near in let on = corner.on in let le = band.ordered b.place (omega (arith, near, new.not_past, new.fits)) in omega (arith, on, le)
+        let near = corner.near in let on = corner.on in let le =
+        band.ordered b.place (omega (arith, near, new.not_past, new.fits)) in omega (arith, on, le)
     stands_above Upper lo hi band new corner = let on = corner.on in omega (arith, on)
 
     stands_below : (side : Side) (lo hi : ℕ → ℕ) → IsBand lo hi from n → IsNewPlace n t s o
         → IsCorner side (curve_on lo hi side) (curve_on lo hi (other_side side)) t s o b → b.height ≤ hi b.place
     stands_below Lower lo hi band new corner = let on = corner.on in omega (arith, on)
     stands_below Upper lo hi band new corner =
-        let near = corner.near in let on = corner.on in let le = band.ordered b.place (omega (arith, near, new.not_past, new.fits)) in omega (arith, on, le)
+        let near = corner.near in let on = corner.on in let le =
+        band.ordered b.place (omega (arith, near, new.not_past, new.fits)) in omega (arith, on, le)
 
     goes : (side : Side) (lo hi : ℕ → ℕ) → IsPath lo hi from o segments → lo t ≤ hi t → o.height ≤ b.height
         → IsCorner side (curve_on lo hi side) (curve_on lo hi (other_side side)) t s o b
@@ -260,14 +265,18 @@ path_ends {lo} {hi} {from} {n} {o} {segments} band past path keeps =
     let s = segment_to o (on_curve hi n) in
     let slots = path.slots in
     let bytes = path.bytes in
-    let on_high : o.height + (hi n - o.height) ≡ hi (o.place + d) = let e : o.height + (hi n - o.height) ≡ hi n = omega (arith, rises) in e ∙ ap hi (sym end) in
-    let on_low : o.height + (hi n - o.height) ≡ lo (o.place + d) = let e : o.height + (hi n - o.height) ≡ hi n = omega (arith, rises) in e ∙ (sym band.meet ∙ ap lo (sym end)) in
+    let on_high : o.height + (hi n - o.height) ≡ hi (o.place + d) =
+    let e : o.height + (hi n - o.height) ≡ hi n = omega (arith, rises) in e ∙ ap hi (sym end) in
+    let on_low : o.height + (hi n - o.height) ≡ lo (o.place + d) = let e : o.height + (hi n - o.height) ≡ hi n =
+    omega (arith, rises) in e ∙ (sym band.meet ∙ ap lo (sym end)) in
     let above : (i : ℕ) → i ≤ d → lo (o.place + i) * d ≤ o.height * d + i * (hi n - o.height) = λ i upto. elim (cases_lt 0 i) [
-      | inl pos ↦ line_above lo o (on_curve hi n) i rises (keeps.apart n (o.place + i) past (omega arith) (omega (arith, pos)) (omega (arith, upto, end)))
+      | inl pos ↦ line_above lo o (on_curve hi n) i rises
+          (keeps.apart n (o.place + i) past (omega arith) (omega (arith, pos)) (omega (arith, upto, end)))
       | inr none ↦ starts_above lo o.place (ray_to o (on_curve hi n)) i none path.above
     ] in
     let under : (i : ℕ) → i ≤ d → o.height * d + i * (hi n - o.height) ≤ hi (o.place + i) * d = λ i upto. elim (cases_lt 0 i) [
-      | inl pos ↦ line_below hi o (on_curve hi n) i rises (subst (λ h. IsWithin Lower o (record { place = n; height = h }) (on_curve hi (o.place + i))) band.meet
+      | inl pos ↦ line_below hi o (on_curve hi n) i rises
+          (subst (λ h. IsWithin Lower o (record { place = n; height = h }) (on_curve hi (o.place + i))) band.meet
           (keeps.apart (o.place + i) n (omega (arith, pos)) (omega (arith, upto, end)) past (omega arith)))
       | inr none ↦ starts_below hi o.place (ray_to o (on_curve hi n)) i none below
     ] in
@@ -277,8 +286,22 @@ path_ends {lo} {hi} {from} {n} {o} {segments} band past path keeps =
       bytes = let e = sum_by_push (λ (x : Segment). x.bytes) segments s in omega (arith, e, bytes, rises);
       runs = path.goes_on.on (s ∷ []) (
         some,
-        record { far = d; later = some; touches = (let e : (o.height + (hi n - o.height)) * d ≡ lo (o.place + d) * d = ap (λ h. h * d) on_low in omega (arith, e)); free = under },
-        record { far = d; later = some; touches = (let e : (o.height + (hi n - o.height)) * d ≡ hi (o.place + d) * d = ap (λ h. h * d) on_high in omega (arith, e)); free = above },
+        record {
+          far = d;
+          later = some;
+          touches =
+              (let e : (o.height + (hi n - o.height)) * d ≡ lo (o.place + d) * d =
+              ap (λ h. h * d) on_low in omega (arith, e));
+          free = under;
+        },
+        record {
+          far = d;
+          later = some;
+          touches =
+              (let e : (o.height + (hi n - o.height)) * d ≡ hi (o.place + d) * d =
+              ap (λ h. h * d) on_high in omega (arith, e));
+          free = above;
+        },
       )
           (record { some = some; above = above; below = under }, tt, tt);
     }

@@ -20,12 +20,14 @@ use Rattle.taut_plan.proofs.WholeLaws.{ends_at, taut_of_whole, best_of_whole}
 -- which of two points stands further out
 further : (side : Side) (o a b : Point) → IsInside side o a b ⊎ IsWithin side o b a
 further Lower o a b =
-    elim (cases_lt ((b.place - o.place) * a.height + (a.place - o.place) * o.height) ((b.place - o.place) * o.height + (a.place - o.place) * b.height)) [
+    elim (cases_lt ((b.place - o.place) * a.height + (a.place - o.place) * o.height)
+    ((b.place - o.place) * o.height + (a.place - o.place) * b.height)) [
       | inl less ↦ inl less
       | inr not_less ↦ inr (omega (arith, not_less))
     ]
 further Upper o a b =
-    elim (cases_lt ((a.place - o.place) * b.height + (b.place - o.place) * o.height) ((a.place - o.place) * o.height + (b.place - o.place) * a.height)) [
+    elim (cases_lt ((a.place - o.place) * b.height + (b.place - o.place) * o.height)
+    ((a.place - o.place) * o.height + (b.place - o.place) * a.height)) [
       | inl less ↦ inl less
       | inr not_less ↦ inr (omega (arith, not_less))
     ]
@@ -38,7 +40,8 @@ record HasEnd (points : List Point) : Type 0 where
 
 has_end : (p : Point) (rest : List Point) → HasEnd (p ∷ rest)
 has_end p [] = record { front = []; last = p; is = refl }
-has_end p (x ∷ rest) = let e = has_end x rest in record { front = p ∷ e.front; last = e.last; is = ap (λ (l : List Point). p ∷ l) e.is }
+has_end p (x ∷ rest) = let e =
+    has_end x rest in record { front = p ∷ e.front; last = e.last; is = ap (λ (l : List Point). p ∷ l) e.is }
 
 record IsJoined (side : Side) (curve : ℕ → ℕ) (s : ℕ) (o : Point) : Type 0 where
   chain : List Point
@@ -46,15 +49,23 @@ record IsJoined (side : Side) (curve : ℕ → ℕ) (s : ℕ) (o : Point) : Type
 
 joins : {side : Side} {curve : ℕ → ℕ} {s : ℕ} {o : Point} (n : ℕ) (chain : List Point) → length chain ≤ n
     → IsOpen side curve s o chain → IsJoined side curve s o
-joins {side} {curve} {s} {o} zero [] few open_ = record { chain = on_curve curve (s + 1) ∷ []; is = open_joins_alone side curve s o open_ }
+joins {side} {curve} {s} {o} zero [] few open_ =
+    record { chain = on_curve curve (s + 1) ∷ []; is = open_joins_alone side curve s o open_ }
 joins {s} zero (p ∷ rest) few open_ = let bad : ⊥ = omega (arith, few) in absurd bad
-joins {side} {curve} {s} {o} (suc n) [] few open_ = record { chain = on_curve curve (s + 1) ∷ []; is = open_joins_alone side curve s o open_ }
+joins {side} {curve} {s} {o} (suc n) [] few open_ =
+    record { chain = on_curve curve (s + 1) ∷ []; is = open_joins_alone side curve s o open_ }
 joins {side} {curve} {s} {o} (suc n) (p ∷ rest) few open_ =
     let e = has_end p rest in
     let same : IsOpen side curve s o (e.front ++ e.last ∷ []) = subst (IsOpen side curve s o) e.is open_ in
     elim (further side (last_point o e.front) (on_curve curve (s + 1)) e.last) [
-      | inl turns ↦ record { chain = (e.front ++ e.last ∷ []) ++ on_curve curve (s + 1) ∷ []; is = (open_joins e.front e.last same turns).joined }
-      | inr out ↦ joins n e.front (omega (arith, few, ap length e.is, length-append e.front (e.last ∷ []))) (open_pops (record { side = side; curve = curve; last = s }) o e.front e.last same out)
+      | inl turns ↦
+          record {
+            chain = (e.front ++ e.last ∷ []) ++ on_curve curve (s + 1) ∷ [];
+            is =
+                (open_joins e.front e.last same turns).joined;
+          }
+      | inr out ↦ joins n e.front (omega (arith, few, ap length e.is, length-append e.front (e.last ∷ [])))
+          (open_pops (record { side = side; curve = curve; last = s }) o e.front e.last same out)
     ]
 
 -- ---- one side takes in the next slot's end
@@ -86,8 +97,10 @@ crosses {side} {lo} {hi} {from} {n} {t} {s} {o} {segments} {own} {others = corne
     elim (further side o corner point) [
       | inl out ↦ (
           let crossed : IsCrossed side o (corner ∷ rest) point corner = record { rest = rest; is = refl; crossed = out } in
-          let bent = bends_at {left = rest} band path state (record { point = point; point_is = refl; fits = fits; crossed = crossed; left_is = refl }) in
-          crosses {side = side} {lo = lo} {hi = hi} {from = from} {n = n} {t = t} {s = s} {o = corner} {segments = segments ++ segment_to o corner ∷ []} {own = own} {others = rest} band fits bent.path bent.crossing
+          let bent = bends_at {left = rest} band path state
+          (record { point = point; point_is = refl; fits = fits; crossed = crossed; left_is = refl }) in
+          crosses {side = side} {lo = lo} {hi = hi} {from = from} {n = n} {t = t} {s = s} {o = corner}
+          {segments = segments ++ segment_to o corner ∷ []} {own = own} {others = rest} band fits bent.path bent.crossing
           )
       | inr within ↦ record {
         apex = o;
@@ -168,7 +181,8 @@ reaches {lo} {hi} {from} {n} {slot = suc slot} band fits =
 
 -- the taut list, and no other one is taut
 pub one_taut : (from : ℕ) (low up : List ℕ) → IsSound from low up
-    → (segments : List Segment) × (IsTaut from low up segments × ((others : List Segment) → IsTaut from low up others → others ≡ segments))
+    → (segments : List Segment)
+    × (IsTaut from low up segments × ((others : List Segment) → IsTaut from low up others → others ≡ segments))
 one_taut from low up sound =
     let lo = bound_at from low in
     let hi = bound_at from up in

@@ -62,13 +62,15 @@ open_fits : {curve : ℕ → ℕ} {s : ℕ} {o q : Point} (side : Side) (front :
     → EdgeFits (last_point o front) q
 open_fits {s} side [] open_ o_fits all = record { begins = o_fits; ends = furthest_fits open_.0 all }
 open_fits {curve} {s} {o} {q} side (p ∷ front) open_ o_fits all =
-    open_fits {curve = curve} {s = s} {o = p} {q = q} side front open_.1 (furthest_fits {side = side} {curve = curve} {last = s} {o = o} {p = p} open_.0 all) all
+    open_fits {curve = curve} {s = s} {o = p} {q = q} side front open_.1
+    (furthest_fits {side = side} {curve = curve} {last = s} {o = o} {p = p} open_.0 all) all
 
 pub edges_fit : {curve : ℕ → ℕ} {o : Point} {chain : List Point} {point : Point} (side : Side) (s : ℕ)
     → point ≡ on_curve curve (s + 1) → IsOpen side curve s o chain → Fits o
     → ((j : ℕ) → j ≤ s + 1 → Fits (on_curve curve j)) → EdgesFit o chain point
 edges_fit {curve} {o} {chain} {point} side s is open_ o_fits all first second edge =
-    let both = open_fits side edge.front (subst (IsOpen side curve s o) edge.is open_) o_fits (λ j le. all j (omega (arith, le))) in
+    let both = open_fits side edge.front (subst (IsOpen side curve s o) edge.is open_) o_fits
+    (λ j le. all j (omega (arith, le))) in
     record {
       begins = subst Fits (sym edge.begins) both.begins;
       passes = both.ends;

@@ -42,7 +42,8 @@ ordered_on Lower lo hi t le = le
 ordered_on Upper lo hi t le = le
 
 -- what a bend keeps and gives
-pub record IsBent (side : Side) (lo hi : ℕ → ℕ) (from t s : ℕ) (o corner : Point) (segments : List Segment) (own others : List Point) : Type 0 where
+pub record IsBent (side : Side) (lo hi : ℕ → ℕ) (from t s : ℕ) (o corner : Point) (segments : List Segment)
+    (own others : List Point) : Type 0 where
   pub later : o.place ≤ corner.place
   pub higher : o.height ≤ corner.height
   pub path : IsPath lo hi from corner (segments ++ segment_to o corner ∷ [])
@@ -64,10 +65,12 @@ pub bends_at : {side : Side} {lo hi : ℕ → ℕ} {from n t s : ℕ} {o corner 
     → IsBent side lo hi from t s o corner segments own left
 bends_at {side} {lo} {hi} {from} {n} {t} {s} {o} {corner} {own} {left} band path state way =
     let crossed = way.crossed in
-    let new : IsNewPlace n t s o = record { fits = way.fits; newest = state.newest; not_past = state.not_past; beyond = state.beyond } in
+    let new : IsNewPlace n t s o =
+    record { fits = way.fits; newest = state.newest; not_past = state.not_past; beyond = state.beyond } in
     let state' : IsCrossing side (curve_on lo hi side) (curve_on lo hi (other_side side)) t s o own (corner ∷ crossed.rest) =
     subst (IsCrossing side (curve_on lo hi side) (curve_on lo hi (other_side side)) t s o own) crossed.is state in
-    let out : IsInside side o corner (on_curve (curve_on lo hi side) t) = subst (λ p. IsInside side o corner p) way.point_is crossed.crossed in
+    let out : IsInside side o corner (on_curve (curve_on lo hi side) t) =
+    subst (λ p. IsInside side o corner p) way.point_is crossed.crossed in
     let there = corner_of state' (ordered_on side lo hi t (band.ordered t way.fits)) out in
     let e : left ≡ crossed.rest = way.left_is ∙ ap (drop 1) crossed.is in
     let later = there.later in
@@ -108,6 +111,7 @@ funnel_turns {side} {curve} {other} {t} {s} {o} {own} {others} funnel = record {
   others = other_twice side curve t o own funnel.own;
   keeps = record {
     apart = λ i j i_after i_before j_after j_upto.
-        other_of_within side o (on_curve other i) (on_curve curve j) (funnel.keeps.apart j i j_after (omega (arith, j_upto)) i_after (omega (arith, i_before)));
+        other_of_within side o (on_curve other i) (on_curve curve j)
+        (funnel.keeps.apart j i j_after (omega (arith, j_upto)) i_after (omega (arith, i_before)));
   };
 }

@@ -69,7 +69,8 @@ record IsMetBy (bend : Bend) (far : ℕ) : Type 0 where
   pub within : bend.first.slots + at ≤ far
 
 steeper_at : {lo hi : ℕ → ℕ} (bend : Bend) (rise : IsRise lo hi bend.place bend.height bend.first) (met : IsMetBy bend rise.far)
-    → hi (bend.place + bend.first.slots + met.at) * bend.next.slots ≤ (bend.height + bend.first.bytes) * bend.next.slots + met.at * bend.next.bytes
+    → hi (bend.place + bend.first.slots + met.at) * bend.next.slots
+    ≤ (bend.height + bend.first.bytes) * bend.next.slots + met.at * bend.next.bytes
     → IsBelow (slope_of bend.first) (slope_of bend.next)
 steeper_at {hi} bend rise met touches =
     let i = met.at in
@@ -79,7 +80,8 @@ steeper_at {hi} bend rise met touches =
     open bend use {place as k, height as v, first as s, next}
 
 flatter_at : {lo hi : ℕ → ℕ} (bend : Bend) (fall : IsFall lo hi bend.place bend.height bend.first) (met : IsMetBy bend fall.far)
-    → (bend.height + bend.first.bytes) * bend.next.slots + met.at * bend.next.bytes ≤ lo (bend.place + bend.first.slots + met.at) * bend.next.slots
+    → (bend.height + bend.first.bytes) * bend.next.slots + met.at * bend.next.bytes
+    ≤ lo (bend.place + bend.first.slots + met.at) * bend.next.slots
     → IsBelow (slope_of bend.next) (slope_of bend.first)
 flatter_at {lo} bend fall met touches =
     let i = met.at in
@@ -102,8 +104,11 @@ rise_bends {lo} {hi} {k} {v} {s} (next ∷ rest) rise one =
       elim (cases_lt rise.far (s.slots + meets.far)) [
         | inl past ↦ steeper_by bend i (lo (k + rise.far))
             (subst (λ f. v * s.slots + f * s.bytes < lo (k + rise.far) * s.slots) (sym is) rise.leaves)
-            (subst (λ h. h * next.slots ≤ (v + s.bytes) * next.slots + i * next.bytes) (offsets lo k s.slots i ∙ ap (λ f. lo (k + f)) is) (meets.free i (omega (arith, past, later))))
-        | inr within ↦ steeper_at {lo = lo} {hi = hi} bend rise (record { at = meets.far; later = meets.later; within = within }) meets.touches
+            (subst (λ h. h * next.slots ≤ (v + s.bytes) * next.slots + i * next.bytes)
+            (offsets lo k s.slots i ∙ ap (λ f. lo (k + f)) is) (meets.free i (omega (arith, past, later))))
+        | inr within ↦
+            steeper_at {lo = lo} {hi = hi} bend rise
+            (record { at = meets.far; later = meets.later; within = within }) meets.touches
       ],
       rise.on,
     )
@@ -122,8 +127,11 @@ fall_bends {lo} {hi} {k} {v} {s} (next ∷ rest) fall one =
       elim (cases_lt fall.far (s.slots + meets.far)) [
         | inl past ↦ flatter_by bend i (hi (k + fall.far))
             (subst (λ f. hi (k + fall.far) * s.slots < v * s.slots + f * s.bytes) (sym is) fall.leaves)
-            (subst (λ h. (v + s.bytes) * next.slots + i * next.bytes ≤ h * next.slots) (offsets hi k s.slots i ∙ ap (λ f. hi (k + f)) is) (meets.free i (omega (arith, past, later))))
-        | inr within ↦ flatter_at {lo = lo} {hi = hi} bend fall (record { at = meets.far; later = meets.later; within = within }) meets.touches
+            (subst (λ h. (v + s.bytes) * next.slots + i * next.bytes ≤ h * next.slots)
+            (offsets hi k s.slots i ∙ ap (λ f. hi (k + f)) is) (meets.free i (omega (arith, past, later))))
+        | inr within ↦
+            flatter_at {lo = lo} {hi = hi} bend fall
+            (record { at = meets.far; later = meets.later; within = within }) meets.touches
       ],
       fall.on,
     )
@@ -138,12 +146,14 @@ rise_slope {lo} {hi} {k} {v} {s} rest rise =
         far = rise.far;
         later = omega (arith, later);
         touches = let h = rise.leaves in omega (arith, h);
-        free = λ i near. elim (cases_lt s.slots i) [ inl beyond ↦ (let h = rise.free i beyond near in omega (arith, h)) | inr before ↦ rise.below i before ];
+        free = λ i near. elim (cases_lt s.slots i)
+            [ inl beyond ↦ (let h = rise.free i beyond near in omega (arith, h)) | inr before ↦ rise.below i before ];
       },
       record {
         far = s.slots;
         later = rise.some;
-        touches = let e : (v + s.bytes) * s.slots ≡ hi (k + s.slots) * s.slots = ap (λ h. h * s.slots) rise.on in omega (arith, e);
+        touches = let e : (v + s.bytes) * s.slots ≡ hi (k + s.slots) * s.slots =
+            ap (λ h. h * s.slots) rise.on in omega (arith, e);
         free = rise.above;
       },
     )
@@ -156,14 +166,16 @@ fall_slope {lo} {k} {v} {s} rest fall =
       record {
         far = s.slots;
         later = fall.some;
-        touches = let e : (v + s.bytes) * s.slots ≡ lo (k + s.slots) * s.slots = ap (λ h. h * s.slots) fall.on in omega (arith, e);
+        touches = let e : (v + s.bytes) * s.slots ≡ lo (k + s.slots) * s.slots =
+            ap (λ h. h * s.slots) fall.on in omega (arith, e);
         free = fall.below;
       },
       record {
         far = fall.far;
         later = omega (arith, later);
         touches = let h = fall.leaves in omega (arith, h);
-        free = λ i near. elim (cases_lt s.slots i) [ inl beyond ↦ (let h = fall.free i beyond near in omega (arith, h)) | inr before ↦ fall.above i before ];
+        free = λ i near. elim (cases_lt s.slots i)
+            [ inl beyond ↦ (let h = fall.free i beyond near in omega (arith, h)) | inr before ↦ fall.above i before ];
       },
     )
 

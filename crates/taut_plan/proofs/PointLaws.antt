@@ -38,10 +38,12 @@ pub lower_test : {r : Bool} (first middle last : Point) → first.place ≤ midd
     → (IsTrue r ↔ (weight first middle last < chord first middle last))
     → MatchBool r (IsInside Lower first middle last) (IsWithin Lower first last middle)
 lower_test {r = true} first middle last begins ends is = below first middle last begins ends (is.0 refl)
-lower_test {r = false} first middle last begins ends is = not_below first middle last begins ends (untrue (weight first middle last) (chord first middle last) is)
+lower_test {r = false} first middle last begins ends is =
+    not_below first middle last begins ends (untrue (weight first middle last) (chord first middle last) is)
 
 pub upper_test : {r : Bool} (first middle last : Point) → first.place ≤ middle.place → middle.place ≤ last.place
     → (IsTrue r ↔ (chord first middle last < weight first middle last))
     → MatchBool r (IsInside Upper first middle last) (IsWithin Upper first last middle)
 upper_test {r = true} first middle last begins ends is = above first middle last begins ends (is.0 refl)
-upper_test {r = false} first middle last begins ends is = not_above first middle last begins ends (untrue (chord first middle last) (weight first middle last) is)
+upper_test {r = false} first middle last begins ends is =
+    not_above first middle last begins ends (untrue (chord first middle last) (weight first middle last) is)

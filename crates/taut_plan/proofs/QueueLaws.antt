@@ -10,7 +10,8 @@ at_place : {place : ℕ} {p : Point} (points : List Point) (passed i : ℕ) → 
 at_place {place} {p} points passed i at is =
     is ∙ sym (get_or-drop passed points i p ∙ ap (λ j. get_or points j p) at)
 
-pub edge_of_two : {o : Point} {count : ℕ} {first second : Point} (points : List Point) (passed : ℕ) → count ≡ length points → passed + 2 ≤ count
+pub edge_of_two : {o : Point} {count : ℕ} {first second : Point} (points : List Point) (passed : ℕ)
+    → count ≡ length points → passed + 2 ≤ count
     → first ≡ get_or points (count - 2) first → second ≡ get_or points (count - 1) second
     → IsLastEdge o (drop passed points) first second
 edge_of_two {count} {first} {second} points passed all many is_first is_second =
@@ -20,7 +21,8 @@ edge_of_two {count} {first} {second} points passed all many is_first is_second =
     (at_place points passed b (omega (arith, many)) is_first)
     (at_place points passed (b + 1) (omega (arith, many)) is_second)
 
-pub edge_of_last : {o : Point} {count : ℕ} {second : Point} (points : List Point) (passed : ℕ) → count ≡ length points → passed + 1 ≡ count
+pub edge_of_last : {o : Point} {count : ℕ} {second : Point} (points : List Point) (passed : ℕ)
+    → count ≡ length points → passed + 1 ≡ count
     → second ≡ get_or points (count - 1) second → IsLastEdge o (drop passed points) o second
 edge_of_last {o} {second} points passed all one is_second =
     let left = length-drop passed points in

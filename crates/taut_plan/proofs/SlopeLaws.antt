@@ -29,7 +29,8 @@ le_le seen pos a b =
     let all : p * (r * y + i * v) ≤ p * (r * v + i * z) = omega (arith, one, two) in
     le_of_mul-le-mul_left all pos
   where
-    open seen use {height as v, first.{place as i, height as y}, second.{place as p, height as h}, third.{place as r, height as z}}
+    open seen use
+        {height as v, first.{place as i, height as y}, second.{place as p, height as h}, third.{place as r, height as z}}
 
 le_lt : (seen : Ahead) → 0 < seen.first.place → IsFlatAs seen.height seen.first seen.second
     → IsFlatter seen.height seen.second seen.third → IsFlatter seen.height seen.first seen.third
@@ -39,7 +40,8 @@ le_lt seen pos a b =
     let all : p * (r * y + i * v) < p * (r * v + i * z) = omega (arith, one, two) in
     lt_of_mul-lt-mul_left p all
   where
-    open seen use {height as v, first.{place as i, height as y}, second.{place as p, height as h}, third.{place as r, height as z}}
+    open seen use
+        {height as v, first.{place as i, height as y}, second.{place as p, height as h}, third.{place as r, height as z}}
 
 lt_le : (seen : Ahead) → 0 < seen.third.place → IsFlatter seen.height seen.first seen.second
     → IsFlatAs seen.height seen.second seen.third → IsFlatter seen.height seen.first seen.third
@@ -49,7 +51,8 @@ lt_le seen pos a b =
     let all : p * (r * y + i * v) < p * (r * v + i * z) = omega (arith, one, two) in
     lt_of_mul-lt-mul_left p all
   where
-    open seen use {height as v, first.{place as i, height as y}, second.{place as p, height as h}, third.{place as r, height as z}}
+    open seen use
+        {height as v, first.{place as i, height as y}, second.{place as p, height as h}, third.{place as r, height as z}}
 
 -- a point ahead of a height by its offset, and two more by their offsets from that point
 record Turn : Type 0 where
@@ -191,9 +194,11 @@ pub turns_on : (side : Side) (seen : SeenCorner) → seen.corner.place < seen.ot
     → IsInside side seen.from seen.one seen.corner → IsInside side seen.corner seen.other seen.one
     → IsInside side seen.from seen.other seen.corner
 turns_on Lower seen past a b =
-    rw (other_offset seen) (falls_on (turn_of seen) (omega (arith, seen.ahead)) (omega (arith, past)) (rw (one_offset seen) at a) b)
+    rw (other_offset seen)
+    (falls_on (turn_of seen) (omega (arith, seen.ahead)) (omega (arith, past)) (rw (one_offset seen) at a) b)
 turns_on Upper seen past a b =
-    rw (other_offset seen) (rises_on (turn_of seen) (omega (arith, seen.ahead)) (omega (arith, past)) (rw (one_offset seen) at a) b)
+    rw (other_offset seen)
+    (rises_on (turn_of seen) (omega (arith, seen.ahead)) (omega (arith, past)) (rw (one_offset seen) at a) b)
 
 -- seen from the corner, a point that stood within the ray to it is within one that the ray to it stood within
 pub turns_apart : (side : Side) (seen : SeenCorner) → IsWithin side seen.from seen.one seen.corner

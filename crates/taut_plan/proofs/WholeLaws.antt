@@ -33,13 +33,15 @@ ends_at {lo} {hi} {from} {n} {slot} {o} {segments} {lower} {upper} {point} band 
     let turned = funnel_turns funnel' in
     record {
       higher = subst (λ (p : Point). o.height ≤ p.height) (sym is) (path_rises band past' path);
-      whole = subst (λ p. IsTautPath lo hi from n (segments ++ segment_to o p ∷ [])) (sym is) (path_ends band past' path turned.keeps);
+      whole = subst (λ p. IsTautPath lo hi from n (segments ++ segment_to o p ∷ [])) (sym is)
+          (path_ends band past' path turned.keeps);
     }
 
 none_empty : (lo hi : ℕ → ℕ) (k v : ℕ) (segments : List Segment) → RunsTaut lo hi k v segments
     → All (λ s. 1 ≤ s.slots) segments
 none_empty lo hi k v [] runs = All-nil (λ (s : Segment). 1 ≤ s.slots)
-none_empty lo hi k v (s ∷ rest) runs = All-cons (λ (x : Segment). 1 ≤ x.slots) s rest runs.0.some (none_empty lo hi (k + s.slots) (v + s.bytes) rest runs.2)
+none_empty lo hi k v (s ∷ rest) runs =
+    All-cons (λ (x : Segment). 1 ≤ x.slots) s rest runs.0.some (none_empty lo hi (k + s.slots) (v + s.bytes) rest runs.2)
 
 pub plan_of_whole : (from : ℕ) (low up : List ℕ) (segments : List Segment) → IsSound from low up
     → IsTautPath (bound_at from low) (bound_at from up) from (length low) segments → IsPlan segments
@@ -57,15 +59,18 @@ plan_of_whole from low up segments sound whole =
     }
 
 closed_of_sound : (from : ℕ) (low up : List ℕ) → IsSound from low up → AreClosed low up
-closed_of_sound from low up sound = record { some_slot = sound.some_slot; same_length = sound.same_length; meet = sound.meet_at_end }
+closed_of_sound from low up sound =
+    record { some_slot = sound.some_slot; same_length = sound.same_length; meet = sound.meet_at_end }
 
 pub taut_of_whole : (from : ℕ) (low up : List ℕ) (segments : List Segment) → IsSound from low up
     → IsTautPath (bound_at from low) (bound_at from up) from (length low) segments
     → IsTaut from low up segments
 taut_of_whole from low up segments sound whole =
-    taut_from_runs from segments (closed_of_sound from low up sound) whole.runs whole.slots (whole.bytes ∙ bound_end from up (length low) sound.some_slot)
+    taut_from_runs from segments (closed_of_sound from low up sound) whole.runs whole.slots
+    (whole.bytes ∙ bound_end from up (length low) sound.some_slot)
 
 pub best_of_whole : (from : ℕ) (low up : List ℕ) (segments : List Segment) → IsSound from low up
     → IsTautPath (bound_at from low) (bound_at from up) from (length low) segments
     → IsBestPlan from low up segments
-best_of_whole from low up segments sound whole = best from low up segments (closed_of_sound from low up sound) (taut_of_whole from low up segments sound whole)
+best_of_whole from low up segments sound whole =
+    best from low up segments (closed_of_sound from low up sound) (taut_of_whole from low up segments sound whole)

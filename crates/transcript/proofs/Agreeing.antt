@@ -27,7 +27,8 @@ told_in None = []
 told_in (Some told) = told
 
 served_agrees : (visit : Visit) (old new : Sitting)
-    → HasServedFrom (new_standing visit.films visit.settings visit.report.words) (Some []) (Some visit.told) old new visit.report → IsLegal new.steps new.seen
+    → HasServedFrom (new_standing visit.films visit.settings visit.report.words) (Some []) (Some visit.told) old
+    new visit.report → IsLegal new.steps new.seen
     → Agrees visit (terms_of new) new.seen
 served_agrees visit old new served legal =
     let course = served.course in
@@ -57,7 +58,8 @@ served_agrees visit old new served legal =
     }
 
 connection_agrees : (visit : Visit) (old new : Sitting)
-    → HasServedConnection (new_standing visit.films visit.settings visit.report.words) (Some []) (Some visit.told) old new visit.report
+    → HasServedConnection (new_standing visit.films visit.settings visit.report.words) (Some [])
+    (Some visit.told) old new visit.report
     → (visit.report.end ≡ NoMemory → ⊥) → IsLegal new.steps new.seen → Agrees visit (terms_of new) new.seen
 connection_agrees visit old new (inl served) memory legal = served_agrees visit old new served legal
 connection_agrees visit old new (inr nothing) memory legal = absurd (memory nothing.end)
@@ -74,7 +76,8 @@ pub returned_agrees : {returned : Returned} {old new : Sitting} (visit : Visit) 
     (visit.report.end ≡ NoMemory → ⊥) → Agrees visit (terms_of new) new.seen
 returned_agrees {old} {new} visit one tells memory =
     connection_agrees visit old new
-    (subst (λ t. HasServedConnection (new_standing visit.films visit.settings visit.report.words) (fresh_told t) t old new visit.report) tells one.served)
+    (subst (λ t. HasServedConnection (new_standing visit.films visit.settings visit.report.words) (fresh_told t)
+    t old new visit.report) tells one.served)
     memory (legal_seen one.keeps memory)
 
 -- and with each longer legal journal

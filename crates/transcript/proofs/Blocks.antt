@@ -32,16 +32,19 @@ octets_after o (x ∷ xs) = octets_after (o + octets_of x) xs
 pub blocks-append : (run : Run) (f o : ℕ) (xs ys : List Part)
     → blocks_from run f o (xs ++ ys) ≡ blocks_from run f o xs ++ blocks_from run (frames_after f xs) (octets_after o xs) ys
 blocks-append run f o [] ys = refl
-blocks-append run f o (x ∷ xs) ys = ap (λ bs. piece_bytes run f o x ∷ bs) (blocks-append run (f + count_of x) (o + octets_of x) xs ys)
+blocks-append run f o (x ∷ xs) ys =
+    ap (λ bs. piece_bytes run f o x ∷ bs) (blocks-append run (f + count_of x) (o + octets_of x) xs ys)
 
 -- ---- a unit
 
 abbrev pub frame_block : Run → PictureUnit → Packet → ℕ → List ℕ
 frame_block run unit p f =
-    interleaved_block run.identity.channel (head_bytes (packet_head run.identity (picture_time run.rate) unit p f) ++ payload run.film p)
+    interleaved_block run.identity.channel
+    (head_bytes (packet_head run.identity (picture_time run.rate) unit p f) ++ payload run.film p)
 
 abbrev pub report_block : Run → PictureUnit → ℕ → ℕ → List ℕ
-report_block run unit f o = interleaved_block run.identity.control (report_bytes (unit_report run.identity (picture_time run.rate) unit f o))
+report_block run unit f o =
+    interleaved_block run.identity.control (report_bytes (unit_report run.identity (picture_time run.rate) unit f o))
 
 abbrev pub frame_blocks : Run → PictureUnit → ℕ → List Packet → List (List ℕ)
 frame_blocks run unit f [] = []
@@ -57,7 +60,8 @@ unit_blocks run starts unit f o = report_if unit.starts_group run unit f o ++ fr
 pub record IsMaker (run : Run) (unit : PictureUnit) (make : Packet → Part) : Type 0 where
   pub bytes : (p : Packet) (f o : ℕ) → piece_bytes run f o (make p) ≡ frame_block run unit p f
   pub count : (p : Packet) → count_of (make p) ≡ 1
-  pub among : (p : Packet) (ps : List Part) (b : List ℕ) (bs : List (List ℕ)) → frames_among (make p ∷ ps) (b ∷ bs) ≡ b ∷ frames_among ps bs
+  pub among : (p : Packet) (ps : List Part) (b : List ℕ) (bs : List (List ℕ))
+      → frames_among (make p ∷ ps) (b ∷ bs) ≡ b ∷ frames_among ps bs
 
 frames-made : {run : Run} {unit : PictureUnit} {make : Packet → Part} (f o : ℕ) (packets : List Packet) → IsMaker run unit make
     → blocks_from run f o (map make packets) ≡ frame_blocks run unit f packets
@@ -78,16 +82,19 @@ record ReportPart (run : Run) (unit : PictureUnit) (f o : ℕ) : Type 0 where
 
 with-report : {run : Run} {unit : PictureUnit} {make : Packet → Part} {f o : ℕ} (starts : Bool)
     (part : ReportPart run unit f o) (packets : List Packet) → IsMaker run unit make →
-    blocks_from run f o (cond starts (part.report ∷ []) [] ++ map make packets) ≡ report_if starts run unit f o ++ frame_blocks run unit f packets
+    blocks_from run f o (cond starts (part.report ∷ []) [] ++ map make packets)
+    ≡ report_if starts run unit f o ++ frame_blocks run unit f packets
 with-report {f} {o} false part packets is = frames-made f o packets is
 with-report {run} {unit} {make} {f} {o} true part packets is =
     ap (λ b. b ∷ blocks_from run (f + count_of report) (o + octets_of report) (map make packets)) bytes
-    ∙ (ap (λ n. report_block run unit f o ∷ blocks_from run n (o + octets_of report) (map make packets)) (ap (λ n. f + n) count ∙ plain f)
+    ∙ (ap (λ n. report_block run unit f o ∷ blocks_from run n (o + octets_of report) (map make packets))
+    (ap (λ n. f + n) count ∙ plain f)
     ∙ ap (λ bs. report_block run unit f o ∷ bs) (frames-made f (o + octets_of report) packets is))
   where
     open part use {report, bytes, count}
 
-pub unit-made : (run : Run) (f o : ℕ) (starts : List ℕ) (unit : PictureUnit) → blocks_from run f o (unit_pieces starts unit) ≡ unit_blocks run starts unit f o
+pub unit-made : (run : Run) (f o : ℕ) (starts : List ℕ) (unit : PictureUnit)
+    → blocks_from run f o (unit_pieces starts unit) ≡ unit_blocks run starts unit f o
 unit-made run f o starts unit =
     with-report {run = run} {unit = unit} {make = _} unit.starts_group (record { report = _; bytes = refl; count = refl })
     (unit_packets starts unit) (record { bytes = λ p g n. refl; count = λ p. refl; among = λ p ps b bs. refl })
@@ -96,7 +103,9 @@ unit-made run f o starts unit =
 
 frames-among-made : {run : Run} {unit : PictureUnit} {make : Packet → Part} (f : ℕ) (packets : List Packet)
     (ps : List Part) (bs : List (List ℕ))
-    → IsMaker run unit make → frames_among (map make packets ++ ps) (frame_blocks run unit f packets ++ bs) ≡ frame_blocks run unit f packets ++ frames_among ps bs
+    → IsMaker run unit make
+    → frames_among (map make packets ++ ps) (frame_blocks run unit f packets ++ bs)
+    ≡ frame_blocks run unit f packets ++ frames_among ps bs
 frames-among-made f [] ps bs is = refl
 frames-among-made {run} {unit} {make} f (p ∷ packets) ps bs is =
     is.among p (map make packets ++ ps) (frame_block run unit p f) (frame_blocks run unit (f + 1) packets ++ bs)
@@ -131,7 +140,8 @@ among-report {run} {unit} {make} true uncounted from rest is =
     open from use {frames as f, octets as o, packets}
 
 pub unit-among : (run : Run) (f o : ℕ) (starts : List ℕ) (unit : PictureUnit) (rest : AfterUnit) →
-    frames_among (unit_pieces starts unit ++ rest.parts) (unit_blocks run starts unit f o ++ rest.blocks) ≡ frame_blocks run unit f
+    frames_among (unit_pieces starts unit ++ rest.parts) (unit_blocks run starts unit f o ++ rest.blocks)
+    ≡ frame_blocks run unit f
     (unit_packets starts unit) ++ frames_among rest.parts rest.blocks
 unit-among run f o starts unit rest =
     among-report {run = run} {unit = unit} {make = _} unit.starts_group (record { report = _; none = λ qs b cs. refl })
@@ -155,13 +165,17 @@ pub report-moment : (run : Run) (f o : ℕ) (unit : PictureUnit) → run.identit
     → moments_of (report_block run unit f o) ≡ Report (report_block run unit f o) ∷ []
 report-moment run f o unit control = ap (λ c. block_moments c (report_block run unit f o)) control
 
-pub frames-one : (run : Run) (f : ℕ) (unit : PictureUnit) (packets : List Packet) → run.identity.channel ≡ 0 → AreOneBlocks (frame_blocks run unit f packets)
+pub frames-one : (run : Run) (f : ℕ) (unit : PictureUnit) (packets : List Packet) → run.identity.channel ≡ 0
+    → AreOneBlocks (frame_blocks run unit f packets)
 frames-one run f unit [] media = tt
 frames-one run f unit (p ∷ packets) media =
-    let c : run.identity.channel < 2 = omega (arith, media) in
-    (record { moment = inl (frame-moment run f unit p media); starts = refl; channel = c }, frames-one run (f + 1) unit packets media)
+    let c : run.identity.channel < 2 = omega (arith, media) in (
+      record { moment = inl (frame-moment run f unit p media); starts = refl; channel = c },
+      frames-one run (f + 1) unit packets media,
+    )
 
-reports-one : (starts : Bool) (run : Run) (f o : ℕ) (unit : PictureUnit) → run.identity.control ≡ 1 → AreOneBlocks (report_if starts run unit f o)
+reports-one : (starts : Bool) (run : Run) (f o : ℕ) (unit : PictureUnit) → run.identity.control ≡ 1
+    → AreOneBlocks (report_if starts run unit f o)
 reports-one true run f o unit control =
     let c : run.identity.control < 2 = omega (arith, control) in
     (record { moment = inr (report-moment run f o unit control); starts = refl; channel = c }, tt)

@@ -26,7 +26,8 @@ use Rattle.transcript.proofs.Occasions.{HaltGiven}
 -- the play that begins is the one that the entry tells, if any
 abbrev pub IsToldBy : Awaited → Outcome → Type 0
 IsToldBy asked outcome = (askings : List Asking) (made : List Placed)
-    → ((all : ℕ) → kept_in askings all ≡ kept_among made all) → map booking_of (plays_begun asked outcome askings) ≡ told_by outcome made
+    → ((all : ℕ) → kept_in askings all ≡ kept_among made all)
+    → map booking_of (plays_begun asked outcome askings) ≡ told_by outcome made
 
 abbrev pub AreTold : List Asking → Type 0
 AreTold [] = ⊤
@@ -37,13 +38,15 @@ abbrev pub outcomes_in : List Asking → List Outcome
 outcomes_in [] = []
 outcomes_in (Asks asked outcome ∷ askings) = outcome ∷ outcomes_in askings
 
-kept_more : (outcome : Outcome) (made : List Placed) (all : ℕ) → kept_with outcome (kept_among made all) ≡ kept_among (entry_in outcome ++ made) all
+kept_more : (outcome : Outcome) (made : List Placed) (all : ℕ)
+    → kept_with outcome (kept_among made all) ≡ kept_among (entry_in outcome ++ made) all
 kept_more Unasked made all = refl
 kept_more (Entered placed) made all = refl
 kept_more (WasFull more entries live) made all = refl
 kept_more (Offered at_slot note) made all = refl
 
-told_more : (outcome : Outcome) (made : List Placed) → told_by outcome made ++ booked_plays made ≡ booked_plays (entry_in outcome ++ made)
+told_more : (outcome : Outcome) (made : List Placed)
+    → told_by outcome made ++ booked_plays made ≡ booked_plays (entry_in outcome ++ made)
 told_more Unasked made = refl
 told_more (Entered placed) made = refl
 told_more (WasFull more entries live) made = refl
@@ -54,7 +57,8 @@ kept_same [] all = refl
 kept_same (Asks asked outcome ∷ askings) all =
     ap (kept_with outcome) (kept_same askings all) ∙ kept_more outcome (entries_in (outcomes_in askings)) all
 
-plays_told : (askings : List Asking) → AreTold askings → map booking_of (plays_of askings) ≡ booked_plays (entries_in (outcomes_in askings))
+plays_told : (askings : List Asking) → AreTold askings
+    → map booking_of (plays_of askings) ≡ booked_plays (entries_in (outcomes_in askings))
 plays_told [] told = refl
 plays_told (Asks asked outcome ∷ askings) told =
     let made : List Placed = entries_in (outcomes_in askings) in
@@ -77,7 +81,8 @@ turn_told old new asked outcome (Stays same after still) = λ askings made keeps
 turn_told old new asked outcome (Starts after begins) = λ askings made keeps.
     let p = begins.prepared in
     let mine : plays_begun asked outcome askings ≡ plays_admitted (Play p) (Admitted begins.start) askings =
-    ap (λ o. plays_begun asked o askings) begins.outcome_is ∙ ap (λ a. plays_admitted a begins.placed.entry.answer askings) begins.asked_is
+    ap (λ o. plays_begun asked o askings) begins.outcome_is
+    ∙ ap (λ a. plays_admitted a begins.placed.entry.answer askings) begins.asked_is
     ∙ ap (λ a. plays_admitted (Play p) a askings) begins.answer in
     let told : told_by outcome made ≡ cut_play begins.start p.plan (kept_among made (total_bytes p.plan)) ∷ [] =
     ap (λ o. told_by o made) begins.outcome_is
@@ -89,7 +94,8 @@ turn_told old new asked outcome (Ends after halts) = λ askings made keeps.
     ∙ sym (ap (λ o. told_by o made) halts.outcome_is
     ∙ ap (λ c. booked_by (play_admitted c halts.placed.entry.answer) made) halts.command)
 
-takes_told : (old new : Stage) (takings : List Taking) (takes : TakesAll old takings new) → Stands old.session → AreTold (takings_askings old takings new takes)
+takes_told : (old new : Stage) (takings : List Taking) (takes : TakesAll old takings new) → Stands old.session
+    → AreTold (takings_askings old takings new takes)
 takes_told old new [] takes stands = tt
 takes_told old new (Passed n ∷ takings) takes stands =
     takes_told takes.0 new takings takes.1.1 (taken_stands old takes.0 (Passed n) takes.1.0 stands)
@@ -104,7 +110,8 @@ takes_outcomes : (old new : Stage) (takings : List Taking) (takes : TakesAll old
     → outcomes_in (takings_askings old takings new takes) ≡ takings_outcomes takings
 takes_outcomes old new [] takes = refl
 takes_outcomes old new (Passed n ∷ takings) takes = takes_outcomes takes.0 new takings takes.1.1
-takes_outcomes old new (Answered message outcome parts ∷ takings) takes = ap (λ os. outcome ∷ os) (takes_outcomes takes.0 new takings takes.1.1)
+takes_outcomes old new (Answered message outcome parts ∷ takings) takes =
+    ap (λ os. outcome ∷ os) (takes_outcomes takes.0 new takings takes.1.1)
 
 -- the halt of a play that is done tells none
 halt_told : {s : Standing} (asked : Awaited) (halt : Outcome) →
@@ -117,13 +124,15 @@ halt_told asked (Entered placed) none given = λ askings made keeps.
 halt_told asked (WasFull more entries live) none given = absurd given.halted
 halt_told asked (Offered at_slot note) none given = absurd given.halted
 
-unasked_told : (asked : Awaited) (s : Standing) (halt : Outcome) (new : Standing) → IsFinished NoAnswer s halt new → IsToldBy asked halt
+unasked_told : (asked : Awaited) (s : Standing) (halt : Outcome) (new : Standing)
+    → IsFinished NoAnswer s halt new → IsToldBy asked halt
 unasked_told asked s Unasked new is = λ askings made keeps. refl
 unasked_told asked s (Entered placed) new is = absurd is
 unasked_told asked s (WasFull more entries live) new is = absurd is
 unasked_told asked s (Offered at_slot note) new is = absurd is
 
-finished_told : (asked : Awaited) (s : Standing) (halt : Outcome) (new : Standing) → IsFinished (awaited_answer_of asked) s halt new → IsToldBy asked halt
+finished_told : (asked : Awaited) (s : Standing) (halt : Outcome) (new : Standing)
+    → IsFinished (awaited_answer_of asked) s halt new → IsToldBy asked halt
 finished_told Nothing s halt new is = unasked_told Nothing s halt new is
 finished_told (Play prepared) s halt new is = absurd is
 finished_told (Halt keep next) s halt new is = halt_told (Halt keep next) halt (λ answer later. refl)
@@ -131,37 +140,43 @@ finished_told (Halt keep next) s halt new is = halt_told (Halt keep next) halt (
 finished_told (Look sequence) s halt new is = absurd is
 finished_told (Offer sequence) s halt new is = absurd is
 
-comes_told : (old opened : Stage) (event : Doing) (due : List Part) (halt : Outcome) → Comes old event due halt opened → IsToldBy (asked_by old.session event) halt
+comes_told : (old opened : Stage) (event : Doing) (due : List Part) (halt : Outcome)
+    → Comes old event due halt opened → IsToldBy (asked_by old.session event) halt
 comes_told old opened (HeardBytes bytes) due halt comes = subst (IsToldBy Nothing) (sym comes.1) (λ askings made keeps. refl)
 comes_told old opened (HeardSlot slot) due halt comes =
     finished_told (after_slot old.session slot).awaited (after_slot old.session slot) halt opened.session comes.1.finished
 comes_told old opened HeardEnd due halt comes = absurd comes
 comes_told old opened (Sent byte) due halt comes = absurd comes
 
-course_told : (old new : Stage) (rounds : List Round) (follows : Follows old rounds new) → Stands old.session → AreTold (askings_of old rounds new follows)
+course_told : (old new : Stage) (rounds : List Round) (follows : Follows old rounds new) → Stands old.session
+    → AreTold (askings_of old rounds new follows)
 course_told old new [] follows stands = tt
 course_told old new (round ∷ rounds) follows stands =
     let runs = follows.1.0 in
     let mid : Stands follows.0.session =
-    stands_by old.session follows.0.session (round_askings old round follows.0 runs) (film_bytes round.due) (round_step old follows.0 round runs stands) in
+    stands_by old.session follows.0.session (round_askings old round follows.0 runs) (film_bytes round.due)
+    (round_step old follows.0 round runs stands) in
     told-append (round_askings old round follows.0 runs) (askings_of follows.0 rounds new follows.1.1) (
       comes_told old runs.opened round.event round.due round.halt runs.comes,
       takes_told runs.opened follows.0 round.takings runs.takes (opened_stands old follows.0 round runs stands),
     )
     (course_told follows.0 new rounds follows.1.1 mid)
 
-course_outcomes : (old new : Stage) (rounds : List Round) (follows : Follows old rounds new) → outcomes_in (askings_of old rounds new follows) ≡ rounds_outcomes rounds
+course_outcomes : (old new : Stage) (rounds : List Round) (follows : Follows old rounds new)
+    → outcomes_in (askings_of old rounds new follows) ≡ rounds_outcomes rounds
 course_outcomes old new [] follows = refl
 course_outcomes old new (round ∷ rounds) follows =
     let runs = follows.1.0 in
     outcomes-append (round_askings old round follows.0 runs) (askings_of follows.0 rounds new follows.1.1)
-    ∙ ap (λ os. (round.halt ∷ os) ++ outcomes_in (askings_of follows.0 rounds new follows.1.1)) (takes_outcomes runs.opened follows.0 round.takings runs.takes)
+    ∙ ap (λ os. (round.halt ∷ os) ++ outcomes_in (askings_of follows.0 rounds new follows.1.1))
+    (takes_outcomes runs.opened follows.0 round.takings runs.takes)
     ∙ ap (λ os. round_outcomes round ++ os) (course_outcomes follows.0 new rounds follows.1.1)
 
 -- the plays of a course are those that its entries tell
 pub plays_booked : (films : List Stored) (settings : Settings) (words : List ℕ) (rounds : List Round) (new : Stage)
     (follows : Follows (first_stage films settings words) rounds new)
-    → map booking_of (plays_of (askings_of (first_stage films settings words) rounds new follows)) ≡ booked_plays (entries_in (rounds_outcomes rounds))
+    → map booking_of (plays_of (askings_of (first_stage films settings words) rounds new follows))
+    ≡ booked_plays (entries_in (rounds_outcomes rounds))
 plays_booked films settings words rounds new follows =
     let first : Stage = first_stage films settings words in
     let made : List Asking = askings_of first rounds new follows in

@@ -43,17 +43,20 @@ pub heard-more : {bytes : List ℕ} {old : Stage} {rest : List ℕ} (more : List
     → GoOn old.history (moments_in pieces) → Heard (bytes ++ more) (stage (after old.history (moments_in pieces)) rest)
 heard-more {bytes} {old} {rest} more pieces heard cut good = record {
   pieces = heard.pieces ++ pieces;
-  cut = let cuts : CutsInTurn bytes more heard.pieces pieces old.rest rest = record { first = heard.cut; next = cut } in cuts_join cuts;
+  cut = let cuts : CutsInTurn bytes more heard.pieces pieces old.rest rest =
+      record { first = heard.cut; next = cut } in cuts_join cuts;
   sum = sum-after old.history (moments_in pieces)
       ∙ (ap (λ s. steps s (moments_in pieces)) heard.sum
-      ∙ (sym (steps-on no_sum (moments_in heard.pieces) (moments_in pieces)) ∙ ap (steps no_sum) (sym (moments-parts heard.pieces pieces))));
+      ∙ (sym (steps-on no_sum (moments_in heard.pieces) (moments_in pieces))
+      ∙ ap (steps no_sum) (sym (moments-parts heard.pieces pieces))));
   gone = gone-on old.history (moments_in pieces) heard.gone good;
 }
 
 same-stage : (new : Stage) (h : History) (rest : List ℕ) → new.history ≡ h → new.rest ≡ rest → stage h rest ≡ new
 same-stage new h rest history same = ap (λ x. stage x rest) (sym history) ∙ ap (λ x. stage new.history x) (sym same)
 
-heard-event : {bytes : List ℕ} {old new : Stage} (event : Doing) (moments : List Moment) → Heard bytes old → Brings event old.rest moments new.rest
+heard-event : {bytes : List ℕ} {old new : Stage} (event : Doing) (moments : List Moment) → Heard bytes old
+    → Brings event old.rest moments new.rest
     → GoOn old.history moments → new.history ≡ after old.history moments → Heard (bytes ++ bytes_in event) new
 heard-event {bytes} {old} {new} (HeardBytes more) moments heard brings good history =
     let G : List Moment → Type 0 = λ ms. GoOn old.history ms in
@@ -73,10 +76,12 @@ heard-event {bytes} {old} {new} (HeardSlot slot) moments heard brings good histo
 heard-event {new} HeardEnd moments heard brings good history = absurd brings
 heard-event {new} (Sent byte) moments heard brings good history = absurd brings
 
-pub heard-round : (bytes : List ℕ) (old new : Stage) (round : Round) → Heard bytes old → Runs old round new → Heard (bytes ++ bytes_in round.event) new
+pub heard-round : (bytes : List ℕ) (old new : Stage) (round : Round) → Heard bytes old → Runs old round new
+    → Heard (bytes ++ bytes_in round.event) new
 heard-round bytes old new round heard runs = heard-event round.event round.moments heard runs.brings runs.good runs.history_is
 
-pub heard-all : (bytes : List ℕ) (old new : Stage) (rounds : List Round) → Heard bytes old → RunsAll old rounds new → Heard (bytes ++ rounds_heard rounds) new
+pub heard-all : (bytes : List ℕ) (old new : Stage) (rounds : List Round) → Heard bytes old
+    → RunsAll old rounds new → Heard (bytes ++ rounds_heard rounds) new
 heard-all bytes old new [] heard all =
     let P : List ℕ → Type 0 = λ b. Heard b new in subst P (sym (append-nil bytes)) (subst (Heard bytes) (sym all) heard)
 heard-all bytes old new (round ∷ rounds) heard all =
@@ -86,11 +91,13 @@ heard-all bytes old new (round ∷ rounds) heard all =
 
 -- ---- what later moments leave
 
-pub history-later : (old new : Stage) (rounds : List Round) → RunsAll old rounds new → new.history ≡ after old.history (moments_of_rounds rounds)
+pub history-later : (old new : Stage) (rounds : List Round) → RunsAll old rounds new
+    → new.history ≡ after old.history (moments_of_rounds rounds)
 history-later old new [] all = ap (λ (s : Stage). s.history) all
 history-later old new (round ∷ rounds) all =
     history-later all.0 new rounds all.1.2
-    ∙ (ap (λ h. after h (moments_of_rounds rounds)) all.1.0.history_is ∙ sym (after-on old.history round.moments (moments_of_rounds rounds)))
+    ∙ (ap (λ h. after h (moments_of_rounds rounds)) all.1.0.history_is
+    ∙ sym (after-on old.history round.moments (moments_of_rounds rounds)))
 
 pub replies-later : (h : History) (ms : List Moment) → replies h ≤ replies (after h ms)
 replies-later h ms = omega (arith, replies-grow (sum_of h) ms, ap (λ (s : Sum). s.replies) (sum-after h ms))
@@ -135,7 +142,8 @@ complete-then n complete two awaited =
 -- the done stage, with its moments
 pub at-done : {wish : Wish} {watched : Watched} {bytes out : List ℕ} {at : Stage} {moment : Moment}
     (moments : List Moment)
-    → Heard bytes at → IsNext at.rest moment → Gives wish at.history moment (Done watched) → at.history ≡ after [] moments → out ≡ payloads_of moments
+    → Heard bytes at → IsNext at.rest moment → Gives wish at.history moment (Done watched)
+    → at.history ≡ after [] moments → out ≡ payloads_of moments
     → ((done : IsDone wish watched bytes out) × (done.at ≡ at))
 at-done {out} {at} {moment = Reply message} moments heard next (inl bad) history is = absurd (let no : ⊥ = cc in no)
 at-done {out} {at} {moment = Reply message} moments heard next (inr (inl refused)) history is = absurd (let no : ⊥ = cc in no)

@@ -11,7 +11,8 @@ use Rattle.rtsp_client.specs.Promises.{IsBetween}
 
 -- one unit more
 used-snoc : (wish : Wish) (time slot unit : ℕ) (sizes : List ℕ) (x : ℕ)
-    → used_before wish time slot unit (sizes ++ x ∷ []) ≡ used_before wish time slot unit sizes + cond (nat_lt (use_slot wish time (unit + length sizes)) slot) x 0
+    → used_before wish time slot unit (sizes ++ x ∷ [])
+    ≡ used_before wish time slot unit sizes + cond (nat_lt (use_slot wish time (unit + length sizes)) slot) x 0
 used-snoc wish time slot unit [] x =
     let here : unit ≡ unit + 0 = omega arith in
     let same = ap (λ n. cond (nat_lt (use_slot wish time n) slot) x 0) here in
@@ -36,7 +37,8 @@ used-range {wish} {timing} slot sizes (suc n) timed few =
     let time = timing.picture_units in
     let f : ℕ → ℕ = λ k. cond (nat_lt (due_slot timing k) slot) (get_or sizes k 0) 0 in
     let next : suc n ≡ n + 1 = omega arith in
-    let more : take (suc n) sizes ≡ take n sizes ++ get_or sizes n 0 ∷ [] = ap (λ m. take m sizes) next ∙ take_more sizes n 0 (omega (arith, few)) in
+    let more : take (suc n) sizes ≡ take n sizes ++ get_or sizes n 0 ∷ [] =
+    ap (λ m. take m sizes) next ∙ take_more sizes n 0 (omega (arith, few)) in
     let rest = used-range slot sizes n timed (omega (arith, few)) in
     let front = used-snoc wish time slot 0 (take n sizes) (get_or sizes n 0) in
     let place : 0 + length (take n sizes) ≡ n = omega (arith, length-take-le n sizes (omega (arith, few))) in

@@ -34,15 +34,18 @@ front-after xs front ys is = (
 
 bytes-append : (xs ys : List Round) → rounds_bytes (xs ++ ys) ≡ rounds_bytes xs ++ rounds_bytes ys
 bytes-append [] ys = refl
-bytes-append (x ∷ xs) ys = ap (λ bs. round_bytes x ++ bs) (bytes-append xs ys) ∙ sym (append_assoc (round_bytes x) (rounds_bytes xs) (rounds_bytes ys))
+bytes-append (x ∷ xs) ys =
+    ap (λ bs. round_bytes x ++ bs) (bytes-append xs ys) ∙ sym (append_assoc (round_bytes x) (rounds_bytes xs) (rounds_bytes ys))
 
 -- ---- one event more
-follows-more : {mid new : Stage} {round : Round} (old : Stage) (rounds : List Round) → Follows old rounds mid → Runs mid round new → Follows old (rounds ++ round ∷ []) new
+follows-more : {mid new : Stage} {round : Round} (old : Stage) (rounds : List Round) → Follows old rounds mid
+    → Runs mid round new → Follows old (rounds ++ round ∷ []) new
 follows-more {new} {round} old [] follows runs = (new, (subst (λ s. Runs s round new) follows runs, refl))
 follows-more {mid} {new} {round} old (first ∷ rounds) follows runs =
     (follows.0, (follows.1.0, follows-more {mid = mid} {new = new} {round = round} follows.0 rounds follows.1.1 runs))
 
-cut-short : (course : Course) (round : Round) (new : Stage) (sent : List ℕ) → Runs course.last round new → IsFront sent (round_bytes round)
+cut-short : (course : Course) (round : Round) (new : Stage) (sent : List ℕ) → Runs course.last round new
+    → IsFront sent (round_bytes round)
     → IsCutShort course round.event round.takings (rounds_bytes course.rounds ++ sent)
 cut-short course round new sent runs front =
     let longer : Course = record {
@@ -96,12 +99,15 @@ finish-if true s keep is = finish-halt s keep is
 finish-if false s keep is = finish-none s is
 
 finish-sent : (s : Standing) → s.awaited ≡ Nothing → CanFinish (after_play s)
-finish-sent s rest = finish-if (is_done_in s.state) (after_play s) (sent_in s.state) (ap (λ a. if is_done_in s.state then Halt (sent_in s.state) Done else a) rest)
+finish-sent s rest =
+    finish-if (is_done_in s.state) (after_play s) (sent_in s.state)
+    (ap (λ a. if is_done_in s.state then Halt (sent_in s.state) Done else a) rest)
 
 finish-slotted : (old : Standing) (slot : ℕ) (taken sending : Bool) → old.awaited ≡ Nothing
     → CanFinish (if taken then (if sending then after_play (sent_slot old slot) else record old { heard = slot }) else old)
 finish-slotted old slot true true rest =
-    finish-sent (sent_slot old slot) (reply_awaited (old.waits && is_between (stepped_in true slot old.state)) (sent_due old slot) ∙ rest)
+    finish-sent (sent_slot old slot)
+    (reply_awaited (old.waits && is_between (stepped_in true slot old.state)) (sent_due old slot) ∙ rest)
 finish-slotted old slot true false rest = finish-none (record old { heard = slot }) rest
 finish-slotted old slot false sending rest = finish-none old rest
 
@@ -113,9 +119,11 @@ between-bytes old slot false = refl
 
 due-as : (old : Standing) (slot : ℕ) (waits : Bool)
     → parts_bytes (if waits then Film (step_bytes true slot old.state)
-    ∷ (if is_between (stepped_in true slot old.state) then Text old.text ∷ Film (step_bytes false slot (stepped_in true slot old.state)) ∷ [] else [])
+    ∷ (if is_between (stepped_in true slot old.state) then Text old.text
+    ∷ Film (step_bytes false slot (stepped_in true slot old.state)) ∷ [] else [])
     else Film (step_bytes false slot old.state) ∷ []) ≡ due_bytes waits old.state old.text slot
-due-as old slot true = ap (λ bs. step_bytes true slot old.state ++ bs) (between-bytes old slot (is_between (stepped_in true slot old.state)))
+due-as old slot true =
+    ap (λ bs. step_bytes true slot old.state ++ bs) (between-bytes old slot (is_between (stepped_in true slot old.state)))
 due-as old slot false = append-nil (step_bytes false slot old.state)
 
 pub failed-slot : (course : Course) (slot : ℕ) (front : List ℕ) (new : Stage) → HasFailedInSlot course.last slot front new
@@ -144,12 +152,14 @@ failed-slot course slot front new failed =
     cut-short course round opened front runs (subst F (sym bytes) failed.front_is)
 
 -- ---- a reply
-takes-more : {new : Stage} (old mid : Stage) (takings : List Taking) (taking : Taking) → TakesAll old takings mid → TakesAll mid (taking ∷ []) new
+takes-more : {new : Stage} (old mid : Stage) (takings : List Taking) (taking : Taking)
+    → TakesAll old takings mid → TakesAll mid (taking ∷ []) new
     → TakesAll old (takings ++ taking ∷ []) new
 takes-more {new} old mid [] taking takes more =
     let T : Stage → Type 0 = λ s. TakesAll s (taking ∷ []) new in
     subst T takes more
-takes-more {new} old mid (first ∷ takings) taking takes more = (takes.0, (takes.1.0, takes-more {new = new} takes.0 mid takings taking takes.1.1 more))
+takes-more {new} old mid (first ∷ takings) taking takes more =
+    (takes.0, (takes.1.0, takes-more {new = new} takes.0 mid takings taking takes.1.1 more))
 
 pub failed-reply : {round : Round} {message : List ℕ} {outcome : Outcome} {front : List ℕ} {new : Stage}
     (course : Course) (ends : EndsInReply course.last round message outcome front new) →
@@ -163,16 +173,20 @@ failed-reply {round} {message} {outcome} {front} course ends =
     let taking = Answered message outcome parts in
     let more : TakesAll ends.mid (taking ∷ []) last =
     (last, (record { next = failed.next; answered = answered; heard = failed.heard; parts_are = refl; new_is = refl }, refl)) in
-    let longer : Round = record { event = round.event; due = round.due; halt = round.halt; takings = round.takings ++ taking ∷ [] } in
+    let longer : Round =
+    record { event = round.event; due = round.due; halt = round.halt; takings = round.takings ++ taking ∷ [] } in
     let runs : Runs course.last longer last = record {
       opened = ends.runs.opened;
       comes = ends.runs.comes;
       takes = takes-more ends.runs.opened ends.mid round.takings taking ends.runs.takes more;
     } in
     let text : takings_bytes (taking ∷ []) ≡ answered.text =
-    append-nil (parts_bytes parts) ∙ ap parts_bytes (cond-true (can_reply answered) (Text answered.text ∷ []) [] failed.can) ∙ append-nil answered.text in
+    append-nil (parts_bytes parts)
+    ∙ ap parts_bytes (cond-true (can_reply answered) (Text answered.text ∷ []) [] failed.can) ∙ append-nil answered.text in
     let bytes : round_bytes longer ≡ round_bytes round ++ answered.text =
-    ap (λ bs. parts_bytes round.due ++ bs) (takings_bytes-append round.takings (taking ∷ []) ∙ ap (λ bs. takings_bytes round.takings ++ bs) text)
+    ap (λ bs. parts_bytes round.due ++ bs)
+    (takings_bytes-append round.takings (taking ∷ []) ∙ ap (λ bs. takings_bytes round.takings ++ bs) text)
     ∙ sym (append_assoc (parts_bytes round.due) (takings_bytes round.takings) answered.text) in
     let F : List ℕ → Type 0 = λ bs. IsFront (round_bytes round ++ front) bs in
-    cut-short course longer last (round_bytes round ++ front) runs (subst F (sym bytes) (front-after (round_bytes round) front answered.text failed.front_is))
+    cut-short course longer last (round_bytes round ++ front) runs
+    (subst F (sym bytes) (front-after (round_bytes round) front answered.text failed.front_is))

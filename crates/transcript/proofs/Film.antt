@@ -46,15 +46,18 @@ units-all : (film : Film) → take (length film.units.items - 0) (drop 0 film.un
 units-all film = take_all (length film.units.items - 0) film.units.items (omega arith)
 
 pub run-blocks : (film : Film) (identity : Identity)
-    → run_pieces (film_run film identity) ≡ blocks_from (film_run film identity) 0 0 (pieces_of film.slice_starts.items film.units.items)
-run-blocks film identity = ap (λ us. blocks_from (film_run film identity) 0 0 (pieces_of film.slice_starts.items us)) (units-all film)
+    → run_pieces (film_run film identity)
+    ≡ blocks_from (film_run film identity) 0 0 (pieces_of film.slice_starts.items film.units.items)
+run-blocks film identity =
+    ap (λ us. blocks_from (film_run film identity) 0 0 (pieces_of film.slice_starts.items us)) (units-all film)
 
 -- ---- sizes
 
 come : (film : Film) (identity : Identity) (x : Stream) (d : ℕ) → IsFilmIn film identity x
     → HasCome (film_sizes film) d (begun_sum x) (steps (begun_sum x) (moments_in (take (count_ended d x.blocks) x.blocks)))
 come film identity x d is =
-    let P : List (List ℕ) → Type 0 = λ bs. HasCome (film_sizes film) d (begun_sum x) (steps (begun_sum x) (moments_in (take (count_ended d bs) bs))) in
+    let P : List (List ℕ) → Type 0 =
+    λ bs. HasCome (film_sizes film) d (begun_sum x) (steps (begun_sum x) (moments_in (take (count_ended d bs) bs))) in
     subst P (sym is.blocks) (units-come (record {
       run = film_run film identity;
       frames = 0;
@@ -71,7 +74,12 @@ time-by : {film : Film} {identity : Identity} {x : Stream} (k : ℕ) (items : Li
     let t : Sum = steps (begun_sum x) (moments_in (take k x.blocks)) in 0 < t.frames →
     begins_film (drop 20 t.first) ≡ true → time_in t.first ≡ picture_time film.rate
 time-by {film} k [] items_are is =
-    λ some good. absurd (omega (arith, ap (λ (l : List PictureUnit). length l) items_are, film-some film.bytes.items film.rate film.units.items film.slice_starts.items film.grammar))
+    λ some good. absurd
+    (omega (
+      arith,
+      ap (λ (l : List PictureUnit). length l) items_are,
+      film-some film.bytes.items film.rate film.units.items film.slice_starts.items film.grammar,
+    ))
 time-by {film} {identity} {x} k (unit ∷ items) items_are is =
     let run = film_run film identity in
     let starts = film.slice_starts.items in
@@ -79,7 +87,8 @@ time-by {film} {identity} {x} k (unit ∷ items) items_are is =
     let laid = subst L (sym items_are) (laid-film film) in
     let at : slice_get film.units.items 0 ≡ Some unit = ap (λ us. slice_get us 0) (sym items_are) in
     let begins = film-begins film.grammar unit at in
-    let blocks : blocks_from run 0 0 (pieces_of starts (unit ∷ items)) ≡ x.blocks = ap (λ us. blocks_from run 0 0 (pieces_of starts us)) items_are ∙ sym is.blocks in
+    let blocks : blocks_from run 0 0 (pieces_of starts (unit ∷ items)) ≡ x.blocks =
+    ap (λ us. blocks_from run 0 0 (pieces_of starts us)) items_are ∙ sym is.blocks in
     let P : List (List ℕ) → Type 0 = λ bs. 0 < (steps (begun_sum x) (moments_in (take k bs))).frames
     → begins_film (drop 20 (steps (begun_sum x) (moments_in (take k bs))).first) ≡ true
     → time_in (steps (begun_sum x) (moments_in (take k bs))).first ≡ picture_time film.rate in
@@ -104,20 +113,25 @@ timed {film} {identity} {x} {h} k is gone sum_is =
     let t = steps (begun_sum x) (moments_in (take k x.blocks)) in
     let first : first_frame h ≡ t.first = ap (λ (s : Sum). s.first) sum_is in
     let count : frames h ≡ t.frames = ap (λ (s : Sum). s.frames) sum_is in
-    let end : end_ms h ≡ (begun_sum x).end_ms = ap (λ (s : Sum). s.end_ms) sum_is ∙ (blocks-same (take k x.blocks) (begun_sum x) (blocks-one-take k x.blocks x.blocks_are)).end_ms in
+    let end : end_ms h ≡ (begun_sum x).end_ms =
+    ap (λ (s : Sum). s.end_ms) sum_is
+    ∙ (blocks-same (take k x.blocks) (begun_sum x) (blocks-one-take k x.blocks x.blocks_are)).end_ms in
     let B : List ℕ → Type 0 = λ f. begins_film (drop 20 f) ≡ true in
     let frame_time : 0 < frames h → time_in (first_frame h) ≡ picture_time film.rate = λ some.
     ap time_in first ∙ time-by k film.units.items refl is (omega (arith, count, some)) (subst B first (first-good h gone some)) in
     record {
-      time_is = λ some. cond-false (frames h == 0) 0 (time_in (first_frame h)) (ne_eqb (frames h) 0 (λ none. omega (arith, some, none))) ∙ frame_time some;
+      time_is = λ some. cond-false (frames h == 0) 0 (time_in (first_frame h))
+          (ne_eqb (frames h) 0 (λ none. omega (arith, some, none))) ∙ frame_time some;
       units_are = λ some.
-          cond-false (frames h == 0) 0 (units_until (end_ms h) (time_in (first_frame h))) (ne_eqb (frames h) 0 (λ none. omega (arith, some, none)))
+          cond-false (frames h == 0) 0 (units_until (end_ms h) (time_in (first_frame h)))
+          (ne_eqb (frames h) 0 (λ none. omega (arith, some, none)))
           ∙ (ap (λ e. units_until e (time_in (first_frame h))) end ∙ ap (units_until (begun_sum x).end_ms) (frame_time some));
     }
 
 -- ---- a reading
 
-pub heard-of : {film : Film} {identity : Identity} {x : Stream} {c : ℕ} {at : Stage} → IsFilmIn film identity x → HasGoneOn at.history → IsReadingOf x c at
+pub heard-of : {film : Film} {identity : Identity} {x : Stream} {c : ℕ} {at : Stage} → IsFilmIn film identity x
+    → HasGoneOn at.history → IsReadingOf x c at
     → units_until (begun_sum x).end_ms (picture_time film.rate) ≡ length (film_sizes film)
     → IsHeardOf (film_sizes film) (picture_time film.rate) at.history (cut_bytes at.rest)
     × (bytes_received at.history + cut_bytes at.rest ≡ min (film_place x c) (length (framed_bytes x.blocks)))
@@ -128,9 +142,12 @@ heard-of {film} {identity} {x} {c} {at} is gone reading count =
     let its = come film identity x d is in
     let all = film_sizes film in
     let are : sizes at.history ≡ take its.count all = ap (λ (s : Sum). s.sizes) reading.sum ∙ its.sizes_are in
-    let many : length (sizes at.history) ≡ its.count = ap (λ (l : List ℕ). length l) are ∙ length-take-le its.count all its.among in
-    let bytes = ap (λ (s : Sum). s.received) reading.sum ∙ blocks-received (take k x.blocks) (begun_sum x) (blocks-one-take k x.blocks x.blocks_are) refl in
-    let came : bytes_received at.history + cut_bytes at.rest ≡ min d (length (framed_bytes x.blocks)) = omega (arith, bytes, reading.cut) in
+    let many : length (sizes at.history) ≡ its.count =
+    ap (λ (l : List ℕ). length l) are ∙ length-take-le its.count all its.among in
+    let bytes = ap (λ (s : Sum). s.received) reading.sum
+    ∙ blocks-received (take k x.blocks) (begun_sum x) (blocks-one-take k x.blocks x.blocks_are) refl in
+    let came : bytes_received at.history + cut_bytes at.rest ≡ min d (length (framed_bytes x.blocks)) =
+    omega (arith, bytes, reading.cut) in
     let its_time = timed k is gone reading.sum in (
       record {
         sizes_are = are ∙ ap (λ n. take n all) (sym many);
@@ -149,7 +166,8 @@ heard-of {film} {identity} {x} {c} {at} is gone reading count =
 sum-most : (xs : List ℕ) (a : ℕ) → sum (take a xs) ≤ sum xs
 sum-most xs a = sum_by-take-le (λ (x : ℕ). x) xs a
 
-pub blocks-sum : (film : Film) (identity : Identity) (x : Stream) → IsFilmIn film identity x → length (framed_bytes x.blocks) ≡ sum (film_sizes film)
+pub blocks-sum : (film : Film) (identity : Identity) (x : Stream) → IsFilmIn film identity x
+    → length (framed_bytes x.blocks) ≡ sum (film_sizes film)
 blocks-sum film identity x is =
     ap (λ bs. length (framed_bytes bs)) (is.blocks ∙ sym (run-blocks film identity))
     ∙ ((run-sum film 0 (length film.units.items) identity (omega arith) (omega arith)).1
@@ -168,18 +186,22 @@ whole-of {film} {identity} {x} {h} is gone sum_is complete =
     let k = count_ended total x.blocks in
     let front : take k x.blocks ≡ x.blocks = take_all k x.blocks (omega (arith, count-whole x.blocks total (omega arith))) in
     let its = come film identity x total is in
-    let sum_here : sum_of h ≡ steps (begun_sum x) (moments_in (take k x.blocks)) = sum_is ∙ ap (λ l. steps (begun_sum x) (moments_in l)) (sym front) in
+    let sum_here : sum_of h ≡ steps (begun_sum x) (moments_in (take k x.blocks)) =
+    sum_is ∙ ap (λ l. steps (begun_sum x) (moments_in l)) (sym front) in
     let every : its.count ≡ length all = elim (cases_lt its.count (length all)) [
       | inl fewer ↦ absurd (omega (arith, its.next fewer, blocks-sum film identity x is, sum-most all (its.count + 1)))
       | inr more ↦ omega (arith, more, its.among)
     ] in
-    let are : sizes h ≡ all = ap (λ (s : Sum). s.sizes) sum_here ∙ (its.sizes_are ∙ take_all its.count all (omega (arith, every))) in
+    let are : sizes h ≡ all =
+    ap (λ (s : Sum). s.sizes) sum_here ∙ (its.sizes_are ∙ take_all its.count all (omega (arith, every))) in
     let some : 0 < frames h = ltb-true 0 (frames h) (and_parts (nat_lt 0 (frames h)) (length (sizes h) == units h) complete).0 in
-    let same : length (sizes h) ≡ units h = eqb-true (length (sizes h)) (units h) (and_parts (nat_lt 0 (frames h)) (length (sizes h) == units h) complete).1 in
+    let same : length (sizes h) ≡ units h =
+    eqb-true (length (sizes h)) (units h) (and_parts (nat_lt 0 (frames h)) (length (sizes h) == units h) complete).1 in
     let its_time = timed k is gone sum_here in
     record { sizes_are = are; count = sym (its_time.units_are some) ∙ (sym same ∙ ap (λ (l : List ℕ). length l) are) }
 
-pub film-back : {film : Film} {identity : Identity} {x : Stream} {first last : PictureUnit} (h : History) → IsFilmIn film identity x
+pub film-back : {film : Film} {identity : Identity} {x : Stream} {first last : PictureUnit} (h : History)
+    → IsFilmIn film identity x
     → sum_of h ≡ steps (begun_sum x) (moments_in x.blocks) → slice_get film.units.items 0 ≡ Some first
     → slice_get film.units.items (length film.units.items - 1) ≡ Some last
     → payloads h ≡ take (last.to - first.from) (drop first.from film.bytes.items)

@@ -30,7 +30,8 @@ IsSpent (next ∷ plays) slot play = (due_of slot play ≡ play.keep) × (play.k
 abbrev pub IsFilm : ℕ → List FilmPlay → List ℕ → Type 0
 IsFilm slot [] bytes = bytes ≡ []
 IsFilm slot (play ∷ plays) bytes =
-    (rest : List ℕ) × ((bytes ≡ take (due_of slot play) (film_of play) ++ rest) × IsFilm slot plays rest × IsSpent plays slot play)
+    (rest : List ℕ)
+    × ((bytes ≡ take (due_of slot play) (film_of play) ++ rest) × IsFilm slot plays rest × IsSpent plays slot play)
 
 -- as a whole list
 pub film_is : (slot : ℕ) (plays : List FilmPlay) (bytes : List ℕ) → IsFilm slot plays bytes → bytes ≡ film_written slot plays
@@ -96,11 +97,13 @@ rest_none (Going p) waits slot is =
 rest_none (Ending p) waits slot is = film_now p slot is.0
 
 -- a play that was sent as far as it is kept is over
-spent : (slot : ℕ) (plays : List FilmPlay) (play : FilmPlay) → due_of slot play ≡ play.keep → play.keep ≤ length (film_of play) → IsSpent plays slot play
+spent : (slot : ℕ) (plays : List FilmPlay) (play : FilmPlay) → due_of slot play ≡ play.keep
+    → play.keep ≤ length (film_of play) → IsSpent plays slot play
 spent slot [] play due small = tt
 spent slot (next ∷ plays) play due small = (due, small)
 
-pub film_over : {p : Pacing} {heard slot keep : ℕ} (plays : List FilmPlay) (more : List ℕ) → IsOnTime p heard → p.sent ≡ keep → heard ≤ slot
+pub film_over : {p : Pacing} {heard slot keep : ℕ} (plays : List FilmPlay) (more : List ℕ) → IsOnTime p heard
+    → p.sent ≡ keep → heard ≤ slot
     → IsFilm slot plays more → IsFilm slot (play_with p keep ∷ plays) (take p.sent (film_in p) ++ more)
 film_over {p} {heard} {slot} {keep} plays more on sent later is =
     let rise : first_slots p.plan (heard + 1 - p.start) ≤ first_slots p.plan (slot + 1 - p.start) =
@@ -121,7 +124,8 @@ pub through_sent : (p : Pacing) (slot : ℕ) → IsPacing p
     → take p.sent (film_in p) ++ plan_bytes p p.sent (due_by p slot) ≡ take (due_by p slot) (film_in p)
 through_sent p slot is =
     let due : ℕ = due_by p slot in
-    let first : take p.sent (film_in p) ≡ bytes_between p.pieces p.before (p.before + p.sent) = ap (λ n. take n (film_in p)) (omega arith) in
+    let first : take p.sent (film_in p) ≡ bytes_between p.pieces p.before (p.before + p.sent) =
+    ap (λ n. take n (film_in p)) (omega arith) in
     ap (λ bs. bs ++ plan_bytes p p.sent due) first
     ∙ between-join p.pieces p.before (p.before + p.sent) (p.before + due) (omega arith) (omega (arith, is.sent))
     ∙ ap (λ n. take n (film_in p)) (omega arith)
@@ -141,7 +145,8 @@ pub record LaterFilm : Type 0 where
 
 pub through_film : {p : Pacing} (slot end : ℕ) (later : LaterFilm) → IsPacing p →
     IsFilm end (play_with p later.keep ∷ later.plays) (take (due_by p slot) (film_in p) ++ later.more) →
-    IsFilm end (play_with p later.keep ∷ later.plays) (take p.sent (film_in p) ++ (plan_bytes p p.sent (due_by p slot) ++ later.more))
+    IsFilm end (play_with p later.keep ∷ later.plays)
+    (take p.sent (film_in p) ++ (plan_bytes p p.sent (due_by p slot) ++ later.more))
 through_film {p} slot end later is film =
     subst (IsFilm end (play_with p later.keep ∷ later.plays))
     (ap (λ bs. bs ++ later.more) (sym (through_sent p slot is)) ∙ append_assoc (take p.sent (film_in p))

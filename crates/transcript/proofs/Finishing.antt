@@ -13,13 +13,15 @@ use Rattle.transcript.proofs.Streaming.{cut-front}
 use Rattle.transcript.proofs.Sums.{AreOneBlocks, Sum, replies-grow, step, steps, sum_of}
 
 -- a block is no reply
-no-reply : (b x : List ℕ) (m : List ℕ) → (moments_of b ≡ Frame b ∷ []) ⊎ (moments_of b ≡ Report b ∷ []) → moments_of x ≡ Reply m ∷ [] → x ≡ b → ⊥
+no-reply : (b x : List ℕ) (m : List ℕ) → (moments_of b ≡ Frame b ∷ []) ⊎ (moments_of b ≡ Report b ∷ [])
+    → moments_of x ≡ Reply m ∷ [] → x ≡ b → ⊥
 no-reply b x m (inl frame) reply same =
     let clash : Reply m ∷ [] ≡ Frame b ∷ [] = sym reply ∙ (ap moments_of same ∙ frame) in cc
 no-reply b x m (inr report) reply same =
     let clash : Reply m ∷ [] ≡ Report b ∷ [] = sym reply ∙ (ap moments_of same ∙ report) in cc
 
-more-reply : (y : List ℕ) (ys : List (List ℕ)) (s : Sum) → moments_of y ≡ Reply y ∷ [] → s.replies + 1 ≤ (steps s (moments_in (y ∷ ys))).replies
+more-reply : (y : List ℕ) (ys : List (List ℕ)) (s : Sum) → moments_of y ≡ Reply y ∷ []
+    → s.replies + 1 ≤ (steps s (moments_in (y ∷ ys))).replies
 more-reply y ys s is =
     let P : List Moment → Type 0 = λ l. s.replies + 1 ≤ (steps s (l ++ moments_in ys)).replies in
     subst P (sym is) (replies-grow (step (Reply y) s) (moments_in ys))
@@ -27,9 +29,11 @@ more-reply y ys s is =
 block-reply : (b : List ℕ) (ys : List (List ℕ)) (s : Sum) (n : ℕ) → (moments_of b ≡ Frame b ∷ []) ⊎ (moments_of b ≡ Report b ∷ [])
     → (steps s (moments_in (b ∷ ys))).replies ≡ s.replies → (t : Sum) × ((steps t (moments_in ys)).replies ≡ t.replies)
 block-reply b ys s n (inl frame) same =
-    let P : List Moment → Type 0 = λ l. (steps s (l ++ moments_in ys)).replies ≡ s.replies in (step (Frame b) s, subst P frame same)
+    let P : List Moment → Type 0 =
+    λ l. (steps s (l ++ moments_in ys)).replies ≡ s.replies in (step (Frame b) s, subst P frame same)
 block-reply b ys s n (inr report) same =
-    let P : List Moment → Type 0 = λ l. (steps s (l ++ moments_in ys)).replies ≡ s.replies in (step (Report b) s, subst P report same)
+    let P : List Moment → Type 0 =
+    λ l. (steps s (l ++ moments_in ys)).replies ≡ s.replies in (step (Report b) s, subst P report same)
 
 -- a block of which the only moment is a reply, and the blocks after it
 record ReplyThen (m : List ℕ) : Type 0 where
@@ -58,7 +62,8 @@ all-blocks {bs = b ∷ bs} {ps = y ∷ ys} {m} later reply_then silent are texts
     let rest : ys ++ reply_then.block ∷ reply_then.rest ≡ bs ++ later = cc in
     let P : List ℕ → Type 0 = λ q. (steps s (moments_in (q ∷ ys))).replies ≡ s.replies in
     let next = block-reply b ys s 0 are.0.moment (subst P first same) in
-    ap (λ q. q ∷ ys) first ∙ ap (λ l. b ∷ l) (all-blocks later reply_then (record { sum = next.0; same = next.1 }) are.1 texts rest)
+    ap (λ q. q ∷ ys) first
+    ∙ ap (λ l. b ∷ l) (all-blocks later reply_then (record { sum = next.0; same = next.1 }) are.1 texts rest)
   where
     open silent use {sum as s, same}
 
@@ -69,7 +74,8 @@ all-pieces {ps = []} {m} x p tail reply all two = absurd (omega (arith, two))
 all-pieces {ps = a ∷ []} {m} x p tail reply all two =
     let first : x.first ≡ a = cc in
     let P : List ℕ → Type 0 = λ q. moments_of q ≡ Reply q ∷ [] in
-    let one : steps no_sum (moments_in (a ∷ [])) ≡ steps no_sum (Reply a ∷ []) = ap (λ l. steps no_sum (l ++ [])) (subst P first x.first_is.moment) in
+    let one : steps no_sum (moments_in (a ∷ [])) ≡ steps no_sum (Reply a ∷ []) =
+    ap (λ l. steps no_sum (l ++ [])) (subst P first x.first_is.moment) in
     absurd (omega (arith, two, ap (λ (s : Sum). s.replies) one))
 all-pieces {ps = a ∷ b ∷ ps} {m} x p tail reply all two =
     let first : x.first ≡ a = cc in
@@ -90,12 +96,14 @@ done-sum {out} x c done is =
     let all = all_of x in
     let k = count_ended c all in
     let p = take done.length_ done.at.rest in
-    let front = cut-front {ps = all} (record { count = c; alone = x.alone; front_is = is }) done.heard.pieces done.heard.cut done.whole in
+    let front = cut-front {ps = all} (record { count = c; alone = x.alone; front_is = is }) done.heard.pieces
+    done.heard.cut done.whole in
     let tail = front.0 ++ drop k all in
     let whole : all ≡ done.heard.pieces ++ p ∷ tail =
     sym (take-append-drop k all)
     ∙ (ap (λ l. l ++ drop k all) front.1
     ∙ (append_assoc (done.heard.pieces ++ p ∷ []) front.0 (drop k all) ∙ append_assoc done.heard.pieces (p ∷ []) tail)) in
-    let two : (steps no_sum (moments_in done.heard.pieces)).replies ≡ 2 = sym (ap (λ (s : Sum). s.replies) done.heard.sum) ∙ done.replies_are in
+    let two : (steps no_sum (moments_in done.heard.pieces)).replies ≡ 2 =
+    sym (ap (λ (s : Sum). s.replies) done.heard.sum) ∙ done.replies_are in
     let are = all-pieces x p tail done.moment whole two in
     done.heard.sum ∙ (ap (λ l. steps no_sum (moments_in l)) are ∙ two-moments x x.blocks)

@@ -38,12 +38,17 @@ first-good (Frame b ∷ h) gone some =
     let P : List ℕ → Type 0 = λ f. begins_film (drop 20 f) ≡ true in
     let head : Bool = is_ok (head_of (drop 4 b)) in
     let last : Bool = cond (frames h == 0) (is_first_good h b) (is_next_good h b) in
-    let all : last ≡ true = (and_parts head last (and_parts (not (is_complete h)) (head && last) (and_parts (is_playing h) (not (is_complete h) && (head && last)) gone.0).1).1).1 in
+    let all : last ≡ true =
+    (and_parts head last
+    (and_parts (not (is_complete h)) (head && last)
+    (and_parts (is_playing h) (not (is_complete h) && (head && last)) gone.0).1).1).1 in
     elim (cases_eq (frames h) 0) [
       | inl none ↦
-          let is : is_first_good h b ≡ true = sym (cond-true (frames h == 0) (is_first_good h b) (is_next_good h b) (eq-eqb (frames h) 0 none)) ∙ all in
+          let is : is_first_good h b ≡ true =
+          sym (cond-true (frames h == 0) (is_first_good h b) (is_next_good h b) (eq-eqb (frames h) 0 none)) ∙ all in
           subst P (sym (cond-true (frames h == 0) b (first_frame h) (eq-eqb (frames h) 0 none)))
-          (and_parts (begins_film (drop 20 b)) (nat_le 1 (units_until (end_ms h) (time_in b)) && nat_le (units_until (end_ms h) (time_in b)) 4194304) is).0
+          (and_parts (begins_film (drop 20 b))
+          (nat_le 1 (units_until (end_ms h) (time_in b)) && nat_le (units_until (end_ms h) (time_in b)) 4194304) is).0
       | inr more ↦
           subst P (sym (cond-false (frames h == 0) b (first_frame h) (ne_eqb (frames h) 0 more)))
           (first-good h gone.1 (omega (arith, more)))
@@ -98,7 +103,9 @@ pub record IsLed (run : Run) (starts : List ℕ) (unit : PictureUnit) (f : ℕ) 
 
 pub first-frame : {starts : List ℕ} {unit : PictureUnit} (from : RunFrom) (k : ℕ) (units : List PictureUnit)
     (s : Sum) → s.frames ≡ 0 →
-    let t : Sum = steps s (moments_in (take k (blocks_from from.run from.frames from.octets (pieces_of starts (unit ∷ units))))) in 0 < t.frames →
+    let t : Sum =
+    steps s (moments_in
+    (take k (blocks_from from.run from.frames from.octets (pieces_of starts (unit ∷ units))))) in 0 < t.frames →
     IsLed from.run starts unit from.frames t.first
 first-frame {starts} {unit} from k units s none some =
     let there = packets-there starts unit in
@@ -106,7 +113,8 @@ first-frame {starts} {unit} from k units s none some =
     (octets_after o (unit_pieces starts unit)) (pieces_of starts units) in
     let front = report_if unit.starts_group run unit f o in
     let frames_rest = frame_blocks run unit (f + 1) there.packets in
-    let all : blocks_from run f o (pieces_of starts (unit ∷ units)) ≡ front ++ (frame_block run unit there.packet f ∷ (frames_rest ++ rest)) =
+    let all : blocks_from run f o (pieces_of starts (unit ∷ units))
+    ≡ front ++ (frame_block run unit there.packet f ∷ (frames_rest ++ rest)) =
     more-blocks run f o starts unit units
     ∙ (ap (λ ps. (front ++ frame_blocks run unit f ps) ++ rest) there.are
     ∙ append_assoc front (frame_block run unit there.packet f ∷ frames_rest) rest) in
@@ -119,7 +127,9 @@ first-frame {starts} {unit} from k units s none some =
       media = media;
       control = control;
     }) starts units) in
-    let P : List (List ℕ) → Type 0 = λ bs. 0 < (steps s (moments_in (take k bs))).frames → (steps s (moments_in (take k bs))).first ≡ frame_block run unit there.packet f in
+    let P : List (List ℕ) → Type 0 =
+    λ bs. 0 < (steps s (moments_in (take k bs))).frames
+    → (steps s (moments_in (take k bs))).first ≡ frame_block run unit there.packet f in
     record {
       packet = there.packet;
       packets = there.packets;
@@ -134,15 +144,18 @@ first-frame {starts} {unit} from k units s none some =
 -- ---- the time of a picture
 
 -- a first frame that begins a film tells its rate
-pub time-is : {run : Run} {starts : List ℕ} {unit : PictureUnit} {f rate : ℕ} {first : List ℕ} → IsLaid starts unit → IsLed run starts unit f first
+pub time-is : {run : Run} {starts : List ℕ} {unit : PictureUnit} {f rate : ℕ} {first : List ℕ}
+    → IsLaid starts unit → IsLed run starts unit f first
     → BeginsSequence run.film rate unit.from → begins_film (drop 20 first) ≡ true → time_in first ≡ picture_time rate
 time-is {run} {starts} {unit} {first} laid led begins good =
     let p = led.packet in
     let its : List ℕ = payload run.film p in
     let Q : List ℕ → Type 0 = λ b. begins_film (drop 20 b) ≡ true in
     let all : begins_film its ≡ true = subst Q led.first_is good in
-    let long : 12 ≤ length its = leb-true 12 (length its) (and_parts (nat_le 12 (length its)) _ (and_parts _ _ (and_parts _ _ all).0).0).0 in
-    let count : length its ≡ min (p.to - p.from) (length (drop p.from run.film)) = length-take (p.to - p.from) (drop p.from run.film) in
+    let long : 12 ≤ length its =
+    leb-true 12 (length its) (and_parts (nat_le 12 (length its)) _ (and_parts _ _ (and_parts _ _ all).0).0).0 in
+    let count : length its ≡ min (p.to - p.from) (length (drop p.from run.film)) =
+    length-take (p.to - p.from) (drop p.from run.film) in
     let many : 7 < p.to - p.from = omega (arith, long, count) in
     let P : List Packet → Type 0 = λ ps. DoCover unit.from ps unit.to in
     let cover = subst P led.are (packets-cover starts unit laid) in

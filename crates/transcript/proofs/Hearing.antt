@@ -21,11 +21,13 @@ use Rattle.transcript.proofs.Turning.{sends_in, turns_as}
 abbrev IsLeft : Standing → Standing → Type 0
 IsLeft old new = (new.awaited ≡ Nothing) × (new.heard ≡ old.heard)
 
-reply_left : (goes : Bool) (s : Standing) → ((if goes then sent_reply s else s).awaited ≡ s.awaited) × ((if goes then sent_reply s else s).heard ≡ s.heard)
+reply_left : (goes : Bool) (s : Standing)
+    → ((if goes then sent_reply s else s).awaited ≡ s.awaited) × ((if goes then sent_reply s else s).heard ≡ s.heard)
 reply_left true s = (refl, refl)
 reply_left false s = (refl, refl)
 
-pub takes_left : (old new : Stage) (takings : List Taking) → TakesAll old takings new → old.session.awaited ≡ Nothing → IsLeft old.session new.session
+pub takes_left : (old new : Stage) (takings : List Taking) → TakesAll old takings new
+    → old.session.awaited ≡ Nothing → IsLeft old.session new.session
 takes_left old new [] takes rest = subst (λ (s : Stage). IsLeft old.session s.session) (sym takes) (rest, refl)
 takes_left old new (Passed n ∷ takings) takes rest =
     let same : takes.0.session ≡ old.session = ap (λ (s : Stage). s.session) takes.1.0.2 in
@@ -47,7 +49,8 @@ halted_heard s keep (Entered placed) new halted = ap (λ (n : Standing). n.heard
 halted_heard s keep (WasFull more entries live) new halted = absurd halted
 halted_heard s keep (Offered at_slot note) new halted = absurd halted
 
-finished_heard : (asks : Awaits) (s : Standing) (halt : Outcome) (new : Standing) → IsFinished asks s halt new → new.heard ≡ s.heard
+finished_heard : (asks : Awaits) (s : Standing) (halt : Outcome) (new : Standing) → IsFinished asks s halt new
+    → new.heard ≡ s.heard
 finished_heard NoAnswer s Unasked new is = ap (λ (n : Standing). n.heard) is
 finished_heard NoAnswer s (Entered placed) new is = absurd is
 finished_heard NoAnswer s (WasFull more entries live) new is = absurd is
@@ -60,10 +63,12 @@ finished_heard OfferAnswer s halt new is = absurd is
 sent_heard : (old : Standing) (slot : ℕ) → (after_play (sent_slot old slot)).heard ≡ slot
 sent_heard old slot = (reply_left (old.waits && is_between (stepped_in true slot old.state)) (sent_due old slot)).1
 
-slot_cases : {later : Bool} (old : Standing) (slot : ℕ) (small sending : Bool) → (later ≡ true → old.heard < slot) → (later ≡ false → slot ≤ old.heard)
+slot_cases : {later : Bool} (old : Standing) (slot : ℕ) (small sending : Bool)
+    → (later ≡ true → old.heard < slot) → (later ≡ false → slot ≤ old.heard)
     → (if later && small then (if sending then after_play (sent_slot old slot) else record old { heard = slot }) else old).heard
     ≡ max old.heard (if small then slot else 0)
-slot_cases {later = true} old slot true true after before = let h : old.heard < slot = after refl in sent_heard old slot ∙ omega (arith, h)
+slot_cases {later = true} old slot true true after before = let h : old.heard < slot =
+    after refl in sent_heard old slot ∙ omega (arith, h)
 slot_cases {later = true} old slot true false after before = let h : old.heard < slot = after refl in omega (arith, h)
 slot_cases {later = true} old slot false sending after before = omega arith
 slot_cases {later = false} old slot true sending after before = let h : slot ≤ old.heard = before refl in omega (arith, h)
@@ -78,7 +83,8 @@ pub comes_heard : (old opened : Stage) (event : Doing) (due : List Part) (halt :
 comes_heard old opened (HeardBytes bytes) due halt comes =
     ap (λ (s : Stage). s.session.heard) comes.3 ∙ omega arith
 comes_heard old opened (HeardSlot slot) due halt comes =
-    finished_heard (awaited_answer (after_slot old.session slot)) (after_slot old.session slot) halt opened.session comes.1.finished ∙ slotted_heard old.session slot
+    finished_heard (awaited_answer (after_slot old.session slot)) (after_slot old.session slot) halt
+    opened.session comes.1.finished ∙ slotted_heard old.session slot
 comes_heard old opened HeardEnd due halt comes = absurd comes
 comes_heard old opened (Sent byte) due halt comes = absurd comes
 
@@ -99,14 +105,16 @@ course_heard old new (round ∷ rounds) follows stands =
 -- what a connection wrote of films, from its beginning on
 course_is : (films : List Stored) (settings : Settings) (words : List ℕ) (rounds : List Round) (new : Stage)
     (follows : Follows (first_stage films settings words) rounds new)
-    → IsFilm (greatest_slot rounds) (plays_of (askings_of (first_stage films settings words) rounds new follows)) (rounds_film rounds)
+    → IsFilm (greatest_slot rounds)
+    (plays_of (askings_of (first_stage films settings words) rounds new follows)) (rounds_film rounds)
 course_is films settings words rounds new follows =
     let first : Stage = first_stage films settings words in
     let stands : Stands first.session = record { rest = refl; sound = tt } in
     let made : List Asking = askings_of first rounds new follows in
     let step = course_step first new rounds follows stands in
     let film : IsFilm new.session.heard (plays_of (made ++ [])) (rounds_film rounds ++ []) =
-    step.on.rest [] new.session.heard [] (omega arith) (rest_none (sends_in new.session.state) new.session.waits new.session.heard step.on.sound) in
+    step.on.rest [] new.session.heard [] (omega arith)
+    (rest_none (sends_in new.session.state) new.session.waits new.session.heard step.on.sound) in
     let last : new.session.heard ≡ greatest_slot rounds = course_heard first new rounds follows stands ∙ omega arith in
     subst (λ t. IsFilm t (plays_of made) (rounds_film rounds)) last
     (subst (λ ms. IsFilm new.session.heard (plays_of ms) (rounds_film rounds)) (append-nil made)
@@ -114,14 +122,17 @@ course_is films settings words rounds new follows =
 
 pub film_written_is : (films : List Stored) (settings : Settings) (words : List ℕ) (rounds : List Round) (new : Stage)
     (follows : Follows (first_stage films settings words) rounds new)
-    → rounds_film rounds ≡ film_written (greatest_slot rounds) (plays_of (askings_of (first_stage films settings words) rounds new follows))
+    → rounds_film rounds
+    ≡ film_written (greatest_slot rounds) (plays_of (askings_of (first_stage films settings words) rounds new follows))
 film_written_is films settings words rounds new follows =
-    film_is (greatest_slot rounds) (plays_of (askings_of (first_stage films settings words) rounds new follows)) (rounds_film rounds)
+    film_is (greatest_slot rounds) (plays_of (askings_of (first_stage films settings words) rounds new follows))
+    (rounds_film rounds)
     (course_is films settings words rounds new follows)
 
 pub plays_over : (films : List Stored) (settings : Settings) (words : List ℕ) (rounds : List Round) (new : Stage)
     (follows : Follows (first_stage films settings words) rounds new)
     → AreOver (greatest_slot rounds) (plays_of (askings_of (first_stage films settings words) rounds new follows))
 plays_over films settings words rounds new follows =
-    film_over_all (greatest_slot rounds) (plays_of (askings_of (first_stage films settings words) rounds new follows)) (rounds_film rounds)
+    film_over_all (greatest_slot rounds)
+    (plays_of (askings_of (first_stage films settings words) rounds new follows)) (rounds_film rounds)
     (course_is films settings words rounds new follows)

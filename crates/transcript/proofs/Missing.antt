@@ -28,23 +28,28 @@ use Rattle.transcript.specs.Notes.{ending_missed, missed_by, missed_in, rounds_m
 abbrev misses_at : ℕ → ℕ → ℕ → ℕ
 misses_at heard start t = cond (nat_lt heard t && nat_le start t) 1 0
 
-test-of : (heard start t : ℕ) → misses_at heard start t + (t + 1 - max (t + 1) (max (heard + 1) start)) ≡ t + 1 - max t (max (heard + 1) start)
+test-of : (heard start t : ℕ)
+    → misses_at heard start t + (t + 1 - max (t + 1) (max (heard + 1) start)) ≡ t + 1 - max t (max (heard + 1) start)
 test-of heard start t = elim (cases_lt heard t) [
   | inl later ↦ elim (cases_lt t start) [
     | inl early ↦
-        let no : (nat_lt heard t && nat_le start t) ≡ false = and_right (nat_lt heard t) (nat_le start t) (lt-leb start t early) in
+        let no : (nat_lt heard t && nat_le start t) ≡ false =
+        and_right (nat_lt heard t) (nat_le start t) (lt-leb start t early) in
         ap (λ (b : Bool). cond b 1 0 + (t + 1 - max (t + 1) (max (heard + 1) start))) no ∙ omega (arith, early)
     | inr begun ↦
-        let yes : (nat_lt heard t && nat_le start t) ≡ true = and_from (nat_lt heard t) (nat_le start t) (lt-ltb heard t later) (le-leb start t (omega (arith, begun))) in
+        let yes : (nat_lt heard t && nat_le start t) ≡ true =
+        and_from (nat_lt heard t) (nat_le start t) (lt-ltb heard t later) (le-leb start t (omega (arith, begun))) in
         ap (λ (b : Bool). cond b 1 0 + (t + 1 - max (t + 1) (max (heard + 1) start))) yes ∙ omega (arith, later, begun)
   ]
   | inr past ↦
-      let none : nat_lt heard t ≡ false = false_from_ne_true (nat_lt heard t) (λ less. absurd (omega (arith, ltb-true heard t less, past))) in
+      let none : nat_lt heard t ≡ false =
+      false_from_ne_true (nat_lt heard t) (λ less. absurd (omega (arith, ltb-true heard t less, past))) in
       let no : (nat_lt heard t && nat_le start t) ≡ false = ap (λ (b : Bool). b && nat_le start t) none in
       ap (λ (b : Bool). cond b 1 0 + (t + 1 - max (t + 1) (max (heard + 1) start))) no ∙ omega (arith, past)
 ]
 
-counted-is : (heard start from n : ℕ) → sum_by (misses_at heard start) (range_with_len from n) ≡ (from + n) - max from (max (heard + 1) start)
+counted-is : (heard start from n : ℕ)
+    → sum_by (misses_at heard start) (range_with_len from n) ≡ (from + n) - max from (max (heard + 1) start)
 counted-is heard start from zero = omega arith
 counted-is heard start from (suc n) =
     omega (
@@ -68,13 +73,15 @@ asked-late old ask asking (Stops setup play keep next text playing told keep_is 
 asked-late old ask asking (AsksLook looks sequence ask_is is) = ap (λ (s : Standing). s.late) is
 asked-late old ask asking (AsksOffer plan offers sequence ask_is is) = ap (λ (s : Standing). s.late) is
 
-played-late : (asking : Standing) (placed : Placed) (answer : Answer) (new : Standing) → IsPlayAnswered asking placed answer new → new.late ≡ asking.late
+played-late : (asking : Standing) (placed : Placed) (answer : Answer) (new : Standing)
+    → IsPlayAnswered asking placed answer new → new.late ≡ asking.late
 played-late asking placed (Admitted start) new answered = ap (λ (s : Standing). s.late) answered.1
 played-late asking placed (Overflow slot booked asked) new answered = ap (λ (s : Standing). s.late) answered
 played-late asking placed Halted new answered = absurd answered
 played-late asking placed (Looked now at booked) new answered = absurd answered
 
-looked-late : (asking : Standing) (placed : Placed) (answer : Answer) (new : Standing) → IsLookAnswered asking placed answer new → new.late ≡ asking.late
+looked-late : (asking : Standing) (placed : Placed) (answer : Answer) (new : Standing)
+    → IsLookAnswered asking placed answer new → new.late ≡ asking.late
 looked-late asking placed (Looked now at booked) new answered = ap (λ (s : Standing). s.late) answered
 looked-late asking placed (Admitted start) new answered = absurd answered
 looked-late asking placed (Overflow slot booked asked) new answered = absurd answered
@@ -86,7 +93,8 @@ halted-late s keep (Entered placed) new halted = ap (λ (n : Standing). n.late) 
 halted-late s keep (WasFull more entries live) new halted = absurd halted
 halted-late s keep (Offered at_slot note) new halted = absurd halted
 
-answered-late : (asking : Standing) (ask : Ask) (outcome : Outcome) (new : Standing) → IsAnswered asking ask outcome new → new.late ≡ asking.late
+answered-late : (asking : Standing) (ask : Ask) (outcome : Outcome) (new : Standing)
+    → IsAnswered asking ask outcome new → new.late ≡ asking.late
 answered-late asking AskReply Unasked new answered = ap (λ (s : Standing). s.late) answered
 answered-late asking AskReply (Entered placed) new answered = absurd answered
 answered-late asking AskReply (WasFull more entries live) new answered = absurd answered
@@ -105,9 +113,11 @@ answered-late asking (AskOffer plan offers) (Entered placed) new answered = absu
 answered-late asking (AskOffer plan offers) (WasFull more entries live) new answered = absurd answered
 answered-late asking (AskOffer plan offers) (Offered at_slot note) new answered = ap (λ (s : Standing). s.late) answered.2
 
-heard-late : (old : Standing) (message : List ℕ) (outcome : Outcome) (new : Standing) → HasHeard old message outcome new → new.late ≡ old.late
+heard-late : (old : Standing) (message : List ℕ) (outcome : Outcome) (new : Standing)
+    → HasHeard old message outcome new → new.late ≡ old.late
 heard-late old message outcome new heard =
-    answered-late heard.asking heard.ask outcome new heard.answered ∙ asked-late old heard.ask heard.asking (hears_as old message heard.ask heard.asking heard.hears)
+    answered-late heard.asking heard.ask outcome new heard.answered
+    ∙ asked-late old heard.ask heard.asking (hears_as old message heard.ask heard.asking heard.hears)
 
 reply-late : (goes : Bool) (s : Standing) → (if goes then sent_reply s else s).late ≡ s.late
 reply-late true s = refl
@@ -115,10 +125,12 @@ reply-late false s = refl
 
 takes-late : (old new : Stage) (takings : List Taking) → TakesAll old takings new → new.session.late ≡ old.session.late
 takes-late old new [] takes = ap (λ (s : Stage). s.session.late) takes
-takes-late old new (Passed n ∷ takings) takes = takes-late takes.0 new takings takes.1.1 ∙ ap (λ (s : Stage). s.session.late) takes.1.0.2
+takes-late old new (Passed n ∷ takings) takes =
+    takes-late takes.0 new takings takes.1.1 ∙ ap (λ (s : Stage). s.session.late) takes.1.0.2
 takes-late old new (Answered message outcome parts ∷ takings) takes =
     let replied = takes.1.0 in
-    takes-late takes.0 new takings takes.1.1 ∙ ap (λ (s : Stage). s.session.late) replied.new_is ∙ reply-late (can_reply replied.answered) replied.answered
+    takes-late takes.0 new takings takes.1.1 ∙ ap (λ (s : Stage). s.session.late) replied.new_is
+    ∙ reply-late (can_reply replied.answered) replied.answered
     ∙ heard-late old.session message outcome replied.answered replied.heard
 
 -- ---- slots
@@ -139,7 +151,8 @@ slotted-if old slot true true = reply-late (old.waits && is_between (stepped_in 
 slotted-if old slot true false = omega arith
 slotted-if old slot false sending = omega arith
 
-missed-if : (taken : Bool) (heard start slot : ℕ) → (if taken then missed_between heard start slot else 0) ≡ (if taken then slots_missed heard slot start else 0)
+missed-if : (taken : Bool) (heard start slot : ℕ)
+    → (if taken then missed_between heard start slot else 0) ≡ (if taken then slots_missed heard slot start else 0)
 missed-if true heard start slot = missed_is heard start slot
 missed-if false heard start slot = refl
 
@@ -152,14 +165,18 @@ comes-late : (old opened : Stage) (event : Doing) (due : List Part) (halt : Outc
     → opened.session.late ≡ old.session.late + missed_by old.session event
 comes-late old opened (HeardBytes bytes) due halt comes = ap (λ (s : Stage). s.session.late) comes.3 ∙ omega arith
 comes-late old opened (HeardSlot slot) due halt comes =
-    finished-late (awaited_answer (after_slot old.session slot)) (after_slot old.session slot) halt opened.session comes.1.finished ∙ slotted-late old.session slot
+    finished-late (awaited_answer (after_slot old.session slot)) (after_slot old.session slot) halt
+    opened.session comes.1.finished ∙ slotted-late old.session slot
 comes-late old opened HeardEnd due halt comes = absurd comes
 comes-late old opened (Sent byte) due halt comes = absurd comes
 
-round-late : (old new : Stage) (round : Round) → Runs old round new → new.session.late ≡ old.session.late + missed_by old.session round.event
-round-late old new round runs = takes-late runs.opened new round.takings runs.takes ∙ comes-late old runs.opened round.event round.due round.halt runs.comes
+round-late : (old new : Stage) (round : Round) → Runs old round new
+    → new.session.late ≡ old.session.late + missed_by old.session round.event
+round-late old new round runs =
+    takes-late runs.opened new round.takings runs.takes ∙ comes-late old runs.opened round.event round.due round.halt runs.comes
 
-rounds-late : (old new : Stage) (rounds : List Round) (runs : RunsAll old rounds new) → new.session.late ≡ old.session.late + rounds_missed old rounds new runs
+rounds-late : (old new : Stage) (rounds : List Round) (runs : RunsAll old rounds new)
+    → new.session.late ≡ old.session.late + rounds_missed old rounds new runs
 rounds-late old new [] runs = ap (λ (s : Stage). s.session.late) runs ∙ omega arith
 rounds-late old new (round ∷ rounds) runs =
     omega (arith, rounds-late runs.0 new rounds runs.1.2, round-late old runs.0 round runs.1.0)
@@ -180,17 +197,22 @@ ending-late old new count (InSlot slot front) end ends =
 ending-late old new count (InReply round message outcome front) end ends =
     let e = ends.1 in
     let failed = e.fails in
-    ap (λ (s : Stage). s.session.late) failed.new_is ∙ heard-late e.mid.session message outcome failed.answered failed.heard ∙ round-late old e.mid round e.runs
+    ap (λ (s : Stage). s.session.late) failed.new_is
+    ∙ heard-late e.mid.session message outcome failed.answered failed.heard ∙ round-late old e.mid round e.runs
 
-closed-late : (held : Option Open) (last closed : Standing) (halt : Outcome) → IsClosed held last halt closed → closed.late ≡ last.late
+closed-late : (held : Option Open) (last closed : Standing) (halt : Outcome) → IsClosed held last halt closed
+    → closed.late ≡ last.late
 closed-late None last closed Unasked closes = ap (λ (s : Standing). s.late) closes
 closed-late None last closed (Entered placed) closes = absurd closes
 closed-late None last closed (WasFull more entries live) closes = absurd closes
 closed-late None last closed (Offered at_slot note) closes = absurd closes
 closed-late (Some booking) last closed halt closes = halted-late last booking.due halt closed closes
 
-pub late-is : (films : List Stored) (settings : Settings) (words : List ℕ) (doings : Doings) (report : ConnReport) (done : HasDone films settings words doings report)
-    → report.late ≡ rounds_missed (first_stage films settings words) doings.rounds done.mid done.runs + ending_missed done.mid.session doings.ending
+pub late-is : (films : List Stored) (settings : Settings) (words : List ℕ) (doings : Doings)
+    (report : ConnReport) (done : HasDone films settings words doings report)
+    → report.late
+    ≡ rounds_missed (first_stage films settings words) doings.rounds done.mid done.runs
+    + ending_missed done.mid.session doings.ending
 late-is films settings words doings report done =
     let first = first_stage films settings words in
     omega (

@@ -47,18 +47,22 @@ to-same old mid new turns same on =
     carries-as refl (λ later. refl) same.plays same.open-same on
 
 -- ---- slots
-stepped-open : (stop : Bool) (slot : ℕ) (state : State) (later : List Turn) → open_note (stepped_in stop slot state) later ≡ open_note state later
+stepped-open : (stop : Bool) (slot : ℕ) (state : State) (later : List Turn)
+    → open_note (stepped_in stop slot state) later ≡ open_note state later
 stepped-open stop slot Init later = refl
 stepped-open stop slot (Ready setup paused) later = refl
 stepped-open stop slot (Playing setup play) later = refl
 stepped-open stop slot (Stopping setup stopping) later = refl
 
 between-open : (between : Bool) (slot : ℕ) (state : State) (later : List Turn)
-    → open_note (if between then stepped_in false slot (stepped_in true slot state) else stepped_in true slot state) later ≡ open_note state later
-between-open true slot state later = stepped-open false slot (stepped_in true slot state) later ∙ stepped-open true slot state later
+    → open_note (if between then stepped_in false slot (stepped_in true slot state) else stepped_in true slot
+    state) later ≡ open_note state later
+between-open true slot state later =
+    stepped-open false slot (stepped_in true slot state) later ∙ stepped-open true slot state later
 between-open false slot state later = stepped-open true slot state later
 
-due-open : (waits : Bool) (slot : ℕ) (state : State) (later : List Turn) → open_note (due_state waits state slot) later ≡ open_note state later
+due-open : (waits : Bool) (slot : ℕ) (state : State) (later : List Turn)
+    → open_note (due_state waits state slot) later ≡ open_note state later
 due-open true slot state later = between-open (is_between (stepped_in true slot state)) slot state later
 due-open false slot state later = stepped-open false slot state later
 
@@ -105,12 +109,14 @@ unasked-finished s new (Entered placed) is = absurd is
 unasked-finished s new (WasFull more entries live) is = absurd is
 unasked-finished s new (Offered at_slot note) is = absurd is
 
-finished-turn : (s new : Standing) (awaited : Awaited) (halt : Outcome) → s.awaited ≡ awaited → IsFinished (awaited_answer_of awaited) s halt new
+finished-turn : (s new : Standing) (awaited : Awaited) (halt : Outcome) → s.awaited ≡ awaited
+    → IsFinished (awaited_answer_of awaited) s halt new
     → CarriesOf s (turn_of s halt ∷ []) new
 finished-turn s new Nothing halt asks is = unasked-finished s new halt is
 finished-turn s new (Play prepared) halt asks is = absurd is
 finished-turn s new (Halt keep next) halt asks is =
-    halt-turn (record { keep = keep; new = new; halted = is }) s (kept-halt s.state s.awaited keep next asks) (no-halt-note s.state asks)
+    halt-turn (record { keep = keep; new = new; halted = is }) s (kept-halt s.state s.awaited keep next asks)
+    (no-halt-note s.state asks)
 finished-turn s new (Look sequence) halt asks is = absurd is
 finished-turn s new (Offer sequence) halt asks is = absurd is
 
@@ -120,14 +126,17 @@ comes-turn : (old opened : Stage) (event : Doing) (due : List Part) (halt : Outc
 comes-turn old opened (HeardBytes bytes) due halt comes =
     let same : opened.session ≡ old.session = ap (λ (s : Stage). s.session) comes.3 in
     let C : Standing → Outcome → Type 0 = λ s h. CarriesOf old.session (turn_of old.session h ∷ []) s in
-    subst (C opened.session) (sym comes.1) (subst (λ s. C s Unasked) (sym same) (unasked-turn old.session.plays old.session.state old.session))
+    subst (C opened.session) (sym comes.1)
+    (subst (λ s. C s Unasked) (sym same) (unasked-turn old.session.plays old.session.state old.session))
 comes-turn old opened (HeardSlot slot) due halt comes =
-    from-same old.session (after_slot old.session slot) opened.session (turn_of (after_slot old.session slot) halt ∷ []) (slotted-same old.session slot)
+    from-same old.session (after_slot old.session slot) opened.session
+    (turn_of (after_slot old.session slot) halt ∷ []) (slotted-same old.session slot)
     (finished-turn (after_slot old.session slot) opened.session (after_slot old.session slot).awaited halt refl comes.1.finished)
 comes-turn old opened HeardEnd due halt comes = absurd comes
 comes-turn old opened (Sent byte) due halt comes = absurd comes
 
-takes-turns : (old new : Stage) (takings : List Taking) (takes : TakesAll old takings new) → CarriesOf old.session (takings_turns old takings new takes) new.session
+takes-turns : (old new : Stage) (takings : List Taking) (takes : TakesAll old takings new)
+    → CarriesOf old.session (takings_turns old takings new takes) new.session
 takes-turns old new [] takes =
     let C : Stage → Type 0 = λ s. CarriesOf old.session [] s.session in
     subst C (sym takes) (carries-none old.session.plays old.session.state)
@@ -138,19 +147,24 @@ takes-turns old new (Passed n ∷ takings) takes =
 takes-turns old new (Answered message outcome parts ∷ takings) takes =
     let replied = takes.1.0 in
     let turn = turn_of replied.heard.asking outcome in
-    let one : CarriesOf old.session (turn ∷ []) replied.answered = heard-on old.session replied.answered message outcome replied.heard in
+    let one : CarriesOf old.session (turn ∷ []) replied.answered =
+    heard-on old.session replied.answered message outcome replied.heard in
     let sent : CarriesOf old.session (turn ∷ []) (after_reply replied.answered) =
-    to-same old.session replied.answered (after_reply replied.answered) (turn ∷ []) (reply-same (can_reply replied.answered) replied.answered) one in
+    to-same old.session replied.answered (after_reply replied.answered) (turn ∷ [])
+    (reply-same (can_reply replied.answered) replied.answered) one in
     let C : Stage → Type 0 = λ s. CarriesOf old.session (turn ∷ []) s.session in
     carries-then
     (subst C (sym replied.new_is) sent) (takes-turns takes.0 new takings takes.1.1)
 
-round-carries : (old new : Stage) (round : Round) (runs : Runs old round new) → CarriesOf old.session (round_turns old round new runs) new.session
+round-carries : (old new : Stage) (round : Round) (runs : Runs old round new)
+    → CarriesOf old.session (round_turns old round new runs) new.session
 round-carries old new round runs =
     carries-then
-    (comes-turn old runs.opened round.event round.due round.halt runs.comes) (takes-turns runs.opened new round.takings runs.takes)
+    (comes-turn old runs.opened round.event round.due round.halt runs.comes)
+    (takes-turns runs.opened new round.takings runs.takes)
 
-rounds-carry : (old new : Stage) (rounds : List Round) (runs : RunsAll old rounds new) → CarriesOf old.session (rounds_turns old rounds new runs) new.session
+rounds-carry : (old new : Stage) (rounds : List Round) (runs : RunsAll old rounds new)
+    → CarriesOf old.session (rounds_turns old rounds new runs) new.session
 rounds-carry old new [] runs =
     let C : Stage → Type 0 = λ s. CarriesOf old.session [] s.session in
     subst C (sym runs) (carries-none old.session.plays old.session.state)
@@ -171,7 +185,8 @@ carried-open (Ready setup paused) (Playing s p) carried later = absurd carried
 carried-open (Ready setup paused) (Stopping s p) carried later = absurd carried
 carried-open (Playing setup play) Init carried later = absurd carried
 carried-open (Playing setup play) (Ready s p) carried later = absurd carried
-carried-open (Playing setup play) (Playing s p) carried later = rw carried.0 (rw carried.1 (rw carried.2 (rw carried.3 (rw carried.4 refl))))
+carried-open (Playing setup play) (Playing s p) carried later =
+    rw carried.0 (rw carried.1 (rw carried.2 (rw carried.3 (rw carried.4 refl))))
 carried-open (Playing setup play) (Stopping s p) carried later = absurd carried
 carried-open (Stopping setup stop) Init carried later = absurd carried
 carried-open (Stopping setup stop) (Ready s p) carried later = absurd carried
@@ -201,7 +216,8 @@ ending-carries old new count (InReply round message outcome front) end ends =
     let e = ends.1 in
     let failed = e.fails in
     let turn = turn_of failed.heard.asking outcome in
-    let last : CarriesOf e.mid.session (turn ∷ []) failed.answered = heard-on e.mid.session failed.answered message outcome failed.heard in
+    let last : CarriesOf e.mid.session (turn ∷ []) failed.answered =
+    heard-on e.mid.session failed.answered message outcome failed.heard in
     let C : Stage → Type 0 = λ s. CarriesOf e.mid.session (turn ∷ []) s.session in
     carries-then
     (round-carries old e.mid round e.runs) (subst C (sym failed.new_is) last)
@@ -210,11 +226,13 @@ ending-carries old new count (InReply round message outcome front) end ends =
 stands-all : (old new : Stage) (rounds : List Round) → RunsAll old rounds new → Stands old.session → Stands new.session
 stands-all old new rounds runs stands =
     let follows = follows_all old new rounds runs in
-    stands_by old.session new.session (askings_of old rounds new follows) (rounds_film rounds) (course_step old new rounds follows stands)
+    stands_by old.session new.session (askings_of old rounds new follows) (rounds_film rounds)
+    (course_step old new rounds follows stands)
 
 stands-round : (old new : Stage) (round : Round) → Runs old round new → Stands old.session → Stands new.session
 stands-round old new round runs stands =
-    stands_by old.session new.session (round_askings old round new runs) (film_bytes round.due) (round_step old new round runs stands)
+    stands_by old.session new.session (round_askings old round new runs) (film_bytes round.due)
+    (round_step old new round runs stands)
 
 at-rest : (awaited : Awaited) → awaited_answer_of awaited ≡ NoAnswer → awaited ≡ Nothing
 at-rest Nothing rest = refl
@@ -233,15 +251,18 @@ ending-rest (InSlot slot front) ended stands = at-rest ended.new.session.awaited
 ending-rest {old} (InReply round message outcome front) ended stands =
     let e = ended.ends.1 in
     let failed = e.fails in
-    let turns = turns_as e.mid.session message outcome failed.answered failed.heard (stands-round old e.mid round e.runs stands).rest in
-    ap (λ (s : Stage). s.session.awaited) failed.new_is ∙ (turn_after e.mid.session failed.answered failed.heard.asking.awaited outcome turns).awaited
+    let turns = turns_as e.mid.session message outcome failed.answered failed.heard
+    (stands-round old e.mid round e.runs stands).rest in
+    ap (λ (s : Stage). s.session.awaited) failed.new_is
+    ∙ (turn_after e.mid.session failed.answered failed.heard.asking.awaited outcome turns).awaited
 
 -- ---- the halt of a booking that is open at the end
 record IsShut (last closed : Standing) (halt : Outcome) : Type 0 where
   on : CarriesOf last (turn_of last halt ∷ []) closed
   none : (later : List Turn) → open_note closed.state later ≡ []
 
-shut-none : (last closed : Standing) (halt : Outcome) → ((later : List Turn) → open_note last.state later ≡ []) → IsClosed None last halt closed → IsShut last closed halt
+shut-none : (last closed : Standing) (halt : Outcome) → ((later : List Turn) → open_note last.state later ≡ [])
+    → IsClosed None last halt closed → IsShut last closed halt
 shut-none last closed Unasked none closes =
     let C : Standing → Type 0 = λ s. IsShut last s Unasked in
     subst C (sym closes) (record { on = unasked-turn last.plays last.state last; none = none })
@@ -249,7 +270,8 @@ shut-none last closed (Entered placed) none closes = absurd closes
 shut-none last closed (WasFull more entries live) none closes = absurd closes
 shut-none last closed (Offered at_slot note) none closes = absurd closes
 
-shut-halted : {last closed : Standing} {halt : Outcome} (keep : ℕ) → IsKept last.state last.awaited keep → last.awaited ≡ Nothing → IsHalted last keep halt closed
+shut-halted : {last closed : Standing} {halt : Outcome} (keep : ℕ) → IsKept last.state last.awaited keep
+    → last.awaited ≡ Nothing → IsHalted last keep halt closed
     → IsShut last closed halt
 shut-halted {last} {closed} {halt = Unasked} keep kept rest halted = absurd halted
 shut-halted {last} {closed} {halt = Entered placed} keep kept rest halted = record {
@@ -261,25 +283,31 @@ shut-halted {last} {closed} {halt = Entered placed} keep kept rest halted = reco
 shut-halted {last} {closed} {halt = WasFull more entries live} keep kept rest halted = absurd halted
 shut-halted {last} {closed} {halt = Offered at_slot note} keep kept rest halted = absurd halted
 
-shut-in : {state : State} {last closed : Standing} {halt : Outcome} → last.state ≡ state → last.awaited ≡ Nothing → IsClosed (open_in state) last halt closed
+shut-in : {state : State} {last closed : Standing} {halt : Outcome} → last.state ≡ state
+    → last.awaited ≡ Nothing → IsClosed (open_in state) last halt closed
     → IsShut last closed halt
-shut-in {state = Init} {last} {closed} {halt} is rest closes = shut-none last closed halt (λ later. ap (λ s. open_note s later) is) closes
-shut-in {state = Ready setup paused} {last} {closed} {halt} is rest closes = shut-none last closed halt (λ later. ap (λ s. open_note s later) is) closes
+shut-in {state = Init} {last} {closed} {halt} is rest closes =
+    shut-none last closed halt (λ later. ap (λ s. open_note s later) is) closes
+shut-in {state = Ready setup paused} {last} {closed} {halt} is rest closes =
+    shut-none last closed halt (λ later. ap (λ s. open_note s later) is) closes
 shut-in {state = Playing setup play} {last} {closed} {halt} is rest closes =
     let K : State → Awaited → Type 0 = λ s a. IsKept s a play.pacer.due in
     let kept : IsKept last.state last.awaited play.pacer.due =
     subst (λ s. K s last.awaited) (sym is) (subst (K (Playing setup play)) (sym rest) refl) in
     shut-halted play.pacer.due kept rest closes
-shut-in {state = Stopping setup stop} {last} {closed} {halt} is rest closes = shut-none last closed halt (λ later. ap (λ s. open_note s later) is) closes
+shut-in {state = Stopping setup stop} {last} {closed} {halt} is rest closes =
+    shut-none last closed halt (λ later. ap (λ s. open_note s later) is) closes
 
 -- ---- all notes
 until-none : (turns : List Turn) → notes_until turns [] ≡ notes_of turns
 until-none [] = refl
 until-none (turn ∷ turns) =
-    ap (λ ts. notes_of_turns turn.asking turn.outcome ts ++ notes_until turns []) (append-nil turns) ∙ ap (λ ns. notes_of_turns turn.asking turn.outcome turns ++ ns) (until-none turns)
+    ap (λ ts. notes_of_turns turn.asking turn.outcome ts ++ notes_until turns []) (append-nil turns)
+    ∙ ap (λ ns. notes_of_turns turn.asking turn.outcome turns ++ ns) (until-none turns)
 
 pub plays-noted : (films : List Stored) (settings : Settings) (words : List ℕ) (doings : Doings) (report : ConnReport)
-    (done : HasDone films settings words doings report) → report.plays.items ≡ notes_of (turns_of films settings words doings report done)
+    (done : HasDone films settings words doings report)
+    → report.plays.items ≡ notes_of (turns_of films settings words doings report done)
 plays-noted films settings words doings report done =
     let first = first_stage films settings words in
     let count = length doings.rounds in
@@ -292,23 +320,28 @@ plays-noted films settings words doings report done =
     let turns = turns_of films settings words doings report done in
     let before : CarriesOf first.session (heard ++ ended) done.last.session =
     carries-then
-    (rounds-carry first done.mid doings.rounds done.runs) (ending-carries done.mid done.last count doings.ending report.end done.ends) in
+    (rounds-carry first done.mid doings.rounds done.runs)
+    (ending-carries done.mid done.last count doings.ending report.end done.ends) in
     let all : CarriesOf first.session turns done.closed =
     carries-then
     before shut.on in
-    done.report_is.plays ∙ sym (append-nil done.closed.plays) ∙ ap (λ ns. done.closed.plays ++ ns) (sym (shut.none [])) ∙ sym (all.on []) ∙ until-none turns
+    done.report_is.plays ∙ sym (append-nil done.closed.plays)
+    ∙ ap (λ ns. done.closed.plays ++ ns) (sym (shut.none [])) ∙ sym (all.on []) ∙ until-none turns
 
 -- ---- the answers of turns are those of the doings
 takes-outcomes : (old new : Stage) (takings : List Taking) (takes : TakesAll old takings new)
     → map outcome_of (takings_turns old takings new takes) ≡ takings_outcomes takings
 takes-outcomes old new [] takes = refl
 takes-outcomes old new (Passed n ∷ takings) takes = takes-outcomes takes.0 new takings takes.1.1
-takes-outcomes old new (Answered message outcome parts ∷ takings) takes = ap (λ os. outcome ∷ os) (takes-outcomes takes.0 new takings takes.1.1)
+takes-outcomes old new (Answered message outcome parts ∷ takings) takes =
+    ap (λ os. outcome ∷ os) (takes-outcomes takes.0 new takings takes.1.1)
 
-round-outcomes : (old new : Stage) (round : Round) (runs : Runs old round new) → map outcome_of (round_turns old round new runs) ≡ round_outcomes round
+round-outcomes : (old new : Stage) (round : Round) (runs : Runs old round new)
+    → map outcome_of (round_turns old round new runs) ≡ round_outcomes round
 round-outcomes old new round runs = ap (λ os. round.halt ∷ os) (takes-outcomes runs.opened new round.takings runs.takes)
 
-rounds-outcomes : (old new : Stage) (rounds : List Round) (runs : RunsAll old rounds new) → map outcome_of (rounds_turns old rounds new runs) ≡ rounds_outcomes rounds
+rounds-outcomes : (old new : Stage) (rounds : List Round) (runs : RunsAll old rounds new)
+    → map outcome_of (rounds_turns old rounds new runs) ≡ rounds_outcomes rounds
 rounds-outcomes old new [] runs = refl
 rounds-outcomes old new (round ∷ rounds) runs =
     map-append outcome_of (round_turns old round runs.0 runs.1.0) (rounds_turns runs.0 rounds new runs.1.2)
@@ -327,7 +360,8 @@ ending-outcomes old new count (InReply round message outcome front) end ends =
     ∙ ap (λ os. os ++ outcome ∷ []) (round-outcomes old ends.1.mid round ends.1.runs)
 
 pub turns-told : (films : List Stored) (settings : Settings) (words : List ℕ) (doings : Doings) (report : ConnReport)
-    (done : HasDone films settings words doings report) → map outcome_of (turns_of films settings words doings report done) ≡ doings_outcomes doings
+    (done : HasDone films settings words doings report)
+    → map outcome_of (turns_of films settings words doings report done) ≡ doings_outcomes doings
 turns-told films settings words doings report done =
     let first = first_stage films settings words in
     let heard = rounds_turns first doings.rounds done.mid done.runs in
@@ -335,4 +369,5 @@ turns-told films settings words doings report done =
     map-append outcome_of (heard ++ ended) (turn_of done.last.session doings.halt ∷ [])
     ∙ ap (λ os. os ++ doings.halt ∷ []) (map-append outcome_of heard ended
     ∙ ap (λ os. os ++ map outcome_of ended) (rounds-outcomes first done.mid doings.rounds done.runs)
-    ∙ ap (λ os. rounds_outcomes doings.rounds ++ os) (ending-outcomes done.mid done.last (length doings.rounds) doings.ending report.end done.ends))
+    ∙ ap (λ os. rounds_outcomes doings.rounds ++ os)
+    (ending-outcomes done.mid done.last (length doings.rounds) doings.ending report.end done.ends))

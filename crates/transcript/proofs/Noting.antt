@@ -45,8 +45,10 @@ notes_until [] later = []
 notes_until (turn ∷ turns) later = notes_of_turns turn.asking turn.outcome (turns ++ later) ++ notes_until turns later
 
 -- what was noted and what is under way go on through turns
-pub record Carries (plays : List PlayNote) (state : State) (turns : List Turn) (next : List PlayNote) (after : State) : Type 0 where
-  pub on : (later : List Turn) → (plays ++ open_note state (turns ++ later)) ++ notes_until turns later ≡ next ++ open_note after later
+pub record Carries (plays : List PlayNote) (state : State) (turns : List Turn) (next : List PlayNote)
+    (after : State) : Type 0 where
+  pub on : (later : List Turn)
+      → (plays ++ open_note state (turns ++ later)) ++ notes_until turns later ≡ next ++ open_note after later
 
 pub carries-none : (plays : List PlayNote) (state : State) → Carries plays state [] plays state
 carries-none plays state = record { on = λ later. append-nil (plays ++ open_note state later) }
@@ -56,9 +58,11 @@ until-append [] us later = refl
 until-append (t ∷ ts) us later =
     ap (λ ns. notes_of_turns t.asking t.outcome ns ++ notes_until (ts ++ us) later) (append_assoc ts us later)
     ∙ ap (λ ns. notes_of_turns t.asking t.outcome (ts ++ (us ++ later)) ++ ns) (until-append ts us later)
-    ∙ sym (append_assoc (notes_of_turns t.asking t.outcome (ts ++ (us ++ later))) (notes_until ts (us ++ later)) (notes_until us later))
+    ∙ sym (append_assoc (notes_of_turns t.asking t.outcome (ts ++ (us ++ later))) (notes_until ts (us ++ later))
+    (notes_until us later))
 
-pub carries-then : {p q r : List PlayNote} {a b c : State} {ts us : List Turn} → Carries p a ts q b → Carries q b us r c → Carries p a (ts ++ us) r c
+pub carries-then : {p q r : List PlayNote} {a b c : State} {ts us : List Turn} → Carries p a ts q b
+    → Carries q b us r c → Carries p a (ts ++ us) r c
 carries-then {p} {r} {a} {c} {ts} {us} one two = record {
   on = λ later.
       ap (λ ns. (p ++ open_note a ns) ++ notes_until (ts ++ us) later) (append_assoc ts us later)
@@ -68,7 +72,8 @@ carries-then {p} {r} {a} {c} {ts} {us} one two = record {
 }
 
 -- the same notes, and the same play under way
-pub carries-as : {p q r s : List PlayNote} {a b c d : State} {ts : List Turn} → p ≡ q → ((later : List Turn) → open_note a later ≡ open_note b later)
+pub carries-as : {p q r s : List PlayNote} {a b c d : State} {ts : List Turn} → p ≡ q
+    → ((later : List Turn) → open_note a later ≡ open_note b later)
     → r ≡ s → ((later : List Turn) → open_note c later ≡ open_note d later) → Carries q b ts s d → Carries p a ts r c
 carries-as {p} {q} {r} {s} {a} {c} {ts} plays state next after on = record {
   on = λ later.
@@ -78,13 +83,16 @@ carries-as {p} {q} {r} {s} {a} {c} {ts} plays state next after on = record {
 }
 
 -- a turn that neither begins nor halts a play
-open-kept : (state : State) (turn : Turn) (later : List Turn) → ((k : ℕ) → kept_with turn.outcome k ≡ k) → open_note state (turn ∷ later) ≡ open_note state later
+open-kept : (state : State) (turn : Turn) (later : List Turn) → ((k : ℕ) → kept_with turn.outcome k ≡ k)
+    → open_note state (turn ∷ later) ≡ open_note state later
 open-kept Init turn later kept = refl
 open-kept (Ready setup paused) turn later kept = refl
-open-kept (Playing setup play) turn later kept = ap (λ k. note_of setup play k ∷ []) (kept (kept_later later (total_bytes play.plan)))
+open-kept (Playing setup play) turn later kept =
+    ap (λ k. note_of setup play k ∷ []) (kept (kept_later later (total_bytes play.plan)))
 open-kept (Stopping setup stop) turn later kept = refl
 
-still-turn : (plays : List PlayNote) (state : State) (asking : Standing) (outcome : Outcome) → ((later : List Turn) → notes_of_turns asking outcome later ≡ [])
+still-turn : (plays : List PlayNote) (state : State) (asking : Standing) (outcome : Outcome)
+    → ((later : List Turn) → notes_of_turns asking outcome later ≡ [])
     → ((k : ℕ) → kept_with outcome k ≡ k) → Carries plays state (turn_of asking outcome ∷ []) plays state
 still-turn plays state asking outcome none kept = record {
   on = λ later.
@@ -93,11 +101,13 @@ still-turn plays state asking outcome none kept = record {
       ∙ ap (λ ns. plays ++ ns) (open-kept state (turn_of asking outcome) later kept);
 }
 
-pub unasked-turn : (plays : List PlayNote) (state : State) (asking : Standing) → Carries plays state (turn_of asking Unasked ∷ []) plays state
+pub unasked-turn : (plays : List PlayNote) (state : State) (asking : Standing)
+    → Carries plays state (turn_of asking Unasked ∷ []) plays state
 unasked-turn plays state asking = still-turn plays state asking Unasked (λ later. refl) (λ k. refl)
 
 -- nothing is noted where no play was asked for
-pub no-note : (state : State) (awaited : Awaited) (placed : Placed) (later : List Turn) → ((prepared : Prepared) → awaited ≡ Play prepared → ⊥)
+pub no-note : (state : State) (awaited : Awaited) (placed : Placed) (later : List Turn)
+    → ((prepared : Prepared) → awaited ≡ Play prepared → ⊥)
     → noted_entry state awaited placed later ≡ []
 no-note Init awaited placed later other = refl
 no-note (Ready setup paused) Nothing placed later other = refl
@@ -109,7 +119,8 @@ no-note (Playing setup play) awaited placed later other = refl
 no-note (Stopping setup stop) awaited placed later other = refl
 
 -- ---- a halt
-after-open : (setup : Setup) (play : Played) (next : Next) (later : List Turn) → open_note (state_after setup play next) later ≡ []
+after-open : (setup : Setup) (play : Played) (next : Next) (later : List Turn)
+    → open_note (state_after setup play next) later ≡ []
 after-open setup play Done later = refl
 after-open setup play (Paused run) later = refl
 after-open setup play Torn later = refl
@@ -127,7 +138,8 @@ IsKept (Ready setup paused) awaited keep = Unit {0}
 IsKept (Playing setup play) awaited keep = kept_of awaited play.pacer.due ≡ keep
 IsKept (Stopping setup stop) awaited keep = Unit {0}
 
-halted-as : {keep : ℕ} (state : State) (awaited : Awaited) (turn : Turn) (later : List Turn) → IsKept state awaited keep → ((k : ℕ) → kept_with turn.outcome k ≡ keep)
+halted-as : {keep : ℕ} (state : State) (awaited : Awaited) (turn : Turn) (later : List Turn)
+    → IsKept state awaited keep → ((k : ℕ) → kept_with turn.outcome k ≡ keep)
     → open_note state (turn ∷ later) ≡ halted_notes state awaited
 halted-as Init awaited turn later is kept = refl
 halted-as (Ready setup paused) awaited turn later is kept = refl
@@ -151,7 +163,8 @@ halt-turn {halt = Entered placed} {s} given asking kept none =
           ∙ append-nil (s.plays ++ open_note s.state (turn ∷ later))
           ∙ ap (λ ns. s.plays ++ ns) (halted-as s.state s.awaited turn later kept (λ k. ap (λ c. kept_by c k) halted.command))
           ∙ sym (append-nil (s.plays ++ halted_notes s.state s.awaited))
-          ∙ ap (λ ns. (s.plays ++ halted_notes s.state s.awaited) ++ ns) (sym (ap (λ x. open_note x later) state ∙ halted-open s.state s.awaited later))
+          ∙ ap (λ ns. (s.plays ++ halted_notes s.state s.awaited) ++ ns)
+          (sym (ap (λ x. open_note x later) state ∙ halted-open s.state s.awaited later))
           ∙ ap (λ ns. ns ++ open_note new.state later) (sym plays);
     }
   where
@@ -163,18 +176,21 @@ halt-turn {halt = Offered at_slot note} given asking kept none = absurd given.ha
 abbrev CarriesOn : Standing → Standing → Outcome → Standing → Type 0
 CarriesOn old asking outcome new = Carries old.plays old.state (turn_of asking outcome ∷ []) new.plays new.state
 
-stays-on : {asking : Standing} {outcome : Outcome} (old new : Standing) → new.plays ≡ old.plays → new.state ≡ old.state → ((later : List Turn) → notes_of_turns asking outcome later ≡ [])
+stays-on : {asking : Standing} {outcome : Outcome} (old new : Standing) → new.plays ≡ old.plays
+    → new.state ≡ old.state → ((later : List Turn) → notes_of_turns asking outcome later ≡ [])
     → ((k : ℕ) → kept_with outcome k ≡ k) → CarriesOn old asking outcome new
 stays-on {asking} {outcome} old new plays state none kept =
     carries-as refl (λ later. refl) plays
     (λ later. ap (λ s. open_note s later) state) (still-turn old.plays old.state asking outcome none kept)
 
 -- the session's own reply
-replied-on : {asking : Standing} {outcome : Outcome} (old new : Standing) → IsAnswered asking AskReply outcome new → asking.plays ≡ old.plays
+replied-on : {asking : Standing} {outcome : Outcome} (old new : Standing)
+    → IsAnswered asking AskReply outcome new → asking.plays ≡ old.plays
     → ((later : List Turn) → open_note asking.state later ≡ open_note old.state later) → CarriesOn old asking outcome new
 replied-on {asking} {outcome = Unasked} old new answered plays state =
     carries-as refl (λ later. refl)
-    (ap (λ (s : Standing). s.plays) answered ∙ plays) (λ later. ap (λ (s : Standing). open_note s.state later) answered ∙ state later) (unasked-turn old.plays old.state asking)
+    (ap (λ (s : Standing). s.plays) answered ∙ plays)
+    (λ later. ap (λ (s : Standing). open_note s.state later) answered ∙ state later) (unasked-turn old.plays old.state asking)
 replied-on {outcome = Entered placed} old new answered plays state = absurd answered
 replied-on {outcome = WasFull more entries live} old new answered plays state = absurd answered
 replied-on {outcome = Offered at_slot note} old new answered plays state = absurd answered
@@ -197,7 +213,8 @@ begun-note : {setup : Setup} {paused : Option Run} {prepared : Prepared} {answer
 begun-note {setup} {paused} {prepared} {asking} {placed} later ready asks entry =
     ap (λ s. noted_entry s asking.awaited placed later) ready ∙ ap (λ a. noted_entry (Ready setup paused) a placed later) asks
     ∙ ap (λ c. noted_for setup prepared.run placed.place (play_admitted c placed.entry.answer) later) entry.command
-    ∙ ap (λ a. noted_for setup prepared.run placed.place (play_admitted (play_of asking.heard prepared.plan) a) later) entry.answer_is
+    ∙ ap (λ a. noted_for setup prepared.run placed.place (play_admitted (play_of asking.heard prepared.plan) a)
+    later) entry.answer_is
 
 -- a session that asks stands and has played as before
 record SameSession (old asking : Standing) : Type 0 where
@@ -210,12 +227,16 @@ play-on : {asking : Standing} {setup : Setup} {paused : Option Run} {prepared : 
     asking.awaited ≡ Play prepared → CarriesOn old asking (Entered placed) new
 play-on {asking} {setup} {paused} {prepared} {placed} {answer = Admitted start} {old} new entry answered ready same awaited =
     let there : asking.state ≡ Ready setup paused = same.state ∙ ready in
-    let note : List Turn → PlayNote = λ later. note_for setup prepared.run placed.place (whole_play start prepared.plan) (kept_later later (total_bytes prepared.plan)) in
+    let note : List Turn → PlayNote =
+    λ later. note_for setup prepared.run placed.place (whole_play start prepared.plan)
+    (kept_later later (total_bytes prepared.plan)) in
     let new-plays : new.plays ≡ old.plays = ap (λ (s : Standing). s.plays) answered.1 ∙ same.plays in
-    let new-state : new.state ≡ admitted_in asking.state asking.awaited placed.place start = ap (λ (s : Standing). s.state) answered.1 in
+    let new-state : new.state ≡ admitted_in asking.state asking.awaited placed.place start =
+    ap (λ (s : Standing). s.state) answered.1 in
     record {
       on = λ later.
-          ap (λ s. (old.plays ++ open_note s (turn_of asking (Entered placed) ∷ later)) ++ (notes_of_turns asking (Entered placed) later ++ [])) ready
+          ap (λ s. (old.plays ++ open_note s (turn_of asking (Entered placed) ∷ later))
+          ++ (notes_of_turns asking (Entered placed) later ++ [])) ready
           ∙ ap (λ ns. ns ++ (notes_of_turns asking (Entered placed) later ++ [])) (append-nil old.plays)
           ∙ ap (λ ns. old.plays ++ ns) (append-nil (notes_of_turns asking (Entered placed) later)
           ∙ begun-note later there awaited entry)
@@ -238,7 +259,8 @@ asks-play {outcome = Unasked} new answered ready same awaited = absurd answered
 asks-play {outcome = Entered placed} new answered ready same awaited =
     play-on new (record { answer_is = refl; command = answered.0 }) answered.1 ready same awaited
 asks-play {outcome = WasFull more entries live} {old} new answered ready same awaited =
-    stays-on old new (ap (λ (s : Standing). s.plays) answered.0 ∙ same.plays) (ap (λ (s : Standing). s.state) answered.0 ∙ same.state)
+    stays-on old new (ap (λ (s : Standing). s.plays) answered.0 ∙ same.plays)
+    (ap (λ (s : Standing). s.state) answered.0 ∙ same.state)
     (λ later. refl) (λ k. refl)
 asks-play {outcome = Offered at_slot note} new answered ready same awaited = absurd answered
 
@@ -256,7 +278,8 @@ look-on : {asking : Standing} {placed : Placed} {sequence : ℕ} {old new : Stan
     LookEntered asking placed answer new → SameSession old asking → asking.awaited ≡ Look sequence →
     CarriesOn old asking (Entered placed) new
 look-on {asking} {placed} {sequence} {old} {new} (Looked now at booked) entered same awaited =
-    stays-on old new (ap (λ (s : Standing). s.plays) entered.answered ∙ same.plays) (ap (λ (s : Standing). s.state) entered.answered ∙ same.state)
+    stays-on old new (ap (λ (s : Standing). s.plays) entered.answered ∙ same.plays)
+    (ap (λ (s : Standing). s.state) entered.answered ∙ same.state)
     (λ later. no-note asking.state asking.awaited placed later (no-play sequence asking.awaited awaited))
     (λ k. ap (λ c. kept_by c k) entered.command)
 look-on (Admitted start) entered same awaited = absurd entered.answered
@@ -270,7 +293,8 @@ asks-look {outcome = Unasked} new slot answered same awaited = absurd answered
 asks-look {outcome = Entered placed} new slot answered same awaited =
     look-on placed.entry.answer (record { slot = slot; command = answered.0; answered = answered.1 }) same awaited
 asks-look {outcome = WasFull more entries live} {old} new slot answered same awaited =
-    stays-on old new (ap (λ (s : Standing). s.plays) answered.0 ∙ same.plays) (ap (λ (s : Standing). s.state) answered.0 ∙ same.state)
+    stays-on old new (ap (λ (s : Standing). s.plays) answered.0 ∙ same.plays)
+    (ap (λ (s : Standing). s.state) answered.0 ∙ same.state)
     (λ later. refl) (λ k. refl)
 asks-look {outcome = Offered at_slot note} new slot answered same awaited = absurd answered
 
@@ -281,11 +305,13 @@ asks-offer {outcome = Unasked} new plan offers answered same = absurd answered
 asks-offer {outcome = Entered placed} new plan offers answered same = absurd answered
 asks-offer {outcome = WasFull more entries live} new plan offers answered same = absurd answered
 asks-offer {outcome = Offered at_slot note} {old} new plan offers answered same =
-    stays-on old new (ap (λ (s : Standing). s.plays) answered.2 ∙ same.plays) (ap (λ (s : Standing). s.state) answered.2 ∙ same.state)
+    stays-on old new (ap (λ (s : Standing). s.plays) answered.2 ∙ same.plays)
+    (ap (λ (s : Standing). s.state) answered.2 ∙ same.state)
     (λ later. refl) (λ k. refl)
 
 -- a halt that a request asks for
-pub no-halt-note : {awaited : Awaited} {keep : ℕ} {next : Next} (state : State) → awaited ≡ Halt keep next → (placed : Placed) (later : List Turn)
+pub no-halt-note : {awaited : Awaited} {keep : ℕ} {next : Next} (state : State) → awaited ≡ Halt keep next
+    → (placed : Placed) (later : List Turn)
     → noted_entry state awaited placed later ≡ []
 no-halt-note {awaited} {keep} {next} state halts placed later =
     no-note state awaited placed later (λ prepared asks. let no : Halt keep next ≡ Play prepared = sym halts ∙ asks in cc no)
@@ -305,7 +331,8 @@ asks-halt {asking} {setup} {play} {keep} {next} new halted plays asked =
     open asked use {playing, state, awaited}
 
 -- by what was asked
-answered-on : {old asking : Standing} {ask : Ask} {outcome : Outcome} (new : Standing) → IsAnswered asking ask outcome new → HearsAs old ask asking → CarriesOn old asking outcome new
+answered-on : {old asking : Standing} {ask : Ask} {outcome : Outcome} (new : Standing)
+    → IsAnswered asking ask outcome new → HearsAs old ask asking → CarriesOn old asking outcome new
 answered-on {old} {asking} {ask} {outcome} new answered (Replies text tearing ask_is is) =
     replied-on old new (subst (λ a. IsAnswered asking a outcome new) ask_is answered) (ap (λ (s : Standing). s.plays) is)
     (λ later. ap (λ (s : Standing). open_note s.state later) is)

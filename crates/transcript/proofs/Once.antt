@@ -20,11 +20,13 @@ use Rattle.transcript.specs.Cuttings.{AreSameAnswers, Hearing, LackAlike, LacksM
 abbrev pub hearing : Standing → List ℕ → Ask → Standing → Hearing
 hearing session message ask asking = record { session = session; message = message; ask = ask; asking = asking }
 
-lacks_once : {one other : Standing} {ask again : Ask} (old : Standing) (message : List ℕ) → LacksMemory (hearing old message ask one)
+lacks_once : {one other : Standing} {ask again : Ask} (old : Standing) (message : List ℕ)
+    → LacksMemory (hearing old message ask one)
     → LacksMemory (hearing old message again other) → (again ≡ ask) × (other ≡ one)
 lacks_once {one} {other} {ask} old message lacks also = (also.0 ∙ sym lacks.0, also.1 ∙ sym lacks.1)
 
-hears_by : {old one other : Standing} {message : List ℕ} {ask again : Ask} → LackAlike (hearing old message ask one) (hearing old message again other)
+hears_by : {old one other : Standing} {message : List ℕ} {ask again : Ask}
+    → LackAlike (hearing old message ask one) (hearing old message again other)
     → IsOneHearing old message ask one again other → (again ≡ ask) × (other ≡ one)
 hears_by {one} {other} {ask} alike (inl same) = (same.ask_is, same.session_is)
 hears_by {old} {one} {other} {message} {ask} alike (inr (inl lacks)) = lacks_once old message lacks (alike.there lacks)
@@ -75,13 +77,15 @@ IsOutcomeOf (AskHalt keep) outcome = IsAnswer outcome
 IsOutcomeOf (AskLook slot) outcome = IsAnswer outcome
 IsOutcomeOf (AskOffer plan offers) outcome = IsAnswer outcome
 
-halted_answer : (old : Standing) (keep : ℕ) (outcome : Outcome) (new : Standing) → IsHalted old keep outcome new → IsAnswer outcome
+halted_answer : (old : Standing) (keep : ℕ) (outcome : Outcome) (new : Standing) → IsHalted old keep outcome new
+    → IsAnswer outcome
 halted_answer old keep Unasked new halted = absurd halted
 halted_answer old keep (Entered placed) new halted = tt
 halted_answer old keep (WasFull more entries live) new halted = absurd halted
 halted_answer old keep (Offered at_slot note) new halted = absurd halted
 
-outcome_of : (old : Standing) (ask : Ask) (outcome : Outcome) (new : Standing) → IsAnswered old ask outcome new → IsOutcomeOf ask outcome
+outcome_of : (old : Standing) (ask : Ask) (outcome : Outcome) (new : Standing) → IsAnswered old ask outcome new
+    → IsOutcomeOf ask outcome
 outcome_of old AskReply Unasked new is = refl
 outcome_of old AskReply (Entered placed) new is = absurd is
 outcome_of old AskReply (WasFull more entries live) new is = absurd is
@@ -104,7 +108,8 @@ outcomes_same : {one other : Outcome} (ask : Ask) (ones others : List Outcome) �
     → AreSameAnswers (answer_in one ++ ones) (answer_in other ++ others) → (other ≡ one) × AreSameAnswers ones others
 outcomes_same {one} {other} AskReply ones others is also same = (
   also ∙ sym is,
-  subst (λ o. AreSameAnswers (answer_in o ++ ones) others) is (subst (λ o. AreSameAnswers (answer_in one ++ ones) (answer_in o ++ others)) also same),
+  subst (λ o. AreSameAnswers (answer_in o ++ ones) others) is
+      (subst (λ o. AreSameAnswers (answer_in one ++ ones) (answer_in o ++ others)) also same),
 )
 outcomes_same {one} {other} (AskPlay plan) ones others is also same = heads_same ones others is also same
 outcomes_same {one} {other} (AskHalt keep) ones others is also same = heads_same ones others is also same
@@ -125,7 +130,8 @@ look_once {one} {other} old placed (Overflow slot booked asked) is also = absurd
 look_once {one} {other} old placed Halted is also = absurd is
 look_once {one} {other} old placed (Looked now at booked) is also = also ∙ sym is
 
-halted_once : {one other : Standing} (old : Standing) (keep : ℕ) (outcome : Outcome) → IsHalted old keep outcome one → IsHalted old keep outcome other
+halted_once : {one other : Standing} (old : Standing) (keep : ℕ) (outcome : Outcome)
+    → IsHalted old keep outcome one → IsHalted old keep outcome other
     → other ≡ one
 halted_once {one} {other} old keep Unasked is also = absurd is
 halted_once {one} {other} old keep (Entered placed) is also = also.halts ∙ sym is.halts
@@ -163,12 +169,14 @@ pub answers_same : {new again : Standing} {one other : Outcome} (old : Standing)
     (alike : AnswersAlike one other) → IsAnswered old ask one new → IsAnswered old ask other again →
     (again ≡ new) × AreSameAnswers alike.ones alike.others
 answers_same {new} {again} {one} {other} old ask alike is also =
-    let both = outcomes_same ask alike.ones alike.others (outcome_of old ask one new is) (outcome_of old ask other again also) alike.same in
+    let both = outcomes_same ask alike.ones alike.others (outcome_of old ask one new is)
+    (outcome_of old ask other again also) alike.same in
     (answered_once old ask one is (subst (λ o. IsAnswered old ask o again) both.0 also), both.1)
 
 -- ---- a slot is taken up
 
-unasked : (old : Standing) (outcome : Outcome) (new : Standing) → IsFinished NoAnswer old outcome new → (outcome ≡ Unasked) × (new ≡ old)
+unasked : (old : Standing) (outcome : Outcome) (new : Standing) → IsFinished NoAnswer old outcome new
+    → (outcome ≡ Unasked) × (new ≡ old)
 unasked old Unasked new is = (refl, is)
 unasked old (Entered placed) new is = absurd is
 unasked old (WasFull more entries live) new is = absurd is
@@ -188,14 +196,16 @@ finished_same {new} {again} {one} {other} NoAnswer old alike is also =
     open alike use {ones, others, same}
 finished_same {new} (PlayAnswer plan) old alike is also = absurd is
 finished_same {new} {again} {one} {other} (HaltAnswer keep) old alike is also =
-    let both = heads_same alike.ones alike.others (halted_answer old keep one new is) (halted_answer old keep other again also) alike.same in
+    let both = heads_same alike.ones alike.others (halted_answer old keep one new is)
+    (halted_answer old keep other again also) alike.same in
     (halted_once old keep one is (subst (λ o. IsHalted old keep o again) both.0 also), both.1)
 finished_same {new} LookAnswer old alike is also = absurd is
 finished_same {new} OfferAnswer old alike is also = absurd is
 
 pub steps_same : {old : Standing} {slot : ℕ} {due sent : List Part} {one other : Outcome} {new again : Standing}
     (ones others : List Outcome)
-    → HasStepped old slot due one new → HasStepped old slot sent other again → AreSameAnswers (answer_in one ++ ones) (answer_in other ++ others)
+    → HasStepped old slot due one new → HasStepped old slot sent other again
+    → AreSameAnswers (answer_in one ++ ones) (answer_in other ++ others)
     → (sent ≡ due) × (again ≡ new) × AreSameAnswers ones others
 steps_same {old} {slot} {one} {other} {new} ones others is also same =
     let both = finished_same (awaited_answer (after_slot old slot)) (after_slot old slot)
@@ -204,25 +214,29 @@ steps_same {old} {slot} {one} {other} {new} ones others is also same =
 
 -- ---- the films stay
 
-play_films : (old : Standing) (placed : Placed) (answer : Answer) (new : Standing) → IsPlayAnswered old placed answer new → new.films ≡ old.films
+play_films : (old : Standing) (placed : Placed) (answer : Answer) (new : Standing)
+    → IsPlayAnswered old placed answer new → new.films ≡ old.films
 play_films old placed (Admitted start) new is = ap (λ (s : Standing). s.films) is.1
 play_films old placed (Overflow slot booked asked) new is = ap (λ (s : Standing). s.films) is
 play_films old placed Halted new is = absurd is
 play_films old placed (Looked now at booked) new is = absurd is
 
-look_films : (old : Standing) (placed : Placed) (answer : Answer) (new : Standing) → IsLookAnswered old placed answer new → new.films ≡ old.films
+look_films : (old : Standing) (placed : Placed) (answer : Answer) (new : Standing)
+    → IsLookAnswered old placed answer new → new.films ≡ old.films
 look_films old placed (Admitted start) new is = absurd is
 look_films old placed (Overflow slot booked asked) new is = absurd is
 look_films old placed Halted new is = absurd is
 look_films old placed (Looked now at booked) new is = ap (λ (s : Standing). s.films) is
 
-halted_films : (old : Standing) (keep : ℕ) (outcome : Outcome) (new : Standing) → IsHalted old keep outcome new → new.films ≡ old.films
+halted_films : (old : Standing) (keep : ℕ) (outcome : Outcome) (new : Standing) → IsHalted old keep outcome new
+    → new.films ≡ old.films
 halted_films old keep Unasked new is = absurd is
 halted_films old keep (Entered placed) new is = ap (λ (s : Standing). s.films) is.halts
 halted_films old keep (WasFull more entries live) new is = absurd is
 halted_films old keep (Offered at_slot note) new is = absurd is
 
-pub answered_films : (old : Standing) (ask : Ask) (outcome : Outcome) (new : Standing) → IsAnswered old ask outcome new → new.films ≡ old.films
+pub answered_films : (old : Standing) (ask : Ask) (outcome : Outcome) (new : Standing)
+    → IsAnswered old ask outcome new → new.films ≡ old.films
 answered_films old AskReply Unasked new is = ap (λ (s : Standing). s.films) is
 answered_films old AskReply (Entered placed) new is = absurd is
 answered_films old AskReply (WasFull more entries live) new is = absurd is
@@ -249,19 +263,22 @@ pub replied_films : (s : Standing) → (after_reply s).films ≡ s.films
 replied_films s = reply_films (can_reply s) s
 
 slot_films : (old : Standing) (slot : ℕ) (taken sending : Bool)
-    → (if taken then (if sending then after_play (sent_slot old slot) else record old { heard = slot }) else old).films ≡ old.films
+    → (if taken then (if sending then after_play (sent_slot old slot) else record old { heard = slot })
+    else old).films ≡ old.films
 slot_films old slot true true = reply_films (old.waits && is_between (stepped_in true slot old.state)) (sent_due old slot)
 slot_films old slot true false = refl
 slot_films old slot false sending = refl
 
-finished_films : (asks : Awaits) (old : Standing) (outcome : Outcome) (new : Standing) → IsFinished asks old outcome new → new.films ≡ old.films
+finished_films : (asks : Awaits) (old : Standing) (outcome : Outcome) (new : Standing)
+    → IsFinished asks old outcome new → new.films ≡ old.films
 finished_films NoAnswer old outcome new is = ap (λ (s : Standing). s.films) (unasked old outcome new is).1
 finished_films (PlayAnswer plan) old outcome new is = absurd is
 finished_films (HaltAnswer keep) old outcome new is = halted_films old keep outcome new is
 finished_films LookAnswer old outcome new is = absurd is
 finished_films OfferAnswer old outcome new is = absurd is
 
-pub stepped_films : (old : Standing) (slot : ℕ) (due : List Part) (halt : Outcome) (new : Standing) → HasStepped old slot due halt new
+pub stepped_films : (old : Standing) (slot : ℕ) (due : List Part) (halt : Outcome) (new : Standing)
+    → HasStepped old slot due halt new
     → new.films ≡ old.films
 stepped_films old slot due halt new is =
     finished_films (awaited_answer (after_slot old slot)) (after_slot old slot) halt new is.finished

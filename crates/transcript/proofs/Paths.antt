@@ -53,7 +53,8 @@ over_grows : (input more : List ℕ) (n : ℕ) → IsOver input n → IsOver (in
 over_grows input more n (AnEnd one some end) =
     AnEnd one (omega (arith, length-append input more, some)) (rw (get_or_append_left input more 0 0 some) end)
 over_grows input more n (ABlock starts four size inside) =
-    ABlock (StartsBlock-append input more starts) (omega (arith, length-append input more, four)) (rw (block_length-append input more four) size)
+    ABlock (StartsBlock-append input more starts) (omega (arith, length-append input more, four))
+    (rw (block_length-append input more four) size)
     (omega (arith, length-append input more, inside))
 
 over_no_request : (input : List ℕ) (n : ℕ) → IsOver input n → StartsRequest input → ⊥
@@ -132,7 +133,8 @@ join_hearings (Taken turn ∷ xs) ys = ap (λ hs. hearing turn.session turn.mess
 abbrev pub longer : Stage → List ℕ → Stage
 longer old more = stage old.session (old.input ++ more)
 
-shorter : {new : Stage} (old : Stage) (session : Standing) (more : List ℕ) (n : ℕ) → n ≤ length old.input → new ≡ stage session (drop n old.input)
+shorter : {new : Stage} (old : Stage) (session : Standing) (more : List ℕ) (n : ℕ) → n ≤ length old.input
+    → new ≡ stage session (drop n old.input)
     → longer new more ≡ stage session (drop n (old.input ++ more))
 shorter {new} old session more n inside is =
     ap (λ s. longer s more) is ∙ ap (λ input. stage session input) (sym (drop-append-le n old.input more inside))
@@ -145,7 +147,8 @@ next_grows old message more next = record {
   torn = next.torn;
 }
 
-piece_grows : (old new : Stage) (piece : Piece) (more : List ℕ) → Goes old piece new → Goes (longer old more) piece (longer new more)
+piece_grows : (old new : Stage) (piece : Piece) (more : List ℕ) → Goes old piece new
+    → Goes (longer old more) piece (longer new more)
 piece_grows old new (Over n) more goes = record {
   over = over_grows old.input more n goes.over;
   torn = goes.torn;
@@ -159,7 +162,8 @@ piece_grows old new (Taken turn) more goes = record {
   new_is = shorter old (after_reply turn.answered) more (length turn.message) goes.next.first.2 goes.new_is;
 }
 
-pub goes_grow : (old new : Stage) (pieces : List Piece) (more : List ℕ) → GoesAll old pieces new → GoesAll (longer old more) pieces (longer new more)
+pub goes_grow : (old new : Stage) (pieces : List Piece) (more : List ℕ) → GoesAll old pieces new
+    → GoesAll (longer old more) pieces (longer new more)
 goes_grow old new [] more goes = ap (λ s. longer s more) goes
 goes_grow old new (piece ∷ pieces) more goes =
     (longer goes.0 more, (piece_grows old goes.0 piece more goes.1.0, goes_grow goes.0 new pieces more goes.1.1))
@@ -186,12 +190,14 @@ path_over {a} {b} {c} {n} {answers} passing path = record {
   hearings_are = path.hearings_are;
 }
 
-path_then : {a b c : Stage} {first second : List ℕ} {one two : List Outcome} {heard later : List Hearing} → Path a b first one heard
+path_then : {a b c : Stage} {first second : List ℕ} {one two : List Outcome} {heard later : List Hearing}
+    → Path a b first one heard
     → Path b c second two later → Path a c (first ++ second) (one ++ two) (heard ++ later)
 path_then {a} {b} {c} {first} {second} {one} {heard} {later} path after = record {
   pieces = path.pieces ++ after.pieces;
   goes = join_goes a (record { old = b; new = c; pieces = after.pieces; leads = after.goes }) path.pieces path.goes;
-  bytes_are = join_bytes path.pieces after.pieces ∙ ap (λ bs. bs ++ pieces_bytes after.pieces) path.bytes_are ∙ ap (λ bs. first ++ bs) after.bytes_are;
+  bytes_are = join_bytes path.pieces after.pieces ∙ ap (λ bs. bs ++ pieces_bytes after.pieces) path.bytes_are
+      ∙ ap (λ bs. first ++ bs) after.bytes_are;
   answers_are = join_answers path.pieces after.pieces ∙ ap (λ os. os ++ pieces_answers after.pieces) path.answers_are
       ∙ ap (λ os. one ++ os) after.answers_are;
   hearings_are = join_hearings path.pieces after.pieces ∙ ap (λ hs. hs ++ pieces_hearings after.pieces) path.hearings_are
@@ -199,7 +205,8 @@ path_then {a} {b} {c} {first} {second} {one} {heard} {later} path after = record
 }
 
 ends_over : (session : Standing) (input : List ℕ) (n : ℕ) → session.torn ≡ false → n ≤ length input
-    → ((k : ℕ) → k < n → is_line_end (get_or input k 0) ≡ true) → Path (stage session input) (stage session (drop n input)) [] [] []
+    → ((k : ℕ) → k < n → is_line_end (get_or input k 0) ≡ true)
+    → Path (stage session input) (stage session (drop n input)) [] [] []
 ends_over session input zero torn inside ends = path_none (stage session input)
 ends_over session [] (suc n) torn inside ends = let bad : ⊥ = omega (arith, inside) in absurd bad
 ends_over session (c ∷ cs) (suc n) torn inside ends =
@@ -212,10 +219,13 @@ passed_over : (session : Standing) (input : List ℕ) (n : ℕ) → IsPassed inp
 passed_over session input n (inl skip) torn = ends_over session input n torn skip.1.within skip.1.line_ends
 passed_over session input n (inr block) torn =
     path_over
-    (record { over = ABlock block.1.0 block.1.1 block.1.3 block.1.4; torn = torn; new_is = refl }) (path_none (stage session (drop n input)))
+    (record { over = ABlock block.1.0 block.1.1 block.1.3 block.1.4; torn = torn; new_is = refl })
+    (path_none (stage session (drop n input)))
 
-path_taken : (old new : Stage) (message : List ℕ) (outcome : Outcome) (parts : List Part) (replied : IsReplied old message outcome parts new)
-    → Path old new (parts_bytes parts) (answer_in outcome) (hearing old.session message replied.heard.ask replied.heard.asking ∷ [])
+path_taken : (old new : Stage) (message : List ℕ) (outcome : Outcome) (parts : List Part)
+    (replied : IsReplied old message outcome parts new)
+    → Path old new (parts_bytes parts) (answer_in outcome)
+    (hearing old.session message replied.heard.ask replied.heard.asking ∷ [])
 path_taken old new message outcome parts replied = record {
   pieces = Taken (record {
     session = old.session;
@@ -228,7 +238,14 @@ path_taken old new message outcome parts replied = record {
   goes = (
     new,
     (
-      record { session_is = refl; next = replied.next; hears = replied.heard.hears; answered = replied.heard.answered; new_is = replied.new_is },
+      record {
+        session_is = refl;
+        next = replied.next;
+        hears = replied.heard.hears;
+        answered =
+            replied.heard.answered;
+        new_is = replied.new_is;
+      },
       refl,
     ),
   );
@@ -260,11 +277,13 @@ goes_on : (old new : Stage) (piece : Piece) → Goes old piece new → old.sessi
 goes_on old new (Over n) goes = goes.torn
 goes_on old new (Taken turn) goes = goes.next.torn
 
-waits_on : {n : ℕ} (old new : Stage) (piece : Piece) → IsFirst old.input (Ok (Request n)) → old.session.waits ≡ true → Goes old piece new → ⊥
+waits_on : {n : ℕ} (old new : Stage) (piece : Piece) → IsFirst old.input (Ok (Request n))
+    → old.session.waits ≡ true → Goes old piece new → ⊥
 waits_on old new (Over m) first waits goes = over_no_request old.input m goes.over first.0
 waits_on old new (Taken turn) first waits goes = true≢false (sym waits ∙ goes.next.replied)
 
-idle_done : (old new : Stage) (piece : Piece) → (IsFirst old.input (Ok More) ⊎ ((n : ℕ) × (IsFirst old.input (Ok (Request n)) × (old.session.waits ≡ true))))
+idle_done : (old new : Stage) (piece : Piece)
+    → (IsFirst old.input (Ok More) ⊎ ((n : ℕ) × (IsFirst old.input (Ok (Request n)) × (old.session.waits ≡ true))))
     → Goes old piece new → ⊥
 idle_done old new piece (inl more) goes =
     let first = first_piece old new piece goes in tells_none old.input (Ok More) more first.0 first.1
@@ -290,7 +309,8 @@ done_goes old new piece (inr stopped) goes = stopped_done old new piece stopped.
 
 taken_films : (old new : Stage) (turn : Turn) → IsTaken old turn new → new.session.films ≡ old.session.films
 taken_films old new turn taken =
-    ap (λ (s : Stage). s.session.films) taken.new_is ∙ replied_films turn.answered ∙ answered_films turn.asking turn.ask turn.outcome turn.answered taken.answered
+    ap (λ (s : Stage). s.session.films) taken.new_is ∙ replied_films turn.answered
+    ∙ answered_films turn.asking turn.ask turn.outcome turn.answered taken.answered
     ∙ (hears_ground old.session turn.asking turn.message turn.ask taken.hears).films
 
 pub goes_films : (old new : Stage) (pieces : List Piece) → GoesAll old pieces new → new.session.films ≡ old.session.films
@@ -300,7 +320,8 @@ goes_films old new (Over n ∷ pieces) goes =
 goes_films old new (Taken turn ∷ pieces) goes =
     goes_films goes.0 new pieces goes.1.1 ∙ taken_films old goes.0 turn goes.1.0
 
-pub record SameEnds (one other : Stage) (sent again : List ℕ) (ones others : List Outcome) (heard also : List Hearing) : Type 0 where
+pub record SameEnds (one other : Stage) (sent again : List ℕ) (ones others : List Outcome)
+    (heard also : List Hearing) : Type 0 where
   pub last : other ≡ one
   pub bytes : again ≡ sent
   pub answers : AreSameAnswers ones others
@@ -308,7 +329,9 @@ pub record SameEnds (one other : Stage) (sent again : List ℕ) (ones others : L
 
 message_same : (old : Stage) (one other : List ℕ) → IsNext old one → IsNext old other → other ≡ one
 message_same old one other is also =
-    also.message_is ∙ ap (λ n. take n old.input) (total_once old.input (length other) (length one) also.first.1 is.first.1) ∙ sym is.message_is
+    also.message_is
+    ∙ ap (λ n. take n old.input) (total_once old.input (length other) (length one) also.first.1 is.first.1)
+    ∙ sym is.message_is
 
 -- two hearings that are the one of a session and a message
 record SameHearing (session s r : Standing) (message m k : List ℕ) : Type 0 where
@@ -331,8 +354,10 @@ stages_same a b x y one two = ap (λ s. stage s x) one ∙ ap (λ input. stage b
 
 turns_same : {old one other : Stage} {turn again : Turn} (given : AnswersAlike turn.outcome again.outcome) →
     AreFilms old.session.films → IsTaken old turn one → IsTaken old again other →
-    LackAlike (hearing turn.session turn.message turn.ask turn.asking) (hearing again.session again.message again.ask again.asking) →
-    (other ≡ one) × (parts_bytes (reply_parts again.answered) ≡ parts_bytes (reply_parts turn.answered)) × AreSameAnswers given.ones given.others
+    LackAlike (hearing turn.session turn.message turn.ask turn.asking)
+    (hearing again.session again.message again.ask again.asking) →
+    (other ≡ one) × (parts_bytes (reply_parts again.answered) ≡ parts_bytes (reply_parts turn.answered))
+    × AreSameAnswers given.ones given.others
 turns_same {old} {one} {other} {turn} {again} given films taken also alike =
     let message : again.message ≡ turn.message = message_same old turn.message again.message taken.next also.next in
     let heard = hears_same films taken.hears
@@ -348,7 +373,8 @@ turns_same {old} {one} {other} {turn} {again} given films taken also alike =
     (subst (λ s. IsAnswered s again.ask again.outcome again.answered) heard.1 also.answered) in
     let both = answers_same turn.asking turn.ask given taken.answered answered in (
       also.new_is
-          ∙ stages_same (after_reply again.answered) (after_reply turn.answered) (drop (length again.message) old.input) (drop (length turn.message) old.input)
+          ∙ stages_same (after_reply again.answered) (after_reply turn.answered)
+          (drop (length again.message) old.input) (drop (length turn.message) old.input)
           (ap after_reply both.0) (ap (λ (m : List ℕ). drop (length m) old.input) message)
           ∙ sym taken.new_is,
       ap (λ s. parts_bytes (reply_parts s)) both.0,
@@ -392,9 +418,12 @@ ends_same {one} {other} {old} (Taken turn ∷ xs) (Over m ∷ ys) films way othe
     absurd (over_no_request old.input m other_way.goes.1.0.over way.goes.1.0.next.first.0)
 ends_same {one} {other} {ones} {others} {old} (Taken turn ∷ xs) (Taken again ∷ ys) films way other_way alike =
     let mid : Stage = goes.0 in
-    let split : AreSameAnswers (answer_in turn.outcome ++ (pieces_answers xs ++ ones)) (answer_in again.outcome ++ (pieces_answers ys ++ others)) =
-    subst (λ os. AreSameAnswers os (answer_in again.outcome ++ (pieces_answers ys ++ others))) (append_assoc (answer_in turn.outcome) (pieces_answers xs) ones)
-    (subst (λ os. AreSameAnswers ((answer_in turn.outcome ++ pieces_answers xs) ++ ones) os) (append_assoc (answer_in again.outcome) (pieces_answers ys) others) answers) in
+    let split : AreSameAnswers (answer_in turn.outcome ++ (pieces_answers xs ++ ones))
+    (answer_in again.outcome ++ (pieces_answers ys ++ others)) =
+    subst (λ os. AreSameAnswers os (answer_in again.outcome ++ (pieces_answers ys ++ others)))
+    (append_assoc (answer_in turn.outcome) (pieces_answers xs) ones)
+    (subst (λ os. AreSameAnswers ((answer_in turn.outcome ++ pieces_answers xs) ++ ones) os)
+    (append_assoc (answer_in again.outcome) (pieces_answers ys) others) answers) in
     let both = turns_same (record { ones = pieces_answers xs ++ ones; others = pieces_answers ys ++ others; same = split }) films
     goes.1.0 other_way.goes.1.0 memory.0 in
     let kept : AreFilms mid.session.films = subst AreFilms (sym (taken_films old mid turn goes.1.0)) films in

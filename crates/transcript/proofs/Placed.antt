@@ -48,8 +48,10 @@ still_stand Idle (Some slot) later still stand =
   where
     open later use {askings, end, slots, parts}
 still_stand {outcome} (Going p) pending later still stand =
-    subst (λ ps. StandAt p (kept_with outcome (kept_in askings (total_bytes p.plan))) pending (ps ++ plays_of askings) end slots parts) (sym (still.none askings))
-    (subst (λ k. StandAt p k pending (plays_of askings) end slots parts) (sym (still.kept (kept_in askings (total_bytes p.plan)))) stand)
+    subst (λ ps. StandAt p (kept_with outcome (kept_in askings (total_bytes p.plan))) pending
+    (ps ++ plays_of askings) end slots parts) (sym (still.none askings))
+    (subst (λ k. StandAt p k pending (plays_of askings) end slots parts)
+    (sym (still.kept (kept_in askings (total_bytes p.plan)))) stand)
   where
     open later use {askings, end, slots, parts}
 still_stand (Ending p) pending later still stand =
@@ -58,7 +60,8 @@ still_stand (Ending p) pending later still stand =
     open later use {askings, end, slots, parts}
 
 pub still_fits : {sends : Sends} {heard : ℕ} {pending : Option ℕ} {asked : Awaited} {outcome : Outcome}
-    {askings : List Asking} {end : ℕ} {slots : List ℕ} {parts : List Part} → IsStill asked outcome → Fits sends heard pending askings end slots parts
+    {askings : List Asking} {end : ℕ} {slots : List ℕ} {parts : List Part} → IsStill asked outcome
+    → Fits sends heard pending askings end slots parts
     → Fits sends heard pending (Asks asked outcome ∷ askings) end slots parts
 still_fits {sends} {heard} {pending} {askings} {end} {slots} {parts} still fits = record {
   from = fits.from;
@@ -98,21 +101,27 @@ play_for prepared start plan keep = record {
 begin_stand : {plan : List Segment} (prepared : Prepared) (start : ℕ) (later : LaterCourse) → prepared.paced ≡ plan →
     AreSentAt later.end (play_for prepared start prepared.paced (kept_in later.askings (total_bytes prepared.paced)) ∷ plays_of
     later.askings) later.slots (placed_texts 0 later.parts) →
-    AreSentAt later.end (play_for prepared start plan (kept_in later.askings (total_bytes plan)) ∷ plays_of later.askings) later.slots
+    AreSentAt later.end
+    (play_for prepared start plan (kept_in later.askings (total_bytes plan)) ∷ plays_of later.askings) later.slots
     (placed_texts 0 later.parts)
 begin_stand prepared start later same sent =
-    subst (λ pl. AreSentAt end (play_for prepared start pl (kept_in askings (total_bytes pl)) ∷ plays_of askings) slots (placed_texts 0 parts)) same sent
+    subst (λ pl. AreSentAt end
+    (play_for prepared start pl (kept_in askings (total_bytes pl)) ∷ plays_of askings) slots (placed_texts 0 parts)) same sent
   where
     open later use {askings, end, slots, parts}
 
-begun_is : (old new : Standing) (asked : Awaited) (outcome : Outcome) (begins : Begins old asked outcome new) (askings : List Asking)
-    → plays_begun asked outcome askings ≡ play_for begins.prepared begins.start begins.prepared.plan (kept_in askings (total_bytes begins.prepared.plan)) ∷ []
+begun_is : (old new : Standing) (asked : Awaited) (outcome : Outcome) (begins : Begins old asked outcome new)
+    (askings : List Asking)
+    → plays_begun asked outcome askings
+    ≡ play_for begins.prepared begins.start begins.prepared.plan (kept_in askings (total_bytes begins.prepared.plan)) ∷ []
 begun_is old new asked outcome begins askings =
-    ap (λ o. plays_begun asked o askings) begins.outcome_is ∙ ap (λ a. plays_admitted a begins.placed.entry.answer askings) begins.asked_is
+    ap (λ o. plays_begun asked o askings) begins.outcome_is
+    ∙ ap (λ a. plays_admitted a begins.placed.entry.answer askings) begins.asked_is
     ∙ ap (λ a. plays_admitted (Play begins.prepared) a askings) begins.answer
 
 begin_fits : {old new : Standing} {asked : Awaited} {outcome : Outcome} {askings : List Asking} {end : ℕ}
-    {slots : List ℕ} {parts : List Part} (begins : Begins old asked outcome new) → Fits (Going (pacing_for begins.prepared begins.start)) old.heard (Some old.heard) askings end slots parts
+    {slots : List ℕ} {parts : List Part} (begins : Begins old asked outcome new)
+    → Fits (Going (pacing_for begins.prepared begins.start)) old.heard (Some old.heard) askings end slots parts
     → Fits Idle old.heard None (Asks asked outcome ∷ askings) end (old.heard ∷ slots) parts
 begin_fits {old} {new} {asked} {outcome} {askings} {end} {slots} {parts} begins fits =
     let p : Pacing = pacing_for begins.prepared begins.start in
@@ -147,12 +156,15 @@ halt_fits {old} {new} {asked} {outcome} {askings} {end} {slots} {parts} halts fi
     record {
       from = (omega arith, fits.from);
       later = subst (λ ps. AreLater old.heard (ps ++ plays_of askings)) (sym (halts.none askings)) fits.later;
-      stand = subst (λ k. StandAt p k None (plays_begun asked outcome askings ++ plays_of askings) end (old.heard ∷ slots) parts) (sym kept)
-          (subst (λ ps. StandAt p (next_boundary p) None (ps ++ plays_of askings) end (old.heard ∷ slots) parts) (sym (halts.none askings)) stand);
+      stand = subst (λ k. StandAt p k None (plays_begun asked outcome askings ++ plays_of askings) end
+          (old.heard ∷ slots) parts) (sym kept)
+          (subst (λ ps. StandAt p (next_boundary p) None (ps ++ plays_of askings) end (old.heard ∷ slots) parts)
+          (sym (halts.none askings)) stand);
     }
 
 pub turn_fits : (old new : Standing) (asked : Awaited) (outcome : Outcome) → TurnsAs old asked outcome new
-    → GoesTo (sends_in old.state) (sends_in new.state) old.heard old.heard None (Some old.heard) (Asks asked outcome ∷ []) (old.heard ∷ []) []
+    → GoesTo (sends_in old.state) (sends_in new.state) old.heard old.heard None (Some old.heard)
+    (Asks asked outcome ∷ []) (old.heard ∷ []) []
 turn_fits old new asked outcome (Stays same after still) = record {
   later = omega arith;
   rest = λ askings end more rest on fits.
@@ -179,7 +191,8 @@ kept_due : (p : Pacing) (heard keep : ℕ) → IsSound (Going p) true heard → 
 kept_due p heard keep sound holds =
     let here = due_here p heard sound.0 in due_going p heard keep sound.0.pacing sound.1 (omega (arith, here, holds))
 
-idle_reply : {heard : ℕ} {text : List ℕ} {askings : List Asking} {end : ℕ} {slots : List ℕ} {parts : List Part} → Fits Idle heard None askings end slots parts
+idle_reply : {heard : ℕ} {text : List ℕ} {askings : List Asking} {end : ℕ} {slots : List ℕ} {parts : List Part}
+    → Fits Idle heard None askings end slots parts
     → Fits Idle heard (Some heard) askings end slots (Text text ∷ parts)
 idle_reply {heard} {text} {askings} {end} fits =
     let none : all_due heard (plays_of askings) ≡ 0 = none_due heard (plays_of askings) fits.later.starts in
@@ -197,11 +210,13 @@ going_reply {p} {heard} {text} {askings} {end} sound stands on fits = record {
   from = fits.from;
   later = fits.later;
   stand = text_at
-      (at_here p heard sound.0 stands) (kept_due p heard (kept_in askings (total_bytes p.plan)) sound fits.stand.holds) fits.later.starts
+      (at_here p heard sound.0 stands)
+      (kept_due p heard (kept_in askings (total_bytes p.plan)) sound fits.stand.holds) fits.later.starts
       (due_far p heard end sound.0 on) fits.stand;
 }
 
-over_fits : {p : Pacing} {heard : ℕ} {askings : List Asking} {end : ℕ} {slots : List ℕ} {parts : List Part} → IsOnTime p heard → p.sent ≡ p.keep
+over_fits : {p : Pacing} {heard : ℕ} {askings : List Asking} {end : ℕ} {slots : List ℕ} {parts : List Part}
+    → IsOnTime p heard → p.sent ≡ p.keep
     → heard ≤ end → Fits Idle heard None askings end slots parts → Fits (Ending p) heard None askings end slots parts
 over_fits {p} {end} on ended ends fits = record {
   from = fits.from;
@@ -230,7 +245,8 @@ pub record Replying (state : State) (goes : Bool) (heard : ℕ) (text : List ℕ
   pub goes_on : GoesTo (sends_in state) (sends_in (if goes then after_stop state else state)) heard heard (Some heard) after [] []
       (if goes then Text text ∷ [] else [])
 
-pub replying : (state : State) (goes : Bool) (heard : ℕ) (text : List ℕ) → IsSound (sends_in state) true heard → is_between state ≡ goes
+pub replying : (state : State) (goes : Bool) (heard : ℕ) (text : List ℕ) → IsSound (sends_in state) true heard
+    → is_between state ≡ goes
     → Replying state goes heard text
 replying Init true heard text sound is = record {
   after = None;
@@ -270,11 +286,14 @@ replying (Stopping setup stop) false heard text sound is = record {
 pub record SlotMoves (state : State) (waits : Bool) (heard slot : ℕ) (text : List ℕ) (pending : Option ℕ) : Type 0 where
   pub after : Option ℕ
   pub held : IsHeld after (sends_in (state_after waits state slot)) (waits_after waits state slot) slot
-  pub goes_on : GoesTo (sends_in state) (sends_in (state_after waits state slot)) heard slot pending after [] [] (parts_of waits state text slot)
+  pub goes_on : GoesTo (sends_in state) (sends_in (state_after waits state slot)) heard slot pending after [] []
+      (parts_of waits state text slot)
 
-going_slot : {p : Pacing} {heard slot : ℕ} {pending : Option ℕ} (waits : Bool) (text : List ℕ) → IsSound (Going p) waits heard → heard < slot
+going_slot : {p : Pacing} {heard slot : ℕ} {pending : Option ℕ} (waits : Bool) (text : List ℕ)
+    → IsSound (Going p) waits heard → heard < slot
     → IsHeld pending (Going p) waits heard
-    → GoesTo (Going p) (Going (sent_through slot p)) heard slot pending (after_slot (stands_at_boundary (after_step true slot p)) pending) [] []
+    → GoesTo (Going p) (Going (sent_through slot p)) heard slot pending
+    (after_slot (stands_at_boundary (after_step true slot p)) pending) [] []
     (parts_in waits (stands_at_boundary (after_step true slot p)) p slot text)
 going_slot {p} {heard} {slot} waits text sound later held = record {
   later = omega (arith, later);
@@ -315,7 +334,8 @@ sent_after p slot is =
     let next = boundary-from p.pieces (p.before + p.sent) inside in
     omega (arith, next.after, is.sent)
 
-as_going : (p : Pacing) (heard : ℕ) (pending : Option ℕ) → IsHeld pending (Ending p) true heard → IsHeld pending (Going p) true heard
+as_going : (p : Pacing) (heard : ℕ) (pending : Option ℕ) → IsHeld pending (Ending p) true heard
+    → IsHeld pending (Going p) true heard
 as_going p heard None held = held
 as_going p heard (Some taken) held = held
 
@@ -325,7 +345,8 @@ ends_same true slot p is stands = refl
 ends_same false slot p is stands = ap Ending (slot_is true false slot p is stands)
 
 -- it ends at the boundary that it reaches
-ended_through : (p : Pacing) (heard slot : ℕ) → IsSound (Ending p) true heard → heard < slot → stands_at_boundary (after_step true slot p) ≡ true
+ended_through : (p : Pacing) (heard slot : ℕ) → IsSound (Ending p) true heard → heard < slot
+    → stands_at_boundary (after_step true slot p) ≡ true
     → (sent_through slot p).sent ≡ (sent_through slot p).keep
 ended_through p heard slot sound later stands =
     let on : IsOnTime p heard = sound.0 in
@@ -339,7 +360,8 @@ ending_stand : {p : Pacing} {heard slot : ℕ} {between : Bool} {askings : List 
     {rest : List Part} {after : Option ℕ}
     → IsSound (Ending p) true heard → heard < slot → stands_at_boundary (after_step true slot p) ≡ between → slot ≤ end
     → (between ≡ true → after ≡ None)
-    → Fits (ends_in between (sent_through slot p)) slot after askings end more rest → Fits (Ending (sent_through slot p)) slot after askings end more rest
+    → Fits (ends_in between (sent_through slot p)) slot after askings end more rest
+    → Fits (Ending (sent_through slot p)) slot after askings end more rest
 ending_stand {p} {slot} {between = false} {end} {more} sound later stands ends none fits = fits
 ending_stand {p} {heard} {slot} {between = true} {askings} {end} {more} {rest} sound later stands ends none fits =
     subst (λ a. Fits (Ending (sent_through slot p)) slot a askings end more rest) (sym (none refl))
@@ -353,7 +375,8 @@ after_none between (Some slot) is = ap (λ b. if b then None else Some slot) is
 ending_slot : {p : Pacing} {heard slot : ℕ} {pending : Option ℕ} (text : List ℕ) → IsSound (Ending p) true heard → heard < slot
     → IsHeld pending (Ending p) true heard
     → GoesTo (Ending p) (ends_in (stands_at_boundary (after_step true slot p)) (sent_through slot p)) heard slot pending
-    (after_slot (stands_at_boundary (after_step true slot p)) pending) [] [] (parts_in true (stands_at_boundary (after_step true slot p)) p slot text)
+    (after_slot (stands_at_boundary (after_step true slot p)) pending) [] []
+    (parts_in true (stands_at_boundary (after_step true slot p)) p slot text)
 ending_slot {p} {heard} {slot} {pending} text sound later held =
     let between : Bool = stands_at_boundary (after_step true slot p) in
     let after : Option ℕ = after_slot between pending in
@@ -370,7 +393,8 @@ ending_slot {p} {heard} {slot} {pending} text sound later held =
     }
 
 pub slot_moves : {state : State} {waits : Bool} {heard slot : ℕ} {text : List ℕ} {pending : Option ℕ} → is_sending state ≡ true
-    → IsSound (sends_in state) waits heard → heard < slot → IsHeld pending (sends_in state) waits heard → SlotMoves state waits heard slot text pending
+    → IsSound (sends_in state) waits heard → heard < slot → IsHeld pending (sends_in state) waits heard
+    → SlotMoves state waits heard slot text pending
 slot_moves {state = Init} {waits} {slot} {text} sending sound later held = absurd (true≢false (sym sending))
 slot_moves {state = Ready setup paused} {waits} {slot} {text} sending sound later held = absurd (true≢false (sym sending))
 slot_moves {state = Playing setup play} {waits} {heard} {slot} {text} {pending} sending sound later held =
@@ -389,10 +413,12 @@ slot_moves {state = Playing setup play} {waits} {heard} {slot} {text} {pending} 
       after = after_slot between pending;
       held = subst (λ s. IsHeld (after_slot between pending) s (waits_after waits (Playing setup play) slot) slot) (sym sends)
           (going_held waits pending sound.0 later refl held);
-      goes_on = subst (λ s. GoesTo (Going p) s heard slot pending (after_slot between pending) [] [] (parts_of waits (Playing setup play) text slot)) (sym sends)
+      goes_on = subst (λ s. GoesTo (Going p) s heard slot pending (after_slot between pending) [] []
+          (parts_of waits (Playing setup play) text slot)) (sym sends)
           (going_slot waits text sound later held);
     }
-slot_moves {state = Stopping setup stop} {waits = false} {slot} {text} sending sound later held = absurd (true≢false (sym sound.1))
+slot_moves {state = Stopping setup stop} {waits = false} {slot} {text} sending sound later held =
+    absurd (true≢false (sym sound.1))
 slot_moves {state = Stopping setup stop} {waits = true} {heard} {slot} {text} {pending} sending sound later held =
     let p : Pacing = stop.pacer in
     let one : Pacing = after_step true slot p in
@@ -403,6 +429,7 @@ slot_moves {state = Stopping setup stop} {waits = true} {heard} {slot} {text} {p
       after = after_slot between pending;
       held = subst (λ s. IsHeld (after_slot between pending) s (waits_after true (Stopping setup stop) slot) slot) (sym sends)
           (ending_held pending sound.0 later refl held);
-      goes_on = subst (λ s. GoesTo (Ending p) s heard slot pending (after_slot between pending) [] [] (parts_of true (Stopping setup stop) text slot)) (sym sends)
+      goes_on = subst (λ s. GoesTo (Ending p) s heard slot pending (after_slot between pending) [] []
+          (parts_of true (Stopping setup stop) text slot)) (sym sends)
           (ending_slot text sound later held);
     }

@@ -11,7 +11,8 @@ use Rattle.transcript.specs.Plays.{FilmPlay, due_by as all_due, due_of}
 use Rattle.transcript.specs.Replies.{placed_text, placed_texts}
 use Rattle.transcript.proofs.Films.{IsOnTime, play_with}
 
-due_cons : (slot : ℕ) (play : FilmPlay) (plays : List FilmPlay) → all_due slot (play ∷ plays) ≡ due_of slot play + all_due slot plays
+due_cons : (slot : ℕ) (play : FilmPlay) (plays : List FilmPlay)
+    → all_due slot (play ∷ plays) ≡ due_of slot play + all_due slot plays
 due_cons slot play plays = sum_by-cons (due_of slot) play plays
 
 -- plays that begin after a slot, the first at a boundary
@@ -58,7 +59,8 @@ abbrev pub with_pending : Option ℕ → List ℕ → List ℕ
 with_pending None slots = slots
 with_pending (Some slot) slots = slot ∷ slots
 
-pub record StandAt (p : Pacing) (keep : ℕ) (pending : Option ℕ) (plays : List FilmPlay) (end : ℕ) (slots : List ℕ) (parts : List Part) : Type 0 where
+pub record StandAt (p : Pacing) (keep : ℕ) (pending : Option ℕ) (plays : List FilmPlay) (end : ℕ)
+    (slots : List ℕ) (parts : List Part) : Type 0 where
   pub holds : p.sent ≤ keep
   pub sent : AreSentAt end (play_with p keep ∷ plays) (with_pending pending slots) (placed_texts p.sent parts)
 
@@ -79,7 +81,8 @@ pub record IsAtNext (p : Pacing) (due : ℕ) : Type 0 where
   pub after : due ≤ p.sent
   pub least : (place : ℕ) → IsBoundary p.pieces place → p.before + due ≤ place → p.before + p.sent ≤ place
 
-pub due_then : {due : ℕ} (p : Pacing) (keep slot : ℕ) (plays : List FilmPlay) → due_of slot (play_with p keep) ≡ due → AreAfter slot plays
+pub due_then : {due : ℕ} (p : Pacing) (keep slot : ℕ) (plays : List FilmPlay)
+    → due_of slot (play_with p keep) ≡ due → AreAfter slot plays
     → all_due slot (play_with p keep ∷ plays) ≡ due
 due_then p keep slot plays is are =
     let none : all_due slot plays ≡ 0 = none_due slot plays are in
@@ -91,7 +94,8 @@ least_here {p} {other} keep plays holds at from (inl own) =
     let least = at.least (p.before + other) own.1 (omega (arith, from)) in omega (arith, least)
 least_here {p} {other} keep plays holds at from (inr past) = omega (arith, holds, past.0)
 
-next_here : {p : Pacing} {due : ℕ} {plays : List FilmPlay} (keep slot : ℕ) → p.sent ≤ keep → IsAtNext p due → due_of slot (play_with p keep) ≡ due
+next_here : {p : Pacing} {due : ℕ} {plays : List FilmPlay} (keep slot : ℕ) → p.sent ≤ keep → IsAtNext p due
+    → due_of slot (play_with p keep) ≡ due
     → AreAfter slot plays → IsNextIn (play_with p keep ∷ plays) (all_due slot (play_with p keep ∷ plays)) p.sent
 next_here {p} {plays} keep slot holds at is are =
     let all = due_then p keep slot plays is are in
@@ -198,7 +202,8 @@ past_all {from} {end} {plays} at (slot ∷ slots) (Text text ∷ parts) within o
   where
     open within use {ends, from_on as are}
 
-stays_due : {p : Pacing} {heard keep : ℕ} (slot : ℕ) → IsOnTime p heard → p.sent ≡ keep → heard ≤ slot → due_of slot (play_with p keep) ≡ keep
+stays_due : {p : Pacing} {heard keep : ℕ} (slot : ℕ) → IsOnTime p heard → p.sent ≡ keep → heard ≤ slot
+    → due_of slot (play_with p keep) ≡ keep
 stays_due {p} {heard} slot on sent from =
     let rise : first_slots p.plan (heard + 1 - p.start) ≤ first_slots p.plan (slot + 1 - p.start) =
     first-slots-rise p.plan (heard + 1 - p.start) (slot + 1 - p.start) (omega (arith, from)) in
@@ -206,7 +211,8 @@ stays_due {p} {heard} slot on sent from =
     on.even ∙ on.pacing.due ∙ ap (λ n. min (first_slots p.plan n) p.keep) on.passed in
     omega (arith, rise, now, sent)
 
-pub over_at : {p : Pacing} {heard keep : ℕ} {plays : List FilmPlay} {end : ℕ} {slots : List ℕ} {parts : List Part} → IsOnTime p heard → p.sent ≡ keep
+pub over_at : {p : Pacing} {heard keep : ℕ} {plays : List FilmPlay} {end : ℕ} {slots : List ℕ}
+    {parts : List Part} → IsOnTime p heard → p.sent ≡ keep
     → heard ≤ end → AreFrom heard slots → AreLater heard plays → AreSentAt end plays slots (placed_texts 0 parts)
     → StandAt p keep None plays end slots parts
 over_at {p} {heard} {keep} {plays} {end} {slots} {parts} on sent ends are later all =

@@ -87,7 +87,14 @@ stream_of wish stored course played =
         control = played.whole.control;
       }) run.slice_starts run.units;
       later_are = texts;
-      alone = (setup.alone, (reply.alone, alone-append blocks (map text_of played.later) (alone-from blocks (are-blocks run 0 0 (pieces_in run))) (alone-texts (map text_of played.later) texts)));
+      alone = (
+        setup.alone,
+        (
+          reply.alone,
+          alone-append blocks (map text_of played.later)
+              (alone-from blocks (are-blocks run 0 0 (pieces_in run))) (alone-texts (map text_of played.later) texts),
+        ),
+      );
     }
 
 -- ---- the film by the step of a slot
@@ -108,7 +115,8 @@ record LastSlot (play : FilmPlay) (first : List Round) : Type 0 where
 
 sent-through : {first : List Round} {play : FilmPlay} (course : Course) (later : List Round) → LastSlot play first →
     (follows : Follows (first_stage course.films course.settings course.words) (first ++ later) course.last) →
-    plays_of (askings_of (first_stage course.films course.settings course.words) (first ++ later) course.last follows) ≡ play ∷ [] →
+    plays_of (askings_of (first_stage course.films course.settings course.words) (first ++ later) course.last
+    follows) ≡ play ∷ [] →
     play.keep ≡ total_bytes play.plan → IsSentThrough play first
 sent-through {first} {play} course later last follows one whole =
     let begin = first_stage course.films course.settings course.words in
@@ -117,7 +125,8 @@ sent-through {first} {play} course later last follows one whole =
     let a = askings_of begin first parts.0 parts.1.0 in
     let b = askings_of parts.0 later course.last parts.1.1 in
     let both : plays_of (a ++ b) ≡ play ∷ [] = ap plays_of (sym (askings-parts begin course.last first later follows)) ∙ one in
-    let mid : Stands parts.0.session = stands_by begin.session parts.0.session a (rounds_film first) (course_step begin parts.0 first parts.1.0 stands) in
+    let mid : Stands parts.0.session =
+    stands_by begin.session parts.0.session a (rounds_film first) (course_step begin parts.0 first parts.1.0 stands) in
     let written = film_written_is course.films course.settings course.words first parts.0 parts.1.0 in
     let its = late-play begin.session.heard (askings_of begin (first ++ later) course.last follows) play []
     (course-late begin course.last (first ++ later) follows stands) one in
@@ -149,7 +158,8 @@ rest-all stored =
     take_all (length stored.film.units.items - 0) (film_sizes stored.film)
     (omega (arith, length-map stored.film.units.items (λ u. wire_size stored.film.slice_starts.items u)))
 
-whole-bytes : {wish : Wish} {stored : Stored} {identity : Identity} {play : FilmPlay} {x : Stream} → IsWholePlay wish stored identity play
+whole-bytes : {wish : Wish} {stored : Stored} {identity : Identity} {play : FilmPlay} {x : Stream}
+    → IsWholePlay wish stored identity play
     → IsFilmIn stored.film identity x → total_bytes play.plan ≡ length (framed_bytes x.blocks)
 whole-bytes {wish} {stored} {identity} {play} {x} whole is =
     let keeps = sending-keeps (stored_sizes stored) (playback_of wish stored) (whole_run stored) play.plan whole.sending in
@@ -166,20 +176,24 @@ pub record IsSentBetween (wish : Wish) (film : Film) (total place count : ℕ) :
 
 sent-between : {wish : Wish} {stored : Stored} {identity : Identity} {play : FilmPlay} {x : Stream}
     {rounds : List Round} {j : ℕ}
-    → IsWholePlay wish stored identity play → IsFilmIn stored.film identity x → x.blocks ≡ film_blocks stored identity → IsSentThrough play rounds
-    → greatest_slot rounds ≡ play.start + j → IsSentBetween wish stored.film (length (framed_bytes x.blocks)) j (length (rounds_film rounds))
+    → IsWholePlay wish stored identity play → IsFilmIn stored.film identity x
+    → x.blocks ≡ film_blocks stored identity → IsSentThrough play rounds
+    → greatest_slot rounds ≡ play.start + j
+    → IsSentBetween wish stored.film (length (framed_bytes x.blocks)) j (length (rounds_film rounds))
 sent-between {wish} {stored} {identity} {play} {x} {rounds} {j} whole is blocks sent slot =
     let g = greatest_slot rounds in
     let n = first_slots play.plan (j + 1) in
     let total = length (framed_bytes x.blocks) in
     let film : rounds_film rounds ≡ take (due_of g play) (framed_bytes x.blocks) =
-    sent.film ∙ (one-written g play ∙ ap (take (due_of g play)) (film-blocks wish stored identity play whole ∙ ap framed_bytes (sym blocks))) in
+    sent.film ∙ (one-written g play
+    ∙ ap (take (due_of g play)) (film-blocks wish stored identity play whole ∙ ap framed_bytes (sym blocks))) in
     let at : g + 1 - play.start ≡ j + 1 = omega (arith, slot) in
     let due : first_slots play.plan (g + 1 - play.start) ≡ n = ap (first_slots play.plan) at in
     let bytes = whole-bytes whole is in
     let most = slots-most play (j + 1) sent.plan in
     let size : length (rounds_film rounds) ≡ n =
-    ap (λ (l : List ℕ). length l) film ∙ (length-take (due_of g play) (framed_bytes x.blocks) ∙ omega (arith, due, whole.keep, most, bytes)) in
+    ap (λ (l : List ℕ). length l) film
+    ∙ (length-take (due_of g play) (framed_bytes x.blocks) ∙ omega (arith, due, whole.keep, most, bytes)) in
     let run = whole_run stored in
     let playback = playback_of wish stored in
     let curves = planned_between sent.plan whole.sending refl in
@@ -194,7 +208,8 @@ sent-between {wish} {stored} {identity} {play} {x} {rounds} {j} whole is blocks 
 
 -- ---- what the client is fed
 
-event-is : (old opened : Stage) (event : Doing) (due : List Part) (halt : Outcome) → Comes old event due halt opened → IsEvent event
+event-is : (old opened : Stage) (event : Doing) (due : List Part) (halt : Outcome)
+    → Comes old event due halt opened → IsEvent event
 event-is old opened (HeardBytes bytes) due halt comes = tt
 event-is old opened (HeardSlot slot) due halt comes = tt
 event-is old opened HeardEnd due halt comes = tt
@@ -202,16 +217,20 @@ event-is old opened (Sent byte) due halt comes = comes
 
 events-are : (old new : Stage) (rounds : List Round) → Follows old rounds new → AreEvents rounds
 events-are old new [] follows = tt
-events-are old new (round ∷ rounds) follows =
-    (event-is old follows.1.0.opened round.event round.due round.halt follows.1.0.comes, events-are follows.0 new rounds follows.1.1)
+events-are old new (round ∷ rounds) follows = (
+  event-is old follows.1.0.opened round.event round.due round.halt follows.1.0.comes,
+  events-are follows.0 new rounds follows.1.1,
+)
 
 events-front : (a b : List Round) → AreEvents (a ++ b) → AreEvents a
 events-front [] b are = tt
 events-front (round ∷ a) b are = (are.0, events-front a b are.1)
 
-pub film-in : (wish : Wish) (stored : Stored) (course : Course) (played : IsPlayed wish stored course) → IsFilmIn stored.film played.identity (stream_of wish stored course played)
+pub film-in : (wish : Wish) (stored : Stored) (course : Course) (played : IsPlayed wish stored course)
+    → IsFilmIn stored.film played.identity (stream_of wish stored course played)
 unfolding stream_of
-film-in wish stored course played = record { media = played.whole.media; control = played.whole.control; blocks = run-blocks stored.film played.identity }
+film-in wish stored course played =
+    record { media = played.whole.media; control = played.whole.control; blocks = run-blocks stored.film played.identity }
 
 fed-by : {wish : Wish} {stored : Stored} {course : Course} (played : IsPlayed wish stored course)
     (first later : List Round) (j : ℕ) → course.rounds ≡ first ++ later →
@@ -223,7 +242,8 @@ fed-by {wish} {stored} {course} played first later j split slot =
     let play = played.play in
     let x = stream_of wish stored course played in
     let is = film-in wish stored course played in
-    let G : (rs : List Round) → Follows begin rs course.last → Type 0 = λ rs f. plays_of (askings_of begin rs course.last f) ≡ play ∷ [] in
+    let G : (rs : List Round) → Follows begin rs course.last → Type 0 =
+    λ rs f. plays_of (askings_of begin rs course.last f) ≡ play ∷ [] in
     let H : List Round → Type 0 = λ rs. (f : Follows begin rs course.last) × G rs f in
     let there : H (first ++ later) = subst H split (course.follows, played.plays) in
     let sent = sent-through course later (record { place = j; slot_is = slot }) there.0 there.1 played.whole.keep in
@@ -233,14 +253,18 @@ fed-by {wish} {stored} {course} played first later j split slot =
     let film = length (rounds_film first) in
     let size : length (film_bytes one) ≡ film = ap (λ (l : List ℕ). length l) sent.parts in
     let bytes : length (rounds_bytes first) ≡ film + texts_length (placed_texts 0 one) =
-    ap (λ (l : List ℕ). length l) (rounds_sent first) ∙ (parts-length 0 one ∙ ap (λ n. n + texts_length (placed_texts 0 one)) size) in
-    let texts : placed_texts 0 one ++ placed_texts (0 + length (film_bytes one)) two ≡ placed_text 0 played.setup ∷ placed_text 0 played.played ∷ played.later =
+    ap (λ (l : List ℕ). length l) (rounds_sent first)
+    ∙ (parts-length 0 one ∙ ap (λ n. n + texts_length (placed_texts 0 one)) size) in
+    let texts : placed_texts 0 one ++ placed_texts (0 + length (film_bytes one)) two
+    ≡ placed_text 0 played.setup ∷ placed_text 0 played.played ∷ played.later =
     sym (texts-parts 0 one two) ∙ (ap (placed_texts 0) (sym (ap rounds_parts split ∙ parts-more first later)) ∙ played.texts) in
     let F : ℕ → Type 0 = λ n. IsFromTo 0 n (placed_texts 0 one) in
     let same : 0 + length (film_bytes one) ≡ film = omega (arith, size) in
     let within : IsFromTo 0 film (placed_texts 0 one) = subst F same (texts-within 0 one) in
-    let next : (placed : PlacedText) (rest : List PlacedText) → placed_texts (0 + length (film_bytes one)) two ≡ placed ∷ rest → film ≤ placed.place = λ placed rest at.
-    let T : List PlacedText → Type 0 = λ l. IsFromTo (0 + length (film_bytes one)) (0 + length (film_bytes one) + length (film_bytes two)) l in
+    let next : (placed : PlacedText) (rest : List PlacedText)
+    → placed_texts (0 + length (film_bytes one)) two ≡ placed ∷ rest → film ≤ placed.place = λ placed rest at.
+    let T : List PlacedText → Type 0 =
+    λ l. IsFromTo (0 + length (film_bytes one)) (0 + length (film_bytes one) + length (film_bytes two)) l in
     let its = subst T at (texts-within (0 + length (film_bytes one)) two) in omega (arith, its.0, same) in
     let counted = counted-by (record {
       setup = played.setup;
@@ -256,15 +280,18 @@ fed-by {wish} {stored} {course} played first later j split slot =
 
 pub fed : {wish : Wish} {stored : Stored} {course : Course} {bytes : List ℕ} {j : ℕ}
     (played : IsPlayed wish stored course)
-    → IsWrittenBy (rounds_doings course.rounds) (played.play.start + j) bytes → IsFed wish stored.film (stream_of wish stored course played) bytes j
+    → IsWrittenBy (rounds_doings course.rounds) (played.play.start + j) bytes
+    → IsFed wish stored.film (stream_of wish stored course played) bytes j
 fed {wish} {stored} {course} {bytes} {j} played written =
     let begin = first_stage course.films course.settings course.words in
     let whole = whole-rounds course.rounds written.front written.rest written.parts written.whole in
     let E : List Round → Type 0 = λ rs. AreEvents rs in
-    let events = events-front whole.first whole.later (subst E whole.parts (events-are begin course.last course.rounds course.follows)) in
+    let events =
+    events-front whole.first whole.later (subst E whole.parts (events-are begin course.last course.rounds course.follows)) in
     let slot : greatest_slot whole.first ≡ played.play.start + j =
     sym (rounds-latest whole.first) ∙ (ap latest_slot (sym whole.front_is) ∙ written.slot_is) in
-    let are : rounds_bytes whole.first ≡ bytes = sym (written.bytes_are ∙ (ap sent_bytes whole.front_is ∙ rounds-sent whole.first events)) in
+    let are : rounds_bytes whole.first ≡ bytes =
+    sym (written.bytes_are ∙ (ap sent_bytes whole.front_is ∙ rounds-sent whole.first events)) in
     let F : List ℕ → Type 0 = λ b. IsFed wish stored.film (stream_of wish stored course played) b j in
     subst F are (fed-by played whole.first whole.later j whole.parts slot)
 
@@ -282,7 +309,8 @@ all-sent wish stored course played =
     let parts = rounds_parts course.rounds in
     let film = film_written g (plays_of (askings_of begin course.rounds course.last course.follows)) in
     let is : film ≡ take (due_of g play) blocks =
-    ap (film_written g) played.plays ∙ (one-written g play ∙ ap (take (due_of g play)) (film-blocks wish stored played.identity play played.whole)) in
+    ap (film_written g) played.plays
+    ∙ (one-written g play ∙ ap (take (due_of g play)) (film-blocks wish stored played.identity play played.whole)) in
     let woven_is = bytes_woven course.films course.settings course.words course.rounds course.last course.follows in
     let size : length (film_bytes parts) ≡ length film =
     ap (λ (l : List ℕ). length l) (course_film begin course.last course.rounds course.follows
@@ -290,11 +318,14 @@ all-sent wish stored course played =
     let T : List PlacedText → Type 0 = λ l. IsFromTo 0 (0 + length (film_bytes parts)) l in
     let all_within = subst T played.texts (texts-within 0 parts) in
     let F : ℕ → Type 0 = λ n. IsFromTo 0 n played.later in
-    let within : IsFromTo 0 (length film) played.later = subst F (let e : 0 + length (film_bytes parts) ≡ length film = omega (arith, size) in e) all_within.1.1.1.1 in
-    let front = all-woven (record { blocks = blocks; count = due_of g play; front_is = is }) played.setup played.played played.later
+    let within : IsFromTo 0 (length film) played.later =
+    subst F (let e : 0 + length (film_bytes parts) ≡ length film = omega (arith, size) in e) all_within.1.1.1.1 in
+    let front = all-woven (record { blocks = blocks; count = due_of g play; front_is = is }) played.setup
+    played.played played.later
     played.after within in
     let events = events-are begin course.last course.rounds course.follows in
-    let bytes : sent_bytes (rounds_doings course.rounds) ≡ with_texts 0 film (placed_text 0 played.setup ∷ placed_text 0 played.played ∷ played.later) =
+    let bytes : sent_bytes (rounds_doings course.rounds)
+    ≡ with_texts 0 film (placed_text 0 played.setup ∷ placed_text 0 played.played ∷ played.later) =
     rounds-sent course.rounds events ∙ (woven_is ∙ ap (with_texts 0 film) played.texts) in
     let all : played.setup ++ (played.played ++ (blocks ++ framed_bytes (map text_of played.later))) ≡ framed_bytes (all_of x) =
     ap (λ l. played.setup ++ (played.played ++ l)) (sym (framed-append x.blocks x.later)) in

@@ -32,7 +32,8 @@ AreTexts (m ∷ ms) = IsText m × AreTexts ms
 
 pub text-is : (m : List ℕ) → StartsRequest m → IsRequestLength m (length m) → IsText m
 text-is m starts size = record {
-  moment = cond-false (is_line_end (get_or m 0 0)) [] (cond (get_or m 0 0 == 36) (block_moments (get_or m 1 0) m) (Reply m ∷ [])) starts.1
+  moment = cond-false (is_line_end (get_or m 0 0)) []
+      (cond (get_or m 0 0 == 36) (block_moments (get_or m 1 0) m) (Reply m ∷ [])) starts.1
       ∙ cond-false (get_or m 0 0 == 36) (block_moments (get_or m 1 0) m) (Reply m ∷ []) starts.2;
   other = starts.2;
   alone = record { some = starts.0; whole = WholeRequest starts size (omega arith) };
@@ -66,7 +67,8 @@ block-cut b (suc d) few starts channel =
       | inl short ↦ or_left (nat_lt (length rest) 2) (nat_lt (get_or rest 1 0) 2) (lt-ltb (length rest) 2 short)
       | inr more ↦
           let there : get_or rest 1 0 ≡ get_or b 1 0 = get_or-take (suc d) b 1 0 (omega (arith, more, long)) in
-          or_right (nat_lt (length rest) 2) (nat_lt (get_or rest 1 0) 2) (lt-ltb (get_or rest 1 0) 2 (omega (arith, there, channel)))
+          or_right (nat_lt (length rest) 2) (nat_lt (get_or rest 1 0) 2)
+          (lt-ltb (get_or rest 1 0) 2 (omega (arith, there, channel)))
     ] in
     let first : (get_or rest 0 0 == 36) ≡ true = eq-eqb (get_or rest 0 0) 36 (get_or-take (suc d) b 0 0 (omega arith) ∙ starts) in
     cond-true ((get_or rest 0 0 == 36) && c) (length rest) 0 (ap (λ x. x && c) first ∙ second)
@@ -105,14 +107,16 @@ begun_sum x = steps no_sum (Reply x.first ∷ Reply x.second ∷ [])
 abbrev pub film_place : Stream → ℕ → ℕ
 film_place x c = c - length x.first - length x.second
 
-texts-count : (ms : List (List ℕ)) (k : ℕ) (s : Sum) → AreTexts ms → k ≤ length ms → (steps s (moments_in (take k ms))).replies ≡ s.replies + k
+texts-count : (ms : List (List ℕ)) (k : ℕ) (s : Sum) → AreTexts ms → k ≤ length ms
+    → (steps s (moments_in (take k ms))).replies ≡ s.replies + k
 texts-count ms zero s are few = omega arith
 texts-count [] (suc k) s are few = absurd (omega (arith, few))
 texts-count (m ∷ ms) (suc k) s are few =
     let P : List Moment → Type 0 = λ l. (steps s (l ++ moments_in (take k ms))).replies ≡ s.replies + suc k in
     subst P (sym are.0.moment) (omega (arith, texts-count ms k (step (Reply m) s) are.1 (omega (arith, few))))
 
-pub two-moments : (x : Stream) (rest : List (List ℕ)) → steps no_sum (moments_in (x.first ∷ x.second ∷ rest)) ≡ steps (begun_sum x) (moments_in rest)
+pub two-moments : (x : Stream) (rest : List (List ℕ))
+    → steps no_sum (moments_in (x.first ∷ x.second ∷ rest)) ≡ steps (begun_sum x) (moments_in rest)
 two-moments x rest =
     ap (λ l. steps no_sum (l ++ (moments_of x.second ++ moments_in rest))) x.first_is.moment
     ∙ ap (λ l. steps no_sum (Reply x.first ∷ (l ++ moments_in rest))) x.second_is.moment
@@ -121,11 +125,13 @@ two-moments x rest =
 pub record IsReadingOf (x : Stream) (c : ℕ) (at : Stage) : Type 0 where
   pub past : length x.first + length x.second ≤ c
   pub sum : sum_of at.history ≡ steps (begun_sum x) (moments_in (take (count_ended (film_place x c) x.blocks) x.blocks))
-  pub cut : length (framed_bytes (take (count_ended (film_place x c) x.blocks) x.blocks)) + cut_bytes at.rest ≡ min (film_place x c) (length (framed_bytes x.blocks))
+  pub cut : length (framed_bytes (take (count_ended (film_place x c) x.blocks) x.blocks)) + cut_bytes at.rest
+      ≡ min (film_place x c) (length (framed_bytes x.blocks))
 
 -- with the two first replies whole
 reading-film : {x : Stream} {c : ℕ} {at : Stage} → length x.first + length x.second ≤ c
-    → sum_of at.history ≡ steps (begun_sum x) (moments_in (take (count_ended (film_place x c) (x.blocks ++ x.later)) (x.blocks ++ x.later)))
+    → sum_of at.history
+    ≡ steps (begun_sum x) (moments_in (take (count_ended (film_place x c) (x.blocks ++ x.later)) (x.blocks ++ x.later)))
     → at.rest ≡ rest_at (film_place x c) (x.blocks ++ x.later) → replies at.history ≤ 2 → IsReadingOf x c at
 reading-film {x} {c} {at} past sum rest few =
     let d = film_place x c in
@@ -161,7 +167,8 @@ reading-film {x} {c} {at} past sum rest few =
             past = past;
             sum = all ∙ (ap (λ n. steps t (moments_in (take n x.later))) none ∙ ap (λ l. steps s (moments_in l)) (sym front));
             cut =
-                let cut : cut_bytes at.rest ≡ 0 = ap cut_bytes (rest ∙ rest-past bs x.later d after) ∙ texts-cut x.later (d - total) x.later_are in
+                let cut : cut_bytes at.rest ≡ 0 =
+                ap cut_bytes (rest ∙ rest-past bs x.later d after) ∙ texts-cut x.later (d - total) x.later_are in
                 omega (arith, cut, ap (λ l. length (framed_bytes l)) front, after);
           }
     ]
@@ -174,7 +181,8 @@ reading-of {x} {bytes} {c} {at} heard none is playing few =
     let streams : TwoStreams bytes heard.pieces (take (count_ended c all) all) at.rest (rest_at c all) =
     record { one = (heard.cut, none); other = subst P (sym is) (cut-at all c x.alone) } in
     let once = stream_once streams in
-    let sum : sum_of at.history ≡ steps no_sum (moments_in (take (count_ended c all) all)) = heard.sum ∙ ap (λ l. steps no_sum (moments_in l)) once.0 in
+    let sum : sum_of at.history ≡ steps no_sum (moments_in (take (count_ended c all) all)) =
+    heard.sum ∙ ap (λ l. steps no_sum (moments_in l)) once.0 in
     let after_first = x.second ∷ (x.blocks ++ x.later) in
     elim (cases_lt c (length x.first)) [
       | inl short ↦
@@ -190,7 +198,11 @@ reading-of {x} {bytes} {c} {at} heard none is playing few =
                 ap (λ n. take n all) (one ∙ ap suc (count-less x.second (x.blocks ++ x.later) c1 short)) in
                 let single : steps no_sum (moments_in (x.first ∷ [])) ≡ steps no_sum (Reply x.first ∷ []) =
                 ap (λ l. steps no_sum (l ++ [])) x.first_is.moment in
-                absurd (omega (arith, playing, ap (λ (z : Sum). z.replies) (sum ∙ (ap (λ l. steps no_sum (moments_in l)) only ∙ single))))
+                absurd (omega (
+                  arith,
+                  playing,
+                  ap (λ (z : Sum). z.replies) (sum ∙ (ap (λ l. steps no_sum (moments_in l)) only ∙ single)),
+                ))
             | inr more ↦
                 let d = film_place x c in
                 let k = count_ended d (x.blocks ++ x.later) in

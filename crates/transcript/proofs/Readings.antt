@@ -44,7 +44,8 @@ no-slot-if : (c : Bool) (a b : List Moment) → HasNoSlot a → HasNoSlot b → 
 no-slot-if true a b one two = one
 no-slot-if false a b one two = two
 
-no-slot-of : (line block frame report : Bool) (p : List ℕ) → HasNoSlot (cond line [] (cond block (cond frame (Frame p ∷ []) (cond report (Report p ∷ []) [])) (Reply p ∷ [])))
+no-slot-of : (line block frame report : Bool) (p : List ℕ)
+    → HasNoSlot (cond line [] (cond block (cond frame (Frame p ∷ []) (cond report (Report p ∷ []) [])) (Reply p ∷ [])))
 no-slot-of line block frame report p =
     no-slot-if line [] (cond block (cond frame (Frame p ∷ []) (cond report (Report p ∷ []) [])) (Reply p ∷ [])) tt
     (no-slot-if block (cond frame (Frame p ∷ []) (cond report (Report p ∷ []) [])) (Reply p ∷ [])
@@ -52,7 +53,9 @@ no-slot-of line block frame report p =
 
 no-slot-in : (ps : List (List ℕ)) → HasNoSlot (moments_in ps)
 no-slot-in [] = tt
-no-slot-in (p ∷ ps) = no-slot-append (moments_of p) (moments_in ps) (no-slot-of (is_line_end (get_or p 0 0)) (get_or p 0 0 == 36) (get_or p 1 0 == 0) (get_or p 1 0 == 1) p) (no-slot-in ps)
+no-slot-in (p ∷ ps) =
+    no-slot-append (moments_of p) (moments_in ps)
+    (no-slot-of (is_line_end (get_or p 0 0)) (get_or p 0 0 == 36) (get_or p 1 0 == 0) (get_or p 1 0 == 1) p) (no-slot-in ps)
 
 -- a film's sizes and the time of its pictures, for a wish
 record WishedFilm : Type 0 where
@@ -70,7 +73,8 @@ always-more film h (Slot t cut ∷ ms) none met = absurd none
 
 pub always-pieces : (wish : Wish) (all : List ℕ) (time : ℕ) (h : History) (ps : List (List ℕ)) → IsBetweenAlways wish all time h
     → IsBetweenAlways wish all time (after h (moments_in ps))
-always-pieces wish all time h ps met = always-more (record { wish = wish; sizes = all; time = time }) h (moments_in ps) (no-slot-in ps) met
+always-pieces wish all time h ps met =
+    always-more (record { wish = wish; sizes = all; time = time }) h (moments_in ps) (no-slot-in ps) met
 
 -- ---- the film that came
 
@@ -79,7 +83,8 @@ take-short w c = omega (arith, length-take c w)
 
 pub front-of : (xs ys w : List ℕ) (c : ℕ) → xs ++ ys ≡ take c w → xs ≡ take (length xs) w
 front-of xs ys w c is =
-    let mine : take (length xs) (xs ++ ys) ≡ xs = take-append-le (length xs) xs ys (omega arith) ∙ take_all (length xs) xs (omega arith) in
+    let mine : take (length xs) (xs ++ ys) ≡ xs =
+    take-append-le (length xs) xs ys (omega arith) ∙ take_all (length xs) xs (omega arith) in
     elim (cases_lt c (length xs)) [
       | inl less ↦
           let short = take-short w c in
@@ -90,12 +95,14 @@ front-of xs ys w c is =
 -- the film that had come with these bytes lies between the curves of a slot
 pub record IsFed (wish : Wish) (film : Film) (x : Stream) (bytes : List ℕ) (place : ℕ) : Type 0 where
   pub between : length x.first + length x.second ≤ length bytes
-      → IsBetween wish (film_sizes film) (picture_time film.rate) place (min (film_place x (length bytes)) (length (framed_bytes x.blocks)))
+      → IsBetween wish (film_sizes film) (picture_time film.rate) place
+      (min (film_place x (length bytes)) (length (framed_bytes x.blocks)))
 
 -- so it is at each slot of a play that begins in one of the client's
 abbrev pub AreFed : Wish → Film → Stream → ℕ → List ℕ → List Round → Type 0
 AreFed wish film x begin bytes rounds =
-    (before later : List Round) (round : Round) (slot : ℕ) → rounds ≡ before ++ round ∷ later → round.event ≡ HeardSlot slot → begin ≤ slot
+    (before later : List Round) (round : Round) (slot : ℕ) → rounds ≡ before ++ round ∷ later
+    → round.event ≡ HeardSlot slot → begin ≤ slot
     → IsFed wish film x (bytes ++ rounds_heard before) (slot - begin)
 
 -- ---- a slot
@@ -120,18 +127,24 @@ slot-met : {wish : Wish} {film : Film} {identity : Identity} {x : Stream} {begin
     (slot : ℕ) → FilmCounted film identity x → HeardFront x bytes at → TwoReplies at begin →
     (begin ≤ slot → IsFed wish film x bytes (slot - begin)) → is_read at.history slot ≡ true →
     IsHeardOf (film_sizes film) (picture_time film.rate) at.history (cut_bytes at.rest)
-    × IsBetween wish (film_sizes film) (picture_time film.rate) (place_in at.history slot) (bytes_received at.history + cut_bytes at.rest)
+    × IsBetween wish (film_sizes film) (picture_time film.rate) (place_in at.history slot)
+    (bytes_received at.history + cut_bytes at.rest)
 slot-met {wish} {film} {begin} {at} slot counted front two fed read =
     let h = at.history in
-    let playing : 1 < replies h = ltb-true 1 (replies h) (and_parts (is_playing h) (nat_le (first_slot h) slot && nat_lt (last_slot h) slot) read).0 in
+    let playing : 1 < replies h =
+    ltb-true 1 (replies h) (and_parts (is_playing h) (nat_le (first_slot h) slot && nat_lt (last_slot h) slot) read).0 in
     let there : first_slot h ≤ slot = leb-true (first_slot h) slot
-    (and_parts (nat_le (first_slot h) slot) (nat_lt (last_slot h) slot) (and_parts (is_playing h) (nat_le (first_slot h) slot && nat_lt (last_slot h) slot) read).1).0 in
+    (and_parts (nat_le (first_slot h) slot) (nat_lt (last_slot h) slot)
+    (and_parts (is_playing h) (nat_le (first_slot h) slot && nat_lt (last_slot h) slot) read).1).0 in
     let first : first_slot h ≡ begin = two.begins playing in
     let reading = reading-of front.heard (tells_none at.rest (Ok More) front.idle) front.front_is playing two.few in
     let its = heard-of counted.film_is front.heard.gone reading counted.count in
     let between = (fed (omega (arith, there, first))).between reading.past in
-    let P : ℕ → ℕ → Type 0 = λ place came. IsBetween wish (film_sizes film) (picture_time film.rate) place came in
-    (its.0, subst (λ n. P n (bytes_received h + cut_bytes at.rest)) (ap (λ n. slot - n) (sym first)) (subst (λ n. P (slot - begin) n) (sym its.1) between))
+    let P : ℕ → ℕ → Type 0 = λ place came. IsBetween wish (film_sizes film) (picture_time film.rate) place came in (
+      its.0,
+      subst (λ n. P n (bytes_received h + cut_bytes at.rest)) (ap (λ n. slot - n) (sym first))
+          (subst (λ n. P (slot - begin) n) (sym its.1) between),
+    )
 
 -- ---- all events
 
@@ -156,16 +169,22 @@ always-round {event = HeardSlot slot} {wish} {film} {begin} {old} {new} {round} 
     let B : Doing → Type 0 = λ e. Brings e old.rest round.moments new.rest in
     let brings = subst B round_heard.event_is round_heard.runs.brings in
     let A : History → Type 0 = λ h. IsBetweenAlways wish (film_sizes film) (picture_time film.rate) h in
-    let history : new.history ≡ Slot slot (cut_bytes old.rest) ∷ old.history = round_heard.runs.history_is ∙ ap (after old.history) brings.0 in
+    let history : new.history ≡ Slot slot (cut_bytes old.rest) ∷ old.history =
+    round_heard.runs.history_is ∙ ap (after old.history) brings.0 in
     let same : replies new.history ≡ replies old.history = ap replies history in
     let begins_here : 1 < replies old.history → first_slot old.history ≡ begin = λ playing.
     sym (ap first_slot history) ∙ two.begins (omega (arith, playing, same)) in
-    subst A (sym history)
-    (met, λ read. slot-met slot counted front (record { few = omega (arith, two.few, same); begins = begins_here }) (fed slot refl) read)
+    subst A (sym history) (
+      met,
+      λ read. slot-met slot counted front
+          (record { few = omega (arith, two.few, same); begins = begins_here }) (fed slot refl) read,
+    )
 always-round {event = HeardEnd} {old} {new} {round} round_heard counted front two fed met =
-    let B : Doing → Type 0 = λ e. Brings e old.rest round.moments new.rest in absurd (subst B round_heard.event_is round_heard.runs.brings)
+    let B : Doing → Type 0 =
+    λ e. Brings e old.rest round.moments new.rest in absurd (subst B round_heard.event_is round_heard.runs.brings)
 always-round {event = Sent byte} {old} {new} {round} round_heard counted front two fed met =
-    let B : Doing → Type 0 = λ e. Brings e old.rest round.moments new.rest in absurd (subst B round_heard.event_is round_heard.runs.brings)
+    let B : Doing → Type 0 =
+    λ e. Brings e old.rest round.moments new.rest in absurd (subst B round_heard.event_is round_heard.runs.brings)
 
 -- what was heard by a stage, and what rounds bring after it, is a front of a stream
 pub record HeardThrough (x : Stream) (bytes : List ℕ) (rounds : List Round) (old : Stage) : Type 0 where
@@ -185,22 +204,27 @@ pub always-all : {wish : Wish} {film : Film} {identity : Identity} {x : Stream} 
     IsBetweenAlways wish (film_sizes film) (picture_time film.rate) old.history →
     IsBetweenAlways wish (film_sizes film) (picture_time film.rate) new.history
 always-all {wish} {film} {rounds = []} through all counted known fed met =
-    let A : Stage → Type 0 = λ s. IsBetweenAlways wish (film_sizes film) (picture_time film.rate) s.history in subst A (sym all) met
+    let A : Stage → Type 0 =
+    λ s. IsBetweenAlways wish (film_sizes film) (picture_time film.rate) s.history in subst A (sym all) met
 always-all {wish} {film} {identity} {x} {begin} {bytes} {old} {rounds = round ∷ rounds} {new} through all counted known fed met =
     let mid = all.0 in
     let later = history-later mid new rounds all.1.2 in
-    let few_here : replies mid.history ≤ 2 = omega (arith, known.few, replies-later mid.history (moments_of_rounds rounds), ap replies later) in
+    let few_here : replies mid.history ≤ 2 =
+    omega (arith, known.few, replies-later mid.history (moments_of_rounds rounds), ap replies later) in
     let begins_here : 1 < replies mid.history → first_slot mid.history ≡ begin = λ playing.
     sym (slot-stays mid.history (moments_of_rounds rounds) playing) ∙ (sym (ap first_slot later) ∙ known.begins) in
-    let fed_here : (slot : ℕ) → round.event ≡ HeardSlot slot → begin ≤ slot → IsFed wish film x bytes (slot - begin) = λ slot event after_begin.
+    let fed_here : (slot : ℕ) → round.event ≡ HeardSlot slot → begin ≤ slot
+    → IsFed wish film x bytes (slot - begin) = λ slot event after_begin.
     let F : List ℕ → Type 0 = λ b. IsFed wish film x b (slot - begin) in
     subst F (append-nil bytes) (fed [] rounds round slot refl event after_begin) in
-    let mine : bytes ≡ take (length bytes) (framed_bytes (all_of x)) = front-of bytes (rounds_heard (round ∷ rounds)) (framed_bytes (all_of x)) c front in
+    let mine : bytes ≡ take (length bytes) (framed_bytes (all_of x)) =
+    front-of bytes (rounds_heard (round ∷ rounds)) (framed_bytes (all_of x)) c front in
     let now = always-round (record { event_is = refl; runs = all.1.0 }) counted
     (record { heard = heard; idle = idle; front_is = mine }) (record { few = few_here; begins = begins_here }) fed_here met in
     let next : (bytes ++ bytes_in round.event) ++ rounds_heard rounds ≡ take c (framed_bytes (all_of x)) =
     append_assoc bytes (bytes_in round.event) (rounds_heard rounds) ∙ front in
-    let fed_next : AreFed wish film x begin (bytes ++ bytes_in round.event) rounds = λ before after_ r slot split event after_begin.
+    let fed_next : AreFed wish film x begin (bytes ++ bytes_in round.event) rounds =
+    λ before after_ r slot split event after_begin.
     let F : List ℕ → Type 0 = λ b. IsFed wish film x b (slot - begin) in
     subst F (sym (append_assoc bytes (bytes_in round.event) (rounds_heard before)))
     (fed (round ∷ before) after_ r slot (ap (λ l. round ∷ l) split) event after_begin) in

@@ -77,7 +77,8 @@ answered_replies {old} {new} {message} {outcome} {parts} replied stands =
     let after = turn_after old.session replied.answered replied.heard.asking.awaited outcome
     (turns_as old.session message outcome replied.answered replied.heard stands.rest) in
     ap (λ (s : Stage). texts_in parts ++ waiting_reply s.session) replied.new_is
-    ∙ ap (λ ps. texts_in ps ++ waiting_reply (if can_reply replied.answered then sent_reply replied.answered else replied.answered)) replied.parts_are
+    ∙ ap (λ ps. texts_in ps
+    ++ waiting_reply (if can_reply replied.answered then sent_reply replied.answered else replied.answered)) replied.parts_are
     ∙ reply_cases (can_reply replied.answered) replied.answered after.waits
     ∙ ap (λ ts. ts ++ replied.answered.text ∷ []) (sym (waits_none old.session replied.next.replied))
 
@@ -103,14 +104,16 @@ takes_replies old new (Answered message outcome parts ∷ takings) takes stands 
     (answered_replies takes.1.0 stands))
 
 -- a play that is done is halted without a reply
-halted_waiting : (s : Standing) (keep : ℕ) (halt : Outcome) (new : Standing) → next_of s.awaited ≡ Done → IsHalted s keep halt new → waiting_reply new ≡ waiting_reply s
+halted_waiting : (s : Standing) (keep : ℕ) (halt : Outcome) (new : Standing) → next_of s.awaited ≡ Done
+    → IsHalted s keep halt new → waiting_reply new ≡ waiting_reply s
 halted_waiting s keep Unasked new done halted = absurd halted
 halted_waiting s keep (Entered placed) new done halted =
     ap waiting_reply halted.halts ∙ ap (λ n. if (if is_answered n then true else s.waits) then s.text ∷ [] else []) done
 halted_waiting s keep (WasFull more entries live) new done halted = absurd halted
 halted_waiting s keep (Offered at_slot note) new done halted = absurd halted
 
-finished_waiting : (asks : Awaits) (s : Standing) (halt : Outcome) (new : Standing) → next_of s.awaited ≡ Done → IsFinished asks s halt new
+finished_waiting : (asks : Awaits) (s : Standing) (halt : Outcome) (new : Standing) → next_of s.awaited ≡ Done
+    → IsFinished asks s halt new
     → waiting_reply new ≡ waiting_reply s
 finished_waiting NoAnswer s Unasked new done is = ap waiting_reply is
 finished_waiting NoAnswer s (Entered placed) new done is = absurd is
@@ -121,11 +124,13 @@ finished_waiting (HaltAnswer keep) s halt new done is = halted_waiting s keep ha
 finished_waiting LookAnswer s halt new done is = absurd is
 finished_waiting OfferAnswer s halt new done is = absurd is
 
-done_next : (done : Bool) (sent : ℕ) (awaited : Awaited) → awaited ≡ Nothing → next_of (if done then Halt sent Done else awaited) ≡ Done
+done_next : (done : Bool) (sent : ℕ) (awaited : Awaited) → awaited ≡ Nothing
+    → next_of (if done then Halt sent Done else awaited) ≡ Done
 done_next true sent awaited rest = refl
 done_next false sent awaited rest = ap next_of rest
 
-reply_waiting : (goes : Bool) (s : Standing) → waiting_reply (if goes then sent_reply s else s) ≡ (if (if goes then false else s.waits) then s.text ∷ [] else [])
+reply_waiting : (goes : Bool) (s : Standing)
+    → waiting_reply (if goes then sent_reply s else s) ≡ (if (if goes then false else s.waits) then s.text ∷ [] else [])
 reply_waiting true s = refl
 reply_waiting false s = refl
 
@@ -138,8 +143,10 @@ slot_texts true true text one after plain = refl
 slot_texts true false text one after plain = refl
 
 slot_cases : (old : Standing) (slot : ℕ) (taken sending : Bool) → old.awaited ≡ Nothing
-    → let s : Standing = if taken then (if sending then after_play (sent_slot old slot) else record old { heard = slot }) else old in
-    (texts_in (if taken && sending then due_parts old slot else []) ++ waiting_reply s ≡ waiting_reply old) × (next_of s.awaited ≡ Done)
+    → let s : Standing =
+    if taken then (if sending then after_play (sent_slot old slot) else record old { heard = slot }) else old in
+    (texts_in (if taken && sending then due_parts old slot else []) ++ waiting_reply s ≡ waiting_reply old)
+    × (next_of s.awaited ≡ Done)
 slot_cases old slot false sending rest = (refl, ap next_of rest)
 slot_cases old slot true false rest = (refl, ap next_of rest)
 slot_cases old slot true true rest =
@@ -148,15 +155,18 @@ slot_cases old slot true true rest =
     let due : Standing = sent_due old slot in
     let sent : Standing = sent_slot old slot in (
       ap (λ ts. texts_in (due_parts old slot) ++ ts) (reply_waiting goes due)
-          ∙ slot_texts old.waits between old.text (step_bytes true slot old.state) (step_bytes false slot (stepped_in true slot old.state)) (step_bytes false slot old.state),
+          ∙ slot_texts old.waits between old.text (step_bytes true slot old.state)
+          (step_bytes false slot (stepped_in true slot old.state)) (step_bytes false slot old.state),
       done_next (is_done_in sent.state) (sent_in sent.state) sent.awaited (reply_awaited goes due ∙ rest),
     )
 
 slot_replies : (old : Standing) (slot : ℕ) (halt : Outcome) (new : Standing) → old.awaited ≡ Nothing
-    → IsFinished (awaited_answer (after_slot old slot)) (after_slot old slot) halt new → Replies old (texts_in (slot_parts old slot)) [] new
+    → IsFinished (awaited_answer (after_slot old slot)) (after_slot old slot) halt new
+    → Replies old (texts_in (slot_parts old slot)) [] new
 slot_replies old slot halt new rest finishing =
     let cases = slot_cases old slot (is_taken old slot) (is_sending old.state) rest in
-    ap (λ ts. texts_in (slot_parts old slot) ++ ts) (finished_waiting (awaited_answer (after_slot old slot)) (after_slot old slot) halt new cases.1 finishing)
+    ap (λ ts. texts_in (slot_parts old slot) ++ ts)
+    (finished_waiting (awaited_answer (after_slot old slot)) (after_slot old slot) halt new cases.1 finishing)
     ∙ cases.0 ∙ sym (append-nil (waiting_reply old))
 
 comes_replies : {old opened : Stage} {event : Doing} (come : EventCome old event opened) → Stands old.session →
@@ -180,7 +190,8 @@ course_replies old new (round ∷ rounds) follows stands =
     let taken : List (List ℕ) = texts_in (takings_parts round.takings) in
     let replies : List (List ℕ) = takings_replies opened round.takings follows.0 runs.takes in
     let mid : Stands follows.0.session =
-    stands_by old.session follows.0.session (round_askings old round follows.0 runs) (film_bytes round.due) (round_step old follows.0 round runs stands) in
+    stands_by old.session follows.0.session (round_askings old round follows.0 runs) (film_bytes round.due)
+    (round_step old follows.0 round runs stands) in
     let first : Replies old.session (due ++ taken) ([] ++ replies) follows.0.session =
     replies_then old.session (record {
       old = opened.session;
@@ -190,7 +201,8 @@ course_replies old new (round ∷ rounds) follows stands =
       replied = takes_replies opened follows.0 round.takings runs.takes (opened_stands old follows.0 round runs stands);
     }) due []
     (comes_replies (record { due = round.due; halt = round.halt; comes = runs.comes }) stands) in
-    let all : Replies old.session ((due ++ taken) ++ texts_in (rounds_parts rounds)) (replies ++ replies_of follows.0 rounds new follows.1.1) new.session =
+    let all : Replies old.session ((due ++ taken) ++ texts_in (rounds_parts rounds))
+    (replies ++ replies_of follows.0 rounds new follows.1.1) new.session =
     replies_then old.session (record {
       old = follows.0.session;
       new = new.session;
@@ -206,14 +218,17 @@ course_replies old new (round ∷ rounds) follows stands =
 -- from a connection's beginning on
 pub replies_in_order : (films : List Stored) (settings : Settings) (words : List ℕ) (rounds : List Round) (new : Stage)
     (follows : Follows (first_stage films settings words) rounds new)
-    → map text_of (placed_texts 0 (rounds_parts rounds)) ++ waiting_reply new.session ≡ replies_of (first_stage films settings words) rounds new follows
+    → map text_of (placed_texts 0 (rounds_parts rounds)) ++ waiting_reply new.session
+    ≡ replies_of (first_stage films settings words) rounds new follows
 replies_in_order films settings words rounds new follows =
     ap (λ ts. ts ++ waiting_reply new.session) (texts_placed 0 (rounds_parts rounds))
     ∙ course_replies (first_stage films settings words) new rounds follows (record { rest = refl; sound = tt })
 
 pub bytes_woven : (films : List Stored) (settings : Settings) (words : List ℕ) (rounds : List Round) (new : Stage)
     (follows : Follows (first_stage films settings words) rounds new)
-    → rounds_bytes rounds ≡ with_texts 0 (film_written (greatest_slot rounds) (plays_of (askings_of (first_stage films settings words) rounds new follows)))
+    → rounds_bytes rounds
+    ≡ with_texts 0
+    (film_written (greatest_slot rounds) (plays_of (askings_of (first_stage films settings words) rounds new follows)))
     (placed_texts 0 (rounds_parts rounds))
 bytes_woven films settings words rounds new follows =
     rounds_sent rounds ∙ parts_woven 0 (rounds_parts rounds)

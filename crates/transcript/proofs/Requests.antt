@@ -17,13 +17,15 @@ use Rattle.transcript.specs.Cuttings.{Beginning, Cutting, Hearing, IsDone, Takes
 use Rattle.transcript.specs.Requests.{AreTaken, AwaitsReply, bytes_in, is_other, message_of, requests_in, rounds_input}
 use Rattle.transcript.proofs.Paths.{GoesAll, IsOver, AnEnd, ABlock, Over, Piece, Taken, over_piece, path_of, pieces_hearings}
 
-append_by : (other : Bool) (x : List ℕ) (all xs ys : List (List ℕ)) → all ≡ xs ++ ys → (if other then all else x ∷ all) ≡ (if other then xs else x ∷ xs) ++ ys
+append_by : (other : Bool) (x : List ℕ) (all xs ys : List (List ℕ)) → all ≡ xs ++ ys
+    → (if other then all else x ∷ all) ≡ (if other then xs else x ∷ xs) ++ ys
 append_by true x all xs ys same = same
 append_by false x all xs ys same = ap (λ rs. x ∷ rs) same
 
 requests-append : (xs ys : List (List ℕ)) → requests_in (xs ++ ys) ≡ requests_in xs ++ requests_in ys
 requests-append [] ys = refl
-requests-append (x ∷ xs) ys = append_by (is_other x) x (requests_in (xs ++ ys)) (requests_in xs) (requests_in ys) (requests-append xs ys)
+requests-append (x ∷ xs) ys =
+    append_by (is_other x) x (requests_in (xs ++ ys)) (requests_in xs) (requests_in ys) (requests-append xs ys)
 
 -- a request begins with another byte than CR, LF and `$`
 starts_request : (input : List ℕ) (n : ℕ) → StartsRequest input → 0 < n → is_other (take n input) ≡ false
@@ -45,7 +47,8 @@ record Cuts (old new : Stage) (messages : List (List ℕ)) : Type 0 where
   cut : AreCut old.input pieces new.input
   requests : requests_in pieces ≡ messages
 
-goes_cut : (old new : Stage) (pieces : List Piece) → GoesAll old pieces new → Cuts old new (map message_of (pieces_hearings pieces))
+goes_cut : (old new : Stage) (pieces : List Piece) → GoesAll old pieces new
+    → Cuts old new (map message_of (pieces_hearings pieces))
 goes_cut old new [] goes = record { pieces = []; cut = ap (λ (s : Stage). s.input) (sym goes); requests = refl }
 goes_cut old new (Over n ∷ pieces) goes =
     let mid : Stage = goes.0 in
@@ -61,7 +64,8 @@ goes_cut old new (Over n ∷ pieces) goes =
           subst (λ input. AreCut input rest.pieces new.input) (ap (λ (s : Stage). s.input) passing.new_is) rest.cut,
         ),
       );
-      requests = ap (λ b. if b then requests_in rest.pieces else take n old.input ∷ requests_in rest.pieces) (over_other old.input n passing.over) ∙ rest.requests;
+      requests = ap (λ b. if b then requests_in rest.pieces else take n old.input ∷ requests_in rest.pieces)
+          (over_other old.input n passing.over) ∙ rest.requests;
     }
 goes_cut old new (Taken turn ∷ pieces) goes =
     let mid : Stage = goes.0 in
@@ -81,7 +85,8 @@ goes_cut old new (Taken turn ∷ pieces) goes =
       );
       requests = ap (λ b. if b then requests_in rest.pieces else take n old.input ∷ requests_in rest.pieces)
           (starts_request old.input n taken.next.first.0 some)
-          ∙ ap (λ rs. take n old.input ∷ rs) rest.requests ∙ ap (λ m. m ∷ map message_of (pieces_hearings pieces)) (sym taken.next.message_is);
+          ∙ ap (λ rs. take n old.input ∷ rs) rest.requests
+          ∙ ap (λ m. m ∷ map message_of (pieces_hearings pieces)) (sym taken.next.message_is);
     }
 
 -- bytes that wait are cut on
@@ -124,7 +129,8 @@ rounds_cut : {new : Stage} {messages : List (List ℕ)} (old : Stage) (rounds : 
     CutsAll (heard_cut.heard ++ rounds_input rounds) new (messages ++ map message_of (hearings_in old rounds new takes))
 rounds_cut {new} {messages} old [] takes heard_cut = record {
   pieces = pieces;
-  cut = subst (λ w. AreCut w pieces new.input) (sym (append-nil heard)) (subst (AreCut heard pieces) (ap (λ (s : Stage). s.input) (sym takes)) cut);
+  cut = subst (λ w. AreCut w pieces new.input) (sym (append-nil heard))
+      (subst (AreCut heard pieces) (ap (λ (s : Stage). s.input) (sym takes)) cut);
   requests = requests ∙ sym (append-nil messages);
 }
   where
@@ -135,7 +141,8 @@ rounds_cut {new} {messages} old (round ∷ rounds) takes heard_cut =
     let opened : Stage = runs.opened in
     let bytes : List ℕ = bytes_in round.event in
     let grown : AreCut (heard ++ bytes) pieces opened.input =
-    subst (AreCut (heard ++ bytes) pieces) (sym (comes_input old opened round.event round.due round.halt runs.comes)) (cut_grows heard bytes pieces old.input cut) in
+    subst (AreCut (heard ++ bytes) pieces)
+    (sym (comes_input old opened round.event round.due round.halt runs.comes)) (cut_grows heard bytes pieces old.input cut) in
     let path = path_of opened mid round.takings runs.takes in
     let cuts = goes_cut opened mid path.pieces path.goes in
     let more : List (List ℕ) = map message_of (takings_hearings opened round.takings mid runs.takes) in
@@ -168,7 +175,8 @@ rounds_cut {new} {messages} old (round ∷ rounds) takes heard_cut =
 abbrev IsRest : Stage → Type 0
 IsRest stage = ((n : ℕ) → IsPieceLength stage.input n → ⊥) ⊎ (AwaitsReply stage ⊎ (stage.session.torn ≡ true))
 
-idle_rest : (stage : Stage) → (IsFirst stage.input (Ok More) ⊎ ((n : ℕ) × (IsFirst stage.input (Ok (Request n)) × (stage.session.waits ≡ true))))
+idle_rest : (stage : Stage)
+    → (IsFirst stage.input (Ok More) ⊎ ((n : ℕ) × (IsFirst stage.input (Ok (Request n)) × (stage.session.waits ≡ true))))
     → IsRest stage
 idle_rest stage (inl more) = inl (tells_none stage.input (Ok More) more)
 idle_rest stage (inr request) = inr (inl (record { length = request.0; first = request.1.0; waits = request.1.1 }))

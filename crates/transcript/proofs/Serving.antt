@@ -88,14 +88,19 @@ begun_play prepared start askings = record {
 -- an asking begins no play, or one
 data Beginning (asked : Awaited) (outcome : Outcome) : Type 0 where
   BeginsNone : ((askings : List Asking) → plays_begun asked outcome askings ≡ []) → Beginning asked outcome
-  BeginsOne : (prepared : Prepared) (start : ℕ) → ((askings : List Asking) → plays_begun asked outcome askings ≡ begun_play prepared start askings ∷ [])
+  BeginsOne : (prepared : Prepared) (start : ℕ)
+      → ((askings : List Asking) → plays_begun asked outcome askings ≡ begun_play prepared start askings ∷ [])
       → Beginning asked outcome
 
-entered-either : (asked : Awaited) (placed : Placed) (answer : Answer) → placed.entry.answer ≡ answer → Beginning asked (Entered placed)
-entered-either (Play prepared) placed (Admitted start) is = BeginsOne prepared start (λ askings. ap (λ a. plays_admitted (Play prepared) a askings) is)
-entered-either (Play prepared) placed (Overflow slot booked asks) is = BeginsNone (λ askings. ap (λ a. plays_admitted (Play prepared) a askings) is)
+entered-either : (asked : Awaited) (placed : Placed) (answer : Answer) → placed.entry.answer ≡ answer
+    → Beginning asked (Entered placed)
+entered-either (Play prepared) placed (Admitted start) is =
+    BeginsOne prepared start (λ askings. ap (λ a. plays_admitted (Play prepared) a askings) is)
+entered-either (Play prepared) placed (Overflow slot booked asks) is =
+    BeginsNone (λ askings. ap (λ a. plays_admitted (Play prepared) a askings) is)
 entered-either (Play prepared) placed Halted is = BeginsNone (λ askings. ap (λ a. plays_admitted (Play prepared) a askings) is)
-entered-either (Play prepared) placed (Looked now at booked) is = BeginsNone (λ askings. ap (λ a. plays_admitted (Play prepared) a askings) is)
+entered-either (Play prepared) placed (Looked now at booked) is =
+    BeginsNone (λ askings. ap (λ a. plays_admitted (Play prepared) a askings) is)
 entered-either Nothing placed answer is = BeginsNone (λ askings. refl)
 entered-either (Halt keep next) placed answer is = BeginsNone (λ askings. refl)
 entered-either (Look sequence) placed answer is = BeginsNone (λ askings. refl)
@@ -108,20 +113,24 @@ either asked (WasFull more entries live) = BeginsNone (λ askings. refl)
 either asked (Offered slot note) = BeginsNone (λ askings. refl)
 
 -- no play so far: all come later
-none-by : {asked : Awaited} {outcome : Outcome} (a b : List Asking) → (plays_of a ≡ [] → plays_of (a ++ b) ≡ plays_of b) → Beginning asked outcome → plays_of (Asks asked outcome ∷ a) ≡ []
+none-by : {asked : Awaited} {outcome : Outcome} (a b : List Asking)
+    → (plays_of a ≡ [] → plays_of (a ++ b) ≡ plays_of b) → Beginning asked outcome → plays_of (Asks asked outcome ∷ a) ≡ []
     → plays_of (Asks asked outcome ∷ (a ++ b)) ≡ plays_of b
 none-by a b rest (BeginsNone is) none =
     ap (λ l. l ++ plays_of (a ++ b)) (is (a ++ b)) ∙ rest (sym (ap (λ l. l ++ plays_of a) (is a)) ∙ none)
 none-by a b rest (BeginsOne prepared start is) none =
-    let some : begun_play prepared start a ∷ plays_of a ≡ [] = sym (ap (λ l. l ++ plays_of a) (is a)) ∙ none in absurd (let no : ⊥ = cc in no)
+    let some : begun_play prepared start a ∷ plays_of a ≡ [] =
+    sym (ap (λ l. l ++ plays_of a) (is a)) ∙ none in absurd (let no : ⊥ = cc in no)
 
 -- none at all, none so far
-before-by : {asked : Awaited} {outcome : Outcome} (a b : List Asking) → (plays_of (a ++ b) ≡ [] → plays_of a ≡ []) → Beginning asked outcome → plays_of (Asks asked outcome ∷ (a ++ b)) ≡ []
+before-by : {asked : Awaited} {outcome : Outcome} (a b : List Asking)
+    → (plays_of (a ++ b) ≡ [] → plays_of a ≡ []) → Beginning asked outcome → plays_of (Asks asked outcome ∷ (a ++ b)) ≡ []
     → plays_of (Asks asked outcome ∷ a) ≡ []
 before-by a b rest (BeginsNone is) none =
     ap (λ l. l ++ plays_of a) (is a) ∙ rest (sym (ap (λ l. l ++ plays_of (a ++ b)) (is (a ++ b))) ∙ none)
 before-by a b rest (BeginsOne prepared start is) none =
-    let some : begun_play prepared start (a ++ b) ∷ plays_of (a ++ b) ≡ [] = sym (ap (λ l. l ++ plays_of (a ++ b)) (is (a ++ b))) ∙ none in
+    let some : begun_play prepared start (a ++ b) ∷ plays_of (a ++ b) ≡ [] =
+    sym (ap (λ l. l ++ plays_of (a ++ b)) (is (a ++ b))) ∙ none in
     absurd (let no : ⊥ = cc in no)
 
 none-before : (a b : List Asking) → plays_of (a ++ b) ≡ [] → plays_of a ≡ []
@@ -132,26 +141,33 @@ none-before (Asks asked outcome ∷ a) b none = before-by a b (none-before a b) 
 abbrev pub IsSoFar : List Asking → List Asking → FilmPlay → Type 0
 IsSoFar a b play = (plays_of a ≡ play ∷ []) ⊎ ((plays_of a ≡ []) × (plays_of b ≡ play ∷ []))
 
-one-by : {asked : Awaited} {outcome : Outcome} {play : FilmPlay} (a b : List Asking) → (plays_of (a ++ b) ≡ play ∷ [] → IsSoFar a b play) → Beginning asked outcome
-    → plays_of (Asks asked outcome ∷ (a ++ b)) ≡ play ∷ [] → play.keep ≡ total_bytes play.plan → IsSoFar (Asks asked outcome ∷ a) b play
+one-by : {asked : Awaited} {outcome : Outcome} {play : FilmPlay} (a b : List Asking)
+    → (plays_of (a ++ b) ≡ play ∷ [] → IsSoFar a b play) → Beginning asked outcome
+    → plays_of (Asks asked outcome ∷ (a ++ b)) ≡ play ∷ [] → play.keep ≡ total_bytes play.plan
+    → IsSoFar (Asks asked outcome ∷ a) b play
 one-by {play} a b rest (BeginsNone is) one whole =
     let P : List FilmPlay → Type 0 = λ l. (l ++ plays_of a ≡ play ∷ []) ⊎ ((l ++ plays_of a ≡ []) × (plays_of b ≡ play ∷ [])) in
     subst P (sym (is a)) (rest (sym (ap (λ l. l ++ plays_of (a ++ b)) (is (a ++ b))) ∙ one))
 one-by {play} a b rest (BeginsOne prepared start is) one whole =
-    let there : begun_play prepared start (a ++ b) ∷ plays_of (a ++ b) ≡ play ∷ [] = sym (ap (λ l. l ++ plays_of (a ++ b)) (is (a ++ b))) ∙ one in
+    let there : begun_play prepared start (a ++ b) ∷ plays_of (a ++ b) ≡ play ∷ [] =
+    sym (ap (λ l. l ++ plays_of (a ++ b)) (is (a ++ b))) ∙ one in
     let same : begun_play prepared start (a ++ b) ≡ play = cc in
     let none : plays_of (a ++ b) ≡ [] = cc in
     let all : kept_in (a ++ b) (total_bytes prepared.plan) ≡ total_bytes prepared.plan =
     ap (λ (p : FilmPlay). p.keep) same ∙ (whole ∙ sym (ap (λ (p : FilmPlay). total_bytes p.plan) same)) in
     let kept : kept_in a (total_bytes prepared.plan) ≡ kept_in (a ++ b) (total_bytes prepared.plan) =
-    kept-all a (kept_in b (total_bytes prepared.plan)) (total_bytes prepared.plan) (kept-some a) (sym (kept-append a b (total_bytes prepared.plan)) ∙ all) ∙ sym all in
+    kept-all a (kept_in b (total_bytes prepared.plan)) (total_bytes prepared.plan) (kept-some a)
+    (sym (kept-append a b (total_bytes prepared.plan)) ∙ all) ∙ sym all in
     let mine : begun_play prepared start a ≡ begun_play prepared start (a ++ b) =
     ap (λ k. record (begun_play prepared start a) { keep = k }) kept in
-    inl (ap (λ l. l ++ plays_of a) (is a) ∙ (ap (λ l. begun_play prepared start a ∷ l) (none-before a b none) ∙ ap (λ p. p ∷ []) (mine ∙ same)))
+    inl (ap (λ l. l ++ plays_of a) (is a)
+    ∙ (ap (λ l. begun_play prepared start a ∷ l) (none-before a b none) ∙ ap (λ p. p ∷ []) (mine ∙ same)))
 
-pub one-so-far : (a b : List Asking) (play : FilmPlay) → plays_of (a ++ b) ≡ play ∷ [] → play.keep ≡ total_bytes play.plan → IsSoFar a b play
+pub one-so-far : (a b : List Asking) (play : FilmPlay) → plays_of (a ++ b) ≡ play ∷ []
+    → play.keep ≡ total_bytes play.plan → IsSoFar a b play
 one-so-far [] b play one whole = inr (refl, one)
-one-so-far (Asks asked outcome ∷ a) b play one whole = one-by a b (λ is. one-so-far a b play is whole) (either asked outcome) one whole
+one-so-far (Asks asked outcome ∷ a) b play one whole =
+    one-by a b (λ is. one-so-far a b play is whole) (either asked outcome) one whole
 
 -- ---- a play begins after the slot that was heard, with a plan of segments
 
@@ -160,7 +176,9 @@ pub record IsLatePlay (heard : ℕ) (play : FilmPlay) : Type 0 where
   pub plan : IsPlan play.plan
 
 abbrev IsLate : ℕ → Awaited → Outcome → Type 0
-IsLate heard asked outcome = (askings : List Asking) (play : FilmPlay) (rest : List FilmPlay) → plays_begun asked outcome askings ≡ play ∷ rest → IsLatePlay heard play
+IsLate heard asked outcome =
+    (askings : List Asking) (play : FilmPlay) (rest : List FilmPlay)
+    → plays_begun asked outcome askings ≡ play ∷ rest → IsLatePlay heard play
 
 abbrev pub AreLate : ℕ → List Asking → Type 0
 AreLate heard [] = ⊤
@@ -173,13 +191,15 @@ late-append heard (Asks asked outcome ∷ a) b one two = (one.0, late-append hea
 late-lower : (low heard : ℕ) (a : List Asking) → low ≤ heard → AreLate heard a → AreLate low a
 late-lower low heard [] less are = tt
 late-lower low heard (Asks asked outcome ∷ a) less are = (
-  λ askings play rest is. let its = are.0 askings play rest is in record { late = omega (arith, less, its.late); plan = its.plan },
+  λ askings play rest is. let its =
+      are.0 askings play rest is in record { late = omega (arith, less, its.late); plan = its.plan },
   late-lower low heard a less are.1,
 )
 
 late-by : {heard : ℕ} {asked : Awaited} {outcome : Outcome} {play : FilmPlay} {rest : List FilmPlay}
     (a : List Asking)
-    → (plays_of a ≡ play ∷ rest → IsLatePlay heard play) → Beginning asked outcome → AreLate heard (Asks asked outcome ∷ a) → plays_of (Asks asked outcome ∷ a) ≡ play ∷ rest → IsLatePlay heard play
+    → (plays_of a ≡ play ∷ rest → IsLatePlay heard play) → Beginning asked outcome
+    → AreLate heard (Asks asked outcome ∷ a) → plays_of (Asks asked outcome ∷ a) ≡ play ∷ rest → IsLatePlay heard play
 late-by a next (BeginsNone none) are is =
     next (sym (ap (λ l. l ++ plays_of a) (none a)) ∙ is)
 late-by {play} {rest} a next (BeginsOne prepared start one) are is =
@@ -187,26 +207,32 @@ late-by {play} {rest} a next (BeginsOne prepared start one) are is =
     let same : begun_play prepared start a ≡ play = cc in
     are.0 a play [] (one a ∙ ap (λ p. p ∷ []) same)
 
-pub late-play : (heard : ℕ) (a : List Asking) (play : FilmPlay) (rest : List FilmPlay) → AreLate heard a → plays_of a ≡ play ∷ rest → IsLatePlay heard play
+pub late-play : (heard : ℕ) (a : List Asking) (play : FilmPlay) (rest : List FilmPlay) → AreLate heard a
+    → plays_of a ≡ play ∷ rest → IsLatePlay heard play
 late-play heard [] play rest are is = absurd (let no : ⊥ = cc in no)
-late-play heard (Asks asked outcome ∷ a) play rest are is = late-by a (λ same. late-play heard a play rest are.1 same) (either asked outcome) are is
+late-play heard (Asks asked outcome ∷ a) play rest are is =
+    late-by a (λ same. late-play heard a play rest are.1 same) (either asked outcome) are is
 
 -- by what was asked
-none-late : (heard : ℕ) (asked : Awaited) (outcome : Outcome) → ((askings : List Asking) → plays_begun asked outcome askings ≡ []) → IsLate heard asked outcome
+none-late : (heard : ℕ) (asked : Awaited) (outcome : Outcome)
+    → ((askings : List Asking) → plays_begun asked outcome askings ≡ []) → IsLate heard asked outcome
 none-late heard asked outcome none = λ askings play rest is.
     let clash : [] ≡ play ∷ rest = sym (none askings) ∙ is in absurd (let no : ⊥ = cc in no)
 
-begins-late : (old new : Standing) (asked : Awaited) (outcome : Outcome) → Begins old asked outcome new → IsLate old.heard asked outcome
+begins-late : (old new : Standing) (asked : Awaited) (outcome : Outcome) → Begins old asked outcome new
+    → IsLate old.heard asked outcome
 begins-late old new asked outcome begins = λ askings play rest is.
     let mine : plays_begun asked outcome askings ≡ begun_play begins.prepared begins.start askings ∷ [] =
     ap (λ o. plays_begun asked o askings) begins.outcome_is
-    ∙ (ap (λ a. plays_admitted a begins.placed.entry.answer askings) begins.asked_is ∙ ap (λ a. plays_admitted (Play begins.prepared) a askings) begins.answer) in
+    ∙ (ap (λ a. plays_admitted a begins.placed.entry.answer askings) begins.asked_is
+    ∙ ap (λ a. plays_admitted (Play begins.prepared) a askings) begins.answer) in
     let all : begun_play begins.prepared begins.start askings ∷ [] ≡ play ∷ rest = sym mine ∙ is in
     let same : begun_play begins.prepared begins.start askings ≡ play = cc in
     let L : FilmPlay → Type 0 = λ p. IsLatePlay old.heard p in
     subst L same (record { late = begins.later; plan = subst IsPlan begins.paced begins.pacing.plan })
 
-turn-late : (old new : Standing) (asked : Awaited) (outcome : Outcome) → TurnsAs old asked outcome new → IsLate old.heard asked outcome
+turn-late : (old new : Standing) (asked : Awaited) (outcome : Outcome) → TurnsAs old asked outcome new
+    → IsLate old.heard asked outcome
 turn-late old new asked outcome (Stays same after still) = none-late old.heard asked outcome still.none
 turn-late old new asked outcome (Starts after begins) = begins-late old new asked outcome begins
 turn-late old new asked outcome (Ends after halts) = none-late old.heard asked outcome halts.none
@@ -222,12 +248,15 @@ takes-late old new (Answered message outcome parts ∷ takings) takes stands =
     let replied = takes.1.0 in
     let mid = taken_stands old takes.0 (Answered message outcome parts) takes.1.0 stands in
     let one = takes_step old takes.0 (Answered message outcome parts ∷ []) (takes.0, (takes.1.0, refl)) stands in (
-      turn-late old.session replied.answered replied.heard.asking.awaited outcome (turns_as old.session message outcome replied.answered replied.heard stands.rest),
-      late-lower old.session.heard takes.0.session.heard (takings_askings takes.0 takings new takes.1.1) one.on.later (takes-late takes.0 new takings takes.1.1 mid),
+      turn-late old.session replied.answered replied.heard.asking.awaited outcome
+          (turns_as old.session message outcome replied.answered replied.heard stands.rest),
+      late-lower old.session.heard takes.0.session.heard (takings_askings takes.0 takings new takes.1.1)
+          one.on.later (takes-late takes.0 new takings takes.1.1 mid),
     )
 
 -- the halt of a play that is done begins none
-halt-none : (asked : Awaited) (halt : Outcome) (s new : Standing) → IsFinished (awaited_answer_of asked) s halt new → (askings : List Asking) → plays_begun asked halt askings ≡ []
+halt-none : (asked : Awaited) (halt : Outcome) (s new : Standing)
+    → IsFinished (awaited_answer_of asked) s halt new → (askings : List Asking) → plays_begun asked halt askings ≡ []
 halt-none Nothing Unasked s new is = λ askings. refl
 halt-none Nothing (Entered placed) s new is = absurd is
 halt-none Nothing (WasFull more entries live) s new is = λ askings. refl
@@ -249,9 +278,11 @@ comes-none {event = HeardEnd} come = absurd come.comes
 comes-none {event = Sent byte} come = absurd come.comes
 
 -- an event leaves the heard slot, or raises it
-opened-heard : (old new : Stage) (round : Round) (runs : Runs old round new) → Stands old.session → old.session.heard ≤ runs.opened.session.heard
+opened-heard : (old new : Stage) (round : Round) (runs : Runs old round new) → Stands old.session
+    → old.session.heard ≤ runs.opened.session.heard
 opened-heard old new round runs stands =
-    let alone : Runs old (record round { takings = [] }) runs.opened = record { opened = runs.opened; comes = runs.comes; takes = refl } in
+    let alone : Runs old (record round { takings = [] }) runs.opened =
+    record { opened = runs.opened; comes = runs.comes; takes = refl } in
     (round_step old runs.opened (record round { takings = [] }) alone stands).on.later
 
 pub course-late : (old new : Stage) (rounds : List Round) (follows : Follows old rounds new) → Stands old.session
@@ -260,13 +291,16 @@ course-late old new [] follows stands = tt
 course-late old new (round ∷ rounds) follows stands =
     let runs = follows.1.0 in
     let step = round_step old follows.0 round runs stands in
-    let mid : Stands follows.0.session = stands_by old.session follows.0.session (round_askings old round follows.0 runs) (film_bytes round.due) step in
+    let mid : Stands follows.0.session =
+    stands_by old.session follows.0.session (round_askings old round follows.0 runs) (film_bytes round.due) step in
     let opened = opened_stands old follows.0 round runs stands in
     let grown : old.session.heard ≤ runs.opened.session.heard = opened-heard old follows.0 round runs stands in
     late-append old.session.heard (round_askings old round follows.0 runs) (askings_of follows.0 rounds new follows.1.1) (
       none-late old.session.heard (asked_by old.session round.event) round.halt
           (comes-none (record { due = round.due; halt = round.halt; comes = runs.comes })),
-      late-lower old.session.heard runs.opened.session.heard (takings_askings runs.opened round.takings follows.0 runs.takes) grown
+      late-lower old.session.heard runs.opened.session.heard
+          (takings_askings runs.opened round.takings follows.0 runs.takes) grown
           (takes-late runs.opened follows.0 round.takings runs.takes opened),
     )
-    (late-lower old.session.heard follows.0.session.heard (askings_of follows.0 rounds new follows.1.1) step.on.later (course-late follows.0 new rounds follows.1.1 mid))
+    (late-lower old.session.heard follows.0.session.heard (askings_of follows.0 rounds new follows.1.1)
+    step.on.later (course-late follows.0 new rounds follows.1.1 mid))

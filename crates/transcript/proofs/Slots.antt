@@ -22,7 +22,8 @@ use Rattle.transcript.proofs.Turning.{Ending, Going, Idle, Sends, sends_in}
 use Rattle.conn.proofs.Occasions.{SlotPacings}
 
 -- at a boundary the rest of a halted play was sent
-pub ended_at : {p : Pacing} {slot place : ℕ} → IsOnTime p slot → IsAtLast p → IsBoundary p.pieces place → place ≡ p.before + p.sent → p.sent ≡ p.keep
+pub ended_at : {p : Pacing} {slot place : ℕ} → IsOnTime p slot → IsAtLast p → IsBoundary p.pieces place
+    → place ≡ p.before + p.sent → p.sent ≡ p.keep
 ended_at {p} {slot} {place} on last boundary is =
     let least : p.before + p.keep ≤ place = last place boundary (omega (arith, is)) in
     omega (arith, least, is, on.even, on.pacing.due)
@@ -48,8 +49,10 @@ replied_on (Stopping setup stop) waits slot sound between =
     let p : Pacing = stop.pacer in
     over_on p slot sound.0 (ended_at sound.0 sound.2 (boundary_here p sound.0.pacing between) refl)
 
-pub reply_on : (goes : Bool) (state : State) (waits : Bool) (slot : ℕ) → IsSound (sends_in state) waits slot → (goes ≡ true → is_between state ≡ true)
-    → GoesOn (sends_in state) (sends_in (if goes then after_stop state else state)) slot slot (if goes then false else waits) [] []
+pub reply_on : (goes : Bool) (state : State) (waits : Bool) (slot : ℕ) → IsSound (sends_in state) waits slot
+    → (goes ≡ true → is_between state ≡ true)
+    → GoesOn (sends_in state) (sends_in (if goes then after_stop state else state)) slot slot
+    (if goes then false else waits) [] []
 reply_on false state waits slot sound between = same_on (sends_in state) waits slot sound
 reply_on true state waits slot sound between = replied_on state waits slot sound (between refl)
 
@@ -57,7 +60,9 @@ reply_on true state waits slot sound between = replied_on state waits slot sound
 
 abbrev pub state_after : Bool → State → ℕ → State
 state_after waits state slot =
-    let due : State = if waits then (if is_between (stepped_in true slot state) then stepped_in false slot (stepped_in true slot state) else stepped_in true slot state)
+    let due : State =
+    if waits then (if is_between (stepped_in true slot state) then stepped_in false slot
+    (stepped_in true slot state) else stepped_in true slot state)
     else stepped_in false slot state in
     if waits && is_between (stepped_in true slot state) then after_stop due else due
 
@@ -75,11 +80,14 @@ parts_of waits state text slot =
 film_of : (waits : Bool) (p : Pacing) (text : List ℕ) (slot : ℕ) → IsPacing p →
     film_bytes (if waits then Film (plan_bytes p p.sent (step_end true (at_slot slot p)))
     ∷ (if stands_at_boundary (after_step true slot p)
-    then Text text ∷ Film (plan_bytes (after_step true slot p) (after_step true slot p).sent (step_end false (at_slot slot (after_step true slot p)))) ∷ [] else [])
+    then Text text
+    ∷ Film (plan_bytes (after_step true slot p) (after_step true slot p).sent
+    (step_end false (at_slot slot (after_step true slot p)))) ∷ [] else [])
     else Film (plan_bytes p p.sent (step_end false (at_slot slot p))) ∷ []) ≡ plan_bytes p p.sent (due_by p slot)
 film_of waits p text slot is =
     let q : Pacing = after_step true slot p in
-    film_cases waits (stands_at_boundary q) (plan_bytes p p.sent (step_end true (at_slot slot p))) (plan_bytes q q.sent (step_end false (at_slot slot q)))
+    film_cases waits (stands_at_boundary q) (plan_bytes p p.sent (step_end true (at_slot slot p)))
+    (plan_bytes q q.sent (step_end false (at_slot slot q)))
     (plan_bytes p p.sent (step_end false (at_slot slot p))) text
     ∙ slot_bytes waits (stands_at_boundary q) slot p is refl
 
@@ -88,9 +96,11 @@ going_with setup play p = Playing setup (record play { pacer = p })
 
 pub going_cases : (waits between : Bool) (pacings : SlotPacings) →
     sends_in (if waits && between
-    then after_stop (if waits then (if between then going_with pacings.setup pacings.play pacings.both else going_with pacings.setup
+    then after_stop
+    (if waits then (if between then going_with pacings.setup pacings.play pacings.both else going_with pacings.setup
     pacings.play pacings.front) else going_with pacings.setup pacings.play pacings.plain)
-    else (if waits then (if between then going_with pacings.setup pacings.play pacings.both else going_with pacings.setup pacings.play
+    else (if waits
+    then (if between then going_with pacings.setup pacings.play pacings.both else going_with pacings.setup pacings.play
     pacings.front) else going_with pacings.setup pacings.play pacings.plain))
     ≡ Going (if waits then (if between then pacings.both else pacings.front) else pacings.plain)
 going_cases false between pacings = refl
@@ -113,20 +123,24 @@ going_on : (p : Pacing) (heard slot : ℕ) (waits : Bool) → IsSound (Going p) 
 going_on p heard slot waits sound later = record {
   sound = (through_time p heard slot sound.0 later, sound.1);
   later = omega (arith, later);
-  rest = λ askings end more on is. through_film slot end (record { keep = _; plays = plays_of askings; more = more }) sound.0.pacing is;
+  rest = λ askings end more on is. through_film slot end
+      (record { keep = _; plays = plays_of askings; more = more }) sound.0.pacing is;
 }
 
 -- the rest of a halted play goes on, or is over
-ending_over : (p : Pacing) (heard slot : ℕ) → IsSound (Ending p) true heard → heard < slot → stands_at_boundary (after_step true slot p) ≡ true
+ending_over : (p : Pacing) (heard slot : ℕ) → IsSound (Ending p) true heard → heard < slot
+    → stands_at_boundary (after_step true slot p) ≡ true
     → GoesOn (Ending p) Idle heard slot false [] (plan_bytes p p.sent (due_by p slot))
 ending_over p heard slot sound later stands =
     let on : IsOnTime p heard = sound.0 in
     let through : IsOnTime (sent_through slot p) slot = through_time p heard slot on later in
     let one : Pacing = after_step true slot p in
-    let inside : p.before + p.sent ≤ length (framed_bytes p.pieces) = omega (arith, on.pacing.whole, on.pacing.most, on.pacing.due, on.pacing.sent) in
+    let inside : p.before + p.sent ≤ length (framed_bytes p.pieces) =
+    omega (arith, on.pacing.whole, on.pacing.most, on.pacing.due, on.pacing.sent) in
     let next = boundary-from p.pieces (p.before + p.sent) inside in
     let boundary : IsBoundary p.pieces (p.before + one.sent) = boundary_here one (stopped_is slot p on.pacing) stands in
-    let least : p.before + p.keep ≤ p.before + one.sent = sound.2 (p.before + one.sent) boundary (omega (arith, next.after, on.pacing.sent)) in
+    let least : p.before + p.keep ≤ p.before + one.sent =
+    sound.2 (p.before + one.sent) boundary (omega (arith, next.after, on.pacing.sent)) in
     let ended : (sent_through slot p).sent ≡ p.keep = omega (arith, least, through.pacing.due) in
     record {
       sound = tt;
@@ -145,22 +159,28 @@ ending_on p heard slot sound later = record {
     λ place boundary after. sound.2 place boundary (omega (arith, after, sound.0.pacing.sent)),
   );
   later = omega (arith, later);
-  rest = λ askings end more on is. through_film slot end (record { keep = p.keep; plays = plays_of askings; more = more }) sound.0.pacing is;
+  rest = λ askings end more on is. through_film slot end
+      (record { keep = p.keep; plays = plays_of askings; more = more }) sound.0.pacing is;
 }
 
-ending_either : {between : Bool} {p : Pacing} {heard slot : ℕ} → IsSound (Ending p) true heard → heard < slot → stands_at_boundary (after_step true slot p) ≡ between
-    → GoesOn (Ending p) (if between then Idle else Ending (after_step true slot p)) heard slot (if between then false else true) [] (plan_bytes p p.sent (due_by p slot))
+ending_either : {between : Bool} {p : Pacing} {heard slot : ℕ} → IsSound (Ending p) true heard → heard < slot
+    → stands_at_boundary (after_step true slot p) ≡ between
+    → GoesOn (Ending p) (if between then Idle else Ending (after_step true slot p)) heard slot
+    (if between then false else true) [] (plan_bytes p p.sent (due_by p slot))
 ending_either {between = true} {p} {heard} {slot} sound later stands = ending_over p heard slot sound later stands
 ending_either {between = false} {p} {heard} {slot} sound later stands =
-    subst (λ q. GoesOn (Ending p) (Ending q) heard slot true [] (plan_bytes p p.sent (due_by p slot))) (sym (slot_is true false slot p sound.0.pacing stands))
+    subst (λ q. GoesOn (Ending p) (Ending q) heard slot true [] (plan_bytes p p.sent (due_by p slot)))
+    (sym (slot_is true false slot p sound.0.pacing stands))
     (ending_on p heard slot sound later)
 
 -- what is sent goes on by a slot that is taken up
 abbrev pub SlotGoes : State → Bool → ℕ → ℕ → List ℕ → Type 0
 SlotGoes state waits heard slot text =
-    GoesOn (sends_in state) (sends_in (state_after waits state slot)) heard slot (waits_after waits state slot) [] (film_bytes (parts_of waits state text slot))
+    GoesOn (sends_in state) (sends_in (state_after waits state slot)) heard slot (waits_after waits state slot)
+    [] (film_bytes (parts_of waits state text slot))
 
-pub slot_goes : {heard slot : ℕ} (state : State) (waits : Bool) (text : List ℕ) → is_sending state ≡ true → IsSound (sends_in state) waits heard → heard < slot
+pub slot_goes : {heard slot : ℕ} (state : State) (waits : Bool) (text : List ℕ) → is_sending state ≡ true
+    → IsSound (sends_in state) waits heard → heard < slot
     → SlotGoes state waits heard slot text
 slot_goes {slot} Init waits text sending sound later = absurd (true≢false (sym sending))
 slot_goes {slot} (Ready setup paused) waits text sending sound later = absurd (true≢false (sym sending))
@@ -187,5 +207,6 @@ slot_goes {heard} {slot} (Stopping setup stop) true text sending sound later =
     let last : Bool = waits_after true (Stopping setup stop) slot in
     subst (λ s. GoesOn (Ending p) s heard slot last [] (film_bytes (parts_of true (Stopping setup stop) text slot)))
     (sym (ending_cases (stands_at_boundary one) setup stop (after_step false slot one) one))
-    (subst (GoesOn (Ending p) (if stands_at_boundary one then Idle else Ending one) heard slot last []) (sym (film_of true p text slot sound.0.pacing))
+    (subst (GoesOn (Ending p) (if stands_at_boundary one then Idle else Ending one) heard slot last [])
+    (sym (film_of true p text slot sound.0.pacing))
     (ending_either sound later refl))

@@ -23,9 +23,11 @@ use Rattle.transcript.proofs.Turning.{Begins, Ends, Ending, Going, Halts, Idle, 
 pub record GoesOn (old new : Sends) (from to : ℕ) (waits : Bool) (made : List Asking) (bytes : List ℕ) : Type 0 where
   pub sound : IsSound new waits to
   pub later : from ≤ to
-  pub rest : (askings : List Asking) (end : ℕ) (more : List ℕ) → to ≤ end → IsRest new askings end more → IsRest old (made ++ askings) end (bytes ++ more)
+  pub rest : (askings : List Asking) (end : ℕ) (more : List ℕ) → to ≤ end → IsRest new askings end more
+      → IsRest old (made ++ askings) end (bytes ++ more)
 
-pub then_on : {a b c : Sends} {x y z : ℕ} {waits last : Bool} {made more : List Asking} {film bytes : List ℕ} → GoesOn a b x y waits made film
+pub then_on : {a b c : Sends} {x y z : ℕ} {waits last : Bool} {made more : List Asking} {film bytes : List ℕ}
+    → GoesOn a b x y waits made film
     → GoesOn b c y z last more bytes → GoesOn a c x z last (made ++ more) (film ++ bytes)
 then_on {a} {c} {waits} {last} {made} {more} {film} {bytes} one two = record {
   sound = two.sound;
@@ -44,11 +46,15 @@ pub still_rest : {asked : Awaited} {outcome : Outcome} (sends : Sends) (askings 
 still_rest Idle askings end more still is =
     subst (λ ps. IsFilm end (ps ++ plays_of askings) more) (sym (still.none askings)) is
 still_rest {outcome} (Going p) askings end more still is =
-    subst (λ ps. IsFilm end (play_with p (kept_with outcome (kept_in askings (total_bytes p.plan))) ∷ (ps ++ plays_of askings)) (take p.sent (film_in p) ++ more))
+    subst (λ ps. IsFilm end
+    (play_with p (kept_with outcome (kept_in askings (total_bytes p.plan))) ∷ (ps ++ plays_of askings))
+    (take p.sent (film_in p) ++ more))
     (sym (still.none askings))
-    (subst (λ k. IsFilm end (play_with p k ∷ plays_of askings) (take p.sent (film_in p) ++ more)) (sym (still.kept (kept_in askings (total_bytes p.plan)))) is)
+    (subst (λ k. IsFilm end (play_with p k ∷ plays_of askings) (take p.sent (film_in p) ++ more))
+    (sym (still.kept (kept_in askings (total_bytes p.plan)))) is)
 still_rest (Ending p) askings end more still is =
-    subst (λ ps. IsFilm end (play_with p p.keep ∷ (ps ++ plays_of askings)) (take p.sent (film_in p) ++ more)) (sym (still.none askings)) is
+    subst (λ ps. IsFilm end (play_with p p.keep ∷ (ps ++ plays_of askings)) (take p.sent (film_in p) ++ more))
+    (sym (still.none askings)) is
 
 pub sound_waits : (sends : Sends) (old new : Bool) (slot : ℕ) → IsSound sends old slot → (new ≡ true) → IsSound sends new slot
 sound_waits Idle old new slot is waits = tt
@@ -70,7 +76,8 @@ begin_sound {p} {slot} whole_play pacing later =
     let starts : p.start ≡ start = ap (λ (q : Pacing). q.start) is in
     let none : p.passed ≡ 0 = ap (λ (q : Pacing). q.passed) is in
     let sent : p.sent ≡ p.due = ap (λ (q : Pacing). q.sent) is ∙ sym (ap (λ (q : Pacing). q.due) is) in
-    let whole : p.keep ≡ total_bytes p.plan = ap (λ (q : Pacing). q.keep) is ∙ sym (ap (λ (q : Pacing). total_bytes q.plan) is) in (
+    let whole : p.keep ≡ total_bytes p.plan =
+    ap (λ (q : Pacing). q.keep) is ∙ sym (ap (λ (q : Pacing). total_bytes q.plan) is) in (
       record { pacing = pacing; passed = omega (arith, starts, none, later); even = sent },
       whole,
     )
@@ -80,25 +87,46 @@ begin_sound {p} {slot} whole_play pacing later =
 begin_film : {plan : List Segment} {more : List ℕ} (prepared : Prepared) (start : ℕ) (askings : List Asking)
     (end : ℕ) → prepared.paced ≡ plan
     → IsFilm end (play_with (pacing_for prepared start) (kept_in askings (total_bytes prepared.paced)) ∷ plays_of askings) more
-    → IsFilm end (record { start = start; plan = plan; keep = kept_in askings (total_bytes plan); before = prepared.run.sent; pieces = run_pieces prepared.frames } ∷ plays_of askings) more
+    → IsFilm end
+    (record {
+      start = start;
+      plan = plan;
+      keep = kept_in askings (total_bytes plan);
+      before =
+          prepared.run.sent;
+      pieces = run_pieces prepared.frames;
+    } ∷ plays_of askings) more
 begin_film {plan} {more} prepared start askings end same is =
-    subst (λ pl. IsFilm end (record { start = start; plan = pl; keep = kept_in askings (total_bytes pl); before = prepared.run.sent; pieces = run_pieces prepared.frames } ∷ plays_of askings) more)
+    subst (λ pl. IsFilm end
+    (record {
+      start = start;
+      plan = pl;
+      keep = kept_in askings (total_bytes pl);
+      before =
+          prepared.run.sent;
+      pieces = run_pieces prepared.frames;
+    } ∷ plays_of askings) more)
     same is
 
 begin_rest : {old new : Standing} {asked : Awaited} {outcome : Outcome} {more : List ℕ}
-    (begins : Begins old asked outcome new) (askings : List Asking) (end : ℕ) → IsRest (Going (pacing_for begins.prepared begins.start)) askings end more → IsRest Idle (Asks asked outcome ∷ askings) end more
+    (begins : Begins old asked outcome new) (askings : List Asking) (end : ℕ)
+    → IsRest (Going (pacing_for begins.prepared begins.start)) askings end more
+    → IsRest Idle (Asks asked outcome ∷ askings) end more
 begin_rest {new} {asked} {outcome} {more} begins askings end is =
     let made : plays_begun asked outcome askings ≡ plays_admitted (Play begins.prepared) (Admitted begins.start) askings =
-    ap (λ o. plays_begun asked o askings) begins.outcome_is ∙ ap (λ a. plays_admitted a begins.placed.entry.answer askings) begins.asked_is
+    ap (λ o. plays_begun asked o askings) begins.outcome_is
+    ∙ ap (λ a. plays_admitted a begins.placed.entry.answer askings) begins.asked_is
     ∙ ap (λ a. plays_admitted (Play begins.prepared) a askings) begins.answer in
     subst (λ ps. IsFilm end (ps ++ plays_of askings) more) (sym made)
     (begin_film begins.prepared begins.start askings end begins.paced is)
 
 -- a play is halted at the next boundary
-halted_pacing : (p : Pacing) (slot : ℕ) → IsSound (Going p) true slot → IsSound (Ending (record p { keep = next_boundary p })) true slot
+halted_pacing : (p : Pacing) (slot : ℕ) → IsSound (Going p) true slot
+    → IsSound (Ending (record p { keep = next_boundary p })) true slot
 halted_pacing p slot is =
     let on = is.0 in
-    let inside : p.before + p.sent ≤ length (framed_bytes p.pieces) = omega (arith, on.pacing.whole, on.pacing.most, on.pacing.due, on.even) in
+    let inside : p.before + p.sent ≤ length (framed_bytes p.pieces) =
+    omega (arith, on.pacing.whole, on.pacing.most, on.pacing.due, on.even) in
     let next = boundary-from p.pieces (p.before + p.sent) inside in
     let end : p.before + p.keep ≡ length (framed_bytes p.pieces) = omega (arith, on.pacing.whole, is.1) in
     let most : boundary_from p.pieces (p.before + p.sent) ≤ p.before + p.keep =
@@ -124,18 +152,22 @@ halted_pacing p slot is =
     )
 
 halt_rest : {old new : Standing} {asked : Awaited} {outcome : Outcome} (halts : Halts old asked outcome new)
-    (askings : List Asking) (end : ℕ) (more : List ℕ) → IsRest (Ending (record halts.pacing { keep = next_boundary halts.pacing })) askings end more
+    (askings : List Asking) (end : ℕ) (more : List ℕ)
+    → IsRest (Ending (record halts.pacing { keep = next_boundary halts.pacing })) askings end more
     → IsRest (Going halts.pacing) (Asks asked outcome ∷ askings) end more
 halt_rest {new} {asked} {outcome} halts askings end more is =
     let p : Pacing = halts.pacing in
     let kept : kept_with outcome (kept_in askings (total_bytes p.plan)) ≡ next_boundary p =
     ap (λ o. kept_with o (kept_in askings (total_bytes p.plan))) halts.outcome_is
     ∙ ap (λ c. kept_by c (kept_in askings (total_bytes p.plan))) halts.command in
-    subst (λ k. IsFilm end (play_with p k ∷ (plays_begun asked outcome askings ++ plays_of askings)) (take p.sent (film_in p) ++ more)) (sym kept)
-    (subst (λ ps. IsFilm end (play_with p (next_boundary p) ∷ (ps ++ plays_of askings)) (take p.sent (film_in p) ++ more)) (sym (halts.none askings)) is)
+    subst (λ k. IsFilm end (play_with p k ∷ (plays_begun asked outcome askings ++ plays_of askings))
+    (take p.sent (film_in p) ++ more)) (sym kept)
+    (subst (λ ps. IsFilm end (play_with p (next_boundary p) ∷ (ps ++ plays_of askings))
+    (take p.sent (film_in p) ++ more)) (sym (halts.none askings)) is)
 
 -- a request and its answer
-pub turn_goes : (old new : Standing) (asked : Awaited) (outcome : Outcome) → IsSound (sends_in old.state) true old.heard → TurnsAs old asked outcome new
+pub turn_goes : (old new : Standing) (asked : Awaited) (outcome : Outcome)
+    → IsSound (sends_in old.state) true old.heard → TurnsAs old asked outcome new
     → GoesOn (sends_in old.state) (sends_in new.state) old.heard old.heard true (Asks asked outcome ∷ []) []
 turn_goes old new asked outcome sound (Stays same after still) = record {
   sound = subst (λ s. IsSound s true old.heard) (sym same) sound;

@@ -37,7 +37,8 @@ take-none c xs is = ap (λ l. take c l) is ∙ take_all c [] (omega arith)
 stream-cons : (p t : List ℕ) (ps : List (List ℕ)) (r : List ℕ) → IsAlone p → IsStream t ps r → IsStream (p ++ t) (p ∷ ps) r
 stream-cons p t ps r alone stream =
     let zero_ : length p ≡ length p + 0 = omega arith in
-    let front : p ≡ take (length p) (p ++ t) = sym (take-append-le (length p) p t (omega arith) ∙ take_all (length p) p (omega arith)) in
+    let front : p ≡ take (length p) (p ++ t) =
+    sym (take-append-le (length p) p t (omega arith) ∙ take_all (length p) p (omega arith)) in
     let after : t ≡ drop (length p) (p ++ t) = sym (ap (λ n. drop n (p ++ t)) zero_ ∙ drop-append-add p t 0) in
     let P : List ℕ → Type 0 = λ xs. AreCut xs ps r in
     ((length p, (piece_stays p t (length p) alone.whole, front, subst P after stream.0)), stream.1)
@@ -49,17 +50,26 @@ stream-short p t c alone less =
     let stays : IsPieceLength (take c p ++ drop c p) n = piece_stays (take c p) (drop c p) n is in
     let P : List ℕ → Type 0 = λ xs. IsPieceLength xs n in
     let there : IsPieceLength p n = subst P (take-append-drop c p) stays in
-    omega (arith, piece_once p n (length p) there alone.whole, piece_within (take c p) n is, length-take-le c p (omega (arith, less)), less) in
+    omega (
+      arith,
+      piece_once p n (length p) there alone.whole,
+      piece_within (take c p) n is,
+      length-take-le c p (omega (arith, less)),
+      less,
+    ) in
     (same, none)
 
 -- a front of a stream is its whole pieces in front, and the front of the next one
-pub cut-at : (ps : List (List ℕ)) (c : ℕ) → AreAlone ps → IsStream (take c (framed_bytes ps)) (take (count_ended c ps) ps) (rest_at c ps)
+pub cut-at : (ps : List (List ℕ)) (c : ℕ) → AreAlone ps
+    → IsStream (take c (framed_bytes ps)) (take (count_ended c ps) ps) (rest_at c ps)
 cut-at [] c alone = let P : List ℕ → Type 0 = λ xs. IsStream xs [] [] in subst P (sym (take-none c [] refl)) (refl, no-piece)
 cut-at (p ∷ ps) c alone =
     elim (cases_lt c (length p)) [
       | inl less ↦
-          let count : count_ended c (p ∷ ps) ≡ 0 = ap (λ b. cond b (count_ended (c - length p) ps + 1) 0) (lt-leb (length p) c less) in
-          let rest : rest_at c (p ∷ ps) ≡ take c p = ap (λ b. cond b (rest_at (c - length p) ps) (take c p)) (lt-leb (length p) c less) in
+          let count : count_ended c (p ∷ ps) ≡ 0 =
+          ap (λ b. cond b (count_ended (c - length p) ps + 1) 0) (lt-leb (length p) c less) in
+          let rest : rest_at c (p ∷ ps) ≡ take c p =
+          ap (λ b. cond b (rest_at (c - length p) ps) (take c p)) (lt-leb (length p) c less) in
           let P : ℕ → Type 0 = λ k. IsStream (take c (p ++ framed_bytes ps)) (take k (p ∷ ps)) (rest_at c (p ∷ ps)) in
           let Q : List ℕ → Type 0 = λ r. IsStream (take c (p ++ framed_bytes ps)) [] r in
           subst P (sym count) (subst Q (sym rest) (stream-short p (framed_bytes ps) c alone.0 less))
@@ -69,7 +79,8 @@ cut-at (p ∷ ps) c alone =
           let count : count_ended c (p ∷ ps) ≡ suc (count_ended d ps) =
           ap (λ b. cond b (count_ended d ps + 1) 0) (le-leb (length p) c more) ∙ omega arith in
           let rest : rest_at c (p ∷ ps) ≡ rest_at d ps = ap (λ b. cond b (rest_at d ps) (take c p)) (le-leb (length p) c more) in
-          let bytes : take c (p ++ framed_bytes ps) ≡ p ++ take d (framed_bytes ps) = ap (λ n. take n (p ++ framed_bytes ps)) sum ∙ take-append-add p (framed_bytes ps) d in
+          let bytes : take c (p ++ framed_bytes ps) ≡ p ++ take d (framed_bytes ps) =
+          ap (λ n. take n (p ++ framed_bytes ps)) sum ∙ take-append-add p (framed_bytes ps) d in
           let P : ℕ → Type 0 = λ k. IsStream (take c (p ++ framed_bytes ps)) (take k (p ∷ ps)) (rest_at c (p ∷ ps)) in
           let Q : List ℕ → Type 0 = λ r. IsStream (take c (p ++ framed_bytes ps)) (p ∷ take (count_ended d ps) ps) r in
           let R : List ℕ → Type 0 = λ xs. IsStream xs (p ∷ take (count_ended d ps) ps) (rest_at d ps) in
@@ -77,7 +88,8 @@ cut-at (p ∷ ps) c alone =
           (stream-cons p (take d (framed_bytes ps)) (take (count_ended d ps) ps) (rest_at d ps) alone.0 (cut-at ps d alone.1))))
     ]
 
-front-is : {rest : List ℕ} {all cut : List (List ℕ)} (end : List ℕ) (more : List (List ℕ)) → cut ≡ all ++ more → AreCut rest more end → ((n : ℕ) → IsPieceLength rest n → ⊥)
+front-is : {rest : List ℕ} {all cut : List (List ℕ)} (end : List ℕ) (more : List (List ℕ)) → cut ≡ all ++ more
+    → AreCut rest more end → ((n : ℕ) → IsPieceLength rest n → ⊥)
     → ((later : List (List ℕ)) × (all ≡ cut ++ later))
 front-is {all} {cut} end [] is are none = ([], sym (append-nil cut ∙ is ∙ append-nil all))
 front-is {all} {cut} end (piece ∷ more) is are none = absurd (none are.0 are.1.0)
@@ -97,7 +109,8 @@ cut-front {bytes} {rest} {n} {ps} front cut are next =
     let P : List ℕ → Type 0 = λ xs. IsStream xs all (rest_at c ps) in
     let stream : IsStream bytes all (rest_at c ps) = subst P (sym is) (cut-at ps c alone) in
     let longer : AreCut bytes (cut ++ take n rest ∷ []) (drop n rest) = cut_more bytes cut rest n are next in
-    let cuts : TwoCuts bytes (cut ++ take n rest ∷ []) all (drop n rest) (rest_at c ps) = record { one = longer; other = stream.0 } in
+    let cuts : TwoCuts bytes (cut ++ take n rest ∷ []) all (drop n rest) (rest_at c ps) =
+    record { one = longer; other = stream.0 } in
     elim (cuts_agree cuts) [
       | inl more ↦ (more.0, more.1.0)
       | inr more ↦ front-is (drop n rest) more.0 more.1.0 more.1.1 stream.1

@@ -111,7 +111,9 @@ pub record IsSame (s t : Sum) : Type 0 where
   pub replies : t.replies ≡ s.replies
   pub end_ms : t.end_ms ≡ s.end_ms
 
-same-one : (b : List ℕ) (ms : List Moment) (s : Sum) → (moments_of b ≡ Frame b ∷ []) ⊎ (moments_of b ≡ Report b ∷ []) → ((t : Sum) → IsSame t (steps t ms)) → IsSame s (steps s (moments_of b ++ ms))
+same-one : (b : List ℕ) (ms : List Moment) (s : Sum)
+    → (moments_of b ≡ Frame b ∷ []) ⊎ (moments_of b ≡ Report b ∷ []) → ((t : Sum) → IsSame t (steps t ms))
+    → IsSame s (steps s (moments_of b ++ ms))
 same-one b ms s (inl frame) rest =
     let r = rest (step (Frame b) s) in
     subst (λ l. IsSame s (steps s (l ++ ms))) (sym frame) (record { replies = r.replies; end_ms = r.end_ms })
@@ -124,7 +126,8 @@ blocks-same [] s are = record { replies = refl; end_ms = refl }
 blocks-same (b ∷ bs) s are = same-one b (moments_in bs) s are.0.moment (λ t. blocks-same bs t are.1)
 
 -- the bytes of all are received
-received-one : (b : List ℕ) (bs : List (List ℕ)) (s : Sum) → (moments_of b ≡ Frame b ∷ []) ⊎ (moments_of b ≡ Report b ∷ []) → plays s ≡ true
+received-one : (b : List ℕ) (bs : List (List ℕ)) (s : Sum)
+    → (moments_of b ≡ Frame b ∷ []) ⊎ (moments_of b ≡ Report b ∷ []) → plays s ≡ true
     → ((t : Sum) → plays t ≡ true → (steps t (moments_in bs)).received ≡ t.received + length (framed_bytes bs))
     → (steps s (moments_of b ++ moments_in bs)).received ≡ s.received + length (framed_bytes (b ∷ bs))
 received-one b bs s (inl frame) on rest =
@@ -135,7 +138,8 @@ received-one b bs s (inr report) on rest =
     let one = cond-true (plays s) (s.received + length b) s.received on in
     subst P (sym report) (omega (arith, rest (step (Report b) s) on, one, length-append b (framed_bytes bs)))
 
-pub blocks-received : (bs : List (List ℕ)) (s : Sum) → AreOneBlocks bs → plays s ≡ true → (steps s (moments_in bs)).received ≡ s.received + length (framed_bytes bs)
+pub blocks-received : (bs : List (List ℕ)) (s : Sum) → AreOneBlocks bs → plays s ≡ true
+    → (steps s (moments_in bs)).received ≡ s.received + length (framed_bytes bs)
 blocks-received [] s are on = omega arith
 blocks-received (b ∷ bs) s are on = received-one b bs s are.0.moment on (λ t still. blocks-received bs t are.1 still)
 
@@ -143,7 +147,9 @@ blocks-received (b ∷ bs) s are on = received-one b bs s are.0.moment on (λ t 
 some-frames : (n : ℕ) → 0 < n → (n == 0) ≡ false
 some-frames n some = ne_eqb n 0 (λ none. omega (arith, some, none))
 
-first-one : (b : List ℕ) (ms : List Moment) (s : Sum) → (moments_of b ≡ Frame b ∷ []) ⊎ (moments_of b ≡ Report b ∷ []) → 0 < s.frames → ((t : Sum) → 0 < t.frames → (steps t ms).first ≡ t.first)
+first-one : (b : List ℕ) (ms : List Moment) (s : Sum)
+    → (moments_of b ≡ Frame b ∷ []) ⊎ (moments_of b ≡ Report b ∷ []) → 0 < s.frames
+    → ((t : Sum) → 0 < t.frames → (steps t ms).first ≡ t.first)
     → (steps s (moments_of b ++ ms)).first ≡ s.first
 first-one b ms s (inl frame) some rest =
     let P : List Moment → Type 0 = λ l. (steps s (l ++ ms)).first ≡ s.first in

@@ -47,7 +47,8 @@ units-counted n time long =
 three : (a b c : ℕ) → a < 10 → b < 10 → c < 10 → number_of ((48 + a) ∷ (48 + b) ∷ (48 + c) ∷ []) ≡ Some (a * 100 + b * 10 + c)
 three a b c la lb lc = search rules
 
-seconds-is : (ms : ℕ) → seconds_text ms ≡ decimal (ms / 1000) ++ 46 ∷ (48 + ms / 100 % 10) ∷ (48 + ms / 10 % 10) ∷ (48 + ms % 10) ∷ []
+seconds-is : (ms : ℕ)
+    → seconds_text ms ≡ decimal (ms / 1000) ++ 46 ∷ (48 + ms / 100 % 10) ∷ (48 + ms / 10 % 10) ∷ (48 + ms % 10) ∷ []
 seconds-is ms =
     let s = decimal (ms / 1000) in
     let one : decimal (ms / 100 % 10) ≡ (48 + ms / 100 % 10) ∷ [] = decimal_digit (ms / 100 % 10) (omega arith) in
@@ -94,7 +95,8 @@ point-read {text} {s} n after_point is s_is small =
     let at3 : length text - 3 ≡ length s + 1 = omega (arith, size) in
     let dot : get_or text (length text - 4) 0 ≡ 46 =
     ap (λ k. get_or text k 0) at ∙ (ap (λ l. get_or l (length s) 0) is
-    ∙ (get_or-append_right s tail (length s) (length s) 0 refl (omega arith) ∙ ap (λ k. get_or tail k 0) (let z : length s - length s ≡ 0 = omega arith in z))) in
+    ∙ (get_or-append_right s tail (length s) (length s) 0 refl (omega arith)
+    ∙ ap (λ k. get_or tail k 0) (let z : length s - length s ≡ 0 = omega arith in z))) in
     let front : get_or text 0 0 ≡ get_or (decimal n) 0 0 =
     ap (λ l. get_or l 0 0) is ∙ (get_or_append_left s tail 0 0 some ∙ ap (λ l. get_or l 0 0) s_is) in
     let bare : not (nat_lt 5 (length text) && (get_or text 0 0 == 48)) ≡ true =
@@ -102,7 +104,8 @@ point-read {text} {s} n after_point is s_is small =
     let more : 1 < length (decimal n) = omega (arith, ltb-true 5 (length text) long, size, ap (λ (l : List ℕ). length l) s_is) in
     no_leading_zero n small more (sym front ∙ eqb-true (get_or text 0 0) 48 zero_)) in
     let point : has_point text ≡ true =
-    and-three (nat_le 4 (length text)) (get_or text (length text - 4) 0 == 46) (not (nat_lt 5 (length text) && (get_or text 0 0 == 48)))
+    and-three (nat_le 4 (length text)) (get_or text (length text - 4) 0 == 46)
+    (not (nat_lt 5 (length text) && (get_or text 0 0 == 48)))
     (le-leb 4 (length text) (omega (arith, size))) (eq-eqb (get_or text (length text - 4) 0) 46 dot) bare in
     let seconds : take (length text - 4) text ≡ decimal n =
     ap (λ k. take k text) at ∙ (ap (λ l. take (length s) l) is ∙ (take_at s tail (length s) refl ∙ s_is)) in
@@ -111,7 +114,8 @@ point-read {text} {s} n after_point is s_is small =
     ∙ (ap (λ l. drop (length s + 1) l) (sym (append_assoc s (46 ∷ []) ((48 + a) ∷ (48 + b) ∷ (48 + c) ∷ [])))
     ∙ drop_at (s ++ 46 ∷ []) ((48 + a) ∷ (48 + b) ∷ (48 + c) ∷ []) (length s + 1) (length-append s (46 ∷ [])))) in
     let read : milliseconds (decimal n) ((48 + a) ∷ (48 + b) ∷ (48 + c) ∷ []) ≡ Some (n * 1000 + (a * 100 + b * 10 + c)) =
-    ap (λ o. option_and_then (λ t. option_map (λ f. t * 1000 + f) (number_of ((48 + a) ∷ (48 + b) ∷ (48 + c) ∷ []))) o) (decimal_read n small)
+    ap (λ o. option_and_then
+    (λ t. option_map (λ f. t * 1000 + f) (number_of ((48 + a) ∷ (48 + b) ∷ (48 + c) ∷ []))) o) (decimal_read n small)
     ∙ ap (λ o. option_map (λ f. n * 1000 + f) o) (three a b c la lb lc) in
     cond-true (has_point text) (milliseconds (take (length text - 4) text) (drop (length text - 3) text)) None point
     ∙ (ap (λ l. milliseconds l (drop (length text - 3) text)) seconds ∙ (ap (milliseconds (decimal n)) digits ∙ read))
@@ -139,7 +143,8 @@ range-read ms small = time-read ms small
 -- the fields of a reply to PLAY
 abbrev play_named : List ℕ → List ℕ → List ℕ → ℕ → List Field
 play_named id range info slots =
-    record { name = codes "Session"; value = id } ∷ record { name = codes "Range"; value = range } ∷ record { name = codes "RTP-Info"; value = info }
+    record { name = codes "Session"; value = id } ∷ record { name = codes "Range"; value = range }
+    ∷ record { name = codes "RTP-Info"; value = info }
     ∷ record { name = codes "x-Start"; value = decimal slots } ∷ []
 
 named-session : (id range info : List ℕ) (sequence slots : ℕ)
@@ -165,7 +170,8 @@ named-sequence id range info sequence slots = refl
 start-read : (slots : ℕ) → 1 ≤ slots → slots ≤ 2 ^ 62 + 1 → option_and_then start_within (number_of (decimal slots)) ≡ Some slots
 start-read slots some few =
     ap (λ o. option_and_then start_within o) (decimal_read slots (omega (arith, few)))
-    ∙ cond-true (nat_le 1 slots && nat_le slots (2 ^ 62 + 1)) (Some slots) None (ap (λ b. b && nat_le slots (2 ^ 62 + 1)) (le-leb 1 slots some) ∙ le-leb slots (2 ^ 62 + 1) few)
+    ∙ cond-true (nat_le 1 slots && nat_le slots (2 ^ 62 + 1)) (Some slots) None
+    (ap (λ b. b && nat_le slots (2 ^ 62 + 1)) (le-leb 1 slots some) ∙ le-leb slots (2 ^ 62 + 1) few)
 
 -- the numbers of a PLAY's reply, in their ranges
 pub record PlayNumbers : Type 0 where
@@ -179,8 +185,10 @@ pub record PlayNumbers : Type 0 where
 
 named-read : {message id : List ℕ} (info : List ℕ) (numbers : PlayNumbers) →
     IsRequestLength message (length message) →
-    All IsPlain (all_fields (Some numbers.sequence) (play_named id (codes "npt=0.000-" ++ seconds_text numbers.end_ms) info numbers.slots)) →
-    message ≡ reply_text 200 (Some numbers.sequence) (play_named id (codes "npt=0.000-" ++ seconds_text numbers.end_ms) info numbers.slots) [] →
+    All IsPlain (all_fields (Some numbers.sequence)
+    (play_named id (codes "npt=0.000-" ++ seconds_text numbers.end_ms) info numbers.slots)) →
+    message ≡ reply_text 200 (Some numbers.sequence)
+    (play_named id (codes "npt=0.000-" ++ seconds_text numbers.end_ms) info numbers.slots) [] →
     IsPlayRead message id numbers.sequence numbers.end_ms numbers.slots
 unfolding reply_text
 named-read {message} {id} info numbers size plain is =
@@ -195,11 +203,14 @@ named-read {message} {id} info numbers size plain is =
       answer = record {
         reason = reason 200;
         line = back.reply.line;
-        sequence = ap (λ v. option_and_then number_of v) (value (codes "CSeq") ∙ named-sequence id range info sequence slots) ∙ decimal_read sequence small;
+        sequence = ap (λ v. option_and_then number_of v)
+            (value (codes "CSeq") ∙ named-sequence id range info sequence slots) ∙ decimal_read sequence small;
       };
       session = ap (λ v. option_map session_id v) (value (codes "Session") ∙ named-session id range info sequence slots);
-      range = ap (λ v. option_and_then range_end v) (value (codes "Range") ∙ named-range id range info sequence slots) ∙ range-read end_ms short;
-      start = ap (λ v. option_and_then start_within (option_and_then number_of v)) (value (codes "x-Start") ∙ named-start id range info sequence slots) ∙ start-read slots some few;
+      range = ap (λ v. option_and_then range_end v)
+          (value (codes "Range") ∙ named-range id range info sequence slots) ∙ range-read end_ms short;
+      start = ap (λ v. option_and_then start_within (option_and_then number_of v))
+          (value (codes "x-Start") ∙ named-start id range info sequence slots) ∙ start-read slots some few;
     }
   where
     open numbers use {sequence, end_ms, slots, small, short, some, few}
@@ -208,7 +219,9 @@ named-read {message} {id} info numbers size plain is =
 zero-text : seconds_text 0 ≡ codes "0.000"
 zero-text = seconds-is 0 ∙ ap (λ d. d ++ 46 ∷ 48 ∷ 48 ∷ 48 ∷ []) (decimal_digit 0 (omega arith))
 
-range-text : (end_ms : ℕ) → joined_parts (codes "npt=" ∷ seconds_text 0 ∷ codes "-" ∷ seconds_text end_ms ∷ []) ≡ codes "npt=0.000-" ++ seconds_text end_ms
+range-text : (end_ms : ℕ)
+    → joined_parts (codes "npt=" ∷ seconds_text 0 ∷ codes "-" ∷ seconds_text end_ms ∷ [])
+    ≡ codes "npt=0.000-" ++ seconds_text end_ms
 range-text end_ms =
     ap (λ z. codes "npt=" ++ (z ++ (codes "-" ++ (seconds_text end_ms ++ [])))) zero-text
     ∙ ap (λ l. codes "npt=0.000-" ++ l) (append-nil (seconds_text end_ms))
@@ -222,13 +235,15 @@ pub record StreamInfo : Type 0 where
 
 pub play-read : {message id : List ℕ} (stream_info : StreamInfo) (numbers : PlayNumbers) →
     IsRequestLength message (length message) →
-    message ≡ play_text numbers.sequence (play_fields id 0 numbers.end_ms stream_info.authority stream_info.name stream_info.number
+    message ≡ play_text numbers.sequence
+    (play_fields id 0 numbers.end_ms stream_info.authority stream_info.name stream_info.number
     stream_info.time) numbers.slots →
     All IsPlain (all_fields (Some numbers.sequence) (play_fields id 0 numbers.end_ms stream_info.authority stream_info.name
     stream_info.number stream_info.time ++ field (codes "x-Start") (decimal numbers.slots) ∷ [])) →
     IsPlayRead message id numbers.sequence numbers.end_ms numbers.slots
 play-read {id} stream_info numbers size is plain =
-    let info : List ℕ = joined_parts (codes "url=rtsp://" ∷ stream_info.authority ∷ codes "/" ∷ stream_info.name ∷ codes "/video;seq="
+    let info : List ℕ =
+    joined_parts (codes "url=rtsp://" ∷ stream_info.authority ∷ codes "/" ∷ stream_info.name ∷ codes "/video;seq="
     ∷ decimal stream_info.number ∷ codes ";rtptime=" ∷ decimal stream_info.time ∷ []) in
     let P : List ℕ → Type 0 = λ r. All IsPlain (all_fields (Some sequence) (play_named id r info slots)) in
     named-read info numbers size (subst P (range-text end_ms) plain)

@@ -177,7 +177,8 @@ play_turns {prepared} {placed} {answer = Overflow slot booked asks} {new} {asked
       awaited = ap (λ (s : Standing). s.awaited) answered;
       waits = ap (λ (s : Standing). s.waits) answered;
     }) (record {
-      none = λ later. ap (λ a. plays_admitted a placed.entry.answer later) awaited ∙ ap (λ a. plays_admitted (Play prepared) a later)
+      none = λ later. ap (λ a. plays_admitted a placed.entry.answer later) awaited
+          ∙ ap (λ a. plays_admitted (Play prepared) a later)
           entry.answer_is;
       kept = λ later. ap (λ c. kept_by c later) entry.command;
       untold = λ made. ap (λ c. booked_by (play_admitted c placed.entry.answer) made) entry.command
@@ -188,11 +189,13 @@ play_turns {answer = Looked now at booked} {new} entry answered ready same await
 
 asked_play : {old : Standing} {setup : Setup} {paused : Option Run} {prepared : Prepared} {outcome : Outcome}
     {new : Standing} (asked : Standing)
-    → IsAnswered asked (AskPlay prepared.plan) outcome new → old.state ≡ Ready setup paused → asked.state ≡ old.state → asked.heard ≡ old.heard
+    → IsAnswered asked (AskPlay prepared.plan) outcome new → old.state ≡ Ready setup paused
+    → asked.state ≡ old.state → asked.heard ≡ old.heard
     → asked.awaited ≡ Play prepared → TurnsAs old asked.awaited outcome new
 asked_play {outcome = Unasked} {new} asked answered ready state heard awaited = absurd answered
 asked_play {outcome = Entered placed} {new} asked answered ready state heard awaited =
-    play_turns {asked = asked} (record { answer_is = refl; command = answered.0 }) answered.1 ready (record { state = state; heard = heard }) awaited
+    play_turns {asked = asked} (record { answer_is = refl; command = answered.0 }) answered.1 ready
+    (record { state = state; heard = heard }) awaited
 asked_play {outcome = WasFull more entries live} {new} asked answered ready state heard awaited =
     Stays (ap (λ (s : Standing). sends_in s.state) answered.0 ∙ ap sends_in state) (record {
       heard = ap (λ (s : Standing). s.heard) answered.0 ∙ heard;
@@ -202,7 +205,8 @@ asked_play {outcome = WasFull more entries live} {new} asked answered ready stat
 asked_play {outcome = Offered at_slot note} {new} asked answered ready state heard awaited = absurd answered
 
 -- a halt's answer
-stopped_sends : (setup : Setup) (play : Played) (next : Next) → is_answered next ≡ true → sends_in (state_after setup play next) ≡ Ending play.pacer
+stopped_sends : (setup : Setup) (play : Played) (next : Next) → is_answered next ≡ true
+    → sends_in (state_after setup play next) ≡ Ending play.pacer
 stopped_sends setup play Done told = absurd (let no : ⊥ = cc in no)
 stopped_sends setup play (Paused run) told = refl
 stopped_sends setup play Torn told = refl
@@ -211,7 +215,8 @@ told_if : (b waits : Bool) → b ≡ true → (if b then true else waits) ≡ tr
 told_if true waits is = refl
 told_if false waits is = absurd (let no : ⊥ = cc in no)
 
-halt_state : {state : State} {awaited : Awaited} {setup : Setup} {play : Played} {keep : ℕ} {next : Next} → state ≡ Playing setup play
+halt_state : {state : State} {awaited : Awaited} {setup : Setup} {play : Played} {keep : ℕ} {next : Next}
+    → state ≡ Playing setup play
     → awaited ≡ Halt keep next → halted_in state awaited ≡ state_after setup play next
 halt_state {awaited} {setup} {play} {next} is asks =
     ap (λ (s : State). halted_in s awaited) is ∙ ap (λ (a : Awaited). halted_in (Playing setup play) a) asks
@@ -227,7 +232,8 @@ halt_turns {setup} {play} {keep} {next} {placed} {asked} {new} halted told keep_
       heard = ap (λ (s : Standing). s.heard) is ∙ heard;
       awaited = ap (λ (s : Standing). s.awaited) is;
       waits = ap (λ (s : Standing). s.waits) is
-          ∙ told_if (is_answered (next_of asked.awaited)) asked.waits (ap (λ (a : Awaited). is_answered (next_of a)) awaited ∙ told);
+          ∙ told_if (is_answered (next_of asked.awaited)) asked.waits
+          (ap (λ (a : Awaited). is_answered (next_of a)) awaited ∙ told);
     }) (record {
       pacing = play.pacer;
       placed = placed;
@@ -271,12 +277,14 @@ look_answered {new} (Admitted start) command answered same awaited = absurd answ
 look_answered {new} (Overflow slot booked asks) command answered same awaited = absurd answered
 look_answered {new} Halted command answered same awaited = absurd answered
 
-asked_look : {old : Standing} {slot sequence : ℕ} {outcome : Outcome} {new : Standing} (asked : Standing) → IsAnswered asked (AskLook slot) outcome new
+asked_look : {old : Standing} {slot sequence : ℕ} {outcome : Outcome} {new : Standing} (asked : Standing)
+    → IsAnswered asked (AskLook slot) outcome new
     → slot ≡ asked.heard → asked.state ≡ old.state → asked.heard ≡ old.heard → asked.awaited ≡ Look sequence
     → TurnsAs old asked.awaited outcome new
 asked_look {slot} {outcome = Unasked} {new} asked answered slot_is state heard awaited = absurd answered
 asked_look {slot} {outcome = Entered placed} {new} asked answered slot_is state heard awaited =
-    look_answered {asked = asked} placed.entry.answer (answered.0 ∙ ap look_at slot_is) answered.1 (record { state = state; heard = heard }) awaited
+    look_answered {asked = asked} placed.entry.answer (answered.0 ∙ ap look_at slot_is) answered.1
+    (record { state = state; heard = heard }) awaited
 asked_look {slot} {outcome = WasFull more entries live} {new} asked answered slot_is state heard awaited =
     Stays (ap (λ (s : Standing). sends_in s.state) answered.0 ∙ ap sends_in state) (record {
       heard = ap (λ (s : Standing). s.heard) answered.0 ∙ heard;
@@ -300,7 +308,8 @@ asked_offer {outcome = Offered at_slot note} {new} plan offers asked answered st
     }) (record { none = λ later. refl; kept = λ later. refl; untold = λ made. refl })
 
 -- by what was asked
-answers_as : {old : Standing} {ask : Ask} {outcome : Outcome} {asked new : Standing} → old.awaited ≡ Nothing → IsAnswered asked ask outcome new
+answers_as : {old : Standing} {ask : Ask} {outcome : Outcome} {asked new : Standing} → old.awaited ≡ Nothing
+    → IsAnswered asked ask outcome new
     → HearsAs old ask asked → TurnsAs old asked.awaited outcome new
 answers_as {ask} {outcome} {asked} {new} rest answered (Replies text tearing ask_is is) =
     reply_turns (subst (λ a. IsAnswered asked a outcome new) ask_is answered) rest

@@ -53,7 +53,8 @@ legs_hearings [] = []
 legs_hearings (leg ∷ legs) = pieces_hearings leg.pieces ++ legs_hearings legs
 
 -- a course from a place on: the bytes that came before the next slot, and then slot after slot
-record Split (base new : Stage) (heard : List Doing) (bytes : List ℕ) (answers : List Outcome) (hearings : List Hearing) : Type 0 where
+record Split (base new : Stage) (heard : List Doing) (bytes : List ℕ) (answers : List Outcome)
+    (hearings : List Hearing) : Type 0 where
   first : List ℕ
   pieces : List Piece
   until : Stage
@@ -94,9 +95,11 @@ answers-append (x ∷ xs) ys =
     ap (λ os. answer_in x ++ os) (answers-append xs ys) ∙ sym (append_assoc (answer_in x) (answers_in xs) (answers_in ys))
 
 -- what comes after an event: the course from there, for each place that it begins at
-record Later (mid new : Stage) (heard : List Doing) (bytes : List ℕ) (answers : List Outcome) (hearings : List Hearing) : Type 0 where
+record Later (mid new : Stage) (heard : List Doing) (bytes : List ℕ) (answers : List Outcome)
+    (hearings : List Hearing) : Type 0 where
   each : (base : Stage) (first : List ℕ) (pieces : List Piece) → GoesAll (longer base first) pieces mid
-      → Split base new (bytes_heard first ++ heard) (pieces_bytes pieces ++ bytes) (pieces_answers pieces ++ answers) (pieces_hearings pieces ++ hearings)
+      → Split base new (bytes_heard first ++ heard) (pieces_bytes pieces ++ bytes)
+      (pieces_answers pieces ++ answers) (pieces_hearings pieces ++ hearings)
 
 -- bytes that come first, and the pieces that lead with them from one stage to another
 record FrontTaken (base cur : Stage) : Type 0 where
@@ -108,22 +111,32 @@ record FrontTaken (base cur : Stage) : Type 0 where
 bytes_split : {base opened mid new : Stage} {heard : List Doing} {sent taken : List ℕ} {answers more : List Outcome}
     {hearings also : List Hearing} {cur : Stage} (taken_front : FrontTaken base cur) (bytes : List ℕ) →
     opened ≡ longer cur bytes → Path opened mid taken more also → Later mid new heard sent answers hearings →
-    Split base new (bytes_heard taken_front.bytes ++ (bytes_heard bytes ++ heard)) (pieces_bytes taken_front.pieces ++ (taken ++ sent))
+    Split base new (bytes_heard taken_front.bytes ++ (bytes_heard bytes ++ heard))
+    (pieces_bytes taken_front.pieces ++ (taken ++ sent))
     (pieces_answers taken_front.pieces ++ (more ++ answers)) (pieces_hearings taken_front.pieces ++ (also ++ hearings))
-bytes_split {base} {opened} {mid} {new} {heard} {sent} {taken} {answers} {more} {hearings} {also} {cur} taken_front bytes comes path later =
+bytes_split {base} {opened} {mid} {new} {heard} {sent} {taken} {answers} {more} {hearings} {also} {cur}
+    taken_front bytes comes path later =
     let ps : List Piece = path.pieces in
     let front : GoesAll (longer base (first ++ bytes)) pieces opened =
     subst (λ s. GoesAll s pieces opened) (ap (λ input. stage base.session input) (append_assoc base.input first bytes))
-    (subst (GoesAll (longer (longer base first) bytes) pieces) (sym comes) (goes_grow (longer base first) cur pieces bytes goes)) in
+    (subst (GoesAll (longer (longer base first) bytes) pieces) (sym comes)
+    (goes_grow (longer base first) cur pieces bytes goes)) in
     let all : GoesAll (longer base (first ++ bytes)) (pieces ++ ps) mid =
     join_goes (longer base (first ++ bytes)) (record { old = opened; new = mid; pieces = ps; leads = path.goes }) pieces front in
-    split_as {base = base} {new = new} {heard = bytes_heard (first ++ bytes) ++ heard} {heard' = bytes_heard first ++ (bytes_heard bytes ++ heard)} {bytes = pieces_bytes (pieces ++ ps) ++ sent} {bytes' = pieces_bytes pieces ++ (taken ++ sent)} {answers = pieces_answers (pieces ++ ps) ++ answers} {answers' = pieces_answers pieces ++ (more ++ answers)} {hearings = pieces_hearings (pieces ++ ps) ++ hearings} {hearings' = pieces_hearings pieces ++ (also ++ hearings)}
+    split_as {base = base} {new = new} {heard = bytes_heard (first ++ bytes) ++ heard}
+    {heard' = bytes_heard first ++ (bytes_heard bytes ++ heard)}
+    {bytes = pieces_bytes (pieces ++ ps) ++ sent} {bytes' = pieces_bytes pieces ++ (taken ++ sent)}
+    {answers = pieces_answers (pieces ++ ps) ++ answers}
+    {answers' = pieces_answers pieces ++ (more ++ answers)}
+    {hearings = pieces_hearings (pieces ++ ps) ++ hearings} {hearings' = pieces_hearings pieces ++ (also ++ hearings)}
     (sym (append_assoc (bytes_heard first) (bytes_heard bytes) heard) ∙ ap (λ ds. ds ++ heard) (sym (heard-append first bytes)))
     (sym (append_assoc (pieces_bytes pieces) taken sent) ∙ ap (λ bs. (pieces_bytes pieces ++ bs) ++ sent) (sym path.bytes_are)
     ∙ ap (λ bs. bs ++ sent) (sym (join_bytes pieces ps)))
-    (sym (append_assoc (pieces_answers pieces) more answers) ∙ ap (λ os. (pieces_answers pieces ++ os) ++ answers) (sym path.answers_are)
+    (sym (append_assoc (pieces_answers pieces) more answers)
+    ∙ ap (λ os. (pieces_answers pieces ++ os) ++ answers) (sym path.answers_are)
     ∙ ap (λ os. os ++ answers) (sym (join_answers pieces ps)))
-    (sym (append_assoc (pieces_hearings pieces) also hearings) ∙ ap (λ hs. (pieces_hearings pieces ++ hs) ++ hearings) (sym path.hearings_are)
+    (sym (append_assoc (pieces_hearings pieces) also hearings)
+    ∙ ap (λ hs. (pieces_hearings pieces ++ hs) ++ hearings) (sym path.hearings_are)
     ∙ ap (λ hs. hs ++ hearings) (sym (join_hearings pieces ps)))
     (later.each base (first ++ bytes) (pieces ++ ps) all)
   where
@@ -134,14 +147,26 @@ slot_split : {base cur opened mid new : Stage} {slot : ℕ} {due : List Part} {h
     {sent taken : List ℕ} {answers more : List Outcome} {hearings also : List Hearing} (front : FrontTaken base cur) →
     IsDone cur → opened.input ≡ cur.input → HasStepped cur.session slot due halt opened.session →
     Path opened mid taken more also → Later mid new heard sent answers hearings →
-    Split base new (bytes_heard front.bytes ++ (HeardSlot slot ∷ heard)) (pieces_bytes front.pieces ++ (parts_bytes due ++ (taken ++ sent)))
+    Split base new (bytes_heard front.bytes ++ (HeardSlot slot ∷ heard))
+    (pieces_bytes front.pieces ++ (parts_bytes due ++ (taken ++ sent)))
     (pieces_answers front.pieces ++ (answer_in halt ++ (more ++ answers))) (pieces_hearings front.pieces ++ (also ++ hearings))
-slot_split {base} {cur} {opened} {mid} {new} {slot} {due} {halt} {sent} {taken} {answers} {more} {hearings} front done input stepped path later =
+slot_split {base} {cur} {opened} {mid} {new} {slot} {due} {halt} {sent} {taken} {answers} {more} {hearings}
+    front done input stepped path later =
     let ps : List Piece = path.pieces in
     let there : GoesAll (longer opened []) ps mid =
     subst (λ s. GoesAll s ps mid) (ap (λ i. stage opened.session i) (sym (append-nil opened.input))) path.goes in
     let rest = later.each opened [] ps there in
-    let leg : Leg = record { slot = slot; due = due; halt = halt; opened = opened; bytes = rest.first; pieces = rest.pieces; until = rest.until } in
+    let leg : Leg =
+    record {
+      slot = slot;
+      due = due;
+      halt = halt;
+      opened = opened;
+      bytes = rest.first;
+      pieces =
+          rest.pieces;
+      until = rest.until;
+    } in
     record {
       first = first;
       pieces = pieces;
@@ -151,9 +176,13 @@ slot_split {base} {cur} {opened} {mid} {new} {slot} {due} {halt} {sent} {taken} 
       done = done;
       legs_are = (record { stepped = stepped; input = input; goes = rest.goes; done = rest.done }, rest.legs_are);
       heard_is = ap (λ ds. bytes_heard first ++ (HeardSlot slot ∷ ds)) rest.heard_is;
-      bytes_are = ap (λ bs. pieces_bytes pieces ++ (parts_bytes due ++ bs)) (ap (λ bs. bs ++ sent) (sym path.bytes_are) ∙ rest.bytes_are);
-      answers_are = ap (λ os. pieces_answers pieces ++ (answer_in halt ++ os)) (ap (λ os. os ++ answers) (sym path.answers_are) ∙ rest.answers_are);
-      hearings_are = ap (λ hs. pieces_hearings pieces ++ hs) (ap (λ hs. hs ++ hearings) (sym path.hearings_are) ∙ rest.hearings_are);
+      bytes_are = ap (λ bs. pieces_bytes pieces ++ (parts_bytes due ++ bs))
+          (ap (λ bs. bs ++ sent) (sym path.bytes_are) ∙ rest.bytes_are);
+      answers_are =
+          ap (λ os. pieces_answers pieces ++ (answer_in halt ++ os))
+          (ap (λ os. os ++ answers) (sym path.answers_are) ∙ rest.answers_are);
+      hearings_are =
+          ap (λ hs. pieces_hearings pieces ++ hs) (ap (λ hs. hs ++ hearings) (sym path.hearings_are) ∙ rest.hearings_are);
     }
   where
     open front use {bytes as first, pieces, goes}
@@ -162,14 +191,19 @@ event_split : {base cur opened mid new : Stage} {heard : List Doing} {sent taken
     {answers more : List Outcome} {hearings also : List Hearing} {event : Doing} (front : FrontTaken base cur)
     (come : EventCome cur event opened) → IsDone cur → Path opened mid taken more also →
     Later mid new heard sent answers hearings →
-    Split base new (bytes_heard front.bytes ++ (heard_in event ++ heard)) (pieces_bytes front.pieces ++ (parts_bytes come.due ++ (taken ++ sent)))
-    (pieces_answers front.pieces ++ (answer_in come.halt ++ (more ++ answers))) (pieces_hearings front.pieces ++ (also ++ hearings))
+    Split base new (bytes_heard front.bytes ++ (heard_in event ++ heard))
+    (pieces_bytes front.pieces ++ (parts_bytes come.due ++ (taken ++ sent)))
+    (pieces_answers front.pieces ++ (answer_in come.halt ++ (more ++ answers)))
+    (pieces_hearings front.pieces ++ (also ++ hearings))
 event_split {base} {cur} {opened} {new} {heard} {sent} {taken} {answers} {more} {hearings} {also} {event = HeardBytes bytes} front
     come done path later =
-    subst (λ ps. Split base new (bytes_heard first ++ (bytes_heard bytes ++ heard)) (pieces_bytes pieces ++ (parts_bytes ps ++ (taken ++ sent)))
-    (pieces_answers pieces ++ (answer_in come.halt ++ (more ++ answers))) (pieces_hearings pieces ++ (also ++ hearings))) (sym come.comes.0)
+    subst (λ ps. Split base new (bytes_heard first ++ (bytes_heard bytes ++ heard))
+    (pieces_bytes pieces ++ (parts_bytes ps ++ (taken ++ sent)))
+    (pieces_answers pieces ++ (answer_in come.halt ++ (more ++ answers)))
+    (pieces_hearings pieces ++ (also ++ hearings))) (sym come.comes.0)
     (subst (λ h. Split base new (bytes_heard first ++ (bytes_heard bytes ++ heard)) (pieces_bytes pieces ++ (taken ++ sent))
-    (pieces_answers pieces ++ (answer_in h ++ (more ++ answers))) (pieces_hearings pieces ++ (also ++ hearings))) (sym come.comes.1)
+    (pieces_answers pieces ++ (answer_in h ++ (more ++ answers)))
+    (pieces_hearings pieces ++ (also ++ hearings))) (sym come.comes.1)
     (bytes_split front bytes come.comes.3 path later))
   where
     open front use {bytes as first, pieces}
@@ -180,7 +214,8 @@ event_split {base} {opened} {new} {taken} {answers} {more} {event = Sent byte} f
 
 -- event after event
 rounds_split : (cur new : Stage) (rounds : List Round) (takes : TakesUp cur rounds new) → IsDone cur
-    → Later cur new (all_heard rounds) (rounds_bytes rounds) (answers_in (rounds_outcomes rounds)) (hearings_in cur rounds new takes)
+    → Later cur new (all_heard rounds) (rounds_bytes rounds) (answers_in (rounds_outcomes rounds))
+    (hearings_in cur rounds new takes)
 rounds_split cur new [] takes done = record {
   each = λ base first pieces goes. record {
     first = first;
@@ -212,7 +247,8 @@ rounds_split cur new (round ∷ rounds) takes done =
           split_as
           refl
           (ap (λ bs. pieces_bytes pieces ++ bs) (append_assoc (parts_bytes round.due) tb rb))
-          (ap (λ os. pieces_answers pieces ++ (answer_in round.halt ++ os)) (answers-append (takings_outcomes round.takings) (rounds_outcomes rounds))) refl
+          (ap (λ os. pieces_answers pieces ++ (answer_in round.halt ++ os))
+          (answers-append (takings_outcomes round.takings) (rounds_outcomes rounds))) refl
           (event_split (record { bytes = first; pieces = pieces; goes = goes })
           (record { due = round.due; halt = round.halt; comes = runs.comes }) done path later);
     }
@@ -291,7 +327,8 @@ legs_same {one} {other} {xs = x ∷ xs} {ys = y ∷ ys} old films legs too alike
     let slots : y.slot ≡ x.slot = sym (ap slot_of heard) in
     let cut = heard_split x.bytes y.bytes xs ys (ap tail_of heard) in
     let step = steps_same (pieces_answers x.pieces ++ legs_answers xs)
-    (pieces_answers y.pieces ++ legs_answers ys) leg.stepped (subst (λ t. HasStepped old.session t y.due y.halt y.opened.session) slots again.stepped) answers in
+    (pieces_answers y.pieces ++ legs_answers ys) leg.stepped
+    (subst (λ t. HasStepped old.session t y.due y.halt y.opened.session) slots again.stepped) answers in
     let opened : y.opened ≡ x.opened = opened_same x.opened y.opened step.1 (again.input ∙ sym leg.input) in
     let place : longer y.opened y.bytes ≡ longer x.opened x.bytes =
     ap (λ s. longer s y.bytes) opened ∙ ap (λ bs. longer x.opened bs) (sym cut.0) in
@@ -330,25 +367,30 @@ splits_same {base} {one} {other} {ones} {hearings} films x y same answers memory
           subst (λ hs. AllLackAlike hs (pieces_hearings y.pieces ++ legs_hearings y.legs)) x.hearings_are
           (subst (AllLackAlike hearings) y.hearings_are memory);
     }) in
-    let there : AreFilms x.until.session.films = subst AreFilms (sym (goes_films (longer base x.first) x.until x.pieces x.goes)) films in
+    let there : AreFilms x.until.session.films =
+    subst AreFilms (sym (goes_films (longer base x.first) x.until x.pieces x.goes)) films in
     let rest = legs_same {xs = x.legs} x.until there x.legs_are (subst (λ s. LegsAll s y.legs other) ends.last y.legs_are)
     (record { heard = cut.1; answers = ends.answers; memory = ends.memory }) in
     record {
       last = rest.last;
-      bytes = y.bytes_are ∙ ap (λ bs. bs ++ legs_bytes y.legs) ends.bytes ∙ ap (λ bs. pieces_bytes x.pieces ++ bs) rest.bytes ∙ sym x.bytes_are;
+      bytes = y.bytes_are ∙ ap (λ bs. bs ++ legs_bytes y.legs) ends.bytes
+          ∙ ap (λ bs. pieces_bytes x.pieces ++ bs) rest.bytes ∙ sym x.bytes_are;
     }
 
 abbrev first_of : Beginning → Stage
 first_of beginning = first_stage beginning.films beginning.settings beginning.words
 
 whole_split : (beginning : Beginning) (cutting : Cutting beginning)
-    → Split (first_of beginning) cutting.last (all_heard cutting.rounds) (rounds_bytes cutting.rounds) (answers_in (rounds_outcomes cutting.rounds))
+    → Split (first_of beginning) cutting.last (all_heard cutting.rounds) (rounds_bytes cutting.rounds)
+    (answers_in (rounds_outcomes cutting.rounds))
     (hearings_in (first_of beginning) cutting.rounds cutting.last cutting.takes)
 whole_split beginning cutting =
     let first : Stage = first_of beginning in
-    (rounds_split first cutting.last cutting.rounds cutting.takes (inl (record { torn = refl; waits = inl (inl refl) }))).each first [] [] refl
+    (rounds_split first cutting.last cutting.rounds cutting.takes
+    (inl (record { torn = refl; waits = inl (inl refl) }))).each first [] [] refl
 
-pub two_cuttings : (beginning : Beginning) (one other : Cutting beginning) → AreFilms beginning.films → HearAlike beginning one other
+pub two_cuttings : (beginning : Beginning) (one other : Cutting beginning) → AreFilms beginning.films
+    → HearAlike beginning one other
     → SendAlike beginning one other
 two_cuttings beginning one other films cuts =
     let first : Stage = first_of beginning in
@@ -368,14 +410,16 @@ takes_last {new} {round} old [] end runs last stopped = (new, (subst (λ s. Runs
 takes_last {mid} {new} {round} old (first ∷ rounds) end runs last stopped =
     (runs.0, (runs.1.0, inl runs.1.1, takes_last runs.0 rounds end runs.1.2 last stopped))
 
-pub takes_part : (old new : Stage) (first rest : List Round) → TakesUp old (first ++ rest) new → (mid : Stage) × (TakesUp old first mid × TakesUp mid rest new)
+pub takes_part : (old new : Stage) (first rest : List Round) → TakesUp old (first ++ rest) new
+    → (mid : Stage) × (TakesUp old first mid × TakesUp mid rest new)
 takes_part old new [] rest takes = (old, (refl, takes))
 takes_part old new (round ∷ first) rest takes =
     let parted = takes_part takes.0 new first rest takes.1.2 in
     (parted.0, ((takes.0, (takes.1.0, takes.1.1, parted.1.0)), parted.1.1))
 
 -- what is alike is alike in fronts
-pub same_fronts : (one more other further : List Outcome) → AreSameAnswers (one ++ more) (other ++ further) → AreSameAnswers one other
+pub same_fronts : (one more other further : List Outcome) → AreSameAnswers (one ++ more) (other ++ further)
+    → AreSameAnswers one other
 same_fronts [] more other further same = tt
 same_fronts (x ∷ one) more [] further same = tt
 same_fronts (x ∷ one) more (y ∷ other) further same = (same.0, same_fronts one more other further same.1)

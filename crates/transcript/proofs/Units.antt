@@ -31,7 +31,8 @@ use Rattle.transcript.proofs.Blocks.{RunFrom}
 -- the moments of blocks, in two parts
 pub moments-parts : (xs ys : List (List ℕ)) → moments_in (xs ++ ys) ≡ moments_in xs ++ moments_in ys
 moments-parts [] ys = refl
-moments-parts (x ∷ xs) ys = ap (λ ms. moments_of x ++ ms) (moments-parts xs ys) ∙ sym (append_assoc (moments_of x) (moments_in xs) (moments_in ys))
+moments-parts (x ∷ xs) ys =
+    ap (λ ms. moments_of x ++ ms) (moments-parts xs ys) ∙ sym (append_assoc (moments_of x) (moments_in xs) (moments_in ys))
 
 -- ---- the frames of a unit
 
@@ -60,8 +61,10 @@ part-frames of_run (suc k) [] s marked few = absurd (omega (arith, few))
 part-frames of_run (suc k) (p ∷ []) s marked few = absurd (omega (arith, few))
 part-frames of_run (suc k) (p ∷ (q ∷ packets)) s marked few =
     let b = frame_block run unit p f in
-    frame-sizes b (take k (frame_blocks run unit (f + 1) (q ∷ packets))) s (λ t. t.sizes ≡ s.sizes) (frame-moment run f unit p media)
-    (part-frames (record { run = run; frames = f + 1; unit = unit; media = media }) k (q ∷ packets) (step (Frame b) s) marked.1 (omega (arith, few))
+    frame-sizes b (take k (frame_blocks run unit (f + 1) (q ∷ packets))) s (λ t. t.sizes ≡ s.sizes)
+    (frame-moment run f unit p media)
+    (part-frames (record { run = run; frames = f + 1; unit = unit; media = media }) k (q ∷ packets)
+    (step (Frame b) s) marked.1 (omega (arith, few))
     ∙ cond-false (is_last b) (s.sizes ++ (s.pending + length b) ∷ []) s.sizes (last-is run f unit p ∙ marked.0))
   where
     open of_run use {run, frames as f, unit, media}
@@ -79,7 +82,8 @@ whole-frames {s} of_run [] marked some = absurd (omega (arith, some))
 whole-frames {s} of_run (p ∷ []) marked some =
     let b = frame_block run unit p f in
     let last : is_last b ≡ true = last-is run f unit p ∙ marked in
-    let size : s.pending + length b ≡ s.pending + length (b ++ []) = ap (λ (l : List ℕ). s.pending + length l) (sym (append-nil b)) in
+    let size : s.pending + length b ≡ s.pending + length (b ++ []) =
+    ap (λ (l : List ℕ). s.pending + length l) (sym (append-nil b)) in
     frame-sizes b [] s (λ t. IsUnitDone s (s.pending + length (b ++ [])) t) (frame-moment run f unit p media)
     (record {
       sizes = cond-true (is_last b) (s.sizes ++ (s.pending + length b) ∷ []) s.sizes last ∙ ap (λ n. s.sizes ++ n ∷ []) size;
@@ -93,13 +97,16 @@ whole-frames {s} of_run (p ∷ (q ∷ packets)) marked some =
     let last : is_last b ≡ false = last-is run f unit p ∙ marked.0 in
     let blocks = frame_blocks run unit (f + 1) (q ∷ packets) in
     let t = step (Frame b) s in
-    let rest = whole-frames {s = t} (record { run = run; frames = f + 1; unit = unit; media = media }) (q ∷ packets) marked.1 (omega arith) in
+    let rest = whole-frames {s = t} (record { run = run; frames = f + 1; unit = unit; media = media })
+    (q ∷ packets) marked.1 (omega arith) in
     let sizes_same = cond-false (is_last b) (s.sizes ++ (s.pending + length b) ∷ []) s.sizes last in
     let pending_is = cond-false (is_last b) 0 (s.pending + length b) last in
-    let size : t.pending + length (framed_bytes blocks) ≡ s.pending + length (b ++ framed_bytes blocks) = omega (arith, pending_is, length-append b (framed_bytes blocks)) in
+    let size : t.pending + length (framed_bytes blocks) ≡ s.pending + length (b ++ framed_bytes blocks) =
+    omega (arith, pending_is, length-append b (framed_bytes blocks)) in
     frame-sizes b blocks s (λ u. IsUnitDone s (s.pending + length (b ++ framed_bytes blocks)) u) (frame-moment run f unit p media)
     (record {
-      sizes = rest.sizes ∙ (ap (λ l. l ++ (t.pending + length (framed_bytes blocks)) ∷ []) sizes_same ∙ ap (λ n. s.sizes ++ n ∷ []) size);
+      sizes = rest.sizes
+          ∙ (ap (λ l. l ++ (t.pending + length (framed_bytes blocks)) ∷ []) sizes_same ∙ ap (λ n. s.sizes ++ n ∷ []) size);
       pending = rest.pending;
       inside = rest.inside;
     })
@@ -119,7 +126,8 @@ part-unit : (starts : Bool) (from : RunFrom) (k : ℕ) (marked_unit : MarkedUnit
     from.frames marked_unit.packets) →
     (steps s (moments_in (take k (report_if starts from.run marked_unit.unit from.frames from.octets ++ frame_blocks from.run
     marked_unit.unit from.frames marked_unit.packets)))).sizes ≡ s.sizes
-part-unit false from k marked_unit s few = part-frames (record { run = run; frames = f; unit = marked_unit.unit; media = media }) k
+part-unit false from k marked_unit s few =
+    part-frames (record { run = run; frames = f; unit = marked_unit.unit; media = media }) k
     marked_unit.packets s marked_unit.marked few
   where
     open from use {run, frames as f, media}
@@ -127,7 +135,8 @@ part-unit true from zero marked_unit s few = refl
 part-unit true from (suc k) marked_unit s few =
     let b = report_block run unit f o in
     report-sizes b (take k (frame_blocks run unit f packets)) s (λ t. t.sizes ≡ s.sizes) (report-moment run f o unit control)
-    (part-frames (record { run = run; frames = f; unit = unit; media = media }) k packets (step (Report b) s) marked (omega (arith, few)))
+    (part-frames (record { run = run; frames = f; unit = unit; media = media }) k packets (step (Report b) s)
+    marked (omega (arith, few)))
   where
     open from use {run, frames as f, octets as o, media, control}
     open marked_unit use {unit, packets, marked}
@@ -140,9 +149,11 @@ pub record AtUnit (s : Sum) : Type 0 where
 
 whole-unit : {s : Sum} (starts : Bool) (from : RunFrom) (marked_unit : MarkedUnit) → 0 < length marked_unit.packets →
     AtUnit s →
-    IsUnitDone s (length (framed_bytes (report_if starts from.run marked_unit.unit from.frames from.octets ++ frame_blocks from.run
+    IsUnitDone s
+    (length (framed_bytes (report_if starts from.run marked_unit.unit from.frames from.octets ++ frame_blocks from.run
     marked_unit.unit from.frames marked_unit.packets)))
-    (steps s (moments_in (report_if starts from.run marked_unit.unit from.frames from.octets ++ frame_blocks from.run marked_unit.unit
+    (steps s (moments_in
+    (report_if starts from.run marked_unit.unit from.frames from.octets ++ frame_blocks from.run marked_unit.unit
     from.frames marked_unit.packets)))
 whole-unit {s} false from marked_unit some between =
     let done = whole-frames (record { run = run; frames = f; unit = unit; media = media }) packets marked some in
@@ -191,7 +202,11 @@ pub record HasCome (sizes : List ℕ) (c : ℕ) (s t : Sum) : Type 0 where
 packets-some : (unit : PictureUnit) (f : Filling) (slices : List ℕ) → 0 < length (packets_from unit f slices)
 packets-some unit f [] = omega arith
 packets-some unit f (l ∷ slices) =
-    omega (arith, length-append (slice_packets unit f l) (packets_from unit (next_filling f l) slices), packets-some unit (next_filling f l) slices)
+    omega (
+      arith,
+      length-append (slice_packets unit f l) (packets_from unit (next_filling f l) slices),
+      packets-some unit (next_filling f l) slices,
+    )
 
 -- a unit has a first packet
 pub record HasPacket (starts : List ℕ) (unit : PictureUnit) : Type 0 where
@@ -199,16 +214,19 @@ pub record HasPacket (starts : List ℕ) (unit : PictureUnit) : Type 0 where
   pub packets : List Packet
   pub are : unit_packets starts unit ≡ packet ∷ packets
 
-first-there : (starts : List ℕ) (unit : PictureUnit) (packets : List Packet) → unit_packets starts unit ≡ packets → 0 < length packets → HasPacket starts unit
+first-there : (starts : List ℕ) (unit : PictureUnit) (packets : List Packet)
+    → unit_packets starts unit ≡ packets → 0 < length packets → HasPacket starts unit
 first-there starts unit [] is some = absurd (omega (arith, some))
 first-there starts unit (p ∷ packets) is some = record { packet = p; packets = packets; are = is }
 
 pub packets-there : (starts : List ℕ) (unit : PictureUnit) → HasPacket starts unit
 packets-there starts unit =
-    first-there starts unit (unit_packets starts unit) refl (packets-some unit (first_piece unit.from unit.head_end) (unit_lengths starts unit))
+    first-there starts unit (unit_packets starts unit) refl
+    (packets-some unit (first_piece unit.from unit.head_end) (unit_lengths starts unit))
 
 unit-marked : (starts : List ℕ) (unit : PictureUnit) → IsLaid starts unit → IsLastMarked (unit_packets starts unit)
-unit-marked starts unit laid = last-marked starts unit (unit_packets starts unit) (packets-are starts unit laid) (packets-cover starts unit laid)
+unit-marked starts unit laid =
+    last-marked starts unit (unit_packets starts unit) (packets-are starts unit laid) (packets-cover starts unit laid)
 
 unit-size : {starts : List ℕ} {unit : PictureUnit} (run : Run) (f o : ℕ) → IsLaid starts unit → unit.to ≤ length run.film
     → length (framed_bytes (unit_blocks run starts unit f o)) ≡ wire_size starts unit
@@ -227,7 +245,8 @@ one-more n = omega arith
 pub more-blocks : (run : Run) (f o : ℕ) (starts : List ℕ) (unit : PictureUnit) (units : List PictureUnit)
     → blocks_from run f o (pieces_of starts (unit ∷ units))
     ≡ unit_blocks run starts unit f o
-    ++ blocks_from run (frames_after f (unit_pieces starts unit)) (octets_after o (unit_pieces starts unit)) (pieces_of starts units)
+    ++ blocks_from run (frames_after f (unit_pieces starts unit)) (octets_after o (unit_pieces starts unit))
+    (pieces_of starts units)
 more-blocks run f o starts unit units =
     let first = unit_pieces starts unit in
     let rest = pieces_of starts units in
@@ -242,7 +261,8 @@ blocks-one from starts (unit ∷ units) =
     let f2 = frames_after f (unit_pieces starts unit) in
     let o2 = octets_after o (unit_pieces starts unit) in
     subst AreOneBlocks (sym (more-blocks run f o starts unit units))
-    (blocks-one-append (unit_blocks run starts unit f o) (blocks_from run f2 o2 (pieces_of starts units)) (unit-one from starts unit)
+    (blocks-one-append (unit_blocks run starts unit f o) (blocks_from run f2 o2 (pieces_of starts units))
+    (unit-one from starts unit)
     (blocks-one (record from { frames = f2; octets = o2 }) starts units))
   where
     open from use {run, frames as f, octets as o}
@@ -264,7 +284,8 @@ units-come {c} {s} from starts (unit ∷ units) laid between =
     let sizes = map (λ u. wire_size starts u) units in
     let size : length (framed_bytes xs) ≡ w = unit-size {starts = starts} {unit = unit} run f o laid.0.1 laid.0.0 in
     let marked = unit-marked starts unit laid.0.1 in
-    let some : 0 < length (unit_packets starts unit) = packets-some unit (first_piece unit.from unit.head_end) (unit_lengths starts unit) in
+    let some : 0 < length (unit_packets starts unit) =
+    packets-some unit (first_piece unit.from unit.head_end) (unit_lengths starts unit) in
     let Q : List (List ℕ) → Type 0 = λ bs. HasCome (w ∷ sizes) c s (steps s (moments_in (take (count_ended c bs) bs))) in
     let R : ℕ → Type 0 = λ k. HasCome (w ∷ sizes) c s (steps s (moments_in (take k (xs ++ ys)))) in
     let S : List (List ℕ) → Type 0 = λ bs. HasCome (w ∷ sizes) c s (steps s (moments_in bs)) in
@@ -332,11 +353,13 @@ frames-told run f unit (p ∷ packets) media =
     ∙ ap (λ l. frame_block run unit p f ∷ l) (frames-told run (f + 1) unit packets media)
 
 unit-told : (starts : Bool) (from : RunFrom) (unit : PictureUnit) (packets : List Packet) →
-    frames_of (moments_in (report_if starts from.run unit from.frames from.octets ++ frame_blocks from.run unit from.frames packets))
+    frames_of (moments_in
+    (report_if starts from.run unit from.frames from.octets ++ frame_blocks from.run unit from.frames packets))
     ≡ frame_blocks from.run unit from.frames packets
 unit-told false from unit packets = frames-told from.run from.frames unit packets from.media
 unit-told true from unit packets =
-    ap (λ l. frames_of (l ++ moments_in (frame_blocks run unit f packets))) (report-moment run f o unit control) ∙ frames-told run f unit packets media
+    ap (λ l. frames_of (l ++ moments_in (frame_blocks run unit f packets))) (report-moment run f o unit control)
+    ∙ frames-told run f unit packets media
   where
     open from use {run, frames as f, octets as o, media, control}
 

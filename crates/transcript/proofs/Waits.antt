@@ -20,17 +20,21 @@ use Rattle.transcript.proofs.Turning.{Ending, Going, Idle, Sends}
 -- what was sent and what is sent from here on, with the slots in which the requests were taken up whose replies come
 abbrev pub Stand : Sends → Option ℕ → List Asking → ℕ → List ℕ → List Part → Type 0
 Stand Idle pending askings end slots parts = AreSentAt end (plays_of askings) (with_pending pending slots) (placed_texts 0 parts)
-Stand (Going p) pending askings end slots parts = StandAt p (kept_in askings (total_bytes p.plan)) pending (plays_of askings) end slots parts
+Stand (Going p) pending askings end slots parts =
+    StandAt p (kept_in askings (total_bytes p.plan)) pending (plays_of askings) end slots parts
 Stand (Ending p) pending askings end slots parts = StandAt p p.keep pending (plays_of askings) end slots parts
 
-pub record Fits (sends : Sends) (heard : ℕ) (pending : Option ℕ) (askings : List Asking) (end : ℕ) (slots : List ℕ) (parts : List Part) : Type 0 where
+pub record Fits (sends : Sends) (heard : ℕ) (pending : Option ℕ) (askings : List Asking) (end : ℕ)
+    (slots : List ℕ) (parts : List Part) : Type 0 where
   pub from : AreFrom heard slots
   pub later : AreLater heard (plays_of askings)
   pub stand : Stand sends pending askings end slots parts
 
-pub record GoesTo (old new : Sends) (from to : ℕ) (pending after : Option ℕ) (made : List Asking) (slots : List ℕ) (parts : List Part) : Type 0 where
+pub record GoesTo (old new : Sends) (from to : ℕ) (pending after : Option ℕ) (made : List Asking)
+    (slots : List ℕ) (parts : List Part) : Type 0 where
   pub later : from ≤ to
-  pub rest : (askings : List Asking) (end : ℕ) (more : List ℕ) (rest : List Part) → to ≤ end → Fits new to after askings end more rest
+  pub rest : (askings : List Asking) (end : ℕ) (more : List ℕ) (rest : List Part) → to ≤ end
+      → Fits new to after askings end more rest
       → Fits old from pending (made ++ askings) end (slots ++ more) (parts ++ rest)
 
 pub goes_then : {a b c : Sends} {x y z : ℕ} {first mid last : Option ℕ} {made asked : List Asking}
@@ -40,10 +44,14 @@ pub goes_then : {a b c : Sends} {x y z : ℕ} {first mid last : Option ℕ} {mad
 goes_then {a} {c} {x} {first} {last} {made} {asked} {slots} {taken} {parts} {sent} one two = record {
   later = omega (arith, one.later, two.later);
   rest = λ askings end more rest on fits.
-      let there = one.rest (asked ++ askings) end (taken ++ more) (sent ++ rest) (omega (arith, two.later, on)) (two.rest askings end more rest on fits) in
-      subst (λ all. Fits a x first all end ((slots ++ taken) ++ more) ((parts ++ sent) ++ rest)) (sym (append_assoc made asked askings))
-      (subst (λ ss. Fits a x first (made ++ (asked ++ askings)) end ss ((parts ++ sent) ++ rest)) (sym (append_assoc slots taken more))
-      (subst (λ ps. Fits a x first (made ++ (asked ++ askings)) end (slots ++ (taken ++ more)) ps) (sym (append_assoc parts sent rest)) there));
+      let there = one.rest (asked ++ askings) end (taken ++ more) (sent ++ rest) (omega (arith, two.later, on))
+      (two.rest askings end more rest on fits) in
+      subst (λ all. Fits a x first all end ((slots ++ taken) ++ more) ((parts ++ sent) ++ rest))
+      (sym (append_assoc made asked askings))
+      (subst (λ ss. Fits a x first (made ++ (asked ++ askings)) end ss ((parts ++ sent) ++ rest))
+      (sym (append_assoc slots taken more))
+      (subst (λ ps. Fits a x first (made ++ (asked ++ askings)) end (slots ++ (taken ++ more)) ps)
+      (sym (append_assoc parts sent rest)) there));
 }
 
 pub goes_same : (sends : Sends) (heard : ℕ) (pending : Option ℕ) → GoesTo sends sends heard heard pending pending [] [] []
@@ -54,7 +62,8 @@ goes_same sends heard pending = record { later = omega arith; rest = λ askings 
 pub record IsHeldUp (p : Pacing) (slot heard : ℕ) : Type 0 where
   pub before : slot ≤ heard
   pub due : min (first_slots p.plan (slot + 1 - p.start)) p.keep ≤ p.sent
-  pub none : (place : ℕ) → IsBoundary p.pieces place → p.before + min (first_slots p.plan (slot + 1 - p.start)) p.keep ≤ place → p.before + p.sent < place
+  pub none : (place : ℕ) → IsBoundary p.pieces place
+      → p.before + min (first_slots p.plan (slot + 1 - p.start)) p.keep ≤ place → p.before + p.sent < place
 
 abbrev pub IsHeld : Option ℕ → Sends → Bool → ℕ → Type 0
 IsHeld None sends waits heard = waits ≡ false
@@ -63,7 +72,8 @@ IsHeld (Some slot) (Going p) waits heard = (waits ≡ true) × IsHeldUp p slot h
 IsHeld (Some slot) (Ending p) waits heard = (waits ≡ true) × IsHeldUp p slot heard
 
 -- what was due of the play in hand in a slot, where so much is kept of it in the end
-pub due_going : (p : Pacing) (slot keep : ℕ) → IsPacing p → p.keep ≡ total_bytes p.plan → min (first_slots p.plan (slot + 1 - p.start)) p.keep ≤ keep
+pub due_going : (p : Pacing) (slot keep : ℕ) → IsPacing p → p.keep ≡ total_bytes p.plan
+    → min (first_slots p.plan (slot + 1 - p.start)) p.keep ≤ keep
     → due_of slot (play_with p keep) ≡ min (first_slots p.plan (slot + 1 - p.start)) p.keep
 due_going p slot keep is whole holds =
     let few : first_slots p.plan (slot + 1 - p.start) ≤ total_bytes p.plan = few_slots p.plan (slot + 1 - p.start) is.plan in
@@ -88,7 +98,8 @@ inside_of p is = omega (arith, is.whole, is.most, is.due, is.sent)
 pub boundary_stands : (p : Pacing) → IsPacing p → IsBoundary p.pieces (p.before + p.sent) → stands_at_boundary p ≡ true
 boundary_stands p is boundary =
     let place : ℕ = p.before + p.sent in
-    let itself : IsBoundaryAfter p.pieces place place = record { boundary = boundary; after = omega arith; least = λ other b order. order } in
+    let itself : IsBoundaryAfter p.pieces place place =
+    record { boundary = boundary; after = omega arith; least = λ other b order. order } in
     let stays : place ≡ boundary_from p.pieces place = boundary-is p.pieces place place (inside_of p is) itself in
     eq-eqb (next_boundary p) p.sent (omega (arith, stays))
 
@@ -113,7 +124,8 @@ held_here p heard on stands =
       none = λ place boundary from. past_here on stands boundary from;
     }
 
-pub at_here : (p : Pacing) (heard : ℕ) → IsOnTime p heard → stands_at_boundary p ≡ true → IsAtNext p (min (first_slots p.plan (heard + 1 - p.start)) p.keep)
+pub at_here : (p : Pacing) (heard : ℕ) → IsOnTime p heard → stands_at_boundary p ≡ true
+    → IsAtNext p (min (first_slots p.plan (heard + 1 - p.start)) p.keep)
 at_here p heard on stands =
     let here = due_here p heard on in
     record {
@@ -143,7 +155,9 @@ abbrev pub parts_in : Bool → Bool → Pacing → ℕ → List ℕ → List Par
 parts_in waits between p slot text =
     if waits then Film (plan_bytes p p.sent (step_end true (at_slot slot p)))
     ∷ (if between
-    then Text text ∷ Film (plan_bytes (after_step true slot p) (after_step true slot p).sent (step_end false (at_slot slot (after_step true slot p)))) ∷ [] else [])
+    then Text text
+    ∷ Film (plan_bytes (after_step true slot p) (after_step true slot p).sent
+    (step_end false (at_slot slot (after_step true slot p)))) ∷ [] else [])
     else Film (plan_bytes p p.sent (step_end false (at_slot slot p))) ∷ []
 
 abbrev pub after_slot : Bool → Option ℕ → Option ℕ
@@ -154,7 +168,8 @@ due_most : (p : Pacing) (slot : ℕ) → IsPacing p → due_by p slot ≤ p.keep
 due_most p slot is = omega (arith, is.due)
 
 -- the first boundary from what was due on is reached
-next_reached : {p : Pacing} {taken heard : ℕ} (slot : ℕ) → IsPacing p → IsHeldUp p taken heard → stands_at_boundary (after_step true slot p) ≡ true
+next_reached : {p : Pacing} {taken heard : ℕ} (slot : ℕ) → IsPacing p → IsHeldUp p taken heard
+    → stands_at_boundary (after_step true slot p) ≡ true
     → IsAtNext (after_step true slot p) (min (first_slots p.plan (taken + 1 - p.start)) p.keep)
 next_reached {p} {taken} slot is held stands =
     let q : Pacing = after_step true slot p in
@@ -169,11 +184,13 @@ next_reached {p} {taken} slot is held stands =
     }
 
 -- or it isn't
-pub still_held : {p : Pacing} {taken heard slot : ℕ} → IsPacing p → heard < slot → IsHeldUp p taken heard → stands_at_boundary (after_step true slot p) ≡ false
+pub still_held : {p : Pacing} {taken heard slot : ℕ} → IsPacing p → heard < slot → IsHeldUp p taken heard
+    → stands_at_boundary (after_step true slot p) ≡ false
     → IsHeldUp (sent_through slot p) taken slot
 still_held {p} {taken} {slot} is later held stands =
     let q : Pacing = after_step true slot p in
-    let all : step_end true (at_slot slot p) ≡ due_by p slot = ap (λ (r : Pacing). r.sent) (slot_is true false slot p is stands) in
+    let all : step_end true (at_slot slot p) ≡ due_by p slot =
+    ap (λ (r : Pacing). r.sent) (slot_is true false slot p is stands) in
     let next = boundary-from p.pieces (p.before + p.sent) (inside_of p is) in
     let nearest : ℕ = boundary_from p.pieces (p.before + p.sent) in
     record {
@@ -186,7 +203,8 @@ still_held {p} {taken} {slot} is later held stands =
             | inl less ↦ less
             | inr more ↦
                 let there : nearest ≡ p.before + q.sent = omega (arith, all, least, more, next.after) in
-                absurd (true≢false (sym (boundary_stands q (stopped_is slot p is) (subst (IsBoundary p.pieces) there next.boundary)) ∙ stands))
+                absurd (true≢false
+                (sym (boundary_stands q (stopped_is slot p is) (subst (IsBoundary p.pieces) there next.boundary)) ∙ stands))
           ];
     }
 
@@ -212,20 +230,26 @@ pub slot_at : {p : Pacing} {keep : ℕ} {pending : Option ℕ} {heard slot : ℕ
 slot_at {p} {pending = None} {slot} {between} {end} true text slot_on held plays_due stand = absurd (true≢false held)
 slot_at {p} {pending = None} {slot} {between} {end} false text slot_on held plays_due stand =
     film_at refl
-    (size_to p (due_by p slot) slot_on.on.pacing (omega (arith, slot_on.on.pacing.sent)) (due_most p slot slot_on.on.pacing)) stand
-slot_at {p} {pending = Some taken} {slot} {between} {end} false text slot_on held plays_due stand = absurd (true≢false (sym held.0))
-slot_at {p} {keep} {pending = Some taken} {slot} {between = false} {plays} {end} {slots} {parts} true text slot_on held plays_due stand =
-    let all : step_end true (at_slot slot p) ≡ due_by p slot = ap (λ (r : Pacing). r.sent) (slot_is true false slot p on.pacing stands) in
+    (size_to p (due_by p slot) slot_on.on.pacing (omega (arith, slot_on.on.pacing.sent))
+    (due_most p slot slot_on.on.pacing)) stand
+slot_at {p} {pending = Some taken} {slot} {between} {end} false text slot_on held plays_due stand =
+    absurd (true≢false (sym held.0))
+slot_at {p} {keep} {pending = Some taken} {slot} {between = false} {plays} {end} {slots} {parts} true text
+    slot_on held plays_due stand =
+    let all : step_end true (at_slot slot p) ≡ due_by p slot =
+    ap (λ (r : Pacing). r.sent) (slot_is true false slot p on.pacing stands) in
     subst (λ to. StandAt p keep (Some taken) plays end slots (Film (plan_bytes p p.sent to) ∷ parts)) (sym all)
     (film_at refl
     (size_to p (due_by p slot) on.pacing (omega (arith, on.pacing.sent)) (due_most p slot on.pacing)) stand)
   where
     open slot_on use {on, stands}
-slot_at {p} {keep} {pending = Some taken} {heard} {slot} {between = true} {plays} {end} {slots} {parts} true text slot_on held plays_due stand =
+slot_at {p} {keep} {pending = Some taken} {heard} {slot} {between = true} {plays} {end} {slots} {parts} true
+    text slot_on held plays_due stand =
     let q : Pacing = after_step true slot p in
     let is = on.pacing in
     let most : due_by p slot ≤ p.keep = due_most p slot is in
-    let last : step_end false (at_slot slot q) ≡ due_by p slot = ap (λ (r : Pacing). r.sent) (slot_is true true slot p is stands) in
+    let last : step_end false (at_slot slot q) ≡ due_by p slot =
+    ap (λ (r : Pacing). r.sent) (slot_is true true slot p is stands) in
     let next = boundary-from p.pieces (p.before + p.sent) (inside_of p is) in
     let from : p.sent ≤ q.sent = omega (arith, next.after, is.sent) in
     let to : q.sent ≤ due_by p slot = omega arith in
@@ -234,10 +258,12 @@ slot_at {p} {keep} {pending = Some taken} {heard} {slot} {between = true} {plays
     (film_at refl
     (size_to q (due_by p slot) (stopped_is slot p is) to most) stand) in
     let at = next_reached slot is held.1 stands in
-    let far : (sent_through slot p).sent ≤ first_slots p.plan (end + 1 - p.start) = due_far (sent_through slot p) slot end (through_time p heard slot on later) ends in
+    let far : (sent_through slot p).sent ≤ first_slots p.plan (end + 1 - p.start) =
+    due_far (sent_through slot p) slot end (through_time p heard slot on later) ends in
     let reply = text_at
     at (plays_due.due taken (omega (arith, at.after, rest.holds)))
-    (later_lower taken slot plays (omega (arith, held.1.before, later)) plays_due.later_plays).starts (omega (arith, to, far)) rest in
+    (later_lower taken slot plays (omega (arith, held.1.before, later)) plays_due.later_plays).starts
+    (omega (arith, to, far)) rest in
     film_at
     refl
     (size_to p q.sent is from (omega (arith, to, most))) reply

@@ -39,9 +39,11 @@ record IsGiven (wish : Wish) (watched : Watched) (at : Stage) (out : List ℕ) :
   pub gives : Gives wish at.history moment (Done watched)
   pub out_none : out ≡ []
 
-stop-of : (wish : Wish) (watched : Watched) (at : Stage) (sent out : List ℕ) → Stops wish at (Done watched) sent out → IsGiven wish watched at out
+stop-of : (wish : Wish) (watched : Watched) (at : Stage) (sent out : List ℕ)
+    → Stops wish at (Done watched) sent out → IsGiven wish watched at out
 stop-of wish watched at sent out (inl framing) = absurd (let no : ⊥ = cc in no)
-stop-of wish watched at sent out (inr (moment, (next, inl gives))) = record { moment = moment; next = next; gives = gives.0; out_none = gives.2 }
+stop-of wish watched at sent out (inr (moment, (next, inl gives))) =
+    record { moment = moment; next = next; gives = gives.0; out_none = gives.2 }
 stop-of wish watched at sent out (inr (moment, (next, inr fails))) = absurd fails.1
 
 -- bytes in which a watching that is done ended
@@ -49,7 +51,8 @@ abbrev IsEnd : Wish → Watched → Stage → List Doing → List ℕ → Type 0
 IsEnd wish watched mid doings out = (bytes : List ℕ) × ((sent : List ℕ)
     × (StopsAt wish (stage mid.history (mid.rest ++ bytes)) (Done watched) sent out × (doings ≡ HeardBytes bytes ∷ sends sent)))
 
-end-of : {wish : Wish} {watched : Watched} {count : ℕ} {doings : List Doing} {out : List ℕ} (mid : Stage) → Ends wish mid count (Done watched) doings out
+end-of : {wish : Wish} {watched : Watched} {count : ℕ} {doings : List Doing} {out : List ℕ} (mid : Stage)
+    → Ends wish mid count (Done watched) doings out
     → IsEnd wish watched mid doings out
 end-of {out} mid (inl (inl fault, none, empty)) = absurd (let no : ⊥ = cc in no)
 end-of {out} mid (inl (inr spent, none, empty)) = absurd (let no : ⊥ = cc in no)
@@ -62,8 +65,10 @@ pub record HasWatchedAll (wish : Wish) (watched : Watched) (rounds : List Round)
   pub pieces : List (List ℕ)
   pub history : done.at.history ≡ after mid.history (moments_in pieces)
 
-all-watched : {wish : Wish} {watched : Watched} {rounds : List Round} {mid : Stage} {last sent bytes out : List ℕ} → RunsAll (stage [] []) rounds mid
-    → (stops : StopsAt wish (stage mid.history (mid.rest ++ bytes)) (Done watched) sent last) → out ≡ payloads_of (moments_of_rounds rounds) ++ last
+all-watched : {wish : Wish} {watched : Watched} {rounds : List Round} {mid : Stage}
+    {last sent bytes out : List ℕ} → RunsAll (stage [] []) rounds mid
+    → (stops : StopsAt wish (stage mid.history (mid.rest ++ bytes)) (Done watched) sent last)
+    → out ≡ payloads_of (moments_of_rounds rounds) ++ last
     → HasWatchedAll wish watched rounds mid bytes out
 all-watched {wish} {watched} {rounds} {mid} {last} {bytes} {out} runs stops out_is =
     let moments = moments_of_rounds rounds in
@@ -71,7 +76,8 @@ all-watched {wish} {watched} {rounds} {mid} {last} {bytes} {out} runs stops out_
     let heard : Heard (rounds_heard rounds) mid = heard-all [] (stage [] []) mid rounds heard-none runs in
     let h : Heard (rounds_heard rounds ++ bytes) at = heard-more bytes stops.pieces heard stops.cut stops.good in
     let told : at.history ≡ after [] (moments ++ moments_in stops.pieces) =
-    ap (λ x. after x (moments_in stops.pieces)) (history-later (stage [] []) mid rounds runs) ∙ sym (after-on [] moments (moments_in stops.pieces)) in
+    ap (λ x. after x (moments_in stops.pieces)) (history-later (stage [] []) mid rounds runs)
+    ∙ sym (after-on [] moments (moments_in stops.pieces)) in
     let given = stop-of wish watched at stops.more_sent stops.more_out stops.stops in
     let all_out : out ≡ payloads_of (moments ++ moments_in stops.pieces) =
     out_is ∙ (ap (λ o. payloads_of moments ++ o) (stops.out_is
@@ -87,7 +93,8 @@ pub record IsPromise (wish : Wish) (film : Film) (watched : Watched) (out : List
   pub under_none : watched.under ≡ 0
   pub most_fits : watched.most ≤ wish.buffer
   pub film_back : (first last : PictureUnit) → slice_get film.units.items 0 ≡ Some first
-      → slice_get film.units.items (length film.units.items - 1) ≡ Some last → out ≡ take (last.to - first.from) (drop first.from film.bytes.items)
+      → slice_get film.units.items (length film.units.items - 1) ≡ Some last
+      → out ≡ take (last.to - first.from) (drop first.from film.bytes.items)
 
 -- a stream's film for a wish, with some time for its pictures
 pub record WishedStream (wish : Wish) (film : Film) (identity : Identity) (x : Stream) : Type 0 where
@@ -105,20 +112,27 @@ kept-promise {wish} {film} {x} {rounds} {mid} {bytes} {out} c wished_stream runs
     let h = done.at.history in
     let sum = done-sum x c done front in
     let whole = whole-of is done.heard.gone sum done.complete in
-    let few : replies mid.history ≤ 2 = omega (arith, replies-later mid.history (moments_in all.pieces), ap replies all.history, done.replies_are) in
-    let mine : rounds_heard rounds ≡ take (length (rounds_heard rounds)) (framed_bytes (all_of x)) = front-of (rounds_heard rounds) bytes (framed_bytes (all_of x)) c front in
-    let always = always-all (record { heard = heard-none; idle = inl refl; count = length (rounds_heard rounds); front = mine }) runs
+    let few : replies mid.history ≤ 2 =
+    omega (arith, replies-later mid.history (moments_in all.pieces), ap replies all.history, done.replies_are) in
+    let mine : rounds_heard rounds ≡ take (length (rounds_heard rounds)) (framed_bytes (all_of x)) =
+    front-of (rounds_heard rounds) bytes (framed_bytes (all_of x)) c front in
+    let always =
+    always-all (record { heard = heard-none; idle = inl refl; count = length (rounds_heard rounds); front = mine }) runs
     (record { film_is = is; count = whole.count }) (record { few = few; begins = refl }) fed tt in
     let A : History → Type 0 = λ g. IsBetweenAlways wish (film_sizes film) (picture_time film.rate) g in
-    let last = subst A (sym all.history) (always-pieces wish (film_sizes film) (picture_time film.rate) mid.history all.pieces always) in
+    let last = subst A (sym all.history)
+    (always-pieces wish (film_sizes film) (picture_time film.rate) mid.history all.pieces always) in
     let some = film-some film.bytes.items film.rate film.units.items film.slice_starts.items film.grammar in
-    let quiet = quiet-always wish (film_sizes film) h (record { slot_lasts = omega (arith, wished.some_units); picture_lasts = timed })
+    let quiet = quiet-always wish (film_sizes film) h
+    (record { slot_lasts = omega (arith, wished.some_units); picture_lasts = timed })
     (omega (arith, some, length-map film.units.items (λ u. wire_size film.slice_starts.items u))) last in
     record {
       over_none = ap (λ (w : Watched). w.over) done.watched_is ∙ quiet.over_none;
       under_none = ap (λ (w : Watched). w.under) done.watched_is ∙ quiet.under_none;
       most_fits = omega (arith, ap (λ (w : Watched). w.most) done.watched_is, quiet.most_fits);
-      film_back = λ first last_ at_first at_last. done.out_is ∙ (sym (ap (λ (s : Sum). s.payloads) (sum-after [] done.moments) ∙ steps-payloads (sum_of []) done.moments) ∙ (ap payloads (sym done.history_is) ∙ film-back h is sum at_first at_last));
+      film_back = λ first last_ at_first at_last. done.out_is
+          ∙ (sym (ap (λ (s : Sum). s.payloads) (sum-after [] done.moments)
+          ∙ steps-payloads (sum_of []) done.moments) ∙ (ap payloads (sym done.history_is) ∙ film-back h is sum at_first at_last));
     }
   where
     open wished_stream use {wished, timed, film_is as is}
@@ -127,7 +141,8 @@ kept-promise {wish} {film} {x} {rounds} {mid} {bytes} {out} c wished_stream runs
 
 heard-append : (a b : List Doing) → heard_bytes (a ++ b) ≡ heard_bytes a ++ heard_bytes b
 heard-append [] b = refl
-heard-append (HeardBytes bytes ∷ a) b = ap (λ l. bytes ++ l) (heard-append a b) ∙ sym (append_assoc bytes (heard_bytes a) (heard_bytes b))
+heard-append (HeardBytes bytes ∷ a) b =
+    ap (λ l. bytes ++ l) (heard-append a b) ∙ sym (append_assoc bytes (heard_bytes a) (heard_bytes b))
 heard-append (HeardSlot slot ∷ a) b = heard-append a b
 heard-append (HeardEnd ∷ a) b = heard-append a b
 heard-append (Sent byte ∷ a) b = heard-append a b
@@ -148,34 +163,47 @@ heard-rounds wish h (round ∷ rounds) =
     let sent = sends (requests_after wish h round.moments) in
     let rest = rounds_doings wish (after h round.moments) rounds in
     heard-one round.event (sent ++ rest)
-    ∙ ap (λ l. bytes_in round.event ++ l) (heard-append sent rest ∙ (ap (λ l. l ++ heard_bytes rest) (heard-sends (requests_after wish h round.moments)) ∙ heard-rounds wish (after h round.moments) rounds))
+    ∙ ap (λ l. bytes_in round.event ++ l)
+    (heard-append sent rest
+    ∙ (ap (λ l. l ++ heard_bytes rest) (heard-sends (requests_after wish h round.moments))
+    ∙ heard-rounds wish (after h round.moments) rounds))
 
 -- what it told before a round, and after it
 pub record IsSplit (wish : Wish) (h : History) (before : List Round) (round : Round) (told : List Doing) : Type 0 where
   pub later : List Doing
   pub told_is : told ≡ rounds_doings wish h before ++ round.event ∷ later
 
-split-at : (wish : Wish) (h : History) (before later : List Round) (round : Round) → IsSplit wish h before round (rounds_doings wish h (before ++ round ∷ later))
-split-at wish h [] later round = record { later = sends (requests_after wish h round.moments) ++ rounds_doings wish (after h round.moments) later; told_is = refl }
+split-at : (wish : Wish) (h : History) (before later : List Round) (round : Round)
+    → IsSplit wish h before round (rounds_doings wish h (before ++ round ∷ later))
+split-at wish h [] later round =
+    record {
+      later =
+          sends (requests_after wish h round.moments) ++ rounds_doings wish (after h round.moments) later;
+      told_is = refl;
+    }
 split-at wish h (first ∷ before) later round =
     let rest = split-at wish (after h first.moments) before later round in
     let front = first.event ∷ sends (requests_after wish h first.moments) in
     record {
       later = rest.later;
-      told_is = ap (λ l. front ++ l) rest.told_is ∙ sym (append_assoc front (rounds_doings wish (after h first.moments) before) (round.event ∷ rest.later));
+      told_is = ap (λ l. front ++ l) rest.told_is
+          ∙ sym (append_assoc front (rounds_doings wish (after h first.moments) before) (round.event ∷ rest.later));
     }
 
 -- the course of a watching that is done, by what its link told
-pub record IsToldCourse (wish : Wish) (watched : Watched) (heard : List Doing) (out : List ℕ) (client : HasCourse wish (Done watched) (Some []) (Some heard) (Some []) (Some out))
+pub record IsToldCourse (wish : Wish) (watched : Watched) (heard : List Doing) (out : List ℕ)
+    (client : HasCourse wish (Done watched) (Some []) (Some heard) (Some []) (Some out))
     : Type 0 where
   pub bytes : List ℕ
   pub all : HasWatchedAll wish watched client.rounds client.mid bytes out
   pub heard_is : heard_bytes heard ≡ rounds_heard client.rounds ++ bytes
   pub split : (before later : List Round) (round : Round) → client.rounds ≡ before ++ round ∷ later
-      → ((front : List Doing) × ((rest : List Doing) × ((heard ≡ front ++ round.event ∷ rest) × (heard_bytes front ≡ rounds_heard before))))
+      → ((front : List Doing)
+      × ((rest : List Doing) × ((heard ≡ front ++ round.event ∷ rest) × (heard_bytes front ≡ rounds_heard before))))
 
 pub told-course : (wish : Wish) (watched : Watched) (heard : List Doing) (out : List ℕ)
-    (client : HasCourse wish (Done watched) (Some []) (Some heard) (Some []) (Some out)) → IsToldCourse wish watched heard out client
+    (client : HasCourse wish (Done watched) (Some []) (Some heard) (Some []) (Some out))
+    → IsToldCourse wish watched heard out client
 told-course wish watched heard out client =
     let setup = sends (setup_text wish) in
     let doings = rounds_doings wish [] client.rounds in
@@ -190,7 +218,8 @@ told-course wish watched heard out client =
       heard_is = ap heard_bytes told ∙ (heard-append setup (doings ++ client.last_doings)
           ∙ (ap (λ l. l ++ heard_bytes (doings ++ client.last_doings)) (heard-sends (setup_text wish))
           ∙ (heard-append doings client.last_doings
-          ∙ (ap (λ l. l ++ heard_bytes client.last_doings) (heard-rounds wish [] client.rounds) ∙ ap (λ l. rounds_heard client.rounds ++ l) last))));
+          ∙ (ap (λ l. l ++ heard_bytes client.last_doings) (heard-rounds wish [] client.rounds)
+          ∙ ap (λ l. rounds_heard client.rounds ++ l) last))));
       split = λ before later round is.
           let its = split-at wish [] before later round in
           let mine = rounds_doings wish [] before in (
@@ -201,7 +230,8 @@ told-course wish watched heard out client =
                 told ∙ (ap (λ l. setup ++ (l ++ client.last_doings)) (ap (rounds_doings wish []) is ∙ its.told_is)
                     ∙ (ap (λ l. setup ++ l) (append_assoc mine (round.event ∷ its.later) client.last_doings)
                     ∙ sym (append_assoc setup mine (round.event ∷ (its.later ++ client.last_doings))))),
-                heard-append setup mine ∙ (ap (λ l. l ++ heard_bytes mine) (heard-sends (setup_text wish)) ∙ heard-rounds wish [] before),
+                heard-append setup mine
+                    ∙ (ap (λ l. l ++ heard_bytes mine) (heard-sends (setup_text wish)) ∙ heard-rounds wish [] before),
               ),
             ),
           );

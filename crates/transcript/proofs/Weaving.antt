@@ -23,7 +23,8 @@ from_lower low place (placed ∷ texts) less is = omega (arith, less, is)
 places_from : (place : ℕ) (parts : List Part) → IsFrom place (placed_texts place parts)
 places_from place [] = tt
 places_from place (Film bytes ∷ parts) =
-    from_lower place (place + length bytes) (placed_texts (place + length bytes) parts) (omega arith) (places_from (place + length bytes) parts)
+    from_lower place (place + length bytes) (placed_texts (place + length bytes) parts) (omega arith)
+    (places_from (place + length bytes) parts)
 places_from place (Text text ∷ parts) = omega arith
 
 woven_front : (place : ℕ) (bytes film : List ℕ) (texts : List PlacedText) → IsFrom (place + length bytes) texts
@@ -34,14 +35,17 @@ woven_front place bytes film (placed ∷ texts) is =
     let far : placed.place - place ≡ length bytes + n = omega (arith, is) in
     let rest : List ℕ = placed.text ++ with_texts placed.place (drop n film) texts in
     ap (λ m. take m (bytes ++ film) ++ (placed.text ++ with_texts placed.place (drop m (bytes ++ film)) texts)) far
-    ∙ ap (λ d. take (length bytes + n) (bytes ++ film) ++ (placed.text ++ with_texts placed.place d texts)) (drop-append-add bytes film n)
+    ∙ ap (λ d. take (length bytes + n) (bytes ++ film) ++ (placed.text ++ with_texts placed.place d texts))
+    (drop-append-add bytes film n)
     ∙ ap (λ t. t ++ rest) (take-append-add bytes film n) ∙ append_assoc bytes (take n film) rest
 
-pub parts_woven : (place : ℕ) (parts : List Part) → parts_bytes parts ≡ with_texts place (film_bytes parts) (placed_texts place parts)
+pub parts_woven : (place : ℕ) (parts : List Part)
+    → parts_bytes parts ≡ with_texts place (film_bytes parts) (placed_texts place parts)
 parts_woven place [] = refl
 parts_woven place (Film bytes ∷ parts) =
     let at : ℕ = place + length bytes in
-    ap (λ bs. bytes ++ bs) (parts_woven at parts) ∙ sym (woven_front place bytes (film_bytes parts) (placed_texts at parts) (places_from at parts))
+    ap (λ bs. bytes ++ bs) (parts_woven at parts)
+    ∙ sym (woven_front place bytes (film_bytes parts) (placed_texts at parts) (places_from at parts))
 parts_woven place (Text text ∷ parts) =
     let film : List ℕ = film_bytes parts in
     let texts : List PlacedText = placed_texts place parts in
@@ -49,7 +53,8 @@ parts_woven place (Text text ∷ parts) =
     ap (λ bs. text ++ bs) (parts_woven place parts) ∙ ap (λ n. take n film ++ (text ++ with_texts place (drop n film) texts)) none
 
 -- the film's bytes among all parts are those of the slots
-pub course_film : (old new : Stage) (rounds : List Round) → Follows old rounds new → film_bytes (rounds_parts rounds) ≡ rounds_film rounds
+pub course_film : (old new : Stage) (rounds : List Round) → Follows old rounds new
+    → film_bytes (rounds_parts rounds) ≡ rounds_film rounds
 course_film old new [] follows = refl
 course_film old new (round ∷ rounds) follows =
     film_bytes-append (round_parts round) (rounds_parts rounds)

@@ -19,34 +19,46 @@ abbrev pub texts_length : List PlacedText → ℕ
 texts_length [] = 0
 texts_length (placed ∷ texts) = length placed.text + texts_length texts
 
-pub parts-length : (place : ℕ) (parts : List Part) → length (parts_bytes parts) ≡ length (film_bytes parts) + texts_length (placed_texts place parts)
+pub parts-length : (place : ℕ) (parts : List Part)
+    → length (parts_bytes parts) ≡ length (film_bytes parts) + texts_length (placed_texts place parts)
 parts-length place [] = refl
 parts-length place (Film bytes ∷ parts) =
-    omega (arith, parts-length (place + length bytes) parts, length-append bytes (parts_bytes parts), length-append bytes (film_bytes parts))
+    omega (
+      arith,
+      parts-length (place + length bytes) parts,
+      length-append bytes (parts_bytes parts),
+      length-append bytes (film_bytes parts),
+    )
 parts-length place (Text text ∷ parts) = omega (arith, parts-length place parts, length-append text (parts_bytes parts))
 
 abbrev pub IsFromTo : ℕ → ℕ → List PlacedText → Type 0
 IsFromTo from to [] = ⊤
 IsFromTo from to (placed ∷ texts) = (from ≤ placed.place) × ((placed.place ≤ to) × IsFromTo from to texts)
 
-from-to-wider : {low from to high : ℕ} (texts : List PlacedText) → low ≤ from → to ≤ high → IsFromTo from to texts → IsFromTo low high texts
+from-to-wider : {low from to high : ℕ} (texts : List PlacedText) → low ≤ from → to ≤ high
+    → IsFromTo from to texts → IsFromTo low high texts
 from-to-wider {low} {from} [] less more are = tt
-from-to-wider {low} {from} {to} {high} (placed ∷ texts) less more are =
-    (omega (arith, less, are.0), (omega (arith, more, are.1.0), from-to-wider {low = low} {from = from} {to = to} {high = high} texts less more are.1.1))
+from-to-wider {low} {from} {to} {high} (placed ∷ texts) less more are = (
+  omega (arith, less, are.0),
+  (omega (arith, more, are.1.0), from-to-wider {low = low} {from = from} {to = to} {high = high} texts less more are.1.1),
+)
 
 pub texts-within : (place : ℕ) (parts : List Part) → IsFromTo place (place + length (film_bytes parts)) (placed_texts place parts)
 texts-within place [] = tt
 texts-within place (Film bytes ∷ parts) =
     from-to-wider
-    (placed_texts (place + length bytes) parts) (omega arith) (omega (arith, length-append bytes (film_bytes parts))) (texts-within (place + length bytes) parts)
+    (placed_texts (place + length bytes) parts) (omega arith)
+    (omega (arith, length-append bytes (film_bytes parts))) (texts-within (place + length bytes) parts)
 texts-within place (Text text ∷ parts) = (omega arith, (omega arith, texts-within place parts))
 
-pub texts-parts : (place : ℕ) (xs ys : List Part) → placed_texts place (xs ++ ys) ≡ placed_texts place xs ++ placed_texts (place + length (film_bytes xs)) ys
+pub texts-parts : (place : ℕ) (xs ys : List Part)
+    → placed_texts place (xs ++ ys) ≡ placed_texts place xs ++ placed_texts (place + length (film_bytes xs)) ys
 texts-parts place [] ys = ap (λ n. placed_texts n ys) (let e : place ≡ place + 0 = omega arith in e)
 texts-parts place (Film bytes ∷ xs) ys =
     texts-parts (place + length bytes) xs ys
     ∙ ap (λ n. placed_texts (place + length bytes) xs ++ placed_texts n ys)
-    (let e : place + length bytes + length (film_bytes xs) ≡ place + length (bytes ++ film_bytes xs) = omega (arith, length-append bytes (film_bytes xs)) in e)
+    (let e : place + length bytes + length (film_bytes xs) ≡ place + length (bytes ++ film_bytes xs) =
+    omega (arith, length-append bytes (film_bytes xs)) in e)
 texts-parts place (Text text ∷ xs) ys = ap (λ l. placed_text place text ∷ l) (texts-parts place xs ys)
 
 -- ---- how much film there is in a front
@@ -112,7 +124,8 @@ take-nil n l is = ap (λ x. take n x) is ∙ take_all n [] (omega arith)
 drop-nil : (n : ℕ) (l : List ℕ) → l ≡ [] → drop n l ≡ []
 drop-nil n l is = ap (λ x. drop n x) is ∙ drop_all n [] (omega arith)
 
-woven-texts : (from : ℕ) (film : List ℕ) (texts : List PlacedText) → film ≡ [] → with_texts from film texts ≡ framed_bytes (map text_of texts)
+woven-texts : (from : ℕ) (film : List ℕ) (texts : List PlacedText) → film ≡ []
+    → with_texts from film texts ≡ framed_bytes (map text_of texts)
 woven-texts from film [] none = none
 woven-texts from film (placed ∷ texts) none =
     let n = placed.place - from in
@@ -127,14 +140,18 @@ front-same : (film blocks : List ℕ) (n : ℕ) → film ≡ take n blocks → f
 front-same film blocks n is =
     let size : length film ≡ min n (length blocks) = ap (λ (l : List ℕ). length l) is ∙ length-take n blocks in
     elim (cases_lt n (length blocks)) [
-      | inl less ↦ is ∙ (ap (λ k. take k blocks) (let e : n ≡ length film = omega (arith, size, less) in e) ∙ ap (λ l. take (length film) l) (sym (append-nil blocks)))
+      | inl less ↦ is
+          ∙ (ap (λ k. take k blocks) (let e : n ≡ length film = omega (arith, size, less) in e)
+          ∙ ap (λ l. take (length film) l) (sym (append-nil blocks)))
       | inr more ↦
           let all : film ≡ blocks = is ∙ take_all n blocks more in
-          all ∙ (sym (take_all (length film) blocks (omega (arith, size, more))) ∙ ap (λ l. take (length film) l) (sym (append-nil blocks)))
+          all ∙ (sym (take_all (length film) blocks (omega (arith, size, more)))
+          ∙ ap (λ l. take (length film) l) (sym (append-nil blocks)))
     ]
 
 -- after the two first replies
-film-woven : {film : List ℕ} (blocks : List ℕ) (later : List PlacedText) (n : ℕ) → film ≡ take n blocks → AreAfter (length blocks) later → IsFromTo 0 (length film) later
+film-woven : {film : List ℕ} (blocks : List ℕ) (later : List PlacedText) (n : ℕ) → film ≡ take n blocks
+    → AreAfter (length blocks) later → IsFromTo 0 (length film) later
     → IsFrontOf (with_texts 0 film later) (blocks ++ framed_bytes (map text_of later))
 film-woven {film} blocks [] n is after within =
     record { count = length film; is = front-same film blocks n is }
@@ -144,9 +161,17 @@ film-woven {film} blocks (placed ∷ texts) n is after within =
     let whole : film ≡ blocks = is ∙ take_all n blocks (omega (arith, size, long)) in
     let n0 : ℕ = placed.place - 0 in
     let all : with_texts 0 film (placed ∷ texts) ≡ blocks ++ framed_bytes (map text_of (placed ∷ texts)) =
-    ap (λ l. l ++ (placed.text ++ with_texts placed.place (drop n0 film) texts)) (take_all n0 film (omega (arith, after.0, ap (λ (l : List ℕ). length l) whole)) ∙ whole)
-    ∙ ap (λ l. blocks ++ (placed.text ++ l)) (woven-texts placed.place (drop n0 film) texts (drop_all n0 film (omega (arith, after.0, ap (λ (l : List ℕ). length l) whole)))) in
-    record { count = length (blocks ++ framed_bytes (map text_of (placed ∷ texts))); is = all ∙ sym (take_all (length (blocks ++ framed_bytes (map text_of (placed ∷ texts)))) (blocks ++ framed_bytes (map text_of (placed ∷ texts))) (omega arith)) }
+    ap (λ l. l ++ (placed.text ++ with_texts placed.place (drop n0 film) texts))
+    (take_all n0 film (omega (arith, after.0, ap (λ (l : List ℕ). length l) whole)) ∙ whole)
+    ∙ ap (λ l. blocks ++ (placed.text ++ l))
+    (woven-texts placed.place (drop n0 film) texts
+    (drop_all n0 film (omega (arith, after.0, ap (λ (l : List ℕ). length l) whole)))) in
+    record {
+      count = length (blocks ++ framed_bytes (map text_of (placed ∷ texts)));
+      is =
+          all ∙ sym (take_all (length (blocks ++ framed_bytes (map text_of (placed ∷ texts))))
+          (blocks ++ framed_bytes (map text_of (placed ∷ texts))) (omega arith));
+    }
 
 -- bytes that are a front of these blocks
 pub record BlocksFront (film : List ℕ) : Type 0 where
@@ -161,8 +186,10 @@ pub all-woven : {film : List ℕ} (front : BlocksFront film) (setup played : Lis
 all-woven front setup played later after within =
     let rest = film-woven blocks later n is after within in
     let all = blocks ++ framed_bytes (map text_of later) in
-    let both : setup ++ (played ++ take rest.count all) ≡ take (length setup + (length played + rest.count)) (setup ++ (played ++ all)) =
-    ap (λ l. setup ++ l) (sym (take-append-add played all rest.count)) ∙ sym (take-append-add setup (played ++ all) (length played + rest.count)) in
+    let both : setup ++ (played ++ take rest.count all)
+    ≡ take (length setup + (length played + rest.count)) (setup ++ (played ++ all)) =
+    ap (λ l. setup ++ l) (sym (take-append-add played all rest.count))
+    ∙ sym (take-append-add setup (played ++ all) (length played + rest.count)) in
     record { count = length setup + (length played + rest.count); is = ap (λ l. setup ++ (played ++ l)) rest.is ∙ both }
   where
     open front use {blocks, count as n, front_is as is}
@@ -210,7 +237,9 @@ rounds-sent [] are = refl
 rounds-sent (round ∷ rounds) are =
     let sent = sends (round_bytes round) in
     event-sent round.event (sent ++ rounds_doings rounds) are.0
-    ∙ (sent-append sent (rounds_doings rounds) ∙ (ap (λ l. l ++ sent_bytes (rounds_doings rounds)) (sent-sends (round_bytes round)) ∙ ap (λ l. round_bytes round ++ l) (rounds-sent rounds are.1)))
+    ∙ (sent-append sent (rounds_doings rounds)
+    ∙ (ap (λ l. l ++ sent_bytes (rounds_doings rounds)) (sent-sends (round_bytes round))
+    ∙ ap (λ l. round_bytes round ++ l) (rounds-sent rounds are.1)))
 
 pub rounds-latest : (rounds : List Round) → latest_slot (rounds_doings rounds) ≡ greatest_slot rounds
 rounds-latest [] = refl
@@ -225,7 +254,8 @@ pub record AreWhole (rounds : List Round) (front : List Doing) : Type 0 where
   pub parts : rounds ≡ first ++ later
   pub front_is : front ≡ rounds_doings first
 
-past-sends : (bytes : List ℕ) (rest front after : List Doing) → sends bytes ++ rest ≡ front ++ after → ((byte : ℕ) (later : List Doing) → after ≡ Sent byte ∷ later → ⊥)
+past-sends : (bytes : List ℕ) (rest front after : List Doing) → sends bytes ++ rest ≡ front ++ after
+    → ((byte : ℕ) (later : List Doing) → after ≡ Sent byte ∷ later → ⊥)
     → ((more : List Doing) × ((front ≡ sends bytes ++ more) × (rest ≡ more ++ after)))
 past-sends [] rest front after is whole = (front, (refl, is))
 past-sends (b ∷ bytes) rest [] after is whole =
@@ -236,7 +266,8 @@ past-sends (b ∷ bytes) rest (d ∷ front) after is whole =
     let next = past-sends bytes rest front after tail whole in
     (next.0, (ap (λ l. d ∷ l) next.1.0 ∙ ap (λ x. x ∷ (sends bytes ++ next.0)) first, next.1.1))
 
-joined-front : {event d : Doing} {front more rest : List Doing} (sent : List Doing) → d ≡ event → front ≡ sent ++ more → more ≡ rest → d ∷ front ≡ (event ∷ sent) ++ rest
+joined-front : {event d : Doing} {front more rest : List Doing} (sent : List Doing) → d ≡ event
+    → front ≡ sent ++ more → more ≡ rest → d ∷ front ≡ (event ∷ sent) ++ rest
 joined-front {event} {front} {more} sent first is same =
     ap (λ x. x ∷ front) first ∙ (ap (λ l. event ∷ l) is ∙ ap (λ l. event ∷ (sent ++ l)) same)
 

@@ -21,7 +21,8 @@ IsTroubleOf causes t = IsReadTrouble causes.Reads causes.Refuses causes.told cau
 -- each cause follows from one of the others, over a count that rose no less
 pub record AreWider (one other : Causes) : Type 0 where
   pub reads : (name : List ℕ) → one.Reads name → other.Reads name
-  pub refuses : (held : List File) (name : List ℕ) (fault : Fault) → other.told ≡ Some held → one.Reads name → one.Refuses held name fault →
+  pub refuses : (held : List File) (name : List ℕ) (fault : Fault) → other.told ≡ Some held → one.Reads name →
+      one.Refuses held name fault →
       other.Refuses held name fault
   pub keeps : (held : List File) → other.told ≡ Some held → one.told ≡ Some held
   pub low : other.before ≤ one.before

@@ -50,7 +50,8 @@ read_line text = message_from (split 58 (drop 10 text))
 -- ---- names and refusals have no colon and no end of a line
 name_has_no : (c : ℕ) (name : List ℕ) → is_name_byte c ≡ false → is_good_name name ≡ true → HasNo c name
 name_has_no c name other good =
-    let parts = and_parts (nat_lt 0 (length name) && nat_le (length name) 64 && not (slice_index name 0 == 46)) (list_all is_name_byte name) good in
+    let parts = and_parts (nat_lt 0 (length name) && nat_le (length name) 64 && not (slice_index name 0 == 46))
+    (list_all is_name_byte name) good in
     by name parts.1
   where
     apart : true ≡ false → ⊥
@@ -71,16 +72,22 @@ plain_has_no c (b ∷ word) other all =
     apart : true ≡ false → ⊥
     apart e = cc
 
-fault_has_no : (c : ℕ) (fault : Fault) → is_plain c ≡ false → 32 ≢ c → ((n : ℕ) → n < 2 ^ 64 → HasNo c (decimal n)) → HasShortNumbers fault → HasNo c (fault_text fault)
+fault_has_no : (c : ℕ) (fault : Fault) → is_plain c ≡ false → 32 ≢ c
+    → ((n : ℕ) → n < 2 ^ 64 → HasNo c (decimal n)) → HasShortNumbers fault → HasNo c (fault_text fault)
 fault_has_no c fault other blank digits short =
     All-append (λ b. b ≢ c) (fault_words fault).name (flat_map number_text (fault_words fault).numbers)
-    (plain_has_no c (fault_words fault).name other (each_is_known fault).word) (none_in_numbers c (fault_words fault).numbers blank digits short)
+    (plain_has_no c (fault_words fault).name other (each_is_known fault).word)
+    (none_in_numbers c (fault_words fault).numbers blank digits short)
 
 no_end : (fault : Fault) → HasShortNumbers fault → HasNo 10 (fault_text fault)
-no_end fault short = fault_has_no 10 fault refl (λ e. omega (arith, e)) (λ (n : ℕ) few. not_in_decimal 10 n few (λ within. omega (arith, within.0))) short
+no_end fault short =
+    fault_has_no 10 fault refl (λ e. omega (arith, e))
+    (λ (n : ℕ) few. not_in_decimal 10 n few (λ within. omega (arith, within.0))) short
 
 no_colon : (fault : Fault) → HasShortNumbers fault → HasNo 58 (fault_text fault)
-no_colon fault short = fault_has_no 58 fault refl (λ e. omega (arith, e)) (λ (n : ℕ) few. not_in_decimal 58 n few (λ within. omega (arith, within.1))) short
+no_colon fault short =
+    fault_has_no 58 fault refl (λ e. omega (arith, e))
+    (λ (n : ℕ) few. not_in_decimal 58 n few (λ within. omega (arith, within.1))) short
 
 -- ---- a line that names an input
 -- a line with a name and what stands after it
@@ -94,16 +101,20 @@ named_read : (name said : List ℕ) → is_good_name name ≡ true → HasNo 58 
     read_line (naming_line name said) ≡ of_input name (fault_read ([] ∷ split 32 said))
 named_read name said good colon end =
     let after = 32 ∷ (said ++ codes "\n") in
-    let clean : HasNo 58 after = All-cons (λ b. b ≢ 58) 32 (said ++ codes "\n") (λ e. omega (arith, e)) (All-append (λ b. b ≢ 58) said (codes "\n") colon (none_by 58 (codes "\n") refl)) in
+    let clean : HasNo 58 after =
+    All-cons (λ b. b ≢ 58) 32 (said ++ codes "\n") (λ e. omega (arith, e))
+    (All-append (λ b. b ≢ 58) said (codes "\n") colon (none_by 58 (codes "\n") refl)) in
     let line : HasNo 10 (32 ∷ said) = All-cons (λ b. b ≢ 10) 32 said (λ e. omega (arith, e)) end in
     ap message_from (split_at 58 name after refl (name_has_no 58 name refl good))
     ∙ ap (λ (parts : List (List ℕ)). message_from (name ∷ parts)) (split_none 58 after clean)
-    ∙ ap (λ (parts : List (List ℕ)). of_input name (fault_read (split 32 (first_part parts)))) (split_at 10 (32 ∷ said) [] refl line)
+    ∙ ap (λ (parts : List (List ℕ)). of_input name (fault_read (split 32 (first_part parts))))
+    (split_at 10 (32 ∷ said) [] refl line)
 
 fault_back : (fault : Fault) → HasShortNumbers fault → fault_read ([] ∷ split 32 (fault_text fault)) ≡ Some fault
 fault_back fault short =
     let words = fault_words fault in
-    ap (λ (parts : List (List ℕ)). fault_read ([] ∷ parts)) (split_words words.name words.numbers (plain_has_no 32 words.name refl (each_is_known fault).word) short)
+    ap (λ (parts : List (List ℕ)). fault_read ([] ∷ parts))
+    (split_words words.name words.numbers (plain_has_no 32 words.name refl (each_is_known fault).word) short)
     ∙ ap (fault_from words.name) (numbers_back words.numbers short)
     ∙ (each_is_known fault).from
 
@@ -122,14 +133,16 @@ line_back NoMemory may = refl
 line_back GateFault may = refl
 line_back LinkFault may = refl
 
-pub message_told : (trouble trouble' : Trouble) → MayBeSaid trouble → MayBeSaid trouble' → trouble_text trouble ≡ trouble_text trouble' → message_of trouble ≡ message_of trouble'
+pub message_told : (trouble trouble' : Trouble) → MayBeSaid trouble → MayBeSaid trouble'
+    → trouble_text trouble ≡ trouble_text trouble' → message_of trouble ≡ message_of trouble'
 message_told trouble trouble' may may' same = sym (line_back trouble may) ∙ ap read_line same ∙ line_back trouble' may'
 
 -- ---- each is one line
 lone_line : (word : List ℕ) → list_all (λ b. not (b == 10)) word ≡ true → IsOwnLine (codes "vodserve: " ++ (word ++ codes "\n"))
 lone_line word clean = record { rest = word; text_is = refl; one_line = none_by 10 word clean }
 
-named_line : (name said : List ℕ) → is_good_name name ≡ true → HasNo 10 said → IsOwnLine (codes "vodserve: " ++ name ++ codes ": " ++ said ++ codes "\n")
+named_line : (name said : List ℕ) → is_good_name name ≡ true → HasNo 10 said
+    → IsOwnLine (codes "vodserve: " ++ name ++ codes ": " ++ said ++ codes "\n")
 named_line name said good no_end = record {
   rest = name ++ (codes ": " ++ said);
   text_is = simp append_assoc;
@@ -143,7 +156,8 @@ own_line (Refused name fault) may = named_line name.now (fault_text fault) may.0
 own_line (StoreFault name) may = record {
   rest = name.now ++ codes ": StoreFault";
   text_is = simp append_assoc;
-  one_line = All-append (λ b. b ≢ 10) name.now (codes ": StoreFault") (name_has_no 10 name.now refl may) (none_by 10 (codes ": StoreFault") refl);
+  one_line = All-append (λ b. b ≢ 10) name.now (codes ": StoreFault") (name_has_no 10 name.now refl may)
+      (none_by 10 (codes ": StoreFault") refl);
 }
 own_line SinkFault may = lone_line (codes "SinkFault") refl
 own_line NoMemory may = lone_line (codes "NoMemory") refl

@@ -9,10 +9,18 @@ use Rattle.troubles.specs.Said.{IsSaid}
 
 -- nothing was said yet
 pub said_nothing : (faults : ℕ) (told : Option (List ℕ)) → IsSaid faults faults told told [] true
-said_nothing faults told = record { count = omega arith; all = λ _. sym (told_more-nil told); risen = λ e. absurd (true≢false e); front = λ e. absurd (true≢false e) }
+said_nothing faults told =
+    record {
+      count = omega arith;
+      all = λ _. sym (told_more-nil told);
+      risen =
+          λ e. absurd (true≢false e);
+      front = λ e. absurd (true≢false e);
+    }
 
 -- nothing more is said after a fault
-pub said_no_more : {faults faults' : ℕ} {told told' : Option (List ℕ)} {text : List ℕ} (piece : List ℕ) → IsSaid faults faults' told told' text false →
+pub said_no_more : {faults faults' : ℕ} {told told' : Option (List ℕ)} {text : List ℕ} (piece : List ℕ) →
+    IsSaid faults faults' told told' text false →
     IsSaid faults faults' told told' (text ++ piece) false
 said_no_more {told} {told'} {text} piece said =
     let front : IsFrontMore told told' text = said.front refl in
@@ -30,7 +38,8 @@ said_no_more {told} {told'} {text} piece said =
     }
 
 -- a piece more was written
-pub said_more : {faults faults' faults'' : ℕ} {told told' told'' : Option (List ℕ)} {text : List ℕ} (piece : List ℕ) → IsSaid faults faults' told told' text true →
+pub said_more : {faults faults' faults'' : ℕ} {told told' told'' : Option (List ℕ)} {text : List ℕ}
+    (piece : List ℕ) → IsSaid faults faults' told told' text true →
     faults' ≤ faults'' → told'' ≡ told_more told' piece → IsSaid faults faults'' told told'' (text ++ piece) true
 said_more {told} {text} piece said count wrote = record {
   count = omega (arith, said.count, count);
@@ -40,8 +49,10 @@ said_more {told} {text} piece said count wrote = record {
 }
 
 -- a piece more failed
-pub said_part : {faults faults' faults'' : ℕ} {told told' told'' : Option (List ℕ)} {text : List ℕ} (piece : List ℕ) → IsSaid faults faults' told told' text true →
-    faults' ≤ faults'' → HasRisen faults' faults'' → IsFrontMore told' told'' piece → IsSaid faults faults'' told told'' (text ++ piece) false
+pub said_part : {faults faults' faults'' : ℕ} {told told' told'' : Option (List ℕ)} {text : List ℕ}
+    (piece : List ℕ) → IsSaid faults faults' told told' text true →
+    faults' ≤ faults'' → HasRisen faults' faults'' → IsFrontMore told' told'' piece
+    → IsSaid faults faults'' told told'' (text ++ piece) false
 said_part {told} {text} piece said count risen wrote = record {
   count = omega (arith, said.count, count);
   all = λ e. absurd (true≢false (sym e));

@@ -31,7 +31,8 @@ none_equal c text none = All-weaker (λ b. b ≢ c) (λ b. (b == c) ≡ false) (
 pub split_none : (c : ℕ) (text : List ℕ) → HasNo c text → split c text ≡ text ∷ []
 split_none c text none = slice_split_none (λ b. b == c) text (none_equal c text none)
 
-pub split_at : (c : ℕ) (front rest : List ℕ) → (c == c) ≡ true → HasNo c front → split c (front ++ c ∷ rest) ≡ front ∷ split c rest
+pub split_at : (c : ℕ) (front rest : List ℕ) → (c == c) ≡ true → HasNo c front
+    → split c (front ++ c ∷ rest) ≡ front ∷ split c rest
 split_at c front rest same none = slice_split_at (λ b. b == c) front c rest (none_equal c front none) same
 
 -- numbers, each after a blank
@@ -41,7 +42,8 @@ AreShort numbers = All (λ n. n < 2 ^ 64) numbers
 no_blank : (n : ℕ) → n < 2 ^ 64 → HasNo 32 (decimal n)
 no_blank n short = not_in_decimal 32 n short (λ within. omega (arith, within.0))
 
-pub split_words : (word numbers : List ℕ) → HasNo 32 word → AreShort numbers → split 32 (word ++ flat_map number_text numbers) ≡ word ∷ map decimal numbers
+pub split_words : (word numbers : List ℕ) → HasNo 32 word → AreShort numbers
+    → split 32 (word ++ flat_map number_text numbers) ≡ word ∷ map decimal numbers
 split_words word [] none short = ap (split 32) (append-nil word) ∙ split_none 32 word none
 split_words word (n ∷ ns) none short =
     split_at 32 word (decimal n ++ flat_map number_text ns) refl none
@@ -49,7 +51,8 @@ split_words word (n ∷ ns) none short =
     (split_words (decimal n) ns (no_blank n (All-head (λ k. k < 2 ^ 64) n ns short)) (All-tail (λ k. k < 2 ^ 64) n ns short))
 
 -- numbers have no byte that is neither a digit nor a blank
-pub none_in_numbers : (c : ℕ) (numbers : List ℕ) → 32 ≢ c → ((n : ℕ) → n < 2 ^ 64 → HasNo c (decimal n)) → AreShort numbers → HasNo c (flat_map number_text numbers)
+pub none_in_numbers : (c : ℕ) (numbers : List ℕ) → 32 ≢ c → ((n : ℕ) → n < 2 ^ 64 → HasNo c (decimal n))
+    → AreShort numbers → HasNo c (flat_map number_text numbers)
 none_in_numbers c [] blank digits short = All-nil (λ b. b ≢ c)
 none_in_numbers c (n ∷ ns) blank digits short =
     All-cons (λ b. b ≢ c) 32 (decimal n ++ flat_map number_text ns) blank

@@ -18,7 +18,8 @@ use Rattle.turnstile.specs.Passes.{AllJoined, IsJoined, IsWholeList}
 use Rattle.turnstile.specs.Taken.{stands_as}
 use Rattle.turnstile.proofs.Live.{idle_free, one_at}
 
-at_joined : (joined : List Joined) (number : ℕ) → IsJoined joined number → (k : ℕ) × (j : Joined) × (get_elem? joined k ≡ some j) × (j.number ≡ number)
+at_joined : (joined : List Joined) (number : ℕ) → IsJoined joined number
+    → (k : ℕ) × (j : Joined) × (get_elem? joined k ≡ some j) × (j.number ≡ number)
 at_joined [] number h = absurd h
 at_joined (j ∷ rest) number (inl e) = (0, j, refl, e)
 at_joined (j ∷ rest) number (inr h) = let t = at_joined rest number h in (suc t.0, t.1, t.2, t.3)
@@ -40,14 +41,18 @@ module _ {B : Type 0} (entries : B → List Entry) (terms_of : B → Terms) (ter
   Rule = IsRuled entries terms_of terms
 
   -- who has joined all others finds the value at home
-  all_home : (s : State (Option B) View) (r : Rule s) (id : ℕ) (v : View) → get_elem? s.views id ≡ some v → HasAll v → IsHome entries terms_of terms r.log s
+  all_home : (s : State (Option B) View) (r : Rule s) (id : ℕ) (v : View) → get_elem? s.views id ≡ some v
+      → HasAll v → IsHome entries terms_of terms r.log s
   all_home s r id v at it = ⊎_elim (λ (h : IsHome entries terms_of terms r.log s). h)
       (λ (a : IsAway r.log s).
-      let other : id ≢ a.place = λ e. idle_free v.stage idle a.ticket (ap (λ (u : View). u.stage) (one_at s.views live.0 a.live.0 (sym e)) ∙ a.holds) in
+      let other : id ≢ a.place =
+      λ e. idle_free v.stage idle a.ticket (ap (λ (u : View). u.stage) (one_at s.views live.0 a.live.0 (sym e)) ∙ a.holds) in
       let apart = r.apart id a.place v a.holder other live a.live in
       let few = (r.each a.place a.holder a.live).few in
       let count = (r.each id v live).first head in
-      let some_one : 0 < a.holder.number = dite (ℕ_discrete a.holder.number 0) (λ e. absurd (apart.numbers (head ∙ sym e))) (λ (ne : a.holder.number ≢ 0). omega arith) in
+      let some_one : 0 < a.holder.number =
+      dite (ℕ_discrete a.holder.number 0) (λ e. absurd (apart.numbers (head ∙ sym e)))
+      (λ (ne : a.holder.number ≢ 0). omega arith) in
       let j = at_joined v.joined a.holder.number (all.each a.holder.number some_one (omega arith)) in
       absurd (apart.past j.0 j.1 j.2 j.3))
       r.where_is
@@ -75,7 +80,9 @@ module _ {B : Type 0} (entries : B → List Entry) (terms_of : B → Terms) (ter
         whole = record {
           seen = subst (IsPrefix v.seen) (sym h.log_is) f.seen;
           mine = f.mine ∙ ap (made_by v.number) (sym h.log_is);
-          joined = λ i d inside. let p = f.past i (get_or v.joined i d) (at_index v.joined i d inside) in p.mine ∙ ap (made_by (get_or v.joined i d).number) (sym h.log_is);
+          joined = λ i d inside. let p =
+              f.past i (get_or v.joined i d) (at_index v.joined i d inside) in p.mine
+              ∙ ap (made_by (get_or v.joined i d).number) (sym h.log_is);
           others = λ m more. ap (made_by m) h.log_is ∙ r.makers m (omega arith);
         };
       }

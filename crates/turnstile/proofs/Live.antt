@@ -66,7 +66,8 @@ pub one_at : {A : Type 0} {i j : ℕ} {a b : A} (l : List A) → get_elem? l i �
 one_at {a} {b} l at bt e = some-injective a b (sym at ∙ (ap (get_elem? l) (sym e) ∙ bt))
 
 pub restage : {terms : Terms} {log : List Entry} {count served drawn served' drawn' : ℕ} {v : View} {st : Stage}
-    → Fits terms log count served drawn v → InTurn served' drawn' st → Fits terms log count served' drawn' (record v { stage = st })
+    → Fits terms log count served drawn v → InTurn served' drawn' st
+    → Fits terms log count served' drawn' (record v { stage = st })
 restage f turn = record {
   terms_are = f.terms_are;
   told_terms = f.told_terms;
@@ -141,7 +142,8 @@ pub record GrownHolder {B : Type 0} (entries : B → List Entry) (me : Me (Optio
 -- another pass, once the list has an entry more
 pub longer_list : {terms : Terms} {log : List Entry} {count served drawn : ℕ} {u : View} (e : Entry)
     → Fits terms log count served drawn u → e.maker ≢ u.number
-    → ((k : ℕ) (j : Joined) → get_elem? u.joined k ≡ some j → e.maker ≢ j.number) → Fits terms (log ++ e ∷ []) count served drawn u
+    → ((k : ℕ) (j : Joined) → get_elem? u.joined k ≡ some j → e.maker ≢ j.number)
+    → Fits terms (log ++ e ∷ []) count served drawn u
 longer_list {log} {u} e f other past = record {
   terms_are = f.terms_are;
   told_terms = f.told_terms;
@@ -149,7 +151,8 @@ longer_list {log} {u} e f other past = record {
   told = f.told;
   mine = f.mine ∙ sym (made_other u.number log e other);
   own = f.own;
-  past = λ k j at. let p = f.past k j at in record { mine = p.mine ∙ sym (made_other j.number log e (past k j at)); few = p.few; other = p.other };
+  past = λ k j at. let p =
+      f.past k j at in record { mine = p.mine ∙ sym (made_other j.number log e (past k j at)); few = p.few; other = p.other };
   few = f.few;
   first = f.first;
   turn = f.turn;

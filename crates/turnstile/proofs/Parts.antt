@@ -23,13 +23,16 @@ use Rattle.turnstile.proofs.Live.{lives, waits_in, idle_free, Free, one_at, Each
 use Rattle.turnstile.proofs.Turning.{place_other}
 use Rattle.turnstile.proofs.Turning as step
 
-at_snoc : {A : Type 0} (l : List A) (a b : A) (j : ℕ) → get_elem? (l ++ a ∷ []) j ≡ some b → (get_elem? l j ≡ some b) ⊎ ((j ≡ length l) × (a ≡ b))
+at_snoc : {A : Type 0} (l : List A) (a b : A) (j : ℕ) → get_elem? (l ++ a ∷ []) j ≡ some b
+    → (get_elem? l j ≡ some b) ⊎ ((j ≡ length l) × (a ≡ b))
 at_snoc [] a b zero e = inr (refl, some-injective a b e)
 at_snoc [] a b (suc j) e = absurd (some-ne-none b (sym e))
 at_snoc (x ∷ xs) a b zero e = inl e
-at_snoc (x ∷ xs) a b (suc j) e = ⊎_elim (λ h. inl h) (λ (t : (j ≡ length xs) × (a ≡ b)). inr (let n = t.0 in omega arith, t.1)) (at_snoc xs a b j e)
+at_snoc (x ∷ xs) a b (suc j) e =
+    ⊎_elim (λ h. inl h) (λ (t : (j ≡ length xs) × (a ≡ b)). inr (let n = t.0 in omega arith, t.1)) (at_snoc xs a b j e)
 
-at_either : {A : Type 0} (xs ys : List A) (k : ℕ) (a : A) → get_elem? (xs ++ ys) k ≡ some a → (get_elem? xs k ≡ some a) ⊎ ((i : ℕ) × (get_elem? ys i ≡ some a))
+at_either : {A : Type 0} (xs ys : List A) (k : ℕ) (a : A) → get_elem? (xs ++ ys) k ≡ some a
+    → (get_elem? xs k ≡ some a) ⊎ ((i : ℕ) × (get_elem? ys i ≡ some a))
 at_either [] ys k a e = inr (k, e)
 at_either (x ∷ xs) ys zero a e = inl e
 at_either (x ∷ xs) ys (suc k) a e = at_either xs ys k a e
@@ -47,8 +50,10 @@ longer_seen : {b : Bool} {log : List Entry} (number : ℕ) (xs ys : List Entry) 
     → (b ≡ true → length xs ≤ length ys) → (b ≡ false → length ys ≤ length xs)
     → IsPrefix (cond b ys xs) log × IsPrefix (cond b xs ys) (cond b ys xs) × (made_by number (cond b ys xs) ≡ made_by number log)
 longer_seen {b = true} {log} number xs ys seen less more =
-    let h = prefix_shorter xs ys log seen.first seen.second (less refl) in (seen.second, h, made_between number xs h seen.second seen.own)
-longer_seen {b = false} {log} number xs ys seen less more = (seen.first, prefix_shorter ys xs log seen.second seen.first (more refl), seen.own)
+    let h = prefix_shorter xs ys log seen.first seen.second (less refl) in
+    (seen.second, h, made_between number xs h seen.second seen.own)
+longer_seen {b = false} {log} number xs ys seen less more =
+    (seen.first, prefix_shorter ys xs log seen.second seen.first (more refl), seen.own)
 
 -- a fact of each live pass, after one more has come
 live_push : (P : ℕ → View → Type 0) (views : List View) (x : View) → P (length views) x
@@ -70,7 +75,8 @@ live_split : (P : ℕ → View → Type 0) (split : Split) → P split.id split.
     → ((j : ℕ) (u : View) → j ≢ split.id → IsLive split.views j u → P j u)
     → EachLive P (set split.views split.id split.old ++ split.new ∷ [])
 live_split P split mine new others =
-    live_push P (set views id w) x (subst (λ (n : ℕ). P n x) (sym (length-set views id w)) new) (live_set P views id w mine others)
+    live_push P (set views id w) x (subst (λ (n : ℕ). P n x) (sym (length-set views id w)) new)
+    (live_set P views id w mine others)
   where
     open split use {views, id, old as w, new as x}
 
@@ -207,7 +213,8 @@ module _ {B : Type 0} (entries : B → List Entry) (terms_of : B → Terms) (ter
               told = f.told;
               mine = f.mine;
               own = f.own;
-              past = λ k j j_at. let p = f.past k j j_at in record { mine = p.mine; few = (let a = p.few in omega arith); other = p.other };
+              past = λ k j j_at. let p =
+                  f.past k j j_at in record { mine = p.mine; few = (let a = p.few in omega arith); other = p.other };
               few = (let a = f.few in omega arith);
               first = λ _. omega arith;
               turn = f.turn;
@@ -233,10 +240,16 @@ module _ {B : Type 0} (entries : B → List Entry) (terms_of : B → Terms) (ter
               tickets = λ t here there. absurd there;
               past = λ k j' k_at e. let p = f.past k j' k_at in let a = p.few in absurd (omega arith);
             })
-            (λ j z other l same. let a = r.apart id j v z same (at, left) l in record { numbers = a.numbers; tickets = a.tickets; past = a.past })
+            (λ j z other l same. let a =
+            r.apart id j v z same (at, left) l in record { numbers = a.numbers; tickets = a.tickets; past = a.past })
             j z lz ne)
             (λ ne. live_split (λ j z. length s.views ≢ j → Apart x z) split
-            (λ _. record { numbers = λ e. absurd (omega arith); tickets = λ t here there. absurd here; past = λ k j' e. absurd (none_there k j' e) })
+            (λ _. record {
+              numbers = λ e. absurd (omega arith);
+              tickets = λ t here there. absurd here;
+              past =
+                  λ k j' e. absurd (none_there k j' e);
+            })
             (λ same. absurd (same refl))
             (λ j z other l _. let g = r.each j z l in let a = g.few in record {
               numbers = λ e. absurd (omega arith);
@@ -245,7 +258,8 @@ module _ {B : Type 0} (entries : B → List Entry) (terms_of : B → Terms) (ter
             })
             j z lz ne)
             (λ i y other l ne. let g = r.each i y l in let a = g.few in live_split (λ j z. i ≢ j → Apart y z) split
-            (λ _. let b = r.apart i id y v other l (at, left) in record { numbers = b.numbers; tickets = b.tickets; past = b.past })
+            (λ _. let b =
+            r.apart i id y v other l (at, left) in record { numbers = b.numbers; tickets = b.tickets; past = b.past })
             (λ _. record {
               numbers = λ e. absurd (omega arith);
               tickets = λ t here there. absurd there;
@@ -256,7 +270,15 @@ module _ {B : Type 0} (entries : B → List Entry) (terms_of : B → Terms) (ter
             i y ly ne;
         where_is = place_push r.log (record { words = s.words; homes = s.homes; views = set s.views id w }) x refl
             (place_other entries terms_of terms r.log s
-            (record { id = id; old = v; new = w; live = (at, left); old_free = idle_free v.stage idle; new_free = idle_free v.stage idle })
+            (record {
+              id = id;
+              old = v;
+              new = w;
+              live = (at, left);
+              old_free =
+                  idle_free v.stage idle;
+              new_free = idle_free v.stage idle;
+            })
             s.words r.where_is);
       }
     where
@@ -267,8 +289,10 @@ module _ {B : Type 0} (entries : B → List Entry) (terms_of : B → Terms) (ter
       × (made_by two.view.number (longer_list two.view.seen two.other_view.seen) ≡ made_by two.view.number r.log)
   longest_of s r two = let f = r.each i v l in let g = r.each j w k in
       longer_seen v.number v.seen w.seen (record { first = f.seen; second = g.seen; own = sym f.own ∙ f.mine })
-      (λ e. dite (dec_le (length v.seen) (length w.seen)) (λ le. le) (λ no_le. absurd (true≢false (sym e ∙ le-ltb _ _ (omega arith)))))
-      (λ e. dite (dec_le (length w.seen) (length v.seen)) (λ le. le) (λ no_le. absurd (true≢false (sym (lt-ltb _ _ (omega arith)) ∙ e))))
+      (λ e. dite (dec_le (length v.seen) (length w.seen)) (λ le. le)
+      (λ no_le. absurd (true≢false (sym e ∙ le-ltb _ _ (omega arith)))))
+      (λ e. dite (dec_le (length w.seen) (length v.seen)) (λ le. le)
+      (λ no_le. absurd (true≢false (sym (lt-ltb _ _ (omega arith)) ∙ e))))
     where
       open two use {id as i, other as j, view as v, other_view as w, live as l, other_live as k}
 
@@ -280,14 +304,17 @@ module _ {B : Type 0} (entries : B → List Entry) (terms_of : B → Terms) (ter
     home = h.home;
     log_is = h.log_is;
     terms_are = h.terms_are;
-    free = live_join (λ _ u. Free u.stage) (record { views = s.views; id = id; other = other; joined = b; remnant = x; gone = gone })
+    free = live_join (λ _ u. Free u.stage)
+        (record { views = s.views; id = id; other = other; joined = b; remnant = x; gone = gone })
         (idle_free b.stage bidle) (λ j u _ _ l. h.free j u l);
   }
     where
       open join use {two.{id, other}, joined as b, joined_idle as bidle, remnant as x, gone}
   place_join s log join (inr a) =
-      let one : a.place ≢ id = λ e. idle_free v.stage idle a.ticket (ap (λ (u : View). u.stage) (one_at s.views live.0 a.live.0 e) ∙ a.holds) in
-      let two : a.place ≢ other = λ e. idle_free w.stage widle a.ticket (ap (λ (u : View). u.stage) (one_at s.views wlive.0 a.live.0 e) ∙ a.holds) in
+      let one : a.place ≢ id =
+      λ e. idle_free v.stage idle a.ticket (ap (λ (u : View). u.stage) (one_at s.views live.0 a.live.0 e) ∙ a.holds) in
+      let two : a.place ≢ other =
+      λ e. idle_free w.stage widle a.ticket (ap (λ (u : View). u.stage) (one_at s.views wlive.0 a.live.0 e) ∙ a.holds) in
       inr record {
         home = a.home;
         place = a.place;
@@ -298,7 +325,13 @@ module _ {B : Type 0} (entries : B → List Entry) (terms_of : B → Terms) (ter
         all = a.all;
       }
     where
-      open join use {two.{id, other, view as v, other_view as w, live, other_live as wlive}, idle, other_idle as widle, joined as b, remnant as x}
+      open join use {
+        two.{id, other, view as v, other_view as w, live, other_live as wlive},
+        idle,
+        other_idle as widle,
+        joined as b,
+        remnant as x,
+      }
 
   fits_join : (s : St) (r : Rule s) (two : TwoLive s.views) → two.other ≢ two.id
       → Fits terms r.log r.count r.served r.drawn (view_after_join two.view two.other_view)
@@ -336,7 +369,8 @@ module _ {B : Type 0} (entries : B → List Entry) (terms_of : B → Terms) (ter
       let two : TwoLive s.views = record { id = id; other = other; view = v; other_view = w; live = live; other_live = wlive } in
       let join : Join = record { views = s.views; id = id; other = other; joined = b; remnant = x; gone = refl } in
       let sums = total_set pass_count s.views id v b at in let sums' = total_set pass_count (set s.views id b) other w x wat in
-      let queues = total_set ticket_count s.views id v b at in let queues' = total_set ticket_count (set s.views id b) other w x wat in
+      let queues = total_set ticket_count s.views id v b at in let queues' =
+      total_set ticket_count (set s.views id b) other w x wat in
       let q0 : ticket_count v ≡ ticket_count b = refl in let a0 : pass_count v ≡ pass_count b = refl in
       let q1 : ticket_count w ≡ 0 = waits_in w wleft ∙ ap has_ticket widle in let a1 : pass_count w ≡ 1 = lives w wleft in
       let queue = r.queue in let passes = r.passes in record {
@@ -354,7 +388,8 @@ module _ {B : Type 0} (entries : B → List Entry) (terms_of : B → Terms) (ter
         apart = λ i j y z ne ly lz. live_join (λ i y. i ≢ j → Apart y z) join
             (λ ne. live_join (λ j z. id ≢ j → Apart b z) join
             (λ same. absurd (same refl))
-            (λ j z one two l same. apart_join v w z (r.apart id j v z same live l) (r.apart other j w z (λ e. two (sym e)) wlive l))
+            (λ j z one two l same. apart_join v w z (r.apart id j v z same live l)
+            (r.apart other j w z (λ e. two (sym e)) wlive l))
             j z lz ne)
             (λ i y one two l ne. live_join (λ j z. i ≢ j → Apart y z) join
             (λ _. let a = r.apart i id y v one l live in record { numbers = a.numbers; tickets = a.tickets; past = a.past })
@@ -362,13 +397,24 @@ module _ {B : Type 0} (entries : B → List Entry) (terms_of : B → Terms) (ter
             j z lz ne)
             i y ly ne;
         where_is = place_join s r.log
-            (record { two = two; apart = apart; idle = idle; other_idle = widle; joined = b; joined_idle = idle; remnant = x; gone = refl }) r.where_is;
+            (record {
+              two = two;
+              apart = apart;
+              idle = idle;
+              other_idle = widle;
+              joined = b;
+              joined_idle =
+                  idle;
+              remnant = x;
+              gone = refl;
+            }) r.where_is;
       }
     where
       open rest use {left, idle}
       open other_rest use {left as wleft, idle as widle}
 
-  pub starts : (value : B) → entries value ≡ [] → terms_of value ≡ terms → Rule (opening (0 ∷ 0 ∷ 0 ∷ []) (Some value ∷ []) (first_view terms))
+  pub starts : (value : B) → entries value ≡ [] → terms_of value ≡ terms
+      → Rule (opening (0 ∷ 0 ∷ 0 ∷ []) (Some value ∷ []) (first_view terms))
   starts value empty same = record {
     log = [];
     count = 0;

@@ -26,28 +26,36 @@ prefix_shorter (x ∷ xs) (y ∷ ys) (z ∷ zs) p q le =
     let rest = prefix_shorter xs ys zs (p.0, cc (p.1)) (q.0, cc (q.1)) (omega arith) in
     (rest.0, cc (heads, rest.1))
 
-made_put : (b : Bool) (m : Placed) (xs ys : List Placed) → (if b then (m ∷ xs) else xs) ++ ys ≡ (if b then (m ∷ (xs ++ ys)) else (xs ++ ys))
+made_put : (b : Bool) (m : Placed) (xs ys : List Placed)
+    → (if b then (m ∷ xs) else xs) ++ ys ≡ (if b then (m ∷ (xs ++ ys)) else (xs ++ ys))
 made_put true m xs ys = refl
 made_put false m xs ys = refl
 
-pub made_more : (maker place : ℕ) (xs ys : List Entry) → made_from place maker (xs ++ ys) ≡ made_from place maker xs ++ made_from (place + length xs) maker ys
+pub made_more : (maker place : ℕ) (xs ys : List Entry)
+    → made_from place maker (xs ++ ys) ≡ made_from place maker xs ++ made_from (place + length xs) maker ys
 made_more maker place [] ys = ap (λ (k : ℕ). made_from k maker ys) (omega arith)
 made_more maker place (x ∷ xs) ys =
-    let rest : made_from (place + 1) maker (xs ++ ys) ≡ made_from (place + 1) maker xs ++ made_from (place + length (x ∷ xs)) maker ys =
+    let rest : made_from (place + 1) maker (xs ++ ys)
+    ≡ made_from (place + 1) maker xs ++ made_from (place + length (x ∷ xs)) maker ys =
     made_more maker (place + 1) xs ys ∙ ap (λ (k : ℕ). made_from (place + 1) maker xs ++ made_from k maker ys) (omega arith) in
     ap (λ (zs : List Placed). if x.maker == maker then (record { place = place; entry = x } ∷ zs) else zs) rest
-    ∙ sym (made_put (x.maker == maker) (record { place = place; entry = x }) (made_from (place + 1) maker xs) (made_from (place + length (x ∷ xs)) maker ys))
+    ∙ sym (made_put (x.maker == maker) (record { place = place; entry = x }) (made_from (place + 1) maker xs)
+    (made_from (place + length (x ∷ xs)) maker ys))
 
 made_tail : (maker place : ℕ) (e : Entry) → e.maker ≢ maker → made_from place maker (e ∷ []) ≡ []
-made_tail maker place e other = ap (λ (b : Bool). if b then (record { place = place; entry = e } ∷ []) else []) (ne_eqb e.maker maker other)
+made_tail maker place e other =
+    ap (λ (b : Bool). if b then (record { place = place; entry = e } ∷ []) else []) (ne_eqb e.maker maker other)
 
 -- an entry of another leaves what a maker has made
 pub made_other : (maker : ℕ) (log : List Entry) (e : Entry) → e.maker ≢ maker → made_by maker (log ++ e ∷ []) ≡ made_by maker log
 made_other maker log e other =
-    made_more maker 0 log (e ∷ []) ∙ (ap (λ (zs : List Placed). made_from 0 maker log ++ zs) (made_tail maker (0 + length log) e other) ∙ append-nil (made_by maker log))
+    made_more maker 0 log (e ∷ [])
+    ∙ (ap (λ (zs : List Placed). made_from 0 maker log ++ zs) (made_tail maker (0 + length log) e other)
+    ∙ append-nil (made_by maker log))
 
 -- an entry of its own is the next
-pub made_own : (maker : ℕ) (log : List Entry) (e : Entry) → e.maker ≡ maker → made_by maker (log ++ e ∷ []) ≡ made_by maker log ++ record { place = length log; entry = e } ∷ []
+pub made_own : (maker : ℕ) (log : List Entry) (e : Entry) → e.maker ≡ maker
+    → made_by maker (log ++ e ∷ []) ≡ made_by maker log ++ record { place = length log; entry = e } ∷ []
 made_own maker log e own =
     let last : made_from (0 + length log) maker (e ∷ []) ≡ record { place = length log; entry = e } ∷ [] =
     ap (λ (b : Bool). if b then (record { place = 0 + length log; entry = e } ∷ []) else []) (eq-eqb e.maker maker own)
@@ -61,7 +69,8 @@ nothing_first (x ∷ xs) ys e = absurd cc
 -- who has made nothing has made nothing in a beginning
 pub made_nothing : (maker : ℕ) (xs log : List Entry) → IsPrefix xs log → made_by maker log ≡ [] → made_by maker xs ≡ []
 made_nothing maker xs log p none =
-    nothing_first (made_by maker xs) (made_from (0 + length xs) maker p.0) (sym (made_more maker 0 xs p.0) ∙ (ap (made_by maker) p.1 ∙ none))
+    nothing_first (made_by maker xs) (made_from (0 + length xs) maker p.0)
+    (sym (made_more maker 0 xs p.0) ∙ (ap (made_by maker) p.1 ∙ none))
 
 no_more : {A : Type 0} (xs ys : List A) → xs ++ ys ≡ xs → ys ≡ []
 no_more xs ys e = append_cancel_left xs ys [] (e ∙ sym (append-nil xs))
@@ -71,7 +80,8 @@ nothing_last [] ys e = e
 nothing_last (x ∷ xs) ys e = absurd cc
 
 -- who has made as much at the end as at the beginning has made that much in between
-pub made_between : {ys log : List Entry} (maker : ℕ) (xs : List Entry) → IsPrefix xs ys → IsPrefix ys log → made_by maker xs ≡ made_by maker log → made_by maker ys ≡ made_by maker log
+pub made_between : {ys log : List Entry} (maker : ℕ) (xs : List Entry) → IsPrefix xs ys → IsPrefix ys log
+    → made_by maker xs ≡ made_by maker log → made_by maker ys ≡ made_by maker log
 made_between {ys} {log} maker xs p q same =
     let a : List Placed = made_from (0 + length xs) maker p.0 in let b : List Placed = made_from (0 + length ys) maker q.0 in
     let mid : made_by maker ys ≡ made_by maker xs ++ a = ap (made_by maker) (sym p.1) ∙ made_more maker 0 xs p.0 in

@@ -7,7 +7,8 @@ use Rattle.turnstile.specs.declared.view.Stage.{Stage}
 use Rattle.turnstile.specs.declared.view.Stage.TheVariants.{Idle, Waits, Holds}
 use Rattle.turnstile.specs.Turns.{total, pass_count, ticket_count, has_ticket}
 
-pub total_set : (f : View → ℕ) (views : List View) (i : ℕ) (v w : View) → get_elem? views i ≡ some v → total f (set views i w) + f v ≡ total f views + f w
+pub total_set : (f : View → ℕ) (views : List View) (i : ℕ) (v w : View) → get_elem? views i ≡ some v
+    → total f (set views i w) + f v ≡ total f views + f w
 total_set f [] i v w at = absurd (some-ne-none v (sym at))
 total_set f (x ∷ xs) zero v w at = let e : f x ≡ f v = ap f (some-injective x v at) in omega arith
 total_set f (x ∷ xs) (suc i) v w at = let e = total_set f xs i v w at in omega arith
@@ -27,4 +28,5 @@ cond_below false n le = le
 
 pub tickets_total : (views : List View) → total ticket_count views ≤ total pass_count views
 tickets_total [] = omega arith
-tickets_total (v ∷ rest) = let e = tickets_total rest in let b : ticket_count v ≤ pass_count v = cond_below v.spent (has_ticket v.stage) (ticket_small v.stage) in omega arith
+tickets_total (v ∷ rest) = let e = tickets_total rest in let b : ticket_count v ≤ pass_count v =
+    cond_below v.spent (has_ticket v.stage) (ticket_small v.stage) in omega arith

@@ -51,10 +51,12 @@ module _ {B : Type 0} (entries : B → List Entry) (terms_of : B → Terms) (ter
     pub queue : served + total ticket_count (set s.views id new) ≡ drawn
     pub makers : (m : ℕ) → r.count < m → made_by m log ≡ []
     pub fits : Fits terms log r.count served drawn new
-    pub others : (j : ℕ) (u : View) → j ≢ id → IsLive s.views j u → Fits terms log r.count served drawn u × Apart new u × Apart u new
+    pub others : (j : ℕ) (u : View) → j ≢ id → IsLive s.views j u
+        → Fits terms log r.count served drawn u × Apart new u × Apart u new
     pub place : Place log record { words = words; homes = homes; views = set s.views id new }
 
-  pub changes : (s : St) (r : Rule s) (c : Change s r) → Rule record { words = c.words; homes = c.homes; views = set s.views c.id c.new }
+  pub changes : (s : St) (r : Rule s) (c : Change s r)
+      → Rule record { words = c.words; homes = c.homes; views = set s.views c.id c.new }
   changes s r c = record {
     log = log;
     count = r.count;
@@ -64,12 +66,15 @@ module _ {B : Type 0} (entries : B → List Entry) (terms_of : B → Terms) (ter
     few = r.few;
     queue = queue;
     passes =
-        (let e = total_set pass_count s.views id v w live.0 in let a = lives v live.1 in let b = lives w left in let p = r.passes in omega arith);
+        (let e = total_set pass_count s.views id v w live.0 in let a = lives v live.1 in let b =
+        lives w left in let p = r.passes in omega arith);
     makers = makers;
     each = live_set (λ _ u. Fits terms log r.count served drawn u) s.views id w fits (λ j u other l. (others j u other l).0);
     apart = λ i j x y ne lx ly. live_set (λ i x. i ≢ j → Apart x y) s.views id w
-        (λ ne. live_set (λ j y. id ≢ j → Apart w y) s.views id w (λ same. absurd (same refl)) (λ j y other l _. (others j y other l).1) j y ly ne)
-        (λ i x other l ne. live_set (λ j y. i ≢ j → Apart x y) s.views id w (λ _. (others i x other l).2) (λ j y _ k ne. r.apart i j x y ne l k) j y ly ne)
+        (λ ne. live_set (λ j y. id ≢ j → Apart w y) s.views id w (λ same. absurd (same refl))
+        (λ j y other l _. (others j y other l).1) j y ly ne)
+        (λ i x other l ne. live_set (λ j y. i ≢ j → Apart x y) s.views id w (λ _. (others i x other l).2)
+        (λ j y _ k ne. r.apart i j x y ne l k) j y ly ne)
         i x lx ne;
     where_is = place;
   }
@@ -88,7 +93,8 @@ module _ {B : Type 0} (entries : B → List Entry) (terms_of : B → Terms) (ter
     where
       open c use {id, new as w, new_free as next}
   place_other log s c words (inr a) =
-      let other : a.place ≢ id = λ e. idle a.ticket (ap (λ (u : View). u.stage) (one_at s.views live.0 a.live.0 e) ∙ a.holds) in inr record {
+      let other : a.place ≢ id =
+      λ e. idle a.ticket (ap (λ (u : View). u.stage) (one_at s.views live.0 a.live.0 e) ∙ a.holds) in inr record {
         home = a.home;
         place = a.place;
         holder = a.holder;
@@ -107,11 +113,17 @@ module _ {B : Type 0} (entries : B → List Entry) (terms_of : B → Terms) (ter
 
   pub tells : (id slots : ℕ) (me : Me (Option B) View) → me.0.spent ≡ false
       → Allows Rule slots id me 0 (λ n. n) (λ n next. (next ≡ me) × Knows me.0)
-  tells id slots me left s r deep at low = let f = r.each id me.0 (at, left) in
-      (me.0, keeps, tt, unmoved s r 0 id me.0 at, (refl, record { own = f.own; told = f.told; terms = f.told_terms ∙ sym f.terms_are }))
+  tells id slots me left s r deep at low = let f = r.each id me.0 (at, left) in (
+    me.0,
+    keeps,
+    tt,
+    unmoved s r 0 id me.0 at,
+    (refl, record { own = f.own; told = f.told; terms = f.told_terms ∙ sym f.terms_are }),
+  )
 
   pub draws : (id slots : ℕ) (me : Me (Option B) View) → IsFree me
-      → Allows Rule slots id me 0 (λ n. (n + 1) % 2 ^ 64) (λ n next. (t : ℕ) × (n ≡ t % 2 ^ 64) × (next.0 ≡ record me.0 { stage = Waits t }) × (next.1 ≡ []))
+      → Allows Rule slots id me 0 (λ n. (n + 1) % 2 ^ 64)
+      (λ n next. (t : ℕ) × (n ≡ t % 2 ^ 64) × (next.0 ≡ record me.0 { stage = Waits t }) × (next.1 ≡ []))
   draws id slots me it s r deep at low =
       let v = me.0 in let w : View = record v { stage = Waits r.drawn } in let f = r.each id v (at, left) in
       let q0 : ticket_count v ≡ 0 = waits_in v left ∙ ap has_ticket idle in
@@ -132,17 +144,39 @@ module _ {B : Type 0} (entries : B → List Entry) (terms_of : B → Terms) (ter
           served = r.served;
           words = set s.words 0 ((get_or s.words 0 0 + 1) % 2 ^ 64);
           homes = s.homes;
-          words_are = ap (λ (ws : List ℕ). set ws 0 ((get_or ws 0 0 + 1) % 2 ^ 64)) r.words ∙ ap (λ (k : ℕ). k ∷ r.served % 2 ^ 64 ∷ length r.log % 2 ^ 64 ∷ []) (omega arith);
+          words_are = ap (λ (ws : List ℕ). set ws 0 ((get_or ws 0 0 + 1) % 2 ^ 64)) r.words
+              ∙ ap (λ (k : ℕ). k ∷ r.served % 2 ^ 64 ∷ length r.log % 2 ^ 64 ∷ []) (omega arith);
           queue = omega arith;
           makers = r.makers;
           fits = restage f (omega arith, omega arith);
-          others = λ j u other l. let g = r.each j u l in let a = r.apart id j v u (λ e. other (sym e)) (at, left) l in let b = r.apart j id u v other l (at, left) in (
-            refit g (turn_more r.served r.drawn u.stage g.turn),
-            record { numbers = a.numbers; tickets = λ t here there. let h = ticket_low r.served r.drawn t u.stage g.turn there in let e : r.drawn ≡ t = here in let z = h.1 in omega arith; past = a.past },
-            record { numbers = b.numbers; tickets = λ t there here. let h = ticket_low r.served r.drawn t u.stage g.turn there in let e : r.drawn ≡ t = here in let z = h.1 in omega arith; past = b.past },
-          );
+          others = λ j u other l. let g = r.each j u l in let a =
+              r.apart id j v u (λ e. other (sym e)) (at, left) l in let b = r.apart j id u v other l (at, left) in (
+                refit g (turn_more r.served r.drawn u.stage g.turn),
+                record {
+                  numbers = a.numbers;
+                  tickets = λ t here there. let h =
+                      ticket_low r.served r.drawn t u.stage g.turn there in let e : r.drawn ≡ t = here in let z =
+                      h.1 in omega arith;
+                  past = a.past;
+                },
+                record {
+                  numbers = b.numbers;
+                  tickets = λ t there here. let h =
+                      ticket_low r.served r.drawn t u.stage g.turn there in let e : r.drawn ≡ t = here in let z =
+                      h.1 in omega arith;
+                  past = b.past;
+                },
+              );
           place = place_other r.log s
-              (record { id = id; old = v; new = w; live = (at, left); old_free = idle_free v.stage idle; new_free = waits_free w.stage r.drawn refl })
+              (record {
+                id = id;
+                old = v;
+                new = w;
+                live = (at, left);
+                old_free =
+                    idle_free v.stage idle;
+                new_free = waits_free w.stage r.drawn refl;
+              })
               (set s.words 0 ((get_or s.words 0 0 + 1) % 2 ^ 64)) r.where_is;
         }),
         (r.drawn, ap (λ (ws : List ℕ). get_or ws 0 0) r.words, refl, free),
@@ -155,10 +189,13 @@ module _ {B : Type 0} (entries : B → List Entry) (terms_of : B → Terms) (ter
       → IsHome entries terms_of terms r.log s
   at_home s r waiter now = ⊎_elim (λ (h : IsHome entries terms_of terms r.log s). h)
       (λ (a : IsAway r.log s).
-      let other : id ≢ a.place = λ e. waits_free v.stage t is a.ticket (ap (λ (u : View). u.stage) (one_at s.views live.0 a.live.0 (sym e)) ∙ a.holds) in
+      let other : id ≢ a.place =
+      λ e. waits_free v.stage t is a.ticket (ap (λ (u : View). u.stage) (one_at s.views live.0 a.live.0 (sym e)) ∙ a.holds) in
       let apart = r.apart id a.place v a.holder other live a.live in
-      let turn : InTurn r.served r.drawn (Holds a.ticket) = subst (InTurn r.served r.drawn) a.holds (r.each a.place a.holder a.live).turn in
-      absurd (apart.tickets r.served (subst (λ (st : Stage). IsTicket st r.served) (sym is) now) (subst (λ (st : Stage). IsTicket st r.served) (sym a.holds) turn.0)))
+      let turn : InTurn r.served r.drawn (Holds a.ticket) =
+      subst (InTurn r.served r.drawn) a.holds (r.each a.place a.holder a.live).turn in
+      absurd (apart.tickets r.served (subst (λ (st : Stage). IsTicket st r.served) (sym is) now)
+      (subst (λ (st : Stage). IsTicket st r.served) (sym a.holds) turn.0)))
       r.where_is
     where
       open waiter use {id, view as v, live, ticket as t, waits as is}
@@ -172,7 +209,8 @@ module _ {B : Type 0} (entries : B → List Entry) (terms_of : B → Terms) (ter
   took s r waiter h now =
       let at = waiter.live.0 in let left = waiter.live.1 in
       let w : View = record v { stage = Holds t; seen = entries h.value } in let f = r.each id v (at, left) in
-      let low : (r.served ≤ t) × (t < r.drawn) = ticket_low r.served r.drawn t v.stage f.turn (subst (λ (st : Stage). IsTicket st t) (sym is) refl) in
+      let low : (r.served ≤ t) × (t < r.drawn) =
+      ticket_low r.served r.drawn t v.stage f.turn (subst (λ (st : Stage). IsTicket st t) (sym is) refl) in
       let q0 : ticket_count v ≡ 1 = waits_in v left ∙ ap has_ticket is in
       let q1 : ticket_count w ≡ 1 = waits_in w left in
       let sums = total_set ticket_count s.views id v w at in
@@ -204,11 +242,22 @@ module _ {B : Type 0} (entries : B → List Entry) (terms_of : B → Terms) (ter
           first = f.first;
           turn = (now, drawn);
         };
-        others = λ j u other l. let g = r.each j u l in let a = r.apart id j v u (λ e. other (sym e)) (at, left) l in let b = r.apart j id u v other l (at, left) in (
-          g,
-          record { numbers = a.numbers; tickets = λ x here there. a.tickets x (subst (λ (st : Stage). IsTicket st x) (sym is) here) there; past = a.past },
-          record { numbers = b.numbers; tickets = λ x there here. b.tickets x there (subst (λ (st : Stage). IsTicket st x) (sym is) here); past = b.past },
-        );
+        others = λ j u other l. let g = r.each j u l in let a =
+            r.apart id j v u (λ e. other (sym e)) (at, left) l in let b = r.apart j id u v other l (at, left) in (
+              g,
+              record {
+                numbers = a.numbers;
+                tickets =
+                    λ x here there. a.tickets x (subst (λ (st : Stage). IsTicket st x) (sym is) here) there;
+                past = a.past;
+              },
+              record {
+                numbers = b.numbers;
+                tickets =
+                    λ x there here. b.tickets x there (subst (λ (st : Stage). IsTicket st x) (sym is) here);
+                past = b.past;
+              },
+            );
         place = inr record {
           home = ap (λ (hs : Homes). set hs 0 none) h.home;
           place = id;
@@ -223,11 +272,13 @@ module _ {B : Type 0} (entries : B → List Entry) (terms_of : B → Terms) (ter
       open waiter use {id, view as v, ticket as t, waits as is}
 
   pub looks : (id slots : ℕ) (me : Me (Option B) View) → EmptyWaiter me
-      → Allows Rule slots id me 1 (λ n. n) (λ n next. (u : ℕ) → me.0.stage ≡ Waits u → (n ≡ u % 2 ^ 64 → Took entries terms_of u me next) × (n ≢ u % 2 ^ 64 → next ≡ me))
+      → Allows Rule slots id me 1 (λ n. n) (λ n next. (u : ℕ) → me.0.stage ≡ Waits u
+      → (n ≡ u % 2 ^ 64 → Took entries terms_of u me next) × (n ≢ u % 2 ^ 64 → next ≡ me))
   looks id slots me it s r deep at low =
       let v = me.0 in let f = r.each id v (at, left) in
       let word : get_or s.words 1 0 ≡ r.served % 2 ^ 64 = ap (λ (ws : List ℕ). get_or ws 1 0) r.words in
-      let here : (r.served ≤ t) × (t < r.drawn) = ticket_low r.served r.drawn t v.stage f.turn (subst (λ (st : Stage). IsTicket st t) (sym is) refl) in
+      let here : (r.served ≤ t) × (t < r.drawn) =
+      ticket_low r.served r.drawn t v.stage f.turn (subst (λ (st : Stage). IsTicket st t) (sym is) refl) in
       let queue = r.queue in let few = r.few in let passes = r.passes in let less = tickets_total s.views in
       let first = here.0 in let drawn = here.1 in
       dite (ℕ_discrete (get_or s.words 1 0) (t % 2 ^ 64))
@@ -272,9 +323,13 @@ module _ {B : Type 0} (entries : B → List Entry) (terms_of : B → Terms) (ter
       let turn : InTurn r.served r.drawn (Holds t) = subst (InTurn r.served r.drawn) is (r.each id v live).turn in ⊎_elim
       (λ (h : IsHome entries terms_of terms r.log s). absurd (h.free id v live t is))
       (λ (a : IsAway r.log s).
-      let theirs : InTurn r.served r.drawn (Holds a.ticket) = subst (InTurn r.served r.drawn) a.holds (r.each a.place a.holder a.live).turn in
-      let same : a.place ≡ id = dite (ℕ_discrete a.place id) (λ e. e) (λ (ne : a.place ≢ id). absurd ((r.apart a.place id a.holder v ne a.live live).tickets r.served
-      (subst (λ (st : Stage). IsTicket st r.served) (sym a.holds) theirs.0) (subst (λ (st : Stage). IsTicket st r.served) (sym is) turn.0))) in
+      let theirs : InTurn r.served r.drawn (Holds a.ticket) =
+      subst (InTurn r.served r.drawn) a.holds (r.each a.place a.holder a.live).turn in
+      let same : a.place ≡ id =
+      dite (ℕ_discrete a.place id) (λ e. e)
+      (λ (ne : a.place ≢ id). absurd ((r.apart a.place id a.holder v ne a.live live).tickets r.served
+      (subst (λ (st : Stage). IsTicket st r.served) (sym a.holds) theirs.0)
+      (subst (λ (st : Stage). IsTicket st r.served) (sym is) turn.0))) in
       (a.home, ap (λ (u : View). u.seen) (one_at s.views live.0 a.live.0 same) ∙ a.all, turn.0, turn.1))
       r.where_is
     where
@@ -284,7 +339,9 @@ module _ {B : Type 0} (entries : B → List Entry) (terms_of : B → Terms) (ter
       → Rule record {
         words = set s.words 2 ((get_or s.words 2 0 + 1) % 2 ^ 64);
         homes = s.homes;
-        views = set s.views holder.id (record holder.view { seen = holder.view.seen ++ e ∷ []; mine = made_by holder.view.number (holder.view.seen ++ e ∷ []) });
+        views = set s.views holder.id
+            (record holder.view
+            { seen = holder.view.seen ++ e ∷ []; mine = made_by holder.view.number (holder.view.seen ++ e ∷ []) });
       }
   raised s r holder e own =
       let w : View = record v { seen = v.seen ++ e ∷ []; mine = made_by v.number (v.seen ++ e ∷ []) } in
@@ -316,16 +373,24 @@ module _ {B : Type 0} (entries : B → List Entry) (terms_of : B → Terms) (ter
           told = prefix_longer v.told v.seen (e ∷ []) f.told;
           mine = ap (made_by v.number) all;
           own = refl;
-          past = λ k j at. let p = f.past k j at in record { mine = p.mine ∙ sym (made_other j.number r.log e (λ same. p.other (sym same ∙ own))); few = p.few; other = p.other };
+          past = λ k j at. let p =
+              f.past k j at in
+              record {
+                mine =
+                    p.mine ∙ sym (made_other j.number r.log e (λ same. p.other (sym same ∙ own)));
+                few = p.few;
+                other = p.other;
+              };
           few = f.few;
           first = f.first;
           turn = f.turn;
         };
-        others = λ j u other l. let g = r.each j u l in let a = r.apart id j v u (λ z. other (sym z)) live l in let b = r.apart j id u v other l live in (
-          longer_list e g (λ same. a.numbers (sym own ∙ same)) (λ k j' at same. b.past k j' at (sym same ∙ own)),
-          record { numbers = a.numbers; tickets = a.tickets; past = a.past },
-          record { numbers = b.numbers; tickets = b.tickets; past = b.past },
-        );
+        others = λ j u other l. let g = r.each j u l in let a =
+            r.apart id j v u (λ z. other (sym z)) live l in let b = r.apart j id u v other l live in (
+              longer_list e g (λ same. a.numbers (sym own ∙ same)) (λ k j' at same. b.past k j' at (sym same ∙ own)),
+              record { numbers = a.numbers; tickets = a.tickets; past = a.past },
+              record { numbers = b.numbers; tickets = b.tickets; past = b.past },
+            );
         place = inr record {
           home = h.0;
           place = id;
@@ -341,7 +406,8 @@ module _ {B : Type 0} (entries : B → List Entry) (terms_of : B → Terms) (ter
 
   pub raises : (id slots : ℕ) (me : Me (Option B) View) → GrownHolder entries me
       → Allows Rule slots id me 2 (λ n. (n + 1) % 2 ^ 64)
-      (λ n next. (next.0 ≡ record me.0 { seen = slot_list entries me.1; mine = made_by me.0.number (slot_list entries me.1) }) × (next.1 ≡ me.1))
+      (λ n next. (next.0
+      ≡ record me.0 { seen = slot_list entries me.1; mine = made_by me.0.number (slot_list entries me.1) }) × (next.1 ≡ me.1))
   raises id slots me it s r deep at low = (
     record me.0 { seen = me.0.seen ++ e ∷ []; mine = made_by me.0.number (me.0.seen ++ e ∷ []) },
     keeps,
@@ -356,13 +422,15 @@ module _ {B : Type 0} (entries : B → List Entry) (terms_of : B → Terms) (ter
       → entries value ≡ me.0.seen → terms_of value ≡ me.0.terms
       → Allows Rule slots id me 1 (λ n. (n + 1) % 2 ^ 64) (λ n next. (next.0 ≡ record me.0 { stage = Idle }) × (next.1 ≡ []))
   leaves id slots me {value} it list same s r deep at low =
-      let v = me.0 in let w : View = record v { stage = Idle } in let f = r.each id v (at, left) in let h = holder_here s r (record { id = id; view = v; live = (at, left); ticket = number; holds = is }) in
+      let v = me.0 in let w : View = record v { stage = Idle } in let f = r.each id v (at, left) in let h =
+      holder_here s r (record { id = id; view = v; live = (at, left); ticket = number; holds = is }) in
       let q0 : ticket_count v ≡ 1 = waits_in v left ∙ ap has_ticket is in
       let q1 : ticket_count w ≡ 0 = waits_in w left in
       let sums = total_set ticket_count s.views id v w at in
       let queue = r.queue in
       let not_now : (j : ℕ) (u : View) → j ≢ id → IsLive s.views j u → IsTicket u.stage r.served → ⊥ =
-      λ j u other l there. (r.apart j id u v other l (at, left)).tickets r.served there (subst (λ (st : Stage). IsTicket st r.served) (sym is) h.2) in (
+      λ j u other l there. (r.apart j id u v other l (at, left)).tickets r.served there
+      (subst (λ (st : Stage). IsTicket st r.served) (sym is) h.2) in (
         w,
         gives,
         tt,
@@ -377,22 +445,25 @@ module _ {B : Type 0} (entries : B → List Entry) (terms_of : B → Terms) (ter
           served = r.served + 1;
           words = set s.words 1 ((get_or s.words 1 0 + 1) % 2 ^ 64);
           homes = put_back s.homes me.1;
-          words_are = ap (λ (ws : List ℕ). set ws 1 ((get_or ws 1 0 + 1) % 2 ^ 64)) r.words ∙ ap (λ (k : ℕ). r.drawn % 2 ^ 64 ∷ k ∷ length r.log % 2 ^ 64 ∷ []) (omega arith);
+          words_are = ap (λ (ws : List ℕ). set ws 1 ((get_or ws 1 0 + 1) % 2 ^ 64)) r.words
+              ∙ ap (λ (k : ℕ). r.drawn % 2 ^ 64 ∷ k ∷ length r.log % 2 ^ 64 ∷ []) (omega arith);
           queue = omega arith;
           makers = r.makers;
           fits = restage f tt;
-          others = λ j u other l. let g = r.each j u l in let a = r.apart id j v u (λ e. other (sym e)) (at, left) l in let b = r.apart j id u v other l (at, left) in (
-            refit g (turn_next r.served r.drawn u.stage g.turn (not_now j u other l)),
-            record { numbers = a.numbers; tickets = λ x here there. absurd here; past = a.past },
-            record { numbers = b.numbers; tickets = λ x there here. absurd here; past = b.past },
-          );
+          others = λ j u other l. let g = r.each j u l in let a =
+              r.apart id j v u (λ e. other (sym e)) (at, left) l in let b = r.apart j id u v other l (at, left) in (
+                refit g (turn_next r.served r.drawn u.stage g.turn (not_now j u other l)),
+                record { numbers = a.numbers; tickets = λ x here there. absurd here; past = a.past },
+                record { numbers = b.numbers; tickets = λ x there here. absurd here; past = b.past },
+              );
           place = inl record {
             value = value;
             home = ap (put_back s.homes) slot ∙ ap (λ (hs : Homes). set hs 0 (some (Some value))) h.0;
             log_is = list ∙ h.1;
             terms_are = same ∙ f.terms_are;
             free = live_set (λ _ u. Free u.stage) s.views id w (idle_free Idle refl)
-                (λ j u other l x holds. let theirs : InTurn r.served r.drawn (Holds x) = subst (InTurn r.served r.drawn) holds (r.each j u l).turn in
+                (λ j u other l x holds. let theirs : InTurn r.served r.drawn (Holds x) =
+                subst (InTurn r.served r.drawn) holds (r.each j u l).turn in
                 not_now j u other l (subst (λ (st : Stage). IsTicket st r.served) (sym holds) theirs.0));
           };
         }),

@@ -10,7 +10,8 @@ use Rattle.std.proofs.lemmas.Str.Parse.{digits_value-take-le}
 use Rattle.std.proofs.lemmas.Grind.{common_steps}
 
 -- a text of digits has one at each place
-pub is_digit_at : (text : List ℕ) (i : ℕ) → list_all is_ascii_digit text ≡ true → i < length text → is_ascii_digit (get_or text i 0) ≡ true
+pub is_digit_at : (text : List ℕ) (i : ℕ) → list_all is_ascii_digit text ≡ true → i < length text
+    → is_ascii_digit (get_or text i 0) ≡ true
 is_digit_at text i all h = grind (arith, common_steps, list_all_at)
 
 -- a digit's value is its distance from `0`

@@ -27,19 +27,23 @@ stored_step items name i item h e =
     (get_or-map file_of items i item ∙ ap file_of (sym e))
 
 -- the search has come to a place of the stored pairs, which stand for the files: this is the pair
-pub record AtStored (files : List File) (items : List (String Global × Vec ℕ Global)) (i : ℕ) (item : String Global × Vec ℕ Global) : Type 0 where
+pub record AtStored (files : List File) (items : List (String Global × Vec ℕ Global)) (i : ℕ)
+    (item : String Global × Vec ℕ Global) : Type 0 where
   pub files_are : files ≡ map file_of items
   pub inside : i < length items
   pub is : item ≡ get_or items i item
 
-pub stored_here : {files : List File} {items : List (String Global × Vec ℕ Global)} {i : ℕ} {item : String Global × Vec ℕ Global} (name : List ℕ) →
+pub stored_here : {files : List File} {items : List (String Global × Vec ℕ Global)} {i : ℕ}
+    {item : String Global × Vec ℕ Global} (name : List ℕ) →
     AtStored files items i item → bytes_eq (string_bytes item.0) name ≡ true → file_named (drop i files) name ≡ Some item.1.items
 stored_here {items} {i} {item} name at same =
     let step = stored_step items name i item at.inside at.is in
     rw at.files_are (step ∙ ap (λ b. if b then Some item.1.items else file_named (drop (i + 1) (map file_of items)) name) same)
 
-pub stored_after : {files : List File} {items : List (String Global × Vec ℕ Global)} {i : ℕ} {item : String Global × Vec ℕ Global} (name : List ℕ) →
-    AtStored files items i item → bytes_eq (string_bytes item.0) name ≡ false → file_named (drop i files) name ≡ file_named (drop (i + 1) files) name
+pub stored_after : {files : List File} {items : List (String Global × Vec ℕ Global)} {i : ℕ}
+    {item : String Global × Vec ℕ Global} (name : List ℕ) →
+    AtStored files items i item → bytes_eq (string_bytes item.0) name ≡ false
+    → file_named (drop i files) name ≡ file_named (drop (i + 1) files) name
 stored_after {items} {i} {item} name at other =
     let step = stored_step items name i item at.inside at.is in
     rw at.files_are (step ∙ ap (λ b. if b then Some item.1.items else file_named (drop (i + 1) (map file_of items)) name) other)

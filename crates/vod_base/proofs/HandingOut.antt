@@ -44,7 +44,8 @@ left_passed events front new passed =
 
 -- an event of which no bytes are left is passed over
 pub empty_passed : (events : List Event) (front new : Front) (bytes : Vec ℕ Global) → IsAt events front.event (Bytes bytes) →
-    length bytes.items ≤ front.offset → IsPassed front new → passed_over (left_from events new) ≡ passed_over (left_from events front)
+    length bytes.items ≤ front.offset → IsPassed front new
+    → passed_over (left_from events new) ≡ passed_over (left_from events front)
 empty_passed events front new bytes is none passed =
     ap passed_over (left_passed events front new passed)
     ∙ sym (ap passed_over (left_here events front (Bytes bytes) is)
@@ -59,7 +60,8 @@ in_front : (events : List Event) (first front : Front) (event : Event) → IsInF
     passed_over (left_from events first) ≡ passed_over (shortened front.offset (heard_whole event ∷ rest_from events front))
 in_front events first front event at = sym at.passed ∙ ap passed_over (left_here events front event at.is)
 
-pub slot_out : (events : List Event) (first front new : Front) (slot room : ℕ) → IsInFront events first front (Slot slot) → IsPassed front new →
+pub slot_out : (events : List Event) (first front new : Front) (slot room : ℕ) →
+    IsInFront events first front (Slot slot) → IsPassed front new →
     (HeardSlot slot ≡ handed room (left_from events first)) × (left_from events new ≡ left_after room (left_from events first))
 slot_out events first front new slot room at passed =
     let here = in_front events first front (Slot slot) at in
@@ -84,7 +86,8 @@ some_passed bytes offset rest some = rw (drop_more bytes offset 0 some) refl
 pub bytes_out : (events : List Event) (first front : Front) (bytes : Vec ℕ Global) (into : List ℕ) (count : ℕ) →
     IsInFront events first front (Bytes bytes) → IsFrontOut bytes.items into front.offset count →
     (HeardBytes (take count into) ≡ handed (length into) (left_from events first))
-    × (left_from events (record { event = front.event; offset = front.offset + count }) ≡ left_after (length into) (left_from events first))
+    × (left_from events (record { event = front.event; offset = front.offset + count })
+    ≡ left_after (length into) (left_from events first))
 bytes_out events first front bytes into count at out =
     let left : List ℕ = drop front.offset bytes.items in
     let rest : List Doing = rest_from events front in
@@ -101,10 +104,12 @@ bytes_out events first front bytes into count at out =
     )
 
 -- after the last event
-pub none_out : (events : List Event) (first front : Front) (room : ℕ) → passed_over (left_from events front) ≡ passed_over (left_from events first) →
+pub none_out : (events : List Event) (first front : Front) (room : ℕ) →
+    passed_over (left_from events front) ≡ passed_over (left_from events first) →
     length events ≤ front.event →
     (HeardEnd ≡ handed room (left_from events first)) × (left_from events front ≡ left_after room (left_from events first))
 none_out events first front room passed past =
-    let left : left_from events front ≡ [] = ap (shortened front.offset) (drop_all front.event (map heard_whole events) (rw length-map past)) in
+    let left : left_from events front ≡ [] =
+    ap (shortened front.offset) (drop_all front.event (map heard_whole events) (rw length-map past)) in
     let none : passed_over (left_from events first) ≡ [] = sym passed ∙ ap passed_over left in
     (sym (ap (first_out room) none), left ∙ sym (ap (rest_left room) none))

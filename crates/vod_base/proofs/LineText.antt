@@ -30,7 +30,8 @@ record IsInText (front text : List ℕ) (k : ℕ) : Type 0 where
   from : length front ≤ k
   below : k < length front + length text
 
-no_feed : {k : ℕ} (front text rest : List ℕ) → All (λ byte. byte ≢ 10) text → IsInText front text k → get_or (front ++ text ++ rest) k 0 ≢ 10
+no_feed : {k : ℕ} (front text rest : List ℕ) → All (λ byte. byte ≢ 10) text → IsInText front text k
+    → get_or (front ++ text ++ rest) k 0 ≢ 10
 no_feed {k} front text rest free place ten =
     let at : length front + (k - length front) ≡ k = omega (arith, place.from) in
     let inside : k - length front < length text = omega (arith, place.from, place.below) in
@@ -72,7 +73,8 @@ carriage_line front text rest free =
       text = carriage_end whole (length front) end (omega arith) (subst (λ (n : ℕ). get_or whole n 0 ≡ 13) before cr);
     }
 
-pub feed_line : (front text rest : List ℕ) → All (λ byte. byte ≢ 10) text → (0 < length text → get_or text (length text - 1) 0 ≢ 13) →
+pub feed_line : (front text rest : List ℕ) → All (λ byte. byte ≢ 10) text →
+    (0 < length text → get_or text (length text - 1) 0 ≢ 13) →
     IsLine (front ++ text ++ (codes "\n" ++ rest)) (length front) (length front + length text) (length front + length text + 1)
 feed_line front text rest free last =
     let whole : List ℕ = front ++ text ++ (10 ∷ rest) in
@@ -91,7 +93,8 @@ feed_line front text rest free last =
           ∙ ap (λ n. get_or whole n 0) there ∙ cr));
     }
 
-next_isnt_earlier : {bytes : List ℕ} {at one other next after : ℕ} → IsLine bytes at one next → IsLine bytes at other after → next < after → ⊥
+next_isnt_earlier : {bytes : List ℕ} {at one other next after : ℕ} → IsLine bytes at one next
+    → IsLine bytes at other after → next < after → ⊥
 next_isnt_earlier {at} {one} {other} {next} is are earlier =
     are.first (next - 1) (omega (arith, is.after)) (omega (arith, is.after)) is.feed
 
@@ -105,7 +108,8 @@ same_next {at} {one} {other} {next} {after} is are =
       ]
     ]
 
-pub one_line : {bytes : List ℕ} {at one other next after : ℕ} → IsLine bytes at one next → IsLine bytes at other after → (one ≡ other) × (next ≡ after)
+pub one_line : {bytes : List ℕ} {at one other next after : ℕ} → IsLine bytes at one next
+    → IsLine bytes at other after → (one ≡ other) × (next ≡ after)
 one_line {bytes} {at} is are =
     let same = same_next is are in
     let end : ℕ → ℕ = λ n. if nat_lt (at + 1) n && (get_or bytes (n - 2) 0 == 13) then n - 2 else n - 1 in
@@ -133,7 +137,8 @@ is_blank_of byte at = one_of byte at.0 at.1 at.2
 
 -- ---- files
 
-another_name : (file : File) (files : List File) (name : List ℕ) → file.name ≢ name → file_named (file ∷ files) name ≡ file_named files name
+another_name : (file : File) (files : List File) (name : List ℕ) → file.name ≢ name
+    → file_named (file ∷ files) name ≡ file_named files name
 another_name file files name other =
     cond-false (bytes_eq file.name name) (Some file.bytes) (file_named files name)
     (false_from_ne_true (bytes_eq file.name name) (λ same. other ((bytes_eq-Decides file.name name).0 same)))

@@ -30,7 +30,8 @@ noted_bytes events [] = refl
 noted_bytes events (byte ∷ bytes) = ap (λ doings. Sent byte ∷ doings) (noted_bytes events bytes)
 
 -- one event more is noted: it is told, and the sent bytes stay
-pub heard_more : (events : List Event) (notes : List Noted) (noted : Noted) (heard : Heard) (into : List ℕ) → doing_noted events noted ≡ doing_of heard into →
+pub heard_more : (events : List Event) (notes : List Noted) (noted : Noted) (heard : Heard) (into : List ℕ) →
+    doing_noted events noted ≡ doing_of heard into →
     (map (doing_noted events) (notes ++ noted ∷ []) ≡ map (doing_noted events) notes ++ doing_of heard into ∷ [])
     × (sent_of (map (doing_noted events) (notes ++ noted ∷ [])) ≡ sent_of (map (doing_noted events) notes))
 heard_more events notes noted heard into is =
@@ -48,8 +49,12 @@ pub sent_more : (events : List Event) (old new : List Noted) (bytes : List ℕ) 
     × (sent_of (map (doing_noted events) new) ≡ sent_of (map (doing_noted events) old) ++ bytes)
 sent_more events old new bytes are =
     let told = ap (map (doing_noted events)) are ∙ map-append (doing_noted events) old (map Gone bytes)
-    ∙ ap (λ d. map (doing_noted events) old ++ d) (noted_bytes events bytes) in
-    (told, rw told (sent_of-append (map (doing_noted events) old) (sends bytes) ∙ ap (λ b. sent_of (map (doing_noted events) old) ++ b) (sent_of-sends bytes)))
+    ∙ ap (λ d. map (doing_noted events) old ++ d) (noted_bytes events bytes) in (
+      told,
+      rw told
+          (sent_of-append (map (doing_noted events) old) (sends bytes)
+          ∙ ap (λ b. sent_of (map (doing_noted events) old) ++ b) (sent_of-sends bytes)),
+    )
 
 -- one byte more is noted as sent
 pub noted_more : (old now new : List Noted) (bytes : List ℕ) (i : ℕ) → i < length bytes → now ≡ old ++ map Gone (take i bytes) →
@@ -57,4 +62,5 @@ pub noted_more : (old now new : List Noted) (bytes : List ℕ) (i : ℕ) → i <
 noted_more old now new bytes i h was is =
     let one : List Noted = Gone (get_or bytes i 0) ∷ [] in
     is ∙ ap (λ (l : List Noted). l ++ one) was ∙ append_assoc old (map Gone (take i bytes)) one
-    ∙ ap (λ (l : List Noted). old ++ l) (sym (ap (map Gone) (take_more bytes i 0 h) ∙ map-append Gone (take i bytes) (get_or bytes i 0 ∷ [])))
+    ∙ ap (λ (l : List Noted). old ++ l)
+    (sym (ap (map Gone) (take_more bytes i 0 h) ∙ map-append Gone (take i bytes) (get_or bytes i 0 ∷ [])))

@@ -31,9 +31,11 @@ decimal_read n small =
     let all : list_all is_ascii_digit (decimal n) ≡ true = digits_decimal own n small in
     let value : digits_value 10 (decimal n) ≡ n = digits_value-decimal own n small in
     let some : nat_lt 0 (length (decimal n)) ≡ true = lt-ltb 0 (length (decimal n)) (decimal_nonempty n small) in
-    let below : nat_lt (digits_value 10 (decimal n)) (2 ^ 64) ≡ true = lt-ltb (digits_value 10 (decimal n)) (2 ^ 64) (omega (arith, value, small)) in
+    let below : nat_lt (digits_value 10 (decimal n)) (2 ^ 64) ≡ true =
+    lt-ltb (digits_value 10 (decimal n)) (2 ^ 64) (omega (arith, value, small)) in
     let test : fits (decimal n) ≡ true =
-    and_from (is_decimal (decimal n)) (nat_lt (digits_value 10 (decimal n)) (2 ^ 64)) (and_from (nat_lt 0 (length (decimal n))) (list_all is_ascii_digit (decimal n)) some all) below in
+    and_from (is_decimal (decimal n)) (nat_lt (digits_value 10 (decimal n)) (2 ^ 64))
+    (and_from (nat_lt 0 (length (decimal n))) (list_all is_ascii_digit (decimal n)) some all) below in
     cond-true (fits (decimal n)) (Some (digits_value 10 (decimal n))) None test ∙ ap (λ v. Some v) value
 
 -- digits without a zero in front are the decimal text of the number that is read
@@ -45,7 +47,9 @@ read_decimal ds n read lead =
           let same : digits_value 10 ds ≡ n = same_Some (digits_value 10 ds) n (sym found ∙ read) in
           let parts = and_parts (is_decimal ds) (nat_lt (digits_value 10 ds) (2 ^ 64)) good in
           let digits = and_parts (nat_lt 0 (length ds)) (list_all is_ascii_digit ds) parts.0 in
-          let whole : decimal (digits_value 10 ds) ≡ ds = decimal-digits_value own ds digits.1 (ltb-true 0 (length ds) digits.0) lead (ltb-true (digits_value 10 ds) (2 ^ 64) parts.1) in
+          let whole : decimal (digits_value 10 ds) ≡ ds =
+          decimal-digits_value own ds digits.1 (ltb-true 0 (length ds) digits.0) lead
+          (ltb-true (digits_value 10 ds) (2 ^ 64) parts.1) in
           sym whole ∙ ap decimal same
           )
       | inr wrong ↦ (
@@ -59,7 +63,8 @@ zero_in_front : (d : ℕ) (ds : List ℕ) → number_of (48 ∷ d ∷ ds) ≡ nu
 zero_in_front d ds =
     let one : nat_lt 0 (length (48 ∷ d ∷ ds)) ≡ true = lt-ltb 0 (length (48 ∷ d ∷ ds)) (omega arith) in
     let other : nat_lt 0 (length (d ∷ ds)) ≡ true = lt-ltb 0 (length (d ∷ ds)) (omega arith) in
-    ap (λ some. if (some && list_all is_ascii_digit (d ∷ ds)) && nat_lt (digits_value 10 (d ∷ ds)) (2 ^ 64) then Some (digits_value 10 (d ∷ ds)) else None) (one ∙ sym other)
+    ap (λ some. if (some && list_all is_ascii_digit (d ∷ ds))
+    && nat_lt (digits_value 10 (d ∷ ds)) (2 ^ 64) then Some (digits_value 10 (d ∷ ds)) else None) (one ∙ sym other)
 
 zeros_in_front : (zeros d : ℕ) (ds : List ℕ) → number_of (replicate zeros 48 ++ d ∷ ds) ≡ number_of (d ∷ ds)
 zeros_in_front zero d ds = refl
@@ -82,7 +87,8 @@ read_written (x ∷ []) n read = (0, read_decimal (x ∷ []) n read (λ _. refl)
 read_written (x ∷ (y ∷ rest)) n read =
     elim (cases_eq x 48) [
       | inl is ↦ (
-          let inner = read_written (y ∷ rest) n (sym (zero_in_front y rest) ∙ ap (λ c. number_of (c ∷ (y ∷ rest))) (sym is) ∙ read) in
+          let inner = read_written (y ∷ rest) n
+          (sym (zero_in_front y rest) ∙ ap (λ c. number_of (c ∷ (y ∷ rest))) (sym is) ∙ read) in
           (suc inner.0, ap (λ c. c ∷ (y ∷ rest)) is ∙ ap (λ ds. 48 ∷ ds) inner.1)
           )
       | inr other ↦ (0, read_decimal (x ∷ (y ∷ rest)) n read (λ first. absurd (other first)))
@@ -99,12 +105,14 @@ is_other b is = grind arith
 is_short : (n : ℕ) → nat_le n 64 ≡ true → n ≤ 64
 is_short n is = grind arith
 
-name_byte_at : (name : List ℕ) (k : ℕ) → list_all is_name_byte name ≡ true → k < length name → is_name_byte (get_or name k 0) ≡ true
+name_byte_at : (name : List ℕ) (k : ℕ) → list_all is_name_byte name ≡ true → k < length name
+    → is_name_byte (get_or name k 0) ≡ true
 name_byte_at name k all h = grind (arith, common_steps, list_all_at)
 
 pub good_is_plain : (name : List ℕ) → is_good_name name ≡ true → IsPlainFileName name
 good_is_plain name good =
-    let three = and_parts (nat_lt 0 (length name) && nat_le (length name) 64 && not (slice_index name 0 == 46)) (list_all is_name_byte name) good in
+    let three = and_parts (nat_lt 0 (length name) && nat_le (length name) 64 && not (slice_index name 0 == 46))
+    (list_all is_name_byte name) good in
     let two = and_parts (nat_lt 0 (length name) && nat_le (length name) 64) (not (slice_index name 0 == 46)) three.0 in
     let one = and_parts (nat_lt 0 (length name)) (nat_le (length name) 64) two.0 in
     let first : slice_index name 0 ≢ 46 = is_other (slice_index name 0) two.1 in
@@ -154,7 +162,8 @@ all-reverse p (x ∷ text) all =
     ∙ and_from (list_all p (reverse text)) (list_all p (x ∷ [])) (all-reverse p text parts.1) (and_from (p x) true parts.0 refl)
 
 -- a text with these blanks cut at its front, and then, from its end, those of the rest
-both_cut : (text middle back_first : List ℕ) → FrontCut text middle → FrontCut (reverse middle) back_first → IsTrimmed text (reverse back_first)
+both_cut : (text middle back_first : List ℕ) → FrontCut text middle → FrontCut (reverse middle) back_first
+    → IsTrimmed text (reverse back_first)
 both_cut text middle back_first one two =
     let middle_is : middle ≡ reverse back_first ++ reverse two.front =
     sym (reverse-reverse middle) ∙ ap reverse two.parts ∙ reverse-append two.front back_first in
@@ -162,19 +171,23 @@ both_cut text middle back_first one two =
     record {
       front = one.front;
       back = reverse two.front;
-      parts = one.parts ∙ ap (λ l. one.front ++ l) middle_is ∙ sym (append_assoc one.front (reverse back_first) (reverse two.front));
+      parts = one.parts ∙ ap (λ l. one.front ++ l) middle_is
+          ∙ sym (append_assoc one.front (reverse back_first) (reverse two.front));
       front_is_blank = one.blank;
       back_is_blank = all-reverse is_blank two.front two.blank;
       begins = λ some.
           let first : slice_index middle 0 ≡ slice_index (reverse back_first) 0 =
           ap (λ l. slice_index l 0) middle_is ∙ get_or_append_left (reverse back_first) (reverse two.front) 0 0 some in
-          let more : 0 < length middle = omega (arith, some, ap length middle_is, length-append (reverse back_first) (reverse two.front)) in
+          let more : 0 < length middle =
+          omega (arith, some, ap length middle_is, length-append (reverse back_first) (reverse two.front)) in
           ap is_blank (sym first) ∙ one.begins more;
       ends = λ some.
-          let last : slice_index (reverse back_first) (length back_first - 1) ≡ slice_index back_first (length back_first - 1 - (length back_first - 1)) =
+          let last : slice_index (reverse back_first) (length back_first - 1)
+          ≡ slice_index back_first (length back_first - 1 - (length back_first - 1)) =
           get_or-reverse back_first (length back_first - 1) 0 (omega (arith, some, long)) in
           let none : length back_first - 1 - (length back_first - 1) ≡ 0 = omega arith in
-          ap (λ n. is_blank (slice_index (reverse back_first) (n - 1))) long ∙ ap is_blank last ∙ ap (λ n. is_blank (slice_index back_first n)) none
+          ap (λ n. is_blank (slice_index (reverse back_first) (n - 1))) long ∙ ap is_blank last
+          ∙ ap (λ n. is_blank (slice_index back_first n)) none
           ∙ two.begins (omega (arith, some, long));
     }
 

@@ -39,15 +39,19 @@ all_right P (x ∷ xs) ys all = all_right P xs ys (All-tail P x (xs ++ ys) all)
 -- ---- receipts
 
 -- what holds of the receipts of entries holds of all, where it says nothing of the others
-all_receipts : (journal : List Entry) (seat : ℕ) (receipts : List Receipt) → All (IsReceiptIn journal seat) (entry_receipts receipts) → All (IsReceiptIn journal seat) receipts
+all_receipts : (journal : List Entry) (seat : ℕ) (receipts : List Receipt)
+    → All (IsReceiptIn journal seat) (entry_receipts receipts) → All (IsReceiptIn journal seat) receipts
 all_receipts journal seat [] all = all
 all_receipts journal seat (EntryReceipt place answer ∷ rest) all =
-    All-cons (IsReceiptIn journal seat) (EntryReceipt place answer) rest (All-head (IsReceiptIn journal seat) (EntryReceipt place answer) (entry_receipts rest) all)
+    All-cons (IsReceiptIn journal seat) (EntryReceipt place answer) rest
+    (All-head (IsReceiptIn journal seat) (EntryReceipt place answer) (entry_receipts rest) all)
     (all_receipts journal seat rest (All-tail (IsReceiptIn journal seat) (EntryReceipt place answer) (entry_receipts rest) all))
-all_receipts journal seat (FullReceipt entries live ∷ rest) all = All-cons (IsReceiptIn journal seat) (FullReceipt entries live) rest tt (all_receipts journal seat rest all)
+all_receipts journal seat (FullReceipt entries live ∷ rest) all =
+    All-cons (IsReceiptIn journal seat) (FullReceipt entries live) rest tt (all_receipts journal seat rest all)
 
 -- the receipt for an entry of a seat tells that entry
-receipt_in : (journal : List Entry) (seat : ℕ) (placed : Placed) → ((none : Entry) → IsAt 0 seat none journal placed) → IsReceiptIn journal seat (receipt_for placed)
+receipt_in : (journal : List Entry) (seat : ℕ) (placed : Placed)
+    → ((none : Entry) → IsAt 0 seat none journal placed) → IsReceiptIn journal seat (receipt_for placed)
 receipt_in journal seat placed at =
     let here : IsAt 0 seat placed.entry journal placed = at placed.entry in (
       omega (arith, here.place_is, here.inside),
@@ -62,10 +66,12 @@ receipt_in journal seat placed at =
 made_receipts : (journal : List Entry) (seat : ℕ) → All (IsReceiptIn journal seat) (map receipt_for (made_by seat journal))
 made_receipts journal seat =
     All-map (IsReceiptIn journal seat) receipt_for (made_by seat journal)
-    (λ i d inside. receipt_in journal seat (slice_index_or (made_by seat journal) i d) (λ none. all-at 0 seat none journal i d inside))
+    (λ i d inside. receipt_in journal seat (slice_index_or (made_by seat journal) i d)
+    (λ none. all-at 0 seat none journal i d inside))
 
 -- all receipts of reports
-told_receipts : (journal : List Entry) (seat : ℕ) (reports : List ConnReport) → All (IsReceiptIn journal seat) (entries_told reports) →
+told_receipts : (journal : List Entry) (seat : ℕ) (reports : List ConnReport) →
+    All (IsReceiptIn journal seat) (entries_told reports) →
     All (λ (report : ConnReport). All (IsReceiptIn journal seat) report.receipts.items) reports
 told_receipts journal seat [] all = All-nil (λ (report : ConnReport). All (IsReceiptIn journal seat) report.receipts.items)
 told_receipts journal seat (report ∷ reports) all =
@@ -82,16 +88,19 @@ made_all worked =
     ap (λ (m : List Placed). m ++ worked.served.entries.made) (sym worked.mine) ∙ sym worked.served.entries.mine_is ∙ worked.made
 
 -- the reports of a worker
-part_told : {serving : Serving} {by : Duty} {journal : List Entry} {gate gate' : Outlet} {report : PartReport} → HasWorked serving by journal gate gate' report →
+part_told : {serving : Serving} {by : Duty} {journal : List Entry} {gate gate' : Outlet} {report : PartReport} →
+    HasWorked serving by journal gate gate' report →
     All (IsReportIn journal) report.reports.items
 part_told {by} {journal} {report} worked =
     let entries : HasServed worked.seat.mine report.reports.items worked.left.mine = worked.served.entries in
     let made : entries.made ≡ made_by (by.worker + 1) journal = made_all worked in
     let receipts : All (IsReceiptIn journal (by.worker + 1)) (entries_told report.reports.items) =
-    subst (All (IsReceiptIn journal (by.worker + 1))) (ap (map receipt_for) (sym made) ∙ sym entries.receipts_are) (made_receipts journal (by.worker + 1)) in
+    subst (All (IsReceiptIn journal (by.worker + 1)))
+    (ap (map receipt_for) (sym made) ∙ sym entries.receipts_are) (made_receipts journal (by.worker + 1)) in
     let all = told_receipts journal (by.worker + 1) report.reports.items receipts in
     λ k none inside.
-    subst (λ (n : ℕ). All (IsReceiptIn journal (n + 1)) (slice_index_or report.reports.items k none).receipts.items) (sym (worked.served.reports.worker_is k none inside))
+    subst (λ (n : ℕ). All (IsReceiptIn journal (n + 1))
+    (slice_index_or report.reports.items k none).receipts.items) (sym (worked.served.reports.worker_is k none inside))
     (all k none inside)
 
 parts_told : (work : Working) (from : ℕ) (parts : List PartReport) →
@@ -134,9 +143,11 @@ pub record GoesOn (old new : Sitting) : Type 0 where
   pub seen : IsPrefix old.seen new.seen
 
 same_on : (old new : Sitting) → new ≡ old → GoesOn old new
-same_on old new same = subst (GoesOn old) (sym same) (record { terms = refl; mine = prefix_self old.mine; seen = prefix_self old.seen })
+same_on old new same =
+    subst (GoesOn old) (sym same) (record { terms = refl; mine = prefix_self old.mine; seen = prefix_self old.seen })
 
-one_on : {films : List Stored} {settings : Settings} {returned : Returned} {report : ConnReport} {old new : Sitting} → HasServedOne films settings returned report old new →
+one_on : {films : List Stored} {settings : Settings} {returned : Returned} {report : ConnReport}
+    {old new : Sitting} → HasServedOne films settings returned report old new →
     GoesOn old new
 one_on {returned} {old} {new} one = elim one.served [
   | inl from ↦ record {
@@ -163,7 +174,8 @@ all_on {old} {new} films settings (returned ∷ back) (report ∷ reports) serve
     }
 
 -- one of the connections that came back, with the report at its place
-record IsOne (films : List Stored) (settings : Settings) (returned : Returned) (report : ConnReport) (first left : Sitting) : Type 0 where
+record IsOne (films : List Stored) (settings : Settings) (returned : Returned) (report : ConnReport)
+    (first left : Sitting) : Type 0 where
   old : Sitting
   new : Sitting
   terms : terms_of new ≡ terms_of first
@@ -203,21 +215,26 @@ one_at {old} {new} (returned ∷ back) (report ∷ reports) served (suc k) here 
 part_served : {films : List Stored} {serving : Serving} {seed : List ℕ} {journal : List Entry} {gate gate' : Outlet}
     {content : Content} {worker : ℕ} {report : PartReport} →
     HasWorked serving (duty films (settings_of serving) seed worker) journal gate gate' report → gate'.told ≡ Some content →
-    (part : Part) × ((slice_index_or content.parts worker None ≡ Some part) × IsServedPart films seed serving journal worker part report.reports.items)
+    (part : Part)
+    × ((slice_index_or content.parts worker None ≡ Some part)
+    × IsServedPart films seed serving journal worker part report.reports.items)
 part_served {films} {serving} {seed} {journal} {content} {worker} {report} worked told =
     let settings = settings_of serving in
     let reports = report.reports.items in
-    let back : HasBack worker worked.after.told content = subst (λ (t : Option Content). IfSome t (HasBack worker worked.after.told)) told worked.back in
+    let back : HasBack worker worked.after.told content =
+    subst (λ (t : Option Content). IfSome t (HasBack worker worked.after.told)) told worked.back in
     let served : AreServed films settings worked.seat back.0.own.back reports worked.left =
     subst (λ (t : Option Content). AreTold films settings t reports worked.seat worked.left) back.1.0 worked.served.connections in
-    let long : length back.0.own.back ≡ length reports = (given_back worked.part back.0 worked.after.told (length reports) worked.served.served back.1.0).1 in (
+    let long : length back.0.own.back ≡ length reports =
+    (given_back worked.part back.0 worked.after.told (length reports) worked.served.served back.1.0).1 in (
       back.0.own,
       (
         back.1.1,
         record {
           count = sym long;
           each = λ k none no_report inside.
-              let one : IsOne films settings (slice_index_or back.0.own.back k none) (slice_index_or reports k no_report) worked.seat worked.left =
+              let one : IsOne films settings (slice_index_or back.0.own.back k none)
+              (slice_index_or reports k no_report) worked.seat worked.left =
               one_at back.0.own.back reports served k (record { none = none; no_report = no_report; inside = inside }) in
               record {
                 worker_is = worked.served.reports.worker_is k no_report (omega (arith, inside, long));

@@ -20,11 +20,14 @@ pub first_split : {A : Type 0} (xs : List A) (x : A) → 0 < length xs → x ≡
 first_split [] x some is = absurd (omega (arith, some))
 first_split (y ∷ ys) x some is = ap (λ (z : _). z ∷ ys) (sym is)
 
-pub one_done : {A : Type 0} (all done rest : List A) (x : A) → all ≡ done ++ rest → rest ≡ x ∷ remove rest 0 → all ≡ (done ++ x ∷ []) ++ remove rest 0
-one_done all done rest x whole split = whole ∙ ap (λ (r : List _). done ++ r) split ∙ sym (append_assoc done (x ∷ []) (remove rest 0))
+pub one_done : {A : Type 0} (all done rest : List A) (x : A) → all ≡ done ++ rest → rest ≡ x ∷ remove rest 0
+    → all ≡ (done ++ x ∷ []) ++ remove rest 0
+one_done all done rest x whole split =
+    whole ∙ ap (λ (r : List _). done ++ r) split ∙ sym (append_assoc done (x ∷ []) (remove rest 0))
 
 -- so many parts are in the gate
-pub counted_parts : (from count workers : ℕ) (gate : Option Content) → IfSome gate (AreOut from count) → count ≡ workers → HasParts workers gate
+pub counted_parts : (from count workers : ℕ) (gate : Option Content) → IfSome gate (AreOut from count)
+    → count ≡ workers → HasParts workers gate
 counted_parts from count workers None out same = tt
 counted_parts from count workers (Some c) out same = out.counted ∙ same
 
@@ -34,16 +37,20 @@ risen_on f g h risen high = λ end. omega (arith, risen (omega (arith, high, end
 pub risen_since : (f g h : ℕ) → HasRisen g h → f ≤ g → HasRisen f h
 risen_since f g h risen low = λ end. omega (arith, risen end, low)
 
-pub told_out_more : (count : ℕ) (gate gate' : Option Content) → IfSome gate (AreOut 0 count) → gate' ≡ option_map split_off gate → IfSome gate' (AreOut 0 (count + 1))
+pub told_out_more : (count : ℕ) (gate gate' : Option Content) → IfSome gate (AreOut 0 count)
+    → gate' ≡ option_map split_off gate → IfSome gate' (AreOut 0 (count + 1))
 told_out_more count None gate' are is = subst (λ (c : Option Content). IfSome c (AreOut 0 (count + 1))) (sym is) tt
-told_out_more count (Some c) gate' are is = subst (λ (c' : Option Content). IfSome c' (AreOut 0 (count + 1))) (sym is) (out_more count c are)
+told_out_more count (Some c) gate' are is =
+    subst (λ (c' : Option Content). IfSome c' (AreOut 0 (count + 1))) (sym is) (out_more count c are)
 
 -- a gate that is open stays so as parts are split from it and come back
-pub split_still_open : (opening : Opening) (gate gate' : Option Content) → IsOpenAs opening gate → gate' ≡ option_map split_off gate → IsOpenAs opening gate'
+pub split_still_open : (opening : Opening) (gate gate' : Option Content) → IsOpenAs opening gate
+    → gate' ≡ option_map split_off gate → IsOpenAs opening gate'
 split_still_open opening None gate' are is = subst (IsOpenAs opening) (sym is) tt
 split_still_open opening (Some c) gate' are is = subst (IsOpenAs opening) (sym is) are
 
-pub split_open : (gate gate' : Option Content) → IfSome gate (λ content. IsOpen content) → gate' ≡ option_map split_off gate → IfSome gate' (λ content. IsOpen content)
+pub split_open : (gate gate' : Option Content) → IfSome gate (λ content. IsOpen content)
+    → gate' ≡ option_map split_off gate → IfSome gate' (λ content. IsOpen content)
 split_open None gate' are is = subst (λ (c : Option Content). IfSome c (λ content. IsOpen content)) (sym is) tt
 split_open (Some c) gate' are is = subst (λ (c' : Option Content). IfSome c' (λ content. IsOpen content)) (sym is) are
 
@@ -53,21 +60,27 @@ open_back opening None (Some c) is = tt
 open_back opening (Some p) None is = tt
 open_back opening (Some p) (Some c) is = is
 
-pub back_still_open : (opening : Opening) (part gate gate' : Option Content) → IsOpenAs opening gate → gate' ≡ told_rejoined part gate → IsOpenAs opening gate'
+pub back_still_open : (opening : Opening) (part gate gate' : Option Content) → IsOpenAs opening gate
+    → gate' ≡ told_rejoined part gate → IsOpenAs opening gate'
 back_still_open opening part gate gate' is rejoins = subst (IsOpenAs opening) (sym rejoins) (open_back opening part gate is)
 
-pub new_number : (count : ℕ) (gate part : Option Content) → IfSome gate (AreOut 0 count) → part ≡ option_map new_part gate → IfSome part (λ content. content.own.number ≡ count)
+pub new_number : (count : ℕ) (gate part : Option Content) → IfSome gate (AreOut 0 count)
+    → part ≡ option_map new_part gate → IfSome part (λ content. content.own.number ≡ count)
 new_number count None part are is = subst (λ (c : Option Content). IfSome c (λ content. content.own.number ≡ count)) (sym is) tt
-new_number count (Some c) part are is = subst (λ (c' : Option Content). IfSome c' (λ content. content.own.number ≡ count)) (sym is) are.counted
+new_number count (Some c) part are is =
+    subst (λ (c' : Option Content). IfSome c' (λ content. content.own.number ≡ count)) (sym is) are.counted
 
 pub new_untouched : (gate part : Option Content) → part ≡ option_map new_part gate → IfSome part IsUntouched
 new_untouched None part is = subst (λ (c : Option Content). IfSome c IsUntouched) (sym is) tt
-new_untouched (Some c) part is = subst (λ (c' : Option Content). IfSome c' IsUntouched) (sym is) (record { given = refl; back = refl })
+new_untouched (Some c) part is =
+    subst (λ (c' : Option Content). IfSome c' IsUntouched) (sym is) (record { given = refl; back = refl })
 
 -- a part that was served keeps its number
-pub served_number : (old new : Option Content) (count number : ℕ) → IsServed old new count → IfSome old (λ content. content.own.number ≡ number) →
+pub served_number : (old new : Option Content) (count number : ℕ) → IsServed old new count →
+    IfSome old (λ content. content.own.number ≡ number) →
     IfSome new (λ content. content.own.number ≡ number)
-served_number None new count number served is = subst (λ (c : Option Content). IfSome c (λ content. content.own.number ≡ number)) (sym served) tt
+served_number None new count number served is =
+    subst (λ (c : Option Content). IfSome c (λ content. content.own.number ≡ number)) (sym served) tt
 served_number (Some old) None count number served is = absurd served
 served_number (Some old) (Some new) count number served is = served.number ∙ is
 
@@ -87,39 +100,59 @@ not_opened_here (Some c) = record { told = c; told_is = refl; openings = refl; o
 none_told : (P : Content → Type 0) (gate : Option Content) → gate ≡ None → IfSome gate P
 none_told P gate is = subst (λ (g : Option Content). IfSome g P) (sym is) tt
 
-pub not_opened_split : (before gate gate' : Option Content) → IfSome gate (IsNotOpened before) → gate' ≡ option_map split_off gate → IfSome gate' (IsNotOpened before)
+pub not_opened_split : (before gate gate' : Option Content) → IfSome gate (IsNotOpened before)
+    → gate' ≡ option_map split_off gate → IfSome gate' (IsNotOpened before)
 not_opened_split before None gate' since is = none_told (IsNotOpened before) gate' is
 not_opened_split before (Some c) gate' since is = subst (λ (g : Option Content). IfSome g (IsNotOpened before)) (sym is)
     (record { told = since.told; told_is = since.told_is; openings = since.openings; own = since.own })
 
-pub not_opened_back : (before part gate gate' : Option Content) → IfSome gate (IsNotOpened before) → gate' ≡ told_rejoined part gate → IfSome gate' (IsNotOpened before)
+pub not_opened_back : (before part gate gate' : Option Content) → IfSome gate (IsNotOpened before)
+    → gate' ≡ told_rejoined part gate → IfSome gate' (IsNotOpened before)
 not_opened_back before None None gate' since is = none_told (IsNotOpened before) gate' is
 not_opened_back before (Some p) None gate' since is = none_told (IsNotOpened before) gate' is
 not_opened_back before None (Some c) gate' since is = none_told (IsNotOpened before) gate' is
 not_opened_back before (Some p) (Some c) gate' since is = subst (λ (g : Option Content). IfSome g (IsNotOpened before)) (sym is)
     (record { told = since.told; told_is = since.told_is; openings = since.openings; own = since.own })
 
-pub not_opened_on : (before mid gate : Option Content) → IfSome mid (IsNotOpened before) → IfSome gate (IsNotOpened mid) → IfSome gate (IsNotOpened before)
+pub not_opened_on : (before mid gate : Option Content) → IfSome mid (IsNotOpened before)
+    → IfSome gate (IsNotOpened mid) → IfSome gate (IsNotOpened before)
 not_opened_on before mid None first since = tt
 not_opened_on before mid (Some c) first since =
-    let middle : IsNotOpened before since.told = subst (λ (g : Option Content). IfSome g (IsNotOpened before)) since.told_is first in
-    record { told = middle.told; told_is = middle.told_is; openings = since.openings ∙ middle.openings; own = since.own ∙ middle.own }
+    let middle : IsNotOpened before since.told =
+    subst (λ (g : Option Content). IfSome g (IsNotOpened before)) since.told_is first in
+    record {
+      told = middle.told;
+      told_is = middle.told_is;
+      openings = since.openings ∙ middle.openings;
+      own =
+          since.own ∙ middle.own;
+    }
 
-pub opened_once : (how : Option Opening) (before gate : Option Content) → gate ≡ option_map (after_open how) before → IfSome gate (IsOpenedOnce before)
+pub opened_once : (how : Option Opening) (before gate : Option Content)
+    → gate ≡ option_map (after_open how) before → IfSome gate (IsOpenedOnce before)
 opened_once how None gate is = none_told (IsOpenedOnce None) gate is
 opened_once how (Some c) gate is = subst (λ (g : Option Content). IfSome g (IsOpenedOnce (Some c))) (sym is)
     (record { told = c; told_is = refl; openings = refl; own = refl })
 
-pub once_since : (before mid gate : Option Content) → IfSome mid (IsOpenedOnce before) → IfSome gate (IsNotOpened mid) → IfSome gate (IsOpenedOnce before)
+pub once_since : (before mid gate : Option Content) → IfSome mid (IsOpenedOnce before)
+    → IfSome gate (IsNotOpened mid) → IfSome gate (IsOpenedOnce before)
 once_since before mid None once since = tt
 once_since before mid (Some c) once since =
-    let middle : IsOpenedOnce before since.told = subst (λ (g : Option Content). IfSome g (IsOpenedOnce before)) since.told_is once in
-    record { told = middle.told; told_is = middle.told_is; openings = since.openings ∙ middle.openings; own = since.own ∙ middle.own }
+    let middle : IsOpenedOnce before since.told =
+    subst (λ (g : Option Content). IfSome g (IsOpenedOnce before)) since.told_is once in
+    record {
+      told = middle.told;
+      told_is = middle.told_is;
+      openings = since.openings ∙ middle.openings;
+      own =
+          since.own ∙ middle.own;
+    }
 
 -- ---- parts that gave no connection
 
 -- a gate that was opened just now has no parts
-pub opened_few : (count : ℕ) (how : Option Opening) (before gate : Option Content) → gate ≡ option_map (after_open how) before → 1 ≤ count → IfSome gate (HasTooFew count)
+pub opened_few : (count : ℕ) (how : Option Opening) (before gate : Option Content)
+    → gate ≡ option_map (after_open how) before → 1 ≤ count → IfSome gate (HasTooFew count)
 opened_few count how None gate is some = none_told (HasTooFew count) gate is
 opened_few count how (Some c) gate is some = subst (λ (g : Option Content). IfSome g (HasTooFew count)) (sym is)
     (record { fewer = omega (arith, some); idle = λ k inside. absurd (omega (arith, inside)) })
@@ -137,13 +170,20 @@ idle_back : {G : Type 0} {told : G → Option Content} {faults : G → ℕ} {fro
 idle_back [] fresh_back k low high = absurd (omega (arith, low, high))
 idle_back {told} {faults} {from} {gate} (worker ∷ workers) fresh_back k low high =
     elim (cases_lt from k) [
-      | inl after ↦ idle_back {from = from + 1} {gate = gate} workers (record { back = back.1; fresh = All-tail (IsFresh told faults) worker workers fresh }) k
+      | inl after ↦
+          idle_back {from = from + 1} {gate = gate} workers
+          (record { back = back.1; fresh = All-tail (IsFresh told faults) worker workers fresh }) k
           (omega (arith, after)) (omega (arith, high))
       | inr here ↦
           let is : from ≡ k = omega (arith, here, low) in
           let first : IsFresh told faults worker = All-head (IsFresh told faults) worker workers fresh in
-          let untouched : IsUntouched back.0.0 = subst (λ (p : Option Content). IfSome p IsUntouched) back.0.1.0 first.part in
-          (back.0.0.own, (subst (λ (n : ℕ). slice_index_or gate.parts n None ≡ Some back.0.0.own) is back.0.1.1, record { given = untouched.given; back = untouched.back }))
+          let untouched : IsUntouched back.0.0 = subst (λ (p : Option Content). IfSome p IsUntouched) back.0.1.0 first.part in (
+            back.0.0.own,
+            (
+              subst (λ (n : ℕ). slice_index_or gate.parts n None ≡ Some back.0.0.own) is back.0.1.1,
+              record { given = untouched.given; back = untouched.back },
+            ),
+          )
     ]
   where
     open fresh_back use {back, fresh}
@@ -160,7 +200,8 @@ pub joined_few : {G : Type 0} {told : G → Option Content} {faults : G → ℕ}
 joined_few count None fresh_joined fewer = tt
 joined_few {workers} count (Some c) fresh_joined fewer = record {
   fewer = omega (arith, joined.out.counted, fewer);
-  idle = λ k inside. idle_back {gate = c} workers (record { back = joined.back; fresh = fresh }) k (omega arith) (omega (arith, inside, joined.out.counted));
+  idle = λ k inside. idle_back {gate = c} workers (record { back = joined.back; fresh = fresh }) k (omega arith)
+      (omega (arith, inside, joined.out.counted));
 }
   where
     open fresh_joined use {joined, fresh}
@@ -183,7 +224,8 @@ pub record FailedGate (gate : Option Content) : Type 0 where
 pub failed_few : {gate : Option Content} → FailedGate gate → IfSome gate (HasTooFew 2)
 failed_few failed_gate =
     subst (λ (g : Option Content). IfSome g (HasTooFew 2))
-    (ap (λ (o : Option Content). told_rejoined (option_map (after_empty_take Failed) (option_map new_part o)) (option_map split_off o)) (sym opens)
+    (ap (λ (o : Option Content). told_rejoined (option_map (after_empty_take Failed) (option_map new_part o))
+    (option_map split_off o)) (sym opens)
     ∙ ap (λ (p : Option Content). told_rejoined (option_map (after_empty_take Failed) p) (option_map split_off door)) (sym parts)
     ∙ ap (λ (s : Option Content). told_rejoined (option_map (after_empty_take Failed) part) s) (sym splits)
     ∙ ap (λ (f : Option Content). told_rejoined f split) (sym fails) ∙ sym rejoins)
@@ -191,10 +233,17 @@ failed_few failed_gate =
   where
     open failed_gate use {how, before, door, part, split, opens, parts, splits, fails, rejoins}
 
-    here : (how : Option Opening) (before : Option Content) → IfSome (told_rejoined (option_map (after_empty_take Failed) (option_map new_part (option_map (after_open how) before)))
+    here : (how : Option Opening) (before : Option Content)
+        → IfSome (told_rejoined (option_map (after_empty_take Failed) (option_map new_part (option_map (after_open how) before)))
         (option_map split_off (option_map (after_open how) before))) (HasTooFew 2)
     here how None = tt
     here how (Some c) = record {
       fewer = omega arith;
-      idle = λ k inside. let first : 0 ≡ k = omega (arith, inside) in subst (λ (n : ℕ). (part : Part) × ((slice_index_or (after_rejoin (after_empty_take Failed (new_part (after_open how c))).own (split_off (after_open how c))).parts n None ≡ Some part) × IsIdle part)) first (_, (refl, record { given = refl; back = refl }));
+      idle = λ k inside. let first : 0 ≡ k =
+          omega (arith, inside) in
+          subst (λ (n : ℕ). (part : Part)
+          × ((slice_index_or
+          (after_rejoin (after_empty_take Failed (new_part (after_open how c))).own
+          (split_off (after_open how c))).parts n None ≡ Some part) × IsIdle part)) first
+          (_, (refl, record { given = refl; back = refl }));
     }

@@ -5,7 +5,8 @@ use Rattle.vod_base.specs.Outside.{IsFrontMore, told_more}
 use Rattle.std.proofs.lemmas.List.{take_all}
 
 -- a text that was to be written left a front of itself
-pub written_front : {E : Type 0} (result : Result (Unit {0}) E) (told told' : Option (List ℕ)) (text : List ℕ) → OnOk result (told' ≡ told_more told text) →
+pub written_front : {E : Type 0} (result : Result (Unit {0}) E) (told told' : Option (List ℕ)) (text : List ℕ) →
+    OnOk result (told' ≡ told_more told text) →
     OnErr result (IsFrontMore told told' text) → IsFrontMore told told' text
 written_front (Ok done) told told' text whole front =
     (length text, (omega arith, whole ∙ ap (told_more told) (sym (take_all (length text) text (omega arith)))))

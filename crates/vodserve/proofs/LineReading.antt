@@ -52,15 +52,20 @@ watched-words w short =
       (
         number-word (codes "bytes") w.bytes short.bytes_short (none_by 32 (codes "bytes") refl) (none_by 10 (codes "bytes") refl),
         (
-          number-word (codes "frames") w.frames short.frames_short (none_by 32 (codes "frames") refl) (none_by 10 (codes "frames") refl),
+          number-word (codes "frames") w.frames short.frames_short (none_by 32 (codes "frames") refl)
+              (none_by 10 (codes "frames") refl),
           (
-            number-word (codes "reports") w.reports short.reports_short (none_by 32 (codes "reports") refl) (none_by 10 (codes "reports") refl),
+            number-word (codes "reports") w.reports short.reports_short (none_by 32 (codes "reports") refl)
+                (none_by 10 (codes "reports") refl),
             (
-              number-word (codes "most") w.most short.most_short (none_by 32 (codes "most") refl) (none_by 10 (codes "most") refl),
+              number-word (codes "most") w.most short.most_short (none_by 32 (codes "most") refl)
+                  (none_by 10 (codes "most") refl),
               (
-                number-word (codes "over") w.over short.over_short (none_by 32 (codes "over") refl) (none_by 10 (codes "over") refl),
+                number-word (codes "over") w.over short.over_short (none_by 32 (codes "over") refl)
+                    (none_by 10 (codes "over") refl),
                 (
-                  number-word (codes "under") w.under short.under_short (none_by 32 (codes "under") refl) (none_by 10 (codes "under") refl),
+                  number-word (codes "under") w.under short.under_short (none_by 32 (codes "under") refl)
+                      (none_by 10 (codes "under") refl),
                   tt,
                 ),
               ),
@@ -75,13 +80,15 @@ told : {w : Watched} (key : List ℕ) (number : ℕ) → IsShortWatched w → se
     picked key (settings_of w) ≡ decimal number ∷ [] → are_plain (settings_of w) ≡ true → GivesOnce (watched_text w) key number
 told {w} key number short none given plain =
     ap (λ (line : List ℕ). values_of key (words_in line)) (watched-line w)
-    ∙ line-values {key = key} {first = codes "watched"} (record { end = _; words = _; ends = ended }) (settings_of w) (watched-words w short)
+    ∙ line-values {key = key} {first =
+    codes "watched"} (record { end = _; words = _; ends = ended }) (settings_of w) (watched-words w short)
     (record {
       word = is-word (codes "watched") (none_by 32 (codes "watched") refl) (none_by 10 (codes "watched") refl);
       none = none;
     }) refl plain ∙ given
 
-pub play-told : (wish : Wish) (history : History) → IsShortWatched (watched_in wish history) → TellsPlay wish history (watched_text (watched_in wish history))
+pub play-told : (wish : Wish) (history : History) → IsShortWatched (watched_in wish history)
+    → TellsPlay wish history (watched_text (watched_in wish history))
 unfolding settings_of
 play-told wish history short =
     let w = watched_in wish history in
@@ -99,11 +106,13 @@ play-told wish history short =
 counts_of : ℕ → ℕ → List Setting
 counts_of connections entries = number_setting (codes "connections") connections ∷ number_setting (codes "entries") entries ∷ []
 
-counts-words : (connections entries : ℕ) → connections < 2 ^ 64 → entries < 2 ^ 64 → All (λ s. IsWord (word_of s)) (counts_of connections entries)
+counts-words : (connections entries : ℕ) → connections < 2 ^ 64 → entries < 2 ^ 64
+    → All (λ s. IsWord (word_of s)) (counts_of connections entries)
 unfolding counts_of AreWords
 counts-words connections entries small small' =
     all-words (counts_of connections entries) (
-      number-word (codes "connections") connections small (none_by 32 (codes "connections") refl) (none_by 10 (codes "connections") refl),
+      number-word (codes "connections") connections small (none_by 32 (codes "connections") refl)
+          (none_by 10 (codes "connections") refl),
       (number-word (codes "entries") entries small' (none_by 32 (codes "entries") refl) (none_by 10 (codes "entries") refl), tt),
     )
 
@@ -117,11 +126,15 @@ record ServedCounts : Type 0 where
 counted : (counts : ServedCounts) (key : List ℕ) (number : ℕ) → setting_value key (codes "served") ≡ None →
     picked key (counts_of counts.connections counts.entries) ≡ decimal number ∷ [] →
     are_plain (counts_of counts.connections counts.entries) ≡ true →
-    GivesOnce (codes "served connections=" ++ (decimal counts.connections ++ 32 ∷ (codes "entries=" ++ decimal counts.entries))) key number
+    GivesOnce (codes "served connections="
+    ++ (decimal counts.connections ++ 32 ∷ (codes "entries=" ++ decimal counts.entries))) key number
 unfolding line_rest counts_of
 counted counts key number none given plain =
-    ap (λ (l : List ℕ). values_of key (words_in (codes "served connections=" ++ (decimal connections ++ 32 ∷ l)))) (sym (append-nil (codes "entries=" ++ decimal entries)))
-    ∙ line-values {key = key} {first = codes "served"} (record { end = _; words = _; ends = unended }) (counts_of connections entries)
+    ap (λ (l : List ℕ). values_of key
+    (words_in (codes "served connections=" ++ (decimal connections ++ 32 ∷ l))))
+    (sym (append-nil (codes "entries=" ++ decimal entries)))
+    ∙ line-values {key = key} {first =
+    codes "served"} (record { end = _; words = _; ends = unended }) (counts_of connections entries)
     (counts-words connections entries small small') (record {
       word = is-word (codes "served") (none_by 32 (codes "served") refl)
           (none_by 10 (codes "served") refl);

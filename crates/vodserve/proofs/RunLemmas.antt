@@ -17,12 +17,14 @@ use Rattle.vodserve.specs.Run.{World, Does, HasServedNothing, IsCarriedOut, IsCa
 use Rattle.local_commands.specs.declared.done.Done.{Done}
 use Rattle.vodserve.specs.declared.run.Ended.{Ended}
 
-written : {order : Order} {ended : Ended} (before after : World) (done : Done) → IsDone before.store.told order done.status done.text.items done.plan →
+written : {order : Order} {ended : Ended} (before after : World) (done : Done) →
+    IsDone before.store.told order done.status done.text.items done.plan →
     IsWritten before.out after.out before.err after.err done ended → IsCarriedOut before after order ended
 written {order} {ended} before after done is (inl whole) = inl (record {
   text = done.text.items;
   done = subst (λ (status : ℕ). IsDone before.store.told order status done.text.items ended.plan) (sym whole.0)
-      (subst (λ (plan : Option (List Segment)). IsDone before.store.told order done.status done.text.items plan) (sym whole.1) is);
+      (subst (λ (plan : Option (List Segment)). IsDone before.store.told order done.status done.text.items plan)
+      (sym whole.1) is);
   wrote = whole.2;
   quiet = whole.3;
 })
@@ -35,7 +37,8 @@ written {ended} before after done is (inr cut) = inr (
 )
 
 caused : (before after : World) (order : Order) (trouble : Trouble) → after.out ≡ before.out →
-    IsReadTrouble (IsRead order) (IsInputRefused order) before.store.told before.store.faults after.store.faults trouble → IsCause before after order trouble
+    IsReadTrouble (IsRead order) (IsInputRefused order) before.store.told before.store.faults after.store.faults
+    trouble → IsCause before after order trouble
 caused before after order Usage same cause = absurd cause
 caused before after order (Refused name fault) same cause = (cause, same)
 caused before after order (StoreFault name) same cause = (cause, same)
@@ -47,16 +50,19 @@ caused before after order LinkFault same cause = absurd cause
 -- an order's result: what it did, or the trouble that it met
 record OrderResult (before after : World) (order : Order) (result : Result Done Trouble) : Type 0 where
   ok : IfOk result (λ done. IsDone before.store.told order done.status done.text.items done.plan)
-  err : IfErr result (IsReadTrouble (IsRead order) (IsInputRefused order) before.store.told before.store.faults after.store.faults)
+  err : IfErr result
+      (IsReadTrouble (IsRead order) (IsInputRefused order) before.store.told before.store.faults after.store.faults)
 
 carried_out : {before after : World} {order : Order} (result : Result Done Trouble) (ended : Ended) →
     OrderResult before after order result → Printed before.out after.out before.err after.err result ended →
     IsCarriedOut before after order ended
 carried_out {before} {after} (Ok done) ended given is = written before after done given.ok is
-carried_out {before} {after} {order} (Err trouble) ended given is = inr (trouble, (caused before after order trouble is.0 given.err, is.1))
+carried_out {before} {after} {order} (Err trouble) ended given is =
+    inr (trouble, (caused before after order trouble is.0 given.err, is.1))
 
 -- a command was carried out, and its text printed
-pub printed : {before after : World} {order : Order} {ended : Ended} (result : Result Done Trouble) → after.gate ≡ before.gate → HasServedNothing ended →
+pub printed : {before after : World} {order : Order} {ended : Ended} (result : Result Done Trouble) →
+    after.gate ≡ before.gate → HasServedNothing ended →
     IfOk result (λ done. IsDone before.store.told order done.status done.text.items done.plan) →
     IfErr result (IsReadTrouble (IsRead order) (IsInputRefused order) before.store.told before.store.faults after.store.faults) →
     Printed before.out after.out before.err after.err result ended → Prints before after order ended
@@ -87,22 +93,27 @@ pub made_done : {E : Type 0} (told : Option (List File)) (film : MadeFilm) (made
     IfOk result (λ done. (done.status ≡ 0) × (made ≡ Ok done.text) × (done.plan ≡ None)) →
     IfOk result (λ done. IsDone told (make_of film.kind film.seed film.pictures) done.status done.text.items done.plan)
 made_done told film made text (Err trouble) is = tt
-made_done told film made text (Ok done) is = (is.0, is.2, text_of (made_text film.kind film.seed film.pictures) made done.text text is.1)
+made_done told film made text (Ok done) is =
+    (is.0, is.2, text_of (made_text film.kind film.seed film.pictures) made done.text text is.1)
 
-pub help_done : {E : Type 0} (told : Option (List File)) (made : Result (Vec ℕ Global) E) → IfOk made (λ text. text.items ≡ help_text) →
+pub help_done : {E : Type 0} (told : Option (List File)) (made : Result (Vec ℕ Global) E) →
+    IfOk made (λ text. text.items ≡ help_text) →
     (result : Result Done Trouble) → IfOk result (λ done. (done.status ≡ 0) × (made ≡ Ok done.text) × (done.plan ≡ None)) →
     IfOk result (λ done. IsDone told help done.status done.text.items done.plan)
 help_done told made text (Err trouble) is = tt
 help_done told made text (Ok done) is = (is.0, is.2, text_of help_text made done.text text is.1)
 
-pub version_done : {E : Type 0} (told : Option (List File)) (made : Result (Vec ℕ Global) E) → IfOk made (λ text. text.items ≡ version_text) →
+pub version_done : {E : Type 0} (told : Option (List File)) (made : Result (Vec ℕ Global) E) →
+    IfOk made (λ text. text.items ≡ version_text) →
     (result : Result Done Trouble) → IfOk result (λ done. (done.status ≡ 0) × (made ≡ Ok done.text) × (done.plan ≡ None)) →
     IfOk result (λ done. IsDone told version done.status done.text.items done.plan)
 version_done told made text (Err trouble) is = tt
 version_done told made text (Ok done) is = (is.0, is.2, text_of version_text made done.text text is.1)
 
 -- want of memory keeps from each order
-pub no_memory : (told : Option (List File)) (faults faults' : ℕ) (order : Order) (result : Result Done Trouble) → IfErr result (λ trouble. trouble ≡ NoMemory) →
+pub no_memory : (told : Option (List File)) (faults faults' : ℕ) (order : Order)
+    (result : Result Done Trouble) → IfErr result (λ trouble. trouble ≡ NoMemory) →
     IfErr result (IsReadTrouble (IsRead order) (IsInputRefused order) told faults faults')
 no_memory told faults faults' order (Ok done) is = tt
-no_memory told faults faults' order (Err trouble) is = subst (IsReadTrouble (IsRead order) (IsInputRefused order) told faults faults') (sym is) tt
+no_memory told faults faults' order (Err trouble) is =
+    subst (IsReadTrouble (IsRead order) (IsInputRefused order) told faults faults') (sym is) tt

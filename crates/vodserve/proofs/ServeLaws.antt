@@ -25,10 +25,13 @@ use Rattle.vodserve.proofs.GateLemmas.{risen_some}
 use Rattle.vodserve.proofs.ServeLemmas.{loaded_accepted, worker_worked, ServingRun, Working}
 
 -- what keeps from serving, where nothing is refused and nothing failed, is want of memory
-kept_by_memory : {before after : World} {serving : Serving} (trouble : Trouble) → IsServable serving before.store.told → HasNoFault before after →
-    IsServeTrouble serving before.store.told before.store.faults after.store.faults before.gate after.gate trouble → status_of trouble ≡ 6
+kept_by_memory : {before after : World} {serving : Serving} (trouble : Trouble) →
+    IsServable serving before.store.told → HasNoFault before after →
+    IsServeTrouble serving before.store.told before.store.faults after.store.faults before.gate after.gate
+    trouble → status_of trouble ≡ 6
 kept_by_memory Usage may none is = absurd is
-kept_by_memory (Refused name fault) may none is = absurd (may.accepted name.now fault is.0.0 (is.0.1 may.held may.told_is).refused)
+kept_by_memory (Refused name fault) may none is =
+    absurd (may.accepted name.now fault is.0.0 (is.0.1 may.held may.told_is).refused)
 kept_by_memory (StoreFault name) may none is = absurd (none.store is.0.1)
 kept_by_memory SinkFault may none is = absurd is
 kept_by_memory NoMemory may none is = refl
@@ -139,7 +142,8 @@ not_memory printing GateFault printed status = apart printed.1
     apart e = cc
 not_memory printing LinkFault printed status = printed
 
-pub ended_whole : {end : PartEnd} {ended : Ended} (before after : World) (text : List ℕ) → Ends before.out after.out before.err after.err text end ended →
+pub ended_whole : {end : PartEnd} {ended : Ended} (before after : World) (text : List ℕ) →
+    Ends before.out after.out before.err after.err text end ended →
     ended.status ≢ 6 → end ≢ PartNoMemory
 ended_whole {end} {ended} before after text (inl whole) status memory = apart (sym memory ∙ whole.0.1)
   where
@@ -202,7 +206,8 @@ pub record HasRunAll (before after : World) (seed : List ℕ) (serving : Serving
   pub served : HasServed before after seed serving ended
   pub found : served.end ≢ PartNoMemory
 
-pub run_all : {before after : World} {seed : List ℕ} {serving : Serving} {ended : Ended} {gate : Content} → Serves before after seed serving ended → after.gate.told ≡ Some gate →
+pub run_all : {before after : World} {seed : List ℕ} {serving : Serving} {ended : Ended} {gate : Content} →
+    Serves before after seed serving ended → after.gate.told ≡ Some gate →
     HaveRun serving ended gate → HasRunAll before after seed serving ended
 run_all {before} {after} {seed} {serving} {ended} {gate} (inl kept) told have_run =
     let AllParts = length gate.parts ≡ serving.listening.workers in
@@ -220,20 +225,23 @@ run_all {before} {after} {seed} {serving} {ended} {gate} (inr served) told have_
     record {
       served = served;
       found = ended_whole before after _ served.ends
-          (λ six. other_status 6 AllParts (λ e. omega (arith, e)) (λ e. omega (arith, e)) (λ e. omega (arith, e)) (subst (λ (n : ℕ). IsOfRun n AllParts) six have_run));
+          (λ six. other_status 6 AllParts (λ e. omega (arith, e)) (λ e. omega (arith, e))
+          (λ e. omega (arith, e)) (subst (λ (n : ℕ). IsOfRun n AllParts) six have_run));
     }
 
 -- ---- parts that came back
 
 -- a part that was served got back what it gave, as many as there are reports
-pub given_back : (old : Option Content) (new : Content) (told : Option Content) (count : ℕ) → IsServed old told count → told ≡ Some new →
+pub given_back : (old : Option Content) (new : Content) (told : Option Content) (count : ℕ) →
+    IsServed old told count → told ≡ Some new →
     (length new.own.back ≡ new.own.given) × (length new.own.back ≡ count)
 given_back None new None count served is = let bad : ⊥ = cc in absurd bad
 given_back None new (Some c) count served is = let bad : ⊥ = cc in absurd bad
 given_back (Some old) new None count served is = absurd served
 given_back (Some old) new (Some c) count served is =
     let same : c ≡ new = cc in
-    subst (λ (content : Content). (length content.own.back ≡ content.own.given) × (length content.own.back ≡ count)) same (served.back ∙ sym served.given, served.back)
+    subst (λ (content : Content). (length content.own.back ≡ content.own.given)
+    × (length content.own.back ≡ count)) same (served.back ∙ sym served.given, served.back)
 
 -- the last time that a part was asked for a connection
 abbrev LastOf : World → World → Part → Type 0
@@ -241,7 +249,8 @@ LastOf before after part = (part.last ≡ NoMore) ⊎ ((part.last ≡ Failed) ×
 
 last_of : {serving : Serving} {by : Duty} {journal : List Entry} {report : PartReport} {end : PartEnd}
     {new : Content} (before after : World) →
-    (worked : HasWorked serving by journal before.gate after.gate report) → report.end ≡ end → end ≢ PartNoMemory → worked.after.told ≡ Some new → LastOf before after new.own
+    (worked : HasWorked serving by journal before.gate after.gate report) → report.end ≡ end
+    → end ≢ PartNoMemory → worked.after.told ≡ Some new → LastOf before after new.own
 last_of {end = AllTaken} {new} before after worked is found told =
     inl (subst (λ (t : Option Content). IfSome t (λ c. c.own.last ≡ NoMore)) told (worked.served.all is))
 last_of {end = PartFault} {new} before after worked is found told =
@@ -254,9 +263,11 @@ last_of {end = PartNoMemory} {new} before after worked is found told = absurd (f
 -- the part of a worker is back in the gate
 pub part_back : {before after : World} {serving : Serving} {by : Duty} {journal : List Entry} {content : Content}
     {report : PartReport} → HasWorked serving by journal before.gate after.gate report →
-    report.end ≢ PartNoMemory → after.gate.told ≡ Some content → (part : Part) × ((slice_index_or content.parts by.worker None ≡ Some part) × HasGivenBack before after part)
+    report.end ≢ PartNoMemory → after.gate.told ≡ Some content
+    → (part : Part) × ((slice_index_or content.parts by.worker None ≡ Some part) × HasGivenBack before after part)
 part_back {before} {after} {by} {content} {report} worked found told =
-    let back : HasBack by.worker worked.after.told content = subst (λ (t : Option Content). IfSome t (HasBack by.worker worked.after.told)) told worked.back in (
+    let back : HasBack by.worker worked.after.told content =
+    subst (λ (t : Option Content). IfSome t (HasBack by.worker worked.after.told)) told worked.back in (
       back.0.own,
       (
         back.1.1,
@@ -274,14 +285,16 @@ pub worker_of : (work : Working) (parts : List PartReport) →
     HasWorked work.serving (duty work.films (settings_of work.serving) work.seed worker) work.journal work.gate work.gate_after
     (slice_index_or parts worker none)
 worker_of work parts all worker none inside =
-    subst (λ (n : ℕ). HasWorked serving (duty films (settings_of serving) seed n) journal gate gate' (slice_index_or parts worker none)) (zero-add worker)
+    subst (λ (n : ℕ). HasWorked serving (duty films (settings_of serving) seed n) journal gate gate'
+    (slice_index_or parts worker none)) (zero-add worker)
     (worker_worked work 0 parts all worker
     (record { none = none; inside = inside }))
   where
     open work use {films, serving, seed, journal, gate, gate_after as gate'}
 
 -- each worker found memory
-pub each_found : (parts : List PartReport) (end : PartEnd) (reports : List ConnReport) → AreLeft parts end reports → end ≢ PartNoMemory →
+pub each_found : (parts : List PartReport) (end : PartEnd) (reports : List ConnReport) →
+    AreLeft parts end reports → end ≢ PartNoMemory →
     All (λ (part : PartReport). part.end ≢ PartNoMemory) parts
 each_found parts end reports left found = elim left.memory [
   | inl none ↦ absurd (found none)
@@ -306,20 +319,26 @@ gives_each_back before after seed serving ended gate serves told have_run =
     }
 
 -- with status 0 each worker's part had no more connections
-all_taken : {end : PartEnd} {ended : Ended} (before after : World) (text : List ℕ) → Ends before.out after.out before.err after.err text end ended → ended.status ≡ 0 →
+all_taken : {end : PartEnd} {ended : Ended} (before after : World) (text : List ℕ) →
+    Ends before.out after.out before.err after.err text end ended → ended.status ≡ 0 →
     end ≡ AllTaken
 all_taken {end} {ended} before after text (inl whole) status = whole.0.1
 all_taken {end} {ended} before after text (inr wrong) status = absurd (not_none wrong.0 (sym wrong.1.1.status ∙ status))
 
 part_taken : {serving : Serving} {by : Duty} {journal : List Entry} {gate gate' : Outlet} {content : Content}
     {report : PartReport} → HasWorked serving by journal gate gate' report →
-    report.end ≡ AllTaken → gate'.told ≡ Some content → (part : Part) × ((slice_index_or content.parts by.worker None ≡ Some part) × (part.last ≡ NoMore))
+    report.end ≡ AllTaken → gate'.told ≡ Some content
+    → (part : Part) × ((slice_index_or content.parts by.worker None ≡ Some part) × (part.last ≡ NoMore))
 part_taken {by} {content} worked taken told =
-    let back : HasBack by.worker worked.after.told content = subst (λ (t : Option Content). IfSome t (HasBack by.worker worked.after.told)) told worked.back in
-    (back.0.own, (back.1.1, subst (λ (t : Option Content). IfSome t (λ c. c.own.last ≡ NoMore)) back.1.0 (worked.served.all taken)))
+    let back : HasBack by.worker worked.after.told content =
+    subst (λ (t : Option Content). IfSome t (HasBack by.worker worked.after.told)) told worked.back in (
+      back.0.own,
+      (back.1.1, subst (λ (t : Option Content). IfSome t (λ c. c.own.last ≡ NoMore)) back.1.0 (worked.served.all taken)),
+    )
 
 pub leaves_none_out : LeavesNoneOut
-leaves_none_out before after seed serving ended gate (inl kept) status told = absurd (not_none kept.0 (sym kept.1.3.status ∙ status))
+leaves_none_out before after seed serving ended gate (inl kept) status told =
+    absurd (not_none kept.0 (sym kept.1.3.status ∙ status))
 leaves_none_out before after seed serving ended gate (inr served) status told =
     let worked = served.worked in
     let none : PartReport = record { end = AllTaken; reports = ended.reports } in
@@ -330,7 +349,15 @@ leaves_none_out before after seed serving ended gate (inr served) status told =
       each = λ worker inside.
           let within : worker < length worked.parts = omega (arith, inside, worked.count) in
           part_taken
-          (worker_of (record { films = served.films; serving = _; seed = seed; journal = _; gate = _; gate_after = _ }) worked.parts
+          (worker_of (record {
+            films = served.films;
+            serving = _;
+            seed = seed;
+            journal = _;
+            gate =
+                _;
+            gate_after = _;
+          }) worked.parts
           worked.each worker none within)
           (worked.left.taken (all_taken before after _ served.ends status) worker none within) told;
     }

@@ -48,12 +48,16 @@ contains_seam xs ys zs y is = subst (λ (l : List (List ℕ)). Contains l y) (sy
     (length xs, omega (arith, length-append xs (y ∷ ys)), get_or-append_seam xs y ys y)
 
 -- what a word and the words after it give
-pub values_rest : (key : List ℕ) (words : List (String Global)) (i : ℕ) (word : String Global) → i < length words → word ≡ get_or words i word →
-    values_of key (texts (drop i words)) ≡ option_to_list (setting_value key (string_bytes word)) ++ values_of key (texts (drop (i + 1) words))
+pub values_rest : (key : List ℕ) (words : List (String Global)) (i : ℕ) (word : String Global) →
+    i < length words → word ≡ get_or words i word →
+    values_of key (texts (drop i words))
+    ≡ option_to_list (setting_value key (string_bytes word)) ++ values_of key (texts (drop (i + 1) words))
 values_rest key words i word h at =
     ap (λ (ws : List (String Global)). values_of key (texts ws)) (drop-cons words i word h)
-    ∙ ap (λ (w : String Global). option_to_list (setting_value key (string_bytes w)) ++ values_of key (texts (drop (suc i) words))) (sym at)
-    ∙ ap (λ (j : ℕ). option_to_list (setting_value key (string_bytes word)) ++ values_of key (texts (drop j words))) (sym (add-one i))
+    ∙ ap (λ (w : String Global). option_to_list (setting_value key (string_bytes w))
+    ++ values_of key (texts (drop (suc i) words))) (sym at)
+    ∙ ap (λ (j : ℕ). option_to_list (setting_value key (string_bytes word))
+    ++ values_of key (texts (drop j words))) (sym (add-one i))
 
 -- a word at its place among these
 pub record WordAt (words : List (String Global)) (word : String Global) : Type 0 where
@@ -68,7 +72,8 @@ word_split : {word : String Global} {words : List (String Global)} (word_at : Wo
     IsWordNamed (string_bytes word) name →
     values_of (codes "film") (texts words) ≡ so_far ++ name ∷ values_of (codes "film") (texts (drop (word_at.place + 1) words))
 word_split {word} {words} word_at so_far name whole named =
-    whole ∙ ap (λ (vs : List (List ℕ)). so_far ++ vs) (values_rest (codes "film") words word_at.place word word_at.inside word_at.at
+    whole ∙ ap (λ (vs : List (List ℕ)). so_far ++ vs)
+    (values_rest (codes "film") words word_at.place word word_at.inside word_at.at
     ∙ ap (λ (o : Option (List ℕ)). option_to_list o ++ values_of (codes "film") (texts (drop (word_at.place + 1) words))) named)
 
 -- the film of a word is one of the films
@@ -77,11 +82,13 @@ pub word_film : {word : String Global} {words : List (String Global)} (word_at :
     values_of (codes "film") (texts words) ≡ so_far ++ values_of (codes "film") (texts (drop word_at.place words)) →
     IsWordNamed (string_bytes word) name → Contains (values_of (codes "film") (texts words)) name
 word_film {words} word_at so_far name whole named =
-    contains_seam so_far (values_of (codes "film") (texts (drop (word_at.place + 1) words))) (values_of (codes "film") (texts words)) name
+    contains_seam so_far (values_of (codes "film") (texts (drop (word_at.place + 1) words)))
+    (values_of (codes "film") (texts words)) name
     (word_split word_at so_far name whole named)
 
 -- films that are held may be served
-pub all_accepted : (told : Option (List File)) (held : List File) (films : List Stored) → told ≡ Some held → All (IsHeld told) films → All (MayBeServed held) (names_of films)
+pub all_accepted : (told : Option (List File)) (held : List File) (films : List Stored) → told ≡ Some held
+    → All (IsHeld told) films → All (MayBeServed held) (names_of films)
 all_accepted told held films told_is all =
     All-map (MayBeServed held) (λ (film : Stored). string_bytes film.name) films (λ i d inside. (all i d inside held told_is).1)
 
@@ -108,18 +115,21 @@ bytes_same : (x : List ℕ) → bytes_eq x x ≡ true
 bytes_same [] = refl
 bytes_same (b ∷ x) = rw (eq-eqb b b refl) (bytes_same x)
 
-all_good : (films : List Stored) → list_all is_good_name (names_of films) ≡ true → All (λ film. is_good_name (string_bytes film.name) ≡ true) films
+all_good : (films : List Stored) → list_all is_good_name (names_of films) ≡ true
+    → All (λ film. is_good_name (string_bytes film.name) ≡ true) films
 all_good [] is = All-nil (λ (film : Stored). is_good_name (string_bytes film.name) ≡ true)
 all_good (film ∷ films) is =
     let parts = and_parts (is_good_name (string_bytes film.name)) (list_all is_good_name (names_of films)) is in
     All-cons (λ (f : Stored). is_good_name (string_bytes f.name) ≡ true) film films parts.0 (all_good films parts.1)
 
-apart : (names : List (List ℕ)) → are_distinct names ≡ true → (i j : ℕ) → i < j → j < length names → slice_index_or names i [] ≢ slice_index_or names j []
+apart : (names : List (List ℕ)) → are_distinct names ≡ true → (i j : ℕ) → i < j → j < length names
+    → slice_index_or names i [] ≢ slice_index_or names j []
 apart [] is i j before inside = absurd (omega (arith, inside))
 apart (name ∷ names) is i zero before inside = absurd (omega (arith, before))
 apart (name ∷ names) is zero (suc j) before inside =
     let parts = and_parts (not (list_any (bytes_eq name) names)) (are_distinct names) is in
-    λ same. true≢false (sym (list_any_at (bytes_eq name) names j [] (omega (arith, inside)) (ap (bytes_eq name) (sym same) ∙ bytes_same name))
+    λ same. true≢false
+    (sym (list_any_at (bytes_eq name) names j [] (omega (arith, inside)) (ap (bytes_eq name) (sym same) ∙ bytes_same name))
     ∙ not-true (list_any (bytes_eq name) names) parts.0)
 apart (name ∷ names) is (suc i) (suc j) before inside =
     let parts = and_parts (not (list_any (bytes_eq name) names)) (are_distinct names) is in
@@ -129,7 +139,8 @@ apart (name ∷ names) is (suc i) (suc j) before inside =
 pub films_are : (films : List Stored) (names : List (List ℕ)) → are_films names ≡ true → names ≡ names_of films → AreFilms films
 films_are films names is named =
     let same : are_films (names_of films) ≡ true = subst (λ (ns : List (List ℕ)). are_films ns ≡ true) named is in
-    let parts = and_parts (nat_le 1 (length (names_of films))) (nat_le (length (names_of films)) 64 && are_names (names_of films)) same in
+    let parts = and_parts (nat_le 1 (length (names_of films)))
+    (nat_le (length (names_of films)) 64 && are_names (names_of films)) same in
     let rest = and_parts (nat_le (length (names_of films)) 64) (are_names (names_of films)) parts.1 in
     let each = and_parts (list_all is_good_name (names_of films)) (are_distinct (names_of films)) rest.1 in
     let long : length (names_of films) ≡ length films = length-map films (λ (film : Stored). string_bytes film.name) in
@@ -157,7 +168,8 @@ pub record StoreRead : Type 0 where
 
 -- a trouble of reading keeps from serving, before the gate is opened
 pub read_serves : (store : StoreRead) (gate : Outlet) (t : Trouble) →
-    IsReadTrouble (Contains store.serving.films) (IsFirstRefused store.serving.films) store.told store.faults store.faults_after t →
+    IsReadTrouble (Contains store.serving.films) (IsFirstRefused store.serving.films) store.told store.faults
+    store.faults_after t →
     IsServeTrouble store.serving store.told store.faults store.faults_after gate gate t
 read_serves store gate Usage is = is
 read_serves store gate (Refused name fault) is = (is, refl)
@@ -177,7 +189,8 @@ loaded_accepted serving told films loaded held is =
 pub only_opened : {serving : Serving} {told : Option (List File)} {gate gate' : Option Content}
     (films : List Stored) → AreLoaded told serving.films films → IfSome gate' (IsOpenedOnce gate) →
     IfSome gate' (HasTooFew serving.listening.workers) → HasOnlyOpened serving told gate gate'
-only_opened {serving} {told} films loaded once few = record { accepted = loaded_accepted serving told films loaded; once = once; few = few }
+only_opened {serving} {told} films loaded once few =
+    record { accepted = loaded_accepted serving told films loaded; once = once; few = few }
 
 -- a serving with its store's files, and its store and gate before and after
 pub record ServingRun : Type 0 where
@@ -206,7 +219,8 @@ newly_open_as how (Some c) is = is.0
 
 -- the journal of a station that was closed
 pub closed_journal : {G : Type 0} {told : G → Option Content} {serving : Serving} {hall : Hall}
-    {workers : List (Worker G)} {seat : Sitting} {gate : Option Content} {entries : List Entry} → AreJoined told hall (length workers) workers seat gate → IsJournalOf seat entries → hall.steps ≡ serving.capacity →
+    {workers : List (Worker G)} {seat : Sitting} {gate : Option Content} {entries : List Entry} →
+    AreJoined told hall (length workers) workers seat gate → IsJournalOf seat entries → hall.steps ≡ serving.capacity →
     places_taken entries ≤ serving.journal → length workers ≡ serving.listening.workers → IsJournal serving entries
 closed_journal {entries} back whole steps few count = record {
   legal = subst (λ (s : List CapStep). IsLegal s entries) (back.steps ∙ steps) whole.legal;
@@ -284,7 +298,8 @@ worked_since work before from (part ∷ parts) all low = (
 
 pub have_worked_since : {films : List Stored} {seed : List ℕ} {serving : Serving} {entries : List Entry}
     {before gate gate' : Outlet} {end : PartEnd} {reports : List ConnReport} →
-    HaveWorked films seed serving entries gate gate' end reports → before.faults ≤ gate.faults → HaveWorked films seed serving entries before gate' end reports
+    HaveWorked films seed serving entries gate gate' end reports → before.faults ≤ gate.faults
+    → HaveWorked films seed serving entries before gate' end reports
 have_worked_since {films} {seed} {serving} {entries} {before} {gate} {gate'} {end} worked low =
     record {
       parts = worked.parts;
@@ -311,16 +326,19 @@ pub record InsideParts (parts : List PartReport) (k : ℕ) : Type 0 where
 pub worker_worked : (work : Working) (from : ℕ) (parts : List PartReport) →
     AllWorked work.films work.serving work.seed work.journal work.gate work.gate_after from parts → (k : ℕ)
     (here : InsideParts parts k) →
-    HasWorked work.serving (duty work.films (settings_of work.serving) work.seed (from + k)) work.journal work.gate work.gate_after
+    HasWorked work.serving (duty work.films (settings_of work.serving) work.seed (from + k)) work.journal
+    work.gate work.gate_after
     (slice_index_or parts k here.none)
 worker_worked work from [] all k here = absurd (omega (arith, here.inside))
 worker_worked work from (part ∷ parts) all zero here =
-    subst (λ (n : ℕ). HasWorked serving (duty films (settings_of serving) seed n) entries gate gate' part) (sym (add-zero from)) all.0
+    subst (λ (n : ℕ). HasWorked serving (duty films (settings_of serving) seed n) entries gate gate' part)
+    (sym (add-zero from)) all.0
   where
     open work use {films, serving, seed, journal as entries, gate, gate_after as gate'}
 worker_worked work from (part ∷ parts) all (suc k) here =
     let on : from + 1 + k ≡ from + suc k = omega arith in
-    subst (λ (n : ℕ). HasWorked serving (duty films (settings_of serving) seed n) entries gate gate' (slice_index_or parts k none)) on
+    subst (λ (n : ℕ). HasWorked serving (duty films (settings_of serving) seed n) entries gate gate'
+    (slice_index_or parts k none)) on
     (worker_worked work (from + 1) parts all.1 k (record { none = none; inside = omega (arith, inside) }))
   where
     open work use {films, serving, seed, journal as entries, gate, gate_after as gate'}

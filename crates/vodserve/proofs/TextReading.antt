@@ -17,11 +17,15 @@ use Rattle.local_commands.proofs.FieldLemmas.{field_cut, last_cut}
 -- all but the last line, and the last line without its end
 pub record HasLastLine (entries : List Entry) (connections : ℕ) : Type 0 where
   pub front : List ℕ
-  pub shape : served_text entries connections ≡ (front ++ 10 ∷ (codes "served connections=" ++ (decimal connections ++ 32 ∷ (codes "entries=" ++ decimal (length entries))))) ++ codes "\n"
+  pub shape : served_text entries connections
+      ≡ (front ++ 10
+      ∷ (codes "served connections="
+      ++ (decimal connections ++ 32 ∷ (codes "entries=" ++ decimal (length entries))))) ++ codes "\n"
 
 pub last_line_of : (entries : List Entry) (connections : ℕ) → HasLastLine entries connections
 last_line_of entries connections =
-    let slots = flat_map (slot_line (booked_in (state_after entries))) (booked_slots (state_after entries).now (booked_in (state_after entries))) in
+    let slots = flat_map (slot_line (booked_in (state_after entries)))
+    (booked_slots (state_after entries).now (booked_in (state_after entries))) in
     record {
       front = journal_text 0 entries ++ (first_words (state_after entries).now ++ (codes "\n" ++ (slots ++ codes "end")));
       shape = simp append_assoc;
@@ -30,10 +34,13 @@ last_line_of entries connections =
 pub last_clean : (connections entries : ℕ) → connections < 2 ^ 64 → entries < 2 ^ 64 →
     All (λ b. b ≢ 10) (codes "served connections=" ++ (decimal connections ++ 32 ∷ (codes "entries=" ++ decimal entries)))
 last_clean connections entries small small' =
-    let digits : (n : ℕ) → n < 2 ^ 64 → HasNo 10 (decimal n) = λ (n : ℕ) few. not_in_decimal 10 n few (λ within. omega (arith, within.0)) in
-    All-append (λ b. b ≢ 10) (codes "served connections=") (decimal connections ++ 32 ∷ (codes "entries=" ++ decimal entries)) (none_by 10 (codes "served connections=") refl)
+    let digits : (n : ℕ) → n < 2 ^ 64 → HasNo 10 (decimal n) =
+    λ (n : ℕ) few. not_in_decimal 10 n few (λ within. omega (arith, within.0)) in
+    All-append (λ b. b ≢ 10) (codes "served connections=")
+    (decimal connections ++ 32 ∷ (codes "entries=" ++ decimal entries)) (none_by 10 (codes "served connections=") refl)
     (All-append (λ b. b ≢ 10) (decimal connections) (32 ∷ (codes "entries=" ++ decimal entries)) (digits connections small)
-    (All-append (λ b. b ≢ 10) (codes " entries=") (decimal entries) (none_by 10 (codes " entries=") refl) (digits entries small')))
+    (All-append (λ b. b ≢ 10) (codes " entries=") (decimal entries) (none_by 10 (codes " entries=") refl)
+    (digits entries small')))
 
 -- the counts of a served line, in their range
 pub record ServedFit (connections : ℕ) (entries : List Entry) : Type 0 where
@@ -48,7 +55,8 @@ counts_told {connections} {connections'} {entries} {entries'} counts others e =
     let other = last_line_of entries' connections' in
     let line = codes "served connections=" ++ (decimal connections ++ 32 ∷ (codes "entries=" ++ decimal (length entries))) in
     let line' = codes "served connections=" ++ (decimal connections' ++ 32 ∷ (codes "entries=" ++ decimal (length entries'))) in
-    let whole = append_cancel_right (one.front ++ 10 ∷ line) (other.front ++ 10 ∷ line') (codes "\n") (sym one.shape ∙ e ∙ other.shape) in
+    let whole = append_cancel_right (one.front ++ 10 ∷ line) (other.front ++ 10 ∷ line') (codes "\n")
+    (sym one.shape ∙ e ∙ other.shape) in
     let last = last_cut 10 one.front other.front whole (last_clean connections (length entries) counts.connections_fit
     counts.entries_fit) (last_clean connections' (length entries') others.connections_fit others.entries_fit) in
     let first = field_cut (codes "entries=") counts.connections_fit others.connections_fit

@@ -8,7 +8,8 @@ use Rattle.vodserve.specs.Watches.{IsWishOf, opening_at}
 use Rattle.vodserve.specs.Worked.{IsOpenAs}
 
 -- a gate that was opened as a wish says was opened as the words say
-pub opened_for : (watching : Watching) (wish : Wish) (gate : Option Content) → IsWishOf watching wish → IsOpenAs (opening_at wish.port wish.slot_units) gate →
+pub opened_for : (watching : Watching) (wish : Wish) (gate : Option Content) → IsWishOf watching wish →
+    IsOpenAs (opening_at wish.port wish.slot_units) gate →
     IsOpenAs (opening_at watching.port watching.pace.slot) gate
 opened_for watching wish gate is open_as =
     subst (λ (n : ℕ). IsOpenAs (opening_at watching.port n) gate) is.slot

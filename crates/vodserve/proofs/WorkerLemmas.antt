@@ -74,7 +74,8 @@ all_workers told faults hall from workers all = λ i d inside. worker_at from wo
 -- as many workers, with the same numbers
 pub record SameNumbers (G : Type 0) (workers after : List (Worker G)) : Type 0 where
   pub long : length after ≡ length workers
-  pub numbers : ((i : ℕ) (d : Worker G) → i < length workers → (slice_index_or after i d).number ≡ (slice_index_or workers i d).number)
+  pub numbers : ((i : ℕ) (d : Worker G) → i < length workers
+      → (slice_index_or after i d).number ≡ (slice_index_or workers i d).number)
 
 -- workers with the numbers of others
 pub same_workers : {G : Type 0} {told : G → Option Content} {faults : G → ℕ} {hall : Hall} (from : ℕ)
@@ -95,11 +96,13 @@ same_workers from (first ∷ workers) (other ∷ after) all same each = (
   where
     open same use {long, numbers}
 
-number_of : (part : Option Content) (number from : ℕ) → IfSome part (λ content. content.own.number ≡ number) → number ≡ from → IfSome part (λ content. content.own.number ≡ from)
+number_of : (part : Option Content) (number from : ℕ) → IfSome part (λ content. content.own.number ≡ number)
+    → number ≡ from → IfSome part (λ content. content.own.number ≡ from)
 number_of None number from is same = tt
 number_of (Some p) number from is same = is ∙ same
 
-set_other : (xs : List (Option Part)) (i k : ℕ) (v d : Option Part) → k ≢ i → slice_index_or (slice_set xs i v) k d ≡ slice_index_or xs k d
+set_other : (xs : List (Option Part)) (i k : ℕ) (v d : Option Part) → k ≢ i
+    → slice_index_or (slice_set xs i v) k d ≡ slice_index_or xs k d
 set_other xs i k v d apart = get_or-set_other xs i k v d apart
 
 -- a part more is out
@@ -115,14 +118,17 @@ out_more count content are = record {
 }
 
 -- a part that came back
-pub out_less : (from count : ℕ) (part content : Content) → part.own.number ≡ from → AreOut from count content → AreOut (from + 1) count (after_rejoin part.own content)
+pub out_less : (from count : ℕ) (part content : Content) → part.own.number ≡ from → AreOut from count content
+    → AreOut (from + 1) count (after_rejoin part.own content)
 out_less from count part content number are = record {
   counted = length-set content.parts part.own.number (Some part.own) ∙ are.counted;
   out = λ k low high.
-      set_other content.parts part.own.number k (Some part.own) None (omega (arith, number, low)) ∙ are.out k (omega (arith, low)) high;
+      set_other content.parts part.own.number k (Some part.own) None (omega (arith, number, low))
+      ∙ are.out k (omega (arith, low)) high;
 }
 
-pub told_less : (from count : ℕ) (part gate : Option Content) → IfSome part (λ content. content.own.number ≡ from) → IfSome gate (AreOut from count) →
+pub told_less : (from count : ℕ) (part gate : Option Content) →
+    IfSome part (λ content. content.own.number ≡ from) → IfSome gate (AreOut from count) →
     IfSome (told_rejoined part gate) (AreOut (from + 1) count)
 told_less from count None None number are = tt
 told_less from count None (Some c) number are = tt
@@ -140,7 +146,8 @@ pub all_push : {A : Type 0} (P : A → Type 0) (items : List A) (item : A) → A
 all_push P items item all is = All-append P items (item ∷ []) all (All-cons P item [] is (All-nil P))
 
 -- a part that came back is in the gate, and those from before are too
-kept_one : (k : ℕ) (told part gate : Option Content) → IfSome gate (HasBack k told) → IfSome part (λ p. k < p.own.number) → IfSome (told_rejoined part gate) (HasBack k told)
+kept_one : (k : ℕ) (told part gate : Option Content) → IfSome gate (HasBack k told)
+    → IfSome part (λ p. k < p.own.number) → IfSome (told_rejoined part gate) (HasBack k told)
 kept_one k told None None is apart = tt
 kept_one k told None (Some c) is apart = tt
 kept_one k told (Some p) None is apart = tt
@@ -191,10 +198,12 @@ back_push : {G : Type 0} (parts : PartsTold G) (from : ℕ) (workers : List (Wor
     AreBack parts.told parts.gate from workers →
     IfSome parts.gate (HasBack (from + length workers) (parts.told worker.part)) →
     AreBack parts.told parts.gate from (workers ++ worker ∷ [])
-back_push parts from [] worker all last = (subst (λ (k : ℕ). IfSome parts.gate (HasBack k (parts.told worker.part))) (add-zero from) last, tt)
+back_push parts from [] worker all last =
+    (subst (λ (k : ℕ). IfSome parts.gate (HasBack k (parts.told worker.part))) (add-zero from) last, tt)
 back_push parts from (first ∷ workers) worker all last = (
   all.0,
-  back_push parts (from + 1) workers worker all.1 (let on : from + length (first ∷ workers) ≡ from + 1 + length workers = omega arith in
+  back_push parts (from + 1) workers worker all.1
+      (let on : from + length (first ∷ workers) ≡ from + 1 + length workers = omega arith in
       subst (λ (k : ℕ). IfSome parts.gate (HasBack k (parts.told worker.part))) on last),
 )
 
@@ -213,7 +222,8 @@ pub join_one : {G : Type 0} {told : G → Option Content} {faults : G → ℕ} {
     length workers < count → WorkerJoins G told worker seat seat' gate gate' →
     AreJoined told hall count (workers ++ worker ∷ []) seat' gate'
 join_one {told} {count} {workers} {worker} {seat} {seat'} {gate} so_far is number inside joins =
-    let own : IfSome (told worker.part) (λ content. content.own.number ≡ length workers) = number_of (told worker.part) worker.number (length workers) is.part number in
+    let own : IfSome (told worker.part) (λ content. content.own.number ≡ length workers) =
+    number_of (told worker.part) worker.number (length workers) is.part number in
     let one_more : length workers + 1 ≡ length (workers ++ worker ∷ []) = sym (length-append workers (worker ∷ [])) in
     record {
       id = ap (λ (s : Sitting). s.id) seated ∙ so_far.id;
@@ -227,7 +237,8 @@ join_one {told} {count} {workers} {worker} {seat} {seat'} {gate} so_far is numbe
           ∙ ap (λ (js : List Joined). js ++ joined_of worker ∷ []) so_far.joined
           ∙ sym (map-append joined_of workers (worker ∷ []));
       seen = all_push (λ (w : Worker _). IsPrefix w.seat.seen seat'.seen) workers worker
-          (λ i d within. prefix_trans (slice_index_or workers i d).seat.seen seat.seen seat'.seen (so_far.seen i d within) longer) seen;
+          (λ i d within. prefix_trans (slice_index_or workers i d).seat.seen seat.seen seat'.seen
+          (so_far.seen i d within) longer) seen;
       out = subst (λ (c : Option Content). IfSome c (AreOut (length (workers ++ worker ∷ [])) count)) (sym rejoins)
           (subst (λ (k : ℕ). IfSome (told_rejoined (told worker.part) gate) (AreOut k count)) one_more
           (told_less (length workers) count (told worker.part) gate own so_far.out));
@@ -253,14 +264,16 @@ joined_at {k} of_workers from (worker ∷ workers) all low high = elim (cases_lt
 
 pub all_joined : {G : Type 0} {told : G → Option Content} {hall : Hall} {workers : List (Worker G)} {seat : Sitting}
     {gate : Option Content} (faults : G → ℕ) →
-    AreWorkers told faults hall 0 workers → AreJoined told hall (length workers) workers seat gate → AllJoined seat.splits seat.joined
+    AreWorkers told faults hall 0 workers → AreJoined told hall (length workers) workers seat gate
+    → AllJoined seat.splits seat.joined
 all_joined {told} {hall} {workers} faults all back = record {
   each = λ k low high. subst (λ (js : List Joined). IsJoined js k) (sym back.joined)
       (joined_at (record { told = told; faults = faults; hall = hall }) 0 workers all low (omega (arith, high, back.splits)));
 }
 
 -- how the workers ended, and their reports
-reports_push : (parts : List PartReport) (part : PartReport) → all_reports (parts ++ part ∷ []) ≡ all_reports parts ++ part.reports.items
+reports_push : (parts : List PartReport) (part : PartReport)
+    → all_reports (parts ++ part ∷ []) ≡ all_reports parts ++ part.reports.items
 reports_push [] part = append-nil part.reports.items
 reports_push (first ∷ parts) part =
     ap (λ (rs : List ConnReport). first.reports.items ++ rs) (reports_push parts part)
@@ -281,7 +294,8 @@ one_last end parts part is = record {
 }
 
 -- a worker more lacks memory, or each found it
-found_more : (parts : List PartReport) (part : PartReport) (end : PartEnd) → All (λ (p : PartReport). p.end ≢ NoMemory) parts → (part.end ≡ NoMemory → end ≡ NoMemory) →
+found_more : (parts : List PartReport) (part : PartReport) (end : PartEnd) →
+    All (λ (p : PartReport). p.end ≢ NoMemory) parts → (part.end ≡ NoMemory → end ≡ NoMemory) →
     (end ≡ NoMemory) ⊎ All (λ (p : PartReport). p.end ≢ NoMemory) (parts ++ part ∷ [])
 found_more parts part end found none = by part.end refl
   where
@@ -296,7 +310,8 @@ found_more parts part end found none = by part.end refl
         other : PartFault ≡ NoMemory → ⊥
         other e = cc
 
-pub left_more : {parts : List PartReport} {end end' : PartEnd} {reports : List ConnReport} (part : PartReport) → AreLeft parts end reports → IsWorse end part.end end' →
+pub left_more : {parts : List PartReport} {end end' : PartEnd} {reports : List ConnReport} (part : PartReport) →
+    AreLeft parts end reports → IsWorse end part.end end' →
     AreLeft (parts ++ part ∷ []) end' (reports ++ part.reports.items)
 left_more {parts} {end} {end'} part left worse = record {
   taken = λ e. all_push (λ (p : PartReport). p.end ≡ AllTaken) parts part (left.taken (worse.taken e).0) (worse.taken e).1;
@@ -323,7 +338,8 @@ abbrev terms_with : List CapStep → ℕ → ℕ → Terms
 terms_with steps limit maker = record { steps = steps; limit = limit; maker = maker }
 
 -- so has each seat of it
-seat_terms : {serving : Serving} {hall : Hall} {seat left : Sitting} (worker : ℕ) → IsStationOf serving hall → IsSameSeat seat left → left.steps ≡ hall.steps →
+seat_terms : {serving : Serving} {hall : Hall} {seat left : Sitting} (worker : ℕ) → IsStationOf serving hall →
+    IsSameSeat seat left → left.steps ≡ hall.steps →
     left.limit ≡ hall.limit → left.number ≡ worker + 1 → terms_of seat ≡ terms_for serving worker
 seat_terms {serving} {seat} {left} worker is same steps limit number =
     ap (λ (s : List CapStep). terms_with s seat.limit seat.number) (sym same.steps ∙ steps ∙ is.steps)
@@ -382,7 +398,8 @@ pub all_worked : {G : Type 0} {told : G → Option Content} {faults : G → ℕ}
     WorkersBack G told faults gate gate' from workers → WorkersJournal G workers journal →
     AllWorked films serving seed journal gate gate' from (map report_of workers)
 all_worked {seed} [] of_words all finished backs own = tt
-all_worked {told} {faults} {films} {serving} {seed} {hall} {journal} {gate} {gate'} {from} (worker ∷ workers) of_words all finished backs own =
+all_worked {told} {faults} {films} {serving} {seed} {hall} {journal} {gate} {gate'} {from} (worker ∷ workers)
+    of_words all finished backs own =
     let Ends : Worker _ → Type 0 = HasFinished told faults films (settings_of serving) seed in
     let Saw : Worker _ → Type 0 = λ worker. IsPrefix worker.seat.seen seen in
     let Counts : Worker _ → Type 0 = λ worker. 0 < faults worker.part → HasRisen gate.faults gate'.faults in
@@ -396,8 +413,10 @@ all_worked {told} {faults} {films} {serving} {seed} {hall} {journal} {gate} {gat
           }) of_words all.1
           (All-head Ends worker workers finished) (subst (λ (n : ℕ). IfSome gate'.told (HasBack n (told worker.part))) (sym all.0)
           back.0) (All-head Counts worker workers counted)),
-      all_worked {told = told} {faults = faults} {films = films} {serving = serving} {seed = seed} {hall = hall} {from = from + 1} workers of_words
-          all.2 (All-tail Ends worker workers finished) (record { back = back.1; counted = All-tail Counts worker workers counted })
+      all_worked {told = told} {faults = faults} {films = films} {serving = serving} {seed = seed} {hall = hall}
+          {from = from + 1} workers of_words
+          all.2 (All-tail Ends worker workers finished)
+          (record { back = back.1; counted = All-tail Counts worker workers counted })
           (record {
             seen = seen;
             front = All-tail Saw worker workers front;

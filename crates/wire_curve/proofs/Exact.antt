@@ -7,24 +7,28 @@ use Rattle.wire_curve.specs.declared.film.CurveFault.TheVariants.{NoPictures, To
 use Rattle.wire_curve.specs.FilmCurves.{bytes_used_in}
 use Rattle.wire_curve.specs.Refusal.{IsAccepted, IsOverfull, HasFault}
 
-pub accepted-no_fault : (sizes : List ℕ) (timing : Timing) (fault : CurveFault) → IsAccepted sizes timing → HasFault sizes timing fault → ⊥
+pub accepted-no_fault : (sizes : List ℕ) (timing : Timing) (fault : CurveFault) → IsAccepted sizes timing
+    → HasFault sizes timing fault → ⊥
 accepted-no_fault sizes timing NoPictures ok none = omega (arith, ok.some_picture)
 accepted-no_fault sizes timing (TooManySlots slots) ok many = omega (arith, ok.few_slots, many.1, many.2)
 accepted-no_fault sizes timing (BufferTooSmall slot used least) ok small =
     let over = small.2 in omega (arith, over.above_buffer, over.used_is, ok.buffer_holds slot over.in_range)
 
 -- two first slots are one
-first_is_one : {sizes : List ℕ} {timing : Timing} {s u l s' u' l' : ℕ} → IsOverfull sizes timing s u l → IsOverfull sizes timing s' u' l' → s ≤ s'
+first_is_one : {sizes : List ℕ} {timing : Timing} {s u l s' u' l' : ℕ} → IsOverfull sizes timing s u l
+    → IsOverfull sizes timing s' u' l' → s ≤ s'
 first_is_one {s} {l} {s'} a b =
     elim (cases_lt s' s) [
       | inl lt ↦ absurd (let le = a.first s' lt in let up = b.above_buffer in let is = b.used_is in omega (arith, le, up, is))
       | inr le ↦ le
     ]
 
-greatest_is_one : {sizes : List ℕ} {timing : Timing} {s u l s' u' l' : ℕ} → IsOverfull sizes timing s u l → IsOverfull sizes timing s' u' l' → l ≤ l'
+greatest_is_one : {sizes : List ℕ} {timing : Timing} {s u l s' u' l' : ℕ} → IsOverfull sizes timing s u l
+    → IsOverfull sizes timing s' u' l' → l ≤ l'
 greatest_is_one {s} {l} a b = let le = b.greatest a.reached.0 a.reached.1 in omega (arith, le, a.reached.2)
 
-pub HasFault-unique : (sizes : List ℕ) (timing : Timing) (one other : CurveFault) → HasFault sizes timing one → HasFault sizes timing other → one ≡ other
+pub HasFault-unique : (sizes : List ℕ) (timing : Timing) (one other : CurveFault) → HasFault sizes timing one
+    → HasFault sizes timing other → one ≡ other
 HasFault-unique sizes timing NoPictures NoPictures a b = refl
 HasFault-unique sizes timing NoPictures (TooManySlots slots) a b = absurd (omega (arith, b.0))
 HasFault-unique sizes timing NoPictures (BufferTooSmall slot used least) a b = absurd (omega (arith, b.0))

@@ -20,14 +20,16 @@ due_is timing k s some =
       (λ e. let is : time / unit ≡ s = omega (arith, e) in
           let same : time / unit * unit ≡ s * unit = ap (λ q. q * unit) is in
           (omega (arith, floor, same), omega (arith, above, same))),
-      (λ both. let is : time / unit ≡ s = div-eq_of_lt-le {k = s} unit {m = time} (omega (arith, both.0)) (omega (arith, both.1)) in omega (arith, is)),
+      (λ both. let is : time / unit ≡ s =
+          div-eq_of_lt-le {k = s} unit {m = time} (omega (arith, both.0)) (omega (arith, both.1)) in omega (arith, is)),
     )
 
 pub due_rises : (timing : Timing) (j k : ℕ) → 1 ≤ timing.slot_units → j ≤ k → due_slot timing j ≤ due_slot timing k
 due_rises timing j k some le =
     let times : j * timing.picture_units ≤ k * timing.picture_units = mul-le-mul_right timing.picture_units le in
     let floor = div-mul-le_self (j * timing.picture_units) timing.slot_units in
-    let slots = le-div (j * timing.picture_units / timing.slot_units) (k * timing.picture_units) timing.slot_units (omega (arith, some)) (omega (arith, floor, times)) in
+    let slots = le-div (j * timing.picture_units / timing.slot_units) (k * timing.picture_units)
+    timing.slot_units (omega (arith, some)) (omega (arith, floor, times)) in
     omega (arith, slots)
 
 -- of n + d pictures the first n count with their sizes, and the others with nothing
@@ -40,7 +42,8 @@ record CountsFirst (sizes : List ℕ) (f : ℕ → ℕ) (n d : ℕ) : Type 0 whe
 first_sum : (sizes : List ℕ) (f : ℕ → ℕ) (n d : ℕ) → CountsFirst sizes f n d
     → sum_by f (range_with_len 0 (n + d)) ≡ sum (take n sizes)
 first_sum sizes f n zero it =
-    let same = sum_by-range-add (λ k. get_or sizes k 0) (λ k. 0) f 0 n (λ k l u. let e = it.counted k (omega (arith, u)) in omega (arith, e)) in
+    let same = sum_by-range-add (λ k. get_or sizes k 0) (λ k. 0) f 0 n
+    (λ k l u. let e = it.counted k (omega (arith, u)) in omega (arith, e)) in
     let none = sum_by-range-zero (λ k. 0) 0 n (λ k l u. refl) in
     let taken = sum_by-range-take sizes n (omega (arith, it.fits)) in
     let e : n + zero ≡ n = omega arith in
@@ -78,7 +81,8 @@ used_of_first sizes timing n t are =
     subst (λ m. sum_by f (range_with_len 0 m) ≡ sum (take n sizes)) e first in
     omega (arith, all)
 
-pub before_of_by : (sizes : List ℕ) (timing : Timing) (n t : ℕ) → AreUsedBy sizes timing n t → AreUsedBefore sizes timing n (t + 1)
+pub before_of_by : (sizes : List ℕ) (timing : Timing) (n t : ℕ) → AreUsedBy sizes timing n t
+    → AreUsedBefore sizes timing n (t + 1)
 before_of_by sizes timing n t are = record {
   within = are.within;
   used = λ k lt. let le = are.used k lt in omega (arith, le);
@@ -92,7 +96,8 @@ record IsCounted (timing : Timing) (m t n : ℕ) : Type 0 where
   unused : (k : ℕ) → n ≤ k → k < m → t ≤ due_slot timing k
 
 count_used : (timing : Timing) (m t : ℕ) → 1 ≤ timing.slot_units → (n : ℕ) × IsCounted timing m t n
-count_used timing zero t some = (0, record { within = omega arith; used = λ k lt. absurd (omega (arith, lt)); unused = λ k l u. absurd (omega (arith, u)) })
+count_used timing zero t some =
+    (0, record { within = omega arith; used = λ k lt. absurd (omega (arith, lt)); unused = λ k l u. absurd (omega (arith, u)) })
 count_used timing (suc m) t some =
     let rest = count_used timing m t some in
     let is = rest.1 in

@@ -10,7 +10,8 @@ use Rattle.wire_curve.specs.Uses.{AreUses, used_by, AreCurvesOfUses}
 use Rattle.wire_curve.proofs.UseLaws.{used_before-none, used_before-more, used_before-all, used_before_rises, used_by-is}
 
 -- the uses of all slots are all that is left to use
-pub sum_of_uses : (sizes : List ℕ) (timing : Timing) (uses : List ℕ) → IsWithinLimits sizes timing → 0 < length sizes → AreUses sizes timing uses
+pub sum_of_uses : (sizes : List ℕ) (timing : Timing) (uses : List ℕ) → IsWithinLimits sizes timing
+    → 0 < length sizes → AreUses sizes timing uses
     → timing.played + sum uses ≡ total_of sizes timing
 sum_of_uses sizes timing uses limits some are =
     let at_end = used_by-is sizes timing uses are (slot_count sizes timing) (omega arith) in
@@ -19,16 +20,19 @@ sum_of_uses sizes timing uses limits some are =
     omega (arith, at_end, whole, all)
 
 pub AreFilmCurves-of_uses : {sizes : List ℕ} {timing : Timing} {uses : List ℕ} {total : ℕ} {curves : Curves}
-    → AreUses sizes timing uses → total ≡ total_of sizes timing → AreCurvesOfUses timing uses total curves → AreFilmCurves sizes timing curves
+    → AreUses sizes timing uses → total ≡ total_of sizes timing → AreCurvesOfUses timing uses total curves
+    → AreFilmCurves sizes timing curves
 AreFilmCurves-of_uses {sizes} {timing} {uses} {total} are is of = record {
   from_is = of.from_is;
   low_slots = of.low_slots ∙ are.slots;
   up_slots = of.up_slots ∙ are.slots;
-  low_is = λ t lt. of.low_is t (omega (arith, are.slots)) ∙ ap (max timing.sent) (used_by-is sizes timing uses are (t + 1) (omega arith));
+  low_is = λ t lt. of.low_is t (omega (arith, are.slots))
+      ∙ ap (max timing.sent) (used_by-is sizes timing uses are (t + 1) (omega arith));
   up_is = λ t lt. of.up_is t (omega (arith, are.slots)) ∙ up_same sizes timing uses total are is t (omega arith);
 }
   where
-    up_same : (sizes : List ℕ) (timing : Timing) (uses : List ℕ) (total : ℕ) → AreUses sizes timing uses → total ≡ total_of sizes timing → (t : ℕ) → t ≤ slot_count sizes timing
+    up_same : (sizes : List ℕ) (timing : Timing) (uses : List ℕ) (total : ℕ) → AreUses sizes timing uses
+        → total ≡ total_of sizes timing → (t : ℕ) → t ≤ slot_count sizes timing
         → min total (used_by timing uses t + timing.buffer) ≡ up_at sizes timing t
     up_same sizes timing uses total are is t le =
         let by = used_by-is sizes timing uses are t le in
@@ -53,8 +57,20 @@ IsSound-of_film sizes timing curves limits ok are =
       few_slots = omega (arith, are.low_slots, ok.few_slots);
       same_length = are.up_slots ∙ sym are.low_slots;
       starts_within = omega (arith, are.from_is, are.low_is 0 (omega arith));
-      low_never_falls = λ t lt. omega (arith, are.low_is t (omega (arith, are.low_slots)), are.low_is (t + 1) (omega (arith, are.low_slots)), more (t + 1));
-      up_never_falls = λ t lt. omega (arith, are.up_is t (omega (arith, are.low_slots)), are.up_is (t + 1) (omega (arith, are.low_slots)), more t);
+      low_never_falls =
+          λ t lt. omega (
+            arith,
+            are.low_is t (omega (arith, are.low_slots)),
+            are.low_is (t + 1) (omega (arith, are.low_slots)),
+            more (t + 1),
+          );
+      up_never_falls =
+          λ t lt. omega (
+            arith,
+            are.up_is t (omega (arith, are.low_slots)),
+            are.up_is (t + 1) (omega (arith, are.low_slots)),
+            more t,
+          );
       low_below_up = λ t lt. omega (
         arith,
         are.low_is t (omega (arith, are.low_slots)),
@@ -69,6 +85,17 @@ IsSound-of_film sizes timing curves limits ok are =
         none,
         all,
       );
-      meet_at_end = omega (arith, low_end, up_end, low_last, up_last, at_end, more (n - 1), ok.buffer_holds (n - 1) (omega arith), limits.sent_of_total);
+      meet_at_end =
+          omega (
+            arith,
+            low_end,
+            up_end,
+            low_last,
+            up_last,
+            at_end,
+            more (n - 1),
+            ok.buffer_holds (n - 1) (omega arith),
+            limits.sent_of_total,
+          );
       total_fits = omega (arith, low_end, low_last, at_end, limits.sent_of_total, limits.total_fits);
     }

@@ -16,7 +16,14 @@ sum_by-range-add f g h a zero each = refl
 sum_by-range-add f g h a (suc n) each =
     let here = each a (omega arith) (omega arith) in
     let rest = sum_by-range-add f g h (a + 1) n (λ k l u. each k (omega arith) (omega arith)) in
-    omega (arith, here, rest, sum_by-cons f a (range_with_len (a + 1) n), sum_by-cons g a (range_with_len (a + 1) n), sum_by-cons h a (range_with_len (a + 1) n))
+    omega (
+      arith,
+      here,
+      rest,
+      sum_by-cons f a (range_with_len (a + 1) n),
+      sum_by-cons g a (range_with_len (a + 1) n),
+      sum_by-cons h a (range_with_len (a + 1) n),
+    )
 
 -- terms that are no greater
 pub sum_by-range-le : (f g : ℕ → ℕ) (a n : ℕ) → ((k : ℕ) → a ≤ k → k < a + n → f k ≤ g k)

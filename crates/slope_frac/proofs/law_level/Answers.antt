@@ -9,8 +9,10 @@ returns-clause-same_below c =
     let b = c.args.b in
     let d = c.args.c in
     λ level. (
-      λ h. at_most_below (record { first = b; between = a; last = d; some_slot = c.requires.one }) c.requires.other (le_of_eq (sym level)) h,
-      λ h. at_most_below (record { first = a; between = b; last = d; some_slot = c.requires.other }) c.requires.one (le_of_eq level) h,
+      λ h. at_most_below (record { first = b; between = a; last = d; some_slot = c.requires.one })
+          c.requires.other (le_of_eq (sym level)) h,
+      λ h. at_most_below (record { first = a; between = b; last = d; some_slot = c.requires.other })
+          c.requires.one (le_of_eq level) h,
     )
 
 pub returns-clause-same_above : goal.returns-clause-same_above
@@ -19,6 +21,8 @@ returns-clause-same_above c =
     let b = c.args.b in
     let d = c.args.c in
     λ level. (
-      λ h. below_at_most (record { first = d; between = a; last = b; some_slot = c.requires.one }) c.requires.other h (le_of_eq level),
-      λ h. below_at_most (record { first = d; between = b; last = a; some_slot = c.requires.other }) c.requires.one h (le_of_eq (sym level)),
+      λ h. below_at_most (record { first = d; between = a; last = b; some_slot = c.requires.one })
+          c.requires.other h (le_of_eq level),
+      λ h. below_at_most (record { first = d; between = b; last = a; some_slot = c.requires.other })
+          c.requires.one h (le_of_eq (sym level)),
     )

@@ -8,10 +8,14 @@ use Rattle.admission.proofs.keeping.give_back.Goals as goal
 
 pub offset_bounds-entries-number : goal.offset_bounds-entries-number
 offset_bounds-entries-number c =
-    omega (arith, open-inside c.args.calendar.now.steps c.args.entries.now c.args.number c.args.keep c.requires.legal c.requires.can)
+    omega (
+      arith,
+      open-inside c.args.calendar.now.steps c.args.entries.now c.args.number c.args.keep c.requires.legal c.requires.can,
+    )
 
 pub bounds-entries-number : goal.bounds-entries-number
-bounds-entries-number c = open-inside c.args.calendar.now.steps c.args.entries.now c.args.number c.args.keep c.requires.legal c.requires.can
+bounds-entries-number c =
+    open-inside c.args.calendar.now.steps c.args.entries.now c.args.number c.args.keep c.requires.legal c.requires.can
 
 pub unreachable-requires : goal.unreachable-requires
 unreachable-requires c =
@@ -43,7 +47,9 @@ release-requires-clause-booked c =
     found.play_is ∙ ap (λ s. whole_play s play.segments) (sym start) ∙ ap (λ p. whole_play c.in-Admitted.start p) (sym plan) in
     let whole : HoldsWhole (state_after c.args.entries.now) c.args.number c.in-Admitted.start c.in-Play.plan =
     record { held = found.held; is = found.is; play_is = same } in
-    cut-allowed c.args.keep whole c.requires.follows.stands (λ before after. c.law_release.ensures c.args.calendar.now before after c.in-Play.plan c.in-Admitted.start c.args.keep c.segments-plan.ensures.plan)
+    cut-allowed c.args.keep whole c.requires.follows.stands
+    (λ before after. c.law_release.ensures c.args.calendar.now before after c.in-Play.plan
+    c.in-Admitted.start c.args.keep c.segments-plan.ensures.plan)
 
 pub returns-clause-next : goal.returns-clause-next
 returns-clause-next c = λ place. (

@@ -9,4 +9,5 @@ returns-clause-answer c = λ steps state next then place command one other a b.
 
 pub returns-clause-next : goal.returns-clause-next
 returns-clause-next c = λ steps state next then place command one other a b.
-    a.next_is ∙ ap (next_state state place command) (answer-once (record { steps = steps; state = state }) command one other a.answer_is b.answer_is) ∙ sym b.next_is
+    a.next_is ∙ ap (next_state state place command)
+    (answer-once (record { steps = steps; state = state }) command one other a.answer_is b.answer_is) ∙ sym b.next_is

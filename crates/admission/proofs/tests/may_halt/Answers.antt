@@ -17,10 +17,13 @@ returns c = λ _. (
       admission = record {
         inside = inside;
         admitted = λ none.
-            ap (λ (e : Entry). play_admitted e.command e.answer) (sym (get_or_read entries c.args.number c.index-entries-number.result inside c.index-entries-number.is none)) ∙ found.1.1.0;
+            ap (λ (e : Entry). play_admitted e.command e.answer)
+            (sym (get_or_read entries c.args.number c.index-entries-number.result inside
+            c.index-entries-number.is none)) ∙ found.1.1.0;
       };
       unhalted = record { each = λ i none less. c.loop-entry.invariant i none (omega (arith, less, c.loop-entry-test.false)) };
       small = found.1.1.1;
     } in
-    still-open c.args.book.now.steps c.args.book.now.entries c.args.number c.args.keep c.entries-entries.ensures.legal (subst S c.entries-entries.ensures.value still)
+    still-open c.args.book.now.steps c.args.book.now.entries c.args.number c.args.keep
+    c.entries-entries.ensures.legal (subst S c.entries-entries.ensures.value still)
     )

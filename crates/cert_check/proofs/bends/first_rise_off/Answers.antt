@@ -24,7 +24,8 @@ loop-i-preserved c =
       none = below_more _ _ c.loop-i.invariant.none (λ fault. elim c.else-off.branch [
         | else-off-via-else-off w ↦ (
             let there = curve_there curves.from curves.up.items xs i (omega arith) (c.requires.some i (omega arith)) in
-            let place : slice_index curves.up.items (c.loop-i.place + (segment_at xs i).slots - 1) ≡ slice_index curves.up.items (total_slots (take i xs) + (segment_at xs i).slots - 1) =
+            let place : slice_index curves.up.items (c.loop-i.place + (segment_at xs i).slots - 1)
+            ≡ slice_index curves.up.items (total_slots (take i xs) + (segment_at xs i).slots - 1) =
             ap (λ n. slice_index curves.up.items (n + (segment_at xs i).slots - 1)) c.loop-i.invariant.place_is in
             let height = rw c.as_slice-up.ensures.value at w.if-off.false in
             fault.2 (omega (arith, there, place, height, end_height_is curves.from xs i (omega arith)))

@@ -6,4 +6,5 @@ returns-clause-best c =
     let curves = c.args.curves.now in
     let sound = c.requires in
     best_where_ok curves.from c.args.segments.now
-    (record { some_slot = sound.some_slot; same_length = sound.same_length; meet = sound.meet_at_end }) c.find_fault.result c.find_fault.ensures
+    (record { some_slot = sound.some_slot; same_length = sound.same_length; meet = sound.meet_at_end })
+    c.find_fault.result c.find_fault.ensures

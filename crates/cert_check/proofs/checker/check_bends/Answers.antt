@@ -5,7 +5,8 @@ use Rattle.cert_check.proofs.checker.check_bends.Goals as goal
 
 pub returns-in-Some-first_fall_off : goal.returns-in-Some-first_fall_off
 returns-in-Some-first_fall_off c =
-    first_fall c.in-Some-first_fall_off.i c.requires c.in_default.ensures c.in_default-first_rise_off.ensures c.in-Some-first_fall_off.ensures
+    first_fall c.in-Some-first_fall_off.i c.requires c.in_default.ensures c.in_default-first_rise_off.ensures
+    c.in-Some-first_fall_off.ensures
 
 pub returns-in-Some : goal.returns-in-Some
 returns-in-Some c = grind (arith, common_steps)

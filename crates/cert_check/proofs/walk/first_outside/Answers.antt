@@ -37,16 +37,29 @@ loop-t-preserved c =
       above_is = elim c.if-is_none.branch [
         | then-is_none+then-height-from-2 w ↦ (
             let none : is_some c.loop-t.above ≡ false = c.is_none.ensures ∙ ap not w.if-is_none.true in
-            rw w.above-is (first_found c.loop-t.above (IsAboveUp curves.from curves.up.items segments) c.loop-t.t c.loop-t.invariant.above_is none
+            rw w.above-is
+            (first_found c.loop-t.above (IsAboveUp curves.from curves.up.items segments) c.loop-t.t
+            c.loop-t.invariant.above_is none
             (above_there curves.up.items goes few_up c.scaled_height-height.ensures
-            (rw (w.from-then-is_none.ensures, w.from-then-is_none-2.ensures, c.as_slice-up.ensures.value) at w.if-height-from-2.true)))
+            (rw (
+              w.from-then-is_none.ensures,
+              w.from-then-is_none-2.ensures,
+              c.as_slice-up.ensures.value,
+            ) at w.if-height-from-2.true)))
             )
-        | else-is_none w ↦ rw w.above-is (first_kept c.loop-t.above (IsAboveUp curves.from curves.up.items segments) c.loop-t.t c.loop-t.invariant.above_is
+        | else-is_none w ↦
+            rw w.above-is
+            (first_kept c.loop-t.above (IsAboveUp curves.from curves.up.items segments) c.loop-t.t c.loop-t.invariant.above_is
             (λ none. elim w.else-is_none.branch [
               | else-is_none-via-then-is_none+else-height-from-2 w' ↦
                   not_above_there curves.up.items goes c.scaled_height-height.ensures
-                  (rw (w'.from-then-is_none.ensures, w'.from-then-is_none-2.ensures, c.as_slice-up.ensures.value) at w'.if-height-from-2.false)
-              | else-is_none-via-else-is_none w' ↦ absurd (both_ways (is_some c.loop-t.above) none (c.is_none.ensures ∙ ap not w'.if-is_none.false))
+                  (rw (
+                    w'.from-then-is_none.ensures,
+                    w'.from-then-is_none-2.ensures,
+                    c.as_slice-up.ensures.value,
+                  ) at w'.if-height-from-2.false)
+              | else-is_none-via-else-is_none w' ↦
+                  absurd (both_ways (is_some c.loop-t.above) none (c.is_none.ensures ∙ ap not w'.if-is_none.false))
             ]))
       ];
     }

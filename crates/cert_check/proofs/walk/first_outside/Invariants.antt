@@ -8,5 +8,6 @@ abbrev pub invariant-loop-t : goal.invariant-loop-t
 invariant-loop-t l = record {
   stands : StandsAt l.curves.from l.segments l.t l.walk;
   not_below : (j : ℕ) → j < l.t → ¬ IsBelowLow l.curves.from l.curves.low.items l.segments j;
-  above_is : MatchOption l.above ((j : ℕ) → j < l.t → ¬ IsAboveUp l.curves.from l.curves.up.items l.segments j) (IsFirst (IsAboveUp l.curves.from l.curves.up.items l.segments));
+  above_is : MatchOption l.above ((j : ℕ) → j < l.t → ¬ IsAboveUp l.curves.from l.curves.up.items l.segments j)
+      (IsFirst (IsAboveUp l.curves.from l.curves.up.items l.segments));
 }

@@ -9,7 +9,8 @@ use Rattle.command_words.proofs.capacities.read_steps.Goals as goal
 
 pub returns-then-not-put_part-clause-steps : goal.returns-then-not-put_part-clause-steps
 returns-then-not-put_part-clause-steps c =
-    let first = rw c.in-Some.is at (split_once_first 44 c.loop-part.rest.now c.split_once.result c.split_once.ensures.cases (lit< tt)) in
+    let first = rw c.in-Some.is at (split_once_first 44 c.loop-part.rest.now c.split_once.result
+    c.split_once.ensures.cases (lit< tt)) in
     sym (
     c.loop-part.invariant.2
     ∙ part_bad c.loop-part.steps c.loop-part.rest.now first.0 first.1 first.2 (c.put_part.ensures.refused c.if-not-put_part.true)
@@ -17,20 +18,26 @@ returns-then-not-put_part-clause-steps c =
 
 pub loop-part-preserved : goal.loop-part-preserved
 loop-part-preserved c =
-    let first = rw c.in-Some.is at (split_once_first 44 c.loop-part.rest.now c.split_once.result c.split_once.ensures.cases (lit< tt)) in (
+    let first = rw c.in-Some.is at (split_once_first 44 c.loop-part.rest.now c.split_once.result
+    c.split_once.ensures.cases (lit< tt)) in (
       search rules,
       c.put_part.ensures.front,
       c.loop-part.invariant.2
           ∙ part_first c.loop-part.steps c.loop-part.rest.now first.0 first.1 first.2
-          ∙ ap (λ (o : Option (List CapStep)). fold part_more o (slice_split (λ b. b == 44) c.in-Some.after.now)) (c.put_part.ensures.put c.if-not-put_part.false),
+          ∙ ap (λ (o : Option (List CapStep)). fold part_more o
+          (slice_split (λ b. b == 44) c.in-Some.after.now)) (c.put_part.ensures.put c.if-not-put_part.false),
     )
 
 pub returns-then-put_part-clause-steps : goal.returns-then-put_part-clause-steps
 returns-then-put_part-clause-steps c =
-    let whole = rw c.in_default.is at (split_once_first 44 c.loop-part.rest.now c.split_once.result c.split_once.ensures.cases (lit< tt)) in
-    sym (c.loop-part.invariant.2 ∙ part_last c.loop-part.steps c.loop-part.rest.now whole ∙ c.put_part-2.ensures.put c.if-put_part.true)
+    let whole = rw c.in_default.is at (split_once_first 44 c.loop-part.rest.now c.split_once.result
+    c.split_once.ensures.cases (lit< tt)) in
+    sym (c.loop-part.invariant.2 ∙ part_last c.loop-part.steps c.loop-part.rest.now whole
+    ∙ c.put_part-2.ensures.put c.if-put_part.true)
 
 pub returns-else-put_part-clause-steps : goal.returns-else-put_part-clause-steps
 returns-else-put_part-clause-steps c =
-    let whole = rw c.in_default.is at (split_once_first 44 c.loop-part.rest.now c.split_once.result c.split_once.ensures.cases (lit< tt)) in
-    sym (c.loop-part.invariant.2 ∙ part_last c.loop-part.steps c.loop-part.rest.now whole ∙ c.put_part-2.ensures.refused c.if-put_part.false)
+    let whole = rw c.in_default.is at (split_once_first 44 c.loop-part.rest.now c.split_once.result
+    c.split_once.ensures.cases (lit< tt)) in
+    sym (c.loop-part.invariant.2 ∙ part_last c.loop-part.steps c.loop-part.rest.now whole
+    ∙ c.put_part-2.ensures.refused c.if-put_part.false)

@@ -6,7 +6,9 @@ use Rattle.command_words.proofs.films.are_films.Given as goal
 
 abbrev pub invariant-loop-place : goal.invariant-loop-place
 invariant-loop-place l = record {
-  names : are_names (values_of (codes "film") (texts l.words)) ≡ are_names (values_of (codes "film") (texts (drop l.place l.words)));
-  counted : length (values_of (codes "film") (texts l.words)) ≡ l.count + length (values_of (codes "film") (texts (drop l.place l.words)));
+  names : are_names (values_of (codes "film") (texts l.words))
+      ≡ are_names (values_of (codes "film") (texts (drop l.place l.words)));
+  counted : length (values_of (codes "film") (texts l.words))
+      ≡ l.count + length (values_of (codes "film") (texts (drop l.place l.words)));
   few : l.count ≤ l.place;
 }

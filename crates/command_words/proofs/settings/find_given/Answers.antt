@@ -6,7 +6,8 @@ use Rattle.command_words.proofs.settings.find_given.Goals.{in-Some+else-is_some,
 
 pub returns-then-is_some : goal.returns-then-is_some
 returns-then-is_some c =
-    let given : IsSearch c.args.key.now c.args.words.now c.loop-word.word-index c.word-item.result c.loop-word.found c.setting.result = record {
+    let given : IsSearch c.args.key.now c.args.words.now c.loop-word.word-index c.word-item.result
+    c.loop-word.found c.setting.result = record {
       at = record { inside = c.loop-word-test.true; is = c.word-item.is };
       before = c.loop-word.invariant;
       says = c.setting.ensures ∙ ap (setting_value c.args.key.now) c.as_str.ensures.value;
@@ -15,7 +16,8 @@ returns-then-is_some c =
 
 pub loop-word-preserved : goal.loop-word-preserved
 loop-word-preserved c =
-    let given : IsSearch c.args.key.now c.args.words.now c.loop-word.word-index c.word-item.result c.loop-word.found c.setting.result = record {
+    let given : IsSearch c.args.key.now c.args.words.now c.loop-word.word-index c.word-item.result
+    c.loop-word.found c.setting.result = record {
       at = record { inside = c.loop-word-test.true; is = c.word-item.is };
       before = c.loop-word.invariant;
       says = c.setting.ensures ∙ ap (setting_value c.args.key.now) c.as_str.ensures.value;

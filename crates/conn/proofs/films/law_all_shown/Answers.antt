@@ -6,7 +6,8 @@ use Rattle.conn.proofs.films.law_all_shown.Goals as goal
 pub loop-film-preserved : goal.loop-film-preserved
 loop-film-preserved c =
     shown_more c.args.films.now c.loop-film.invariant
-    (slice_get_read c.args.films.now (length c.args.films.now) c.loop-film.film c.index-films-film.result refl c.loop-film-test.true c.index-films-film.is)
+    (slice_get_read c.args.films.now (length c.args.films.now) c.loop-film.film c.index-films-film.result refl
+    c.loop-film-test.true c.index-films-film.is)
     c.law_shown.ensures
 
 pub returns : goal.returns

@@ -27,7 +27,8 @@ returns-in-Some-clause-course g c =
     let before : Sight = sight c.events.connection (g.K.Link.told c.events.link) c.events.seat in
     let heard : Sight = sight c.events.connection (g.K.Link.told c.next.new.self) c.events.seat in
     let after : Sight = sight c.hear.new.self (g.K.Link.told c.hear.new.link) c.hear.new.seat in
-    let told : g.K.Link.told c.next.new.self ≡ told_more (g.K.Link.told c.events.link) (doing_of c.in-Ok.heard c.next.new.into ∷ []) = c.in-Ok.ensures.heard in
+    let told : g.K.Link.told c.next.new.self
+    ≡ told_more (g.K.Link.told c.events.link) (doing_of c.in-Ok.heard c.next.new.into ∷ []) = c.in-Ok.ensures.heard in
     run_end c.events.invariant.3 refl refl told
     (omega (arith, c.events-test.true)) (c.in-Some.ensures.comes c.events._event)
 
@@ -48,7 +49,8 @@ events-preserved g c =
     let before : Sight = sight c.events.connection (g.K.Link.told c.events.link) c.events.seat in
     let heard : Sight = sight c.events.connection (g.K.Link.told c.next.new.self) c.events.seat in
     let after : Sight = sight c.hear.new.self (g.K.Link.told c.hear.new.link) c.hear.new.seat in
-    let told : g.K.Link.told c.next.new.self ≡ told_more (g.K.Link.told c.events.link) (doing_of c.in-Ok.heard c.next.new.into ∷ []) = c.in-Ok.ensures.heard in
+    let told : g.K.Link.told c.next.new.self
+    ≡ told_more (g.K.Link.told c.events.link) (doing_of c.in-Ok.heard c.next.new.into ∷ []) = c.in-Ok.ensures.heard in
     let on = goes_on c.in-Ok.heard (length c.events.connection.input) c.hear.new.self c.in_default-hear.ensures.taken in (
       kept_on inv.0 c.hear.ensures.kept,
       on.0,
@@ -67,13 +69,16 @@ returns-clause-course g c =
 
 pub returns-in_default-clause-counted : goal.returns-in_default-clause-counted
 returns-in_default-clause-counted g c =
-    counted_on (Some LinkFault) (g.K.Link.faults c.args.link.now) (g.K.Link.faults c.events.link) (g.K.Link.faults c.next.new.self)
+    counted_on (Some LinkFault) (g.K.Link.faults c.args.link.now) (g.K.Link.faults c.events.link)
+    (g.K.Link.faults c.next.new.self)
     c.events.invariant.4
-    (counted_fault (g.K.Link.faults c.events.link) (g.K.Link.faults c.next.new.self) c.next.ensures.count c.in_default.ensures.fault)
+    (counted_fault (g.K.Link.faults c.events.link) (g.K.Link.faults c.next.new.self) c.next.ensures.count
+    c.in_default.ensures.fault)
 
 pub returns-in-Some-clause-counted : goal.returns-in-Some-clause-counted
 returns-in-Some-clause-counted g c =
-    counted_on (Some c.in-Some.end) (g.K.Link.faults c.args.link.now) (g.K.Link.faults c.next.new.self) (g.K.Link.faults c.hear.new.link)
+    counted_on (Some c.in-Some.end) (g.K.Link.faults c.args.link.now) (g.K.Link.faults c.next.new.self)
+    (g.K.Link.faults c.hear.new.link)
     (omega (arith, c.events.invariant.4, c.next.ensures.count)) c.in-Some.ensures.counted
 
 pub returns-clause-counted : goal.returns-clause-counted

@@ -9,7 +9,8 @@ use Rattle.conn.proofs.serving.serve_connection.Goals as goal
 
 pub returns-clause-entries : goal.returns-clause-entries
 returns-clause-entries g c =
-    let both = gone_on (business c.args.seat.now.mine c.in-Ok.connection) (business c.hear_all-end.new.seat.mine c.hear_all-end.new.connection)
+    let both = gone_on (business c.args.seat.now.mine c.in-Ok.connection)
+    (business c.hear_all-end.new.seat.mine c.hear_all-end.new.connection)
     (business c.close.new.seat.mine c.close.new.self) c.hear_all-end.ensures.kept.gone c.close.ensures.kept.gone in
     gone_whole c.args.seat.now.mine c.close.new.seat.mine (record {
       closed = c.in-Ok.ensures.booking;
@@ -26,7 +27,8 @@ returns-clause-headline g c =
     refl c.holds.ensures.kept (search rules)
 
 pub returns-clause-seat : goal.returns-clause-seat
-returns-clause-seat g c = seat_on c.args.seat.now c.hear_all-end.new.seat c.close.new.seat c.hear_all-end.ensures.kept.seat c.close.ensures.kept.seat
+returns-clause-seat g c =
+    seat_on c.args.seat.now c.hear_all-end.new.seat c.close.new.seat c.hear_all-end.ensures.kept.seat c.close.ensures.kept.seat
 
 pub returns-in_default-clause-seat : goal.returns-in_default-clause-seat
 returns-in_default-clause-seat g c = seat_none c.args.seat.now

@@ -18,7 +18,8 @@ loop-client-preserved c =
         limit = done.kept.limit ∙ inv.kept.limit;
         now = done.kept.now ∙ inv.kept.now;
       };
-      undone = undone-next none halt inside c.halt_of-halt.ensures.none (record { some = done.ended; left = done.left }) inv.undone;
+      undone = undone-next none halt inside c.halt_of-halt.ensures.none
+          (record { some = done.ended; left = done.left }) inv.undone;
       ended = λ slot timed.
           ended-next none halt inside (record {
             has = λ t. c.halt_of-halt.ensures.halt slot i (inv.sound.going.each i none inside) t;

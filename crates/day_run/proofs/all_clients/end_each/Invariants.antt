@@ -9,5 +9,6 @@ invariant-loop-client l = record {
   kept : IsSameBook l.initial.book l.book;
   undone : AreUndone l.client l.clients;
   ended : (slot : ℕ) → AreTimed slot l.initial.clients
-      → AreEndedTo (halt_for l.which slot) (state_for l.which slot) slot l.client l.initial.book.entries l.book.entries l.initial.clients l.clients;
+      → AreEndedTo (halt_for l.which slot) (state_for l.which slot) slot l.client l.initial.book.entries
+      l.book.entries l.initial.clients l.clients;
 }

@@ -18,8 +18,10 @@ returns-in-Some-clause-sound c =
     let halt = c.in-Some.halt in
     let sound = c.requires.sound in
     let e : Entry = record { maker = c.args.client; command = Halt halt.number halt.keep; answer = c.halt-noted.result.answer } in
-    let y : c.halt-noted.new.self.entries ≡ xs ++ e ∷ [] = ap (λ (j : Journal). j.entries) c.halt-noted.ensures.noted.journal_is in
-    let H : Option ClientHalt → Type 0 = λ o. IfSome o (λ (h : ClientHalt). (none : Client) → IsHaltOf (get_or cs c.args.client none) h) in
+    let y : c.halt-noted.new.self.entries ≡ xs ++ e ∷ [] =
+    ap (λ (j : Journal). j.entries) c.halt-noted.ensures.noted.journal_is in
+    let H : Option ClientHalt → Type 0 =
+    λ o. IfSome o (λ (h : ClientHalt). (none : Client) → IsHaltOf (get_or cs c.args.client none) h) in
     let is = subst H c.in-Some.is c.requires.halt in
     let its = open-halt (get_or cs c.args.client Idle) (sound.going.each c.args.client Idle c.requires.inside)
     (sound.booked.each c.args.client Idle c.requires.inside) (is Idle) in

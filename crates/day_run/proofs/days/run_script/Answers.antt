@@ -16,12 +16,15 @@ returns-clause-day c =
     let here = link_on c.in_ok-runner.runner in
     let m = moment_of c.run_lines.new.runner in
     let text = c.run_lines.new.text.items in
-    let on : List ReelContent → Link = λ ts. record { steps = c.args.profile; limit = c.args.limit; slot_units = units; reels = ts } in
+    let on : List ReelContent → Link =
+    λ ts. record { steps = c.args.profile; limit = c.args.limit; slot_units = units; reels = ts } in
     let R : List Line → Type 0 = λ l. HasRun here l text m in
     let same : here ≡ link =
-    c.in_ok-runner.ensures.link ∙ ap (λ (l : List Reel). on (map (reel_content units) l)) c.deref.ensures.value ∙ ap on (c.in_ok-reels.ensures.contents units) in
+    c.in_ok-runner.ensures.link ∙ ap (λ (l : List Reel). on (map (reel_content units) l)) c.deref.ensures.value
+    ∙ ap on (c.in_ok-reels.ensures.contents units) in
     day-of same
-    (subst R c.deref-2.ensures.value c.in_ok-run_lines.ensures.run) c.in_ok-run_end.ensures.text (c.into_entries.ensures.value ∙ c.in_ok-run_end.ensures.journal)
+    (subst R c.deref-2.ensures.value c.in_ok-run_lines.ensures.run) c.in_ok-run_end.ensures.text
+    (c.into_entries.ensures.value ∙ c.in_ok-run_end.ensures.journal)
 
 pub returns-clause-link : goal.returns-clause-link
 returns-clause-link c =

@@ -35,7 +35,8 @@ loop-trace-preserved c =
           sizes-next {words = words} c.loop-trace.traces.items trace e (record {
             left_is = inv.left;
             pictures_are = ap (λ n. 100 + n) c.draw-pictures.ensures.value;
-            sizes_are = c.in_ok-draw_sizes.ensures.sizes ∙ ap (λ (w : ℕ → ℕ). sizes_of w (100 + c.draw-pictures.result)) c.draw-pictures.ensures.left;
+            sizes_are = c.in_ok-draw_sizes.ensures.sizes
+                ∙ ap (λ (w : ℕ → ℕ). sizes_of w (100 + c.draw-pictures.result)) c.draw-pictures.ensures.left;
           }) inv.sizes;
       left =
           left-next words c.loop-trace.trace inv.left c.draw-pictures.ensures.left

@@ -11,13 +11,19 @@ use Rattle.day_run.proofs.fairs.fair.Goals as goal
 
 pub returns-clause-fair : goal.returns-clause-fair
 returns-clause-fair c =
-    let contents : map (reel_content 14400) c.deref-2.result.now ≡ map (trace_content 14400) (traces_drawn 16 (words_of c.args.seed)) =
+    let contents : map (reel_content 14400) c.deref-2.result.now
+    ≡ map (trace_content 14400) (traces_drawn 16 (words_of c.args.seed)) =
     ap (map (reel_content 14400)) c.deref-2.ensures.value ∙ c.in_ok-reels.ensures.contents
-    ∙ ap (map (trace_content 14400)) (ap sizes_in c.deref.ensures.value ∙ c.in_ok-traces.ensures.sizes ∙ ap (traces_drawn 16) c.new-draws.ensures) in
+    ∙ ap (map (trace_content 14400))
+    (ap sizes_in c.deref.ensures.value ∙ c.in_ok-traces.ensures.sizes ∙ ap (traces_drawn 16) c.new-draws.ensures) in
     let link : link_on c.in_ok-runner.runner ≡ fair_link c.args.profile (words_of c.args.seed) =
-    c.in_ok-runner.ensures.link ∙ ap (λ (t : List ReelContent). record { steps = c.args.profile; limit = 1048576; slot_units = 14400; reels = t }) contents in
+    c.in_ok-runner.ensures.link
+    ∙ ap (λ (t : List ReelContent).
+    record { steps = c.args.profile; limit = 1048576; slot_units = 14400; reels = t }) contents in
     fair-of
     link
     (c.in_ok-traces.ensures.left ∙ ap (after_traces 16) c.new-draws.ensures) c.in_ok-counts.ensures.come
-    (c.into_entries-journal.ensures.value ∙ c.end.ensures.journal) (c.count_entries-made.ensures ∙ ap made_of c.deref-3.ensures.value)
-    (c.in_ok-push_fair.ensures ∙ ap (λ (l : List ℕ). l ++ fair_text c.in_ok-counts.counts c.count_entries-made.result) c.new-text.ensures.items)
+    (c.into_entries-journal.ensures.value ∙ c.end.ensures.journal)
+    (c.count_entries-made.ensures ∙ ap made_of c.deref-3.ensures.value)
+    (c.in_ok-push_fair.ensures
+    ∙ ap (λ (l : List ℕ). l ++ fair_text c.in_ok-counts.counts c.count_entries-made.result) c.new-text.ensures.items)

@@ -7,17 +7,20 @@ use Rattle.day_run.proofs.fairs.go_on.Goals as goal
 pub overflow_add-counts : goal.overflow_add-counts
 overflow_add-counts c =
     let same : c.slot-passed.result.sent ≡ c.slot-passed.result.booked =
-    c.slot-passed.ensures.sent ∙ ready-sent (moment_of c.args.runner.now) _ (omega arith) c.requires.ready ∙ sym c.slot-passed.ensures.booked in
+    c.slot-passed.ensures.sent ∙ ready-sent (moment_of c.args.runner.now) _ (omega arith) c.requires.ready
+    ∙ sym c.slot-passed.ensures.booked in
     omega (arith, same, c.slot-passed.ensures.few, c.requires.fitting.sent, c.requires.early, c.requires.few)
 
 pub returns-then-later-gt0-clause-ready : goal.returns-then-later-gt0-clause-ready
 returns-then-later-gt0-clause-ready c =
-    slot-ready (moment_of c.args.runner.now) _ (c.args.runner.now.heard + c.args.later) (omega arith) c.slot-passed.ensures.moment c.requires.ready
+    slot-ready (moment_of c.args.runner.now) _ (c.args.runner.now.heard + c.args.later) (omega arith)
+    c.slot-passed.ensures.moment c.requires.ready
 
 pub returns-then-later-gt0-clause-fitting : goal.returns-then-later-gt0-clause-fitting
 returns-then-later-gt0-clause-fitting c =
     let same : c.slot-passed.result.sent ≡ c.slot-passed.result.booked =
-    c.slot-passed.ensures.sent ∙ ready-sent (moment_of c.args.runner.now) _ (omega arith) c.requires.ready ∙ sym c.slot-passed.ensures.booked in
+    c.slot-passed.ensures.sent ∙ ready-sent (moment_of c.args.runner.now) _ (omega arith) c.requires.ready
+    ∙ sym c.slot-passed.ensures.booked in
     record {
       last_is = sym c.slot-passed.ensures.heard;
       full = c.requires.fitting.full;

@@ -4,4 +4,6 @@ use Rattle.day_run.specs.Runners.{told_text}
 use Rattle.day_run.proofs.fairs.is_full.Goals as goal
 
 pub returns-in-Entry : goal.returns-in-Entry
-returns-in-Entry c = λ entries. ap (λ t. is_full_line (told_text entries t)) c.in-Entry.is ∙ c.law_entries_other.ensures (drop c.in-Entry.place entries)
+returns-in-Entry c =
+    λ entries. ap (λ t. is_full_line (told_text entries t)) c.in-Entry.is
+    ∙ c.law_entries_other.ensures (drop c.in-Entry.place entries)

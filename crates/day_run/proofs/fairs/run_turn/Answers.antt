@@ -21,7 +21,14 @@ pub returns-clause-turned : goal.returns-clause-turned
 returns-clause-turned c =
     let mid = c.go_on.new.runner in
     let new = c.turn_client.new.runner in
-    let turn : Turn = record { old = moment_of c.args.runner.now; mid = moment_of mid; new = moment_of new; text = said_text new.book.entries c.in_ok-told.told } in
+    let turn : Turn =
+    record {
+      old = moment_of c.args.runner.now;
+      mid = moment_of mid;
+      new = moment_of new;
+      text =
+          said_text new.book.entries c.in_ok-told.told;
+    } in
     turn-of turn (record {
       same = c.go_on.ensures.kept.link;
       one = c.draw.ensures.left;

@@ -12,5 +12,6 @@ invariant-loop-turn l = record {
   kept : IsKept l.initial.runner l.runner;
   heard : l.runner.heard ≤ 3 * l.turn;
   fitting : IsFitting l.runner.heard l.counts;
-  come : HasCome (link_on l.initial.runner) (words_left l.initial.draws) (words_left l.draws) l.turn l.counts (moment_of l.runner);
+  come : HasCome (link_on l.initial.runner) (words_left l.initial.draws) (words_left l.draws) l.turn l.counts
+      (moment_of l.runner);
 }

@@ -5,4 +5,5 @@ pub returns-clause-look : goal.returns-clause-look
 returns-clause-look c = look-leaves
 
 pub returns-clause-offer : goal.returns-clause-offer
-returns-clause-offer c = λ link client source buffer delay wait old new text is. offer-leaves {link = link} client source buffer delay is
+returns-clause-offer c =
+    λ link client source buffer delay wait old new text is. offer-leaves {link = link} client source buffer delay is

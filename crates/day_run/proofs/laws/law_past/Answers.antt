@@ -12,4 +12,5 @@ returns-clause-line c = λ link sources slot lines texts moment next line text c
 
 pub returns-clause-end : goal.returns-clause-end
 returns-clause-end c = λ link sources slot lines texts moment clients are run past.
-    end-past {link = link} {n = sources} (record { lines = lines; texts = texts; moment = moment; clients = clients; are = are; run = run }) slot past
+    end-past {link = link} {n = sources}
+    (record { lines = lines; texts = texts; moment = moment; clients = clients; are = are; run = run }) slot past

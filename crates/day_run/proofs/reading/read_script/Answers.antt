@@ -8,24 +8,30 @@ use Rattle.day_run.proofs.reading.read_script.Goals as goal
 pub returns-then-number-eq-MOST_LINES-clause-refused : goal.returns-then-number-eq-MOST_LINES-clause-refused
 returns-then-number-eq-MOST_LINES-clause-refused c =
     let inv = c.loop-line.invariant in
-    let at : NextLine (lines_of_script c.args.text.now) c.loop-line.number c.in-Some.line.now (lines_of_script c.in-Some.next.now) =
-    next-line (lines_of_script c.args.text.now) c.loop-line.number c.in-Some.line.now (lines_of_script c.in-Some.next.now) (inv.left ∙ c.in-Some.ensures.some) in
+    let at : NextLine (lines_of_script c.args.text.now) c.loop-line.number c.in-Some.line.now
+    (lines_of_script c.in-Some.next.now) =
+    next-line (lines_of_script c.args.text.now) c.loop-line.number c.in-Some.line.now
+    (lines_of_script c.in-Some.next.now) (inv.left ∙ c.in-Some.ensures.some) in
     bad-next at inv.few inv.read (inl (omega arith))
 
 pub returns-then-not-stands-clause-refused : goal.returns-then-not-stands-clause-refused
 returns-then-not-stands-clause-refused c =
     let stands : c.in_ok-stands.stands ≡ false = c.if-not-stands.true in
     let inv = c.loop-line.invariant in
-    let at : NextLine (lines_of_script c.args.text.now) c.loop-line.number c.in-Some.line.now (lines_of_script c.in-Some.next.now) =
-    next-line (lines_of_script c.args.text.now) c.loop-line.number c.in-Some.line.now (lines_of_script c.in-Some.next.now) (inv.left ∙ c.in-Some.ensures.some) in
+    let at : NextLine (lines_of_script c.args.text.now) c.loop-line.number c.in-Some.line.now
+    (lines_of_script c.in-Some.next.now) =
+    next-line (lines_of_script c.args.text.now) c.loop-line.number c.in-Some.line.now
+    (lines_of_script c.in-Some.next.now) (inv.left ∙ c.in-Some.ensures.some) in
     bad-next at inv.few inv.read (inr (rw stands at c.in_ok-stands.ensures.taken))
 
 pub loop-line-preserved : goal.loop-line-preserved
 loop-line-preserved c =
     let stands : c.in_ok-stands.stands ≡ true = c.if-not-stands.false in
     let inv = c.loop-line.invariant in
-    let at : NextLine (lines_of_script c.args.text.now) c.loop-line.number c.in-Some.line.now (lines_of_script c.in-Some.next.now) =
-    next-line (lines_of_script c.args.text.now) c.loop-line.number c.in-Some.line.now (lines_of_script c.in-Some.next.now) (inv.left ∙ c.in-Some.ensures.some) in
+    let at : NextLine (lines_of_script c.args.text.now) c.loop-line.number c.in-Some.line.now
+    (lines_of_script c.in-Some.next.now) =
+    next-line (lines_of_script c.args.text.now) c.loop-line.number c.in-Some.line.now
+    (lines_of_script c.in-Some.next.now) (inv.left ∙ c.in-Some.ensures.some) in
     record {
       few = omega arith;
       inside = at.inside;
@@ -39,7 +45,8 @@ returns-clause-script c =
     let inv = c.loop-line.invariant in
     let empty : lines_of_script c.loop-line.rest.now ≡ [] = ap lines_of_script c.in_default.ensures.none in
     let gone : length (drop c.loop-line.number (lines_of_script c.args.text.now)) ≡ 0 = ap length (inv.left ∙ empty) in
-    let all : length (lines_of_script c.args.text.now) ≤ c.loop-line.number = omega (arith, gone, length-drop c.loop-line.number (lines_of_script c.args.text.now)) in
+    let all : length (lines_of_script c.args.text.now) ≤ c.loop-line.number =
+    omega (arith, gone, length-drop c.loop-line.number (lines_of_script c.args.text.now)) in
     record {
       few = omega (arith, inv.few, all);
       slot = c.loop-line.draft.slot;

@@ -12,7 +12,8 @@ returns-in-len7-clause-saying c =
 
 pub returns-in_default-2-clause-saying : goal.returns-in_default-2-clause-saying
 returns-in_default-2-clause-saying c =
-    let n : length (texts_at c.args.words.now) ≡ length c.args.words.now = length-map c.args.words.now (λ (text : Bor (List ℕ)). text.now) in
+    let n : length (texts_at c.args.words.now) ≡ length c.args.words.now =
+    length-map c.args.words.now (λ (text : Bor (List ℕ)). text.now) in
     quiet (texts_at c.args.words.now) (λ e. omega arith) (λ e. omega arith) (λ e. omega arith)
 
 pub returns-in-len2-clause-saying : goal.returns-in-len2-clause-saying

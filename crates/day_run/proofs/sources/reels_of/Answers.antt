@@ -18,13 +18,16 @@ loop-source-preserved c =
     let here : Place c.args.sources.now = record { index = i; none = c.source-item.result; inside = inside } in
     record {
       count = omega (arith, inv.count, ap length e, length-append c.loop-source.reels.items (reel ∷ []));
-      contents = λ u. contents-next u (record { reels = c.loop-source.reels.items; reel = reel; after_are = e }) c.args.sources.now here (c.in_ok-reel_of.ensures.content u ∙ ap (source_content u) c.source-item.is) (inv.contents u);
-      playable = playable-next c.args.sources.now here (subst IsPlayable c.source-item.is c.in_ok-reel_of.ensures.playable) inv.playable;
+      contents = λ u. contents-next u (record { reels = c.loop-source.reels.items; reel = reel; after_are = e })
+          c.args.sources.now here (c.in_ok-reel_of.ensures.content u ∙ ap (source_content u) c.source-item.is) (inv.contents u);
+      playable = playable-next c.args.sources.now here
+          (subst IsPlayable c.source-item.is c.in_ok-reel_of.ensures.playable) inv.playable;
     }
 
 pub returns-clause-contents : goal.returns-clause-contents
 returns-clause-contents c = λ u.
-    c.loop-source.invariant.contents u ∙ ap (map (source_content u)) (take_all c.loop-source.source-index c.args.sources.now (omega arith))
+    c.loop-source.invariant.contents u
+    ∙ ap (map (source_content u)) (take_all c.loop-source.source-index c.args.sources.now (omega arith))
 
 pub returns-clause-playable : goal.returns-clause-playable
 returns-clause-playable c =

@@ -9,4 +9,5 @@ loop-word-preserved c =
 
 pub returns : goal.returns
 returns c =
-    words-last c.loop-word.words.items c.loop-word.rest c.in_ok-push-2.ensures.items (none_is 32 c.loop-word.rest.now c.in_default.ensures) c.loop-word.invariant
+    words-last c.loop-word.words.items c.loop-word.rest c.in_ok-push-2.ensures.items
+    (none_is 32 c.loop-word.rest.now c.in_default.ensures) c.loop-word.invariant

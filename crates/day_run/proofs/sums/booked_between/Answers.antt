@@ -13,7 +13,12 @@ use Rattle.day_run.proofs.sums.booked_between.Goals as goal
 pub overflow_add-booked : goal.overflow_add-booked
 overflow_add-booked c =
     let calendar = c.calendar-calendar.result.now in
-    let small : c.booked_bytes-here.result ≤ 2 ^ 42 = omega (arith, c.booked_bytes-here.ensures.within, capacity-most calendar.steps c.loop-slot.slot c.now.ensures.calendar.profile) in
+    let small : c.booked_bytes-here.result ≤ 2 ^ 42 =
+    omega (
+      arith,
+      c.booked_bytes-here.ensures.within,
+      capacity-most calendar.steps c.loop-slot.slot c.now.ensures.calendar.profile,
+    ) in
     let fits =
     booked-fits {from = c.args.from} {end = c.min-end.result} {now = calendar.first} (record {
       begun = omega arith;
@@ -29,7 +34,12 @@ overflow_add-booked c =
 pub loop-slot-preserved : goal.loop-slot-preserved
 loop-slot-preserved c =
     let calendar = c.calendar-calendar.result.now in
-    let small : c.booked_bytes-here.result ≤ 2 ^ 42 = omega (arith, c.booked_bytes-here.ensures.within, capacity-most calendar.steps c.loop-slot.slot c.now.ensures.calendar.profile) in
+    let small : c.booked_bytes-here.result ≤ 2 ^ 42 =
+    omega (
+      arith,
+      c.booked_bytes-here.ensures.within,
+      capacity-most calendar.steps c.loop-slot.slot c.now.ensures.calendar.profile,
+    ) in
     let state = state_after c.args.book.now.entries in
     let begun : c.args.from + 1 ≤ c.loop-slot.slot = omega arith in
     let known : calendar.first ≤ c.loop-slot.slot = omega (arith, c.calendar-calendar.ensures.now, c.requires.from_now) in
@@ -41,7 +51,8 @@ loop-slot-preserved c =
       });
       late = omega arith;
       peak =
-          c.max-peak.ensures ∙ max_by_order c.loop-slot.peak c.booked_bytes-here.result ∙ peak-next (booked_in state) c.args.from begun c.loop-slot.invariant.peak
+          c.max-peak.ensures ∙ max_by_order c.loop-slot.peak c.booked_bytes-here.result
+          ∙ peak-next (booked_in state) c.args.from begun c.loop-slot.invariant.peak
           (c.booked_bytes-here.ensures.value ∙ c.calendar-calendar.ensures.stands.each c.loop-slot.slot known);
       sum =
           booked-next (booked_in state) c.args.from begun c.loop-slot.invariant.sum
@@ -58,13 +69,16 @@ returns c =
     let known : calendar.first ≤ from = omega (arith, c.calendar-calendar.ensures.now, c.requires.from_now) in
     let le : slot - (from + 1) ≤ to - from = omega (arith, c.loop-slot.invariant.late) in
     let whole : (sum_by f (range_with_len (from + 1) (slot - (from + 1))) ≡ sum_by f (range_with_len (from + 1) (to - from)))
-    × (fold max 0 (map f (range_with_len (from + 1) (slot - (from + 1)))) ≡ fold max 0 (map f (range_with_len (from + 1) (to - from)))) =
+    × (fold max 0 (map f (range_with_len (from + 1) (slot - (from + 1))))
+    ≡ fold max 0 (map f (range_with_len (from + 1) (to - from)))) =
     elim (cases_lt (calendar.first + 1048576) to) [
       | inl short ↦
           let none : (t : ℕ) → from + 1 + (slot - (from + 1)) ≤ t → f t ≡ 0 = λ t late.
           let empty : booked_at calendar t ≡ 0 = c.now.ensures.past t (omega (arith, late, short)) in
-          sym (c.calendar-calendar.ensures.stands.each t (omega (arith, late, known))) ∙ empty in
-          (sum-past f (from + 1) (slot - (from + 1)) (to - from) le none, peak-past f (from + 1) (slot - (from + 1)) (to - from) le none)
+          sym (c.calendar-calendar.ensures.stands.each t (omega (arith, late, known))) ∙ empty in (
+            sum-past f (from + 1) (slot - (from + 1)) (to - from) le none,
+            peak-past f (from + 1) (slot - (from + 1)) (to - from) le none,
+          )
       | inr long ↦
           let e : slot - (from + 1) ≡ to - from = omega (arith, long, c.loop-slot.invariant.late) in
           (ap (λ n. sum_by f (range_with_len (from + 1) n)) e, ap (λ n. fold max 0 (map f (range_with_len (from + 1) n))) e)

@@ -6,10 +6,12 @@ use Rattle.film_frames.proofs.laws.law_piece_sizes.Goals as goal
 
 pub returns-clause-pieces : goal.returns-clause-pieces
 returns-clause-pieces c =
-    have-sizes (run_of c.args.film.now c.args.first_unit c.args.end_unit c.args.identity) (run-sum c.args.film.now c.args.first_unit c.args.end_unit c.args.identity (omega arith) c.requires.within).0
+    have-sizes (run_of c.args.film.now c.args.first_unit c.args.end_unit c.args.identity)
+    (run-sum c.args.film.now c.args.first_unit c.args.end_unit c.args.identity (omega arith) c.requires.within).0
 
 pub returns-clause-all : goal.returns-clause-all
-returns-clause-all c = (run-sum c.args.film.now c.args.first_unit c.args.end_unit c.args.identity (omega arith) c.requires.within).1
+returns-clause-all c =
+    (run-sum c.args.film.now c.args.first_unit c.args.end_unit c.args.identity (omega arith) c.requires.within).1
 
 pub returns-clause-blocks : goal.returns-clause-blocks
 returns-clause-blocks c =

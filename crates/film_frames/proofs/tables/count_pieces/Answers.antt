@@ -7,17 +7,28 @@ pub overflow_add-count-in-loop-number : goal.overflow_add-count-in-loop-number
 overflow_add-count-in-loop-number c =
     let film = c.args.film.now in
     let unit = c.index.result.now in
-    let at = slice_get_read film.units.items (length film.units.items) c.loop-number.number unit refl (omega (arith, c.loop-number-test.true, c.len-number-end.ensures, film.units.ok)) c.index.ensures in
+    let at = slice_get_read film.units.items (length film.units.items) c.loop-number.number unit refl
+    (omega (arith, c.loop-number-test.true, c.len-number-end.ensures, film.units.ok)) c.index.ensures in
     let more = count-more film c.loop-number.number c.report_count.ensures at (c.in_ok-refill_packets.ensures unit at) in
-    omega (arith, more, c.loop-number.invariant, c.len.ensures, c.report_count.ensures, c.refill_packets.new.packets.ok, count-bound film (c.loop-number.number + 1))
+    omega (
+      arith,
+      more,
+      c.loop-number.invariant,
+      c.len.ensures,
+      c.report_count.ensures,
+      c.refill_packets.new.packets.ok,
+      count-bound film (c.loop-number.number + 1),
+    )
 
 pub loop-number-preserved : goal.loop-number-preserved
 loop-number-preserved c =
     let film = c.args.film.now in
     let unit = c.index.result.now in
-    let at = slice_get_read film.units.items (length film.units.items) c.loop-number.number unit refl (omega (arith, c.loop-number-test.true, c.len-number-end.ensures, film.units.ok)) c.index.ensures in
+    let at = slice_get_read film.units.items (length film.units.items) c.loop-number.number unit refl
+    (omega (arith, c.loop-number-test.true, c.len-number-end.ensures, film.units.ok)) c.index.ensures in
     let more = count-more film c.loop-number.number c.report_count.ensures at (c.in_ok-refill_packets.ensures unit at) in
     omega (arith, more, c.loop-number.invariant, c.len.ensures, c.report_count.ensures, c.refill_packets.new.packets.ok)
 
 pub returns : goal.returns
-returns c = count-all c.args.film.now c.loop-number.number c.loop-number.count (omega (arith, c.loop-number-test.false, c.len-number-end.ensures, c.args.film.now.units.ok)) c.loop-number.invariant
+returns c = count-all c.args.film.now c.loop-number.number c.loop-number.count
+    (omega (arith, c.loop-number-test.false, c.len-number-end.ensures, c.args.film.now.units.ok)) c.loop-number.invariant

@@ -2,7 +2,8 @@ use Rattle.std.proofs.Common.{refl}
 use Rattle.film_make.proofs.laws.law_film_headers.Goals as goal
 
 pub returns : goal.returns
-unfolding Rattle.film_make.specs.Film.picture_header Rattle.film_make.specs.Film.coding_type Rattle.film_make.specs.Film.temporal_reference
+unfolding Rattle.film_make.specs.Film.picture_header Rattle.film_make.specs.Film.coding_type
+    Rattle.film_make.specs.Film.temporal_reference
 returns c = record {
   sequence = record {
     code = refl;

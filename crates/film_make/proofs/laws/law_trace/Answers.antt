@@ -3,4 +3,12 @@ use Rattle.film_make.proofs.TraceLemmas.{sizes-front, trace-lines}
 use Rattle.film_make.proofs.laws.law_trace.Goals as goal
 
 pub returns : goal.returns
-returns c = record { count = sizes-count; first = first-range; other = other-range; each = each-size; front = sizes-front; lines = trace-lines }
+returns c = record {
+  count = sizes-count;
+  first = first-range;
+  other = other-range;
+  each = each-size;
+  front =
+      sizes-front;
+  lines = trace-lines;
+}

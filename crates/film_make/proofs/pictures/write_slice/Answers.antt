@@ -7,15 +7,21 @@ use Rattle.film_make.proofs.pictures.write_slice.Goals as goal
 
 pub returns-clause-bytes : goal.returns-clause-bytes
 returns-clause-bytes c =
-    let drawn : LengthDrawn (words_left c.args.draws.now) (words_left c.draw.new.self) c.args.kind (c.least_body.result + c.draw.result) = record {
+    let drawn : LengthDrawn (words_left c.args.draws.now) (words_left c.draw.new.self) c.args.kind
+    (c.least_body.result + c.draw.result) = record {
       length = body_length-drawn _ _ c.least_body.ensures.value c.body_lengths.ensures.value c.draw.ensures.value;
       rest = c.draw.ensures.left;
     } in
-    on_ok_weaker c.write_body.result (λ e. slice-step _ _ drawn (e ∙ ap (λ (l : List ℕ). l ++ body_of (words_left c.draw.new.self) (c.least_body.result + c.draw.result)) c.in_ok-extend_from_slice.ensures.items)) c.write_body.ensures.bytes
+    on_ok_weaker c.write_body.result
+    (λ e. slice-step _ _ drawn
+    (e ∙ ap (λ (l : List ℕ). l
+    ++ body_of (words_left c.draw.new.self) (c.least_body.result + c.draw.result))
+    c.in_ok-extend_from_slice.ensures.items)) c.write_body.ensures.bytes
 
 pub returns-clause-left : goal.returns-clause-left
 returns-clause-left c =
-    let drawn : LengthDrawn (words_left c.args.draws.now) (words_left c.draw.new.self) c.args.kind (c.least_body.result + c.draw.result) = record {
+    let drawn : LengthDrawn (words_left c.args.draws.now) (words_left c.draw.new.self) c.args.kind
+    (c.least_body.result + c.draw.result) = record {
       length = body_length-drawn _ _ c.least_body.ensures.value c.body_lengths.ensures.value c.draw.ensures.value;
       rest = c.draw.ensures.left;
     } in

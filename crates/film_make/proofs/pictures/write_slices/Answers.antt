@@ -15,7 +15,8 @@ loop-slice-preserved c =
     let drawn = c.loop-slice.invariant.left in record {
       bytes = c.in_ok-write_slice.ensures.bytes
           ∙ ap (λ (w : ℕ → ℕ). c.loop-slice.out.items ++ slice_of w kind (c.loop-slice.slice + 1)) drawn
-          ∙ piece-step _ _ (λ s. slice_of (slice_words kind words s) kind (s + 1)) c.loop-slice.slice c.loop-slice.invariant.bytes;
+          ∙ piece-step _ _ (λ s. slice_of (slice_words kind words s) kind (s + 1)) c.loop-slice.slice
+          c.loop-slice.invariant.bytes;
       left = c.in_ok-write_slice.ensures.left ∙ ap (after_slice kind) drawn
           ∙ sym (slice_words-more kind words c.loop-slice.slice);
     }

@@ -40,7 +40,9 @@ loop-left-preserved g c =
       planned = c.requires.plan;
       halt = c.requires.halt;
     } in
-    let used : due_slot (timing_of c.args.playback.now c.args.run.now) (c.loop-left.left.from_unit - c.args.run.now.from_unit) < c.stop_slot-stop.result = omega (arith, c.due_slot.ensures, c.loop-left-test.true) in
+    let used : due_slot (timing_of c.args.playback.now c.args.run.now)
+    (c.loop-left.left.from_unit - c.args.run.now.from_unit) < c.stop_slot-stop.result =
+    omega (arith, c.due_slot.ensures, c.loop-left-test.true) in
     let more = bytes-more sizes c.args.run.now.first_unit c.loop-left.left.from_unit (omega arith) (omega arith) in
     record {
       first_is = c.loop-left.invariant.first_is;
@@ -56,7 +58,8 @@ loop-left-preserved g c =
             | inl before ↦ c.loop-left.invariant.used unit from before
             | inr here ↦
                 let same : c.loop-left.left.from_unit ≡ unit = omega arith in
-                subst (λ u. due_slot (timing_of c.args.playback.now c.args.run.now) (u - c.args.run.now.from_unit) < c.stop_slot-stop.result) same used
+                subst (λ u. due_slot (timing_of c.args.playback.now c.args.run.now)
+                (u - c.args.run.now.from_unit) < c.stop_slot-stop.result) same used
           ];
     }
 
@@ -72,7 +75,9 @@ returns g c =
       planned = c.requires.plan;
       halt = c.requires.halt;
     } in
-    let unused : c.stop_slot-stop.result ≤ due_slot (timing_of c.args.playback.now c.args.run.now) (c.loop-left.left.from_unit - c.args.run.now.from_unit) = omega (arith, c.due_slot.ensures, c.loop-left-test.false) in
+    let unused : c.stop_slot-stop.result
+    ≤ due_slot (timing_of c.args.playback.now c.args.run.now)
+    (c.loop-left.left.from_unit - c.args.run.now.from_unit) = omega (arith, c.due_slot.ensures, c.loop-left-test.false) in
     let to : IsPlayedTo c.args.playback.now c.args.run.now c.loop-left.left.from_unit c.stop_slot-stop.result = record {
       not_back = c.loop-left.invariant.from;
       within = c.loop-left.invariant.rest;

@@ -15,6 +15,7 @@ pub loop-low-preserved-then-sum_at-bytes : goal.loop-low-preserved-then-sum_at-b
 loop-low-preserved-then-sum_at-bytes c = record {
   order = omega arith;
   inside = c.loop-low.invariant.inside;
-  before = λ t lt. omega (arith, sum_through_rises c.args.plan.now t (c.loop-low.low + (c.loop-low.high - c.loop-low.low) / 2) (omega arith));
+  before = λ t lt.
+      omega (arith, sum_through_rises c.args.plan.now t (c.loop-low.low + (c.loop-low.high - c.loop-low.low) / 2) (omega arith));
   reached = c.loop-low.invariant.reached;
 }

@@ -25,15 +25,18 @@ returns-in-Ok-clause-bytes g c =
     let sizes = g.U.Units.sizes c.args.units.now in
     let playback = c.args.playback.now in
     let run = c.args.run.now in
-    let within = limits c.requires.playback c.requires.run c.requires.fits c.count-count.ensures.few c.count-count.ensures.small in
+    let within =
+    limits c.requires.playback c.requires.run c.requires.fits c.count-count.ensures.few c.count-count.ensures.small in
     let is : IsPlanOf sizes playback run c.in-Ok.plan = returns-in-Ok-clause-plan g c in
-    (keeps-to (rest_sizes sizes run) (timing_of playback run) c.in-Ok.plan within is).bytes ∙ total-of-rest sizes playback run c.requires.run
+    (keeps-to (rest_sizes sizes run) (timing_of playback run) c.in-Ok.plan within is).bytes
+    ∙ total-of-rest sizes playback run c.requires.run
 
 pub returns-in-Ok-clause-best : goal.returns-in-Ok-clause-best
 returns-in-Ok-clause-best g c =
     let sizes = g.U.Units.sizes c.args.units.now in
     let playback = c.args.playback.now in
     let run = c.args.run.now in
-    let within = limits c.requires.playback c.requires.run c.requires.fits c.count-count.ensures.few c.count-count.ensures.small in
+    let within =
+    limits c.requires.playback c.requires.run c.requires.fits c.count-count.ensures.few c.count-count.ensures.small in
     let is : IsPlanOf sizes playback run c.in-Ok.plan = returns-in-Ok-clause-plan g c in
     best-of (rest_sizes sizes run) (timing_of playback run) c.in-Ok.plan within is

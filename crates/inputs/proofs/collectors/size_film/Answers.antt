@@ -11,7 +11,8 @@ returns-clause-film g c = λ held told.
       video = heard.video;
       holds = heard.holds held told;
       rate_is = heard.ended.rate_is;
-      sizes_are = film-sizes heard.video c.hear_film.new.found.unit c.hear_film.new.found.sizes.items heard.ended.accepted heard.ended.heard;
+      sizes_are = film-sizes heard.video c.hear_film.new.found.unit c.hear_film.new.found.sizes.items
+          heard.ended.accepted heard.ended.heard;
     }
 
 pub returns-clause-limits : goal.returns-clause-limits
@@ -19,7 +20,8 @@ returns-clause-limits g c =
     let heard = (c.in_ok-ending.ensures {u = tt}).film in
     let same : c.hear_film.new.found.sizes.items ≡ sizes_of heard.video =
     film-sizes heard.video c.hear_film.new.found.unit c.hear_film.new.found.sizes.items heard.ended.accepted heard.ended.heard in
-    subst (λ (l : List ℕ). AreSizesWithin c.in_ok-ending.ending.rate l) (sym same) (film-limits heard.video c.in_ok-ending.ending.rate heard.ended.accepted heard.ended.rate_is)
+    subst (λ (l : List ℕ). AreSizesWithin c.in_ok-ending.ending.rate l) (sym same)
+    (film-limits heard.video c.in_ok-ending.ending.rate heard.ended.accepted heard.ended.rate_is)
 
 pub returns-in_err-ending-clause-trouble : goal.returns-in_err-ending-clause-trouble
 returns-in_err-ending-clause-trouble g c =

@@ -22,7 +22,8 @@ loop-more-preserved g c = (
     kept = c.read_piece.ensures.library.kept ∙ c.loop-more.invariant.0.kept;
     count = omega (arith, c.read_piece.ensures.library.count, c.loop-more.invariant.0.count);
     told = λ held told found.
-        (c.in_ok-more.ensures {u = tt}).told held (c.loop-more.invariant.0.kept ∙ told) (c.loop-more.invariant.0.told held told found).0;
+        (c.in_ok-more.ensures {u = tt}).told held (c.loop-more.invariant.0.kept ∙ told)
+        (c.loop-more.invariant.0.told held told found).0;
   },
   c.loop-more.invariant.1,
   c.read_piece.ensures.within,
@@ -34,7 +35,8 @@ returns-clause-read g c = λ held told found.
     let long : c.args.size ≤ length c.loop-more.bytes.items =
     elim c.loop-more-test.branch [
       | then-loop-more-test+else-len-size w ↦ omega (arith, w.if-len-size.false, w.len.ensures, c.loop-more.bytes.ok)
-      | else-loop-more-test w ↦ let e : c.args.size ≡ length c.loop-more.bytes.items = cc (front.1, w.loop-more-test.false) in omega (arith, e)
+      | else-loop-more-test w ↦ let e : c.args.size ≡ length c.loop-more.bytes.items =
+          cc (front.1, w.loop-more-test.false) in omega (arith, e)
     ] in
     whole_front held c.args.name.now c.args.size c.loop-more.bytes.items front.0 long
 
@@ -47,4 +49,5 @@ pub returns-in_err-more-clause-trouble : goal.returns-in_err-more-clause-trouble
 returns-in_err-more-clause-trouble g c =
     handed_on _ c.from_residual.result c.from_residual.ensures.1
     (trouble_on c.args.name.now IsNever (g.L.Library.faults c.read_piece.new.library) c.in_err-more.field-0.0
-    (record { kept = c.loop-more.invariant.0.kept; count = c.loop-more.invariant.0.count }) ((c.in_err-more.ensures {u = tt}).trouble))
+    (record { kept = c.loop-more.invariant.0.kept; count = c.loop-more.invariant.0.count })
+    ((c.in_err-more.ensures {u = tt}).trouble))

@@ -4,7 +4,8 @@ use Rattle.inputs.proofs.files.read_bytes.Given as goal
 
 abbrev pub invariant-loop-more : goal.invariant-loop-more
 invariant-loop-more g l =
-    HasFront (g.L.Library.files l.fn.library) (g.L.Library.files l.library) (g.L.Library.faults l.fn.library) (g.L.Library.faults l.library) l.name l.size l.bytes.items l.more
+    HasFront (g.L.Library.files l.fn.library) (g.L.Library.files l.library) (g.L.Library.faults l.fn.library)
+    (g.L.Library.faults l.library) l.name l.size l.bytes.items l.more
     × (0 < vec_len l.piece) × (vec_len l.bytes ≤ l.size)
 
 abbrev pub decreases-loop-more : goal.decreases-loop-more

@@ -10,7 +10,8 @@ returns-then-count-eq0-clause-told g c = λ held told front.
 pub returns-in-Ok-clause-told : goal.returns-in-Ok-clause-told
 returns-in-Ok-clause-told g c = λ held told front.
     let at : length c.args.bytes.now.items ≡ c.len-at.result = omega (arith, c.len-at.ensures, c.args.bytes.now.ok) in
-    let pushed : c.extend_from_slice.new.self.items ≡ c.args.bytes.now.items ++ take c.in_ok-count.count c.read_at.new.piece = search rules in
+    let pushed : c.extend_from_slice.new.self.items
+    ≡ c.args.bytes.now.items ++ take c.in_ok-count.count c.read_at.new.piece = search rules in
     (rw pushed ((c.in_ok-count.ensures {u = tt}).told held c.args.bytes.now.items told front at), refl)
 
 pub returns-in_err-count-clause-trouble : goal.returns-in_err-count-clause-trouble

@@ -38,21 +38,25 @@ returns-in_err-size-clause-trouble g c =
 pub returns-in_err-file-clause-trouble : goal.returns-in_err-file-clause-trouble
 returns-in_err-file-clause-trouble g c =
     let Refuses = IsRefusedAbove c.args.most c.args.over in
-    let on : ReadOn (g.L.Library.files c.args.library.now) (g.L.Library.files c.find_file.new.library) (g.L.Library.faults c.args.library.now) (g.L.Library.faults c.find_file.new.library) =
+    let on : ReadOn (g.L.Library.files c.args.library.now) (g.L.Library.files c.find_file.new.library)
+    (g.L.Library.faults c.args.library.now) (g.L.Library.faults c.find_file.new.library) =
     record { kept = c.find_file.ensures.library.kept; count = c.find_file.ensures.library.count } in
     handed_on _ c.from_residual-in_err-file.result c.from_residual-in_err-file.ensures.1
-    (never_refused c.args.name.now Refuses (g.L.Library.faults c.read_bytes.new.library) c.in_err-file.field-0.0 on ((c.in_err-file.ensures {u = tt}).trouble))
+    (never_refused c.args.name.now Refuses (g.L.Library.faults c.read_bytes.new.library) c.in_err-file.field-0.0
+    on ((c.in_err-file.ensures {u = tt}).trouble))
 
 pub returns-then-most-size-clause-trouble : goal.returns-then-most-size-clause-trouble
 returns-then-most-size-clause-trouble g c = (
   refl,
-  λ held told. size_above held c.args.name.now c.args.most c.args.over ((c.in_ok-size.ensures {u = tt}).found held told) (omega (arith, c.if-most-size.true)),
+  λ held told. size_above held c.args.name.now c.args.most c.args.over
+      ((c.in_ok-size.ensures {u = tt}).found held told) (omega (arith, c.if-most-size.true)),
 )
 
 pub returns-in_err-film-clause-trouble : goal.returns-in_err-film-clause-trouble
 returns-in_err-film-clause-trouble g c =
     let read : WasRead (g.L.Library.files c.args.library.now) c.args.name.now c.in_ok-file.file.items c.args.most = record {
-      found = λ held is. (c.in_ok-file.ensures {u = tt}).read held (c.find_file.ensures.library.kept ∙ is) ((c.in_ok-size.ensures {u = tt}).found held is);
+      found = λ held is. (c.in_ok-file.ensures {u = tt}).read held (c.find_file.ensures.library.kept ∙ is)
+          ((c.in_ok-size.ensures {u = tt}).found held is);
       short = omega (arith, (c.in_ok-file.ensures {u = tt}).within, c.in_ok-file.file.ok, c.if-most-size.false);
     } in
     handed_on _ c.from_residual-in_err-film.result c.from_residual-in_err-film.ensures.1
@@ -63,7 +67,8 @@ pub returns-in-Ok-clause-film : goal.returns-in-Ok-clause-film
 returns-in-Ok-clause-film g c = λ held is.
     let same : c.in-Ok.stored.film ≡ c.in_ok-film.film = (c.in-Ok.ensures {u = tt}).film in
     film_loaded
-    ((c.in_ok-file.ensures {u = tt}).read held (c.find_file.ensures.library.kept ∙ is) ((c.in_ok-size.ensures {u = tt}).found held is))
+    ((c.in_ok-file.ensures {u = tt}).read held (c.find_file.ensures.library.kept ∙ is)
+    ((c.in_ok-size.ensures {u = tt}).found held is))
     (omega (arith, (c.in_ok-file.ensures {u = tt}).within, c.in_ok-file.file.ok, c.if-most-size.false, c.requires))
     (subst (λ (f : Film). IsVideo c.in_ok-file.file.items f.bytes.items) (sym same) ((c.in_ok-film.ensures {u = tt}).film))
     c.in-Ok.stored.film.grammar.accepted
@@ -73,9 +78,11 @@ returns-in-Ok-clause-small g c = λ held is fault refused.
     let same : c.in-Ok.stored.film ≡ c.in_ok-film.film = (c.in-Ok.ensures {u = tt}).film in
     let holds : HoldsAccepted held c.args.name.now c.in-Ok.stored.film.bytes.items c.args.most = record {
       file = c.in_ok-file.file.items;
-      found = (c.in_ok-file.ensures {u = tt}).read held (c.find_file.ensures.library.kept ∙ is) ((c.in_ok-size.ensures {u = tt}).found held is);
+      found = (c.in_ok-file.ensures {u = tt}).read held (c.find_file.ensures.library.kept ∙ is)
+          ((c.in_ok-size.ensures {u = tt}).found held is);
       short = omega (arith, (c.in_ok-file.ensures {u = tt}).within, c.in_ok-file.file.ok, c.if-most-size.false);
-      is_video = subst (λ (f : Film). IsVideo c.in_ok-file.file.items f.bytes.items) (sym same) ((c.in_ok-film.ensures {u = tt}).film);
+      is_video = subst (λ (f : Film). IsVideo c.in_ok-file.file.items f.bytes.items) (sym same)
+          ((c.in_ok-film.ensures {u = tt}).film);
       accepted = c.in-Ok.stored.film.grammar.accepted;
     } in
     file_not_refused c.args.over fault holds refused

@@ -9,13 +9,16 @@ use Rattle.inputs.proofs.films.scan_file.Goals as goal
 
 pub returns-clause-film : goal.returns-clause-film
 returns-clause-film c =
-    ok_map (λ (film : Film). film.bytes.items ≡ c.in_ok-video.video.items) (λ (film : Film). IsVideo c.args.file.items film.bytes.items) c.scan_video.result
+    ok_map (λ (film : Film). film.bytes.items ≡ c.in_ok-video.video.items)
+    (λ (film : Film). IsVideo c.args.file.items film.bytes.items) c.scan_video.result
     (λ film same. subst (IsVideo c.args.file.items) (sym same) ((c.in_ok-video.ensures {u = tt}).video)) c.scan_video.ensures.film
 
 pub returns-clause-trouble : goal.returns-clause-trouble
 returns-clause-trouble c =
-    err_map (IsFilmTrouble c.args.name.now (λ fault. refusal c.in_ok-video.video.items ≡ Some fault)) (IsBytesTrouble c.args.name.now c.args.file.items) c.scan_video.result
-    (λ t h. video_trouble c.args.name.now c.args.file.items c.in_ok-video.video.items t ((c.in_ok-video.ensures {u = tt}).video) h) c.scan_video.ensures.trouble
+    err_map (IsFilmTrouble c.args.name.now (λ fault. refusal c.in_ok-video.video.items ≡ Some fault))
+    (IsBytesTrouble c.args.name.now c.args.file.items) c.scan_video.result
+    (λ t h. video_trouble c.args.name.now c.args.file.items c.in_ok-video.video.items t
+    ((c.in_ok-video.ensures {u = tt}).video) h) c.scan_video.ensures.trouble
 
 pub returns-in_err-video-clause-trouble : goal.returns-in_err-video-clause-trouble
 returns-in_err-video-clause-trouble c =

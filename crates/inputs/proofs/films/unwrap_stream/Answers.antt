@@ -25,22 +25,27 @@ loop-at-preserved c =
         c.loop-at.invariant.within,
       );
       count = omega (arith, (c.in-Ok.ensures {u = tt}).count, c.loop-at.invariant.count);
-      fed = subst (λ (l : List ℕ). WasFed c.feed.new.self (take (c.loop-at.at + c.in-Ok.fed.taken) c.args.stream.now) l) (sym pushed)
-          (subst (λ (l : List ℕ). WasFed c.feed.new.self l (c.loop-at.video.items ++ c.in-Ok.fed.video.now)) (parts_joined [] c.args.stream.now c.loop-at.at c.in-Ok.fed.taken)
+      fed = subst (λ (l : List ℕ). WasFed c.feed.new.self
+          (take (c.loop-at.at + c.in-Ok.fed.taken) c.args.stream.now) l) (sym pushed)
+          (subst (λ (l : List ℕ). WasFed c.feed.new.self l (c.loop-at.video.items ++ c.in-Ok.fed.video.now))
+          (parts_joined [] c.args.stream.now c.loop-at.at c.in-Ok.fed.taken)
           ((c.in-Ok.ensures {u = tt}).next (take c.loop-at.at c.args.stream.now) c.loop-at.video.items c.loop-at.invariant.fed));
     }
 
 pub returns-in-Ok-finish-clause-video : goal.returns-in-Ok-finish-clause-video
 returns-in-Ok-finish-clause-video c =
-    subst (λ (l : List ℕ). IsSystem l c.loop-at.video.items) (take_all c.loop-at.at c.args.stream.now (omega (arith, c.loop-at-test.false)))
+    subst (λ (l : List ℕ). IsSystem l c.loop-at.video.items)
+    (take_all c.loop-at.at c.args.stream.now (omega (arith, c.loop-at-test.false)))
     ((c.in-Ok-finish.ensures {u = tt}).end (take c.loop-at.at c.args.stream.now) c.loop-at.video.items c.loop-at.invariant.fed)
 
 pub returns-in-Err-clause-refused : goal.returns-in-Err-clause-refused
 returns-in-Err-clause-refused c =
-    subst (λ (l : List ℕ). IsRefused l c.in-Err.fault) (rest_joined [] c.args.stream.now [] c.loop-at.at ∙ append-nil c.args.stream.now)
+    subst (λ (l : List ℕ). IsRefused l c.in-Err.fault)
+    (rest_joined [] c.args.stream.now [] c.loop-at.at ∙ append-nil c.args.stream.now)
     ((c.in-Err.ensures {u = tt}).fault (take c.loop-at.at c.args.stream.now) c.loop-at.video.items c.loop-at.invariant.fed [])
 
 pub returns-in-Err-finish-clause-refused : goal.returns-in-Err-finish-clause-refused
 returns-in-Err-finish-clause-refused c =
-    subst (λ (l : List ℕ). IsRefused l c.in-Err-finish.fault) (take_all c.loop-at.at c.args.stream.now (omega (arith, c.loop-at-test.false)))
+    subst (λ (l : List ℕ). IsRefused l c.in-Err-finish.fault)
+    (take_all c.loop-at.at c.args.stream.now (omega (arith, c.loop-at-test.false)))
     ((c.in-Err-finish.ensures {u = tt}).end (take c.loop-at.at c.args.stream.now) c.loop-at.video.items c.loop-at.invariant.fed)

@@ -6,7 +6,14 @@ use Rattle.inputs.proofs.ScanLemmas.{handed_on, trouble_on}
 use Rattle.inputs.proofs.openings.find_pack.Goals as goal
 
 pub loop-at-init : goal.loop-at-init
-loop-at-init g c = record { kept = refl; count = omega arith; within = omega arith; told = λ held is found. none_looked held c.args.name.now c.args.size found }
+loop-at-init g c =
+    record {
+      kept = refl;
+      count = omega arith;
+      within = omega arith;
+      told =
+          λ held is found. none_looked held c.args.name.now c.args.size found;
+    }
 
 pub loop-at-preserved : goal.loop-at-preserved
 loop-at-preserved g c = record {
@@ -14,9 +21,11 @@ loop-at-preserved g c = record {
   count = omega (arith, c.read_at.ensures.library.count, c.loop-at.invariant.count);
   within = (c.in_ok-count.ensures {u = tt}).fits;
   told = λ held is found.
-      let so_far : HasLooked held c.args.name.now c.args.size c.loop-at.at c.loop-at.prefix = c.loop-at.invariant.told held is found in
+      let so_far : HasLooked held c.args.name.now c.args.size c.loop-at.at c.loop-at.prefix =
+      c.loop-at.invariant.told held is found in
       more_looked c.read_at.new.piece c.in_ok-count.count so_far
-      ((c.in_ok-count.ensures {u = tt}).told held so_far.bytes (c.loop-at.invariant.kept ∙ is) so_far.front so_far.long) ((c.in_ok-count.ensures {u = tt}).within)
+      ((c.in_ok-count.ensures {u = tt}).told held so_far.bytes (c.loop-at.invariant.kept ∙ is) so_far.front
+      so_far.long) ((c.in_ok-count.ensures {u = tt}).within)
       ((c.in-Open.ensures {u = tt}).opening so_far.bytes so_far.long so_far.unfound);
 }
 
@@ -26,12 +35,19 @@ returns-clause-opened g c = λ held is found.
 
 pub returns-then-count-eq0-clause-opened : goal.returns-then-count-eq0-clause-opened
 returns-then-count-eq0-clause-opened g c = λ held is found.
-    let so_far : HasLooked held c.args.name.now c.args.size c.loop-at.at c.loop-at.prefix = c.loop-at.invariant.told held is found in
-    absurd (omega (arith, (c.in_ok-count.ensures {u = tt}).more held so_far.bytes (c.loop-at.invariant.kept ∙ is) so_far.front so_far.long, c.if-count-eq0.true))
+    let so_far : HasLooked held c.args.name.now c.args.size c.loop-at.at c.loop-at.prefix =
+    c.loop-at.invariant.told held is found in
+    absurd (omega (
+      arith,
+      (c.in_ok-count.ensures {u = tt}).more held so_far.bytes (c.loop-at.invariant.kept ∙ is) so_far.front
+          so_far.long,
+      c.if-count-eq0.true,
+    ))
 
 pub returns-in-Pack-clause-opened : goal.returns-in-Pack-clause-opened
 returns-in-Pack-clause-opened g c = λ held is found.
-    let so_far : HasLooked held c.args.name.now c.args.size c.loop-at.at c.loop-at.prefix = c.loop-at.invariant.told held is found in
+    let so_far : HasLooked held c.args.name.now c.args.size c.loop-at.at c.loop-at.prefix =
+    c.loop-at.invariant.told held is found in
     let place : c.in-Pack.place ≤ c.args.size = omega (
       arith,
       (c.in-Pack.ensures {u = tt}).within,
@@ -52,7 +68,8 @@ returns-in-Pack-clause-within g c = omega (
 
 pub returns-in-Other-clause-opened : goal.returns-in-Other-clause-opened
 returns-in-Other-clause-opened g c = λ held is found.
-    let so_far : HasLooked held c.args.name.now c.args.size c.loop-at.at c.loop-at.prefix = c.loop-at.invariant.told held is found in
+    let so_far : HasLooked held c.args.name.now c.args.size c.loop-at.at c.loop-at.prefix =
+    c.loop-at.invariant.told held is found in
     found_opened
     ((c.in_ok-count.ensures {u = tt}).told held so_far.bytes (c.loop-at.invariant.kept ∙ is) so_far.front so_far.long)
     ((c.in-Other.ensures {u = tt}).opening so_far.bytes so_far.long so_far.unfound) tt

@@ -9,7 +9,8 @@ invariant-loop-at g l = record {
   kept : g.L.Library.files l.library ≡ g.L.Library.files l.fn.library;
   count : g.L.Library.faults l.fn.library ≤ g.L.Library.faults l.library;
   within : l.at ≤ l.size;
-  told : (held : List File) → g.L.Library.files l.fn.library ≡ Some held → Some l.size ≡ option_map length (file_named held l.name)
+  told : (held : List File) → g.L.Library.files l.fn.library ≡ Some held
+      → Some l.size ≡ option_map length (file_named held l.name)
       → HasLooked held l.name l.size l.at l.prefix;
 }
 

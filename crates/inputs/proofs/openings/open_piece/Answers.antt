@@ -5,15 +5,18 @@ use Rattle.inputs.proofs.openings.open_piece.Goals as goal
 
 pub returns-in-Whole-clause-opening : goal.returns-in-Whole-clause-opening
 returns-in-Whole-clause-opening c = λ seen long so_far.
-    let byte : eqb (get_or c.args.piece.now c.loop-index.index 0) 0xba ≡ true = eq-eqb (get_or c.args.piece.now c.loop-index.index 0) 0xba c.if-byte.true in
+    let byte : eqb (get_or c.args.piece.now c.loop-index.index 0) 0xba ≡ true =
+    eq-eqb (get_or c.args.piece.now c.loop-index.index 0) 0xba c.if-byte.true in
     let before : IsOpenBefore c.loop-index.prefix seen c.args.piece.now c.loop-index.index c.args.at =
     record { inside = c.loop-index-test.true; long = long; so_far = c.loop-index.invariant seen long so_far } in
     found_step before c.in-Whole.is
-    (ap (λ (b : Bool). cond b (Some (c.args.at + c.loop-index.index - 3)) None) byte ∙ ap (λ (n : ℕ). Some n) (sym c.saturating_sub.ensures))
+    (ap (λ (b : Bool). cond b (Some (c.args.at + c.loop-index.index - 3)) None) byte
+    ∙ ap (λ (n : ℕ). Some n) (sym c.saturating_sub.ensures))
 
 pub returns-in-Whole-2-clause-opening : goal.returns-in-Whole-2-clause-opening
 returns-in-Whole-2-clause-opening c = λ seen long so_far.
-    let byte : eqb (get_or c.args.piece.now c.loop-index.index 0) 0xba ≡ false = ne_eqb (get_or c.args.piece.now c.loop-index.index 0) 0xba c.if-byte.false in
+    let byte : eqb (get_or c.args.piece.now c.loop-index.index 0) 0xba ≡ false =
+    ne_eqb (get_or c.args.piece.now c.loop-index.index 0) 0xba c.if-byte.false in
     let before : IsOpenBefore c.loop-index.prefix seen c.args.piece.now c.loop-index.index c.args.at =
     record { inside = c.loop-index-test.true; long = long; so_far = c.loop-index.invariant seen long so_far } in
     found_step before c.in-Whole.is

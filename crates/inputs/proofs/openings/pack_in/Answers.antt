@@ -5,10 +5,13 @@ use Rattle.inputs.proofs.OpeningLemmas.{open_none, open_plain}
 use Rattle.inputs.proofs.openings.pack_in.Goals as goal
 
 pub returns-in-Pack-clause-place : goal.returns-in-Pack-clause-place
-returns-in-Pack-clause-place c = sym ((c.in-Pack.ensures {u = tt}).opening [] refl open_none []) ∙ ap pack_in (append-nil c.args.file.now)
+returns-in-Pack-clause-place c =
+    sym ((c.in-Pack.ensures {u = tt}).opening [] refl open_none []) ∙ ap pack_in (append-nil c.args.file.now)
 
 pub returns-in-Other-clause-place : goal.returns-in-Other-clause-place
-returns-in-Other-clause-place c = sym ((c.in-Other.ensures {u = tt}).opening [] refl open_none []) ∙ ap pack_in (append-nil c.args.file.now)
+returns-in-Other-clause-place c =
+    sym ((c.in-Other.ensures {u = tt}).opening [] refl open_none []) ∙ ap pack_in (append-nil c.args.file.now)
 
 pub returns-in-Open-clause-place : goal.returns-in-Open-clause-place
-returns-in-Open-clause-place c = sym (open_plain c.in-Open.field-0 c.args.file.now ((c.in-Open.ensures {u = tt}).opening [] refl open_none))
+returns-in-Open-clause-place c =
+    sym (open_plain c.in-Open.field-0 c.args.file.now ((c.in-Open.ensures {u = tt}).opening [] refl open_none))

@@ -9,7 +9,9 @@ pub returns-in-Ok-clause-ended : goal.returns-in-Ok-clause-ended
 returns-in-Ok-clause-ended g c = λ video short taken. elim taken [
   | inl so_far ↦ told_ended so_far
       ((c.in-Ok.ensures {u = tt}).ended) ((c.in-Ok.ensures {u = tt}).told)
-  | inr so_far ↦ (let answered : c.finish.result ≡ Err (FaultAnswer so_far.fault) = (c.finish.ensures.again (FaultAnswer so_far.fault) so_far.answers).0 in absurd (cc))
+  | inr so_far ↦
+      (let answered : c.finish.result ≡ Err (FaultAnswer so_far.fault) =
+      (c.finish.ensures.again (FaultAnswer so_far.fault) so_far.answers).0 in absurd (cc))
 ]
 
 pub returns-in-Err-Fault-clause-trouble : goal.returns-in-Err-Fault-clause-trouble
@@ -17,7 +19,9 @@ returns-in-Err-Fault-clause-trouble g c = (
   refl,
   λ video short taken. elim taken [
     | inl so_far ↦ c.finish.ensures.fault c.in-Err-Fault.fault (cc) (read [] video) so_far.fed
-    | inr so_far ↦ (let answered : c.finish.result ≡ Err (FaultAnswer so_far.fault) = (c.finish.ensures.again (FaultAnswer so_far.fault) so_far.answers).0 in
+    | inr so_far ↦
+        (let answered : c.finish.result ≡ Err (FaultAnswer so_far.fault) =
+        (c.finish.ensures.again (FaultAnswer so_far.fault) so_far.answers).0 in
         let same : so_far.fault ≡ c.in-Err-Fault.fault = cc in
         refused_ended c.args.scanner video short so_far ∙ ap (λ (f : FilmFault). Some f) same)
   ],

@@ -17,7 +17,8 @@ feed_piece-requires-clause-opened g c = λ held is. c.requires.opened held (sym 
 
 pub feed_piece-requires-clause-scanned : goal.feed_piece-requires-clause-scanned
 feed_piece-requires-clause-scanned g c =
-    subst (λ (t : Option (List File)). HasScanned (g.F.Found.heard c.loop-more.found) t c.args.name.now c.args.size c.loop-more.at c.loop-more.scanner)
+    subst (λ (t : Option (List File)). HasScanned (g.F.Found.heard c.loop-more.found) t c.args.name.now
+    c.args.size c.loop-more.at c.loop-more.scanner)
     (sym c.loop-more.invariant.0.kept) c.loop-more.invariant.0.scanned
 
 pub loop-more-preserved : goal.loop-more-preserved
@@ -26,9 +27,11 @@ loop-more-preserved g c = (
     kept = c.feed_piece.ensures.library.kept ∙ c.loop-more.invariant.0.kept;
     count = omega (arith, c.feed_piece.ensures.library.count, c.loop-more.invariant.0.count);
     within = (c.in_ok-count.ensures {u = tt}).within;
-    scanned = subst (λ (t : Option (List File)). HasScanned (g.F.Found.heard c.feed_piece.new.found) t c.args.name.now c.args.size (c.loop-more.at + c.in_ok-count.count) c.feed_piece.new.scanner)
+    scanned = subst (λ (t : Option (List File)). HasScanned (g.F.Found.heard c.feed_piece.new.found) t
+        c.args.name.now c.args.size (c.loop-more.at + c.in_ok-count.count) c.feed_piece.new.scanner)
         c.loop-more.invariant.0.kept ((c.in_ok-count.ensures {u = tt}).scanned);
-    more_is = λ held is. lt-ltb 0 c.in_ok-count.count ((c.in_ok-count.ensures {u = tt}).more held (c.loop-more.invariant.0.kept ∙ is));
+    more_is = λ held is. lt-ltb 0 c.in_ok-count.count
+        ((c.in_ok-count.ensures {u = tt}).more held (c.loop-more.invariant.0.kept ∙ is));
   },
   c.feed_piece.ensures.ready,
 )
@@ -46,4 +49,5 @@ pub returns-in_err-count-clause-trouble : goal.returns-in_err-count-clause-troub
 returns-in_err-count-clause-trouble g c =
     handed_on _ c.from_residual.result c.from_residual.ensures.1
     (trouble_on c.args.name.now IsFilmRefused (g.L.Library.faults c.feed_piece.new.library) c.in_err-count.field-0.0
-    (record { kept = c.loop-more.invariant.0.kept; count = c.loop-more.invariant.0.count }) ((c.in_err-count.ensures {u = tt}).trouble))
+    (record { kept = c.loop-more.invariant.0.kept; count = c.loop-more.invariant.0.count })
+    ((c.in_err-count.ensures {u = tt}).trouble))

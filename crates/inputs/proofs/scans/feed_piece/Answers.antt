@@ -18,12 +18,14 @@ pub returns-in-Ok-clause-scanned : goal.returns-in-Ok-clause-scanned
 returns-in-Ok-clause-scanned g c =
     more_scanned
     c.read_at.new.piece c.requires.scanned
-    (λ held is. (c.in_ok-count.ensures {u = tt}).told held c.requires.scanned.bytes is (c.requires.scanned.front held is) c.requires.scanned.long)
+    (λ held is. (c.in_ok-count.ensures {u = tt}).told held c.requires.scanned.bytes is
+    (c.requires.scanned.front held is) c.requires.scanned.long)
     ((c.in_ok-count.ensures {u = tt}).within) ((c.in-Ok.ensures {u = tt}).kept) ((c.in-Ok.ensures {u = tt}).told)
 
 pub returns-in-Ok-clause-more : goal.returns-in-Ok-clause-more
 returns-in-Ok-clause-more g c = λ held is.
-    (c.in_ok-count.ensures {u = tt}).more held c.requires.scanned.bytes is (c.requires.scanned.front held is) c.requires.scanned.long
+    (c.in_ok-count.ensures {u = tt}).more held c.requires.scanned.bytes is (c.requires.scanned.front held is)
+    c.requires.scanned.long
 
 pub returns-in-Err-Fault-clause-trouble : goal.returns-in-Err-Fault-clause-trouble
 returns-in-Err-Fault-clause-trouble g c = (
@@ -31,13 +33,16 @@ returns-in-Err-Fault-clause-trouble g c = (
   λ held is.
       piece_refused
       (take c.in_ok-count.count c.read_at.new.piece) c.requires.scanned.scanned (c.requires.opened held is)
-      ((c.in_ok-count.ensures {u = tt}).told held c.requires.scanned.bytes is (c.requires.scanned.front held is) c.requires.scanned.long) c.requires.short
+      ((c.in_ok-count.ensures {u = tt}).told held c.requires.scanned.bytes is (c.requires.scanned.front held is)
+      c.requires.scanned.long) c.requires.short
       (c.feed.ensures.fault c.in-Err-Fault.fault (cc)),
 )
 
 pub returns-in_err-count-clause-trouble : goal.returns-in_err-count-clause-trouble
 returns-in_err-count-clause-trouble g c =
-    let on : ReadOn (g.L.Library.files c.args.library.now) (g.L.Library.files c.args.library.now) (g.L.Library.faults c.args.library.now) (g.L.Library.faults c.args.library.now) =
+    let on : ReadOn (g.L.Library.files c.args.library.now) (g.L.Library.files c.args.library.now)
+    (g.L.Library.faults c.args.library.now) (g.L.Library.faults c.args.library.now) =
     record { kept = refl; count = omega arith } in
     handed_on _ c.from_residual.result c.from_residual.ensures.1
-    (never_refused c.args.name.now IsFilmRefused (g.L.Library.faults c.read_at.new.library) c.in_err-count.field-0.0 on ((c.in_err-count.ensures {u = tt}).trouble))
+    (never_refused c.args.name.now IsFilmRefused (g.L.Library.faults c.read_at.new.library)
+    c.in_err-count.field-0.0 on ((c.in_err-count.ensures {u = tt}).trouble))

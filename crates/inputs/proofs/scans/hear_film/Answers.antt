@@ -35,28 +35,33 @@ returns-in_err-size-clause-trouble g c =
 
 pub returns-in_err-stream-clause-trouble : goal.returns-in_err-stream-clause-trouble
 returns-in_err-stream-clause-trouble g c =
-    let on : ReadOn (g.L.Library.files c.args.library.now) (g.L.Library.files c.find_file.new.library) (g.L.Library.faults c.args.library.now) (g.L.Library.faults c.find_file.new.library) =
+    let on : ReadOn (g.L.Library.files c.args.library.now) (g.L.Library.files c.find_file.new.library)
+    (g.L.Library.faults c.args.library.now) (g.L.Library.faults c.find_file.new.library) =
     record { kept = c.find_file.ensures.library.kept; count = c.find_file.ensures.library.count } in
     handed_on _ c.from_residual-in_err-stream.result c.from_residual-in_err-stream.ensures.1
-    (never_refused c.args.name.now IsFilmRefused (g.L.Library.faults c.find_pack.new.library) c.in_err-stream.field-0.0 on ((c.in_err-stream.ensures {u = tt}).trouble))
+    (never_refused c.args.name.now IsFilmRefused (g.L.Library.faults c.find_pack.new.library)
+    c.in_err-stream.field-0.0 on ((c.in_err-stream.ensures {u = tt}).trouble))
 
 pub returns-then-size-gt-FILM-clause-trouble : goal.returns-then-size-gt-FILM-clause-trouble
 returns-then-size-gt-FILM-clause-trouble g c = (
   refl,
-  λ held told. size_refused held c.args.name.now c.in_ok-size.size ((c.in_ok-size.ensures {u = tt}).found held told) (omega (arith, c.if-size-gt-FILM.true)),
+  λ held told. size_refused held c.args.name.now c.in_ok-size.size
+      ((c.in_ok-size.ensures {u = tt}).found held told) (omega (arith, c.if-size-gt-FILM.true)),
 )
 
 pub scan_plain-requires-clause-opened : goal.scan_plain-requires-clause-opened
 scan_plain-requires-clause-opened g c = λ held is.
     subst (IsOpened held c.args.name.now c.in_ok-size.size) c.in-None.is
     ((c.in_ok-stream.ensures {u = tt}).opened held (sym c.find_pack.ensures.library.kept ∙ is)
-    ((c.in_ok-size.ensures {u = tt}).found held (sym c.find_file.ensures.library.kept ∙ sym c.find_pack.ensures.library.kept ∙ is)))
+    ((c.in_ok-size.ensures {u = tt}).found held
+    (sym c.find_file.ensures.library.kept ∙ sym c.find_pack.ensures.library.kept ∙ is)))
 
 pub scan_stream-requires-clause-opened : goal.scan_stream-requires-clause-opened
 scan_stream-requires-clause-opened g c = λ held is.
     subst (IsOpened held c.args.name.now c.in_ok-size.size) c.in-Some.is
     ((c.in_ok-stream.ensures {u = tt}).opened held (sym c.find_pack.ensures.library.kept ∙ is)
-    ((c.in_ok-size.ensures {u = tt}).found held (sym c.find_file.ensures.library.kept ∙ sym c.find_pack.ensures.library.kept ∙ is)))
+    ((c.in_ok-size.ensures {u = tt}).found held
+    (sym c.find_file.ensures.library.kept ∙ sym c.find_pack.ensures.library.kept ∙ is)))
 
 pub returns-in-None-clause-film : goal.returns-in-None-clause-film
 returns-in-None-clause-film g c =
@@ -65,7 +70,8 @@ returns-in-None-clause-film g c =
 
 pub returns-in-None-clause-trouble : goal.returns-in-None-clause-trouble
 returns-in-None-clause-trouble g c =
-    let on : ReadOn (g.L.Library.files c.args.library.now) (g.L.Library.files c.find_pack.new.library) (g.L.Library.faults c.args.library.now) (g.L.Library.faults c.find_pack.new.library) = record {
+    let on : ReadOn (g.L.Library.files c.args.library.now) (g.L.Library.files c.find_pack.new.library)
+    (g.L.Library.faults c.args.library.now) (g.L.Library.faults c.find_pack.new.library) = record {
       kept = c.find_pack.ensures.library.kept ∙ c.find_file.ensures.library.kept;
       count = omega (arith, c.find_file.ensures.library.count, c.find_pack.ensures.library.count);
     } in
@@ -78,8 +84,10 @@ returns-clause-film g c =
 
 pub returns-clause-trouble : goal.returns-clause-trouble
 returns-clause-trouble g c =
-    let on : ReadOn (g.L.Library.files c.args.library.now) (g.L.Library.files c.find_pack.new.library) (g.L.Library.faults c.args.library.now) (g.L.Library.faults c.find_pack.new.library) = record {
+    let on : ReadOn (g.L.Library.files c.args.library.now) (g.L.Library.files c.find_pack.new.library)
+    (g.L.Library.faults c.args.library.now) (g.L.Library.faults c.find_pack.new.library) = record {
       kept = c.find_pack.ensures.library.kept ∙ c.find_file.ensures.library.kept;
       count = omega (arith, c.find_file.ensures.library.count, c.find_pack.ensures.library.count);
     } in
-    troubles_on c.args.name.now (g.L.Library.faults c.scan_stream.new.library) c.scan_stream.result on c.scan_stream.ensures.trouble
+    troubles_on c.args.name.now (g.L.Library.faults c.scan_stream.new.library) c.scan_stream.result on
+    c.scan_stream.ensures.trouble

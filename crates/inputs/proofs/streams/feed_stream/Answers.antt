@@ -25,9 +25,12 @@ loop-more-preserved g c = record {
   within = (c.in_ok-count.ensures {u = tt}).within;
   few = (c.in_ok-count.ensures {u = tt}).few;
   ready = c.feed_stream_piece.ensures.ready;
-  streamed = subst (λ (t : Option (List File)). HasStreamed (g.F.Found.heard c.feed_stream_piece.new.found) t c.args.name.now c.args.size c.args.from (c.loop-more.at + c.in_ok-count.count) c.feed_stream_piece.new.unwrapper c.feed_stream_piece.new.scanner)
+  streamed = subst (λ (t : Option (List File)). HasStreamed (g.F.Found.heard c.feed_stream_piece.new.found) t
+      c.args.name.now c.args.size c.args.from (c.loop-more.at + c.in_ok-count.count)
+      c.feed_stream_piece.new.unwrapper c.feed_stream_piece.new.scanner)
       c.loop-more.invariant.kept ((c.in_ok-count.ensures {u = tt}).streamed);
-  more_is = λ held is. lt-ltb 0 c.in_ok-count.count ((c.in_ok-count.ensures {u = tt}).more held (c.loop-more.invariant.kept ∙ is));
+  more_is = λ held is. lt-ltb 0 c.in_ok-count.count
+      ((c.in_ok-count.ensures {u = tt}).more held (c.loop-more.invariant.kept ∙ is));
 }
 
 pub returns-clause-streamed : goal.returns-clause-streamed
@@ -43,4 +46,5 @@ pub returns-in_err-count-clause-trouble : goal.returns-in_err-count-clause-troub
 returns-in_err-count-clause-trouble g c =
     handed_on _ c.from_residual.result c.from_residual.ensures.1
     (trouble_on c.args.name.now IsFilmRefused (g.L.Library.faults c.feed_stream_piece.new.library) c.in_err-count.field-0.0
-    (record { kept = c.loop-more.invariant.kept; count = c.loop-more.invariant.count }) ((c.in_err-count.ensures {u = tt}).trouble))
+    (record { kept = c.loop-more.invariant.kept; count = c.loop-more.invariant.count })
+    ((c.in_err-count.ensures {u = tt}).trouble))

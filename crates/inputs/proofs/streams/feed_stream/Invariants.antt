@@ -4,7 +4,8 @@ use Rattle.inputs.proofs.streams.feed_stream.Given as goal
 
 abbrev pub invariant-loop-more : goal.invariant-loop-more
 invariant-loop-more g l =
-    HasFedStream (g.F.Found.heard l.found) (g.F.Found.ready_at l.found) (g.L.Library.files l.fn.library) (g.L.Library.files l.library)
+    HasFedStream (g.F.Found.heard l.found) (g.F.Found.ready_at l.found) (g.L.Library.files l.fn.library)
+    (g.L.Library.files l.library)
     (g.L.Library.faults l.fn.library) (g.L.Library.faults l.library) l.name l.size l.from l.at l.unwrapper l.scanner l.more
 
 abbrev pub decreases-loop-more : goal.decreases-loop-more

@@ -19,7 +19,8 @@ pub returns-in-Ok-clause-streamed : goal.returns-in-Ok-clause-streamed
 returns-in-Ok-clause-streamed g c =
     more_streamed
     c.read_at.new.piece c.in_ok-count.count c.requires.streamed
-    (λ held is bytes front long. (c.in_ok-count.ensures {u = tt}).told held bytes is front long) ((c.in_ok-count.ensures {u = tt}).within)
+    (λ held is bytes front long. (c.in_ok-count.ensures {u = tt}).told held bytes is front long)
+    ((c.in_ok-count.ensures {u = tt}).within)
     ((c.in-Ok.ensures {u = tt}).next c.requires.streamed.seen c.requires.streamed.unwrapped)
 
 pub returns-in-Ok-clause-more : goal.returns-in-Ok-clause-more
@@ -46,7 +47,9 @@ returns-in-Err-Fault-clause-trouble g c = (
 
 pub returns-in_err-count-clause-trouble : goal.returns-in_err-count-clause-trouble
 returns-in_err-count-clause-trouble g c =
-    let on : ReadOn (g.L.Library.files c.args.library.now) (g.L.Library.files c.args.library.now) (g.L.Library.faults c.args.library.now) (g.L.Library.faults c.args.library.now) =
+    let on : ReadOn (g.L.Library.files c.args.library.now) (g.L.Library.files c.args.library.now)
+    (g.L.Library.faults c.args.library.now) (g.L.Library.faults c.args.library.now) =
     record { kept = refl; count = omega arith } in
     handed_on _ c.from_residual.result c.from_residual.ensures.1
-    (never_refused c.args.name.now IsFilmRefused (g.L.Library.faults c.read_at.new.library) c.in_err-count.field-0.0 on ((c.in_err-count.ensures {u = tt}).trouble))
+    (never_refused c.args.name.now IsFilmRefused (g.L.Library.faults c.read_at.new.library)
+    c.in_err-count.field-0.0 on ((c.in_err-count.ensures {u = tt}).trouble))

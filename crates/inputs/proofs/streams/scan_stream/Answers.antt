@@ -18,27 +18,34 @@ feed_stream-requires-clause-few g c = omega (arith, c.new-scanner.ensures.fed.pr
 
 pub returns-in-Ok-clause-film : goal.returns-in-Ok-clause-film
 returns-in-Ok-clause-film g c =
-    let all : HasStreamedAll (g.F.Found.heard c.feed_stream.new.found) (g.L.Library.files c.args.library.now) c.args.name.now c.args.size c.args.from c.feed_stream.new.unwrapper c.feed_stream.new.scanner =
+    let all : HasStreamedAll (g.F.Found.heard c.feed_stream.new.found) (g.L.Library.files c.args.library.now)
+    c.args.name.now c.args.size c.args.from c.feed_stream.new.unwrapper c.feed_stream.new.scanner =
     (c.in_ok-feed_stream.ensures {u = tt}).streamed in
-    let system : IsSystem all.seen all.unwrapped.video = (c.in-Ok.ensures {u = tt}).end all.seen all.unwrapped.video all.unwrapped.fed in
+    let system : IsSystem all.seen all.unwrapped.video =
+    (c.in-Ok.ensures {u = tt}).end all.seen all.unwrapped.video all.unwrapped.fed in
     let short : length all.unwrapped.video ≤ 2 ^ 40 =
     video_short c.requires.short all in
     ok_map (λ e. HasEnded (g.F.Found.heard c.end_film.new.found) all.unwrapped.video e.bytes e.rate)
-    (λ e. HasHeard (g.F.Found.heard c.end_film.new.found) (g.L.Library.files c.args.library.now) c.args.name.now e.bytes e.rate) c.end_film.result
+    (λ e. HasHeard (g.F.Found.heard c.end_film.new.found) (g.L.Library.files c.args.library.now) c.args.name.now
+    e.bytes e.rate) c.end_film.result
     (λ e ended. stream_heard
     c.requires.short c.requires.opened all system ended)
     (c.end_film.ensures.ended all.unwrapped.video short all.unwrapped.taken)
 
 pub returns-in-Ok-clause-trouble : goal.returns-in-Ok-clause-trouble
 returns-in-Ok-clause-trouble g c =
-    let all : HasStreamedAll (g.F.Found.heard c.feed_stream.new.found) (g.L.Library.files c.args.library.now) c.args.name.now c.args.size c.args.from c.feed_stream.new.unwrapper c.feed_stream.new.scanner =
+    let all : HasStreamedAll (g.F.Found.heard c.feed_stream.new.found) (g.L.Library.files c.args.library.now)
+    c.args.name.now c.args.size c.args.from c.feed_stream.new.unwrapper c.feed_stream.new.scanner =
     (c.in_ok-feed_stream.ensures {u = tt}).streamed in
-    let system : IsSystem all.seen all.unwrapped.video = (c.in-Ok.ensures {u = tt}).end all.seen all.unwrapped.video all.unwrapped.fed in
+    let system : IsSystem all.seen all.unwrapped.video =
+    (c.in-Ok.ensures {u = tt}).end all.seen all.unwrapped.video all.unwrapped.fed in
     let short : length all.unwrapped.video ≤ 2 ^ 40 =
     video_short c.requires.short all in
     err_map (IsFilmTrouble c.args.name.now (IsRefusedAtEnd (g.F.Found.heard c.feed_stream.new.found) c.feed_stream.new.scanner))
-    (IsReadTrouble (IsNamed c.args.name.now) IsFilmRefused (g.L.Library.files c.args.library.now) (g.L.Library.faults c.args.library.now) (g.L.Library.faults c.feed_stream.new.library)) c.end_film.result
-    (λ t h. end_trouble {Refuses = IsRefusedAtEnd (g.F.Found.heard c.feed_stream.new.found) c.feed_stream.new.scanner} c.args.name.now
+    (IsReadTrouble (IsNamed c.args.name.now) IsFilmRefused (g.L.Library.files c.args.library.now)
+    (g.L.Library.faults c.args.library.now) (g.L.Library.faults c.feed_stream.new.library)) c.end_film.result
+    (λ t h. end_trouble
+    {Refuses = IsRefusedAtEnd (g.F.Found.heard c.feed_stream.new.found) c.feed_stream.new.scanner} c.args.name.now
     (g.L.Library.faults c.args.library.now) (g.L.Library.faults c.feed_stream.new.library) t
     (λ held fault is refuses. video_refused
     c.requires.short c.requires.opened all is system (refuses all.unwrapped.video short all.unwrapped.taken)) h)
@@ -48,7 +55,8 @@ pub returns-in-Err-clause-trouble : goal.returns-in-Err-clause-trouble
 returns-in-Err-clause-trouble g c = (
   refl,
   λ held is.
-      let all : HasStreamedAll (g.F.Found.heard c.feed_stream.new.found) (g.L.Library.files c.args.library.now) c.args.name.now c.args.size c.args.from c.feed_stream.new.unwrapper c.feed_stream.new.scanner =
+      let all : HasStreamedAll (g.F.Found.heard c.feed_stream.new.found) (g.L.Library.files c.args.library.now)
+      c.args.name.now c.args.size c.args.from c.feed_stream.new.unwrapper c.feed_stream.new.scanner =
       (c.in_ok-feed_stream.ensures {u = tt}).streamed in
       end_fault
       all is c.requires.opened c.requires.short

@@ -12,7 +12,9 @@ pub returns-in-Ok-clause-taken : goal.returns-in-Ok-clause-taken
 returns-in-Ok-clause-taken g c = λ seen taken. elim taken [
   | inl so_far ↦ inl (more_told c.args.video.now so_far
       ((c.in-Ok.ensures {u = tt}).kept) ((c.in-Ok.ensures {u = tt}).told))
-  | inr so_far ↦ (let answered : c.feed.result ≡ Err (FaultAnswer so_far.fault) = (c.feed.ensures.again (FaultAnswer so_far.fault) so_far.answers).0 in absurd (cc))
+  | inr so_far ↦
+      (let answered : c.feed.result ≡ Err (FaultAnswer so_far.fault) =
+      (c.feed.ensures.again (FaultAnswer so_far.fault) so_far.answers).0 in absurd (cc))
 ]
 
 pub returns-in-Err-Fault-clause-taken : goal.returns-in-Err-Fault-clause-taken
@@ -23,7 +25,10 @@ returns-in-Err-Fault-clause-taken g c = λ seen taken. elim taken [
     front = seen ++ c.args.video.now;
     rest = [];
     video_is = sym (append-nil (seen ++ c.args.video.now));
-    refused = ap (λ (r : List ℕ). first_fault (codes_of r)) (read-append [] seen c.args.video.now) ∙ c.feed.ensures.fault c.in-Err-Fault.field-0-0 (cc) (read [] seen) so_far.fed;
+    refused = ap (λ (r : List ℕ). first_fault (codes_of r)) (read-append [] seen c.args.video.now)
+        ∙ c.feed.ensures.fault c.in-Err-Fault.field-0-0 (cc) (read [] seen) so_far.fed;
   })
-  | inr so_far ↦ inr (refused_more c.args.scanner.now c.feed.new.self seen c.args.video.now ((c.feed.ensures.again (FaultAnswer so_far.fault) so_far.answers).1) so_far)
+  | inr so_far ↦
+      inr (refused_more c.args.scanner.now c.feed.new.self seen c.args.video.now
+      ((c.feed.ensures.again (FaultAnswer so_far.fault) so_far.answers).1) so_far)
 ]

@@ -13,7 +13,8 @@ loop-at-init g c = record {
   few = c.requires.few;
   ready = c.requires.ready;
   next = λ seen so_far.
-      subst (λ (l : List ℕ). HasUnwrapped (g.F.Found.heard c.args.found.now) c.args.unwrapper.now c.args.scanner.now l) (sym (append-nil seen)) so_far;
+      subst (λ (l : List ℕ). HasUnwrapped (g.F.Found.heard c.args.found.now) c.args.unwrapper.now
+      c.args.scanner.now l) (sym (append-nil seen)) so_far;
 }
 
 pub loop-at-preserved : goal.loop-at-preserved
@@ -29,7 +30,8 @@ loop-at-preserved g c = record {
   few = omega (arith, c.loop-at.invariant.few, (c.in_ok-taken.ensures {u = tt}).few, (c.in_ok-taken.ensures {u = tt}).count);
   ready = c.unwrap_part.ensures.ready;
   next = λ seen so_far.
-      subst (λ (l : List ℕ). HasUnwrapped (g.F.Found.heard c.unwrap_part.new.found) c.unwrap_part.new.unwrapper c.unwrap_part.new.scanner l)
+      subst (λ (l : List ℕ). HasUnwrapped (g.F.Found.heard c.unwrap_part.new.found) c.unwrap_part.new.unwrapper
+      c.unwrap_part.new.scanner l)
       (parts_joined seen c.args.piece.now c.loop-at.at c.in_ok-taken.taken)
       ((c.in_ok-taken.ensures {u = tt}).next (seen ++ take c.loop-at.at c.args.piece.now) (c.loop-at.invariant.next seen so_far));
 }
@@ -38,7 +40,8 @@ pub returns-in_err-taken-clause-refused : goal.returns-in_err-taken-clause-refus
 returns-in_err-taken-clause-refused g c = λ seen so_far.
     handed_on _ c.from_residual.result c.from_residual.ensures.1
     (part_refused seen c.args.piece.now c.loop-at.at c.in_err-taken.field-0.0
-    ((c.in_err-taken.ensures {u = tt}).refused (seen ++ take c.loop-at.at c.args.piece.now) (c.loop-at.invariant.next seen so_far)))
+    ((c.in_err-taken.ensures {u = tt}).refused (seen ++ take c.loop-at.at c.args.piece.now)
+    (c.loop-at.invariant.next seen so_far)))
 
 pub returns-clause-next : goal.returns-clause-next
 returns-clause-next g c = λ seen so_far.

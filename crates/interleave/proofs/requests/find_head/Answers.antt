@@ -3,8 +3,11 @@ use Rattle.interleave.proofs.Found.{found_head}
 use Rattle.interleave.proofs.requests.find_head.Goals as goal
 
 pub returns-then-empty_line_ends : goal.returns-then-empty_line_ends
-returns-then-empty_line_ends c =
-    (omega arith, found_head c.args.bytes.now c.loop-at.at (omega (arith, c.requires.within)) (sym c.if-empty_line_ends.ensures) c.loop-at.invariant)
+returns-then-empty_line_ends c = (
+  omega arith,
+  found_head c.args.bytes.now c.loop-at.at (omega (arith, c.requires.within))
+      (sym c.if-empty_line_ends.ensures) c.loop-at.invariant,
+)
 
 pub loop-at-preserved : goal.loop-at-preserved
 loop-at-preserved c = below_more _ _ c.loop-at.invariant (sym c.if-empty_line_ends.ensures)

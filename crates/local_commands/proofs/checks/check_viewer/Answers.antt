@@ -61,7 +61,10 @@ returns-in_err-written-clause-trouble g c =
       reads = λ name is. inr is;
       refuses = λ held name fault told is missing. inr (
         is,
-        ((c.in_ok-curves.curves, (c.in_ok-curves.ensures {u = tt}).curves held told), inl (subst (λ (n : List ℕ). IsMissing held n fault) is missing)),
+        (
+          (c.in_ok-curves.curves, (c.in_ok-curves.ensures {u = tt}).curves held told),
+          inl (subst (λ (n : List ℕ). IsMissing held n fault) is missing),
+        ),
       );
       keeps = λ held told. c.viewer_curves.ensures.library.kept ∙ told;
       low = omega (arith, c.viewer_curves.ensures.library.count);
@@ -74,12 +77,16 @@ returns-in-Err-BadCert-clause-trouble g c = (
   inr refl,
   λ held told.
       let found : file_named held c.args.cert.now ≡ Some c.deref.result.now =
-      (c.in_ok-written.ensures {u = tt}).found held (c.viewer_curves.ensures.library.kept ∙ told) ∙ ap (λ (t : List ℕ). Some t) (sym c.deref.ensures.value) in
+      (c.in_ok-written.ensures {u = tt}).found held (c.viewer_curves.ensures.library.kept ∙ told)
+      ∙ ap (λ (t : List ℕ). Some t) (sym c.deref.ensures.value) in
       inr (
         refl,
         (
           (c.in_ok-curves.curves, (c.in_ok-curves.ensures {u = tt}).curves held told),
-          inr (c.deref.result.now, (found, rw c.in-Err-BadCert.field-0-is (rw c.in-Err-BadCert.field-0-is at c.in-Err-BadCert.ensures.refused))),
+          inr (
+            c.deref.result.now,
+            (found, rw c.in-Err-BadCert.field-0-is (rw c.in-Err-BadCert.field-0-is at c.in-Err-BadCert.ensures.refused)),
+          ),
         ),
       ),
 )
@@ -87,16 +94,19 @@ returns-in-Err-BadCert-clause-trouble g c = (
 pub returns-in-Ok-check-clause-done : goal.returns-in-Ok-check-clause-done
 returns-in-Ok-check-clause-done g c =
     let read : (held : List File) → g.L.Library.files c.args.library.now ≡ Some held →
-    HasCertificate held (viewer_of c.args.viewer) c.args.cert.now c.in_ok-curves.curves c.deref-2.result.now = λ held told. record {
+    HasCertificate held (viewer_of c.args.viewer) c.args.cert.now c.in_ok-curves.curves c.deref-2.result.now =
+    λ held told. record {
       has = (c.in_ok-curves.ensures {u = tt}).curves held told;
       written = c.deref.result.now;
-      found = (c.in_ok-written.ensures {u = tt}).found held (c.viewer_curves.ensures.library.kept ∙ told) ∙ ap (λ (t : List ℕ). Some t) (sym c.deref.ensures.value);
+      found = (c.in_ok-written.ensures {u = tt}).found held (c.viewer_curves.ensures.library.kept ∙ told)
+          ∙ ap (λ (t : List ℕ). Some t) (sym c.deref.ensures.value);
       slots = c.in-Ok.certificate.slots;
       bytes = c.in-Ok.certificate.bytes;
       certificate = rw c.deref-2.ensures.value ((c.in-Ok.ensures {u = tt}).read);
     } in
     ok_map (λ done. (done.status ≡ 0) × (c.from_slice.result ≡ Ok done.text) × (done.plan ≡ None))
-    (λ done. IsDone (g.L.Library.files c.args.library.now) (check_of (viewer_of c.args.viewer) c.args.cert.now) done.status done.text.items done.plan) c.finish.result
+    (λ done. IsDone (g.L.Library.files c.args.library.now) (check_of (viewer_of c.args.viewer) c.args.cert.now)
+    done.status done.text.items done.plan) c.finish.result
     (λ done is. (
       inl (is.0, text_of (codes "least\n") c.from_slice.result done.text c.from_slice.ensures.items is.1),
       is.2,
@@ -108,18 +118,24 @@ returns-in-Ok-check-clause-done g c =
 pub returns-clause-done : goal.returns-clause-done
 returns-clause-done g c =
     let read : (held : List File) → g.L.Library.files c.args.library.now ≡ Some held →
-    HasCertificate held (viewer_of c.args.viewer) c.args.cert.now c.in_ok-curves.curves c.deref-2.result.now = λ held told. record {
+    HasCertificate held (viewer_of c.args.viewer) c.args.cert.now c.in_ok-curves.curves c.deref-2.result.now =
+    λ held told. record {
       has = (c.in_ok-curves.ensures {u = tt}).curves held told;
       written = c.deref.result.now;
-      found = (c.in_ok-written.ensures {u = tt}).found held (c.viewer_curves.ensures.library.kept ∙ told) ∙ ap (λ (t : List ℕ). Some t) (sym c.deref.ensures.value);
+      found = (c.in_ok-written.ensures {u = tt}).found held (c.viewer_curves.ensures.library.kept ∙ told)
+          ∙ ap (λ (t : List ℕ). Some t) (sym c.deref.ensures.value);
       slots = c.in-Ok.certificate.slots;
       bytes = c.in-Ok.certificate.bytes;
       certificate = rw c.deref-2.ensures.value ((c.in-Ok.ensures {u = tt}).read);
     } in
     ok_map (λ done. (done.status ≡ 1) × (c.refusal_text.result ≡ Ok done.text) × (done.plan ≡ None))
-    (λ done. IsDone (g.L.Library.files c.args.library.now) (check_of (viewer_of c.args.viewer) c.args.cert.now) done.status done.text.items done.plan) c.finish-in-Err.result
+    (λ done. IsDone (g.L.Library.files c.args.library.now) (check_of (viewer_of c.args.viewer) c.args.cert.now)
+    done.status done.text.items done.plan) c.finish-in-Err.result
     (λ done is. (
-      inr (c.in-Err.fault, (is.0, text_of (refused_line c.in-Err.fault) c.refusal_text.result done.text c.refusal_text.ensures is.1)),
+      inr (
+        c.in-Err.fault,
+        (is.0, text_of (refused_line c.in-Err.fault) c.refusal_text.result done.text c.refusal_text.ensures is.1),
+      ),
       is.2,
       λ held told.
           fault_checked (read held told) (c.in-Err.ensures {u = tt}).verdict c.refusal_text.ensures done is,

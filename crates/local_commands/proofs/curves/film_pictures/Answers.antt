@@ -5,8 +5,10 @@ use Rattle.local_commands.proofs.curves.film_pictures.Goals as goal
 
 pub returns-clause-limits : goal.returns-clause-limits
 returns-clause-limits g c =
-    subst (λ (time : ℕ). AreWithinLimits (record { sizes = c.in_ok-film.film.sizes.items; picture = time; slot = c.args.slot })) (sym c.picture_units.ensures)
-    (film_limits c.in_ok-film.film.rate c.args.slot c.in_ok-film.film.sizes.items ((c.in_ok-film.ensures {u = tt}).limits) c.requires.some_slot c.requires.slot_fits)
+    subst (λ (time : ℕ). AreWithinLimits
+    (record { sizes = c.in_ok-film.film.sizes.items; picture = time; slot = c.args.slot })) (sym c.picture_units.ensures)
+    (film_limits c.in_ok-film.film.rate c.args.slot c.in_ok-film.film.sizes.items
+    ((c.in_ok-film.ensures {u = tt}).limits) c.requires.some_slot c.requires.slot_fits)
 
 pub returns-clause-pictures : goal.returns-clause-pictures
 returns-clause-pictures g c = λ held told. record {

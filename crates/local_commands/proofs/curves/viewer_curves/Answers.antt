@@ -39,8 +39,10 @@ returns-in_err-pictures-clause-trouble g c =
 
 pub film_curves-requires : goal.film_curves-requires
 film_curves-requires g c =
-    subst (λ (l : List ℕ). IsWithinLimits l (timing_of (viewer_of c.args.viewer) (pictures_of c.in_ok-pictures.pictures))) (sym c.deref.ensures.value)
-    (limits_of (viewer_of c.args.viewer) (pictures_of c.in_ok-pictures.pictures) ((c.in_ok-pictures.ensures {u = tt}).limits) c.requires.some_buffer c.requires.buffer_fits c.requires.startup_fits)
+    subst (λ (l : List ℕ). IsWithinLimits l
+    (timing_of (viewer_of c.args.viewer) (pictures_of c.in_ok-pictures.pictures))) (sym c.deref.ensures.value)
+    (limits_of (viewer_of c.args.viewer) (pictures_of c.in_ok-pictures.pictures)
+    ((c.in_ok-pictures.ensures {u = tt}).limits) c.requires.some_buffer c.requires.buffer_fits c.requires.startup_fits)
 
 pub returns-in-Ok-clause-curves : goal.returns-in-Ok-clause-curves
 returns-in-Ok-clause-curves g c = λ held told. record {
@@ -57,12 +59,14 @@ returns-in-Err-Fault-clause-trouble g c = (
   λ held told.
       let pictures : Pictures = pictures_of c.in_ok-pictures.pictures in
       let fault : HasFault c.deref.result.now (timing_of (viewer_of c.args.viewer) pictures) c.in-Err-Fault.fault =
-      subst (IsRefused c.deref.result.now (timing_of (viewer_of c.args.viewer) pictures)) c.in-Err-Fault.field-0-is ((c.in-Err-Fault.ensures {u = tt}).refused) in
+      subst (IsRefused c.deref.result.now (timing_of (viewer_of c.args.viewer) pictures))
+      c.in-Err-Fault.field-0-is ((c.in-Err-Fault.ensures {u = tt}).refused) in
       inr (
         pictures,
         (
           (c.in_ok-pictures.ensures {u = tt}).pictures held told,
-          subst (λ (l : List ℕ). HasFault l (timing_of (viewer_of c.args.viewer) pictures) c.in-Err-Fault.fault) c.deref.ensures.value fault,
+          subst (λ (l : List ℕ). HasFault l (timing_of (viewer_of c.args.viewer) pictures) c.in-Err-Fault.fault)
+              c.deref.ensures.value fault,
         ),
       ),
 )

@@ -8,8 +8,11 @@ use Rattle.inputs.proofs.ScanLemmas.{handed_on}
 use Rattle.local_commands.proofs.days.load_source.Goals as goal
 
 pub returns-in_ok-film-clause-held : goal.returns-in_ok-film-clause-held
-returns-in_ok-film-clause-held g c = λ held told.
-    (c.if-named.true, subst (λ (n : List ℕ). HoldsVideo held n c.in_ok-film.film.film.bytes.items) c.as_str-name.ensures.value ((c.in_ok-film.ensures {u = tt}).film held told))
+returns-in_ok-film-clause-held g c = λ held told. (
+  c.if-named.true,
+  subst (λ (n : List ℕ). HoldsVideo held n c.in_ok-film.film.film.bytes.items) c.as_str-name.ensures.value
+      ((c.in_ok-film.ensures {u = tt}).film held told),
+)
 
 pub returns-in_err-film-clause-trouble : goal.returns-in_err-film-clause-trouble
 returns-in_err-film-clause-trouble g c =
@@ -31,7 +34,8 @@ returns-in_err-film-clause-trouble g c =
     c.in_err-film.field-0.0
     (record {
       reads = λ name is. is ∙ c.as_str-name.ensures.value;
-      refuses = λ held name fault told is refused. subst (λ (film : Bool). IsRefusedAs film held name fault) (sym c.if-named.true) refused;
+      refuses = λ held name fault told is refused. subst (λ (film : Bool). IsRefusedAs film held name fault)
+          (sym c.if-named.true) refused;
       keeps = λ held told. told;
       low = omega arith;
       high = omega arith;
@@ -41,7 +45,8 @@ returns-in_err-film-clause-trouble g c =
 pub returns-in_ok-sizes-clause-held : goal.returns-in_ok-sizes-clause-held
 returns-in_ok-sizes-clause-held g c = λ held told. (
   c.if-named.false,
-  subst (λ (n : List ℕ). HoldsTrace held n c.in_ok-sizes.sizes.items) c.as_str-name.ensures.value ((c.in_ok-sizes.ensures {u = tt}).held held told),
+  subst (λ (n : List ℕ). HoldsTrace held n c.in_ok-sizes.sizes.items) c.as_str-name.ensures.value
+      ((c.in_ok-sizes.ensures {u = tt}).held held told),
 )
 
 pub returns-in_err-sizes-clause-trouble : goal.returns-in_err-sizes-clause-trouble
@@ -64,7 +69,8 @@ returns-in_err-sizes-clause-trouble g c =
     c.in_err-sizes.field-0.0
     (record {
       reads = λ name is. is ∙ c.as_str-name.ensures.value;
-      refuses = λ held name fault told is refused. subst (λ (film : Bool). IsRefusedAs film held name fault) (sym c.if-named.false) refused;
+      refuses = λ held name fault told is refused. subst (λ (film : Bool). IsRefusedAs film held name fault)
+          (sym c.if-named.false) refused;
       keeps = λ held told. told;
       low = omega arith;
       high = omega arith;

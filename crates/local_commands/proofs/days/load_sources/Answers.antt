@@ -37,7 +37,8 @@ returns-in_err-source-clause-trouble g c =
 pub loop-one-preserved : goal.loop-one-preserved
 loop-one-preserved g c = record {
   count = search rules;
-  sources = sources_push c.loop-one.sources.items c.push.new.self.items c.in_ok-source.source (search rules) ((c.in_ok-source.ensures {u = tt}).source) c.loop-one.invariant.sources;
+  sources = sources_push c.loop-one.sources.items c.push.new.self.items c.in_ok-source.source (search rules)
+      ((c.in_ok-source.ensures {u = tt}).source) c.loop-one.invariant.sources;
   held = λ held told.
       held_push c.in_ok-source.source (search rules) (record {
         long = c.loop-one.invariant.count;
@@ -50,5 +51,6 @@ loop-one-preserved g c = record {
 
 pub returns-clause-held : goal.returns-clause-held
 returns-clause-held g c = λ held told.
-    held_whole held c.args.named.now c.loop-one.sources.items (omega (arith, c.loop-one.invariant.count, c.loop-one-test.false, c.loop-one.auto.one-index-end))
+    held_whole held c.args.named.now c.loop-one.sources.items
+    (omega (arith, c.loop-one.invariant.count, c.loop-one-test.false, c.loop-one.auto.one-index-end))
     (c.loop-one.invariant.held held told)

@@ -10,5 +10,6 @@ invariant-loop-one g l = record {
   count : length l.sources.items ≡ l.one-index;
   sources : AreSources l.sources.items;
   held : (held : List File) → g.L.Library.files l.initial.library ≡ Some held → AreHeldFront held l.fn.named l.sources.items;
-  library : IsReadOnly (g.L.Library.files l.initial.library) (g.L.Library.files l.library) (g.L.Library.faults l.initial.library) (g.L.Library.faults l.library);
+  library : IsReadOnly (g.L.Library.files l.initial.library) (g.L.Library.files l.library)
+      (g.L.Library.faults l.initial.library) (g.L.Library.faults l.library);
 }

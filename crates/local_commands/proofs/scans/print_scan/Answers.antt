@@ -10,7 +10,8 @@ use Rattle.local_commands.proofs.scans.print_scan.Goals as goal
 pub returns-clause-done : goal.returns-clause-done
 returns-clause-done g c =
     ok_map (λ done. (done.status ≡ 0) × (c.scan_text.result ≡ Ok done.text) × (done.plan ≡ None))
-    (λ done. IsDone (g.L.Library.files c.args.library.now) (scan_of c.args.film.now) done.status done.text.items done.plan) c.finish.result
+    (λ done. IsDone (g.L.Library.files c.args.library.now) (scan_of c.args.film.now) done.status done.text.items
+    done.plan) c.finish.result
     (λ done is. (
       is.0,
       is.2,
@@ -18,10 +19,13 @@ returns-clause-done g c =
         size = c.in_ok-scanned.scanned.bytes;
         rate = c.in_ok-scanned.scanned.rate;
         units = c.deref.result.now;
-        printed = text_of (scan_text c.in_ok-scanned.scanned.bytes c.in_ok-scanned.scanned.rate c.deref.result.now) c.scan_text.result done.text c.scan_text.ensures is.1;
+        printed = text_of
+            (scan_text c.in_ok-scanned.scanned.bytes c.in_ok-scanned.scanned.rate c.deref.result.now)
+            c.scan_text.result done.text c.scan_text.ensures is.1;
       },
       λ held told.
-          let holds : HoldsFilm held c.args.film.now c.in_ok-scanned.scanned.bytes c.in_ok-scanned.scanned.rate c.deref.result.now =
+          let holds : HoldsFilm held c.args.film.now c.in_ok-scanned.scanned.bytes c.in_ok-scanned.scanned.rate
+          c.deref.result.now =
           rw c.deref.ensures.value ((c.in_ok-scanned.ensures {u = tt}).film held told) in
           film_done holds c.scan_text.ensures done is.1,
     ))

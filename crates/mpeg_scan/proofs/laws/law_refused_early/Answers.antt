@@ -8,7 +8,8 @@ use Rattle.mpeg_scan.proofs.laws.law_refused_early.Goals as goal
 pub returns : goal.returns
 returns c = record {
   code = λ front rest f short is.
-      let whole : first_fault (codes_of (read [] (front ++ rest))) ≡ Some f = ap (λ (l : List ℕ). first_fault (codes_of l)) (read-append [] front rest) ∙ fault-stays rest (read [] front) f is in
+      let whole : first_fault (codes_of (read [] (front ++ rest))) ≡ Some f =
+      ap (λ (l : List ℕ). first_fault (codes_of l)) (read-append [] front rest) ∙ fault-stays rest (read [] front) f is in
       refusal-at_code (front ++ rest) f short whole;
   long = λ bytes far. refusal-too_long bytes far;
 }

@@ -13,7 +13,8 @@ pub record SentUpTo (from at to : ℕ) (faults_old faults : ℕ) (is_told : Type
 abbrev pub invariant-loop-at : goal.invariant-loop-at
 invariant-loop-at g l =
     SentUpTo l.from l.at l.to (g.K.Link.faults l.initial.link) (g.K.Link.faults l.link)
-    (g.K.Link.told l.link ≡ told_more (g.K.Link.told l.initial.link) (sends (bytes_between (g.T.Track.pieces l.track) l.from l.at)))
+    (g.K.Link.told l.link
+    ≡ told_more (g.K.Link.told l.initial.link) (sends (bytes_between (g.T.Track.pieces l.track) l.from l.at)))
 
 abbrev pub decreases-loop-at : goal.decreases-loop-at
 decreases-loop-at g l = l.to - l.at

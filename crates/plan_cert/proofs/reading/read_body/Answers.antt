@@ -10,14 +10,19 @@ use Rattle.plan_cert.proofs.reading.read_body.Goals as goal
 
 pub returns-in_default-clause-refused : goal.returns-in_default-clause-refused
 returns-in_default-clause-refused c = λ whole read.
-    let k = 3 + c.loop-count.count in
-    (k, omega arith, inl (breaks_missing whole k c.loop-count.rest.now (c.loop-count.invariant.read whole read) c.in_default.ensures))
+    let k = 3 + c.loop-count.count in (
+      k,
+      omega arith,
+      inl (breaks_missing whole k c.loop-count.rest.now (c.loop-count.invariant.read whole read) c.in_default.ensures),
+    )
 
 pub returns-then-is_text-clause-refused : goal.returns-then-is_text-clause-refused
 returns-then-is_text-clause-refused c = λ whole read.
     let k = 3 + c.loop-count.count in
     let ends : MayEnd k c.in-Some.line.now = record { after_head = omega arith; words = c.is_text.ensures.0 c.if-is_text.true } in
-    let some : c.in-Some.after.now ≢ [] = λ e. both_ways c.is_empty.result c.if-is_empty.false (c.is_empty.ensures ∙ eq-eqb (length c.in-Some.after.now) 0 (ap length e)) in
+    let some : c.in-Some.after.now ≢ [] =
+    λ e. both_ways c.is_empty.result c.if-is_empty.false
+    (c.is_empty.ensures ∙ eq-eqb (length c.in-Some.after.now) 0 (ap length e)) in
     (k + 1, omega arith, inr (inl (goes_after_end (c.loop-count.invariant.read whole read) c.in-Some.ensures ends some)))
 
 pub returns-in_default-segment_in-clause-refused : goal.returns-in_default-segment_in-clause-refused
@@ -26,7 +31,8 @@ returns-in_default-segment_in-clause-refused c = λ whole read.
       k,
       omega arith,
       inl (breaks_here (c.loop-count.invariant.read whole read) c.in-Some.ensures
-          (not_piece c.loop-count.count c.in-Some.line.now c.in_default-segment_in.ensures) (λ ends. both_ways c.is_text.result c.if-is_text.false (c.is_text.ensures.1 ends.words))),
+          (not_piece c.loop-count.count c.in-Some.line.now c.in_default-segment_in.ensures)
+          (λ ends. both_ways c.is_text.result c.if-is_text.false (c.is_text.ensures.1 ends.words))),
     )
 
 pub returns-then-count-eq-MAX_SEGMENTS-clause-refused : goal.returns-then-count-eq-MAX_SEGMENTS-clause-refused
@@ -35,7 +41,8 @@ returns-then-count-eq-MAX_SEGMENTS-clause-refused c = λ whole read.
       k,
       omega arith,
       inl (breaks_here (c.loop-count.invariant.read whole read) c.in-Some.ensures
-          (not_one_more c.loop-count.count c.in-Some.line.now c.if-count-eq-MAX_SEGMENTS.true) (λ ends. both_ways c.is_text.result c.if-is_text.false (c.is_text.ensures.1 ends.words))),
+          (not_one_more c.loop-count.count c.in-Some.line.now c.if-count-eq-MAX_SEGMENTS.true)
+          (λ ends. both_ways c.is_text.result c.if-is_text.false (c.is_text.ensures.1 ends.words))),
     )
 
 pub loop-count-preserved : goal.loop-count-preserved
@@ -44,7 +51,9 @@ loop-count-preserved c =
     let s = c.in-Some-segment_in.segment in
     let more : c.loop-count.count < 1000000 = omega (arith, inv.few) in
     let ok : is_ok c.push.result ≡ true = c.is_err.ensures.negation ∙ ap not c.if-is_err.false in
-    let items : c.push.new.self.items ≡ c.loop-count.segments.items ++ s ∷ [] = c.push.ensures.items ∙ cond-true (is_ok c.push.result) (c.loop-count.segments.items ++ s ∷ []) c.loop-count.segments.items ok in
+    let items : c.push.new.self.items ≡ c.loop-count.segments.items ++ s ∷ [] =
+    c.push.ensures.items
+    ∙ cond-true (is_ok c.push.result) (c.loop-count.segments.items ++ s ∷ []) c.loop-count.segments.items ok in
     record {
       few = omega arith;
       counted = ap length items ∙ length_push c.loop-count.segments.items s ∙ ap (λ n. n + 1) inv.counted;

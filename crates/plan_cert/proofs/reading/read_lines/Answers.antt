@@ -8,7 +8,8 @@ use Rattle.plan_cert.proofs.Grammar.{whole_text}
 use Rattle.plan_cert.proofs.reading.read_lines.Goals as goal
 
 -- head and body are read, and line i, from 0, has the first sum that isn't theirs
-wrong_sum : {text rest : List ℕ} {slots bytes : ℕ} {segments : List Segment} {i : ℕ} → IsHead text slots bytes rest → IsBody rest segments
+wrong_sum : {text rest : List ℕ} {slots bytes : ℕ} {segments : List Segment} {i : ℕ}
+    → IsHead text slots bytes rest → IsBody rest segments
     → ((i ≡ 1) × (total_slots segments ≢ slots)) ⊎ ((i ≡ 2) × (total_slots segments ≡ slots) × (total_bytes segments ≢ bytes))
     → IsBadLine text (i + 1)
 wrong_sum {text} {slots} {bytes} {segments} {i} head body wrong = (
@@ -37,7 +38,8 @@ pub returns-then-not-has_bytes-clause-refused : goal.returns-then-not-has_bytes-
 returns-then-not-has_bytes-clause-refused c =
     let same = sym (ap total_slots c.as_slice.ensures.value) ∙ c.has_slots.ensures.0 c.if-not-has_slots.false in
     let wrong = λ (e : total_bytes c.in_ok-segments.segments.items ≡ c.in-Ok.head.bytes).
-    both_ways c.has_bytes.result c.if-not-has_bytes.true (c.has_bytes.ensures.1 (ap total_bytes c.as_slice-2.ensures.value ∙ e)) in
+    both_ways c.has_bytes.result c.if-not-has_bytes.true
+    (c.has_bytes.ensures.1 (ap total_bytes c.as_slice-2.ensures.value ∙ e)) in
     wrong_sum
     c.in-Ok.ensures c.in_ok-segments.ensures.read (inr (refl, same, wrong))
 

@@ -9,7 +9,8 @@ returns-in_err-push_field c =
     let calendar = c.args.calendar.now in
     let slots = flat_map (slot_line (booked_at calendar)) (booked_slots calendar.first (booked_at calendar)) in
     let words = ap (λ n. first_words n ++ codes "\n" ++ slots ++ codes "end\n") c.now.ensures.value in
-    handed_on c.from_residual.result c.from_residual.ensures.0 (appended_as words (cut_before (codes "end\n") (cut_before slots (cut_before (codes "\n") c.in_err-push_field.ensures))))
+    handed_on c.from_residual.result c.from_residual.ensures.0
+    (appended_as words (cut_before (codes "end\n") (cut_before slots (cut_before (codes "\n") c.in_err-push_field.ensures))))
 
 pub returns-in_err-push : goal.returns-in_err-push
 returns-in_err-push c =
@@ -17,7 +18,9 @@ returns-in_err-push c =
     let slots = flat_map (slot_line (booked_at calendar)) (booked_slots calendar.first (booked_at calendar)) in
     let words = ap (λ n. first_words n ++ codes "\n" ++ slots ++ codes "end\n") c.now.ensures.value in
     handed_on c.from_residual-in_err-push.result c.from_residual-in_err-push.ensures.0
-    (appended_as words (cut_before (codes "end\n") (cut_before slots (then_appended (first_words c.now.result) c.in_ok-push_field.ensures.whole c.in_err-push.ensures))))
+    (appended_as words
+    (cut_before (codes "end\n")
+    (cut_before slots (then_appended (first_words c.now.result) c.in_ok-push_field.ensures.whole c.in_err-push.ensures))))
 
 pub returns-in_err-push_slots : goal.returns-in_err-push_slots
 returns-in_err-push_slots c =

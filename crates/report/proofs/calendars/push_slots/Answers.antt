@@ -22,7 +22,8 @@ returns-in_err-push_slot c =
     let some : 0 < booked_at calendar slot = omega (arith, c.booked_bytes-booked.ensures.value, c.if-is_booked.true) in
     let words = ap (λ n. before ++ ((slot_words slot n ++ codes "\n") ++ after)) c.booked_bytes-booked.ensures.value
     ∙ lines-around (booked_at calendar) among some in
-    handed_on c.from_residual.result c.from_residual.ensures.0 (appended_as words (then_appended before c.loop-slot.invariant (cut_before after c.in_err-push_slot.ensures)))
+    handed_on c.from_residual.result c.from_residual.ensures.0
+    (appended_as words (then_appended before c.loop-slot.invariant (cut_before after c.in_err-push_slot.ensures)))
 
 pub loop-slot-preserved : goal.loop-slot-preserved
 loop-slot-preserved c =
@@ -39,7 +40,8 @@ loop-slot-preserved c =
       | then-is_booked+in_ok-push_slot w ↦ (
           let some : 0 < booked_at calendar slot = omega (arith, c.booked_bytes-booked.ensures.value, w.if-is_booked.true) in
           let line = slot_words slot c.booked_bytes-booked.result ++ codes "\n" in
-          let same = ap (λ n. slot_words slot n ++ codes "\n") c.booked_bytes-booked.ensures.value ∙ sym (line-booked (booked_at calendar) slot some) in
+          let same = ap (λ n. slot_words slot n ++ codes "\n") c.booked_bytes-booked.ensures.value
+          ∙ sym (line-booked (booked_at calendar) slot some) in
           ap (λ (v : Vec ℕ Global). v.items) w.out-is ∙ both out before line c.loop-slot.invariant w.in_ok-push_slot.ensures.whole
           ∙ ap (λ (l : List ℕ). out ++ l) (ap (λ (l : List ℕ). before ++ l) same ∙ sym more)
           )
@@ -53,5 +55,18 @@ loop-slot-preserved c =
 pub returns : goal.returns
 returns c =
     let calendar = c.args.calendar.now in
-    let all : c.loop-slot.slot - calendar.first ≡ ring_slots = omega (arith, ring-is, c.loop-slot-test.false, c.now-now.ensures.value, c.loop-slot.auto.slot, c.loop-slot.auto.slot-end) in
-    record { whole = c.loop-slot.invariant ∙ ap (λ n. c.args.out.now.items ++ lines (booked_at calendar) (range_with_len calendar.first n)) all; cut = tt }
+    let all : c.loop-slot.slot - calendar.first ≡ ring_slots =
+    omega (
+      arith,
+      ring-is,
+      c.loop-slot-test.false,
+      c.now-now.ensures.value,
+      c.loop-slot.auto.slot,
+      c.loop-slot.auto.slot-end,
+    ) in
+    record {
+      whole =
+          c.loop-slot.invariant
+          ∙ ap (λ n. c.args.out.now.items ++ lines (booked_at calendar) (range_with_len calendar.first n)) all;
+      cut = tt;
+    }

@@ -5,4 +5,6 @@ use Rattle.report.proofs.SlotLemmas.{lines}
 use Rattle.report.proofs.calendars.push_slots.Given as goal
 
 abbrev pub invariant-loop-slot : goal.invariant-loop-slot
-invariant-loop-slot l = l.out.items ≡ l.initial.out.items ++ lines (booked_at l.calendar) (range_with_len l.calendar.first (l.slot - l.calendar.first))
+invariant-loop-slot l =
+    l.out.items ≡ l.initial.out.items
+    ++ lines (booked_at l.calendar) (range_with_len l.calendar.first (l.slot - l.calendar.first))

@@ -8,13 +8,18 @@ pub returns-in_err-push_number : goal.returns-in_err-push_number
 returns-in_err-push_number c =
     let entry = c.args.entry.now in
     handed_on c.from_residual.result c.from_residual.ensures.0
-    (cut_before (codes "\n") (cut_before (answer_words entry.answer) (cut_before (command_words entry.command) (cut_before (field (codes " seat=") entry.maker) c.in_err-push_number.ensures))))
+    (cut_before (codes "\n")
+    (cut_before (answer_words entry.answer)
+    (cut_before (command_words entry.command)
+    (cut_before (field (codes " seat=") entry.maker) c.in_err-push_number.ensures))))
 
 pub returns-in_err-push_field : goal.returns-in_err-push_field
 returns-in_err-push_field c =
     let entry = c.args.entry.now in
     let place = decimal c.args.place in
-    let words = ap (λ n. place ++ field (codes " seat=") n ++ command_words entry.command ++ answer_words entry.answer ++ codes "\n") c.from.ensures in
+    let words = ap
+    (λ n. place ++ field (codes " seat=") n ++ command_words entry.command ++ answer_words entry.answer
+    ++ codes "\n") c.from.ensures in
     handed_on c.from_residual-in_err-push_field.result c.from_residual-in_err-push_field.ensures.0
     (appended_as words (cut_before (codes "\n") (cut_before (answer_words entry.answer) (cut_before (command_words entry.command)
     (then_appended place c.in_ok-push_number.ensures.whole c.in_err-push_field.ensures)))))
@@ -24,10 +29,14 @@ returns-in_err-push_command c =
     let entry = c.args.entry.now in
     let place = decimal c.args.place in
     let seat = field (codes " seat=") c.from.result in
-    let words = ap (λ n. place ++ field (codes " seat=") n ++ command_words entry.command ++ answer_words entry.answer ++ codes "\n") c.from.ensures in
+    let words = ap
+    (λ n. place ++ field (codes " seat=") n ++ command_words entry.command ++ answer_words entry.answer
+    ++ codes "\n") c.from.ensures in
     let head = both _ place seat c.in_ok-push_number.ensures.whole c.in_ok-push_field.ensures.whole in
     handed_on c.from_residual-in_err-push_command.result c.from_residual-in_err-push_command.ensures.0
-    (appended_as words (cut_before (codes "\n") (cut_before (answer_words entry.answer) (then_appended (place ++ seat) head c.in_err-push_command.ensures))))
+    (appended_as words
+    (cut_before (codes "\n")
+    (cut_before (answer_words entry.answer) (then_appended (place ++ seat) head c.in_err-push_command.ensures))))
 
 pub returns-in_err-push_answer : goal.returns-in_err-push_answer
 returns-in_err-push_answer c =
@@ -35,7 +44,8 @@ returns-in_err-push_answer c =
     let place = decimal c.args.place in
     let seat = field (codes " seat=") c.from.result in
     let command = command_words entry.command in
-    let words = ap (λ n. place ++ field (codes " seat=") n ++ command ++ answer_words entry.answer ++ codes "\n") c.from.ensures in
+    let words = ap
+    (λ n. place ++ field (codes " seat=") n ++ command ++ answer_words entry.answer ++ codes "\n") c.from.ensures in
     let head = both _ place seat c.in_ok-push_number.ensures.whole c.in_ok-push_field.ensures.whole in
     let asked = both _ (place ++ seat) command head c.in_ok-push_command.ensures.whole in
     handed_on c.from_residual-in_err-push_answer.result c.from_residual-in_err-push_answer.ensures.0

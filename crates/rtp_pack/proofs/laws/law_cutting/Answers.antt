@@ -4,14 +4,21 @@ use Rattle.rtp_pack.proofs.LawLemmas.{cuts-from, head-uncut, long-ends, pieces-c
 use Rattle.rtp_pack.proofs.laws.law_cutting.Goals as goal
 
 pub returns-clause-pieces : goal.returns-clause-pieces
-returns-clause-pieces c = pieces-cover c.args.slices.now (first_piece c.args.from c.args.head_end) c.args.cuts.now (c.requires.head, c.requires.short) c.requires.cutting
+returns-clause-pieces c =
+    pieces-cover c.args.slices.now (first_piece c.args.from c.args.head_end) c.args.cuts.now
+    (c.requires.head, c.requires.short) c.requires.cutting
 
 pub returns-clause-head : goal.returns-clause-head
 returns-clause-head c =
-    head-uncut c.args.from c.args.head_end c.args.cuts.now (cuts-from c.args.slices.now (first_piece c.args.from c.args.head_end) c.args.cuts.now (omega (arith, c.requires.head)) c.requires.cutting)
+    head-uncut c.args.from c.args.head_end c.args.cuts.now
+    (cuts-from c.args.slices.now (first_piece c.args.from c.args.head_end) c.args.cuts.now
+    (omega (arith, c.requires.head)) c.requires.cutting)
 
 pub returns-clause-short_slices : goal.returns-clause-short_slices
-returns-clause-short_slices c = short-uncut c.args.slices.now (first_piece c.args.from c.args.head_end) c.args.cuts.now (omega (arith, c.requires.head)) c.requires.cutting
+returns-clause-short_slices c =
+    short-uncut c.args.slices.now (first_piece c.args.from c.args.head_end) c.args.cuts.now
+    (omega (arith, c.requires.head)) c.requires.cutting
 
 pub returns-clause-long_slices : goal.returns-clause-long_slices
-returns-clause-long_slices c = long-ends c.args.slices.now (first_piece c.args.from c.args.head_end) c.args.cuts.now c.requires.cutting
+returns-clause-long_slices c =
+    long-ends c.args.slices.now (first_piece c.args.from c.args.head_end) c.args.cuts.now c.requires.cutting

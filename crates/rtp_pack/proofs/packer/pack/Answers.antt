@@ -9,14 +9,16 @@ pub put_slice-requires-clause-some : goal.put_slice-requires-clause-some
 put_slice-requires-clause-some c =
     let unit = c.args.unit.now in
     let starts = take (unit.first_slice + unit.slices - unit.first_slice) (drop unit.first_slice c.args.slice_starts.now) in
-    let here = at-slice unit.to starts c.loop-index.index c.loop-index.filling.at c.loop-index-test.true c.loop-index.invariant.in_order in
+    let here = at-slice unit.to starts c.loop-index.index c.loop-index.filling.at c.loop-index-test.true
+    c.loop-index.invariant.in_order in
     omega (arith, here.least, c.slice_end-end.ensures)
 
 pub loop-index-preserved : goal.loop-index-preserved
 loop-index-preserved c =
     let unit = c.args.unit.now in
     let starts = take (unit.first_slice + unit.slices - unit.first_slice) (drop unit.first_slice c.args.slice_starts.now) in
-    let remaining : Remaining unit starts c.loop-index.index c.loop-index.filling c.loop-index.packets.items (unit_packets c.args.slice_starts.now unit) =
+    let remaining : Remaining unit starts c.loop-index.index c.loop-index.filling c.loop-index.packets.items
+    (unit_packets c.args.slice_starts.now unit) =
     record { in_order = c.loop-index.invariant.in_order; packets = c.loop-index.invariant.packets } in
     let ends : SliceEnds unit starts c.loop-index.index c.loop-index.filling c.slice_end-end.result c.in_ok-filling.filling =
     record { less = c.loop-index-test.true; at_end = c.slice_end-end.ensures; at_next = c.in_ok-filling.ensures.filling } in
@@ -27,22 +29,29 @@ pub returns-clause-list : goal.returns-clause-list
 returns-clause-list c =
     let unit = c.args.unit.now in
     let starts = take (unit.first_slice + unit.slices - unit.first_slice) (drop unit.first_slice c.args.slice_starts.now) in
-    let remaining : Remaining unit starts c.loop-index.index c.loop-index.filling c.loop-index.packets.items (unit_packets c.args.slice_starts.now unit) =
+    let remaining : Remaining unit starts c.loop-index.index c.loop-index.filling c.loop-index.packets.items
+    (unit_packets c.args.slice_starts.now unit) =
     record { in_order = c.loop-index.invariant.in_order; packets = c.loop-index.invariant.packets } in
     put-last remaining c.loop-index-test.false c.in_ok-close.ensures
 
 pub returns-clause-rules : goal.returns-clause-rules
 returns-clause-rules c =
-    subst (λ (l : List Packet). ArePackets c.args.slice_starts.now c.args.unit.now l) (sym (returns-clause-list c)) (packets-are c.args.slice_starts.now c.args.unit.now c.requires)
+    subst (λ (l : List Packet). ArePackets c.args.slice_starts.now c.args.unit.now l)
+    (sym (returns-clause-list c)) (packets-are c.args.slice_starts.now c.args.unit.now c.requires)
 
 pub returns-clause-cover : goal.returns-clause-cover
 returns-clause-cover c =
-    subst (λ (l : List Packet). DoCover c.args.unit.now.from l c.args.unit.now.to) (sym (returns-clause-list c)) (packets-cover c.args.slice_starts.now c.args.unit.now c.requires)
+    subst (λ (l : List Packet). DoCover c.args.unit.now.from l c.args.unit.now.to) (sym (returns-clause-list c))
+    (packets-cover c.args.slice_starts.now c.args.unit.now c.requires)
 
 pub returns-clause-size : goal.returns-clause-size
-returns-clause-size c = ap (λ (l : List Packet). frames_size l) (returns-clause-list c) ∙ packets-size c.args.slice_starts.now c.args.unit.now c.requires
+returns-clause-size c =
+    ap (λ (l : List Packet). frames_size l) (returns-clause-list c)
+    ∙ packets-size c.args.slice_starts.now c.args.unit.now c.requires
 
 pub returns-clause-bound : goal.returns-clause-bound
 returns-clause-bound c =
-    let size : frames_size c.close.new.packets.items ≡ frames_size (unit_packets c.args.slice_starts.now c.args.unit.now) = ap (λ (l : List Packet). frames_size l) (returns-clause-list c) in
+    let size : frames_size c.close.new.packets.items
+    ≡ frames_size (unit_packets c.args.slice_starts.now c.args.unit.now) =
+    ap (λ (l : List Packet). frames_size l) (returns-clause-list c) in
     omega (arith, size, packets-bound c.args.slice_starts.now c.args.unit.now c.requires)

@@ -8,12 +8,16 @@ pub returns : goal.returns
 returns c =
     let e1 : c.put.new.text.items ≡ codes "SETUP " = search rules in
     let e2 : c.put_url.new.text.items ≡ c.put.new.text.items ++ film_url c.args.wish.now = c.in_ok-put_url.ensures in
-    let e3 : c.put-2.new.text.items ≡ c.put_url.new.text.items ++ codes "/video RTSP/1.0\r\nCSeq: 1\r\n" = c.in_ok-put-2.ensures in
-    let e4 : c.put-3.new.text.items ≡ c.put-2.new.text.items ++ codes "Transport: RTP/AVP/TCP;unicast;interleaved=0-1\r\n" = c.in_ok-put-3.ensures in
+    let e3 : c.put-2.new.text.items ≡ c.put_url.new.text.items ++ codes "/video RTSP/1.0\r\nCSeq: 1\r\n" =
+    c.in_ok-put-2.ensures in
+    let e4 : c.put-3.new.text.items
+    ≡ c.put-2.new.text.items ++ codes "Transport: RTP/AVP/TCP;unicast;interleaved=0-1\r\n" = c.in_ok-put-3.ensures in
     let e5 : c.put-4.new.text.items ≡ c.put-3.new.text.items ++ codes "x-Buffer: " = c.in_ok-put-4.ensures in
-    let e6 : c.put_number.new.text.items ≡ c.put-4.new.text.items ++ decimal c.args.wish.now.buffer = c.in_ok-put_number.ensures in
+    let e6 : c.put_number.new.text.items ≡ c.put-4.new.text.items ++ decimal c.args.wish.now.buffer =
+    c.in_ok-put_number.ensures in
     let e7 : c.put-5.new.text.items ≡ c.put_number.new.text.items ++ codes "\r\nx-Startup: " = c.in_ok-put-5.ensures in
-    let e8 : c.put_number-2.new.text.items ≡ c.put-5.new.text.items ++ decimal c.args.wish.now.startup = c.in_ok-put_number-2.ensures in
+    let e8 : c.put_number-2.new.text.items ≡ c.put-5.new.text.items ++ decimal c.args.wish.now.startup =
+    c.in_ok-put_number-2.ensures in
     let e9 : c.put-6.new.text.items ≡ c.put_number-2.new.text.items ++ codes "\r\n\r\n" = c.in_ok-put-6.ensures in
     let transport = then_put (codes "Transport: RTP/AVP/TCP;unicast;interleaved=0-1\r\n")
     (then_put (codes "/video RTSP/1.0\r\nCSeq: 1\r\n") (then_put (film_url c.args.wish.now) e1 e2) e3) e4 in

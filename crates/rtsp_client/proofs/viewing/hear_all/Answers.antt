@@ -21,7 +21,8 @@ pub returns-in_default-clause-watched : goal.returns-in_default-clause-watched
 returns-in_default-clause-watched g c = λ told begun.
     watched-lost
     c.events.invariant.4
-    (ap (λ (t : Option (List Doing)). sight t (g.O.Sink.written c.args.out.now)) begun) c.events-test.true refl c.in_default.ensures.lost
+    (ap (λ (t : Option (List Doing)). sight t (g.O.Sink.written c.args.out.now)) begun) c.events-test.true refl
+    c.in_default.ensures.lost
 
 pub returns-in-Err-clause-watched : goal.returns-in-Err-clause-watched
 returns-in-Err-clause-watched g c = λ told begun.

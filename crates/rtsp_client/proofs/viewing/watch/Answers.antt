@@ -8,7 +8,8 @@ returns-in_default-clause-watched g c =
 
 pub returns-in-Err-clause-watched : goal.returns-in-Err-clause-watched
 returns-in-Err-clause-watched g c =
-    watched-unsent c.args.wish.now c.in-Err.end (g.K.Link.told c.args.link.now) (g.K.Link.told c.start.new.link) (g.O.Sink.written c.args.out.now)
+    watched-unsent c.args.wish.now c.in-Err.end (g.K.Link.told c.args.link.now) (g.K.Link.told c.start.new.link)
+    (g.O.Sink.written c.args.out.now)
     c.in-Err.ensures.front
 
 pub returns-clause-watched : goal.returns-clause-watched

@@ -21,7 +21,8 @@ returns c =
     whole_clock (record {
       hours_end = c.piece_end-first.ensures;
       minutes_end = c.piece_end-second.ensures;
-      inside = inside_text c.args.text.now (c.piece_end-first.result + 1) c.piece_end-second.result c.piece_end-second.ensures c.if-second-text.false;
+      inside = inside_text c.args.text.now (c.piece_end-first.result + 1) c.piece_end-second.result
+          c.piece_end-second.ensures c.if-second-text.false;
       are_hours = c.in_ok-hours.ensures;
       are_minutes = c.in_ok-minutes.ensures;
       are_seconds = c.in_ok-seconds.ensures;

@@ -6,7 +6,8 @@ use Rattle.rtsp_fields.proofs.transports.read_alternative.Goals as goal
 pub returns : goal.returns
 returns c =
     taken_channels c.channels_of.result c.piece_end-end.ensures
-    (ap lower (sym c.trim.ensures) ∙ c.if-not-eq_ignore_ascii_case.ensures.test.0 refl) (c.if-not-is_plain.ensures.0 refl) c.channels_of.ensures
+    (ap lower (sym c.trim.ensures) ∙ c.if-not-eq_ignore_ascii_case.ensures.test.0 refl)
+    (c.if-not-is_plain.ensures.0 refl) c.channels_of.ensures
 
 pub returns-then-not-eq_ignore_ascii_case : goal.returns-then-not-eq_ignore_ascii_case
 returns-then-not-eq_ignore_ascii_case c = λ channels t.

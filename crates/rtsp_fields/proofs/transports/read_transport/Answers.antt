@@ -12,4 +12,5 @@ loop-from-preserved c = (
 
 pub returns : goal.returns
 returns c = λ channels t.
-    no_transport c.args.value.now channels (passed_all 44 c.args.value.now CanBeTaken c.loop-from.from c.loop-from-test.false c.loop-from.invariant.1) t
+    no_transport c.args.value.now channels
+    (passed_all 44 c.args.value.now CanBeTaken c.loop-from.from c.loop-from-test.false c.loop-from.invariant.1) t

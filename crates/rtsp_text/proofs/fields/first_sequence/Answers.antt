@@ -11,7 +11,8 @@ returns-in-Some-number_in c =
 
 pub loop-line-preserved : goal.loop-line-preserved
 loop-line-preserved c =
-    sym (first_number_more (codes "CSeq") _ _ _ c.in-Some.ensures.lines_are (ap (option_and_then number_of) (sym c.value_in.ensures) ∙ sym c.in_default-number_in.ensures)) ∙ c.loop-line.invariant
+    sym (first_number_more (codes "CSeq") _ _ _ c.in-Some.ensures.lines_are
+    (ap (option_and_then number_of) (sym c.value_in.ensures) ∙ sym c.in_default-number_in.ensures)) ∙ c.loop-line.invariant
 
 pub returns : goal.returns
 returns c = sym (first_number-nil (codes "CSeq") _ c.in_default.ensures) ∙ c.loop-line.invariant

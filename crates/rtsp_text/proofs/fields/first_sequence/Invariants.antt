@@ -4,7 +4,8 @@ use Rattle.rtsp_text.specs.Fields.{first_number}
 use Rattle.rtsp_text.proofs.fields.first_sequence.Given as goal
 
 abbrev pub invariant-loop-line : goal.invariant-loop-line
-invariant-loop-line l = first_number (codes "CSeq") (lines_before_empty l.rest) ≡ first_number (codes "CSeq") (header_lines l.head)
+invariant-loop-line l =
+    first_number (codes "CSeq") (lines_before_empty l.rest) ≡ first_number (codes "CSeq") (header_lines l.head)
 
 abbrev pub decreases-loop-line : goal.decreases-loop-line
 decreases-loop-line l = length l.rest

@@ -12,7 +12,8 @@ returns-then-is_scheme c =
     let rest = c.split_at.result.1.now in
     let front = c.split_at.ensures.front in
     let back = c.split_at.ensures.back in
-    let parts : url ≡ scheme ++ rest = sym (take-append-drop 7 url) ∙ ap (λ l. l ++ drop 7 url) (sym front) ∙ ap (λ l. scheme ++ l) (sym back) in
+    let parts : url ≡ scheme ++ rest =
+    sym (take-append-drop 7 url) ∙ ap (λ l. l ++ drop 7 url) (sym front) ∙ ap (λ l. scheme ++ l) (sym back) in
     let P : List ℕ → Type 0 = λ l. get_or l 0 0 ≢ 47 in (
       λ h. rtsp_url url scheme rest parts (record {
         scheme_is = c.is_scheme.ensures.0 c.if-is_scheme.true;

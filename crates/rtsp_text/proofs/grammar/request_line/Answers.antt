@@ -16,7 +16,11 @@ pub returns-else-is_token : goal.returns-else-is_token
 returns-else-is_token c = λ m u v line.
     let same = line_parts c.in_ok-method.ensures c.in_ok-url.ensures line in
     elim c.else-is_token.branch [
-      | else-is_token-via-then-is_token+then-is_url+else-is_version w ↦ both_ways w.is_version.result w.if-is_version.false (w.is_version.ensures.1 (subst IsVersion (sym same.version_is) line.version_is))
-      | else-is_token-via-then-is_token+else-is_url w ↦ both_ways w.is_url.result w.if-is_url.false (w.is_url.ensures.1 (subst IsUrl (sym same.url_is) line.url_is))
-      | else-is_token-via-else-is_token w ↦ both_ways c.is_token.result w.if-is_token.false (c.is_token.ensures ∙ ap is_token same.method_is ∙ line.method_is)
+      | else-is_token-via-then-is_token+then-is_url+else-is_version w ↦
+          both_ways w.is_version.result w.if-is_version.false
+          (w.is_version.ensures.1 (subst IsVersion (sym same.version_is) line.version_is))
+      | else-is_token-via-then-is_token+else-is_url w ↦
+          both_ways w.is_url.result w.if-is_url.false (w.is_url.ensures.1 (subst IsUrl (sym same.url_is) line.url_is))
+      | else-is_token-via-else-is_token w ↦
+          both_ways c.is_token.result w.if-is_token.false (c.is_token.ensures ∙ ap is_token same.method_is ∙ line.method_is)
     ]

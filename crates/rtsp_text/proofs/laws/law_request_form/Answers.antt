@@ -9,4 +9,5 @@ pub returns-clause-sequence : goal.returns-clause-sequence
 returns-clause-sequence c = λ message first texts method url sequence head body has request. sequence_written has request
 
 pub returns-clause-length : goal.returns-clause-length
-returns-clause-length c = λ message first texts method url sequence head body value has request field. length_digits has request field
+returns-clause-length c =
+    λ message first texts method url sequence head body value has request field. length_digits has request field

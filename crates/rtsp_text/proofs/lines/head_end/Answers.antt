@@ -7,11 +7,14 @@ loop-line-init c = walk_first _ _ _ c.in-Some.ensures.found
 
 pub returns-then-line-at-clause-split : goal.returns-then-line-at-clause-split
 returns-then-line-at-clause-split c =
-    walk_end c.args.message.now c.loop-line.at c.in-Some-line_end.line.next c.loop-line.invariant (rw c.if-line-at.true at c.in-Some-line_end.ensures.found)
+    walk_end c.args.message.now c.loop-line.at c.in-Some-line_end.line.next c.loop-line.invariant
+    (rw c.if-line-at.true at c.in-Some-line_end.ensures.found)
 
 pub loop-line-preserved : goal.loop-line-preserved
 loop-line-preserved c =
     walk_more c.loop-line.invariant c.in-Some-line_end.ensures.found c.if-line-at.false
 
 pub unreachable-requires-2 : goal.unreachable-requires-2
-unreachable-requires-2 c = next_ends c.args.message.now c.loop-line.at (length c.args.message.now) c.requires c.loop-line.invariant c.in_default-line_end.ensures.none
+unreachable-requires-2 c =
+    next_ends c.args.message.now c.loop-line.at (length c.args.message.now) c.requires c.loop-line.invariant
+    c.in_default-line_end.ensures.none

@@ -11,7 +11,8 @@ loop-line-preserved c =
     record {
       few = omega (arith, inv.few, c.in-Some.ensures.shorter);
       left = at.left;
-      good = below_more _ _ inv.good (subst IsHeaderLine (sym at.line_is) (c.is_header_line.ensures.0 c.if-not-is_header_line.false));
+      good = below_more _ _ inv.good
+          (subst IsHeaderLine (sym at.line_is) (c.is_header_line.ensures.0 c.if-not-is_header_line.false));
     }
 
 pub returns : goal.returns

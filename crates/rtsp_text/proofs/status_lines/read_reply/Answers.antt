@@ -7,17 +7,20 @@ use Rattle.rtsp_text.proofs.status_lines.read_reply.Goals as goal
 pub returns-in_err-code-clause-read : goal.returns-in_err-code-clause-read
 returns-in_err-code-clause-read c =
     rw c.from_residual.ensures
-    (λ code reason line. c.in_err-code.ensures code reason (subst (λ (t : List ℕ). IsStatusLine t code reason) (sym c.first_line.ensures) line))
+    (λ code reason line. c.in_err-code.ensures code reason
+    (subst (λ (t : List ℕ). IsStatusLine t code reason) (sym c.first_line.ensures) line))
 
 pub returns-in_err-code-clause-replies : goal.returns-in_err-code-clause-replies
 returns-in_err-code-clause-replies c =
     rw c.from_residual.ensures
-    (λ code reason head body is. c.in_err-code.ensures code reason (subst (λ (t : List ℕ). IsStatusLine t code reason) (sym c.first_line.ensures) is.line))
+    (λ code reason head body is. c.in_err-code.ensures code reason
+    (subst (λ (t : List ℕ). IsStatusLine t code reason) (sym c.first_line.ensures) is.line))
 
 pub returns-clause-read : goal.returns-clause-read
 returns-clause-read c = record {
   split = c.split.ensures;
-  line = subst (λ (t : List ℕ). IsStatusLine t c.in_ok-code.code c.in_ok-code.reason.now) c.first_line.ensures c.in_ok-code.ensures;
+  line = subst (λ (t : List ℕ). IsStatusLine t c.in_ok-code.code c.in_ok-code.reason.now) c.first_line.ensures
+      c.in_ok-code.ensures;
   body_is = (lengths_of c.args.message.now c.split.result.0.now c.split.result.1.now c.requires c.split.ensures).body_is;
 }
 
@@ -27,7 +30,9 @@ returns-clause-replies c = λ code reason head body is.
     (same.code_is, same.reason_is, same.head_is, same.body_is)
 
 pub returns-clause-head : goal.returns-clause-head
-returns-clause-head c = (lengths_of c.args.message.now c.split.result.0.now c.split.result.1.now c.requires c.split.ensures).head_short
+returns-clause-head c =
+    (lengths_of c.args.message.now c.split.result.0.now c.split.result.1.now c.requires c.split.ensures).head_short
 
 pub returns-clause-body : goal.returns-clause-body
-returns-clause-body c = (lengths_of c.args.message.now c.split.result.0.now c.split.result.1.now c.requires c.split.ensures).body_short
+returns-clause-body c =
+    (lengths_of c.args.message.now c.split.result.0.now c.split.result.1.now c.requires c.split.ensures).body_short

@@ -15,9 +15,11 @@ pub returns-then-not-is_rtsp_1_0 : goal.returns-then-not-is_rtsp_1_0
 returns-then-not-is_rtsp_1_0 c = λ code reason line.
     let same = status_parts c.in_ok-version.ensures c.in_ok-digits.ensures line in
     elim c.then-not-is_rtsp_1_0.branch [
-      | then-not-is_rtsp_1_0-via-then-not-is_rtsp_1_0 w ↦ both_ways c.is_rtsp_1_0.result w.if-not-is_rtsp_1_0.true (c.is_rtsp_1_0.ensures.1 same.version_is)
+      | then-not-is_rtsp_1_0-via-then-not-is_rtsp_1_0 w ↦
+          both_ways c.is_rtsp_1_0.result w.if-not-is_rtsp_1_0.true (c.is_rtsp_1_0.ensures.1 same.version_is)
       | then-not-is_rtsp_1_0-via-else-not-is_rtsp_1_0+then-is_empty w ↦
-          let none : length c.in_ok-digits.reason.now ≡ 0 = no_bytes c.in_ok-digits.reason.now (sym w.is_empty.ensures ∙ w.if-is_empty.true) in
+          let none : length c.in_ok-digits.reason.now ≡ 0 =
+          no_bytes c.in_ok-digits.reason.now (sym w.is_empty.ensures ∙ w.if-is_empty.true) in
           omega (arith, none, ap length same.reason_is, line.some)
       | then-not-is_rtsp_1_0-via-else-not-is_rtsp_1_0+else-is_empty+then-reason-eq32 w ↦
           line.no_space (ap (λ (r : List ℕ). get_or r 0 0) (sym same.reason_is) ∙ w.if-reason-eq32.true)
@@ -26,7 +28,8 @@ returns-then-not-is_rtsp_1_0 c = λ code reason line.
 pub returns : goal.returns
 returns c =
     whole_status c.in_ok-version.ensures c.in_ok-digits.ensures
-    (c.is_rtsp_1_0.ensures.0 c.if-not-is_rtsp_1_0.false) c.in_ok-code.ensures (some_bytes c.in_ok-digits.reason.now (sym c.is_empty.ensures ∙ c.if-is_empty.false)) c.if-reason-eq32.false
+    (c.is_rtsp_1_0.ensures.0 c.if-not-is_rtsp_1_0.false) c.in_ok-code.ensures
+    (some_bytes c.in_ok-digits.reason.now (sym c.is_empty.ensures ∙ c.if-is_empty.false)) c.if-reason-eq32.false
 
 pub returns-in_err-code : goal.returns-in_err-code
 returns-in_err-code c =

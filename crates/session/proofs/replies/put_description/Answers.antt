@@ -19,7 +19,8 @@ field_of-requires-clause-one_line c =
 pub returns : goal.returns
 returns c =
     let parts : List (List ℕ) =
-    c.as_slice.result.now ∷ c.args.authority.now ∷ c.as_slice-2.result.now ∷ c.as_bytes.result.now ∷ c.as_slice-3.result.now ∷ [] in
+    c.as_slice.result.now ∷ c.args.authority.now ∷ c.as_slice-2.result.now ∷ c.as_bytes.result.now
+    ∷ c.as_slice-3.result.now ∷ [] in
     let same : parts ≡ (codes "rtsp://" ∷ c.args.authority.now ∷ codes "/" ∷ c.args.name.now ∷ codes "/" ∷ []) =
     rw (c.as_slice.ensures, c.as_slice-2.ensures, c.as_bytes.ensures.value, c.as_slice-3.ensures) refl in
     let text = description_text c.args.name.now c.args.end_ms in

@@ -22,4 +22,5 @@ returns c =
     c.finish.ensures.whole 200 (Some c.args.sequence) (field (codes "Transport") (joined_parts parts) ∷ session ∷ [])
     (c.field.ensures.front 200 (Some c.args.sequence) (field (codes "Transport") (joined_parts parts) ∷ [])
     (c.field_of.ensures.front 200 (Some c.args.sequence) [] (c.start.ensures.front c.clear.ensures)))
-    ∙ ap (λ (ps : List (List ℕ)). reply_text 200 (Some c.args.sequence) (field (codes "Transport") (joined_parts ps) ∷ session ∷ []) []) same
+    ∙ ap (λ (ps : List (List ℕ)). reply_text 200 (Some c.args.sequence)
+    (field (codes "Transport") (joined_parts ps) ∷ session ∷ []) []) same

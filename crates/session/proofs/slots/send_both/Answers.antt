@@ -7,7 +7,8 @@ use Rattle.session.proofs.slots.send_both.Goals as goal
 
 pub returns-in_err-step-clause-front : goal.returns-in_err-step-clause-front
 returns-in_err-step-clause-front g c =
-    let told : g.K.Link.told c.send.new.self ≡ told_more (g.K.Link.told c.args.link.now) (sends c.args.reply.now) = search rules in
+    let told : g.K.Link.told c.send.new.self
+    ≡ told_more (g.K.Link.told c.args.link.now) (sends c.args.reply.now) = search rules in
     on_err c.from_residual-in_err-step.result
     (front_right (g.K.Link.told c.args.link.now) c.args.reply.now
     (step_bytes false c.args.slot c.args.state.now) told (search rules))

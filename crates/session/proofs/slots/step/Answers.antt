@@ -27,7 +27,8 @@ returns-in_err-step-in-Playing-clause-front g c =
     let new = g.K.Link.told c.step.new.link in
     on_err c.from_residual.result
     (subst (λ (s : State). IsFrontTold old new (step_bytes c.args.stop c.args.slot s)) (sym c.in-Playing.is)
-    (failed_front {stop = c.args.stop} {slot = c.args.slot} {p = c.in-Playing.play.pacer} {new = c.step.new.self} {told = old} {next = new} c.in_err-step-in-Playing.ensures.failed))
+    (failed_front {stop = c.args.stop} {slot = c.args.slot} {p = c.in-Playing.play.pacer}
+    {new = c.step.new.self} {told = old} {next = new} c.in_err-step-in-Playing.ensures.failed))
 
 pub returns-in_err-step-in-Stopping-clause-front :
     goal.returns-in_err-step-in-Stopping-clause-front
@@ -36,4 +37,5 @@ returns-in_err-step-in-Stopping-clause-front g c =
     let new = g.K.Link.told c.step-in-Stopping.new.link in
     on_err c.from_residual-in_err-step-in-Stopping.result
     (subst (λ (s : State). IsFrontTold old new (step_bytes c.args.stop c.args.slot s)) (sym c.in-Stopping.is)
-    (failed_front {stop = c.args.stop} {slot = c.args.slot} {p = c.in-Stopping.halted.pacer} {new = c.step-in-Stopping.new.self} {told = old} {next = new} c.in_err-step-in-Stopping.ensures.failed))
+    (failed_front {stop = c.args.stop} {slot = c.args.slot} {p = c.in-Stopping.halted.pacer}
+    {new = c.step-in-Stopping.new.self} {told = old} {next = new} c.in_err-step-in-Stopping.ensures.failed))

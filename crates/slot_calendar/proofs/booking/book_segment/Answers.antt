@@ -31,13 +31,15 @@ loop-passed-preserved c =
       others = λ t since other. c.raise.ensures.others t (omega (arith, since, i.invariant.first_is)) other;
       rest = i.invariant.rest;
     } in
-    let here : new place ≡ mid place + asked_at segments c.args.from place = c.raise.ensures.at ∙ ap (λ n. mid place + n) (sym asked) in
+    let here : new place ≡ mid place + asked_at segments c.args.from place =
+    c.raise.ensures.at ∙ ap (λ n. mid place + n) (sym asked) in
     let at : c.args.from + (i.passed + 1) ≡ place + 1 = omega arith in
     record {
       before_is = sym (c.sent_through-sent.ensures.sent c.args.from);
       first_is = c.raise.ensures.now ∙ i.invariant.first_is;
       stale_is = c.raise.ensures.stale ∙ i.invariant.stale_is;
-      done = λ t since less. raised-next step (asked_at segments c.args.from) here i.invariant.done since (omega (arith, less, at));
+      done = λ t since less. raised-next step (asked_at segments c.args.from) here i.invariant.done since
+          (omega (arith, less, at));
       rest = λ t since more. unchanged-next step since (omega (arith, more, at));
     }
 
@@ -48,7 +50,8 @@ returns-clause-totals c = λ t since. (
     elim (cases_lt t (c.args.from + i.passed)) [
       | inl less ↦ i.invariant.done t since less
       | inr past ↦ (
-          let none : asked_at (s ∷ []) c.args.from t ≡ 0 = asked-after (s ∷ []) c.args.from t (omega (arith, one-slots s, past)) in
+          let none : asked_at (s ∷ []) c.args.from t ≡ 0 =
+          asked-after (s ∷ []) c.args.from t (omega (arith, one-slots s, past)) in
           omega (arith, i.invariant.rest t since past, none)
           )
     ]

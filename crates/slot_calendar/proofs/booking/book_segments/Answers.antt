@@ -13,7 +13,13 @@ book_segment-requires-clause-fits c = λ t from. (
     let at : IsSegmentFrom segments i.segment-index s c.args.start i.from =
     record { inside = omega arith; segment_is = search rules; from_is = i.invariant.from_is } in
     let next = asked-next t at in
-    omega (arith, next, asked-front segments (i.segment-index + 1) c.args.start t, i.invariant.totals t since, c.requires.fits t since)
+    omega (
+      arith,
+      next,
+      asked-front segments (i.segment-index + 1) c.args.start t,
+      i.invariant.totals t since,
+      c.requires.fits t since,
+    )
     )
 
 pub loop-segment-preserved : goal.loop-segment-preserved
@@ -23,7 +29,8 @@ loop-segment-preserved c =
     let s : Segment = get_or segments i.segment-index (record { slots = 0; bytes = 0 }) in
     let inside : i.segment-index < length segments = omega arith in
     let is : s ≡ get_or segments i.segment-index s = search rules in
-    let at : IsSegmentFrom segments i.segment-index s c.args.start i.from = record { inside = inside; segment_is = is; from_is = i.invariant.from_is } in
+    let at : IsSegmentFrom segments i.segment-index s c.args.start i.from =
+    record { inside = inside; segment_is = is; from_is = i.invariant.from_is } in
     record {
       from_is = omega (arith, i.invariant.from_is, slots-next segments i.segment-index s inside is);
       first_is = c.book_segment.ensures.now ∙ i.invariant.first_is;

@@ -10,5 +10,6 @@ invariant-loop-segment l = record {
   first_is : l.ring.first ≡ l.fn.ring.first;
   stale_is : l.ring.stale ≡ l.fn.ring.stale;
   totals : (t : ℕ) → l.fn.ring.first ≤ t →
-      total_at l.ring.first l.ring.totals t ≡ total_at l.fn.ring.first l.fn.ring.totals t + asked_at (take l.segment-index l.segments) l.start t;
+      total_at l.ring.first l.ring.totals t
+      ≡ total_at l.fn.ring.first l.fn.ring.totals t + asked_at (take l.segment-index l.segments) l.start t;
 }

@@ -18,7 +18,8 @@ returns-then-booked-capacity c =
     let place = c.args.from + i.passed in
     let asked : asked_at segments c.args.from place ≡ c.sent_through-sent.result - i.before =
     asked-here segments c.args.from i.passed i.invariant.before_is (c.sent_through-sent.ensures.sent c.args.from) in
-    let over : c.args.capacity < c.total-booked.result + (c.sent_through-sent.result - i.before) = elim c.then-booked-capacity.branch [
+    let over : c.args.capacity < c.total-booked.result + (c.sent_through-sent.result - i.before) =
+    elim c.then-booked-capacity.branch [
       | then-booked-capacity-via-then-booked-capacity w ↦ omega arith
       | then-booked-capacity-via-else-booked-capacity+then-asked-capacity w ↦ omega arith
     ] in
@@ -46,9 +47,20 @@ loop-passed-preserved c =
         | inl before ↦ i.invariant.fits u from before
         | inr more ↦ (
             let is : u ≡ place = omega (arith, more, less) in
-            let same_total : total_at c.args.ring.now.first c.args.ring.now.totals u ≡ total_at c.args.ring.now.first c.args.ring.now.totals place = ap (total_at c.args.ring.now.first c.args.ring.now.totals) is in
-            let same_asked : asked_at segments c.args.from u ≡ asked_at segments c.args.from place = ap (asked_at segments c.args.from) is in
-            omega (arith, same_total, same_asked, asked, c.total-booked.ensures.value, c.if-booked-capacity.false, c.if-asked-capacity.false)
+            let same_total : total_at c.args.ring.now.first c.args.ring.now.totals u
+            ≡ total_at c.args.ring.now.first c.args.ring.now.totals place =
+            ap (total_at c.args.ring.now.first c.args.ring.now.totals) is in
+            let same_asked : asked_at segments c.args.from u ≡ asked_at segments c.args.from place =
+            ap (asked_at segments c.args.from) is in
+            omega (
+              arith,
+              same_total,
+              same_asked,
+              asked,
+              c.total-booked.ensures.value,
+              c.if-booked-capacity.false,
+              c.if-asked-capacity.false,
+            )
             )
       ];
     }

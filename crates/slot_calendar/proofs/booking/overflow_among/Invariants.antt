@@ -7,5 +7,6 @@ use Rattle.slot_calendar.proofs.booking.overflow_among.Given as goal
 abbrev pub invariant-loop-passed : goal.invariant-loop-passed
 invariant-loop-passed l = record {
   before_is : l.before ≡ sent_before (l.segment ∷ []) l.from (l.from + l.passed);
-  fits : FitsIn (l.from + l.first) (l.from + l.passed) (total_at l.ring.first l.ring.totals) (λ _. l.capacity) l.from (l.segment ∷ []);
+  fits : FitsIn (l.from + l.first) (l.from + l.passed) (total_at l.ring.first l.ring.totals) (λ _. l.capacity)
+      l.from (l.segment ∷ []);
 }

@@ -9,7 +9,8 @@ loop-passed-preserved c =
     let i = c.loop-passed in
     let s = c.args.segment in
     let pos = one-some s c.requires.plan in
-    let most : s.bytes ≤ c.div_ceil-most.result * s.slots = ceil_most s.bytes s.slots c.div_ceil-most.result pos c.div_ceil-most.ensures in
+    let most : s.bytes ≤ c.div_ceil-most.result * s.slots =
+    ceil_most s.bytes s.slots c.div_ceil-most.result pos c.div_ceil-most.ensures in
     record {
       within = omega (arith, c.min.ensures, c.min-end.ensures);
       fits = λ u from less. elim (cases_lt u (c.args.from + i.passed)) [

@@ -46,13 +46,16 @@ loop-passed-preserved c =
       others = λ t since other. c.give_back.ensures.others t (omega (arith, since, i.invariant.first_is)) other;
       rest = i.invariant.rest;
     } in
-    let here : first ≤ place → new place + by ≡ mid place = λ from. c.give_back.ensures.at (omega (arith, from, i.invariant.first_is)) in
-    let here' : first ≤ place → new place + cut_at segments c.args.from c.args.keep place ≡ mid place = λ from. omega (arith, cut, here from) in
+    let here : first ≤ place → new place + by ≡ mid place =
+    λ from. c.give_back.ensures.at (omega (arith, from, i.invariant.first_is)) in
+    let here' : first ≤ place → new place + cut_at segments c.args.from c.args.keep place ≡ mid place =
+    λ from. omega (arith, cut, here from) in
     let at : c.args.from + (i.passed + 1) ≡ place + 1 = omega arith in
     record {
       before_is = c.saturating_sub-over.ensures ∙ ap (λ n. n - c.args.keep) (sym (c.sent_through.ensures.sent c.args.from));
       first_is = c.give_back.ensures.now ∙ i.invariant.first_is;
-      done = λ t since less. lowered-next step (cut_at segments c.args.from c.args.keep) here' i.invariant.done since (omega (arith, less, at));
+      done = λ t since less. lowered-next step (cut_at segments c.args.from c.args.keep) here' i.invariant.done
+          since (omega (arith, less, at));
       rest = λ t since more. unchanged-next step since (omega (arith, more, at));
     }
 
@@ -63,7 +66,8 @@ returns-clause-totals c = λ t since. (
     elim (cases_lt t (c.args.from + i.passed)) [
       | inl less ↦ i.invariant.done t since less
       | inr past ↦ (
-          let none : cut_at (s ∷ []) c.args.from c.args.keep t ≡ 0 = cut-after (s ∷ []) c.args.from c.args.keep t (omega (arith, one-slots s, past)) in
+          let none : cut_at (s ∷ []) c.args.from c.args.keep t ≡ 0 =
+          cut-after (s ∷ []) c.args.from c.args.keep t (omega (arith, one-slots s, past)) in
           omega (arith, i.invariant.rest t since past, none)
           )
     ]

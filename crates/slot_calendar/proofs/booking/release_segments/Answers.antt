@@ -12,7 +12,13 @@ release_segment-requires-clause-booked c = λ t from. (
     let at : IsSegmentFrom segments i.segment-index s c.args.start i.from =
     record { inside = omega arith; segment_is = search rules; from_is = i.invariant.from_is } in
     let next = cut-next c.args.keep t c.requires.plan.no_empty at i.invariant.left_is in
-    omega (arith, next, cut-front segments (i.segment-index + 1) c.args.start c.args.keep t c.requires.plan.no_empty, i.invariant.totals t since, c.requires.booked t since)
+    omega (
+      arith,
+      next,
+      cut-front segments (i.segment-index + 1) c.args.start c.args.keep t c.requires.plan.no_empty,
+      i.invariant.totals t since,
+      c.requires.booked t since,
+    )
     )
 
 pub loop-segment-preserved : goal.loop-segment-preserved
@@ -22,10 +28,16 @@ loop-segment-preserved c =
     let s : Segment = get_or segments i.segment-index (record { slots = 0; bytes = 0 }) in
     let inside : i.segment-index < length segments = omega arith in
     let is : s ≡ get_or segments i.segment-index s = search rules in
-    let at : IsSegmentFrom segments i.segment-index s c.args.start i.from = record { inside = inside; segment_is = is; from_is = i.invariant.from_is } in
+    let at : IsSegmentFrom segments i.segment-index s c.args.start i.from =
+    record { inside = inside; segment_is = is; from_is = i.invariant.from_is } in
     record {
       from_is = omega (arith, i.invariant.from_is, slots-next segments i.segment-index s inside is);
-      left_is = omega (arith, i.invariant.left_is, bytes-next segments i.segment-index s inside is, c.saturating_sub-left.ensures);
+      left_is = omega (
+        arith,
+        i.invariant.left_is,
+        bytes-next segments i.segment-index s inside is,
+        c.saturating_sub-left.ensures,
+      );
       first_is = c.release_segment.ensures.now ∙ i.invariant.first_is;
       totals = λ t since. (
           let next = cut-next c.args.keep t c.requires.plan.no_empty at i.invariant.left_is in

@@ -10,5 +10,6 @@ invariant-loop-segment l = record {
   left_is : l.left ≡ l.keep - total_bytes (take l.segment-index l.segments);
   first_is : l.ring.first ≡ l.fn.ring.first;
   totals : (t : ℕ) → l.fn.ring.first ≤ t →
-      total_at l.ring.first l.ring.totals t + cut_at (take l.segment-index l.segments) l.start l.keep t ≡ total_at l.fn.ring.first l.fn.ring.totals t;
+      total_at l.ring.first l.ring.totals t + cut_at (take l.segment-index l.segments) l.start l.keep t
+      ≡ total_at l.fn.ring.first l.fn.ring.totals t;
 }

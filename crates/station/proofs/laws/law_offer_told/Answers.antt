@@ -9,10 +9,14 @@ pub returns-clause-first : goal.returns-clause-first
 returns-clause-first c = λ steps entries heard start plan told found is answer. answer.0 ∙ sym is.first_is
 
 pub returns-clause-kept : goal.returns-clause-kept
-returns-clause-kept c = λ steps entries heard slot start plan told found is same begins.
-    (begins, c.law_least_start.ensures.fits 0 told.first start (booked_after entries) (capacity_at steps) plan found is.offer same)
+returns-clause-kept c = λ steps entries heard slot start plan told found is same begins. (
+  begins,
+  c.law_least_start.ensures.fits 0 told.first start (booked_after entries) (capacity_at steps) plan
+      found is.offer same,
+)
 
 pub returns-clause-refused : goal.returns-clause-refused
 returns-clause-refused c = λ steps entries heard plan told found none is other.
-    subst (λ (b : ℕ). IsFirstOverflow 0 (booked_after entries) (capacity_at steps) b plan (get_or found.tried 0 none).over) is.first_is
+    subst (λ (b : ℕ). IsFirstOverflow 0 (booked_after entries) (capacity_at steps) b plan
+    (get_or found.tried 0 none).over) is.first_is
     (first-refusal none is.offer other)

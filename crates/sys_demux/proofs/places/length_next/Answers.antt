@@ -12,7 +12,8 @@ returns-then-not-is_chosen-clause-next c = λ before start part kept h kind_is.
 
 pub returns-then-length-eq0-clause-next : goal.returns-then-length-eq0-clause-next
 returns-then-length-eq0-clause-next c = λ before start part kept h kind_is.
-    let read : LengthRead before start c.args.item c.args.chosen part kept c.args.kind c.args.low (c.from.result * 256 + c.from-2.result) = record {
+    let read : LengthRead before start c.args.item c.args.chosen part kept c.args.kind c.args.low
+    (c.from.result * 256 + c.from-2.result) = record {
       high = c.args.high;
       at_prefix = h;
       kind_is = kind_is;
@@ -23,7 +24,8 @@ returns-then-length-eq0-clause-next c = λ before start part kept h kind_is.
 
 pub returns-else-length-eq0-clause-next : goal.returns-else-length-eq0-clause-next
 returns-else-length-eq0-clause-next c = λ before start part kept h kind_is.
-    let read : LengthRead before start c.args.item c.args.chosen part kept c.args.kind c.args.low (c.from.result * 256 + c.from-2.result) = record {
+    let read : LengthRead before start c.args.item c.args.chosen part kept c.args.kind c.args.low
+    (c.from.result * 256 + c.from-2.result) = record {
       high = c.args.high;
       at_prefix = h;
       kind_is = kind_is;

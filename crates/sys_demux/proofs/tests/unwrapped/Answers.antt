@@ -10,7 +10,9 @@ use Rattle.sys_demux.proofs.tests.unwrapped.Goals as goal
 
 joined : (seen rest : List ℕ) (k taken : ℕ) → taken ≤ k → (seen ++ take taken (take k rest)) ++ drop taken rest ≡ seen ++ rest
 joined seen rest k taken few =
-    append_assoc seen (take taken (take k rest)) (drop taken rest) ∙ ap (λ (l : List ℕ). seen ++ (l ++ drop taken rest)) (take-take taken k rest few) ∙ ap (λ (l : List ℕ). seen ++ l) (take-append-drop taken rest)
+    append_assoc seen (take taken (take k rest)) (drop taken rest)
+    ∙ ap (λ (l : List ℕ). seen ++ (l ++ drop taken rest)) (take-take taken k rest few)
+    ∙ ap (λ (l : List ℕ). seen ++ l) (take-append-drop taken rest)
 
 pub loop-rest-preserved : goal.loop-rest-preserved
 loop-rest-preserved c =
@@ -21,12 +23,20 @@ loop-rest-preserved c =
     let few : taken ≤ k = omega (arith, c.in-Ok.ensures.taken, length-take k rest) in
     let next = c.in-Ok.ensures.next inv.0 c.loop-rest.video.items inv.1.1 in
     rw (take_rest rest taken) (record {
-      room = omega (arith, c.loop-rest.invariant.room, c.in-Ok.ensures.count, c.in-Ok.ensures.taken, length-drop taken rest, length-take k rest);
+      room = omega (
+        arith,
+        c.loop-rest.invariant.room,
+        c.in-Ok.ensures.count,
+        c.in-Ok.ensures.taken,
+        length-drop taken rest,
+        length-take k rest,
+      );
       fed = (
         inv.0 ++ take taken (take k rest),
         (
           joined inv.0 rest k taken few ∙ inv.1.0,
-          subst (λ (v : List ℕ). WasFed c.feed.new.self (inv.0 ++ take taken (take k rest)) v) (sym c.in_ok-extend_from_slice-in-Ok.ensures.items) next,
+          subst (λ (v : List ℕ). WasFed c.feed.new.self (inv.0 ++ take taken (take k rest)) v)
+              (sym c.in_ok-extend_from_slice-in-Ok.ensures.items) next,
         ),
       );
     })
@@ -37,7 +47,8 @@ returns c =
     let rest = c.loop-rest.rest.now in
     let none : rest ≡ [] = nil_from_length rest (eqb-true (length rest) 0 (sym c.is_empty.ensures ∙ c.loop-rest-test.false)) in
     let same : inv.0 ≡ c.args.bytes.now = sym (append-nil inv.0) ∙ ap (λ (l : List ℕ). inv.0 ++ l) (sym none) ∙ inv.1.0 in
-    subst (λ (b : List ℕ). MatchResult c.finish.result (λ _. IsSystem b c.loop-rest.video.items) (λ fault. IsRefused b fault)) same (c.finish.ensures.end inv.0 c.loop-rest.video.items inv.1.1)
+    subst (λ (b : List ℕ). MatchResult c.finish.result (λ _. IsSystem b c.loop-rest.video.items)
+    (λ fault. IsRefused b fault)) same (c.finish.ensures.end inv.0 c.loop-rest.video.items inv.1.1)
 
 pub returns-in-Err : goal.returns-in-Err
 returns-in-Err c =
@@ -46,4 +57,5 @@ returns-in-Err c =
     let k = c.min.result in
     let whole : (inv.0 ++ take k rest) ++ drop k rest ≡ c.args.bytes.now =
     append_assoc inv.0 (take k rest) (drop k rest) ∙ ap (λ (l : List ℕ). inv.0 ++ l) (take-append-drop k rest) ∙ inv.1.0 in
-    subst (λ (b : List ℕ). IsRefused b c.in-Err.fault) whole (c.in-Err.ensures.fault inv.0 c.loop-rest.video.items inv.1.1 (drop k rest))
+    subst (λ (b : List ℕ). IsRefused b c.in-Err.fault) whole
+    (c.in-Err.ensures.fault inv.0 c.loop-rest.video.items inv.1.1 (drop k rest))

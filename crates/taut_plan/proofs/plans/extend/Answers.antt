@@ -21,7 +21,9 @@ pub join-requires-clause-apex : goal.join-requires-clause-apex
 join-requires-clause-apex c =
     let curves = c.args.curves.now in
     let slot = c.requires.slot in
-    let beyond = chain_beyond c.args.side (side_of curves c.args.side) c.args.slot c.args.path.now.apex c.args.own.now c.requires.funnel.own in
+    let beyond =
+    chain_beyond c.args.side (side_of curves c.args.side) c.args.slot c.args.path.now.apex c.args.own.now
+    c.requires.funnel.own in
     corner_fits c.requires.sound (omega (arith, beyond, slot)) c.requires.path.below
 
 pub crossing-requires-clause-fit : goal.crossing-requires-clause-fit
@@ -61,9 +63,12 @@ loop-corner-preserved c =
     let corner = c.in-Some.corner in
     let known = others_known c.args.side c.args.slot in
     record {
-      path = subst (λ o. IsPath (lower_of curves) (upper_of curves) curves.from o c.bend_at.new.self.segments.items) (sym c.in_ok-bend_at.ensures.apex)
-          (subst (λ segments. IsPath (lower_of curves) (upper_of curves) curves.from corner segments) (sym c.in_ok-bend_at.ensures.segments) bent.path);
-      crossing = subst (λ o. IsCrossing c.args.side (side_of curves c.args.side) (side_of curves (other_side c.args.side)) (c.args.slot + 1) known o c.join.new.chain c.pop_first.new.self)
+      path = subst (λ o. IsPath (lower_of curves) (upper_of curves) curves.from o
+          c.bend_at.new.self.segments.items) (sym c.in_ok-bend_at.ensures.apex)
+          (subst (λ segments. IsPath (lower_of curves) (upper_of curves) curves.from corner segments)
+          (sym c.in_ok-bend_at.ensures.segments) bent.path);
+      crossing = subst (λ o. IsCrossing c.args.side (side_of curves c.args.side)
+          (side_of curves (other_side c.args.side)) (c.args.slot + 1) known o c.join.new.chain c.pop_first.new.self)
           (sym c.in_ok-bend_at.ensures.apex) bent.crossing;
     }
 

@@ -13,10 +13,12 @@ pub returns-clause-taut : goal.returns-clause-taut
 returns-clause-taut c =
     let curves = c.args.curves.now in
     subst (IsTaut curves.from curves.low.items curves.up.items) (sym c.new.ensures)
-    (taut_of_whole curves.from curves.low.items curves.up.items c.in_ok-segments.segments.items c.requires c.in_ok-segments.ensures)
+    (taut_of_whole curves.from curves.low.items curves.up.items c.in_ok-segments.segments.items c.requires
+    c.in_ok-segments.ensures)
 
 pub returns-clause-best : goal.returns-clause-best
 returns-clause-best c =
     let curves = c.args.curves.now in
     subst (IsBestPlan curves.from curves.low.items curves.up.items) (sym c.new.ensures)
-    (best_of_whole curves.from curves.low.items curves.up.items c.in_ok-segments.segments.items c.requires c.in_ok-segments.ensures)
+    (best_of_whole curves.from curves.low.items curves.up.items c.in_ok-segments.segments.items c.requires
+    c.in_ok-segments.ensures)

@@ -13,7 +13,8 @@ bend_at-requires-clause-higher c =
     let some = c.requires.some_slot in
     let place : c.len-slots.result - 1 + 1 ≡ n = omega arith in
     let end = ends_at
-    (band_of_sound curves.from curves.low.items curves.up.items c.requires) (omega arith) c.loop-slot.invariant.path c.loop-slot.invariant.funnel (c.loop-slot.invariant.beyond (omega arith))
+    (band_of_sound curves.from curves.low.items curves.up.items c.requires) (omega arith)
+    c.loop-slot.invariant.path c.loop-slot.invariant.funnel (c.loop-slot.invariant.beyond (omega arith))
     (c.point_at.ensures ∙ ap (on_curve (upper_of curves)) place) in
     end.higher
 
@@ -24,6 +25,7 @@ returns c =
     let some = c.requires.some_slot in
     let place : c.len-slots.result - 1 + 1 ≡ n = omega arith in
     let end = ends_at
-    (band_of_sound curves.from curves.low.items curves.up.items c.requires) (omega arith) c.loop-slot.invariant.path c.loop-slot.invariant.funnel (c.loop-slot.invariant.beyond (omega arith))
+    (band_of_sound curves.from curves.low.items curves.up.items c.requires) (omega arith)
+    c.loop-slot.invariant.path c.loop-slot.invariant.funnel (c.loop-slot.invariant.beyond (omega arith))
     (c.point_at.ensures ∙ ap (on_curve (upper_of curves)) place) in
     subst (IsTautPath (lower_of curves) (upper_of curves) curves.from n) (sym c.in_ok-bend_at.ensures.segments) end.whole

@@ -4,4 +4,13 @@ use Rattle.transcript.proofs.watched.law_play_read.Goals as goal
 pub returns : goal.returns
 returns c = λ message id authority name sequence end_ms number time slots size is plain small short some few.
     play-read (record { authority = authority; name = name; number = number; time = time })
-    (record { sequence = sequence; end_ms = end_ms; slots = slots; small = small; short = short; some = some; few = few }) size is plain
+    (record {
+      sequence = sequence;
+      end_ms = end_ms;
+      slots = slots;
+      small = small;
+      short = short;
+      some =
+          some;
+      few = few;
+    }) size is plain

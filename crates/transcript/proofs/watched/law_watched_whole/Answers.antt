@@ -14,7 +14,8 @@ returns c = λ wish stored course watched heard out wished played client carried
     let x = stream_of wish stored course played in
     let told = told-course wish watched heard out client in
     let begin = first_slot client.mid.history in
-    let front = front-again (heard_bytes heard) (sent_bytes (rounds_doings course.rounds)) (framed_bytes (all_of x)) carried.front.0 carried.front.1.1
+    let front = front-again (heard_bytes heard) (sent_bytes (rounds_doings course.rounds))
+    (framed_bytes (all_of x)) carried.front.0 carried.front.1.1
     (all-sent wish stored course played) in
     let feeds : AreFed wish stored.film x begin [] client.rounds = λ before later round slot split event after_begin.
     let its = told.split before later round split in

@@ -8,7 +8,8 @@ use Rattle.troubles.proofs.lines.add_fault.Goals as goal
 
 pub loop-number-init : goal.loop-number-init
 loop-number-init g c = λ first start text said.
-    said_as (ap (λ (t : List ℕ). text ++ t) (c.as_bytes.ensures.value ∙ c.fault_words-words.ensures.name ∙ sym (append-nil (fault_words c.args.fault).name)))
+    said_as (ap (λ (t : List ℕ). text ++ t)
+    (c.as_bytes.ensures.value ∙ c.fault_words-words.ensures.name ∙ sym (append-nil (fault_words c.args.fault).name)))
     (c.add-goes.ensures first start text said)
 
 pub loop-number-preserved : goal.loop-number-preserved

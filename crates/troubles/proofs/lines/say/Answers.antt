@@ -7,31 +7,37 @@ use Rattle.troubles.proofs.lines.say.Goals as goal
 pub returns-in-Usage : goal.returns-in-Usage
 returns-in-Usage g c =
     said_as (ap trouble_text (sym c.in-Usage.is))
-    (c.add.ensures (g.S.Sink.faults c.args.sink.now) (g.S.Sink.written c.args.sink.now) [] (said_nothing (g.S.Sink.faults c.args.sink.now) (g.S.Sink.written c.args.sink.now)))
+    (c.add.ensures (g.S.Sink.faults c.args.sink.now) (g.S.Sink.written c.args.sink.now) []
+    (said_nothing (g.S.Sink.faults c.args.sink.now) (g.S.Sink.written c.args.sink.now)))
 
 pub returns-in-SinkFault : goal.returns-in-SinkFault
 returns-in-SinkFault g c =
     said_as (ap trouble_text (sym c.in-SinkFault.is))
-    (c.add-in-SinkFault.ensures (g.S.Sink.faults c.args.sink.now) (g.S.Sink.written c.args.sink.now) [] (said_nothing (g.S.Sink.faults c.args.sink.now) (g.S.Sink.written c.args.sink.now)))
+    (c.add-in-SinkFault.ensures (g.S.Sink.faults c.args.sink.now) (g.S.Sink.written c.args.sink.now) []
+    (said_nothing (g.S.Sink.faults c.args.sink.now) (g.S.Sink.written c.args.sink.now)))
 
 pub returns-in-NoMemory : goal.returns-in-NoMemory
 returns-in-NoMemory g c =
     said_as (ap trouble_text (sym c.in-NoMemory.is))
-    (c.add-in-NoMemory.ensures (g.S.Sink.faults c.args.sink.now) (g.S.Sink.written c.args.sink.now) [] (said_nothing (g.S.Sink.faults c.args.sink.now) (g.S.Sink.written c.args.sink.now)))
+    (c.add-in-NoMemory.ensures (g.S.Sink.faults c.args.sink.now) (g.S.Sink.written c.args.sink.now) []
+    (said_nothing (g.S.Sink.faults c.args.sink.now) (g.S.Sink.written c.args.sink.now)))
 
 pub returns-in-GateFault : goal.returns-in-GateFault
 returns-in-GateFault g c =
     said_as (ap trouble_text (sym c.in-GateFault.is))
-    (c.add-in-GateFault.ensures (g.S.Sink.faults c.args.sink.now) (g.S.Sink.written c.args.sink.now) [] (said_nothing (g.S.Sink.faults c.args.sink.now) (g.S.Sink.written c.args.sink.now)))
+    (c.add-in-GateFault.ensures (g.S.Sink.faults c.args.sink.now) (g.S.Sink.written c.args.sink.now) []
+    (said_nothing (g.S.Sink.faults c.args.sink.now) (g.S.Sink.written c.args.sink.now)))
 
 pub returns-in-StoreFault : goal.returns-in-StoreFault
 returns-in-StoreFault g c =
     let program : List ℕ = codes "vodserve: " in
     let named : List ℕ = program ++ c.as_bytes-in-StoreFault.result.now in
-    said_as (ap (λ (name : List ℕ). program ++ name ++ codes ": StoreFault\n") c.as_bytes-in-StoreFault.ensures.value ∙ ap trouble_text (sym c.in-StoreFault.is))
+    said_as (ap (λ (name : List ℕ). program ++ name ++ codes ": StoreFault\n")
+    c.as_bytes-in-StoreFault.ensures.value ∙ ap trouble_text (sym c.in-StoreFault.is))
     (c.add-in-StoreFault.ensures (g.S.Sink.faults c.args.sink.now) (g.S.Sink.written c.args.sink.now) named
     (c.add-named-in-StoreFault.ensures (g.S.Sink.faults c.args.sink.now) (g.S.Sink.written c.args.sink.now) program
-    (c.add-program-in-StoreFault.ensures (g.S.Sink.faults c.args.sink.now) (g.S.Sink.written c.args.sink.now) [] (said_nothing (g.S.Sink.faults c.args.sink.now) (g.S.Sink.written c.args.sink.now)))))
+    (c.add-program-in-StoreFault.ensures (g.S.Sink.faults c.args.sink.now) (g.S.Sink.written c.args.sink.now) []
+    (said_nothing (g.S.Sink.faults c.args.sink.now) (g.S.Sink.written c.args.sink.now)))))
 
 pub returns-in-Refused : goal.returns-in-Refused
 returns-in-Refused g c =
@@ -39,14 +45,17 @@ returns-in-Refused g c =
     let named : List ℕ = program ++ c.as_bytes.result.now in
     let colon : List ℕ = named ++ codes ": " in
     let refused : List ℕ = colon ++ fault_text c.in-Refused.fault in
-    said_as (ap (λ (name : List ℕ). program ++ name ++ codes ": " ++ fault_text c.in-Refused.fault ++ codes "\n") c.as_bytes.ensures.value ∙ ap trouble_text (sym c.in-Refused.is))
+    said_as (ap (λ (name : List ℕ). program ++ name ++ codes ": " ++ fault_text c.in-Refused.fault
+    ++ codes "\n") c.as_bytes.ensures.value ∙ ap trouble_text (sym c.in-Refused.is))
     (c.add-in-Refused.ensures (g.S.Sink.faults c.args.sink.now) (g.S.Sink.written c.args.sink.now) refused
     (c.add_fault-refused.ensures (g.S.Sink.faults c.args.sink.now) (g.S.Sink.written c.args.sink.now) colon
     (c.add-colon.ensures (g.S.Sink.faults c.args.sink.now) (g.S.Sink.written c.args.sink.now) named
     (c.add-named.ensures (g.S.Sink.faults c.args.sink.now) (g.S.Sink.written c.args.sink.now) program
-    (c.add-program.ensures (g.S.Sink.faults c.args.sink.now) (g.S.Sink.written c.args.sink.now) [] (said_nothing (g.S.Sink.faults c.args.sink.now) (g.S.Sink.written c.args.sink.now)))))))
+    (c.add-program.ensures (g.S.Sink.faults c.args.sink.now) (g.S.Sink.written c.args.sink.now) []
+    (said_nothing (g.S.Sink.faults c.args.sink.now) (g.S.Sink.written c.args.sink.now)))))))
 
 pub returns-in-LinkFault : goal.returns-in-LinkFault
 returns-in-LinkFault g c =
     said_as (ap trouble_text (sym c.in-LinkFault.is))
-    (c.add-in-LinkFault.ensures (g.S.Sink.faults c.args.sink.now) (g.S.Sink.written c.args.sink.now) [] (said_nothing (g.S.Sink.faults c.args.sink.now) (g.S.Sink.written c.args.sink.now)))
+    (c.add-in-LinkFault.ensures (g.S.Sink.faults c.args.sink.now) (g.S.Sink.written c.args.sink.now) []
+    (said_nothing (g.S.Sink.faults c.args.sink.now) (g.S.Sink.written c.args.sink.now)))

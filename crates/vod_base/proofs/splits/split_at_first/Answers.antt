@@ -6,7 +6,9 @@ use Rattle.vod_base.proofs.FirstBytes.{split_found}
 use Rattle.vod_base.proofs.splits.split_at_first.Goals as goal
 
 pub returns-then-text-at : goal.returns-then-text-at
-returns-then-text-at c = rw (take_rest c.args.text.now (c.loop-at.at + 1)) (split_found c.args.c c.args.text.now c.loop-at.at c.loop-at-test.true c.if-text-at.true c.loop-at.invariant)
+returns-then-text-at c =
+    rw (take_rest c.args.text.now (c.loop-at.at + 1))
+    (split_found c.args.c c.args.text.now c.loop-at.at c.loop-at-test.true c.if-text-at.true c.loop-at.invariant)
 
 pub loop-at-preserved : goal.loop-at-preserved
 loop-at-preserved c =
@@ -14,4 +16,5 @@ loop-at-preserved c =
     ∙ rw (c.loop-at.invariant) (ap not (ne_eqb _ c.args.c c.if-text-at.false))
 
 pub returns : goal.returns
-returns c = ap (list_all (λ byte. not (byte == c.args.c))) (sym (take_all c.loop-at.at c.args.text.now (omega arith))) ∙ c.loop-at.invariant
+returns c = ap (list_all (λ byte. not (byte == c.args.c)))
+    (sym (take_all c.loop-at.at c.args.text.now (omega arith))) ∙ c.loop-at.invariant

@@ -64,8 +64,11 @@ returns-in-Err-load_sources-clause-runs g c =
             })
             c.in-Err-load_sources.trouble
             (record {
-              reads = λ name inside. inr (λ held told. (c.in-Ok.script, ((c.in-Ok.ensures {u = tt}).held held told, rw c.deref.ensures.value at inside)));
-              refuses = λ held name fault told is refused. inr (c.in-Ok.script, ((c.in-Ok.ensures {u = tt}).held held told, rw c.deref.ensures.value at refused));
+              reads = λ name inside. inr
+                  (λ held told.
+                  (c.in-Ok.script, ((c.in-Ok.ensures {u = tt}).held held told, rw c.deref.ensures.value at inside)));
+              refuses = λ held name fault told is refused. inr
+                  (c.in-Ok.script, ((c.in-Ok.ensures {u = tt}).held held told, rw c.deref.ensures.value at refused));
               keeps = λ held told. c.load_script.ensures.library.kept ∙ told;
               low = omega (arith, c.load_script.ensures.library.count);
               high = omega arith;
@@ -82,16 +85,20 @@ returns-in-Ok-run_day-clause-runs g c = inr (record {
   script = c.in-Ok.script;
   sources = c.in-Ok-load_sources.sources.items;
   read = λ held told. (c.in-Ok.ensures {u = tt}).held held told;
-  loaded = λ held told. rw c.deref.ensures.value at ((c.in-Ok-load_sources.ensures {u = tt}).held held (c.load_script.ensures.library.kept ∙ told));
+  loaded = λ held told.
+      rw c.deref.ensures.value at ((c.in-Ok-load_sources.ensures {u = tt}).held held (c.load_script.ensures.library.kept ∙ told));
   clients = (c.in-Ok.ensures {u = tt}).clients;
-  lines = subst (λ (n : ℕ). AreLines n c.in-Ok.script.lines.items) (sym ((c.in-Ok-load_sources.ensures {u = tt}).count ∙ ap length c.deref.ensures.value))
+  lines = subst (λ (n : ℕ). AreLines n c.in-Ok.script.lines.items)
+      (sym ((c.in-Ok-load_sources.ensures {u = tt}).count ∙ ap length c.deref.ensures.value))
       ((c.in-Ok.ensures {u = tt}).lines);
   link = rw c.deref-2.ensures.value at (c.in-Ok-run_day.ensures {u = tt}).link;
   ran = record {
-    legal = subst (λ (v : Vec Entry Global). IsLegal c.args.run.now.capacity v.items) (sym c.end_day.ensures.journal) ((c.in-Ok-run_day.ensures {u = tt}).legal);
+    legal = subst (λ (v : Vec Entry Global). IsLegal c.args.run.now.capacity v.items)
+        (sym c.end_day.ensures.journal) ((c.in-Ok-run_day.ensures {u = tt}).legal);
     no_reports = c.end_day.ensures.reports;
     text = c.in-Ok-run_day.day.text.items;
-    day = subst (λ (v : Vec Entry Global). IsDay (link_of c.args.run.now.capacity c.args.run.now.journal c.args.run.now.slot c.in-Ok-load_sources.sources.items)
+    day = subst (λ (v : Vec Entry Global). IsDay
+        (link_of c.args.run.now.capacity c.args.run.now.journal c.args.run.now.slot c.in-Ok-load_sources.sources.items)
         c.in-Ok.script.lines.items c.in-Ok-run_day.day.text.items v.items) (sym c.end_day.ensures.journal)
         (rw c.deref-2.ensures.value at (c.in-Ok-run_day.ensures {u = tt}).day);
     written = c.end_day.ensures.written;

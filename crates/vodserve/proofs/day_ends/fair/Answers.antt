@@ -6,10 +6,12 @@ use Rattle.vodserve.proofs.day_ends.fair.Goals as goal
 
 pub returns-in-Ok-clause-runs : goal.returns-in-Ok-clause-runs
 returns-in-Ok-clause-runs g c = inr (record {
-  legal = subst (λ (v : Vec Entry Global). IsLegal c.args.run.now.capacity v.items) (sym c.end_day.ensures.journal) ((c.in-Ok.ensures {u = tt}).legal);
+  legal = subst (λ (v : Vec Entry Global). IsLegal c.args.run.now.capacity v.items)
+      (sym c.end_day.ensures.journal) ((c.in-Ok.ensures {u = tt}).legal);
   no_reports = c.end_day.ensures.reports;
   text = c.in-Ok.day.text.items;
-  day = subst (λ (v : Vec Entry Global). IsFair c.args.run.now.capacity c.args.run.now.seed c.args.run.now.plays c.in-Ok.day.text.items v.items)
+  day = subst (λ (v : Vec Entry Global). IsFair c.args.run.now.capacity c.args.run.now.seed c.args.run.now.plays
+      c.in-Ok.day.text.items v.items)
       (sym c.end_day.ensures.journal) ((c.in-Ok.ensures {u = tt}).fair);
   written = c.end_day.ensures.written;
 })

@@ -6,4 +6,5 @@ returns-clause-once c = λ held viewer t t' plan plan' p q.
     planned_once p q
 
 pub returns-clause-not_refused : goal.returns-clause-not_refused
-returns-clause-not_refused c = λ held viewer text plan fault planned refused. curves_not_refused held viewer planned.curves fault planned.has refused
+returns-clause-not_refused c =
+    λ held viewer text plan fault planned refused. curves_not_refused held viewer planned.curves fault planned.has refused

@@ -13,9 +13,11 @@ returns-in-Plan g c = record {
 
 pub returns-in-Check : goal.returns-in-Check
 returns-in-Check g c = record {
-  ran = ran_as ((c.in-Some.ensures {u = tt}).order) c.in-Check.is c.check_viewer-done.ensures.library c.print-in-Check.ensures.count
+  ran = ran_as ((c.in-Some.ensures {u = tt}).order) c.in-Check.is c.check_viewer-done.ensures.library
+      c.print-in-Check.ensures.count
       (omega arith) (printed c.check_viewer-done.result refl
-      c.print-in-Check.ensures.nothing c.check_viewer-done.ensures.done c.check_viewer-done.ensures.trouble c.print-in-Check.ensures.printed);
+      c.print-in-Check.ensures.nothing c.check_viewer-done.ensures.done c.check_viewer-done.ensures.trouble
+      c.print-in-Check.ensures.printed);
 }
 
 pub returns-in-Make : goal.returns-in-Make
@@ -27,7 +29,8 @@ returns-in-Make g c = record {
             c.print-in-Make.ensures.nothing
             (made_done None (record { kind = made_of c.in-Make.kind; seed = c.in-Make.seed; pictures = c.in-Make.pictures })
             c.make.result c.make.ensures c.finish-in-Make.result c.finish-in-Make.ensures.done)
-            (no_memory _ _ _ (make_of (made_of c.in-Make.kind) c.in-Make.seed c.in-Make.pictures) c.finish-in-Make.result c.finish-in-Make.ensures.trouble)
+            (no_memory _ _ _ (make_of (made_of c.in-Make.kind) c.in-Make.seed c.in-Make.pictures)
+            c.finish-in-Make.result c.finish-in-Make.ensures.trouble)
             c.print-in-Make.ensures.printed,
       );
 }
@@ -41,12 +44,13 @@ returns-in-Scan g c = record {
 
 pub returns-in-Help : goal.returns-in-Help
 returns-in-Help g c = record {
-  ran = ran_as ((c.in-Some.ensures {u = tt}).order) c.in-Help.is (record { kept = refl; count = omega arith }) c.print.ensures.count (omega arith) (
-    refl,
-    printed c.finish.result refl c.print.ensures.nothing
-        (help_done None c.help.result c.help.ensures c.finish.result c.finish.ensures.done)
-        (no_memory _ _ _ help c.finish.result c.finish.ensures.trouble) c.print.ensures.printed,
-  );
+  ran = ran_as ((c.in-Some.ensures {u = tt}).order) c.in-Help.is (record { kept = refl; count = omega arith })
+      c.print.ensures.count (omega arith) (
+        refl,
+        printed c.finish.result refl c.print.ensures.nothing
+            (help_done None c.help.result c.help.ensures c.finish.result c.finish.ensures.done)
+            (no_memory _ _ _ help c.finish.result c.finish.ensures.trouble) c.print.ensures.printed,
+      );
 }
 
 pub returns-in-Version : goal.returns-in-Version
@@ -56,18 +60,21 @@ returns-in-Version g c = record {
         refl,
         printed c.finish-in-Version.result refl c.print-in-Version.ensures.nothing
             (version_done None c.version.result c.version.ensures c.finish-in-Version.result c.finish-in-Version.ensures.done)
-            (no_memory _ _ _ version c.finish-in-Version.result c.finish-in-Version.ensures.trouble) c.print-in-Version.ensures.printed,
+            (no_memory _ _ _ version c.finish-in-Version.result c.finish-in-Version.ensures.trouble)
+            c.print-in-Version.ensures.printed,
       );
 }
 
 pub returns-in-Day : goal.returns-in-Day
 returns-in-Day g c = record {
-  ran = ran_as ((c.in-Some.ensures {u = tt}).order) c.in-Day.is c.day.ensures.library c.day.ensures.count (omega arith) (refl, c.day.ensures.runs);
+  ran = ran_as ((c.in-Some.ensures {u = tt}).order) c.in-Day.is c.day.ensures.library c.day.ensures.count
+      (omega arith) (refl, c.day.ensures.runs);
 }
 
 pub returns-in-Fair : goal.returns-in-Fair
 returns-in-Fair g c = record {
-  ran = ran_as ((c.in-Some.ensures {u = tt}).order) c.in-Fair.is (record { kept = refl; count = omega arith }) c.fair.ensures.count
+  ran = ran_as ((c.in-Some.ensures {u = tt}).order) c.in-Fair.is (record { kept = refl; count = omega arith })
+      c.fair.ensures.count
       (omega arith) (refl, refl, c.fair.ensures.runs);
 }
 

@@ -19,14 +19,19 @@ returns-in-Ok-run_server-clause-serves g c =
     let before : Outlet = gate_seen g.G.Gate.faults g.G.Gate.told c.args.gate.now in
     let opened : Outlet = gate_seen g.G.Gate.faults g.G.Gate.told c.prepare.new.gate in
     let after : Outlet = gate_seen g.G.Gate.faults g.G.Gate.told c.run_server.new.gate in
-    let same : served_text entries (length reports) ≡ served_text c.end_server.result.journal.items (length c.end_server.result.reports.items) =
+    let same : served_text entries (length reports)
+    ≡ served_text c.end_server.result.journal.items (length c.end_server.result.reports.items) =
     ap (λ (es : List Entry). served_text es (length reports)) (sym c.end_server.ensures.journal)
-    ∙ ap (λ (rs : List ConnReport). served_text c.end_server.result.journal.items (length rs)) (sym c.end_server.ensures.reports) in
-    let worked : HaveWorked c.in-Ok.prepared.films.items c.args.seed serving c.end_server.result.journal.items before after c.in-Ok-run_server.closed.end
+    ∙ ap (λ (rs : List ConnReport). served_text c.end_server.result.journal.items (length rs))
+    (sym c.end_server.ensures.reports) in
+    let worked : HaveWorked c.in-Ok.prepared.films.items c.args.seed serving c.end_server.result.journal.items
+    before after c.in-Ok-run_server.closed.end
     c.end_server.result.reports.items =
     subst (λ (rs : List ConnReport).
-    HaveWorked c.in-Ok.prepared.films.items c.args.seed serving c.end_server.result.journal.items before after c.in-Ok-run_server.closed.end rs) (sym c.end_server.ensures.reports)
-    (subst (λ (es : List Entry). HaveWorked c.in-Ok.prepared.films.items c.args.seed serving es before after c.in-Ok-run_server.closed.end reports) (sym c.end_server.ensures.journal)
+    HaveWorked c.in-Ok.prepared.films.items c.args.seed serving c.end_server.result.journal.items before after
+    c.in-Ok-run_server.closed.end rs) (sym c.end_server.ensures.reports)
+    (subst (λ (es : List Entry). HaveWorked c.in-Ok.prepared.films.items c.args.seed serving es before after
+    c.in-Ok-run_server.closed.end reports) (sym c.end_server.ensures.journal)
     (have_worked_since
     ((c.in-Ok-run_server.ensures {u = tt}).worked) c.prepare.ensures.count)) in
     let out : Seen (List ℕ) = sight_of g.O.Sink.faults g.O.Sink.written c.args.out.now in
@@ -36,7 +41,8 @@ returns-in-Ok-run_server-clause-serves g c =
     inr (record {
       films = c.in-Ok.prepared.films.items;
       loaded = (c.in-Ok.ensures {u = tt}).loaded;
-      journal = subst (λ (es : List Entry). IsJournal serving es) (sym c.end_server.ensures.journal) ((c.in-Ok-run_server.ensures {u = tt}).closed);
+      journal = subst (λ (es : List Entry). IsJournal serving es) (sym c.end_server.ensures.journal)
+          ((c.in-Ok-run_server.ensures {u = tt}).closed);
       entries_short = omega (arith, c.end_server.result.journal.ok);
       connections_short = omega (arith, c.end_server.result.reports.ok);
       end = c.in-Ok-run_server.closed.end;
@@ -44,7 +50,8 @@ returns-in-Ok-run_server-clause-serves g c =
       once = once_since before.told opened.told after.told ((c.in-Ok.ensures {u = tt}).once) c.run_server.ensures.since;
       fault = fault_risen
           worked;
-      ends = subst (λ (text : List ℕ). Ends out out' err err' text c.in-Ok-run_server.closed.end c.end_server.result) same c.end_server.ensures.ends;
+      ends = subst (λ (text : List ℕ). Ends out out' err err' text c.in-Ok-run_server.closed.end
+          c.end_server.result) same c.end_server.ensures.ends;
     })
 
 pub returns-in-Err-run_server-clause-serves : goal.returns-in-Err-run_server-clause-serves

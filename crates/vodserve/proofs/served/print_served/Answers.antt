@@ -10,4 +10,5 @@ returns-in-NoMemory-clause-printed g c =
     c.deref.ensures.value ∙ (c.in-Ok.ensures {u = tt})
     ∙ ap (λ (n : ℕ). served_text c.args.closed.now.book.entries n) (omega (arith, c.len.ensures, c.args.closed.now.reports.ok)) in
     subst (IsFrontMore (g.O.Sink.written c.args.out.now) (g.O.Sink.written c.write_all.new.self)) text
-    (written_front c.write_all.result (g.O.Sink.written c.args.out.now) (g.O.Sink.written c.write_all.new.self) c.deref.result.now c.write_all.ensures.whole c.write_all.ensures.front)
+    (written_front c.write_all.result (g.O.Sink.written c.args.out.now) (g.O.Sink.written c.write_all.new.self)
+    c.deref.result.now c.write_all.ensures.whole c.write_all.ensures.front)

@@ -13,4 +13,5 @@ returns-clause-held g c =
     held_film (g.L.Library.files c.args.library.now) c.in_ok-film.film c.in-Some.name.now ((c.in_ok-film.ensures {u = tt}).name)
     (λ held told. (c.in_ok-film.ensures {u = tt}).film held told)
     (λ held told. (c.in_ok-film.ensures {u = tt}).small held told) in
-    λ all. subst (All Held) (sym ((c.in_ok-push.ensures {u = tt}).items)) (all_push Held c.args.films.now.items c.in_ok-film.film all film)
+    λ all. subst (All Held) (sym ((c.in_ok-push.ensures {u = tt}).items))
+    (all_push Held c.args.films.now.items c.in_ok-film.film all film)

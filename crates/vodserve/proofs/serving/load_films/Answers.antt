@@ -54,14 +54,19 @@ pub returns-clause-films : goal.returns-clause-films
 returns-clause-films g c =
     let ends : length c.args.words.now ≤ c.loop-word.word-index = c.loop-word-test.false in
     films_are c.loop-word.films.items (values_of (codes "film") (texts c.args.words.now)) c.requires
-    (c.loop-word.invariant.names ∙ ap (λ (ws : List _). names_of c.loop-word.films.items ++ values_of (codes "film") (texts ws)) (drop_all c.loop-word.word-index c.args.words.now ends)
+    (c.loop-word.invariant.names
+    ∙ ap (λ (ws : List _). names_of c.loop-word.films.items ++ values_of (codes "film") (texts ws))
+    (drop_all c.loop-word.word-index c.args.words.now ends)
     ∙ append-nil (names_of c.loop-word.films.items))
 
 pub returns-clause-loaded : goal.returns-clause-loaded
 returns-clause-loaded g c =
     let ends : length c.args.words.now ≤ c.loop-word.word-index = c.loop-word-test.false in
     record {
-      names_are = sym (c.loop-word.invariant.names ∙ ap (λ (ws : List _). names_of c.loop-word.films.items ++ values_of (codes "film") (texts ws)) (drop_all c.loop-word.word-index c.args.words.now ends)
+      names_are = sym
+          (c.loop-word.invariant.names
+          ∙ ap (λ (ws : List _). names_of c.loop-word.films.items ++ values_of (codes "film") (texts ws))
+          (drop_all c.loop-word.word-index c.args.words.now ends)
           ∙ append-nil (names_of c.loop-word.films.items));
       held = c.loop-word.invariant.held;
     }
@@ -75,9 +80,11 @@ loop-word-preserved g c =
       library = search rules;
       held = subst (λ (t : Option (List File)). All (IsHeld t) c.add_film.new.films.items) c.loop-word.invariant.library.kept
           ((c.in_ok-add_film.ensures {u = tt}).held
-          (subst (λ (t : Option (List File)). All (IsHeld t) c.loop-word.films.items) (sym c.loop-word.invariant.library.kept) c.loop-word.invariant.held));
+          (subst (λ (t : Option (List File)). All (IsHeld t) c.loop-word.films.items)
+          (sym c.loop-word.invariant.library.kept) c.loop-word.invariant.held));
       names = c.loop-word.invariant.names
-          ∙ ap (λ (vs : List (List ℕ)). so_far ++ vs) (values_rest key c.args.words.now c.loop-word.word-index c.word-item.result c.loop-word-test.true c.word-item.is)
+          ∙ ap (λ (vs : List (List ℕ)). so_far ++ vs)
+          (values_rest key c.args.words.now c.loop-word.word-index c.word-item.result c.loop-word-test.true c.word-item.is)
           ∙ ap (λ (w : List ℕ). so_far ++ (option_to_list (setting_value key w) ++ rest)) (sym c.as_str.ensures.value)
           ∙ sym (append_assoc so_far (option_to_list (setting_value key c.as_str.result.now)) rest)
           ∙ ap (λ (ns : List (List ℕ)). ns ++ rest) (sym ((c.in_ok-add_film.ensures {u = tt}).added));

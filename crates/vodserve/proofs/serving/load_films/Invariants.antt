@@ -8,7 +8,9 @@ use Rattle.vodserve.proofs.serving.load_films.Given as goal
 
 abbrev pub invariant-loop-word : goal.invariant-loop-word
 invariant-loop-word g l = record {
-  library : IsReadOnly (g.L.Library.files l.fn.library) (g.L.Library.files l.library) (g.L.Library.faults l.fn.library) (g.L.Library.faults l.library);
+  library : IsReadOnly (g.L.Library.files l.fn.library) (g.L.Library.files l.library)
+      (g.L.Library.faults l.fn.library) (g.L.Library.faults l.library);
   held : All (IsHeld (g.L.Library.files l.fn.library)) l.films.items;
-  names : values_of (codes "film") (texts l.words) ≡ names_of l.films.items ++ values_of (codes "film") (texts (drop l.word-index l.words));
+  names : values_of (codes "film") (texts l.words)
+      ≡ names_of l.films.items ++ values_of (codes "film") (texts (drop l.word-index l.words));
 }

@@ -17,7 +17,8 @@ returns-in_err-films-clause-trouble g c =
       faults = g.L.Library.faults c.args.library.now;
       faults_after = g.L.Library.faults c.load_films.new.library;
     })
-    (outlet (g.G.Gate.faults c.args.gate.now) (g.G.Gate.told c.args.gate.now)) c.in_err-films.field-0.0 ((c.in_err-films.ensures {u = tt}).trouble))
+    (outlet (g.G.Gate.faults c.args.gate.now) (g.G.Gate.told c.args.gate.now)) c.in_err-films.field-0.0
+    ((c.in_err-films.ensures {u = tt}).trouble))
 
 pub returns-then-is_err-clause-trouble : goal.returns-then-is_err-clause-trouble
 returns-then-is_err-clause-trouble g c =
@@ -25,13 +26,16 @@ returns-then-is_err-clause-trouble g c =
       search rules,
       only_opened c.in_ok-films.films.items ((c.in_ok-films.ensures {u = tt}).loaded)
           (opened_once None (g.G.Gate.told c.args.gate.now) (g.G.Gate.told c.open.new.self) lost)
-          (opened_few c.args.serving.now.listening.workers None (g.G.Gate.told c.args.gate.now) (g.G.Gate.told c.open.new.self) lost
+          (opened_few c.args.serving.now.listening.workers None (g.G.Gate.told c.args.gate.now)
+          (g.G.Gate.told c.open.new.self) lost
           c.requires.listening.some_workers),
     )
 
 pub returns-in-Err-clause-trouble : goal.returns-in-Err-clause-trouble
 returns-in-Err-clause-trouble g c =
-    let opens : g.G.Gate.told c.open.new.self ≡ option_map (after_open (Some (opening_of (serving_of c.args.serving.now)))) (g.G.Gate.told c.args.gate.now) = search rules in
+    let opens : g.G.Gate.told c.open.new.self
+    ≡ option_map (after_open (Some (opening_of (serving_of c.args.serving.now))))
+    (g.G.Gate.told c.args.gate.now) = search rules in
     inr (only_opened c.in_ok-films.films.items ((c.in_ok-films.ensures {u = tt}).loaded)
     (opened_once (Some (opening_of (serving_of c.args.serving.now))) (g.G.Gate.told c.args.gate.now)
     (g.G.Gate.told c.open.new.self) opens) (opened_few c.args.serving.now.listening.workers

@@ -15,7 +15,8 @@ make_workers-requires-clause-opened g c = (opening_of (serving_of c.args.serving
 
 pub run_workers-requires-clause-each : goal.run_workers-requires-clause-each
 run_workers-requires-clause-each g c κs within =
-    all_workers g.G.Gate.told g.G.Gate.faults c.args.prepared.station 0 c.make_workers.new.workers.items c.make_workers.ensures.workers
+    all_workers g.G.Gate.told g.G.Gate.faults c.args.prepared.station 0 c.make_workers.new.workers.items
+    c.make_workers.ensures.workers
 
 pub close-book-requires-clause-all : goal.close-book-requires-clause-all
 close-book-requires-clause-all g c =
@@ -24,7 +25,8 @@ close-book-requires-clause-all g c =
 
 pub returns-clause-since : goal.returns-clause-since
 returns-clause-since g c =
-    not_opened_on (g.G.Gate.told c.args.gate.now) (g.G.Gate.told c.make_workers.new.gate) (g.G.Gate.told c.join_workers-end.new.gate) c.make_workers.ensures.since
+    not_opened_on (g.G.Gate.told c.args.gate.now) (g.G.Gate.told c.make_workers.new.gate)
+    (g.G.Gate.told c.join_workers-end.new.gate) c.make_workers.ensures.since
     c.join_workers-end.ensures.since
 
 pub returns-in-Err-clause-few : goal.returns-in-Err-clause-few
@@ -36,7 +38,13 @@ pub returns-clause-closed : goal.returns-clause-closed
 returns-clause-closed g c =
     closed_journal
     c.join_workers-end.ensures.joined c.close-book.ensures.whole c.requires.steps
-    (omega (arith, c.entries-within.ensures.within, c.close-book.ensures.limit, c.join_workers-end.ensures.joined.limit, c.requires.limit))
+    (omega (
+      arith,
+      c.entries-within.ensures.within,
+      c.close-book.ensures.limit,
+      c.join_workers-end.ensures.joined.limit,
+      c.requires.limit,
+    ))
     (c.run_workers.ensures.count ∙ (c.in-Ok.ensures {u = tt}).made)
 
 pub returns-clause-worked : goal.returns-clause-worked

@@ -7,8 +7,10 @@ returns-clause-line c = served-told
 
 pub returns-clause-connections : goal.returns-clause-connections
 returns-clause-connections c = λ entries entries' connections connections' few few' short short' same.
-    (counts_told (record { connections_fit = few; entries_fit = short }) (record { connections_fit = few'; entries_fit = short' }) same).0
+    (counts_told (record { connections_fit = few; entries_fit = short })
+    (record { connections_fit = few'; entries_fit = short' }) same).0
 
 pub returns-clause-entries : goal.returns-clause-entries
 returns-clause-entries c = λ entries entries' connections connections' few few' short short' same.
-    (counts_told (record { connections_fit = few; entries_fit = short }) (record { connections_fit = few'; entries_fit = short' }) same).1
+    (counts_told (record { connections_fit = few; entries_fit = short })
+    (record { connections_fit = few'; entries_fit = short' }) same).1

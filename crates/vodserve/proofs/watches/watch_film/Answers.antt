@@ -8,11 +8,14 @@ pub returns-in-Ok-Some-clause-watches : goal.returns-in-Ok-Some-clause-watches
 returns-in-Ok-Some-clause-watches g c = inr (record {
   wish = c.in-Ok.wish;
   wish_is = (c.in-Ok.ensures {u = tt}).words;
-  open_as = opened_for (watching_of c.args.watching.now) c.in-Ok.wish (g.G.Gate.told c.watch_gate.new.gate) ((c.in-Ok.ensures {u = tt}).words) ((c.in-Ok-Some.ensures {u = tt}).opened);
+  open_as = opened_for (watching_of c.args.watching.now) c.in-Ok.wish (g.G.Gate.told c.watch_gate.new.gate)
+      ((c.in-Ok.ensures {u = tt}).words) ((c.in-Ok-Some.ensures {u = tt}).opened);
   once = c.watch_gate.ensures.once;
   end = c.in-Ok-Some.end;
-  heard = subst (Hears c.in-Ok.wish (g.G.Gate.told c.watch_gate.new.gate) (g.O.Sink.faults c.args.out.now) (g.O.Sink.faults c.watch_gate.new.out)
-      (g.O.Sink.written c.args.out.now) (g.O.Sink.written c.watch_gate.new.out)) c.in-Ok-Some.field-0-is ((c.in-Ok-Some.ensures {u = tt}).heard);
+  heard = subst (Hears c.in-Ok.wish (g.G.Gate.told c.watch_gate.new.gate) (g.O.Sink.faults c.args.out.now)
+      (g.O.Sink.faults c.watch_gate.new.out)
+      (g.O.Sink.written c.args.out.now) (g.O.Sink.written c.watch_gate.new.out)) c.in-Ok-Some.field-0-is
+      ((c.in-Ok-Some.ensures {u = tt}).heard);
   nothing = c.end_watch.ensures.nothing;
   ends = c.end_watch.ensures.ends;
 })

@@ -54,32 +54,43 @@ loop-workers-preserved g c =
     let first : (worker.number ≡ length done) × IsWorker g.G.Gate.told g.G.Gate.faults c.args.station.now worker =
     first_worker rest inv.rest some c.remove-other.ensures.value in
     let one_more : length done + 1 ≡ length (done ++ worker ∷ []) = sym (length-append done (worker ∷ [])) in
-    let inside : length done < length c.args.workers.items = omega (arith, ap length inv.whole, length-append done rest, some) in (
+    let inside : length done < length c.args.workers.items =
+    omega (arith, ap length inv.whole, length-append done rest, some) in (
       done ++ worker ∷ [],
       record {
-        whole = subst (λ (ws : List (Worker _)). c.args.workers.items ≡ (done ++ worker ∷ []) ++ ws) (sym c.remove-other.ensures.items)
-            (one_done c.args.workers.items done rest worker inv.whole (first_split rest worker some c.remove-other.ensures.value));
-        rest = subst (λ (ws : List (Worker _)). AreWorkers g.G.Gate.told g.G.Gate.faults c.args.station.now (length (done ++ worker ∷ [])) ws) (sym c.remove-other.ensures.items)
+        whole = subst (λ (ws : List (Worker _)). c.args.workers.items ≡ (done ++ worker ∷ []) ++ ws)
+            (sym c.remove-other.ensures.items)
+            (one_done c.args.workers.items done rest worker inv.whole
+            (first_split rest worker some c.remove-other.ensures.value));
+        rest = subst (λ (ws : List (Worker _)). AreWorkers g.G.Gate.told g.G.Gate.faults c.args.station.now
+            (length (done ++ worker ∷ [])) ws) (sym c.remove-other.ensures.items)
             (subst (λ (n : ℕ). AreWorkers g.G.Gate.told g.G.Gate.faults c.args.station.now n (remove rest 0)) one_more
-            (rest_workers (record { told = g.G.Gate.told; faults = g.G.Gate.faults; hall = c.args.station.now }) (length done) rest inv.rest some));
+            (rest_workers (record { told = g.G.Gate.told; faults = g.G.Gate.faults; hall = c.args.station.now })
+            (length done) rest inv.rest some));
         joined = join_one inv.joined first.1 first.0 inside (record {
           seated = c.join.ensures.same;
           rejoins = c.rejoin.ensures.joined;
           longer = c.join.ensures.longer;
           seen = c.join.ensures.told;
         });
-        left = subst (λ (ps : List PartReport). AreLeft ps c.add_reports-end.result c.add_reports-end.new.reports.items) (sym (map-append report_of done (worker ∷ [])))
+        left = subst (λ (ps : List PartReport). AreLeft ps c.add_reports-end.result
+            c.add_reports-end.new.reports.items) (sym (map-append report_of done (worker ∷ [])))
             (c.add_reports-end.ensures.left (map report_of done) inv.left);
-        opened = λ opening is. back_still_open opening (g.G.Gate.told worker.part) (g.G.Gate.told c.loop-workers.gate) (g.G.Gate.told c.rejoin.new.self) (inv.opened opening is)
+        opened = λ opening is. back_still_open opening (g.G.Gate.told worker.part)
+            (g.G.Gate.told c.loop-workers.gate) (g.G.Gate.told c.rejoin.new.self) (inv.opened opening is)
             c.rejoin.ensures.joined;
-        since = not_opened_back (g.G.Gate.told c.args.gate.now) (g.G.Gate.told worker.part) (g.G.Gate.told c.loop-workers.gate) (g.G.Gate.told c.rejoin.new.self) inv.since
+        since = not_opened_back (g.G.Gate.told c.args.gate.now) (g.G.Gate.told worker.part)
+            (g.G.Gate.told c.loop-workers.gate) (g.G.Gate.told c.rejoin.new.self) inv.since
             c.rejoin.ensures.joined;
         count = omega (arith, c.rejoin.ensures.count, inv.count);
         counted = all_push
-            (λ (w : Worker _). 0 < g.G.Gate.faults w.part → HasRisen (g.G.Gate.faults c.args.gate.now) (g.G.Gate.faults c.rejoin.new.self)) done worker
-            (λ i d h some. risen_on (g.G.Gate.faults c.args.gate.now) (g.G.Gate.faults c.loop-workers.gate) (g.G.Gate.faults c.rejoin.new.self)
+            (λ (w : Worker _). 0 < g.G.Gate.faults w.part
+            → HasRisen (g.G.Gate.faults c.args.gate.now) (g.G.Gate.faults c.rejoin.new.self)) done worker
+            (λ i d h some. risen_on (g.G.Gate.faults c.args.gate.now) (g.G.Gate.faults c.loop-workers.gate)
+            (g.G.Gate.faults c.rejoin.new.self)
             (inv.counted i d h some) c.rejoin.ensures.count)
-            (λ some. risen_since (g.G.Gate.faults c.args.gate.now) (g.G.Gate.faults c.loop-workers.gate) (g.G.Gate.faults c.rejoin.new.self)
+            (λ some. risen_since (g.G.Gate.faults c.args.gate.now) (g.G.Gate.faults c.loop-workers.gate)
+            (g.G.Gate.faults c.rejoin.new.self)
             (c.rejoin.ensures.risen some) inv.count);
       },
     )
@@ -93,7 +104,8 @@ pub returns-clause-joined : goal.returns-clause-joined
 returns-clause-joined g c =
     let inv = c.loop-workers.invariant.1 in
     let none : length c.loop-workers.workers.items ≡ 0 = search rules in
-    subst (λ (ws : List (Worker _)). AreJoined g.G.Gate.told c.args.station.now (length c.args.workers.items) ws c.loop-workers.seat (g.G.Gate.told c.loop-workers.gate))
+    subst (λ (ws : List (Worker _)). AreJoined g.G.Gate.told c.args.station.now (length c.args.workers.items) ws
+    c.loop-workers.seat (g.G.Gate.told c.loop-workers.gate))
     (all_done c.args.workers.items c.loop-workers.invariant.0 c.loop-workers.workers.items inv.whole none) inv.joined
 
 pub returns-clause-left : goal.returns-clause-left
@@ -107,5 +119,6 @@ pub returns-clause-counted : goal.returns-clause-counted
 returns-clause-counted g c =
     let inv = c.loop-workers.invariant.1 in
     let none : length c.loop-workers.workers.items ≡ 0 = search rules in
-    subst (All (λ worker. 0 < g.G.Gate.faults worker.part → HasRisen (g.G.Gate.faults c.args.gate.now) (g.G.Gate.faults c.loop-workers.gate)))
+    subst (All (λ worker. 0 < g.G.Gate.faults worker.part
+    → HasRisen (g.G.Gate.faults c.args.gate.now) (g.G.Gate.faults c.loop-workers.gate)))
     (all_done c.args.workers.items c.loop-workers.invariant.0 c.loop-workers.workers.items inv.whole none) inv.counted

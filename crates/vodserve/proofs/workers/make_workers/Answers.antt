@@ -19,12 +19,17 @@ loop-number-preserved g c =
     let items : c.push_reserved.new.self.items ≡ c.loop-number.workers.items ++ worker ∷ [] =
     c.push_reserved.ensures.items ∙ ap (λ (ws : List (Worker _)). ws ++ worker ∷ []) c.reserve.ensures.items in
     let is : IsWorker g.G.Gate.told g.G.Gate.faults c.args.station.now worker = record {
-      id = ap (λ (s : Sitting). s.id) c.split-in-loop-number.ensures.new ∙ ap (λ (s : Sitting). s.id) c.loop-number.invariant.seat;
-      steps = ap (λ (s : Sitting). s.steps) c.split-in-loop-number.ensures.new ∙ ap (λ (s : Sitting). s.steps) c.loop-number.invariant.seat;
-      limit = ap (λ (s : Sitting). s.limit) c.split-in-loop-number.ensures.new ∙ ap (λ (s : Sitting). s.limit) c.loop-number.invariant.seat;
-      seat = ap (λ (s : Sitting). s.number) c.split-in-loop-number.ensures.new ∙ ap (λ (s : Sitting). s.splits + 1) c.loop-number.invariant.seat;
+      id = ap (λ (s : Sitting). s.id) c.split-in-loop-number.ensures.new
+          ∙ ap (λ (s : Sitting). s.id) c.loop-number.invariant.seat;
+      steps = ap (λ (s : Sitting). s.steps) c.split-in-loop-number.ensures.new
+          ∙ ap (λ (s : Sitting). s.steps) c.loop-number.invariant.seat;
+      limit = ap (λ (s : Sitting). s.limit) c.split-in-loop-number.ensures.new
+          ∙ ap (λ (s : Sitting). s.limit) c.loop-number.invariant.seat;
+      seat = ap (λ (s : Sitting). s.number) c.split-in-loop-number.ensures.new
+          ∙ ap (λ (s : Sitting). s.splits + 1) c.loop-number.invariant.seat;
       joined = ap (λ (s : Sitting). s.joined) c.split-in-loop-number.ensures.new;
-      part = new_number c.loop-number.number (g.G.Gate.told c.loop-number.gate) (g.G.Gate.told c.in-Ok.part) c.loop-number.invariant.parts
+      part = new_number c.loop-number.number (g.G.Gate.told c.loop-number.gate) (g.G.Gate.told c.in-Ok.part)
+          c.loop-number.invariant.parts
           (((c.in-Ok.ensures {u = tt}).part).0);
       fault = λ e. cc;
     } in
@@ -34,19 +39,29 @@ loop-number-preserved g c =
       count = ((c.in-Ok.ensures {u = tt}).part).1;
     } in
     record {
-      made = omega (arith, ap length items, length-append c.loop-number.workers.items (worker ∷ []), c.loop-number.invariant.made);
+      made = omega (
+        arith,
+        ap length items,
+        length-append c.loop-number.workers.items (worker ∷ []),
+        c.loop-number.invariant.made,
+      );
       seat = c.split-in-loop-number.ensures.same ∙ ap after_split c.loop-number.invariant.seat;
       workers = subst (AreWorkers g.G.Gate.told g.G.Gate.faults c.args.station.now 0) (sym items)
           (workers_push 0 c.loop-number.workers.items c.loop-number.invariant.workers
           (omega (arith, c.loop-number.invariant.made)) is);
       fresh = subst (All (IsFresh g.G.Gate.told g.G.Gate.faults)) (sym items)
-          (all_push (IsFresh g.G.Gate.told g.G.Gate.faults) c.loop-number.workers.items worker c.loop-number.invariant.fresh fresh);
-      opened = split_open (g.G.Gate.told c.loop-number.gate) (g.G.Gate.told c.split.new.self) c.loop-number.invariant.opened ((c.in-Ok.ensures {u = tt}).split);
+          (all_push (IsFresh g.G.Gate.told g.G.Gate.faults) c.loop-number.workers.items worker
+          c.loop-number.invariant.fresh fresh);
+      opened = split_open (g.G.Gate.told c.loop-number.gate) (g.G.Gate.told c.split.new.self)
+          c.loop-number.invariant.opened ((c.in-Ok.ensures {u = tt}).split);
       kept = λ opening is.
-          split_still_open opening (g.G.Gate.told c.loop-number.gate) (g.G.Gate.told c.split.new.self) (c.loop-number.invariant.kept opening is) ((c.in-Ok.ensures {u = tt}).split);
-      since = not_opened_split (g.G.Gate.told c.args.gate.now) (g.G.Gate.told c.loop-number.gate) (g.G.Gate.told c.split.new.self) c.loop-number.invariant.since
+          split_still_open opening (g.G.Gate.told c.loop-number.gate) (g.G.Gate.told c.split.new.self)
+          (c.loop-number.invariant.kept opening is) ((c.in-Ok.ensures {u = tt}).split);
+      since = not_opened_split (g.G.Gate.told c.args.gate.now) (g.G.Gate.told c.loop-number.gate)
+          (g.G.Gate.told c.split.new.self) c.loop-number.invariant.since
           ((c.in-Ok.ensures {u = tt}).split);
-      parts = told_out_more c.loop-number.number (g.G.Gate.told c.loop-number.gate) (g.G.Gate.told c.split.new.self) c.loop-number.invariant.parts
+      parts = told_out_more c.loop-number.number (g.G.Gate.told c.loop-number.gate)
+          (g.G.Gate.told c.split.new.self) c.loop-number.invariant.parts
           ((c.in-Ok.ensures {u = tt}).split);
       count = omega (arith, c.split.ensures.count, c.loop-number.invariant.count);
     }

@@ -9,10 +9,12 @@ use Rattle.vodserve.proofs.workers.run_workers.Goals as goal
 
 pub returns-clause-workers : goal.returns-clause-workers
 returns-clause-workers g c =
-    let value : length c.as_mut_slice.result.now ≡ length c.args.workers.now.items = ap (λ (ws : List (Worker _)). length ws) c.as_mut_slice.ensures.value in
+    let value : length c.as_mut_slice.result.now ≡ length c.args.workers.now.items =
+    ap (λ (ws : List (Worker _)). length ws) c.as_mut_slice.ensures.value in
     let long : length c.for_each_mut.new.s ≡ length c.args.workers.now.items = omega (arith, c.for_each_mut.auto.s, value) in
     subst (AreWorkers g.G.Gate.told g.G.Gate.faults c.args.service.station.now 0)
-    (sym (take_at c.for_each_mut.new.s (drop (length c.for_each_mut.new.s) c.args.workers.now.items) c.args.workers.now.len (omega (arith, long, c.args.workers.now.ok))))
+    (sym (take_at c.for_each_mut.new.s (drop (length c.for_each_mut.new.s) c.args.workers.now.items)
+    c.args.workers.now.len (omega (arith, long, c.args.workers.now.ok))))
     (same_workers 0 c.args.workers.now.items c.for_each_mut.new.s c.requires.workers
     (record {
       long = long;
@@ -25,10 +27,12 @@ returns-clause-workers g c =
 
 pub returns-clause-finished : goal.returns-clause-finished
 returns-clause-finished g c =
-    let value : length c.as_mut_slice.result.now ≡ length c.args.workers.now.items = ap (λ (ws : List (Worker _)). length ws) c.as_mut_slice.ensures.value in
+    let value : length c.as_mut_slice.result.now ≡ length c.args.workers.now.items =
+    ap (λ (ws : List (Worker _)). length ws) c.as_mut_slice.ensures.value in
     let long : length c.for_each_mut.new.s ≡ length c.args.workers.now.items = omega (arith, c.for_each_mut.auto.s, value) in
     let Ends : Worker _ → Type 0 =
     HasFinished g.G.Gate.told g.G.Gate.faults c.args.service.films.now c.args.service.settings.now c.args.service.seed in
     subst (All Ends)
-    (sym (take_at c.for_each_mut.new.s (drop (length c.for_each_mut.new.s) c.args.workers.now.items) c.args.workers.now.len (omega (arith, long, c.args.workers.now.ok))))
+    (sym (take_at c.for_each_mut.new.s (drop (length c.for_each_mut.new.s) c.args.workers.now.items)
+    c.args.workers.now.len (omega (arith, long, c.args.workers.now.ok))))
     (λ i d h. let k = (c.for_each_mut.ensures i d (omega (arith, h, long, value))).1 in subst Ends k.left k.call.2)

@@ -12,7 +12,8 @@ returns-clause-worker g c =
       limit = served.seat.limit ∙ c.requires.worker.limit;
       seat = served.seat.number ∙ c.requires.worker.seat;
       joined = served.seat.joined ∙ c.requires.worker.joined;
-      part = served_number (g.G.Gate.told c.args.worker.now.part) (g.G.Gate.told c.serve_part.new.part) (length c.serve_part.result.reports.items) c.args.worker.now.number
+      part = served_number (g.G.Gate.told c.args.worker.now.part) (g.G.Gate.told c.serve_part.new.part)
+          (length c.serve_part.result.reports.items) c.args.worker.now.number
           served.served c.requires.worker.part;
       fault = λ e. risen_some (g.G.Gate.faults c.args.worker.now.part) (g.G.Gate.faults c.serve_part.new.part) (served.fault e);
     }
@@ -22,8 +23,11 @@ returns-clause-finished g c = record {
   seat = c.args.worker.now.seat;
   part = g.G.Gate.told c.args.worker.now.part;
   served = subst (λ (n : ℕ).
-      HasServedPart (duty c.args.service.films.now c.args.service.settings.now c.args.service.seed c.args.worker.now.number) c.args.worker.now.seat c.serve_part.new.seat
-      (outlet n (g.G.Gate.told c.args.worker.now.part)) (outlet (g.G.Gate.faults c.serve_part.new.part) (g.G.Gate.told c.serve_part.new.part)) c.serve_part.result)
+      HasServedPart
+      (duty c.args.service.films.now c.args.service.settings.now c.args.service.seed
+      c.args.worker.now.number) c.args.worker.now.seat c.serve_part.new.seat
+      (outlet n (g.G.Gate.told c.args.worker.now.part))
+      (outlet (g.G.Gate.faults c.serve_part.new.part) (g.G.Gate.told c.serve_part.new.part)) c.serve_part.result)
       c.requires.fresh.count c.serve_part.ensures.part;
   number = c.requires.worker.seat;
   mine = c.requires.fresh.mine;

@@ -6,7 +6,8 @@ use Rattle.wire_curve.proofs.film.film_curves.Goals as goal
 
 pub curves_of_uses-requires-clause-total : goal.curves_of_uses-requires-clause-total
 curves_of_uses-requires-clause-total c =
-    let all = sum_of_uses c.args.sizes.now c.args.timing.now c.in_ok-uses.uses.in_slot.items c.requires (omega arith) c.in_ok-uses.ensures.in_slot in
+    let all = sum_of_uses c.args.sizes.now c.args.timing.now c.in_ok-uses.uses.in_slot.items c.requires
+    (omega arith) c.in_ok-uses.ensures.in_slot in
     omega (arith, all, c.requires.total_fits)
 
 pub returns-clause-curves : goal.returns-clause-curves

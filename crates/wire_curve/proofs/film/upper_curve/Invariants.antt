@@ -6,5 +6,6 @@ abbrev pub invariant-loop-in_slot : goal.invariant-loop-in_slot
 invariant-loop-in_slot l = record {
   used : l.used ≡ used_by l.timing l.uses.in_slot.items l.in_slot-index;
   slots : length l.up.items ≡ l.in_slot-index;
-  each : (t : ℕ) → t < l.in_slot-index → slice_index l.up.items t ≡ min l.uses.total (used_by l.timing l.uses.in_slot.items t + l.timing.buffer);
+  each : (t : ℕ) → t < l.in_slot-index
+      → slice_index l.up.items t ≡ min l.uses.total (used_by l.timing l.uses.in_slot.items t + l.timing.buffer);
 }

@@ -21,8 +21,15 @@ note-requires c =
     let book = c.self.inside in
     let C : Journal → Type 0 = λ j. CanHalt (state_after j.entries) c.args.number c.args.keep in
     let can : CanHalt (state_after book.entries.items) c.args.number c.args.keep = subst C (sym c.self.view_is) c.requires in
-    let items : length book.entries.items ≡ vec_len book.entries = sym (ap length c.as_slice.ensures.value) ∙ c.as_slice.ensures.len in
-    omega (arith, open-halted (state_after book.entries.items) 0 c.args.number c.args.keep can, c.self.invariant.within, c.self.invariant.reserved, items)
+    let items : length book.entries.items ≡ vec_len book.entries =
+    sym (ap length c.as_slice.ensures.value) ∙ c.as_slice.ensures.len in
+    omega (
+      arith,
+      open-halted (state_after book.entries.items) 0 c.args.number c.args.keep can,
+      c.self.invariant.within,
+      c.self.invariant.reserved,
+      items,
+    )
 
 pub invariant_of-self : goal.invariant_of-self
 invariant_of-self c =
@@ -31,7 +38,9 @@ invariant_of-self c =
     let C : Journal → Type 0 = λ j. CanHalt (state_after j.entries) c.args.number c.args.keep in
     let can : CanHalt state c.args.number c.args.keep = subst C (sym c.self.view_is) c.requires in
     let fewer = open-halted state (length book.entries.items) c.args.number c.args.keep can in
-    let F : List Entry → Type 0 = λ l. Follows c.give_back.new.calendar (next_state (state_after l) (length book.entries.items) (Halt c.args.number c.args.keep) Halted) in
+    let F : List Entry → Type 0 =
+    λ l. Follows c.give_back.new.calendar
+    (next_state (state_after l) (length book.entries.items) (Halt c.args.number c.args.keep) Halted) in
     kept-push c.self.invariant (record {
       entries_are = c.note.ensures.items;
       answered = can;
@@ -47,7 +56,8 @@ returns-clause-noted c =
     let book = c.self.inside in
     let C : Journal → Type 0 = λ j. CanHalt (state_after j.entries) c.args.number c.args.keep in
     let can : CanHalt (state_after book.entries.items) c.args.number c.args.keep = subst C (sym c.self.view_is) c.requires in
-    let new : Journal = record { steps = c.give_back.new.calendar.steps; limit = book.limit; entries = c.note.new.entries.items } in
+    let new : Journal =
+    record { steps = c.give_back.new.calendar.steps; limit = book.limit; entries = c.note.new.entries.items } in
     let P : Journal → Type 0 = λ j. IsNoted j c.args.maker (Halt c.args.number c.args.keep) c.note.result new in
     subst P c.self.view_is (noted-push book.limit
     c.self.invariant.legal can

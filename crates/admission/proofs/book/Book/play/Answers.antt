@@ -16,8 +16,10 @@ pub invariant_of-self : goal.invariant_of-self
 invariant_of-self c =
     let book = c.self.inside in
     let state = state_after book.entries.items in
-    let entries : length book.entries.items ≡ length c.args.self.now.entries = ap (λ (j : Journal). length j.entries) c.self.view_is in
-    let count : open_count book.entries.items ≡ open_count c.args.self.now.entries = ap (λ (j : Journal). open_count j.entries) c.self.view_is in
+    let entries : length book.entries.items ≡ length c.args.self.now.entries =
+    ap (λ (j : Journal). length j.entries) c.self.view_is in
+    let count : open_count book.entries.items ≡ open_count c.args.self.now.entries =
+    ap (λ (j : Journal). open_count j.entries) c.self.view_is in
     let within = (sound-after book.calendar.steps book.entries.items c.self.invariant.legal).within in
     let answer = c.admit-answer.ensures.answer state c.self.invariant.follows within in
     let machine : Machine = record { steps = book.calendar.steps; state = state } in
@@ -48,7 +50,8 @@ returns-clause-noted c =
     let state = state_after book.entries.items in
     let within = (sound-after book.calendar.steps book.entries.items c.self.invariant.legal).within in
     let answer = c.admit-answer.ensures.answer state c.self.invariant.follows within in
-    let new : Journal = record { steps = c.admit-answer.new.calendar.steps; limit = book.limit; entries = c.note.new.entries.items } in
+    let new : Journal =
+    record { steps = c.admit-answer.new.calendar.steps; limit = book.limit; entries = c.note.new.entries.items } in
     let P : Journal → Type 0 = λ j. IsNoted j c.args.maker (Play c.min-slot.result c.args.plan) c.note.result new in
     let S : ℕ → Type 0 = λ n. IsNoted c.args.self.now c.args.maker (Play n c.args.plan) c.note.result new in
     subst S c.min-slot.ensures
@@ -62,7 +65,8 @@ returns-clause-open c = λ start keep told small.
     let xs = c.self.inside.entries.items in
     let answer : c.admit-answer.result ≡ Admitted start = sym c.note.ensures.answer ∙ told in
     let E : Answer → Entry = λ a. record { maker = c.args.maker; command = Play c.min-slot.result c.args.plan; answer = a } in
-    let items : c.note.new.entries.items ≡ xs ++ E (Admitted start) ∷ [] = c.note.ensures.items ∙ ap (λ a. xs ++ E a ∷ []) answer in
+    let items : c.note.new.entries.items ≡ xs ++ E (Admitted start) ∷ [] =
+    c.note.ensures.items ∙ ap (λ a. xs ++ E a ∷ []) answer in
     let C : List Entry → Type 0 = λ l. CanHalt (state_after l) (length xs) keep in
     let N : ℕ → Type 0 = λ n. CanHalt (state_after c.note.new.entries.items) n keep in
     subst N (sym c.note.ensures.place) (subst C (sym items) (opened-last c.args.maker c.min-slot.result start c.args.plan

@@ -8,7 +8,8 @@ use Rattle.conn.proofs.connections.Connection.halt.Goals as goal
 
 pub release-booking-requires : goal.release-booking-requires
 release-booking-requires g c =
-    held_some c.args.seat.now.mine c.args.self.now.booking (open_of c.args.self.now.session) c.args.keep c.requires.held c.requires.keep
+    held_some c.args.seat.now.mine c.args.self.now.booking (open_of c.args.self.now.session) c.args.keep
+    c.requires.held c.requires.keep
 
 pub returns-clause-kept : goal.returns-clause-kept
 returns-clause-kept g c = record {

@@ -20,12 +20,14 @@ returns-then-is_err-clause-comes g c =
     let many : 131072 < length c.args.self.now.input + length bytes = search rules in
     let same : c.put.new.self ≡ c.args.self.now.input = search rules in
     let within : c.in-Bytes.count ≤ length c.args.bytes.now = search rules in
-    let short : length bytes ≤ 16384 = omega (arith, length-take-le c.in-Bytes.count c.args.bytes.now within, within, c.requires.few) in
+    let short : length bytes ≤ 16384 =
+    omega (arith, length-take-le c.in-Bytes.count c.args.bytes.now within, within, c.requires.few) in
     let here : Sight = sight c.args.self.now (g.K.Link.told c.args.link.now) c.args.seat.now in
     subst (λ (h : Heard). HasComeTo (Some TooMuchInput) (doing_of h c.args.bytes.now) here
     (sight (record { session = c.args.self.now.session; input = c.put.new.self; booking = c.args.self.now.booking })
     (g.K.Link.told c.args.link.now) c.args.seat.now)) (sym c.in-Bytes.is)
-    (overfull bytes here (sight (record { session = c.args.self.now.session; input = c.put.new.self; booking = c.args.self.now.booking })
+    (overfull bytes here
+    (sight (record { session = c.args.self.now.session; input = c.put.new.self; booking = c.args.self.now.booking })
     (g.K.Link.told c.args.link.now) c.args.seat.now) many
     (waits_for_room c.args.self.now (length bytes) c.law_few_wait.ensures short many c.requires.waiting)
     (ap (λ (i : List ℕ). record {
@@ -48,7 +50,8 @@ returns-else-is_err-clause-comes g c =
     let few : length c.args.self.now.input + length bytes ≤ 131072 = search rules in
     let input : c.put.new.self ≡ c.args.self.now.input ++ bytes = search rules in
     let here : Sight = sight c.args.self.now (g.K.Link.told c.args.link.now) c.args.seat.now in
-    let mid : Sight = sight (record { session = c.args.self.now.session; input = c.put.new.self; booking = c.args.self.now.booking })
+    let mid : Sight =
+    sight (record { session = c.args.self.now.session; input = c.put.new.self; booking = c.args.self.now.booking })
     (g.K.Link.told c.args.link.now) c.args.seat.now in
     let after : Sight = sight c.take_up.new.self (g.K.Link.told c.take_up.new.link) c.take_up.new.seat in
     subst (λ (h : Heard). HasComeTo c.take_up.result (doing_of h c.args.bytes.now) here after) (sym c.in-Bytes.is)
@@ -76,7 +79,8 @@ returns-then-is_err-clause-kept g c = kept_moved c.args.seat.now c.args.self.now
 
 pub returns-else-is_err-clause-kept : goal.returns-else-is_err-clause-kept
 returns-else-is_err-clause-kept g c =
-    kept_after {a = c.args.self.now} {mid = record { session = c.args.self.now.session; input = c.put.new.self; booking = c.args.self.now.booking }}
+    kept_after {a = c.args.self.now}
+    {mid = record { session = c.args.self.now.session; input = c.put.new.self; booking = c.args.self.now.booking }}
     refl refl c.take_up.ensures.kept
 
 pub returns-then-is_err-2-clause-kept : goal.returns-then-is_err-2-clause-kept
@@ -92,7 +96,8 @@ returns-then-is_err-2-clause-cut g c =
 
 pub returns-else-is_err-2-clause-cut : goal.returns-else-is_err-2-clause-cut
 returns-else-is_err-2-clause-cut g c =
-    subst (λ (h : Heard). CutsOn (with_heard c.args.self.now.input h c.args.bytes.now) c.take_up-in-Slot.new.self.input) (sym c.in-Slot.is)
+    subst (λ (h : Heard). CutsOn (with_heard c.args.self.now.input h c.args.bytes.now)
+    c.take_up-in-Slot.new.self.input) (sym c.in-Slot.is)
     (subst (λ (i : List ℕ). CutsOn i c.take_up-in-Slot.new.self.input) c.step.ensures.input c.take_up-in-Slot.ensures.cut)
 
 pub returns-then-is_err-2-clause-taken : goal.returns-then-is_err-2-clause-taken
@@ -101,7 +106,8 @@ returns-then-is_err-2-clause-taken g c =
 
 pub returns-else-is_err-2-clause-taken : goal.returns-else-is_err-2-clause-taken
 returns-else-is_err-2-clause-taken g c =
-    subst (λ (h : Heard). HasTakenEvent h (length c.args.self.now.input) c.take_up-in-Slot.result c.take_up-in-Slot.new.self) (sym c.in-Slot.is)
+    subst (λ (h : Heard). HasTakenEvent h (length c.args.self.now.input) c.take_up-in-Slot.result
+    c.take_up-in-Slot.new.self) (sym c.in-Slot.is)
     c.take_up-in-Slot.ensures.taken
 
 pub returns-else-is_err-clause-counted : goal.returns-else-is_err-clause-counted
@@ -109,5 +115,6 @@ returns-else-is_err-clause-counted g c = c.take_up.ensures.counted
 
 pub returns-else-is_err-2-clause-counted : goal.returns-else-is_err-2-clause-counted
 returns-else-is_err-2-clause-counted g c =
-    counted_on c.take_up-in-Slot.result (g.K.Link.faults c.args.link.now) (g.K.Link.faults c.step.new.link) (g.K.Link.faults c.take_up-in-Slot.new.link)
+    counted_on c.take_up-in-Slot.result (g.K.Link.faults c.args.link.now) (g.K.Link.faults c.step.new.link)
+    (g.K.Link.faults c.take_up-in-Slot.new.link)
     c.step.ensures.count c.take_up-in-Slot.ensures.counted

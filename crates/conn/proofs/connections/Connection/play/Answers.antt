@@ -43,7 +43,8 @@ returns-in-Ok-clause-answered g c =
       same = c.play.ensures.same;
       held = c.requires.held;
       closed = c.requires.closed;
-    }) (subst (λ heard. Made c.args.seat.now c.play.new.seat 2 (play_of heard c.args.plan) c.in-Ok.booking.number (Admitted c.in-Ok.booking.start))
+    }) (subst (λ heard. Made c.args.seat.now c.play.new.seat 2 (play_of heard c.args.plan)
+    c.in-Ok.booking.number (Admitted c.in-Ok.booking.start))
     c.heard_slot.ensures.slot c.in-Ok.ensures.made) (record {
       later = search rules;
       exact = c.hear_admission.ensures.exact;

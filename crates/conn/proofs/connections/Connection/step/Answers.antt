@@ -30,25 +30,37 @@ returns-in_err-slot-clause-kept g c =
 pub returns-in-Going-clause-kept : goal.returns-in-Going-clause-kept
 returns-in-Going-clause-kept g c =
     kept_due {b = record { session = c.slot.new.self; input = c.args.self.now.input; booking = c.args.self.now.booking }}
-    c.args.seat.now c.requires.quiet (subst (λ s. Brings s c.slot.new.self) c.in-Going.is c.in_ok-slot.ensures.brings) refl c.slot.ensures.open c.slot.ensures.receipts
+    c.args.seat.now c.requires.quiet
+    (subst (λ s. Brings s c.slot.new.self) c.in-Going.is c.in_ok-slot.ensures.brings) refl
+    c.slot.ensures.open c.slot.ensures.receipts
 
 pub returns-in-Finished-clause-kept : goal.returns-in-Finished-clause-kept
 returns-in-Finished-clause-kept g c =
-    kept_after {a = c.args.self.now} {mid = record { session = c.slot.new.self; input = c.args.self.now.input; booking = c.args.self.now.booking }}
+    kept_after {a = c.args.self.now}
+    {mid = record { session = c.slot.new.self; input = c.args.self.now.input; booking = c.args.self.now.booking }}
     refl c.slot.ensures.receipts c.halt.ensures.kept
 
 pub returns-in-Going-clause-passed : goal.returns-in-Going-clause-passed
 returns-in-Going-clause-passed g c =
     passed_going {a = sight c.args.self.now (g.K.Link.told c.args.link.now) c.args.seat.now}
-    {b = sight (record { session = c.slot.new.self; input = c.args.self.now.input; booking = c.args.self.now.booking }) (g.K.Link.told c.slot.new.link) c.args.seat.now}
-    c.in_ok-slot.ensures.exact c.in_ok-slot.ensures.told (subst (λ s. Brings s c.slot.new.self) c.in-Going.is c.in_ok-slot.ensures.brings) refl refl
+    {b = sight (record {
+      session = c.slot.new.self;
+      input = c.args.self.now.input;
+      booking =
+          c.args.self.now.booking;
+    }) (g.K.Link.told c.slot.new.link) c.args.seat.now}
+    c.in_ok-slot.ensures.exact c.in_ok-slot.ensures.told
+    (subst (λ s. Brings s c.slot.new.self) c.in-Going.is c.in_ok-slot.ensures.brings) refl refl
 
 pub returns-in-Finished-clause-passed : goal.returns-in-Finished-clause-passed
 returns-in-Finished-clause-passed g c =
     passed_halted {mid = c.slot.new.self} {a = sight c.args.self.now (g.K.Link.told c.args.link.now) c.args.seat.now}
     {b = sight c.halt.new.self (g.K.Link.told c.slot.new.link) c.halt.new.seat}
-    c.in_ok-slot.ensures.exact c.in_ok-slot.ensures.told (subst (λ s. Brings s c.slot.new.self) c.in-Finished.is c.in_ok-slot.ensures.brings).0 c.halt.ensures.input c.halt.ensures.answered
+    c.in_ok-slot.ensures.exact c.in_ok-slot.ensures.told
+    (subst (λ s. Brings s c.slot.new.self) c.in-Finished.is c.in_ok-slot.ensures.brings).0
+    c.halt.ensures.input c.halt.ensures.answered
 
 pub halt-requires-clause-held : goal.halt-requires-clause-held
 halt-requires-clause-held g c =
-    held_same c.args.seat.now.mine c.args.self.now.booking (open_of c.args.self.now.session) (open_of c.slot.new.self) c.slot.ensures.open c.requires.quiet.held
+    held_same c.args.seat.now.mine c.args.self.now.booking (open_of c.args.self.now.session)
+    (open_of c.slot.new.self) c.slot.ensures.open c.requires.quiet.held

@@ -22,7 +22,8 @@ returns-in-Ok-Block-clause-cut g c =
     (drop_is c.in-Ok-Block.count c.drop_front-in-Ok-Block.ensures c.look.ensures.waiting)
 
 pub returns-in-Ok-Request-clause-cut : goal.returns-in-Ok-Request-clause-cut
-returns-in-Ok-Request-clause-cut g c = subst (λ (i : List ℕ). CutsOn i c.take_whole.new.self.input) c.look.ensures.waiting c.take_whole.ensures.cut
+returns-in-Ok-Request-clause-cut g c =
+    subst (λ (i : List ℕ). CutsOn i c.take_whole.new.self.input) c.look.ensures.waiting c.take_whole.ensures.cut
 
 pub returns-in-Ok-More-clause-taken : goal.returns-in-Ok-More-clause-taken
 returns-in-Ok-More-clause-taken g c =
@@ -30,7 +31,8 @@ returns-in-Ok-More-clause-taken g c =
 
 pub returns-in-Ok-Request-clause-taken : goal.returns-in-Ok-Request-clause-taken
 returns-in-Ok-Request-clause-taken g c =
-    subst (λ (i : List ℕ). IsTaken c.take_whole.result (length i) c.take_whole.new.self) c.look.ensures.waiting c.take_whole.ensures.taken
+    subst (λ (i : List ℕ). IsTaken c.take_whole.result (length i) c.take_whole.new.self) c.look.ensures.waiting
+    c.take_whole.ensures.taken
 
 pub returns-in-Ok-More-clause-takes : goal.returns-in-Ok-More-clause-takes
 returns-in-Ok-More-clause-takes g c = (
@@ -39,7 +41,11 @@ returns-in-Ok-More-clause-takes g c = (
     told = g.K.Link.told c.args.link.now;
     seat = c.args.seat.now;
   }) c.look.ensures.waiting,
-  record { torn = search rules; waits = inl (first_is c.in-Ok-More.ensures.first c.look.ensures.waiting c.in-Ok-More.field-0-is) },
+  record {
+    torn = search rules;
+    waits =
+        inl (first_is c.in-Ok-More.ensures.first c.look.ensures.waiting c.in-Ok-More.field-0-is);
+  },
 )
 
 pub returns-in-Ok-Skip-clause-takes : goal.returns-in-Ok-Skip-clause-takes
@@ -57,7 +63,12 @@ returns-in-Ok-Skip-clause-takes g c =
 pub returns-in-Ok-Block-clause-takes : goal.returns-in-Ok-Block-clause-takes
 returns-in-Ok-Block-clause-takes g c =
     taken_passed (sight c.args.self.now (g.K.Link.told c.args.link.now) c.args.seat.now)
-    (sight (record { session = c.args.self.now.session; input = c.drop_front-in-Ok-Block.new.self; booking = c.args.self.now.booking })
+    (sight (record {
+      session = c.args.self.now.session;
+      input = c.drop_front-in-Ok-Block.new.self;
+      booking =
+          c.args.self.now.booking;
+    })
     (g.K.Link.told c.args.link.now) c.args.seat.now) c.in-Ok-Block.count
     (inr (c.in-Ok-Block.field-0-0, first_is c.in-Ok-Block.ensures.first refl c.in-Ok-Block.field-0-is)) (search rules)
     (ap (λ (i : List ℕ). record {
@@ -69,8 +80,10 @@ returns-in-Ok-Block-clause-takes g c =
 pub returns-in-Ok-Request-clause-takes : goal.returns-in-Ok-Request-clause-takes
 returns-in-Ok-Request-clause-takes g c =
     subst (λ (i : List ℕ). TakesNext c.take_whole.result
-    (sight (record { session = c.args.self.now.session; input = i; booking = c.args.self.now.booking }) (g.K.Link.told c.args.link.now) c.args.seat.now)
-    (sight c.take_whole.new.self (g.K.Link.told c.take_whole.new.link) c.take_whole.new.seat)) c.look.ensures.waiting c.take_whole.ensures.takes
+    (sight (record { session = c.args.self.now.session; input = i; booking = c.args.self.now.booking })
+    (g.K.Link.told c.args.link.now) c.args.seat.now)
+    (sight c.take_whole.new.self (g.K.Link.told c.take_whole.new.link) c.take_whole.new.seat))
+    c.look.ensures.waiting c.take_whole.ensures.takes
 
 pub returns-in-Ok-Request-clause-kept : goal.returns-in-Ok-Request-clause-kept
 returns-in-Ok-Request-clause-kept g c = record {
@@ -105,7 +118,8 @@ pub returns-in-Ok-Skip-clause-kept : goal.returns-in-Ok-Skip-clause-kept
 returns-in-Ok-Skip-clause-kept g c = kept_moved c.args.seat.now c.args.self.now c.drop_front.new.self c.requires.quiet
 
 pub returns-in-Ok-Block-clause-kept : goal.returns-in-Ok-Block-clause-kept
-returns-in-Ok-Block-clause-kept g c = kept_moved c.args.seat.now c.args.self.now c.drop_front-in-Ok-Block.new.self c.requires.quiet
+returns-in-Ok-Block-clause-kept g c =
+    kept_moved c.args.seat.now c.args.self.now c.drop_front-in-Ok-Block.new.self c.requires.quiet
 
 pub returns-then-is_torn-clause-cut : goal.returns-then-is_torn-clause-cut
 returns-then-is_torn-clause-cut g c = cuts_none c.args.self.now.input
@@ -118,12 +132,14 @@ returns-in-Ok-More-clause-cut g c = cuts_same c.args.self.now.input c.look.new.s
 
 pub returns-in-Err-clause-taken : goal.returns-in-Err-clause-taken
 returns-in-Err-clause-taken g c =
-    fault_ends c.in-Err.fault c.end_of.result (record { session = c.args.self.now.session; input = c.look.new.self; booking = c.args.self.now.booking })
+    fault_ends c.in-Err.fault c.end_of.result
+    (record { session = c.args.self.now.session; input = c.look.new.self; booking = c.args.self.now.booking })
     c.end_of.ensures (subst (λ (i : List ℕ). IsFirst i (Err c.in-Err.fault)) (sym c.look.ensures.waiting) c.in-Err.ensures.first)
 
 pub returns-in-Ok-Skip-clause-taken : goal.returns-in-Ok-Skip-clause-taken
 returns-in-Ok-Skip-clause-taken g c =
-    let first : IsFirst c.args.self.now.input (Ok (Skip c.in-Ok-Skip.count)) = first_is c.in-Ok-Skip.ensures.first refl c.in-Ok-Skip.field-0-is in
+    let first : IsFirst c.args.self.now.input (Ok (Skip c.in-Ok-Skip.count)) =
+    first_is c.in-Ok-Skip.ensures.first refl c.in-Ok-Skip.field-0-is in
     let some : 0 < c.in-Ok-Skip.count = first.0 in (
       c.requires.lost,
       fewer c.args.self.now.input c.drop_front.new.self c.in-Ok-Skip.count some first.1.within
@@ -132,7 +148,8 @@ returns-in-Ok-Skip-clause-taken g c =
 
 pub returns-in-Ok-Block-clause-taken : goal.returns-in-Ok-Block-clause-taken
 returns-in-Ok-Block-clause-taken g c =
-    let first : IsFirst c.args.self.now.input (Ok (Block c.in-Ok-Block.field-0-0 c.in-Ok-Block.count)) = first_is c.in-Ok-Block.ensures.first refl c.in-Ok-Block.field-0-is in
+    let first : IsFirst c.args.self.now.input (Ok (Block c.in-Ok-Block.field-0-0 c.in-Ok-Block.count)) =
+    first_is c.in-Ok-Block.ensures.first refl c.in-Ok-Block.field-0-is in
     let some : 0 < c.in-Ok-Block.count = subst (λ n. 0 < n) (sym first.3) (omega arith) in (
       c.requires.lost,
       fewer c.args.self.now.input c.drop_front-in-Ok-Block.new.self c.in-Ok-Block.count some first.4

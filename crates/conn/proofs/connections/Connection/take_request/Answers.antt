@@ -8,33 +8,40 @@ use Rattle.conn.proofs.connections.Connection.take_request.Goals as goal
 
 pub hear-ask-requires-clause-whole : goal.hear-ask-requires-clause-whole
 hear-ask-requires-clause-whole g c =
-    subst (λ (bytes : List ℕ). IsRequestLength (take c.args.length bytes) (length (take c.args.length bytes))) (sym c.waiting.ensures)
+    subst (λ (bytes : List ℕ). IsRequestLength (take c.args.length bytes) (length (take c.args.length bytes)))
+    (sym c.waiting.ensures)
     (whole_request c.args.self.now.input c.args.length c.requires.whole c.requires.within)
 
 pub returns-in-Play-clause-kept : goal.returns-in-Play-clause-kept
 returns-in-Play-clause-kept g c =
-    kept_after {a = c.args.self.now} {mid = record { session = c.hear-ask.new.self; input = c.drop_front.new.self; booking = c.args.self.now.booking }}
+    kept_after {a = c.args.self.now}
+    {mid = record { session = c.hear-ask.new.self; input = c.drop_front.new.self; booking = c.args.self.now.booking }}
     refl c.hear-ask.ensures.same.receipts c.play.ensures.kept
 
 pub returns-in-Halt-clause-kept : goal.returns-in-Halt-clause-kept
 returns-in-Halt-clause-kept g c =
-    kept_after {a = c.args.self.now} {mid = record { session = c.hear-ask.new.self; input = c.drop_front.new.self; booking = c.args.self.now.booking }}
+    kept_after {a = c.args.self.now}
+    {mid = record { session = c.hear-ask.new.self; input = c.drop_front.new.self; booking = c.args.self.now.booking }}
     refl c.hear-ask.ensures.same.receipts c.halt.ensures.kept
 
 pub returns-in-Look-clause-kept : goal.returns-in-Look-clause-kept
 returns-in-Look-clause-kept g c =
-    kept_after {a = c.args.self.now} {mid = record { session = c.hear-ask.new.self; input = c.drop_front.new.self; booking = c.args.self.now.booking }}
+    kept_after {a = c.args.self.now}
+    {mid = record { session = c.hear-ask.new.self; input = c.drop_front.new.self; booking = c.args.self.now.booking }}
     refl c.hear-ask.ensures.same.receipts c.look.ensures.kept
 
 pub returns-in-Offer-clause-kept : goal.returns-in-Offer-clause-kept
 returns-in-Offer-clause-kept g c =
-    kept_after {a = c.args.self.now} {mid = record { session = c.hear-ask.new.self; input = c.drop_front.new.self; booking = c.args.self.now.booking }}
+    kept_after {a = c.args.self.now}
+    {mid = record { session = c.hear-ask.new.self; input = c.drop_front.new.self; booking = c.args.self.now.booking }}
     refl c.hear-ask.ensures.same.receipts c.offer.ensures.kept
 
 pub returns-in-Reply-clause-kept : goal.returns-in-Reply-clause-kept
 returns-in-Reply-clause-kept g c =
-    kept_then {a = c.args.self.now} {mid = c.args.self.now} {b = record { session = c.hear-ask.new.self; input = c.drop_front.new.self; booking = c.args.self.now.booking }}
-    (kept_none c.args.seat.now c.args.self.now c.requires.quiet) c.in-Reply.ensures.asks.0 refl c.hear-ask.ensures.same.booking c.hear-ask.ensures.same.receipts
+    kept_then {a = c.args.self.now} {mid = c.args.self.now}
+    {b = record { session = c.hear-ask.new.self; input = c.drop_front.new.self; booking = c.args.self.now.booking }}
+    (kept_none c.args.seat.now c.args.self.now c.requires.quiet) c.in-Reply.ensures.asks.0 refl
+    c.hear-ask.ensures.same.booking c.hear-ask.ensures.same.receipts
 
 pub returns-in-Play-clause-heard : goal.returns-in-Play-clause-heard
 returns-in-Play-clause-heard g c =
@@ -70,4 +77,5 @@ offer-requires-clause-held g c =
 
 pub returns-in-Reply-clause-heard : goal.returns-in-Reply-clause-heard
 returns-in-Reply-clause-heard g c =
-    asked_on c.hear-ask.ensures.hears (ap (take c.args.length) c.waiting.ensures) c.in-Reply.is (answered_none c.hear-ask.new.self c.args.seat.now)
+    asked_on c.hear-ask.ensures.hears (ap (take c.args.length) c.waiting.ensures) c.in-Reply.is
+    (answered_none c.hear-ask.new.self c.args.seat.now)

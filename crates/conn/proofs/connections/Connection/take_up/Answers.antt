@@ -12,7 +12,8 @@ pieces-preserved g c =
       kept_on inv.0 c.take_next.ensures.kept,
       search rules,
       cuts_on c.args.self.now.input c.pieces.self.input c.take_next.new.self.input inv.2 c.take_next.ensures.cut,
-      taken_on (sight c.args.self.now (g.K.Link.told c.args.link.now) c.args.seat.now) (sight c.pieces.self (g.K.Link.told c.pieces.link) c.pieces.seat)
+      taken_on (sight c.args.self.now (g.K.Link.told c.args.link.now) c.args.seat.now)
+          (sight c.pieces.self (g.K.Link.told c.pieces.link) c.pieces.seat)
           (sight c.take_next.new.self (g.K.Link.told c.take_next.new.link) c.take_next.new.seat) inv.3 c.in-Gone.ensures.takes,
       omega (arith, inv.4, c.take_next.ensures.counted.count),
     )
@@ -27,24 +28,28 @@ returns-in-Waits-clause-kept g c =
 
 pub returns-in-Waits-clause-up : goal.returns-in-Waits-clause-up
 returns-in-Waits-clause-up g c = (
-  subst (HasTaken (sight c.args.self.now (g.K.Link.told c.args.link.now) c.args.seat.now)) (sym c.in-Waits.ensures.takes.0) c.pieces.invariant.3,
+  subst (HasTaken (sight c.args.self.now (g.K.Link.told c.args.link.now) c.args.seat.now))
+      (sym c.in-Waits.ensures.takes.0) c.pieces.invariant.3,
   c.in-Waits.ensures.takes.1,
 )
 
 pub returns-in-End-clause-up : goal.returns-in-End-clause-up
 returns-in-End-clause-up g c =
     up_on (Some c.in-End.end) (sight c.args.self.now (g.K.Link.told c.args.link.now) c.args.seat.now)
-    (sight c.pieces.self (g.K.Link.told c.pieces.link) c.pieces.seat) (sight c.take_next.new.self (g.K.Link.told c.take_next.new.link) c.take_next.new.seat)
+    (sight c.pieces.self (g.K.Link.told c.pieces.link) c.pieces.seat)
+    (sight c.take_next.new.self (g.K.Link.told c.take_next.new.link) c.take_next.new.seat)
     c.pieces.invariant.3 (search rules)
 
 pub returns-in-Waits-clause-counted : goal.returns-in-Waits-clause-counted
 returns-in-Waits-clause-counted g c =
-    counted_on None (g.K.Link.faults c.args.link.now) (g.K.Link.faults c.pieces.link) (g.K.Link.faults c.take_next.new.link) c.pieces.invariant.4
+    counted_on None (g.K.Link.faults c.args.link.now) (g.K.Link.faults c.pieces.link)
+    (g.K.Link.faults c.take_next.new.link) c.pieces.invariant.4
     c.in-Waits.ensures.counted
 
 pub returns-in-End-clause-counted : goal.returns-in-End-clause-counted
 returns-in-End-clause-counted g c =
-    counted_on (Some c.in-End.end) (g.K.Link.faults c.args.link.now) (g.K.Link.faults c.pieces.link) (g.K.Link.faults c.take_next.new.link)
+    counted_on (Some c.in-End.end) (g.K.Link.faults c.args.link.now) (g.K.Link.faults c.pieces.link)
+    (g.K.Link.faults c.take_next.new.link)
     c.pieces.invariant.4 c.in-End.ensures.counted
 
 pub returns-in-End-clause-cut : goal.returns-in-End-clause-cut

@@ -34,7 +34,13 @@ returns-in-Ok-clause-taken g c = (
 
 pub returns-in-Ok-clause-takes : goal.returns-in-Ok-clause-takes
 returns-in-Ok-clause-takes g c =
-    taken_reply {a = sight c.args.self.now (g.K.Link.told c.args.link.now) c.args.seat.now} {b = sight (record { session = c.reply.new.self; input = c.take_request.new.self.input; booking = c.take_request.new.self.booking })
+    taken_reply {a = sight c.args.self.now (g.K.Link.told c.args.link.now) c.args.seat.now}
+    {b = sight (record {
+      session = c.reply.new.self;
+      input = c.take_request.new.self.input;
+      booking =
+          c.take_request.new.self.booking;
+    })
     (g.K.Link.told c.reply.new.link) c.take_request.new.seat} {asked = c.take_request.new.self.session} {n = c.args.length}
     c.requires.first (search rules) c.requires.torn c.take_request.ensures.heard
     (stage_is c.in-Ok.ensures.exact c.take_request.ensures.input) c.in-Ok.ensures.told
@@ -43,7 +49,13 @@ pub returns-in-Err-clause-takes : goal.returns-in-Err-clause-takes
 returns-in-Err-clause-takes g c =
     inl (
       refl,
-      lost_reply {a = sight c.args.self.now (g.K.Link.told c.args.link.now) c.args.seat.now} {b = sight (record { session = c.reply.new.self; input = c.take_request.new.self.input; booking = c.take_request.new.self.booking })
+      lost_reply {a = sight c.args.self.now (g.K.Link.told c.args.link.now) c.args.seat.now}
+          {b = sight (record {
+            session = c.reply.new.self;
+            input = c.take_request.new.self.input;
+            booking =
+                c.take_request.new.self.booking;
+          })
           (g.K.Link.told c.reply.new.link) c.take_request.new.seat} {asked = c.take_request.new.self.session}
           {n = c.args.length} (record {
             first = c.requires.first;
@@ -58,12 +70,24 @@ returns-then-waits-clause-kept g c = kept_none c.args.seat.now c.args.self.now c
 
 pub returns-in-Ok-clause-kept : goal.returns-in-Ok-clause-kept
 returns-in-Ok-clause-kept g c =
-    kept_then {a = c.args.self.now} {mid = c.take_request.new.self} {b = record { session = c.reply.new.self; input = c.take_request.new.self.input; booking = c.take_request.new.self.booking }}
+    kept_then {a = c.args.self.now} {mid = c.take_request.new.self}
+    {b = record {
+      session = c.reply.new.self;
+      input = c.take_request.new.self.input;
+      booking =
+          c.take_request.new.self.booking;
+    }}
     c.take_request.ensures.kept c.reply.ensures.rest refl c.reply.ensures.open c.reply.ensures.receipts
 
 pub returns-in-Err-clause-kept : goal.returns-in-Err-clause-kept
 returns-in-Err-clause-kept g c =
-    kept_then {a = c.args.self.now} {mid = c.take_request.new.self} {b = record { session = c.reply.new.self; input = c.take_request.new.self.input; booking = c.take_request.new.self.booking }}
+    kept_then {a = c.args.self.now} {mid = c.take_request.new.self}
+    {b = record {
+      session = c.reply.new.self;
+      input = c.take_request.new.self.input;
+      booking =
+          c.take_request.new.self.booking;
+    }}
     c.take_request.ensures.kept c.reply.ensures.rest refl c.reply.ensures.open c.reply.ensures.receipts
 
 pub returns-then-waits-clause-cut : goal.returns-then-waits-clause-cut
@@ -74,4 +98,5 @@ returns-then-waits-clause-counted g c = counted_none (g.K.Link.faults c.args.lin
 
 pub returns-in-Err-clause-counted : goal.returns-in-Err-clause-counted
 returns-in-Err-clause-counted g c =
-    counted_fault (g.K.Link.faults c.args.link.now) (g.K.Link.faults c.reply.new.link) c.reply.ensures.count c.in-Err.ensures.fault
+    counted_fault (g.K.Link.faults c.args.link.now) (g.K.Link.faults c.reply.new.link) c.reply.ensures.count
+    c.in-Err.ensures.fault

@@ -23,7 +23,8 @@ returns-in-Some-clause-runner c =
     let late : slot ≡ old.heard = omega (arith, day.heard_fits) in
     let e : Entry = record { maker = c.from.result; command = Play slot c.args.plan; answer = c.in-Ok.noted.answer } in
     let y : c.play.new.self.entries ≡ old.book.entries ++ e ∷ [] = ap (λ (j : Journal). j.entries) noted.journal_is in
-    let whole : total_bytes play.plan ≡ total_bytes c.args.plan = ap total_bytes (c.begin_play-play.ensures.plan ∙ c.requires.kept) in
+    let whole : total_bytes play.plan ≡ total_bytes c.args.plan =
+    ap total_bytes (c.begin_play-play.ensures.plan ∙ c.requires.kept) in
     let can0 : CanHalt (state_after c.play.new.self.entries) c.in-Ok.noted.place (total_bytes play.plan) =
     c.in-Ok.ensures.open c.in-Some.start (total_bytes play.plan) c.in-Some.ensures.some (omega (arith, whole)) in
     let N : ℕ → Type 0 = λ n. CanHalt (state_after c.play.new.self.entries) n (total_bytes play.plan) in
@@ -32,7 +33,8 @@ returns-in-Some-clause-runner c =
     let inside : c.args.client < length old.clients.items = omega (arith, day.count, c.ranges.client.fits) in
     let timed =
     begun-timed {steps = old.book.steps} {state = state_after old.book.entries} {plan = c.args.plan} play
-    (record { is = c.in-Some.ensures.some; answered = noted.answer_is; late = late }) c.begin_play-play.ensures.start c.begin_play-play.ensures.begun in
+    (record { is = c.in-Some.ensures.some; answered = noted.answer_is; late = late })
+    c.begin_play-play.ensures.start c.begin_play-play.ensures.begun in
     day-played e day (record {
       entries_are = y;
       clients_are = refl;
@@ -111,7 +113,9 @@ returns-in-None c =
               noted-play c.args.plan c.in-Ok.noted.answer late c.from.ensures made.answer_is (record {
                 place_is = made.place_is;
                 entries_are = y;
-                states_are = states-same c.args.client (rest_of c.args.rest) c.args.plan (length old.book.entries) c.in-Ok.noted.answer c.in-None.ensures.none;
+                states_are =
+                    states-same c.args.client (rest_of c.args.rest) c.args.plan (length old.book.entries)
+                    c.in-Ok.noted.answer c.in-None.ensures.none;
                 heard_is = refl;
               });
         });
@@ -125,5 +129,6 @@ returns-in-Err-clause-planned c =
       plan = c.args.plan;
       plan_is = c.requires.plan.plan_is;
       done = inl (told-full c.in-Err.refused.full c.in-Err.ensures.full
-          c.in-Err.ensures.counts.entries_are c.in-Err.ensures.counts.live_is (ap (λ j. moment_of (record old { book = j })) c.in-Err.ensures.left));
+          c.in-Err.ensures.counts.entries_are c.in-Err.ensures.counts.live_is
+          (ap (λ j. moment_of (record old { book = j })) c.in-Err.ensures.left));
     }

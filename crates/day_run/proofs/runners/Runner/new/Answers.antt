@@ -11,4 +11,5 @@ returns-clause-begun c =
     let states = map state_of clients.items in
     let made : (j : Journal) → Moment = λ j. record { entries = j.entries; states = states; heard = 0 } in
     ap made c.in_ok-book.ensures
-    ∙ ap (λ l. record { entries = []; states = l; heard = 0 }) (idle-states clients.items c.in_ok-clients.ensures.count c.in_ok-clients.ensures.idle)
+    ∙ ap (λ l. record { entries = []; states = l; heard = 0 })
+    (idle-states clients.items c.in_ok-clients.ensures.count c.in_ok-clients.ensures.idle)

@@ -23,7 +23,8 @@ returns-in_ok-offers-in-Ok c =
     let calendar = c.calendar-calendar.result.now in
     let found = c.find.new.self in
     let plan = c.in-Ok.plan in
-    let within : (t : ℕ) → booked_in state t ≤ capacity_at r.book.steps t = (sound-after r.book.steps r.book.entries c.entries-legal.ensures.legal).within.each in
+    let within : (t : ℕ) → booked_in state t ≤ capacity_at r.book.steps t =
+    (sound-after r.book.steps r.book.entries c.entries-legal.ensures.legal).within.each in
     let P : Result (List Segment) CurveFault → Type 0 = λ p. IfOk p (IsPlanFor rest) in
     let planned : IsPlanFor rest plan = subst P c.in-Ok.is c.in_ok-plan.ensures.plan in
     let S : List CapStep → Type 0 = λ s. (t : ℕ) → booked_in state t ≤ capacity_at s t in
@@ -35,7 +36,9 @@ returns-in_ok-offers-in-Ok c =
     let first : c.max.result + 1 ≡ max state.now r.heard + 1 = omega (arith, c.calendar-calendar.ensures.now) in
     let F : ℕ → Type 0 = λ n. IsOffer 0 (booked_in state) (capacity_at r.book.steps) plan n found in
     let at : rest_of rest ≡ rest_at (link_on r) c.args.source c.args.buffer c.args.delay =
-    c.in-Some.ensures.whole ∙ ap (λ (t : ReelContent). whole_rest r.slot_units t c.args.buffer c.args.delay) (sym (c.reel_at.ensures r.slot_units no_reel)) in
+    c.in-Some.ensures.whole
+    ∙ ap (λ (t : ReelContent). whole_rest r.slot_units t c.args.buffer c.args.delay)
+    (sym (c.reel_at.ensures r.slot_units no_reel)) in
     let R : Rest → Type 0 = λ x. IsOfferLine (link_on r) x c.args.wait (moment_of r) (moment_of r) (offer_text found) in
     subst R at (inr (record {
       plan = plan;

@@ -48,7 +48,13 @@ returns-in-Some-clause-line c =
     let halt = c.in-Some.halt in
     let client = c.index_mut.result.now in
     let next = c.pause.new.self in
-    let new : Moment = record { entries = c.halt-noted.new.self.entries; states = map state_of (set old.clients.items c.args.client next); heard = old.heard } in
+    let new : Moment =
+    record {
+      entries = c.halt-noted.new.self.entries;
+      states =
+          map state_of (set old.clients.items c.args.client next);
+      heard = old.heard;
+    } in
     let inside : c.args.client < length old.clients.items = omega (arith, day.count, c.ranges.client.fits) in
     let T : Client → Type 0 = λ x. IsTimed old.heard x in
     let timed = subst T (sym c.index_mut.ensures.value) (day.timed.each c.args.client client inside) in
@@ -59,7 +65,8 @@ returns-in-Some-clause-line c =
     ap state_of c.index_mut.ensures.value ∙ sym (state-at old.clients.items c.args.client client inside) in
     let P : ClientState → Type 0 = λ s. IsPauseLine (link_on old) c.args.client s (moment_of old) new text in
     subst P at (pause-line client next (c.in-Some.ensures.pause old.heard timed)
-    (noted-halt {link = link_on old} {old = moment_of old} {new = new} {place = c.halt-noted.result.place} {number = halt.number} {keep = halt.keep} {e = e}
+    (noted-halt {link = link_on old} {old = moment_of old} {new = new} {place = c.halt-noted.result.place}
+    {number = halt.number} {keep = halt.keep} {e = e}
     made.answer_is (record {
       place_is = made.place_is;
       entries_are = ap (λ (j : Journal). j.entries) made.journal_is;
@@ -74,13 +81,21 @@ returns-in-None-clause-line c =
     let day = c.requires.runner in
     let client = c.index_mut.result.now in
     let next = c.pause.new.self in
-    let new : Moment = record { entries = old.book.entries; states = map state_of (set old.clients.items c.args.client next); heard = old.heard } in
+    let new : Moment =
+    record {
+      entries = old.book.entries;
+      states =
+          map state_of (set old.clients.items c.args.client next);
+      heard = old.heard;
+    } in
     let inside : c.args.client < length old.clients.items = omega (arith, day.count, c.ranges.client.fits) in
     let at : state_of client ≡ get_or (map state_of old.clients.items) c.args.client Idle =
     ap state_of c.index_mut.ensures.value ∙ sym (state-at old.clients.items c.args.client client inside) in
     let same : set old.clients.items c.args.client next ≡ old.clients.items =
-    ap (set old.clients.items c.args.client) (c.in-None.ensures.none ∙ c.index_mut.ensures.value) ∙ set-get_or old.clients.items c.args.client client in
-    let P : ClientState → Type 0 = λ s. IsPauseLine (link_on old) c.args.client s (moment_of old) new (told_text old.book.entries tolds.State) in
+    ap (set old.clients.items c.args.client) (c.in-None.ensures.none ∙ c.index_mut.ensures.value)
+    ∙ set-get_or old.clients.items c.args.client client in
+    let P : ClientState → Type 0 =
+    λ s. IsPauseLine (link_on old) c.args.client s (moment_of old) new (told_text old.book.entries tolds.State) in
     subst P at (no-pause (link_on old) c.args.client client c.in-None.ensures.idle
     (record { kept = ap (λ l. record (moment_of old) { states = map state_of l }) same; text_is = refl }))
 

@@ -14,8 +14,11 @@ returns-in-Some-clause-line c =
     let client = c.index.result.now in
     let inside : c.args.client < length old.clients.items = omega (arith, c.requires.runner.count, c.ranges.client.fits) in
     let one : rest_of c.in-Some.rest ≡ rest_at (link_on old) c.args.source c.args.buffer c.args.delay =
-    c.in-Some.ensures.whole ∙ ap (λ (t : ReelContent). whole_rest old.slot_units t c.args.buffer c.args.delay) (sym (c.reel_at.ensures old.slot_units no_reel)) in
-    let own : state_of client ≡ state_at (moment_of old) c.args.client = ap state_of c.index.ensures ∙ sym (state-at old.clients.items c.args.client client inside) in
+    c.in-Some.ensures.whole
+    ∙ ap (λ (t : ReelContent). whole_rest old.slot_units t c.args.buffer c.args.delay)
+    (sym (c.reel_at.ensures old.slot_units no_reel)) in
+    let own : state_of client ≡ state_at (moment_of old) c.args.client =
+    ap state_of c.index.ensures ∙ sym (state-at old.clients.items c.args.client client inside) in
     let free : is_busy (state_of client) ≡ false = sym c.is_busy.ensures ∙ c.if-is_busy.false in
     play-ok c.ask.result (record {
       link = link_on old;

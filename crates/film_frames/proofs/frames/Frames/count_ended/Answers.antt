@@ -26,14 +26,28 @@ overflow_add-place c =
     let f = c.self.inside in
     let has = is-run-of c.self.inside c.args.self.now c.self.view_is c.self.invariant in
     let from = ap (λ n. wire_in (take n (film_pieces f.stored.now.film))) c.first_piece-first.ensures in
-    omega (arith, c.place.ensures, c.min.ensures, c.total.ensures, from, run-total f.stored.now.film f.first_unit f.end_unit f.identity c.args.self.now has.is)
+    omega (
+      arith,
+      c.place.ensures,
+      c.min.ensures,
+      c.total.ensures,
+      from,
+      run-total f.stored.now.film f.first_unit f.end_unit f.identity c.args.self.now has.is,
+    )
 
 pub overflow_add-place-2 : goal.overflow_add-place-2
 overflow_add-place-2 c =
     let f = c.self.inside in
     let has = is-run-of c.self.inside c.args.self.now c.self.view_is c.self.invariant in
     let from = ap (λ n. wire_in (take n (film_pieces f.stored.now.film))) c.first_piece-first.ensures in
-    omega (arith, c.place.ensures, c.min.ensures, c.total.ensures, from, run-total f.stored.now.film f.first_unit f.end_unit f.identity c.args.self.now has.is)
+    omega (
+      arith,
+      c.place.ensures,
+      c.min.ensures,
+      c.total.ensures,
+      from,
+      run-total f.stored.now.film f.first_unit f.end_unit f.identity c.args.self.now has.is,
+    )
 
 pub ends-requires-clause-order : goal.ends-requires-clause-order
 ends-requires-clause-order c =
@@ -46,13 +60,15 @@ ends-requires-clause-within c =
     omega (arith, c.first_piece-end.ensures, has.within)
 
 pub ends_below-requires : goal.ends_below-requires
-ends_below-requires c = ends-rise c.place.result (run_pieces c.args.self.now) c.ends.result.now (ends-are (goal.at.ends_below-requires c).After-ends)
+ends_below-requires c =
+    ends-rise c.place.result (run_pieces c.args.self.now) c.ends.result.now (ends-are (goal.at.ends_below-requires c).After-ends)
 
 pub returns-clause-count_ended : goal.returns-clause-count_ended
 returns-clause-count_ended c =
     have-count_ended
     (ends-are (goal.at.returns-clause-count_ended c).After-ends) c.ends_below.ensures.count (omega (arith, c.min.ensures))
-    (λ cut. omega (arith, c.min.ensures, c.total.ensures, cut)) (λ j h. c.ends_below.ensures.below j h) (λ h. c.ends_below.ensures.from c.ends_below.result (omega arith) h)
+    (λ cut. omega (arith, c.min.ensures, c.total.ensures, cut)) (λ j h. c.ends_below.ensures.below j h)
+    (λ h. c.ends_below.ensures.from c.ends_below.result (omega arith) h)
 
 pub returns-clause-few : goal.returns-clause-few
 returns-clause-few c =

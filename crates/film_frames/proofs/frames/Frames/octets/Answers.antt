@@ -22,14 +22,36 @@ overflow_sub-result c =
 pub overflow_mul-result-2 : goal.overflow_mul-result-2
 overflow_mul-result-2 c =
     let pieces = take c.args.piece (pieces_in c.args.self.now) in
-    omega (arith, c.frames-frames.ensures, c.place.ensures.wire, c.place.type_inv, octets-are pieces, frames-le pieces, length-take-le c.args.piece (pieces_in c.args.self.now) c.requires)
+    omega (
+      arith,
+      c.frames-frames.ensures,
+      c.place.ensures.wire,
+      c.place.type_inv,
+      octets-are pieces,
+      frames-le pieces,
+      length-take-le c.args.piece (pieces_in c.args.self.now) c.requires,
+    )
 
 pub overflow_sub-result-2 : goal.overflow_sub-result-2
 overflow_sub-result-2 c =
     let pieces = take c.args.piece (pieces_in c.args.self.now) in
-    omega (arith, c.frames-frames.ensures, c.place.ensures.wire, octets-are pieces, frames-le pieces, length-take-le c.args.piece (pieces_in c.args.self.now) c.requires)
+    omega (
+      arith,
+      c.frames-frames.ensures,
+      c.place.ensures.wire,
+      octets-are pieces,
+      frames-le pieces,
+      length-take-le c.args.piece (pieces_in c.args.self.now) c.requires,
+    )
 
 pub returns : goal.returns
 returns c =
     let pieces = take c.args.piece (pieces_in c.args.self.now) in
-    omega (arith, c.frames-frames.ensures, c.place.ensures.wire, octets-are pieces, frames-le pieces, length-take-le c.args.piece (pieces_in c.args.self.now) c.requires)
+    omega (
+      arith,
+      c.frames-frames.ensures,
+      c.place.ensures.wire,
+      octets-are pieces,
+      frames-le pieces,
+      length-take-le c.args.piece (pieces_in c.args.self.now) c.requires,
+    )

@@ -26,4 +26,5 @@ returns-clause-sound c =
     let f = c.self.inside in
     let run = c.args.self.now in
     let has = is-run-of c.self.inside c.args.self.now c.self.view_is c.self.invariant in
-    sound-at run.film (pieces_in run) c.args.number c.piece.result (returns-clause-piece c) (between f.stored.now.film f.first_unit f.end_unit f.identity run has.is).sound
+    sound-at run.film (pieces_in run) c.args.number c.piece.result (returns-clause-piece c)
+    (between f.stored.now.film f.first_unit f.end_unit f.identity run has.is).sound

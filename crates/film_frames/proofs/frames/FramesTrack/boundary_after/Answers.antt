@@ -10,7 +10,13 @@ overflow_add-count_ended c = omega (arith, c.count_ended.ensures.few)
 pub place-requires : goal.place-requires
 place-requires c =
     let run = c.args.self.now in
-    omega (arith, blocks_from-count run 0 0 (pieces_in run), count_ended-within (run_pieces run) (c.args.at - 1) c.count_ended.result c.count_ended.ensures.count_ended (omega (arith, c.requires, c.if-at-eq0.false)))
+    omega (
+      arith,
+      blocks_from-count run 0 0 (pieces_in run),
+      count_ended-within (run_pieces run) (c.args.at - 1) c.count_ended.result
+          c.count_ended.ensures.count_ended (omega (arith, c.requires, c.if-at-eq0.false)),
+    )
 
 pub returns : goal.returns
-returns c = boundary-count_ended c.count_ended.ensures.count_ended (omega (arith, c.if-at-eq0.false)) c.requires c.place.ensures.begin
+returns c = boundary-count_ended c.count_ended.ensures.count_ended (omega (arith, c.if-at-eq0.false)) c.requires
+    c.place.ensures.begin

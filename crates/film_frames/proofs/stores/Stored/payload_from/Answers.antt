@@ -37,5 +37,6 @@ pub returns : goal.returns
 returns c = λ piece at.
     let film = c.args.self.now.film in
     let its = film-place film c.requires c.index.ensures c.frames-frames.ensures c.place.ensures in
-    let all = film-payload film (c.args.number - c.frames-frames.result) c.requires c.index.ensures at (omega (arith, its.few, c.frames-frames.ensures)) in
+    let all = film-payload film (c.args.number - c.frames-frames.result) c.requires
+    c.index.ensures at (omega (arith, its.few, c.frames-frames.ensures)) in
     omega (arith, all, its.few, its.heads, c.frames-frames.ensures, c.place.ensures)

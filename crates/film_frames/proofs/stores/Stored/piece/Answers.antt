@@ -17,7 +17,12 @@ pub index-requires : goal.index-requires
 index-requires c =
     let film = c.args.self.now.film in
     let back = read-back c.args.self.now.table_is c.requires c.row-row.ensures c.place-2.ensures c.place.ensures in
-    omega (arith, slice_get_within film.units.items c.row-row.result.unit (unit_of back.piece) back.is_row.unit, c.unit.ensures, film.units.ok)
+    omega (
+      arith,
+      slice_get_within film.units.items c.row-row.result.unit (unit_of back.piece) back.is_row.unit,
+      c.unit.ensures,
+      film.units.ok,
+    )
 
 pub piece-requires-clause-least : goal.piece-requires-clause-least
 piece-requires-clause-least c =
@@ -29,7 +34,13 @@ pub piece-requires-clause-most : goal.piece-requires-clause-most
 piece-requires-clause-most c = λ frame.
     let film = c.args.self.now.film in
     let back = read-back c.args.self.now.table_is c.requires c.row-row.ensures c.place-2.ensures c.place.ensures in
-    omega (arith, back.size, film-short film, c.payload_from-from.ensures back.piece back.at, row-within film c.row-row.result back.piece back.is_row back.sound frame)
+    omega (
+      arith,
+      back.size,
+      film-short film,
+      c.payload_from-from.ensures back.piece back.at,
+      row-within film c.row-row.result back.piece back.is_row back.sound frame,
+    )
 
 pub returns : goal.returns
 returns c =
@@ -44,7 +55,8 @@ returns c =
     let same : c.piece.result ≡ back.piece =
     c.piece.ensures
     ∙ ap (λ (u : PictureUnit). row_piece row u c.payload_from-from.result (c.place.result - c.place-2.result)) unit
-    ∙ ap (λ n. row_piece row (unit_of back.piece) n (c.place.result - c.place-2.result)) (c.payload_from-from.ensures back.piece back.at)
+    ∙ ap (λ n. row_piece row (unit_of back.piece) n (c.place.result - c.place-2.result))
+    (c.payload_from-from.ensures back.piece back.at)
     ∙ ap (λ n. row_piece row (unit_of back.piece) (from_of back.piece) n) size
     ∙ back.is_row.piece_is in
     back.at ∙ ap (λ (p : Piece). Some p) (sym same)

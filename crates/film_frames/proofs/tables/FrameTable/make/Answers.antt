@@ -13,7 +13,11 @@ new-requires-clause-units c = omega (arith, c.len.ensures, c.args.film.now.units
 pub loop-number-init : goal.loop-number-init
 loop-number-init c =
     let film = c.args.film.now in
-    record { table = c.in_ok-table.ensures.table film.units.items; firsts = c.in_ok-table.ensures.firsts film.slice_starts.items film.units.items }
+    record {
+      table = c.in_ok-table.ensures.table film.units.items;
+      firsts =
+          c.in_ok-table.ensures.firsts film.slice_starts.items film.units.items;
+    }
 
 pub returns : goal.returns
 returns c = grind (arith, common_steps)

@@ -18,23 +18,31 @@ pub loop-packet-init : goal.loop-packet-init
 loop-packet-init c =
     let film = c.args.film.now in
     let unit = c.index-unit.result.now in
-    let at = slice_get_read film.units.items (length film.units.items) c.args.number unit refl c.requires.within c.index-unit.ensures in
+    let at = slice_get_read film.units.items (length film.units.items) c.args.number unit refl c.requires.within
+    c.index-unit.ensures in
     let P : List Piece → Type 0 = λ l. IsTable film.units.items l c.args.self.now in
-    record { table = subst P (packets-begun film c.args.number unit c.args.packets.now) (c.requires.table unit at); firsts = refl }
+    record {
+      table =
+          subst P (packets-begun film c.args.number unit c.args.packets.now) (c.requires.table unit at);
+      firsts = refl;
+    }
 
 pub put-requires-clause-room : goal.put-requires-clause-room
 put-requires-clause-room c =
     let film = c.args.film.now in
     let unit = c.index-unit.result.now in
-    let at = slice_get_read film.units.items (length film.units.items) c.args.number unit refl c.requires.within c.index-unit.ensures in
-    room film.units.items _ c.loop-packet.self c.loop-packet.invariant.table (packets-bound film c.args.number c.loop-packet.packet-index at (c.requires.packets unit at))
+    let at = slice_get_read film.units.items (length film.units.items) c.args.number unit refl c.requires.within
+    c.index-unit.ensures in
+    room film.units.items _ c.loop-packet.self c.loop-packet.invariant.table
+    (packets-bound film c.args.number c.loop-packet.packet-index at (c.requires.packets unit at))
 
 pub put-requires-clause-sound : goal.put-requires-clause-sound
 unfolding none
 put-requires-clause-sound c =
     let film = c.args.film.now in
     let unit = c.index-unit.result.now in
-    let at = slice_get_read film.units.items (length film.units.items) c.args.number unit refl c.requires.within c.index-unit.ensures in
+    let at = slice_get_read film.units.items (length film.units.items) c.args.number unit refl c.requires.within
+    c.index-unit.ensures in
     (film.bytes.items, packet-sound film c.args.number none at (c.requires.packets unit at) c.loop-packet-test.true)
 
 pub loop-packet-preserved : goal.loop-packet-preserved
@@ -44,10 +52,12 @@ loop-packet-preserved c =
     let unit = c.index-unit.result.now in
     let packets = c.args.packets.now in
     let i = c.loop-packet.packet-index in
-    let at = slice_get_read film.units.items (length film.units.items) c.args.number unit refl c.requires.within c.index-unit.ensures in
+    let at = slice_get_read film.units.items (length film.units.items) c.args.number unit refl c.requires.within
+    c.index-unit.ensures in
     let sound = packet-sound film c.args.number none at (c.requires.packets unit at) c.loop-packet-test.true in
     let P : List Piece → Type 0 = λ l. IsTable film.units.items l c.put.new.self in
-    let table = c.in_ok-put.ensures.table film.bytes.items film.units.items (before_packet film c.args.number unit packets i) sound at c.loop-packet.invariant.table in
+    let table = c.in_ok-put.ensures.table film.bytes.items film.units.items
+    (before_packet film c.args.number unit packets i) sound at c.loop-packet.invariant.table in
     record {
       table = subst P (packets-more film c.args.number unit packets none c.loop-packet-test.true) table;
       firsts = c.in_ok-put.ensures.firsts ∙ c.loop-packet.invariant.firsts;
@@ -57,6 +67,8 @@ pub returns-clause-table : goal.returns-clause-table
 returns-clause-table c =
     let film = c.args.film.now in
     let unit = c.index-unit.result.now in
-    let at = slice_get_read film.units.items (length film.units.items) c.args.number unit refl c.requires.within c.index-unit.ensures in
+    let at = slice_get_read film.units.items (length film.units.items) c.args.number unit refl c.requires.within
+    c.index-unit.ensures in
     let P : List Piece → Type 0 = λ l. IsTable film.units.items l c.loop-packet.self in
-    subst P (packets-all film c.args.number c.loop-packet.packet-index at (c.requires.packets unit at) c.loop-packet-test.false) c.loop-packet.invariant.table
+    subst P (packets-all film c.args.number c.loop-packet.packet-index at (c.requires.packets unit at)
+    c.loop-packet-test.false) c.loop-packet.invariant.table

@@ -26,7 +26,9 @@ returns-then-unit-clause-table c = λ unit at.
     let same : here ≡ unit = cc in
     let P : List Piece → Type 0 = λ l. OnOk c.put.result (IsTable units (front_pieces film c.args.number ++ l) c.put.new.self) in
     let Q : PictureUnit → Type 0 = λ u. P (unit_reports u) in
-    subst Q same (subst P (reports-some here c.if-unit.true) (c.put.ensures.table film.bytes.items units (front_pieces film c.args.number) tt found c.requires.table))
+    subst Q same
+    (subst P (reports-some here c.if-unit.true)
+    (c.put.ensures.table film.bytes.items units (front_pieces film c.args.number) tt found c.requires.table))
 
 pub returns-clause-table : goal.returns-clause-table
 returns-clause-table c = λ unit at.

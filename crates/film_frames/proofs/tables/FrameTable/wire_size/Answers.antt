@@ -34,4 +34,8 @@ returns-clause-size c = λ film is unit at.
 
 pub returns-clause-bound : goal.returns-clause-bound
 returns-clause-bound c = λ film is unit at.
-    omega (arith, returns-clause-size c film is unit at, unit-bound film.slice_starts.items unit (unit-laid film c.args.unit unit at))
+    omega (
+      arith,
+      returns-clause-size c film is unit at,
+      unit-bound film.slice_starts.items unit (unit-laid film c.args.unit unit at),
+    )

@@ -20,11 +20,15 @@ loop-number-preserved c =
 
 pub invariant_of-result : goal.invariant_of-result
 invariant_of-result c =
-    let now = running_sums-is c.args.sizes.items c.loop-number.sizes.items c.loop-number.invariant.len (λ k h. c.loop-number.invariant.done k (omega (arith, h, c.loop-number-test.false, c.len-number-end.ensures, c.args.sizes.ok))) in
+    let now = running_sums-is c.args.sizes.items c.loop-number.sizes.items c.loop-number.invariant.len
+    (λ k h. c.loop-number.invariant.done k
+    (omega (arith, h, c.loop-number-test.false, c.len-number-end.ensures, c.args.sizes.ok))) in
     let P : List ℕ → Type 0 = λ l. AreRunningSums l in
     subst P (sym now) (trace-is c.args.sizes.items c.requires)
 
 pub returns : goal.returns
 returns c =
-    let now = running_sums-is c.args.sizes.items c.loop-number.sizes.items c.loop-number.invariant.len (λ k h. c.loop-number.invariant.done k (omega (arith, h, c.loop-number-test.false, c.len-number-end.ensures, c.args.sizes.ok))) in
+    let now = running_sums-is c.args.sizes.items c.loop-number.sizes.items c.loop-number.invariant.len
+    (λ k h. c.loop-number.invariant.done k
+    (omega (arith, h, c.loop-number-test.false, c.len-number-end.ensures, c.args.sizes.ok))) in
     ap (λ (l : List ℕ). Ok l) (ap (λ (l : List ℕ). differences 0 l) now ∙ differences-running_sums 0 c.args.sizes.items)

@@ -12,26 +12,36 @@ overflow_add-at c =
 
 pub ends_below-requires : goal.ends_below-requires
 ends_below-requires c =
-    ends-rise 0 (zero_frames c.args.self.now) c.deref-ends.result.now (trace-track c.self.inside.ends.items c.deref-ends.result.now c.args.self.now c.deref-ends.ensures.value c.self.view_is c.self.invariant)
+    ends-rise 0 (zero_frames c.args.self.now) c.deref-ends.result.now
+    (trace-track c.self.inside.ends.items c.deref-ends.result.now c.args.self.now c.deref-ends.ensures.value
+    c.self.view_is c.self.invariant)
 
 pub bounds-ends-ends_below : goal.bounds-ends-ends_below
 bounds-ends-ends_below c =
-    let are = trace-track c.self.inside.ends.items c.deref-ends.result.now c.args.self.now c.deref-ends.ensures.value c.self.view_is c.self.invariant in
+    let are = trace-track c.self.inside.ends.items c.deref-ends.result.now c.args.self.now
+    c.deref-ends.ensures.value c.self.view_is c.self.invariant in
     found (c.args.at + 1) are (omega arith) (omega (arith, c.requires)) c.ends_below.ensures.count
     (λ j h. omega (arith, c.ends_below.ensures.below j h))
 
 pub overflow_sub-end : goal.overflow_sub-end
 overflow_sub-end c =
-    let are = trace-track c.self.inside.ends.items c.deref-ends.result.now c.args.self.now c.deref-ends.ensures.value c.self.view_is c.self.invariant in
-    let within = found (c.args.at + 1) are (omega arith) (omega (arith, c.requires)) c.ends_below.ensures.count (λ j h. omega (arith, c.ends_below.ensures.below j h)) in
+    let are = trace-track c.self.inside.ends.items c.deref-ends.result.now c.args.self.now
+    c.deref-ends.ensures.value c.self.view_is c.self.invariant in
+    let within =
+    found (c.args.at + 1) are (omega arith) (omega (arith, c.requires)) c.ends_below.ensures.count
+    (λ j h. omega (arith, c.ends_below.ensures.below j h)) in
     omega (arith, c.ends_below.ensures.from c.ends_below.result (omega arith) within)
 
 pub returns-clause-bytes : goal.returns-clause-bytes
 returns-clause-bytes c =
-    let are = trace-track c.self.inside.ends.items c.deref-ends.result.now c.args.self.now c.deref-ends.ensures.value c.self.view_is c.self.invariant in
-    let within = found (c.args.at + 1) are (omega arith) (omega (arith, c.requires)) c.ends_below.ensures.count (λ j h. omega (arith, c.ends_below.ensures.below j h)) in
+    let are = trace-track c.self.inside.ends.items c.deref-ends.result.now c.args.self.now
+    c.deref-ends.ensures.value c.self.view_is c.self.invariant in
+    let within =
+    found (c.args.at + 1) are (omega arith) (omega (arith, c.requires)) c.ends_below.ensures.count
+    (λ j h. omega (arith, c.ends_below.ensures.below j h)) in
     let later = c.ends_below.ensures.from c.ends_below.result (omega arith) within in
-    let taken : ZerosTaken c.deref-ends.result.now c.ends_below.result c.args.at (get_or c.deref-ends.result.now c.ends_below.result 0) c.min.result c.zeros.result.now = record {
+    let taken : ZerosTaken c.deref-ends.result.now c.ends_below.result c.args.at
+    (get_or c.deref-ends.result.now c.ends_below.result 0) c.min.result c.zeros.result.now = record {
       within = within;
       below = λ j h. c.ends_below.ensures.below j h;
       is = refl;
@@ -48,11 +58,18 @@ returns-clause-heads c = zeros-split c.args.self.now _ _ _ (omega arith)
 pub returns-clause-full : goal.returns-clause-full
 returns-clause-full c = λ end is.
     let ends = c.deref-ends.result.now in
-    let are = trace-track c.self.inside.ends.items ends c.args.self.now c.deref-ends.ensures.value c.self.view_is c.self.invariant in
-    let within = found (c.args.at + 1) are (omega arith) (omega (arith, c.requires)) c.ends_below.ensures.count (λ j h. omega (arith, c.ends_below.ensures.below j h)) in
+    let are = trace-track c.self.inside.ends.items ends c.args.self.now c.deref-ends.ensures.value
+    c.self.view_is c.self.invariant in
+    let within =
+    found (c.args.at + 1) are (omega arith) (omega (arith, c.requires)) c.ends_below.ensures.count
+    (λ j h. omega (arith, c.ends_below.ensures.below j h)) in
     let its = get_or ends c.ends_below.result 0 in
     let after = c.ends_below.ensures.from c.ends_below.result (omega arith) within in
-    let its_end = boundary-found c.ends_below.result are (omega arith) within (λ j h. omega (arith, c.ends_below.ensures.below j h)) (omega (arith, after)) in
-    let same : end ≡ its - 0 = omega (arith, is.least (its - 0) its_end.boundary its_end.after, its_end.least end is.boundary is.after) in
-    let long : length c.zeros.result.now ≡ c.min.result = ap (λ (l : List ℕ). length l) c.zeros.ensures ∙ length-replicate {A = ℕ} c.min.result 0 in
+    let its_end =
+    boundary-found c.ends_below.result are (omega arith) within
+    (λ j h. omega (arith, c.ends_below.ensures.below j h)) (omega (arith, after)) in
+    let same : end ≡ its - 0 =
+    omega (arith, is.least (its - 0) its_end.boundary its_end.after, its_end.least end is.boundary is.after) in
+    let long : length c.zeros.result.now ≡ c.min.result =
+    ap (λ (l : List ℕ). length l) c.zeros.ensures ∙ length-replicate {A = ℕ} c.min.result 0 in
     omega (arith, long, c.min.ensures, same)

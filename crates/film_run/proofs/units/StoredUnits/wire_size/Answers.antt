@@ -7,7 +7,8 @@ use Rattle.film_run.proofs.units.StoredUnits.wire_size.Goals as goal
 pub returns : goal.returns
 returns c =
     let film = c.args.self.now.film in
-    let count : length (map (λ u. wire_size film.slice_starts.items u) film.units.items) ≡ length film.units.items = length-map film.units.items (λ u. wire_size film.slice_starts.items u) in
+    let count : length (map (λ u. wire_size film.slice_starts.items u) film.units.items)
+    ≡ length film.units.items = length-map film.units.items (λ u. wire_size film.slice_starts.items u) in
     elim (slice_get_cases film.units.items c.args.unit).1 [
       | inl found ↦
           c.wire_size.ensures.size found.0 found.2

@@ -6,4 +6,5 @@ use Rattle.inputs.proofs.collectors.UnitListFound.unit.Goals as goal
 
 pub returns-in-Ok : goal.returns-in-Ok
 returns-in-Ok c = λ calls h.
-    c.in-Ok.ensures.items ∙ ap (λ (l : List PictureUnit). l ++ c.args.unit ∷ []) h ∙ sym (units_in-append calls (unit_call c.args.unit ∷ []))
+    c.in-Ok.ensures.items ∙ ap (λ (l : List PictureUnit). l ++ c.args.unit ∷ []) h
+    ∙ sym (units_in-append calls (unit_call c.args.unit ∷ []))

@@ -10,7 +10,8 @@ invariant_of-self c = record {
   most = c.self.invariant.most;
   room = c.self.invariant.room;
   known = settled_known (drop c.self.inside.start c.self.inside.bytes.items) c.in_ok-known.known
-      (subst (λ (l : List ℕ). IsSettled l c.in_ok-known.known) (c.waiting-waiting.ensures ∙ sym c.self.view_is) c.in_ok-known.ensures);
+      (subst (λ (l : List ℕ). IsSettled l c.in_ok-known.known) (c.waiting-waiting.ensures ∙ sym c.self.view_is)
+      c.in_ok-known.ensures);
 }
 
 pub learn-requires-clause-known : goal.learn-requires-clause-known

@@ -8,7 +8,8 @@ pub returns-then-self-eq0-clause-fault : goal.returns-then-self-eq0-clause-fault
 returns-then-self-eq0-clause-fault c = λ r kept. refusal-empty c.args.self.now r c.if-self-eq0.true kept
 
 pub returns-then-self-gt-MAX_FILM_BYTES-clause-fault : goal.returns-then-self-gt-MAX_FILM_BYTES-clause-fault
-returns-then-self-gt-MAX_FILM_BYTES-clause-fault c = λ r kept. refusal-long c.args.self.now r c.if-self-gt-MAX_FILM_BYTES.true kept
+returns-then-self-gt-MAX_FILM_BYTES-clause-fault c =
+    λ r kept. refusal-long c.args.self.now r c.if-self-gt-MAX_FILM_BYTES.true kept
 
 pub returns-else-self-gt-MAX_FILM_BYTES-clause-accepted : goal.returns-else-self-gt-MAX_FILM_BYTES-clause-accepted
 returns-else-self-gt-MAX_FILM_BYTES-clause-accepted c =
@@ -30,7 +31,8 @@ returns-else-self-gt-MAX_FILM_BYTES-clause-tally c =
 
 pub returns-else-self-gt-MAX_FILM_BYTES-clause-sliced : goal.returns-else-self-gt-MAX_FILM_BYTES-clause-sliced
 returns-else-self-gt-MAX_FILM_BYTES-clause-sliced c =
-    MatchResult-weaker c.judge_end.result c.judge_end.ensures (λ t h. end_judgement-sliced c.args.self.now.latest c.args.self.now.tally t c.args.self.now.fed h.0 h.1) (λ f h. tt)
+    MatchResult-weaker c.judge_end.result c.judge_end.ensures
+    (λ t h. end_judgement-sliced c.args.self.now.latest c.args.self.now.tally t c.args.self.now.fed h.0 h.1) (λ f h. tt)
 
 pub returns-else-self-gt-MAX_FILM_BYTES-clause-short : goal.returns-else-self-gt-MAX_FILM_BYTES-clause-short
 returns-else-self-gt-MAX_FILM_BYTES-clause-short c =

@@ -7,7 +7,8 @@ use Rattle.mpeg_scan.proofs.progress.Progress.take_byte.Goals as goal
 
 pub take_code-requires-clause-room : goal.take_code-requires-clause-room
 take_code-requires-clause-room g c =
-    room-before c.args.byte (sym c.is_whole-whole.ensures ∙ c.if-whole.true) c.note.ensures c.saturating_sub-place.ensures c.requires.room
+    room-before c.args.byte (sym c.is_whole-whole.ensures ∙ c.if-whole.true) c.note.ensures
+    c.saturating_sub-place.ensures c.requires.room
 
 pub take_code-requires-clause-ready : goal.take_code-requires-clause-ready
 take_code-requires-clause-ready g c =
@@ -35,7 +36,8 @@ returns-then-whole-clause-told g c =
       place_is = c.saturating_sub-place.ensures;
       kept = kept;
     } in
-    subst (λ (l : List Call). g.F.Found.heard c.take_code.new.found l) (taken-calls code calls) (h _ heard)) c.take_code.ensures.told
+    subst (λ (l : List Call). g.F.Found.heard c.take_code.new.found l) (taken-calls code calls) (h _ heard))
+    c.take_code.ensures.told
 
 pub returns-then-whole-clause-fault : goal.returns-then-whole-clause-fault
 returns-then-whole-clause-fault g c =
@@ -51,11 +53,15 @@ returns-then-whole-clause-fault g c =
 
 pub returns-then-whole-clause-room : goal.returns-then-whole-clause-room
 returns-then-whole-clause-room g c =
-    on_ok_weaker c.take_code.result (λ h. coded-ahead c.args.byte (sym c.is_whole-whole.ensures ∙ c.if-whole.true) c.note.ensures c.saturating_sub-place.ensures h.1 c.requires.room) c.take_code.ensures.taken
+    on_ok_weaker c.take_code.result
+    (λ h. coded-ahead c.args.byte (sym c.is_whole-whole.ensures ∙ c.if-whole.true) c.note.ensures
+    c.saturating_sub-place.ensures h.1 c.requires.room) c.take_code.ensures.taken
 
 pub returns-then-whole-clause-ready : goal.returns-then-whole-clause-ready
 returns-then-whole-clause-ready g c =
-    both-ok c.take_code.result (λ h k. coded-awaits (g.F.Found.ready_at c.take_code.new.found) c.note.new.self c.args.byte c.saturating_sub-place.result h.1 k) c.take_code.ensures.taken c.take_code.ensures.ready
+    both-ok c.take_code.result
+    (λ h k. coded-awaits (g.F.Found.ready_at c.take_code.new.found) c.note.new.self c.args.byte
+    c.saturating_sub-place.result h.1 k) c.take_code.ensures.taken c.take_code.ensures.ready
 
 pub returns-else-whole-clause-kept : goal.returns-else-whole-clause-kept
 returns-else-whole-clause-kept g c =
@@ -63,7 +69,8 @@ returns-else-whole-clause-kept g c =
 
 pub returns-else-whole-clause-told : goal.returns-else-whole-clause-told
 returns-else-whole-clause-told g c =
-    λ r calls kept heard. subst (λ (l : List Call). g.F.Found.heard c.args.found.now l) (taken-none c.args.byte c.if-whole.false c.is_whole-whole.ensures kept calls) heard
+    λ r calls kept heard. subst (λ (l : List Call). g.F.Found.heard c.args.found.now l)
+    (taken-none c.args.byte c.if-whole.false c.is_whole-whole.ensures kept calls) heard
 
 pub returns-else-whole-clause-room : goal.returns-else-whole-clause-room
 returns-else-whole-clause-room g c = noted-ahead c.args.self.now c.note.new.self c.args.byte c.note.ensures c.requires.room

@@ -14,7 +14,9 @@ invariant-loop-at g l =
       room : IsAhead l.self;
       ready : AwaitsSlice (g.F.Found.ready_at l.found) (tally_with l.self.latest l.self.tally);
       kept : (r : List ℕ) → HasRead l.initial.self r → HasRead l.self (read r (take l.at l.piece));
-      told : (r : List ℕ) (calls : List Call) → HasRead l.initial.self r → g.F.Found.heard l.initial.found (calls ++ calls_of (codes_of r)) → g.F.Found.heard l.found (calls ++ calls_of (codes_of (read r (take l.at l.piece))));
+      told : (r : List ℕ) (calls : List Call) → HasRead l.initial.self r
+          → g.F.Found.heard l.initial.found (calls ++ calls_of (codes_of r))
+          → g.F.Found.heard l.found (calls ++ calls_of (codes_of (read r (take l.at l.piece))));
     }
 
 abbrev pub decreases-loop-at : goal.decreases-loop-at

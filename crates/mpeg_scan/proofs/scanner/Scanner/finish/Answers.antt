@@ -23,14 +23,16 @@ returns-clause-grammatical g c =
 
 pub tell_unit-requires-clause-least : goal.tell_unit-requires-clause-least
 tell_unit-requires-clause-least g c =
-    end-least c.args.self.progress c.in_ok-tally.tally c.in_ok-tally.ensures.tally c.in_ok-tally.ensures.sliced (c.args.self.room c.in_default.is)
+    end-least c.args.self.progress c.in_ok-tally.tally c.in_ok-tally.ensures.tally c.in_ok-tally.ensures.sliced
+    (c.args.self.room c.in_default.is)
 
 pub tell_unit-requires-clause-within : goal.tell_unit-requires-clause-within
 tell_unit-requires-clause-within g c = c.in_ok-tally.ensures.short
 
 pub tell_unit-requires-clause-ready : goal.tell_unit-requires-clause-ready
 tell_unit-requires-clause-ready g c =
-    end-ready (g.F.Found.ready_at c.args.found.now) c.args.self.progress c.in_ok-tally.tally c.in_ok-tally.ensures.tally c.in_ok-tally.ensures.sliced (c.requires c.in_default.is)
+    end-ready (g.F.Found.ready_at c.args.found.now) c.args.self.progress c.in_ok-tally.tally
+    c.in_ok-tally.ensures.tally c.in_ok-tally.ensures.sliced (c.requires c.in_default.is)
 
 pub returns-in-Some : goal.returns-in-Some
 returns-in-Some g c = record {
@@ -49,7 +51,9 @@ returns-clause-ended g c =
     λ r kept. let h = c.in_ok-tally.ensures.accepted r kept.progress in (h.0, ap (λ (t : Tally). t.rate) h.1, kept.progress.fed)
 
 pub returns-clause-fault : goal.returns-clause-fault
-returns-clause-fault g c = λ f e r kept. absurd (none-some c.in_ok-tally.tally.rate (sym (ap (λ r. option_map (λ (e : Ending). e.rate) (result_ok r)) e)))
+returns-clause-fault g c =
+    λ f e r kept. absurd
+    (none-some c.in_ok-tally.tally.rate (sym (ap (λ r. option_map (λ (e : Ending). e.rate) (result_ok r)) e)))
 
 pub returns-clause-again : goal.returns-clause-again
 returns-clause-again g c = λ e is. absurd (none-some e (sym c.in_default.is ∙ is))

@@ -10,6 +10,9 @@ invariant_of-result g c =
     let pieces = g.T.Track.pieces c.args.track in
     let total = c.total-total.result in
     let P : List Segment → Type 0 = λ plan.
-    IsPacing (pacing_of pieces c.args.sent_before plan c.args.start (total - c.args.sent_before) 0 0 0) × (total ≡ length (framed_bytes pieces)) in
-    let at_plan : P c.args.plan = new-pacing c.args.start c.requires.boundary c.requires.whole c.total-total.ensures c.total-total.type_inv c.segments-segments.ensures.plan in
+    IsPacing (pacing_of pieces c.args.sent_before plan c.args.start (total - c.args.sent_before) 0 0 0)
+    × (total ≡ length (framed_bytes pieces)) in
+    let at_plan : P c.args.plan =
+    new-pacing c.args.start c.requires.boundary c.requires.whole c.total-total.ensures
+    c.total-total.type_inv c.segments-segments.ensures.plan in
     subst P (sym c.new.ensures) at_plan

@@ -9,7 +9,8 @@ loop-segment-preserved c =
     let xs = c.args.segments.now in
     let i = c.loop-segment.segment-index in
     record {
-      some = All-more (λ s. 1 ≤ s.slots) xs i (record { slots = 0; bytes = 0 }) (search rules) c.loop-segment.invariant.some (omega arith);
+      some = All-more (λ s. 1 ≤ s.slots) xs i (record { slots = 0; bytes = 0 }) (search rules)
+          c.loop-segment.invariant.some (omega arith);
       slots_are = omega (arith, sum_by_more (λ s. s.slots) xs i (record { slots = 0; bytes = 0 }) (search rules));
       bytes_are = omega (arith, sum_by_more (λ s. s.bytes) xs i (record { slots = 0; bytes = 0 }) (search rules));
       few_slots = omega arith;

@@ -9,8 +9,10 @@ returns-clause-slice c = search rules
 pub invariant_of-self : goal.invariant_of-self
 invariant_of-self c =
     let P : Measure → Type 0 = λ m. IsMeasure m in
-    subst P (sym (returns-clause-slice c)) (keeps-measure c.args.self.now c.args.length (subst P c.self.view_is c.self.invariant) c.requires.least c.requires.most)
+    subst P (sym (returns-clause-slice c))
+    (keeps-measure c.args.self.now c.args.length (subst P c.self.view_is c.self.invariant) c.requires.least c.requires.most)
 
 pub returns-clause-measured : goal.returns-clause-measured
 returns-clause-measured c = λ head slices is.
-    returns-clause-slice c ∙ ap (λ (m : Measure). with_slice m c.args.length) is ∙ sym (slices-append slices (measure_from_head head) c.args.length)
+    returns-clause-slice c ∙ ap (λ (m : Measure). with_slice m c.args.length) is
+    ∙ sym (slices-append slices (measure_from_head head) c.args.length)

@@ -17,7 +17,8 @@ pub returns-in-End-clause-ended : goal.returns-in-End-clause-ended
 returns-in-End-clause-ended g c = λ h k.
     subst (λ (x : Heard). HasEnded c.args.wish.now h c.args.self.now.input (doing_of x c.args.bytes.now)
     (Fault (EndedEarly c.tally-units.result.units))
-    (sight (g.K.Link.told c.args.link.now) (g.O.Sink.written c.args.out.now)) (sight (g.K.Link.told c.args.link.now) (g.O.Sink.written c.args.out.now)))
+    (sight (g.K.Link.told c.args.link.now) (g.O.Sink.written c.args.out.now))
+    (sight (g.K.Link.told c.args.link.now) (g.O.Sink.written c.args.out.now)))
     (sym c.in-End.is)
     (ended-peer
     k
@@ -26,8 +27,16 @@ returns-in-End-clause-ended g c = λ h k.
 pub returns-in-Slot-clause-on : goal.returns-in-Slot-clause-on
 returns-in-Slot-clause-on g c = λ h k.
     subst (λ (x : Heard). HasRound c.args.wish.now h c.args.self.now.input (doing_of x c.args.bytes.now)
-    (record { alloc = c.args.self.now.alloc; input = c.args.self.now.input; replies = c.args.self.now.replies; session = c.args.self.now.session; watching = c.hear_slot.new.self })
-    (sight (g.K.Link.told c.args.link.now) (g.O.Sink.written c.args.out.now)) (sight (g.K.Link.told c.args.link.now) (g.O.Sink.written c.args.out.now)))
+    (record {
+      alloc = c.args.self.now.alloc;
+      input = c.args.self.now.input;
+      replies =
+          c.args.self.now.replies;
+      session = c.args.self.now.session;
+      watching = c.hear_slot.new.self;
+    })
+    (sight (g.K.Link.told c.args.link.now) (g.O.Sink.written c.args.out.now))
+    (sight (g.K.Link.told c.args.link.now) (g.O.Sink.written c.args.out.now)))
     (sym c.in-Slot.is)
     (round-slot
     (record {
@@ -42,7 +51,8 @@ returns-in-Slot-clause-on g c = λ h k.
 pub returns-in-Ok-clause-on : goal.returns-in-Ok-clause-on
 returns-in-Ok-clause-on g c = λ h k.
     let grown : c.put.new.self ≡ c.args.self.now.input ++ take c.in-Bytes.count c.args.bytes.now = search rules in
-    subst (λ (x : Heard). OnOk c.take_up.result (HasRound c.args.wish.now h c.args.self.now.input (doing_of x c.args.bytes.now) c.take_up.new.self
+    subst (λ (x : Heard). OnOk c.take_up.result
+    (HasRound c.args.wish.now h c.args.self.now.input (doing_of x c.args.bytes.now) c.take_up.new.self
     (sight (g.K.Link.told c.args.link.now) (g.O.Sink.written c.args.out.now))
     (sight (g.K.Link.told c.take_up.new.link) (g.O.Sink.written c.take_up.new.out)))) (sym c.in-Bytes.is)
     (on-ok c.take_up.result
@@ -57,7 +67,8 @@ returns-in-Ok-clause-on g c = λ h k.
 pub returns-in-Ok-clause-ended : goal.returns-in-Ok-clause-ended
 returns-in-Ok-clause-ended g c = λ h k.
     let grown : c.put.new.self ≡ c.args.self.now.input ++ take c.in-Bytes.count c.args.bytes.now = search rules in
-    subst (λ (x : Heard). IfErr c.take_up.result (λ end. HasEnded c.args.wish.now h c.args.self.now.input (doing_of x c.args.bytes.now) end
+    subst (λ (x : Heard). IfErr c.take_up.result
+    (λ end. HasEnded c.args.wish.now h c.args.self.now.input (doing_of x c.args.bytes.now) end
     (sight (g.K.Link.told c.args.link.now) (g.O.Sink.written c.args.out.now))
     (sight (g.K.Link.told c.take_up.new.link) (g.O.Sink.written c.take_up.new.out)))) (sym c.in-Bytes.is)
     (if-err c.take_up.result

@@ -27,8 +27,16 @@ returns-in-1-clause-passed g c = λ h k.
     length-take-le c.args.length c.args.self.now.input c.requires.block.4 in
     let state : c.add_report.new.self ≡ after_report c.args.self.now.watching c.args.length = search rules in
     subst (λ (x : ℕ). HasPassed c.args.wish.now h (block_moments x (take c.args.length c.args.self.now.input))
-    (record { alloc = c.args.self.now.alloc; input = c.args.self.now.input; replies = c.args.self.now.replies; session = c.args.self.now.session; watching = c.add_report.new.self })
-    (sight (g.K.Link.told c.args.link.now) (g.O.Sink.written c.args.out.now)) (sight (g.K.Link.told c.args.link.now) (g.O.Sink.written c.args.out.now)))
+    (record {
+      alloc = c.args.self.now.alloc;
+      input = c.args.self.now.input;
+      replies =
+          c.args.self.now.replies;
+      session = c.args.self.now.session;
+      watching = c.add_report.new.self;
+    })
+    (sight (g.K.Link.told c.args.link.now) (g.O.Sink.written c.args.out.now))
+    (sight (g.K.Link.told c.args.link.now) (g.O.Sink.written c.args.out.now)))
     (sym c.in-1.is)
     (report-done
     k refl refl
@@ -37,6 +45,7 @@ returns-in-1-clause-passed g c = λ h k.
 pub returns-in_default-clause-passed : goal.returns-in_default-clause-passed
 returns-in_default-clause-passed g c = λ h k.
     subst (λ (ms : List Moment). HasPassed c.args.wish.now h ms c.args.self.now
-    (sight (g.K.Link.told c.args.link.now) (g.O.Sink.written c.args.out.now)) (sight (g.K.Link.told c.args.link.now) (g.O.Sink.written c.args.out.now)))
+    (sight (g.K.Link.told c.args.link.now) (g.O.Sink.written c.args.out.now))
+    (sight (g.K.Link.told c.args.link.now) (g.O.Sink.written c.args.out.now)))
     (sym (other-moments c.args.channel (take c.args.length c.args.self.now.input) (search rules) (search rules)))
     (passed-none k (record { replies = refl; session = refl; watching = refl }))

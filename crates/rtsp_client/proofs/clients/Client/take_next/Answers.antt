@@ -28,7 +28,8 @@ returns-in-Ok-More-clause-taken g c = λ h k.
 pub returns-in-Ok-Skip-clause-taken : goal.returns-in-Ok-Skip-clause-taken
 returns-in-Ok-Skip-clause-taken g c = λ h k.
     taken-ends
-    (first_is c.in-Ok-Skip.ensures.first refl c.in-Ok-Skip.field-0-is) k (record { replies = refl; session = refl; watching = refl })
+    (first_is c.in-Ok-Skip.ensures.first refl c.in-Ok-Skip.field-0-is) k
+    (record { replies = refl; session = refl; watching = refl })
     (c.drop_front.ensures ∙ ap (drop c.in-Ok-Skip.length) c.look.ensures.waiting)
 
 pub returns-in_err-take_block-in-Ok-Block-clause-stopped : goal.returns-in_err-take_block-in-Ok-Block-clause-stopped
@@ -39,12 +40,20 @@ returns-in_err-take_block-in-Ok-Block-clause-stopped g c =
     rw (← c.look.ensures.waiting)
     (stopped-block
     (first_is c.in-Ok-Block.ensures.first c.look.ensures.waiting c.in-Ok-Block.field-0-is)
-    (c.in_err-take_block-in-Ok-Block.ensures.ended h (keeps-moved k (record { replies = refl; session = refl; watching = refl })))))
+    (c.in_err-take_block-in-Ok-Block.ensures.ended h
+    (keeps-moved k (record { replies = refl; session = refl; watching = refl })))))
 
 pub returns-in_ok-take_block-in-Ok-Block-clause-taken : goal.returns-in_ok-take_block-in-Ok-Block-clause-taken
 returns-in_ok-take_block-in-Ok-Block-clause-taken g c = λ h k.
     subst (λ (i : List ℕ). HasTaken c.args.wish.now h i
-    (record { alloc = c.take_block.new.self.alloc; input = c.drop_front-in-Ok-Block.new.self; replies = c.take_block.new.self.replies; session = c.take_block.new.self.session; watching = c.take_block.new.self.watching })
+    (record {
+      alloc = c.take_block.new.self.alloc;
+      input = c.drop_front-in-Ok-Block.new.self;
+      replies =
+          c.take_block.new.self.replies;
+      session = c.take_block.new.self.session;
+      watching = c.take_block.new.self.watching;
+    })
     (sight (g.K.Link.told c.args.link.now) (g.O.Sink.written c.args.out.now))
     (sight (g.K.Link.told c.take_block.new.link) (g.O.Sink.written c.take_block.new.out))) c.look.ensures.waiting
     (taken-block
@@ -55,7 +64,8 @@ returns-in_ok-take_block-in-Ok-Block-clause-taken g c = λ h k.
 
 pub returns-in_err-take_reply-in-Ok-Request-clause-stopped : goal.returns-in_err-take_reply-in-Ok-Request-clause-stopped
 returns-in_err-take_reply-in-Ok-Request-clause-stopped g c =
-    let p = err_from_is_err_and c.from_residual-in_err-take_reply-in-Ok-Request.result c.from_residual-in_err-take_reply-in-Ok-Request.ensures.1 in
+    let p = err_from_is_err_and c.from_residual-in_err-take_reply-in-Ok-Request.result
+    c.from_residual-in_err-take_reply-in-Ok-Request.ensures.1 in
     rw (p.1, p.2)
     (λ h k.
     rw (← c.look.ensures.waiting)
@@ -67,51 +77,95 @@ returns-in_err-take_reply-in-Ok-Request-clause-stopped g c =
 pub returns-in_ok-take_reply-in-Ok-Request-clause-taken : goal.returns-in_ok-take_reply-in-Ok-Request-clause-taken
 returns-in_ok-take_reply-in-Ok-Request-clause-taken g c = λ h k.
     subst (λ (i : List ℕ). HasTaken c.args.wish.now h i
-    (record { alloc = c.take_reply.new.self.alloc; input = c.drop_front-in-Ok-Request.new.self; replies = c.take_reply.new.self.replies; session = c.take_reply.new.self.session; watching = c.take_reply.new.self.watching })
+    (record {
+      alloc = c.take_reply.new.self.alloc;
+      input = c.drop_front-in-Ok-Request.new.self;
+      replies =
+          c.take_reply.new.self.replies;
+      session = c.take_reply.new.self.session;
+      watching = c.take_reply.new.self.watching;
+    })
     (sight (g.K.Link.told c.args.link.now) (g.O.Sink.written c.args.out.now))
     (sight (g.K.Link.told c.take_reply.new.link) (g.O.Sink.written c.args.out.now))) c.look.ensures.waiting
     (taken-reply
     (first_is c.in-Ok-Request.ensures.first c.look.ensures.waiting c.in-Ok-Request.field-0-is)
     (c.in_ok-take_reply-in-Ok-Request.ensures.passed h (g.O.Sink.written c.args.out.now)
-    (keeps-moved k (record { replies = refl; session = refl; watching = refl }))) (record { replies = refl; session = refl; watching = refl })
+    (keeps-moved k (record { replies = refl; session = refl; watching = refl })))
+    (record { replies = refl; session = refl; watching = refl })
     (c.drop_front-in-Ok-Request.ensures ∙ ap (drop c.in-Ok-Request.length) c.take_reply.ensures.input))
 
 pub returns-in-Ok-Skip-clause-going : goal.returns-in-Ok-Skip-clause-going
 returns-in-Ok-Skip-clause-going g c =
-    let first : IsFirst c.args.self.now.input (Ok (Skip c.in-Ok-Skip.length)) = first_is c.in-Ok-Skip.ensures.first refl c.in-Ok-Skip.field-0-is in
-    goes-on {c = c.args.self.now} {new = record { alloc = c.args.self.now.alloc; input = c.drop_front.new.self; replies = c.args.self.now.replies; session = c.args.self.now.session; watching = c.args.self.now.watching }}
-    c.in-Ok-Skip.length c.requires.going.replies (omega arith) first.1.within (c.drop_front.ensures ∙ ap (drop c.in-Ok-Skip.length) c.look.ensures.waiting)
+    let first : IsFirst c.args.self.now.input (Ok (Skip c.in-Ok-Skip.length)) =
+    first_is c.in-Ok-Skip.ensures.first refl c.in-Ok-Skip.field-0-is in
+    goes-on {c = c.args.self.now}
+    {new = record {
+      alloc = c.args.self.now.alloc;
+      input = c.drop_front.new.self;
+      replies =
+          c.args.self.now.replies;
+      session = c.args.self.now.session;
+      watching = c.args.self.now.watching;
+    }}
+    c.in-Ok-Skip.length c.requires.going.replies (omega arith) first.1.within
+    (c.drop_front.ensures ∙ ap (drop c.in-Ok-Skip.length) c.look.ensures.waiting)
 
 pub returns-in-Ok-Skip-clause-shorter : goal.returns-in-Ok-Skip-clause-shorter
 returns-in-Ok-Skip-clause-shorter g c =
-    let first : IsFirst c.args.self.now.input (Ok (Skip c.in-Ok-Skip.length)) = first_is c.in-Ok-Skip.ensures.first refl c.in-Ok-Skip.field-0-is in
+    let first : IsFirst c.args.self.now.input (Ok (Skip c.in-Ok-Skip.length)) =
+    first_is c.in-Ok-Skip.ensures.first refl c.in-Ok-Skip.field-0-is in
     λ _. fewer-left c.args.self.now.input c.drop_front.new.self c.in-Ok-Skip.length first.0 first.1.within
     (c.drop_front.ensures ∙ ap (drop c.in-Ok-Skip.length) c.look.ensures.waiting)
 
 pub returns-in_ok-take_block-in-Ok-Block-clause-going : goal.returns-in_ok-take_block-in-Ok-Block-clause-going
 returns-in_ok-take_block-in-Ok-Block-clause-going g c =
-    let first : IsFirst c.args.self.now.input (Ok (Block c.in-Ok-Block.channel c.in-Ok-Block.length)) = first_is c.in-Ok-Block.ensures.first refl c.in-Ok-Block.field-0-is in
-    goes-on {c = c.args.self.now} {new = record { alloc = c.take_block.new.self.alloc; input = c.drop_front-in-Ok-Block.new.self; replies = c.take_block.new.self.replies; session = c.take_block.new.self.session; watching = c.take_block.new.self.watching }}
-    c.in-Ok-Block.length (subst (λ r. r ≤ 2) (sym c.take_block.ensures.replies) c.requires.going.replies) c.in_ok-take_block-in-Ok-Block.ensures.few first.4
+    let first : IsFirst c.args.self.now.input (Ok (Block c.in-Ok-Block.channel c.in-Ok-Block.length)) =
+    first_is c.in-Ok-Block.ensures.first refl c.in-Ok-Block.field-0-is in
+    goes-on {c = c.args.self.now}
+    {new = record {
+      alloc = c.take_block.new.self.alloc;
+      input =
+          c.drop_front-in-Ok-Block.new.self;
+      replies = c.take_block.new.self.replies;
+      session =
+          c.take_block.new.self.session;
+      watching = c.take_block.new.self.watching;
+    }}
+    c.in-Ok-Block.length (subst (λ r. r ≤ 2) (sym c.take_block.ensures.replies) c.requires.going.replies)
+    c.in_ok-take_block-in-Ok-Block.ensures.few first.4
     (c.drop_front-in-Ok-Block.ensures ∙ ap (drop c.in-Ok-Block.length) (c.take_block.ensures.input ∙ c.look.ensures.waiting))
 
 pub returns-in_ok-take_block-in-Ok-Block-clause-shorter : goal.returns-in_ok-take_block-in-Ok-Block-clause-shorter
 returns-in_ok-take_block-in-Ok-Block-clause-shorter g c =
-    let first : IsFirst c.args.self.now.input (Ok (Block c.in-Ok-Block.channel c.in-Ok-Block.length)) = first_is c.in-Ok-Block.ensures.first refl c.in-Ok-Block.field-0-is in
-    λ _. fewer-left c.args.self.now.input c.drop_front-in-Ok-Block.new.self c.in-Ok-Block.length (subst (λ n. 0 < n) (sym first.3) (omega arith)) first.4
+    let first : IsFirst c.args.self.now.input (Ok (Block c.in-Ok-Block.channel c.in-Ok-Block.length)) =
+    first_is c.in-Ok-Block.ensures.first refl c.in-Ok-Block.field-0-is in
+    λ _. fewer-left c.args.self.now.input c.drop_front-in-Ok-Block.new.self c.in-Ok-Block.length
+    (subst (λ n. 0 < n) (sym first.3) (omega arith)) first.4
     (c.drop_front-in-Ok-Block.ensures ∙ ap (drop c.in-Ok-Block.length) (c.take_block.ensures.input ∙ c.look.ensures.waiting))
 
 pub returns-in_ok-take_reply-in-Ok-Request-clause-going : goal.returns-in_ok-take_reply-in-Ok-Request-clause-going
 returns-in_ok-take_reply-in-Ok-Request-clause-going g c =
-    let first : IsFirst c.args.self.now.input (Ok (Request c.in-Ok-Request.length)) = first_is c.in-Ok-Request.ensures.first refl c.in-Ok-Request.field-0-is in
-    goes-on {c = c.args.self.now} {new = record { alloc = c.take_reply.new.self.alloc; input = c.drop_front-in-Ok-Request.new.self; replies = c.take_reply.new.self.replies; session = c.take_reply.new.self.session; watching = c.take_reply.new.self.watching }}
+    let first : IsFirst c.args.self.now.input (Ok (Request c.in-Ok-Request.length)) =
+    first_is c.in-Ok-Request.ensures.first refl c.in-Ok-Request.field-0-is in
+    goes-on {c = c.args.self.now}
+    {new = record {
+      alloc = c.take_reply.new.self.alloc;
+      input =
+          c.drop_front-in-Ok-Request.new.self;
+      replies = c.take_reply.new.self.replies;
+      session =
+          c.take_reply.new.self.session;
+      watching = c.take_reply.new.self.watching;
+    }}
     c.in-Ok-Request.length c.in_ok-take_reply-in-Ok-Request.ensures.replies (omega (arith, c.take_reply.ensures.few)) first.2
     (c.drop_front-in-Ok-Request.ensures ∙ ap (drop c.in-Ok-Request.length) (c.take_reply.ensures.input ∙ c.look.ensures.waiting))
 
 pub returns-in_ok-take_reply-in-Ok-Request-clause-shorter : goal.returns-in_ok-take_reply-in-Ok-Request-clause-shorter
 returns-in_ok-take_reply-in-Ok-Request-clause-shorter g c =
-    let first : IsFirst c.args.self.now.input (Ok (Request c.in-Ok-Request.length)) = first_is c.in-Ok-Request.ensures.first refl c.in-Ok-Request.field-0-is in
-    λ _. fewer-left c.args.self.now.input c.drop_front-in-Ok-Request.new.self c.in-Ok-Request.length (some-request c.args.self.now.input c.in-Ok-Request.length first.1) first.2
+    let first : IsFirst c.args.self.now.input (Ok (Request c.in-Ok-Request.length)) =
+    first_is c.in-Ok-Request.ensures.first refl c.in-Ok-Request.field-0-is in
+    λ _. fewer-left c.args.self.now.input c.drop_front-in-Ok-Request.new.self c.in-Ok-Request.length
+    (some-request c.args.self.now.input c.in-Ok-Request.length first.1) first.2
     (c.drop_front-in-Ok-Request.ensures ∙ ap (drop c.in-Ok-Request.length) (c.take_reply.ensures.input ∙ c.look.ensures.waiting))
 
 pub take_reply-requires-clause-message : goal.take_reply-requires-clause-message

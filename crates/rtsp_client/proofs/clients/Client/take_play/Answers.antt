@@ -15,7 +15,8 @@ returns-in_default-play_start-clause-ended c = λ h s k.
     let range : play_range (take c.args.length c.args.self.now.input) ≡ Some c.in-Some.end_ms =
     ap (λ i. play_range (take c.args.length i)) (sym c.waiting.ensures) ∙ (sym c.play_range.ensures.range ∙ c.in-Some.is) in
     let start : play_start (take c.args.length c.args.self.now.input) ≡ None =
-    ap (λ i. play_start (take c.args.length i)) (sym c.waiting.ensures) ∙ (sym c.play_start.ensures ∙ c.in_default-play_start.is) in
+    ap (λ i. play_start (take c.args.length i)) (sym c.waiting.ensures)
+    ∙ (sym c.play_start.ensures ∙ c.in_default-play_start.is) in
     play-lacks k c.requires.second
     c.requires.good
     (ap (λ o. is_some o && is_some (play_start (take c.args.length c.args.self.now.input))) range ∙ ap is_some start) refl
@@ -26,4 +27,11 @@ returns-clause-passed c = λ h s k.
     ap (λ i. play_range (take c.args.length i)) (sym c.waiting.ensures) ∙ (sym c.play_range.ensures.range ∙ c.in-Some.is) in
     let start : play_start (take c.args.length c.args.self.now.input) ≡ Some c.in-Some-play_start.start =
     ap (λ i. play_start (take c.args.length i)) (sym c.waiting.ensures) ∙ (sym c.play_start.ensures ∙ c.in-Some-play_start.is) in
-    play-done (record { keeps = k; second = c.requires.second; awaited = c.requires.good; start_is = start; range_is = range }) refl refl c.begin.ensures
+    play-done (record {
+      keeps = k;
+      second = c.requires.second;
+      awaited = c.requires.good;
+      start_is =
+          start;
+      range_is = range;
+    }) refl refl c.begin.ensures

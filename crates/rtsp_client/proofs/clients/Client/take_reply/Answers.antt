@@ -12,7 +12,8 @@ pub returns-in-None-clause-ended : goal.returns-in-None-clause-ended
 returns-in-None-clause-ended g c = λ h out k.
     bad-reply
     k
-    (subst (λ (i : List ℕ). (code : ℕ) → ¬ IsAwaited c.args.self.now (take c.args.length i) code) c.waiting.ensures c.in-None.ensures) refl
+    (subst (λ (i : List ℕ). (code : ℕ) → ¬ IsAwaited c.args.self.now (take c.args.length i) code)
+    c.waiting.ensures c.in-None.ensures) refl
 
 pub returns-then-code-ne200-clause-ended : goal.returns-then-code-ne200-clause-ended
 returns-then-code-ne200-clause-ended g c = λ h out k.

@@ -47,8 +47,10 @@ returns-in_err-send-clause-ended g c =
     rw (p.1, p.2)
     (λ h out k.
     let here : session_in (take c.args.length c.waiting.result.now) ≡ Some c.in-Some.session.now = search rules in
-    let text : c.as_slice.result.now ≡ play_text c.args.wish.now c.in-Some.session.now = c.as_slice.ensures.value ∙ c.in_ok-request.ensures in
-    let front : IsFrontTold (g.K.Link.told c.args.link.now) (g.K.Link.told c.send.new.self) c.as_slice.result.now = c.in_err-send.ensures.front in
+    let text : c.as_slice.result.now ≡ play_text c.args.wish.now c.in-Some.session.now =
+    c.as_slice.ensures.value ∙ c.in_ok-request.ensures in
+    let front : IsFrontTold (g.K.Link.told c.args.link.now) (g.K.Link.told c.send.new.self)
+    c.as_slice.result.now = c.in_err-send.ensures.front in
     setup-cut out
     (record {
       keeps = k;
@@ -62,8 +64,10 @@ returns-in_err-send-clause-ended g c =
 pub returns-clause-passed : goal.returns-clause-passed
 returns-clause-passed g c = λ h out k.
     let here : session_in (take c.args.length c.waiting.result.now) ≡ Some c.in-Some.session.now = search rules in
-    let text : c.as_slice.result.now ≡ play_text c.args.wish.now c.in-Some.session.now = c.as_slice.ensures.value ∙ c.in_ok-request.ensures in
-    let sent : g.K.Link.told c.send.new.self ≡ told_more (g.K.Link.told c.args.link.now) (sends c.as_slice.result.now) = c.in_ok-send.ensures.whole in
+    let text : c.as_slice.result.now ≡ play_text c.args.wish.now c.in-Some.session.now =
+    c.as_slice.ensures.value ∙ c.in_ok-request.ensures in
+    let sent : g.K.Link.told c.send.new.self
+    ≡ told_more (g.K.Link.told c.args.link.now) (sends c.as_slice.result.now) = c.in_ok-send.ensures.whole in
     setup-done
     (g.K.Link.told c.args.link.now) out
     (record {

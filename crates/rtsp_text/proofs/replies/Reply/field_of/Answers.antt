@@ -7,7 +7,8 @@ returns-clause-text c =
     let old = c.args.self.now in
     let name = c.args.name.now in
     two_put old _ (codes "\r\n")
-    (two_put old (name ++ codes ": ") _ (two_put old name (codes ": ") c.put.ensures.text c.put-2.ensures.text) c.put_parts.ensures.text)
+    (two_put old (name ++ codes ": ") _ (two_put old name (codes ": ") c.put.ensures.text c.put-2.ensures.text)
+    c.put_parts.ensures.text)
     c.put-3.ensures.text
 
 pub returns-clause-front : goal.returns-clause-front

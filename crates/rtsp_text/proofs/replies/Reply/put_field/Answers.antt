@@ -8,5 +8,6 @@ returns-clause-text c =
     let name = c.args.name.now in
     let value = c.args.value.now in
     two_put old (name ++ codes ": " ++ value) (codes "\r\n")
-    (two_put old (name ++ codes ": ") value (two_put old name (codes ": ") c.put.ensures.text c.put-2.ensures.text) c.put-3.ensures.text)
+    (two_put old (name ++ codes ": ") value
+    (two_put old name (codes ": ") c.put.ensures.text c.put-2.ensures.text) c.put-3.ensures.text)
     c.put-4.ensures.text

@@ -14,13 +14,17 @@ returns-in-Some-clause-text c =
     (c.put_field.ensures.text ∙ ap (λ t. c.put_status.new.self ++ t) line)
 
 pub returns-in-Some-clause-front : goal.returns-in-Some-clause-front
-returns-in-Some-clause-front c = front_start c.args.code c.args.sequence c.args.self.now c.put_field.new.self (returns-in-Some-clause-text c)
+returns-in-Some-clause-front c =
+    front_start c.args.code c.args.sequence c.args.self.now c.put_field.new.self (returns-in-Some-clause-text c)
 
 pub returns-in_default-clause-text : goal.returns-in_default-clause-text
 unfolding sequence_line
 returns-in_default-clause-text c =
     let none : sequence_line c.args.sequence ≡ [] = ap sequence_line c.in_default.is in
-    c.put_status.ensures.text ∙ ap (λ t. c.args.self.now ++ t) (sym (append-nil (status_line c.args.code)) ∙ ap (λ t. status_line c.args.code ++ t) (sym none))
+    c.put_status.ensures.text
+    ∙ ap (λ t. c.args.self.now ++ t)
+    (sym (append-nil (status_line c.args.code)) ∙ ap (λ t. status_line c.args.code ++ t) (sym none))
 
 pub returns-in_default-clause-front : goal.returns-in_default-clause-front
-returns-in_default-clause-front c = front_start c.args.code c.args.sequence c.args.self.now c.put_status.new.self (returns-in_default-clause-text c)
+returns-in_default-clause-front c =
+    front_start c.args.code c.args.sequence c.args.self.now c.put_status.new.self (returns-in_default-clause-text c)

@@ -34,7 +34,8 @@ frames_of-frames-requires-clause-order c =
 pub info_of-info-requires-clause-end : goal.info_of-info-requires-clause-end
 info_of-info-requires-clause-end c =
     let stored = c.stored_at-stored.result.now in
-    let at = subst (λ (s : Standing). IsFilmAt s.films c.args.setup.now.film stored) c.self.view_is c.stored_at-stored.ensures.film in
+    let at = subst (λ (s : Standing). IsFilmAt s.films c.args.setup.now.film stored) c.self.view_is
+    c.stored_at-stored.ensures.film in
     let run_is = (c.requires.run stored at).run_of.run_is in
     let wire : PictureUnit → ℕ = λ u. wire_size stored.film.slice_starts.items u in
     omega (arith, run_is.within, length-map stored.film.units.items wire, c.law_film.ensures.units)
@@ -47,9 +48,11 @@ invariant_of-self-2 c =
     let stored = c.stored_at-stored.result.now in
     let planned = c.args.planned in
     let sequence = c.args.sequence in
-    let ready : IsReadyIn inside.state setup = subst (λ (s : Standing). IsReadyIn s.state setup) (sym c.self.view_is) c.requires.ready in
+    let ready : IsReadyIn inside.state setup =
+    subst (λ (s : Standing). IsReadyIn s.state setup) (sym c.self.view_is) c.requires.ready in
     let playable : IsPlayable stored inside.source inside.settings setup planned.counts planned.run planned.plan =
-    subst (λ (s : Standing). OfFilm s.films setup.film (λ film. IsPlayable film s.source s.settings setup planned.counts planned.run
+    subst (λ (s : Standing). OfFilm s.films setup.film
+    (λ film. IsPlayable film s.source s.settings setup planned.counts planned.run
     planned.plan)) (sym c.self.view_is) c.requires.run stored c.stored_at-stored.ensures.film in
     let closed : open_receipts inside.state ≡ 0 = ready_closed inside.state setup ready in
     let prepared : PlayPrepared inside.source inside.settings setup stored planned.plan (record {
@@ -136,9 +139,12 @@ returns-clause-exact c =
       at = c.stored_at-stored.ensures.film;
       command = refl;
       state =
-          ap (λ (f : Sending). new f own paced c.put_play.new.reply log.receipts log.plays log.offers) c.frames_of-frames.ensures.frames
-          ∙ ap (λ (l : List Segment). new sending l paced c.put_play.new.reply log.receipts log.plays log.offers) c.in-Ok.ensures.own
-          ∙ ap (λ (l : List Segment). new sending plan l c.put_play.new.reply log.receipts log.plays log.offers) c.in-Ok.ensures.paced
+          ap (λ (f : Sending). new f own paced c.put_play.new.reply log.receipts log.plays log.offers)
+          c.frames_of-frames.ensures.frames
+          ∙ ap (λ (l : List Segment). new sending l paced c.put_play.new.reply log.receipts log.plays
+          log.offers) c.in-Ok.ensures.own
+          ∙ ap (λ (l : List Segment). new sending plan l c.put_play.new.reply log.receipts log.plays log.offers)
+          c.in-Ok.ensures.paced
           ∙ ap (λ (t : List ℕ). new sending plan plan t log.receipts log.plays log.offers) text
           ∙ ap (λ (r : List Receipt). new sending plan plan front r log.plays log.offers) lists.receipts
           ∙ ap (λ (p : List PlayNote). new sending plan plan front inside.log.receipts p log.offers) lists.plays

@@ -9,7 +9,8 @@ pub returns-clause-exact : goal.returns-clause-exact
 returns-clause-exact c =
     let stored = c.stored_at-stored.result.now in
     let text = describe_text c.args.sequence c.args.authority.now in
-    subst (λ (old : Standing). Describes old c.args.sequence c.args.film c.args.authority.now c.reply_waits.result c.reply_waits.new.self)
+    subst (λ (old : Standing). Describes old c.args.sequence c.args.film c.args.authority.now
+    c.reply_waits.result c.reply_waits.new.self)
     c.self.view_is
     (record {
       stored = stored;

@@ -24,7 +24,8 @@ invariant_of-self c =
     c.self.invariant.awaited in
     let kept : IsPreparedIn films inside.source inside.settings (Ready setup c.in-Ready.field-1) prepared =
     subst (λ (s : State). IsPreparedIn films inside.source inside.settings s prepared) state asked in
-    let ready = subst (λ (s : State). IsStateKept films inside.source inside.settings inside.counts s) state c.self.invariant.state in
+    let ready = subst (λ (s : State). IsStateKept films inside.source inside.settings inside.counts s) state
+    c.self.invariant.state in
     let play : Played = record {
       run = prepared.run;
       place = c.args.place;
@@ -32,7 +33,8 @@ invariant_of-self c =
       plan = prepared.plan;
       pacer = whole_pacing (run_pieces prepared.frames) prepared.run.sent prepared.paced c.args.start;
     } in
-    let pacing : IsPacing play.pacer = subst (λ (p : Played). IsPacing p.pacer) c.play_of-play.ensures.play c.play_of-play.ensures.pacing in
+    let pacing : IsPacing play.pacer =
+    subst (λ (p : Played). IsPacing p.pacer) c.play_of-play.ensures.play c.play_of-play.ensures.pacing in
     let none : c.replace.new.dest ≡ Nothing = c.replace.ensures.after in
     let receipts : awaited_receipts c.replace.new.dest ≡ 0 = ap awaited_receipts none in
     let plays : awaited_plays c.replace.new.dest ≡ 0 = ap awaited_plays none in
@@ -40,7 +42,8 @@ invariant_of-self c =
     let closed : open_receipts inside.state ≡ 0 = ap open_receipts state in
     let two : awaited_receipts inside.awaited ≡ 2 = ap awaited_receipts awaited in
     let one : awaited_plays inside.awaited ≡ 1 = ap awaited_plays awaited in
-    let receipt_room : c.note.new.self.receipt_room ≡ inside.log.receipt_room - 1 = ap (λ (l : Logged). l.receipt_room) c.note.ensures in
+    let receipt_room : c.note.new.self.receipt_room ≡ inside.log.receipt_room - 1 =
+    ap (λ (l : Logged). l.receipt_room) c.note.ensures in
     let play_room : c.note.new.self.play_room ≡ inside.log.play_room = ap (λ (l : Logged). l.play_room) c.note.ensures in
     rw (c.enter.ensures, c.play_of-play.ensures.play) (record {
       films = c.self.invariant.films;

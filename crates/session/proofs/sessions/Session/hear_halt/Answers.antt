@@ -32,15 +32,18 @@ invariant_of-self c =
     let state = c.state_and_note-state.result.0 in
     let counts = c.counts_next-self-inside.result in
     let was : inside.state ≡ Playing setup play = sym c.in-Playing.ensures.value in
-    let kept = subst (λ (s : State). IsStateKept films inside.source inside.settings inside.counts s) was c.self.invariant.state in
-    let asked : next_of inside.awaited ≡ next = sym (ap next_of c.replace-asked.ensures.value) ∙ sym c.kept_and_next-keep.ensures.next in
+    let kept = subst (λ (s : State). IsStateKept films inside.source inside.settings inside.counts s) was
+    c.self.invariant.state in
+    let asked : next_of inside.awaited ≡ next =
+    sym (ap next_of c.replace-asked.ensures.value) ∙ sym c.kept_and_next-keep.ensures.next in
     let left : IsNextIn films inside.source inside.counts (Playing setup play) next =
     subst (λ (s : State). IsNextIn films inside.source inside.counts s next) was
     (subst (λ (n : Next). IsNextIn films inside.source inside.counts inside.state n) asked
     (next_in (ground_of inside) inside.lost inside.state inside.awaited c.self.invariant.awaited)) in
     let none : c.replace-asked.new.dest ≡ Nothing = c.replace-asked.ensures.after in
     let is : state ≡ state_after setup play next = c.state_and_note-state.ensures.state in
-    let counted : counts ≡ counts_next films inside.source inside.counts setup play.run keep next = c.counts_next-self-inside.ensures in
+    let counted : counts ≡ counts_next films inside.source inside.counts setup play.run keep next =
+    c.counts_next-self-inside.ensures in
     let waits : (inside.waits || c.is_answered.result) ≡ (if is_answered next then true else inside.waits) =
     ap (λ b. inside.waits || b) c.is_answered.ensures ∙ or_if inside.waits (is_answered next) in
     let tearing : (inside.tearing || c.is_torn.result) ≡ (if is_torn next then true else inside.tearing) =
@@ -62,7 +65,9 @@ invariant_of-self c =
           (halted_kept films keep next kept left));
       awaited = subst (λ (a : Awaited). IsAwaitedKept films inside.source inside.settings counts inside.lost state a) (sym none)
           (subst (λ (s : State). IsAwaitedKept films inside.source inside.settings counts inside.lost s Nothing) (sym is)
-          (halted_rest (record { films = films; source = inside.source; settings = inside.settings; counts = counts }) inside.lost setup play next));
+          (halted_rest
+          (record { films = films; source = inside.source; settings = inside.settings; counts = counts })
+          inside.lost setup play next));
       stop = subst (IsStopAnswered state) (sym waits)
           (subst (λ (s : State). IsStopAnswered s (if is_answered next then true else inside.waits)) (sym is)
           (halted_stop setup play next inside.waits));

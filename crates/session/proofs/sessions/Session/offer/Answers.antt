@@ -10,4 +10,5 @@ offer_ready-requires-clause-paused c =
     let inside = c.self.inside in
     let kept = subst (λ (s : State). IsStateKept inside.films.now inside.source inside.settings inside.counts s) c.in-Ready.is
     c.self.invariant.state in
-    subst (λ (old : Standing). IsPausedIn old.films old.source old.counts c.in-Ready.setup c.in-Ready.paused) c.self.view_is kept.1
+    subst (λ (old : Standing). IsPausedIn old.films old.source old.counts c.in-Ready.setup c.in-Ready.paused)
+    c.self.view_is kept.1

@@ -58,7 +58,8 @@ invariant_of-self c =
       pacing = c.ask_halt-keep.ensures.pacing;
       pacer_is = c.ask_halt-keep.ensures.state;
       most = c.ask_halt-keep.ensures.most;
-      left = of_film inside.films.now setup.film stored (λ s. IsRunOf s inside.source setup inside.counts left) c.stored_at-stored.ensures.film runs;
+      left = of_film inside.films.now setup.film stored (λ s. IsRunOf s inside.source setup inside.counts left)
+          c.stored_at-stored.ensures.film runs;
     }))
 
 pub returns-clause-exact : goal.returns-clause-exact
@@ -80,7 +81,9 @@ returns-clause-exact c =
     let value : keep ≡ next_boundary play.pacer = c.ask_halt-keep.ensures.value in
     let pacer : c.ask_halt-keep.new.self ≡ record play.pacer { keep = keep } =
     c.ask_halt-keep.ensures.state ∙ ap (λ (n : ℕ). record play.pacer { keep = n }) (sym value) in
-    rw (c.enter.ensures, c.set.ensures) (subst (λ (old : Standing). Pauses old.state old c.args.sequence (AskHalt keep) (new c.ask_halt-keep.new.self c.put_session.new.reply))
+    rw (c.enter.ensures, c.set.ensures)
+    (subst (λ (old : Standing). Pauses old.state old c.args.sequence (AskHalt keep)
+    (new c.ask_halt-keep.new.self c.put_session.new.reply))
     c.self.view_is
     (subst (λ (s : State). Pauses s (standing_of inside) c.args.sequence (AskHalt keep)
     (new c.ask_halt-keep.new.self c.put_session.new.reply)) (sym state)
@@ -90,7 +93,8 @@ returns-clause-exact c =
       last = last;
       last_is = c.last_slot-last.ensures ∙ ap (λ (p : Pacing). p.passed) c.ask_halt-keep.ensures.state;
       left = left;
-      left_is = subst (λ (n : ℕ). IsLeft sizes (playback_of stored.film inside.settings setup) play.run play.plan last n left) value
+      left_is = subst (λ (n : ℕ). IsLeft sizes (playback_of stored.film inside.settings setup) play.run
+          play.plan last n left) value
           (subst (λ (p : Playback). IsLeft sizes p play.run play.plan last keep left) c.playback_of-playback.ensures.playback
           c.run_after-left.ensures.left);
       asks = record {

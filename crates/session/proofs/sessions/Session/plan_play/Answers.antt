@@ -64,7 +64,8 @@ returns-in-Err-clause-exact c =
       refused = c.in-Err.refused;
       no_curves = subst (λ (r : Run). HaveNoCurves (rest_sizes sizes r) (timing_of playback r) c.in-Err.refused)
           c.run_and_counts.ensures.run
-          (subst (λ (p : Playback). HaveNoCurves (rest_sizes sizes c.run_and_counts.result.0) (timing_of p c.run_and_counts.result.0)
+          (subst (λ (p : Playback). HaveNoCurves (rest_sizes sizes c.run_and_counts.result.0)
+          (timing_of p c.run_and_counts.result.0)
           c.in-Err.refused) c.playback_of-playback.ensures.playback c.in-Err.ensures.refused);
       refusal_is = c.refusal_of.ensures;
     }))

@@ -12,18 +12,21 @@ plan_play-requires-clause-paused c =
     let inside = c.self.inside in
     let kept = subst (λ (s : State). IsStateKept inside.films.now inside.source inside.settings inside.counts s) c.in-Ready.is
     c.self.invariant.state in
-    subst (λ (old : Standing). IsPausedIn old.films old.source old.counts c.in-Ready.setup c.in-Ready.paused) c.self.view_is kept.1
+    subst (λ (old : Standing). IsPausedIn old.films old.source old.counts c.in-Ready.setup c.in-Ready.paused)
+    c.self.view_is kept.1
 
 pub returns-in-Ok-clause-exact : goal.returns-in-Ok-clause-exact
 returns-in-Ok-clause-exact c =
     let old : Standing = c.args.self.now in
     let setup = c.in-Ready.setup in
     let paused = c.in-Ready.paused in
-    let state : old.state ≡ Ready setup paused = subst (λ (s : Standing). s.state ≡ Ready setup paused) c.self.view_is c.in-Ready.is in
+    let state : old.state ≡ Ready setup paused =
+    subst (λ (s : Standing). s.state ≡ Ready setup paused) c.self.view_is c.in-Ready.is in
     subst (λ (s : State). Plays s old c.args.request.now c.args.authority.now c.ask_play.result c.ask_play.new.self) (sym state)
     (record {
       planned = Ok c.in-Ok.planned;
-      is_planned = subst (λ (range : Option (List ℕ)). IsPlanned old setup paused range (Ok c.in-Ok.planned)) c.header.ensures.value
+      is_planned =
+          subst (λ (range : Option (List ℕ)). IsPlanned old setup paused range (Ok c.in-Ok.planned)) c.header.ensures.value
           c.in-Ok.ensures.exact;
       asks = c.ask_play.ensures.exact;
     })

@@ -8,14 +8,17 @@ use Rattle.session.proofs.sessions.Session.set_up.Goals as goal
 
 pub returns-in-Ok-clause-exact : goal.returns-in-Ok-clause-exact
 returns-in-Ok-clause-exact c =
-    subst (λ (old : Standing). SetsUp old c.args.request.now c.args.film c.reply_waits.result c.reply_waits.new.self) c.self.view_is
+    subst (λ (old : Standing). SetsUp old c.args.request.now c.args.film c.reply_waits.result
+    c.reply_waits.new.self) c.self.view_is
     (record {
       read = Ok c.in-Ok.setup;
       is_read = c.in-Ok.ensures.read;
       done = (
         c.reply_waits.ensures.asks,
         c.reply_waits.ensures.waits
-            ∙ ap (λ (s : State). record (with_reply (standing_of c.self.inside) c.put_setup.new.reply) { state = s }) c.enter.ensures
-            ∙ ap (λ (t : List ℕ). record (with_reply (standing_of c.self.inside) t) { state = Ready c.in-Ok.setup None }) c.put_setup.ensures,
+            ∙ ap (λ (s : State). record (with_reply (standing_of c.self.inside) c.put_setup.new.reply)
+            { state = s }) c.enter.ensures
+            ∙ ap (λ (t : List ℕ). record (with_reply (standing_of c.self.inside) t)
+            { state = Ready c.in-Ok.setup None }) c.put_setup.ensures,
       );
     })

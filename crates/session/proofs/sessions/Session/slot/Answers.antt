@@ -66,7 +66,8 @@ invariant_of-self-then-replied g c =
       id = c.self.invariant.id;
       state = subst (λ (s : State). IsStateKept films inside.source inside.settings inside.counts s) (sym is)
           (settled_kept (ground_of inside) new (state_kept (ground_of inside) inside.state new c.self.invariant.state carried));
-      awaited = subst (λ (s : State). IsAwaitedKept films inside.source inside.settings inside.counts inside.lost s awaited) (sym is)
+      awaited = subst (λ (s : State). IsAwaitedKept films inside.source inside.settings inside.counts
+          inside.lost s awaited) (sym is)
           (awaited_settled (ground_of inside) new awaited (record { going = going; carried = carried; even = even })
           (subst (λ (s : State). IsFinished s awaited) is finished));
       stop = subst (λ (s : State). IsStopAnswered s false) (sym is) (stop_settled false new);
@@ -104,7 +105,8 @@ invariant_of-self-2 g c =
       settings = c.self.invariant.settings;
       id = c.self.invariant.id;
       state = state_kept (ground_of inside) inside.state new c.self.invariant.state carried;
-      awaited = awaited_kept {old = inside.state} (ground_of inside) awaited (record { going = going; carried = carried; even = even })
+      awaited = awaited_kept {old = inside.state} (ground_of inside) awaited
+          (record { going = going; carried = carried; even = even })
           finished;
       stop = stop_kept inside.waits inside.state new c.self.invariant.stop carried;
       receipt_room = omega (arith, c.self.invariant.receipt_room);

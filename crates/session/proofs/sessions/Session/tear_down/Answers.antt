@@ -51,7 +51,8 @@ returns-clause-exact c =
     rw (halted.new_is, c.set.ensures)
     (subst (λ (old : Standing). TearsDown old.state old c.args.sequence (AskHalt keep) (new halted.pacer c.put_session.new.reply))
     c.self.view_is
-    (subst (λ (s : State). TearsDown s (standing_of inside) c.args.sequence (AskHalt keep) (new halted.pacer c.put_session.new.reply))
+    (subst (λ (s : State). TearsDown s (standing_of inside) c.args.sequence (AskHalt keep)
+    (new halted.pacer c.put_session.new.reply))
     (sym halted.old_is)
     (record {
       keep = keep;

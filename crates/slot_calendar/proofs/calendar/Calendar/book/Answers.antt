@@ -12,15 +12,23 @@ book_segments-requires-clause-fits c = λ t from. (
     let is : IsCalendar old = subst IsCalendar c.self.view_is c.self.invariant.calendar_is in
     let first : c.self.inside.ring.first ≡ old.first = ap (λ e. e.first) c.self.view_is in
     let small = room-small t is c.requires.room (omega (arith, from, first)) in
-    let totals : total_at c.self.inside.ring.first c.self.inside.ring.totals t ≡ booked_at old t = ap (λ e. booked_at e t) c.self.view_is in
-    let asked : asked_at c.segments.result.now c.args.start t ≡ asked_at c.args.plan.now c.args.start t = ap (λ s. asked_at s c.args.start t) c.segments.ensures.value in
+    let totals : total_at c.self.inside.ring.first c.self.inside.ring.totals t ≡ booked_at old t =
+    ap (λ e. booked_at e t) c.self.view_is in
+    let asked : asked_at c.segments.result.now c.args.start t ≡ asked_at c.args.plan.now c.args.start t =
+    ap (λ s. asked_at s c.args.start t) c.segments.ensures.value in
     omega (arith, small, totals, asked)
     )
 
 pub returns-clause-stands : goal.returns-clause-stands
 returns-clause-stands c = λ plays stands. (
     let old : Entries = c.args.self.now in
-    let new : Entries = record { first = c.book_segments.new.ring.first; steps = c.self.inside.profile; totals = c.book_segments.new.ring.totals } in
+    let new : Entries =
+    record {
+      first = c.book_segments.new.ring.first;
+      steps = c.self.inside.profile;
+      totals =
+          c.book_segments.new.ring.totals;
+    } in
     let first : c.self.inside.ring.first ≡ old.first = ap (λ e. e.first) c.self.view_is in
     stands-push c.args.start c.segments.ensures.plan (c.book_segments.ensures.now ∙ first)
     (λ t from. c.book_segments.ensures.totals t (omega (arith, from, first))

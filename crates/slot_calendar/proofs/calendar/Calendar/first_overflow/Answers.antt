@@ -17,10 +17,12 @@ returns-in-Some c =
     let over = c.in-Some.over in
     let at : IsSegmentFrom segments i.segment-index s c.args.start i.from =
     record { inside = omega arith; segment_is = search rules; from_is = i.invariant.from_is } in
-    let Q : Entries → Type 0 = λ e. IsOverflowIn i.from (i.from + s.slots) (booked_at e) (capacity_at e.steps) i.from (s ∷ []) over in
+    let Q : Entries → Type 0 =
+    λ e. IsOverflowIn i.from (i.from + s.slots) (booked_at e) (capacity_at e.steps) i.from (s ∷ []) over in
     let P : List Segment → Type 0 = λ l. IsFirstOverflow old.first (booked_at old) (capacity_at old.steps) c.args.start l over in
     subst P c.segments-segments.ensures.value
-    (first-overflow at (omega (arith, i.invariant.from_is, c.requires.after)) i.invariant.fits (subst Q c.self.view_is c.in-Some.ensures))
+    (first-overflow at (omega (arith, i.invariant.from_is, c.requires.after)) i.invariant.fits
+    (subst Q c.self.view_is c.in-Some.ensures))
 
 pub loop-segment-preserved : goal.loop-segment-preserved
 loop-segment-preserved c =
@@ -30,11 +32,13 @@ loop-segment-preserved c =
     let s : Segment = get_or segments i.segment-index (record { slots = 0; bytes = 0 }) in
     let inside : i.segment-index < length segments = omega arith in
     let is : s ≡ get_or segments i.segment-index s = search rules in
-    let at : IsSegmentFrom segments i.segment-index s c.args.start i.from = record { inside = inside; segment_is = is; from_is = i.invariant.from_is } in
+    let at : IsSegmentFrom segments i.segment-index s c.args.start i.from =
+    record { inside = inside; segment_is = is; from_is = i.invariant.from_is } in
     let Q : Entries → Type 0 = λ e. FitsIn i.from (i.from + s.slots) (booked_at e) (capacity_at e.steps) i.from (s ∷ []) in
     record {
       from_is = omega (arith, i.invariant.from_is, slots-next segments i.segment-index s inside is);
-      fits = fits-next old.first (booked_at old) (capacity_at old.steps) at i.invariant.fits (subst Q c.self.view_is c.in_default.ensures);
+      fits = fits-next old.first (booked_at old) (capacity_at old.steps) at i.invariant.fits
+          (subst Q c.self.view_is c.in_default.ensures);
     }
 
 pub returns : goal.returns
@@ -43,7 +47,8 @@ returns c =
     let old : Entries = c.args.self.now in
     let segments = c.segments-segments.result.now in
     let is : IsCalendar old = subst IsCalendar c.self.view_is c.self.invariant.calendar_is in
-    let all : total_slots (take i.segment-index segments) ≡ total_slots segments = ap total_slots (take_all i.segment-index segments c.loop-segment-test.false) in
+    let all : total_slots (take i.segment-index segments) ≡ total_slots segments =
+    ap total_slots (take_all i.segment-index segments c.loop-segment-test.false) in
     let P : List Segment → Type 0 = λ l. HasRoom old.first (booked_at old) (capacity_at old.steps) c.args.start l in
     subst P c.segments-segments.ensures.value
     (room-all is (omega (arith, i.invariant.from_is, all)) i.invariant.fits)

@@ -9,15 +9,18 @@ use Rattle.slot_calendar.proofs.calendar.Calendar.release.Goals as goal
 pub returns-then-saturating_sub-lt-RING_SLOTS-clause-stands : goal.returns-then-saturating_sub-lt-RING_SLOTS-clause-stands
 returns-then-saturating_sub-lt-RING_SLOTS-clause-stands c = λ before after stands. (
     let old : Entries = c.args.self.now in
-    let new : Entries = record { first = c.settle.new.self.first; steps = c.self.inside.profile; totals = c.settle.new.self.totals } in
+    let new : Entries =
+    record { first = c.settle.new.self.first; steps = c.self.inside.profile; totals = c.settle.new.self.totals } in
     let first : c.self.inside.ring.first ≡ old.first = ap (λ e. e.first) c.self.view_is in
     let settled : (t : ℕ) → booked_at new t ≡ total_at c.release_segments.new.ring.first c.release_segments.new.ring.totals t =
-    λ t. ap (λ n. total_at n c.settle.new.self.totals t) c.settle.ensures.now ∙ ap (λ l. total_at c.release_segments.new.ring.first l t) c.settle.ensures.totals in
+    λ t. ap (λ n. total_at n c.settle.new.self.totals t) c.settle.ensures.now
+    ∙ ap (λ l. total_at c.release_segments.new.ring.first l t) c.settle.ensures.totals in
     let play : Play = cut_play c.args.start c.args.plan.now c.args.keep in
     let cut : HasCut old new play = record {
       first_is = c.settle.ensures.now ∙ c.release_segments.ensures.now ∙ first;
       totals = λ t from. ap (λ n. n + cut_at c.args.plan.now c.args.start c.args.keep t) (settled t)
-          ∙ ap (λ s. total_at c.release_segments.new.ring.first c.release_segments.new.ring.totals t + cut_at s c.args.start c.args.keep t) (sym c.segments-segments.ensures.value)
+          ∙ ap (λ s. total_at c.release_segments.new.ring.first c.release_segments.new.ring.totals t
+          + cut_at s c.args.start c.args.keep t) (sym c.segments-segments.ensures.value)
           ∙ c.release_segments.ensures.totals t (omega (arith, from, first))
           ∙ ap (λ e. booked_at e t) c.self.view_is;
     } in
@@ -30,7 +33,8 @@ returns-else-saturating_sub-lt-RING_SLOTS-clause-stands c = λ before after stan
     let first : c.self.inside.ring.first ≡ old.first = ap (λ e. e.first) c.self.view_is in
     let past : (u : ℕ) → old.first + 1048576 ≤ u → booked_at old u ≡ 0 =
     λ u more. sym (ap (λ e. booked_at e u) c.self.view_is) ∙ c.now.ensures.past u (omega (arith, first, more)) in
-    let past_end : old.first + 1048576 ≤ c.args.start = omega (arith, first, c.now.ensures.value, c.saturating_sub.ensures, c.if-saturating_sub-lt-RING_SLOTS.false) in
+    let past_end : old.first + 1048576 ≤ c.args.start =
+    omega (arith, first, c.now.ensures.value, c.saturating_sub.ensures, c.if-saturating_sub-lt-RING_SLOTS.false) in
     let play : Play = cut_play c.args.start c.args.plan.now c.args.keep in
     let past_all : IsPastEnd old play = record { after = past_end; past = past; booked = c.requires.booked } in
     let cut : HasCut old old play = record {

@@ -7,4 +7,6 @@ use Rattle.slot_calendar.proofs.profiles.Profile.at.Goals as goal
 pub returns-clause-value : goal.returns-clause-value
 returns-clause-value c =
     let P : List CapStep → Type 0 = λ steps. c.span_at.result.bytes ≡ capacity_at steps c.args.slot in
-    subst P c.self.view_is (subst P c.as_slice.ensures.value (sym (capacity-is c.as_slice.result.now c.args.slot c.span_at.result.bytes c.span_at.ensures.here)))
+    subst P c.self.view_is
+    (subst P c.as_slice.ensures.value
+    (sym (capacity-is c.as_slice.result.now c.args.slot c.span_at.result.bytes c.span_at.ensures.here)))

@@ -8,7 +8,11 @@ pub returns-clause-span : goal.returns-clause-span
 returns-clause-span c =
     let P : List CapStep → Type 0 = λ steps. IsSpan steps c.args.slot c.span_at.result.bytes c.span_at.result.until in
     subst P (c.as_slice.ensures.value ∙ c.self.view_is)
-    (span-is c.as_slice.result.now c.args.slot c.span_at.result.bytes c.span_at.result.until (c.span_at.ensures.some c.requires) c.span_at.ensures.same)
+    (span-is c.as_slice.result.now c.args.slot c.span_at.result.bytes c.span_at.result.until
+    (c.span_at.ensures.some c.requires) c.span_at.ensures.same)
 
 pub returns-clause-small : goal.returns-clause-small
-returns-clause-small c = capacity-small c.self.inside.steps.items c.args.slot c.span_at.result.bytes c.self.invariant (subst (λ (steps : List CapStep). IsCapacity steps c.args.slot c.span_at.result.bytes) c.as_slice.ensures.value c.span_at.ensures.here)
+returns-clause-small c =
+    capacity-small c.self.inside.steps.items c.args.slot c.span_at.result.bytes c.self.invariant
+    (subst (λ (steps : List CapStep). IsCapacity steps c.args.slot c.span_at.result.bytes)
+    c.as_slice.ensures.value c.span_at.ensures.here)

@@ -9,7 +9,8 @@ returns-clause-totals c = λ t since. (
     let d = c.self.inside in
     let first : d.first ≡ c.args.self.now.first = ap (λ s. s.first) c.self.view_is ∙ c.empty_first.ensures.now in
     let none : total_at d.first (rotation (d.first % 1048576) d.places.items) d.first ≡ 0 =
-    ap (total_at d.first (rotation (d.first % 1048576) d.places.items)) first ∙ ap (λ s. total_at s.first s.totals c.args.self.now.first) c.self.view_is ∙ c.empty_first.ensures.none in
+    ap (total_at d.first (rotation (d.first % 1048576) d.places.items)) first
+    ∙ ap (λ s. total_at s.first s.totals c.args.self.now.first) c.self.view_is ∙ c.empty_first.ensures.none in
     let later : c.args.self.now.first < t = omega (arith, first, since) in
     total-next d.first t (record { some = omega arith; length_is = c.self.invariant.places_are }) none since
     ∙ ap (λ s. total_at s.first s.totals t) c.self.view_is

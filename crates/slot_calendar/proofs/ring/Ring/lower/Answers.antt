@@ -25,9 +25,12 @@ invariant_of-self c =
     let d = c.self.inside in
     let p = c.args.slot % 1048576 in
     let inside : p < 1048576 = mod_below c.args.slot 1048576 (omega arith) in
-    let value : c.index_mut.result.now ≡ get_or d.places.items p 0 = get_or_read d.places.items p c.index_mut.result.now (omega (arith, inside, c.self.invariant.places_are)) c.index_mut.ensures.value 0 in
+    let value : c.index_mut.result.now ≡ get_or d.places.items p 0 =
+    get_or_read d.places.items p c.index_mut.result.now (omega (arith, inside, c.self.invariant.places_are))
+    c.index_mut.ensures.value 0 in
     let P : List ℕ → Type 0 = λ xs. IsTopped xs c.settle_other.new.tops.items (Some (p / 1024)) in
-    topped-lower p (c.index_mut.result.now - c.args.by) (subst P c.as_slice.ensures.value c.settle_other.ensures) inside (omega (arith, value))
+    topped-lower p (c.index_mut.result.now - c.args.by)
+    (subst P c.as_slice.ensures.value c.settle_other.ensures) inside (omega (arith, value))
 
 pub returns-clause-at : goal.returns-clause-at
 returns-clause-at c =
@@ -39,7 +42,9 @@ returns-clause-at c =
     let from : d.first ≤ c.args.slot = omega (arith, first, c.requires.from_now) in
     let turn = in_ring d.first c.args.slot places from (omega (arith, old, c.requires.some, c.requires.booked)) in
     let inside : p < 1048576 = mod_below c.args.slot 1048576 (omega arith) in
-    let value : c.index_mut.result.now ≡ get_or d.places.items p 0 = get_or_read d.places.items p c.index_mut.result.now (omega (arith, inside, c.self.invariant.places_are)) c.index_mut.ensures.value 0 in
+    let value : c.index_mut.result.now ≡ get_or d.places.items p 0 =
+    get_or_read d.places.items p c.index_mut.result.now (omega (arith, inside, c.self.invariant.places_are))
+    c.index_mut.ensures.value 0 in
     let now = set-here (c.index_mut.result.now - c.args.by) places turn in
     let was = total-in places turn in
     omega (arith, now, was, value, old, c.requires.booked)
@@ -50,7 +55,8 @@ returns-clause-others c = λ t since other. (
     let first : d.first ≡ c.args.self.now.first = ap (λ s. s.first) c.self.view_is in
     let old = ap (λ s. total_at s.first s.totals c.args.slot) c.self.view_is in
     let places : HasPlaces 1048576 d.places.items = record { some = omega arith; length_is = c.self.invariant.places_are } in
-    let turn = in_ring d.first c.args.slot places (omega (arith, first, c.requires.from_now)) (omega (arith, old, c.requires.some, c.requires.booked)) in
+    let turn = in_ring d.first c.args.slot places (omega (arith, first, c.requires.from_now))
+    (omega (arith, old, c.requires.some, c.requires.booked)) in
     set-there (c.index_mut.result.now - c.args.by) places turn (omega (arith, first, since)) other
     ∙ ap (λ s. total_at s.first s.totals t) c.self.view_is
     )

@@ -2,4 +2,5 @@ use Rattle.slot_calendar.proofs.Blocks.{topped-zeros}
 use Rattle.slot_calendar.proofs.ring.Ring.new.Goals as goal
 
 pub invariant_of-result : goal.invariant_of-result
-invariant_of-result c = topped-zeros c.in_ok-places.places.items c.in_ok-tops.tops.items c.in_ok-places.ensures c.in_ok-tops.ensures
+invariant_of-result c =
+    topped-zeros c.in_ok-places.places.items c.in_ok-tops.tops.items c.in_ok-places.ensures c.in_ok-tops.ensures

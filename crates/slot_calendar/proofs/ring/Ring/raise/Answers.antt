@@ -14,8 +14,11 @@ invariant_of-self c =
     let p = c.args.slot % 1048576 in
     let inside : p < 1048576 = mod_below c.args.slot 1048576 (omega arith) in
     let v = c.index.result.now + c.args.by in
-    let value : c.index.result.now ≡ get_or d.places.items p 0 = get_or_read d.places.items p c.index.result.now (omega (arith, inside, c.self.invariant.places_are)) c.index.ensures 0 in
-    let old : c.index-2.result.now ≡ get_or d.tops.items (p / 1024) 0 = get_or_read d.tops.items (p / 1024) c.index-2.result.now (omega (arith, block_in p inside, c.self.invariant.tops_are)) c.index-2.ensures 0 in
+    let value : c.index.result.now ≡ get_or d.places.items p 0 =
+    get_or_read d.places.items p c.index.result.now (omega (arith, inside, c.self.invariant.places_are)) c.index.ensures 0 in
+    let old : c.index-2.result.now ≡ get_or d.tops.items (p / 1024) 0 =
+    get_or_read d.tops.items (p / 1024) c.index-2.result.now
+    (omega (arith, block_in p inside, c.self.invariant.tops_are)) c.index-2.ensures 0 in
     let top : c.max.result ≡ max (get_or d.tops.items (p / 1024) 0) v = c.max.ensures ∙ ap (λ x. max x v) old in
     let P : ℕ → Type 0 = λ x. IsTopped (set d.places.items p v) (set d.tops.items (p / 1024) x) d.stale in
     subst P (sym top) (topped-raise p v c.self.invariant inside (omega (arith, value)))
@@ -26,7 +29,8 @@ returns-clause-at c =
     let p = c.args.slot % 1048576 in
     let first : d.first ≡ c.args.self.now.first = ap (λ s. s.first) c.self.view_is in
     let inside : p < 1048576 = mod_below c.args.slot 1048576 (omega arith) in
-    let value : c.index.result.now ≡ get_or d.places.items p 0 = get_or_read d.places.items p c.index.result.now (omega (arith, inside, c.self.invariant.places_are)) c.index.ensures 0 in
+    let value : c.index.result.now ≡ get_or d.places.items p 0 =
+    get_or_read d.places.items p c.index.result.now (omega (arith, inside, c.self.invariant.places_are)) c.index.ensures 0 in
     let places : HasPlaces 1048576 d.places.items = record { some = omega arith; length_is = c.self.invariant.places_are } in
     let turn : IsInTurn 1048576 d.first c.args.slot =
     record { from = omega (arith, first, c.requires.from_now); inside = omega (arith, first, c.requires.within) } in

@@ -12,8 +12,11 @@ returns c = λ t since same. (
     let p = c.args.slot % 1048576 in
     let inside : p < 1048576 = mod_below c.args.slot 1048576 (omega arith) in
     let first : d.first ≡ c.args.self.now.first = ap (λ s. s.first) c.self.view_is in
-    let here : total_at d.first _ t ≡ total_at c.args.self.now.first c.args.self.now.totals t = ap (λ s. total_at s.first s.totals t) c.self.view_is in
-    let top : c.index.result.now ≡ get_or d.tops.items (p / 1024) 0 = get_or_read d.tops.items (p / 1024) c.index.result.now (omega (arith, block_in p inside, c.self.invariant.tops_are)) c.index.ensures 0 in
+    let here : total_at d.first _ t ≡ total_at c.args.self.now.first c.args.self.now.totals t =
+    ap (λ s. total_at s.first s.totals t) c.self.view_is in
+    let top : c.index.result.now ≡ get_or d.tops.items (p / 1024) 0 =
+    get_or_read d.tops.items (p / 1024) c.index.result.now
+    (omega (arith, block_in p inside, c.self.invariant.tops_are)) c.index.ensures 0 in
     let from : d.first ≤ c.args.slot = omega (arith, first, c.requires) in
     let bound = total-bounded c.self.invariant from since same in
     omega (arith, here, top, bound)

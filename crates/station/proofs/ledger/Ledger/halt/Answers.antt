@@ -14,12 +14,15 @@ halted_or d (Play slot segments) = d
 
 pub halt-requires : goal.halt-requires
 halt-requires c =
-    c.law_own_play.ensures c.self.inside.book.steps c.self.inside.book.entries c.args.maker c.args.number c.args.keep c.entries-entries.ensures.legal c.self.invariant
-    (subst (λ (j : Journal). IsOpenAmong (made_by c.args.maker j.entries) c.args.number c.args.keep) (sym c.self.view_is) c.requires)
+    c.law_own_play.ensures c.self.inside.book.steps c.self.inside.book.entries c.args.maker c.args.number
+    c.args.keep c.entries-entries.ensures.legal c.self.invariant
+    (subst (λ (j : Journal). IsOpenAmong (made_by c.args.maker j.entries) c.args.number c.args.keep)
+    (sym c.self.view_is) c.requires)
 
 pub invariant_of-self : goal.invariant_of-self
 invariant_of-self c =
-    let open_ = subst (λ (j : Journal). IsOpenAmong (made_by c.args.maker j.entries) c.args.number c.args.keep) (sym c.self.view_is) c.requires in
+    let open_ = subst (λ (j : Journal). IsOpenAmong (made_by c.args.maker j.entries) c.args.number c.args.keep)
+    (sym c.self.view_is) c.requires in
     halts-noted c.halt.ensures.noted c.self.invariant
     (λ number keep none e. sym (maker-of c.self.inside.book.entries c.args.maker c.args.number c.args.keep none open_)
     ∙ ap (λ (k : ℕ). (get_or c.self.inside.book.entries k none).maker) (ap (halted_or 0) e))

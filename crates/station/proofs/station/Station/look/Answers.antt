@@ -24,7 +24,9 @@ returns-clause-made g c =
     (record { pass = turn.pass; longer = turn.longer; own = turn.own; terms = turn.terms })
     (record { left = c.leave.ensures; last_is = c.value-2.ensures.value; lent_is = c.value.ensures.value })
     (c.number-maker.ensures ∙ turn.number) in
-    IfOk-weaker c.look-told.result (λ l. IsEntered c.value.result.now c.look-told.new.self c.number-maker.result 1 (look_at c.args.slot) l.place (Looked l.now l.at l.booked))
+    IfOk-weaker c.look-told.result
+    (λ l. IsEntered c.value.result.now c.look-told.new.self c.number-maker.result 1 (look_at c.args.slot)
+    l.place (Looked l.now l.at l.booked))
     (λ l. Made c.args.seat.now (seat_of c.leave.new.pass) 1 (look_at c.args.slot) l.place (Looked l.now l.at l.booked))
     (λ l e. visit_made is e)
     c.look-told.ensures.made

@@ -26,7 +26,9 @@ returns-clause-made g c =
     (record { pass = turn.pass; longer = turn.longer; own = turn.own; terms = turn.terms })
     (record { left = c.leave.ensures; last_is = c.value-2.ensures.value; lent_is = c.value.ensures.value })
     (c.number-maker.ensures ∙ turn.number) in
-    IfOk-weaker c.play-told.result (λ b. IsEntered c.value.result.now c.play-told.new.self c.number-maker.result 2 (play_of c.args.heard c.args.plan) b.number (Admitted b.start))
+    IfOk-weaker c.play-told.result
+    (λ b. IsEntered c.value.result.now c.play-told.new.self c.number-maker.result 2
+    (play_of c.args.heard c.args.plan) b.number (Admitted b.start))
     (λ b. Made c.args.seat.now (seat_of c.leave.new.pass) 2 (play_of c.args.heard c.args.plan) b.number (Admitted b.start))
     (λ b e. visit_made is e)
     c.play-told.ensures.made
@@ -38,7 +40,9 @@ returns-clause-open g c =
     (record { pass = turn.pass; longer = turn.longer; own = turn.own; terms = turn.terms })
     (record { left = c.leave.ensures; last_is = c.value-2.ensures.value; lent_is = c.value.ensures.value })
     (c.number-maker.ensures ∙ turn.number) in
-    IfOk-weaker c.play-told.result (λ b. IsEntered c.value.result.now c.play-told.new.self c.number-maker.result 2 (play_of c.args.heard c.args.plan) b.number (Admitted b.start))
+    IfOk-weaker c.play-told.result
+    (λ b. IsEntered c.value.result.now c.play-told.new.self c.number-maker.result 2
+    (play_of c.args.heard c.args.plan) b.number (Admitted b.start))
     (λ b. (keep : ℕ) → keep ≤ total_bytes c.args.plan → IsOpenAmong c.leave.new.pass.mine b.number keep)
     (λ b e keep small. visit_open c.args.heard c.args.plan is e small)
     c.play-told.ensures.made
@@ -50,7 +54,8 @@ returns-clause-refused g c =
     (record { pass = turn.pass; longer = turn.longer; own = turn.own; terms = turn.terms })
     (record { left = c.leave.ensures; last_is = c.value-2.ensures.value; lent_is = c.value.ensures.value })
     (c.number-maker.ensures ∙ turn.number) in
-    IfErr-weaker c.play-told.result (IsPlayRefused c.value.result.now c.play-told.new.self c.number-maker.result c.args.heard c.args.plan)
+    IfErr-weaker c.play-told.result
+    (IsPlayRefused c.value.result.now c.play-told.new.self c.number-maker.result c.args.heard c.args.plan)
     (IsRefused c.args.seat.now (seat_of c.leave.new.pass) c.args.heard c.args.plan)
     (λ why e. visit_refused c.args.heard c.args.plan why is e)
     c.play-told.ensures.refused

@@ -11,7 +11,9 @@ use Rattle.sys_demux.proofs.unwrapper.Unwrapper.feed.Goals as goal
 pub returns-in-Failed-clause-fault : goal.returns-in-Failed-clause-fault
 returns-in-Failed-clause-fault c = λ seen video was more.
     let u = c.args.self.now in
-    let refused = failed_refused (c.args.piece.now ++ more) (subst (λ s. IsReached s u.item u.chosen seen video) c.in-Failed.is was.reached) in
+    let refused =
+    failed_refused (c.args.piece.now ++ more)
+    (subst (λ s. IsReached s u.item u.chosen seen video) c.in-Failed.is was.reached) in
     subst (λ (l : List ℕ). IsRefused l c.in-Failed.fault) (sym (append_assoc seen c.args.piece.now more)) refused
 
 pub returns-in-Failed-place-clause-fault : goal.returns-in-Failed-place-clause-fault
@@ -24,7 +26,8 @@ returns-in-Failed-place-clause-fault c = λ seen video was more.
     subst (λ (l : List ℕ). IsRefused l c.in-Failed-place.fault) (first_taken seen piece more c.requires.some) refused
 
 pub returns-in-Failed-place-clause-again : goal.returns-in-Failed-place-clause-again
-returns-in-Failed-place-clause-again c = λ fault is. absurd (c.in_default.not-Failed fault (failed_at c.args.self.now.place fault is))
+returns-in-Failed-place-clause-again c =
+    λ fault is. absurd (c.in_default.not-Failed fault (failed_at c.args.self.now.place fault is))
 
 pub returns-in-Pass-clause-next : goal.returns-in-Pass-clause-next
 returns-in-Pass-clause-next c = λ seen video was.
@@ -38,7 +41,9 @@ returns-in-Pass-clause-next c = λ seen video was.
     let size : length (take count piece) ≡ count = length-take-le count piece within in
     let next = step (take count piece) []
     (subst (λ s. IsReached s u.item u.chosen seen video) c.in-Pass.is was.reached)
-    (λ chosen start part kept at is. subst (λ (k : List ℕ). LeadsTo chosen start u.item u.chosen (part ++ take count piece) k (cond (left - count == 0) (Zeros 0) (Pass (left - count)))) (sym (append-nil kept))
+    (λ chosen start part kept at is.
+    subst (λ (k : List ℕ). LeadsTo chosen start u.item u.chosen (part ++ take count piece) k
+    (cond (left - count == 0) (Zeros 0) (Pass (left - count)))) (sym (append-nil kept))
     (rest_leads (take count piece) is size few)) in
     record {
       count = omega (arith, was.count, c.skip.ensures.fed, size, length-append seen (take count piece));
@@ -72,4 +77,5 @@ returns-in-Failed-clause-shown c = λ seen video was.
 pub returns-in-Failed-place-clause-shown : goal.returns-in-Failed-place-clause-shown
 returns-in-Failed-place-clause-shown c = λ seen video was.
     let n = c.take.new.self in
-    (subst (λ s. IsReached s n.item n.chosen (seen ++ get_or c.args.piece.now 0 0 ∷ []) video) c.in-Failed-place.is (c.take.ensures.next seen video was).reached).is_part.2
+    (subst (λ s. IsReached s n.item n.chosen (seen ++ get_or c.args.piece.now 0 0 ∷ []) video)
+    c.in-Failed-place.is (c.take.ensures.next seen video was).reached).is_part.2

@@ -13,11 +13,13 @@ pub returns-clause-next : goal.returns-clause-next
 returns-clause-next c = λ seen video was.
     let u = c.args.self.now in
     let byte = c.args.byte in
-    let reached : IsReached c.match-self.place c.match-self.item c.match-self.chosen (seen ++ byte ∷ []) video = elim c.match-self.branch [
+    let reached : IsReached c.match-self.place c.match-self.item c.match-self.chosen (seen ++ byte ∷ []) video =
+    elim c.match-self.branch [
       | in-Zeros w ↦
           moved w.place-is (w.item-is ∙ w.saturating_sub-item.ensures) w.chosen-is
           (step_byte byte (subst (λ s. IsReached s u.item u.chosen seen video) w.in-Zeros.is was.reached)
-          (λ chosen start part kept size is. inl (w.zeros_next-place.ensures.next chosen u.chosen start part kept is (was.count ∙ sym size))))
+          (λ chosen start part kept size is. inl
+          (w.zeros_next-place.ensures.next chosen u.chosen start part kept is (was.count ∙ sym size))))
       | in-Kind w ↦
           moved w.place-is w.item-is (w.chosen-is ∙ w.choose-chosen.ensures)
           (step_byte byte (subst (λ s. IsReached s u.item u.chosen seen video) w.in-Kind.is was.reached)
@@ -35,7 +37,8 @@ returns-clause-next c = λ seen video was.
           (step_byte byte (subst (λ s. IsReached s u.item u.chosen seen video) w.in-Low.is was.reached)
           (λ chosen start part kept size is. w.length_next-place.ensures.next chosen start part kept is.0 is.1))
       | in-InHeader w ↦
-          (let sound : is_sound (InHeader w.in-InHeader.header w.in-InHeader.left) ≡ true = subst (λ s. is_sound s ≡ true) w.in-InHeader.is u.sound in
+          (let sound : is_sound (InHeader w.in-InHeader.header w.in-InHeader.left) ≡ true =
+          subst (λ s. is_sound s ≡ true) w.in-InHeader.is u.sound in
           let enough = sound_header w.in-InHeader.header w.in-InHeader.left sound in
           let back : w.in-InHeader.left ≡ w.in-InHeader.left - 1 + 1 = omega (arith, enough.0, enough.1) in
           moved w.place-is w.item-is w.chosen-is

@@ -10,7 +10,8 @@ returns-then-eq c =
     ap (λ (s : LibraryState). s.files) (sym c.self.view_is) ∙ ap (map file_of) (sym c.deref-file_name-items.ensures.value) in
     let same : bytes_eq (string_bytes c.loop-file_name-item.result.0) c.args.name.now ≡ true =
     rw (← c.as_str.ensures.value) (sym (c.if-eq.ensures {u = tt})) in
-    let at : AtStored c.args.self.now.files c.deref-file_name-items.result.now c.loop-file_name.file_name-index c.loop-file_name-item.result =
+    let at : AtStored c.args.self.now.files c.deref-file_name-items.result.now c.loop-file_name.file_name-index
+    c.loop-file_name-item.result =
     record { files_are = are; inside = c.loop-file_name-test.true; is = c.loop-file_name-item.is } in
     let here = stored_here c.args.name.now at same in
     rw c.as_slice.ensures.value (sym (c.loop-file_name.invariant ∙ here))
@@ -21,7 +22,8 @@ loop-file_name-preserved c =
     ap (λ (s : LibraryState). s.files) (sym c.self.view_is) ∙ ap (map file_of) (sym c.deref-file_name-items.ensures.value) in
     let other : bytes_eq (string_bytes c.loop-file_name-item.result.0) c.args.name.now ≡ false =
     rw (← c.as_str.ensures.value) (sym (c.if-eq.ensures {u = tt})) in
-    let at : AtStored c.args.self.now.files c.deref-file_name-items.result.now c.loop-file_name.file_name-index c.loop-file_name-item.result =
+    let at : AtStored c.args.self.now.files c.deref-file_name-items.result.now c.loop-file_name.file_name-index
+    c.loop-file_name-item.result =
     record { files_are = are; inside = c.loop-file_name-test.true; is = c.loop-file_name-item.is } in
     c.loop-file_name.invariant ∙ stored_after c.args.name.now at other
 
@@ -30,4 +32,5 @@ returns c =
     let are : c.args.self.now.files ≡ map file_of c.deref-file_name-items.result.now =
     ap (λ (s : LibraryState). s.files) (sym c.self.view_is) ∙ ap (map file_of) (sym c.deref-file_name-items.ensures.value) in
     sym (c.loop-file_name.invariant
-    ∙ stored_none c.args.self.now.files c.deref-file_name-items.result.now c.args.name.now c.loop-file_name.file_name-index are c.loop-file_name-test.false)
+    ∙ stored_none c.args.self.now.files c.deref-file_name-items.result.now c.args.name.now
+    c.loop-file_name.file_name-index are c.loop-file_name-test.false)
