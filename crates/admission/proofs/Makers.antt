@@ -43,8 +43,7 @@ all-made place maker (e ∷ rest) =
             inside = omega arith;
             place_is = omega arith;
             entry_is = refl;
-            maker_is =
-                eqb-true e.maker maker his;
+            maker_is = eqb-true e.maker maker his;
           } in
           subst (All P)
           (sym (cond-true (eqb e.maker maker) (here ∷ made_from (place + 1) maker rest)

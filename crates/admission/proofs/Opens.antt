@@ -112,8 +112,7 @@ closed-here {number} m place (Halt that keep) Halted is same =
     found-closed that keep m.state.held h.held h.is in
     record {
       held = halted_play keep h.held;
-      is =
-          ap (λ n. held_as n (with_halted that keep m.state.held)) (sym same) ∙ here;
+      is = ap (λ n. held_as n (with_halted that keep m.state.held)) (sym same) ∙ here;
       closed_is = refl;
     }
 closed-here {number} m place (Halt that keep) (Admitted start) is same = absurd is
@@ -193,8 +192,7 @@ open-unhalted {steps} {xs} {number} {h} legal is is_open = record {
       let closed : IsClosed number (state_after (take (suc i) xs)) =
       record {
         held = here.held;
-        is =
-            ap (λ (s : State). held_as number s.held) (state-next xs i inside) ∙ here.is;
+        is = ap (λ (s : State). held_as number s.held) (state-next xs i inside) ∙ here.is;
         closed_is = here.closed_is;
       } in
       let later = closed-after {i = i} legal inside closed in

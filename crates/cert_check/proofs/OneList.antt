@@ -141,8 +141,7 @@ no_part split next xs ys line other =
       first = slope_of next;
       between = slope_of part;
       last = slope_of s;
-      some_slot =
-          split.some;
+      some_slot = split.some;
     }) level_n (sym (level_first split)) in
     elim line.runs.1 [
       | inl rise ↦ omega (arith, rise.0, level_ns)

@@ -431,8 +431,7 @@ words_form name command words order named e =
       each = each_word command words mine.0;
       few = keys.few;
       needed = keys.needed;
-      source =
-          keys.source;
+      source = keys.source;
       films = films_form command words order mine.1;
     }
 

@@ -143,16 +143,14 @@ pub gone_overflow : {old new : Business} {maker place slot : ℕ} {plan : List S
     HasEntered old new
     (record {
       place = place;
-      entry =
-          record { maker = maker; command = Play slot plan; answer = Overflow over booked asked };
+      entry = record { maker = maker; command = Play slot plan; answer = Overflow over booked asked };
     }) →
     HasGone old new
 gone_overflow {old} {new} {maker} {place} {slot} {plan} {over} {booked} {asked} none same entered =
     gone_one old new _ entered.mine entered.receipts (ap (λ b. open_play_with (open_play_of b)
     (record {
       place = place;
-      entry =
-          record { maker = maker; command = Play slot plan; answer = Overflow over booked asked };
+      entry = record { maker = maker; command = Play slot plan; answer = Overflow over booked asked };
     })) none
     ∙ ap open_play_of (sym (same ∙ none)))
 
@@ -161,16 +159,14 @@ pub gone_play : {old new : Business} {made : Booking} {maker slot : ℕ} {plan :
     HasEntered old new
     (record {
       place = made.number;
-      entry =
-          record { maker = maker; command = Play slot plan; answer = Admitted made.start };
+      entry = record { maker = maker; command = Play slot plan; answer = Admitted made.start };
     }) →
     HasGone old new
 gone_play {old} {new} {made} {maker} {slot} {plan} none some entered =
     gone_one old new _ entered.mine entered.receipts (ap (λ b. open_play_with (open_play_of b)
     (record {
       place = made.number;
-      entry =
-          record { maker = maker; command = Play slot plan; answer = Admitted made.start };
+      entry = record { maker = maker; command = Play slot plan; answer = Admitted made.start };
     })) none
     ∙ ap open_play_of (sym some))
 

@@ -53,8 +53,7 @@ agree_lower earlier (WasFull more entries open_count ∷ outcomes) agree = (
   record {
     after = omega (arith, earlier.below, agree.0.after);
     within = agree.0.within;
-    live_is =
-        agree.0.live_is;
+    live_is = agree.0.live_is;
     full = agree.0.full;
   },
   agree.1,
@@ -63,8 +62,7 @@ agree_lower earlier (Offered at_slot note ∷ outcomes) agree = (
   record {
     after = omega (arith, earlier.below, agree.0.after);
     within = agree.0.within;
-    first_is =
-        agree.0.first_is;
+    first_is = agree.0.first_is;
     offer = agree.0.offer;
   },
   agree.1,

@@ -237,8 +237,7 @@ slot_up {slot} {a} {b} result c passed up =
       due = passed.parts;
       halt = passed.halt;
       comes = (passed.input, passed.stepped);
-      sent =
-          passed.sent;
+      sent = passed.sent;
       noted = passed.noted;
     }) result c up
 
@@ -261,8 +260,7 @@ overfull bytes a c many waits is =
       ending = Overfull bytes;
       event_is = refl;
       ends = (refl, many, waits, refl);
-      sent =
-          sent_none a.told;
+      sent = sent_none a.told;
       noted = noted_none a.seat;
     })
 

@@ -50,8 +50,7 @@ answered {old} {new} (Admitted start) ask client free is ready =
       e = e;
       number = refl;
       maker = refl;
-      is =
-          ap (λ (s : State). s.held) (state-push old.entries e);
+      is = ap (λ (s : State). s.held) (state-push old.entries e);
     }) (omega (arith, client, ready.count)) free ready.balanced)
 answered {old} {new} (Overflow over booked asked) ask client free is ready =
     let e = entry_by ask.c (commands.Play old.heard ask.plan) (Overflow over booked asked) in
@@ -117,8 +116,7 @@ pause-ready {c} {state = Paused rest} step own is ready = ready-kept step.old st
 looked : (answer : Answer) (slot : ℕ) (old new : Moment)
     → new ≡ record {
       entries = old.entries ++ entry_by 0 (commands.Look slot) answer ∷ [];
-      states =
-          old.states;
+      states = old.states;
       heard = old.heard;
     } → IsReady old → IsReady new
 looked answer slot old new is ready =

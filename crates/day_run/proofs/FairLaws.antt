@@ -75,8 +75,7 @@ grown-on : (a b c : List Entry) → HasGrown a b → HasGrown b c → HasGrown a
 grown-on a b c one two =
     record {
       made = one.made ++ two.made;
-      new_is =
-          two.new_is ∙ ap (λ l. l ++ two.made) one.new_is ∙ append_assoc a one.made two.made;
+      new_is = two.new_is ∙ ap (λ l. l ++ two.made) one.new_is ∙ append_assoc a one.made two.made;
     }
 
 asked-grown : {link : Link} {c : ℕ} {rest : Rest} {old new : Moment} {text : List ℕ}

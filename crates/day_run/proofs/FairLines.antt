@@ -37,7 +37,6 @@ fair-line {number} steps plays text journal fair legal =
           (record {
             legal = legal;
             grown = evening-grown fair.evening journal fair.journal_is;
-            capacity =
-                capacity;
+            capacity = capacity;
           }) (omega arith);
     }

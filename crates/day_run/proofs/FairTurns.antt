@@ -79,8 +79,7 @@ pub record TurnSteps (link here : Link) (w w1 w2 w3 : ℕ → ℕ) (later client
         full = c1.full + cond full 1 0;
         last = c1.last;
         sent = c1.sent;
-        booked =
-            c1.booked;
+        booked = c1.booked;
         peak = c1.peak;
       }
 
@@ -108,8 +107,7 @@ turn-of {here} {w} {w2} {later} {client} {c} {full} turn steps =
             turns = x.turns + 1;
             full = x.full + cond full 1 0;
             last = x.last;
-            sent =
-                x.sent;
+            sent = x.sent;
             booked = x.booked;
             peak = x.peak;
           }) n
@@ -147,8 +145,7 @@ counts-more turns turn old new heard =
       full = count_by is_refused all;
       last = k;
       sent = c.sent;
-      booked =
-          c.booked;
+      booked = c.booked;
       peak = c.peak;
     }) heard
     ∙ ap (λ k. record {
@@ -156,16 +153,14 @@ counts-more turns turn old new heard =
       full = count_by is_refused all;
       last = new.heard;
       sent = k;
-      booked =
-          c.booked;
+      booked = c.booked;
       peak = c.peak;
     }) (sym (sum_by_push turn_sent turns turn))
     ∙ ap (λ k. record {
       turns = length all;
       full = count_by is_refused all;
       last = new.heard;
-      sent =
-          sum_by turn_sent all;
+      sent = sum_by turn_sent all;
       booked = k;
       peak = c.peak;
     }) (sym (sum_by_push turn_booked turns turn))
@@ -173,8 +168,7 @@ counts-more turns turn old new heard =
       turns = length all;
       full = count_by is_refused all;
       last = new.heard;
-      sent =
-          sum_by turn_sent all;
+      sent = sum_by turn_sent all;
       booked = sum_by turn_booked all;
       peak = k;
     }) peak

@@ -74,8 +74,7 @@ offer-told {link} {wait} {old} {new} {text} (inr offered) =
           let O : ℕ → Type 0 = λ s. IsFirstOverflow 0 booked capacity s plan (get_or found.tried i none).over in
           record {
             start_is = refusals.starts i none inside;
-            over =
-                subst O (refusals.starts i none inside) (refusals.refused i none inside);
+            over = subst O (refusals.starts i none inside) (refusals.refused i none inside);
           };
       text_is = offered.told.text_is;
     })

@@ -16,8 +16,7 @@ more-wish {m} le wish =
     record {
       inside = omega (arith, wish.inside, le);
       some_buffer = wish.some_buffer;
-      buffer_fits =
-          wish.buffer_fits;
+      buffer_fits = wish.buffer_fits;
       delay_fits = wish.delay_fits;
     }
 

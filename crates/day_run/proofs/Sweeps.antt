@@ -324,8 +324,7 @@ pub slot-moment : {n : ℕ} {ys : List Entry} {old xs ds zs : List Client} {hear
     (es : List Client) → SlotSwept n ys old xs ds zs heard slot sent entries es
     → record {
       entries = ys;
-      states =
-          map state_of (take n (es ++ drop (length es) (take n (ds ++ drop (length ds) old))));
+      states = map state_of (take n (es ++ drop (length es) (take n (ds ++ drop (length ds) old))));
       heard = slot;
     }
     ≡ at_slot (record { entries = entries; states = map state_of old; heard = heard }) slot

@@ -43,11 +43,10 @@ one-piece : {pieces : List (List ℕ)} {at k bytes place : ℕ} (number : ℕ) �
 one-piece {pieces} {k} number part past before from to =
     elim (cases_lt number k) [
       | inl l ↦ absurd (omega (arith, begin-le pieces (number + 1) k (omega (arith, l)), part.begins, past, to))
-      | inr g ↦
-          elim (cases_lt k number) [
-            | inl l ↦ absurd (omega (arith, begin-le pieces (k + 1) number (omega (arith, l)), part.ends, before, from))
-            | inr h ↦ omega (arith, g, h)
-          ]
+      | inr g ↦ elim (cases_lt k number) [
+        | inl l ↦ absurd (omega (arith, begin-le pieces (k + 1) number (omega (arith, l)), part.ends, before, from))
+        | inr h ↦ omega (arith, g, h)
+      ]
     ]
 
 head-here : {pieces : List (List ℕ)} {at k bytes place : ℕ} → IsPart pieces k at bytes → at < place

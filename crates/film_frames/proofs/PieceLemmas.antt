@@ -62,8 +62,7 @@ frames-sound {film} {unit} {starts} {cuts = cut ∷ cuts} {to} pieces =
         some = cover.1.0;
         short = cover.1.1.0;
         within = omega (arith, rest, pieces.short);
-        formed =
-            refl;
+        formed = refl;
       },
       frames-sound {cuts = cuts} later,
     )

@@ -79,24 +79,20 @@ boundary-found {base} {pieces} {ends} {at} k are some within below from =
       after = omega (arith, from);
       least = λ other b h.
           elim (cases_lt (b.number - 1) k) [
-            | inl l ↦
-                elim (cases_lt 0 b.number) [
-                  | inl some_number ↦
-                      let before = below (b.number - 1) l in
-                      let its = are.each (b.number - 1) (omega (arith, l, within)) in
-                      let same : begin_of pieces (b.number - 1 + 1) ≡ begin_of pieces b.number =
-                      ap (λ n. begin_of pieces n) (omega (arith, some_number)) in
-                      omega (arith, before, its, same, h, b.place_is)
-                  | inr z ↦
-                      omega (arith, begin-none pieces b.number (omega (arith, z)), h, b.place_is, some)
-                ]
-            | inr g ↦
-                elim (cases_lt 0 b.number) [
-                  | inl some_number ↦
-                      omega (arith, begin-le pieces (k + 1) b.number (omega (arith, g, some_number)), end, b.place_is)
-                  | inr z ↦
-                      omega (arith, begin-none pieces b.number (omega (arith, z)), h, b.place_is, some)
-                ]
+            | inl l ↦ elim (cases_lt 0 b.number) [
+              | inl some_number ↦
+                  let before = below (b.number - 1) l in
+                  let its = are.each (b.number - 1) (omega (arith, l, within)) in
+                  let same : begin_of pieces (b.number - 1 + 1) ≡ begin_of pieces b.number =
+                  ap (λ n. begin_of pieces n) (omega (arith, some_number)) in
+                  omega (arith, before, its, same, h, b.place_is)
+              | inr z ↦ omega (arith, begin-none pieces b.number (omega (arith, z)), h, b.place_is, some)
+            ]
+            | inr g ↦ elim (cases_lt 0 b.number) [
+              | inl some_number ↦
+                  omega (arith, begin-le pieces (k + 1) b.number (omega (arith, g, some_number)), end, b.place_is)
+              | inr z ↦ omega (arith, begin-none pieces b.number (omega (arith, z)), h, b.place_is, some)
+            ]
           ];
     }
 
@@ -158,6 +154,5 @@ found-begins {base} {pieces} {ends} at k are within below =
           let end = are.each (k - 1) (omega (arith, l, within)) in
           let same : begin_of pieces (k - 1 + 1) ≡ begin_of pieces k = ap (λ n. begin_of pieces n) (omega (arith, l)) in
           omega (arith, last, end, same)
-      | inr z ↦
-          omega (arith, begin-none pieces k (omega (arith, z)))
+      | inr z ↦ omega (arith, begin-none pieces k (omega (arith, z)))
     ]

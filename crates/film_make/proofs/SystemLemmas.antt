@@ -60,8 +60,7 @@ are-elements video i (suc n) = (
       few = omega arith;
       buffer_fits = tt;
       stamps_fit = tt;
-      long =
-          omega (arith, piece-few video i);
+      long = omega (arith, piece-few video i);
     },
     are-elements video (i + 1) n,
   ),

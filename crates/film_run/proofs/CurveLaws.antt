@@ -135,8 +135,7 @@ best-of sizes timing plan limits is =
     (record {
       some_slot = omega (arith, low_slots);
       same_length = up_slots ∙ sym low_slots;
-      meet =
-          low_last ∙ sym up_last ∙ sym place;
+      meet = low_last ∙ sym up_last ∙ sym place;
     }) is.taut
 
 -- what the plan of pictures keeps to, slot by slot

@@ -100,8 +100,7 @@ asks_for_run {film} {from} {to} {run} {picture_units} {first} {end} units_are ti
             first_is = refl;
             end_is = refl;
             from_is = at.from_is ∙ sym first_is;
-            sent_is =
-                at.sent_is;
+            sent_is = at.sent_is;
             played_is = at.played_is;
           });
     }

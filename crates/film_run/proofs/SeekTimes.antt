@@ -27,64 +27,56 @@ agree (suc zero) least most =
     record {
       past = λ k time h. omega arith;
       begun = λ k time h. omega arith;
-      lasts =
-          λ k time h. omega arith;
+      lasts = λ k time h. omega arith;
       ended = λ k time h. omega arith;
     }
 agree (suc (suc zero)) least most =
     record {
       past = λ k time h. omega arith;
       begun = λ k time h. omega arith;
-      lasts =
-          λ k time h. omega arith;
+      lasts = λ k time h. omega arith;
       ended = λ k time h. omega arith;
     }
 agree (suc (suc (suc zero))) least most =
     record {
       past = λ k time h. omega arith;
       begun = λ k time h. omega arith;
-      lasts =
-          λ k time h. omega arith;
+      lasts = λ k time h. omega arith;
       ended = λ k time h. omega arith;
     }
 agree (suc (suc (suc (suc zero)))) least most =
     record {
       past = λ k time h. omega arith;
       begun = λ k time h. omega arith;
-      lasts =
-          λ k time h. omega arith;
+      lasts = λ k time h. omega arith;
       ended = λ k time h. omega arith;
     }
 agree (suc (suc (suc (suc (suc zero))))) least most =
     record {
       past = λ k time h. omega arith;
       begun = λ k time h. omega arith;
-      lasts =
-          λ k time h. omega arith;
+      lasts = λ k time h. omega arith;
       ended = λ k time h. omega arith;
     }
 agree (suc (suc (suc (suc (suc (suc zero)))))) least most =
     record {
       past = λ k time h. omega arith;
       begun = λ k time h. omega arith;
-      lasts =
-          λ k time h. omega arith;
+      lasts = λ k time h. omega arith;
       ended = λ k time h. omega arith;
     }
 agree (suc (suc (suc (suc (suc (suc (suc zero))))))) least most =
     record {
       past = λ k time h. omega arith;
       begun = λ k time h. omega arith;
-      lasts =
-          λ k time h. omega arith;
+      lasts = λ k time h. omega arith;
       ended = λ k time h. omega arith;
     }
 agree (suc (suc (suc (suc (suc (suc (suc (suc zero)))))))) least most =
     record {
       past = λ k time h. omega arith;
       begun = λ k time h. omega arith;
-      lasts =
-          λ k time h. omega arith;
+      lasts = λ k time h. omega arith;
       ended = λ k time h. omega arith;
     }
 agree (suc (suc (suc (suc (suc (suc (suc (suc (suc code))))))))) least most = absurd (omega arith)

@@ -146,8 +146,7 @@ body head = elim (first_found (named head) (length head)) [
         (record {
           at = f.at;
           is_line = named-line head f.at f.holds;
-          first =
-              λ k below line. unnamed head k (f.first k below) line;
+          first = λ k below line. unnamed head k (f.first k below) line;
           value = value.1;
         }),
   ))

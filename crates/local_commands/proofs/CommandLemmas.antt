@@ -77,6 +77,5 @@ film_done {size} {rate} {units} holds {r} text done is =
       rate = rate;
       units = units;
       holds = holds;
-      printed =
-          text_of (scan_text size rate units) r done.text text is;
+      printed = text_of (scan_text size rate units) r done.text text is;
     }

@@ -327,64 +327,56 @@ fault_read (EmptySegment i) =
     record {
       shape = placed (codes "EmptySegment") i;
       word = none_by 32 (codes "EmptySegment") refl;
-      short =
-          one_short i;
+      short = one_short i;
       back = one_back EmptySegment i;
     }
 fault_read WrongLength =
     record {
       shape = lone (codes "WrongLength");
       word = none_by 32 (codes "WrongLength") refl;
-      short =
-          λ _. All-nil (λ k. k < 2 ^ 64);
+      short = λ _. All-nil (λ k. k < 2 ^ 64);
       back = λ _. refl;
     }
 fault_read WrongTotal =
     record {
       shape = lone (codes "WrongTotal");
       word = none_by 32 (codes "WrongTotal") refl;
-      short =
-          λ _. All-nil (λ k. k < 2 ^ 64);
+      short = λ _. All-nil (λ k. k < 2 ^ 64);
       back = λ _. refl;
     }
 fault_read (BelowLow t) =
     record {
       shape = placed (codes "BelowLow") t;
       word = none_by 32 (codes "BelowLow") refl;
-      short =
-          one_short t;
+      short = one_short t;
       back = one_back BelowLow t;
     }
 fault_read (AboveUp t) =
     record {
       shape = placed (codes "AboveUp") t;
       word = none_by 32 (codes "AboveUp") refl;
-      short =
-          one_short t;
+      short = one_short t;
       back = one_back AboveUp t;
     }
 fault_read (EqualSlopes i) =
     record {
       shape = placed (codes "EqualSlopes") i;
       word = none_by 32 (codes "EqualSlopes") refl;
-      short =
-          one_short i;
+      short = one_short i;
       back = one_back EqualSlopes i;
     }
 fault_read (RiseOffUpper i) =
     record {
       shape = placed (codes "RiseOffUpper") i;
       word = none_by 32 (codes "RiseOffUpper") refl;
-      short =
-          one_short i;
+      short = one_short i;
       back = one_back RiseOffUpper i;
     }
 fault_read (FallOffLower i) =
     record {
       shape = placed (codes "FallOffLower") i;
       word = none_by 32 (codes "FallOffLower") refl;
-      short =
-          one_short i;
+      short = one_short i;
       back = one_back FallOffLower i;
     }
 

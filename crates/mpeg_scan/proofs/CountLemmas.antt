@@ -335,8 +335,7 @@ first-count c is =
         units = refl;
         ended = λ e. refl;
         open_slice = λ more. absurd (omega arith);
-        held =
-            omega arith;
+        held = omega arith;
         group = refl;
         sliced = λ more. absurd (omega arith);
       };

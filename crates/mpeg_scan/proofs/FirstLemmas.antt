@@ -264,8 +264,7 @@ first_in-text {c} {past = []} {end} {stop} are =
     record {
       stop = stop;
       is = are.texts.0;
-      long =
-          omega (arith, are.far, long-header 0 c end (first-is c are.accepted) are.judged);
+      long = omega (arith, are.far, long-header 0 c end (first-is c are.accepted) are.judged);
     }
 first_in-text {past = d ∷ past} are = first_in-text {c = d} {past = past} (older-are_judged are)
 

@@ -166,8 +166,7 @@ part-laid (head_call a b ∷ calls) {part = between at} {k} {to} {past} parts co
         cur = [];
         past_is = sym (append-nil past);
         count = refl;
-        head =
-            less;
+        head = less;
         short = omega (arith, less, short);
         in_order = refl;
       };

@@ -267,12 +267,10 @@ closed-grows c past unit far closed =
           fields = record {
             code = p.fields.code;
             member = inr p.fields.member;
-            zero_is =
-                p.fields.zero_is;
+            zero_is = p.fields.zero_is;
             place_is = p.fields.place_is;
             temporal = p.fields.temporal;
-            kind =
-                p.fields.kind;
+            kind = p.fields.kind;
             vectors = p.fields.vectors;
           };
         };

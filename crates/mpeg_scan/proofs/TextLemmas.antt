@@ -88,8 +88,7 @@ codes-texts (x ∷ r) = elim (cases_Bool (is_whole (latest_prefix r))) [
         after = omega (arith, ends);
         within = omega arith;
         count = omega (arith, ends);
-        each =
-            λ k below. absurd (omega (arith, below));
+        each = λ k below. absurd (omega (arith, below));
       } in
       subst (λ (l : List Code). TextsAre (x ∷ r) (suc (length r)) l) (sym (codes-code x r e))
       (one, subst (λ s. TextsAre (x ∷ r) s (note_latest (codes_of r) x)) stop (texts-more x r (codes_of r) (codes-texts r))))

@@ -185,14 +185,13 @@ part-stopped {pieces} {at} {head_bytes} {old} {new} {whole} {from} {to} head pay
               length-take most next,
               order,
             )
-        | inr end ↦
-            elim (cases_lt (from + place) (at + head_bytes + length payload)) [
-              | inl l ↦
-                  let here : from + place ≡ at + head_bytes = split.only (from + place) end (omega (arith, order, less)) l in
-                  omega (arith, here, order, long, stopped.one_send (length head) refl (omega (arith, here, order, long, less)))
-              | inr g ↦
-                  omega (arith, g, order, long, length-append head payload, stopped.out_most, length-take most next)
-            ]
+        | inr end ↦ elim (cases_lt (from + place) (at + head_bytes + length payload)) [
+          | inl l ↦
+              let here : from + place ≡ at + head_bytes = split.only (from + place) end (omega (arith, order, less)) l in
+              omega (arith, here, order, long, stopped.one_send (length head) refl (omega (arith, here, order, long, less)))
+          | inr g ↦
+              omega (arith, g, order, long, length-append head payload, stopped.out_most, length-take most next)
+        ]
       ];
       told = sends-more old (bytes_between pieces from at) (take out (take most next)) first stopped.told
           ∙ ap (λ (l : List ℕ). told_more old (sends l)) joined;

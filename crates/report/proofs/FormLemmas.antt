@@ -84,8 +84,7 @@ has_form place seat (Play slot plan) (Overflow over booked asked) kind =
     line_spelled (decimal place) (labelled (codes " seat=") seat) (asked_play slot plan)
     (record {
       first = labelled (codes " overflow slot=") over;
-      more =
-          labelled (codes " booked=") booked ∷ labelled (codes " asked=") asked ∷ [];
+      more = labelled (codes " booked=") booked ∷ labelled (codes " asked=") asked ∷ [];
     })
 has_form place seat (Play slot plan) Halted kind = kind
 has_form place seat (Play slot plan) (Looked now at booked) kind = kind
@@ -105,6 +104,5 @@ has_form place seat (Look slot) (Looked now at booked) kind =
     (record { first = labelled (codes " look slot=") slot; more = [] })
     (record {
       first = labelled (codes " looked now=") now;
-      more =
-          labelled (codes " at=") at ∷ labelled (codes " booked=") booked ∷ [];
+      more = labelled (codes " at=") at ∷ labelled (codes " booked=") booked ∷ [];
     })

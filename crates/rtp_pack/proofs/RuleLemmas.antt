@@ -372,8 +372,7 @@ no_unit = record {
   first_slice = 0;
   slices = 0;
   temporal = 0;
-  presentation =
-      0;
+  presentation = 0;
   kind = I;
   vectors = 0;
   has_sequence = false;

@@ -30,8 +30,7 @@ short-here {pieces} {from} {at} n full kept fits before =
     record {
       some = before;
       pieces = omega (arith, none, kept.pieces);
-      whole =
-          omega (arith, none, kept.whole);
+      whole = omega (arith, none, kept.whole);
       ended = omega (arith, none, kept.ended);
       last = λ e. cc;
     }
@@ -43,8 +42,7 @@ short-next {pieces} {from} {at} n full kept short room before =
     record {
       some = before;
       pieces = omega (arith, none, kept.pieces, kept.some);
-      whole =
-          omega (arith, none, room);
+      whole = omega (arith, none, room);
       ended = omega (arith, none, kept.whole);
       last = λ e. cc;
     }
@@ -58,8 +56,7 @@ long-here {pieces} {from} {at} n full kept long before within =
     record {
       some = before;
       pieces = omega (arith, kept.pieces);
-      whole =
-          omega (arith, some, kept.ended);
+      whole = omega (arith, some, kept.ended);
       ended = omega (arith, kept.ended);
       last = λ e. omega (arith, some, kept.ended);
     }
@@ -72,8 +69,7 @@ long-next {pieces} {from} {at} n full kept long before within =
     record {
       some = before;
       pieces = omega (arith, kept.pieces, kept.some);
-      whole =
-          omega (arith, some, kept.whole);
+      whole = omega (arith, some, kept.whole);
       ended = omega (arith, kept.whole);
       last = λ e. omega (arith, some, kept.whole);
     }

@@ -38,11 +38,10 @@ pub same-used : {p : ℕ} (wish : Wish) (all : List ℕ) (j n : ℕ) → Duratio
 same-used {p} wish all j n lasts early =
     let c = div_ceil ((j - wish.startup) * wish.slot_units) p in
     elim (cases_lt n (length all)) [
-      | inl fewer ↦
-          let few : c - 0 ≤ n = elim (cases_lt n c) [
-            | inl more ↦ absurd (omega (arith, early fewer, used-early wish.startup j n lasts more))
-            | inr less ↦ omega (arith, less)
-          ] in
+      | inl fewer ↦ let few : c - 0 ≤ n = elim (cases_lt n c) [
+        | inl more ↦ absurd (omega (arith, early fewer, used-early wish.startup j n lasts more))
+        | inr less ↦ omega (arith, less)
+      ] in
           used-sum wish j 0 (take n all) lasts ∙ (ap sum (take-take (c - 0) n all few) ∙ sym (used-sum wish j 0 all lasts))
       | inr whole ↦ ap (used_before wish p j 0) (take_all n all whole)
     ]
@@ -105,11 +104,10 @@ enough {wish} {all} {p} {h} {j} {cut} lasts units_some heard between =
                 subst (λ k. j < use_slot wish (time h) k) (sym empty) there
           ] in
           ap (λ b. not (is_complete h) && b) (lt-leb (use_slot wish (time h) n) j late) ∙ and-none (not (is_complete h))
-      | inr whole ↦
-          let begun : 0 < frames h = elim (cases_lt 0 (frames h)) [
-            | inl yes_ ↦ yes_
-            | inr none ↦ absurd (omega (arith, whole, units_some, ap length (no-units h (omega (arith, none)))))
-          ] in
+      | inr whole ↦ let begun : 0 < frames h = elim (cases_lt 0 (frames h)) [
+        | inl yes_ ↦ yes_
+        | inr none ↦ absurd (omega (arith, whole, units_some, ap length (no-units h (omega (arith, none)))))
+      ] in
           let all_whole : (n == units h) ≡ true = eq-eqb n (units h) (omega (arith, whole, heard.among, heard.units_are begun)) in
           let complete : is_complete h ≡ true =
           ap (λ b. b && (n == units h)) (lt-ltb 0 (frames h) begun) ∙ all_whole in

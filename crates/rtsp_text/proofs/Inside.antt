@@ -35,8 +35,7 @@ onto_inside n x other (part ∷ parts) all =
     All-cons (IsInside (n + 1)) (x ∷ part) parts
     (record {
       short = omega (arith, first.short);
-      one_line =
-          and_from (not (x == 10)) (is_one_line part) (ap not other) first.one_line;
+      one_line = and_from (not (x == 10)) (is_one_line part) (ap not other) first.one_line;
     })
     (All-weaker (IsInside n) (IsInside (n + 1)) (inside_more n (n + 1) (omega arith)) parts
     (All-tail (IsInside n) part parts all))
@@ -78,8 +77,7 @@ strip_inside n text i =
       | inl cr ↦ subst P (sym (cond-true b (take (length text - 1) text) text cr))
           (record {
             short = omega (arith, i.short, length-take (length text - 1) text);
-            one_line =
-                all-take (λ byte. not (byte == 10)) (length text - 1) text i.one_line;
+            one_line = all-take (λ byte. not (byte == 10)) (length text - 1) text i.one_line;
           })
       | inr other ↦ subst P (sym (cond-false b (take (length text - 1) text) text other)) i
     ]

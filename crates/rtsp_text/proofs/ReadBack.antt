@@ -383,33 +383,27 @@ status_of code is =
                                                                           | inl h1 ↦ known code 200 status_200 h1
                                                                           | inr e1 ↦ known code 400 status_400 e1
                                                                         ]
-                                                                        | inr e2 ↦
-                                                                            known code 404 status_404 e2
+                                                                        | inr e2 ↦ known code 404 status_404 e2
                                                                       ]
                                                                   | inr e3 ↦ known code 451 status_451 e3
                                                                 ]
-                                                            | inr e4 ↦
-                                                                known code 453 status_453 e4
+                                                            | inr e4 ↦ known code 453 status_453 e4
                                                           ]
                                                       | inr e5 ↦ known code 454 status_454 e5
                                                     ]
-                                                | inr e6 ↦
-                                                    known code 455 status_455 e6
+                                                | inr e6 ↦ known code 455 status_455 e6
                                               ]
                                           | inr e7 ↦ known code 457 status_457 e7
                                         ]
-                                    | inr e8 ↦
-                                        known code 461 status_461 e8
+                                    | inr e8 ↦ known code 461 status_461 e8
                                   ]
                               | inr e9 ↦ known code 500 status_500 e9
                             ]
-                        | inr e10 ↦
-                            known code 501 status_501 e10
+                        | inr e10 ↦ known code 501 status_501 e10
                       ]
                   | inr e11 ↦ known code 503 status_503 e11
                 ]
-            | inr e12 ↦
-                known code 505 status_505 e12
+            | inr e12 ↦ known code 505 status_505 e12
           ]
       | inr e13 ↦ known code 551 status_551 e13
     ]

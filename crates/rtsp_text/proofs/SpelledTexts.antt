@@ -86,8 +86,7 @@ plain_field : (field : Field) → IsHeaderField field → IsPlain field
 plain_field field h =
     record {
       name_is = word_is field.name h.name_is;
-      one_line =
-          one_line_from is_value_byte refl field.value (value_is field.value h.value_is);
+      one_line = one_line_from is_value_byte refl field.value (value_is field.value h.value_is);
       bare = h.bare;
     }
 

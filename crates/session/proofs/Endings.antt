@@ -321,11 +321,10 @@ all_calm [] old new is calm = inr (subst IsCalm (sym is) calm)
 all_calm (happening ∷ rest) old new is calm =
     elim (happening_calm old happening is.0 is.1.0 calm) [
       | inl heard ↦ inl (inl heard)
-      | inr quiet ↦
-          elim (all_calm rest is.0 new is.1.1 quiet) [
-            | inl later ↦ inl (inr later)
-            | inr end ↦ inr end
-          ]
+      | inr quiet ↦ elim (all_calm rest is.0 new is.1.1 quiet) [
+        | inl later ↦ inl (inr later)
+        | inr end ↦ inr end
+      ]
     ]
 
 pub torn_by_teardown : (begun : Beginning) (happenings : List Happening) (now : Standing)

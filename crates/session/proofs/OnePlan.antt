@@ -50,11 +50,10 @@ group_from_least : {units : List PictureUnit} {picture time after k j : ℕ} →
 group_from_least {j} is its =
     elim its.group [
       | inl group ↦ is.first j its.later group (its.from_then group.within)
-      | inr end ↦
-          elim is.group [
-            | inl own ↦ let within = own.within in omega (arith, within, end)
-            | inr both ↦ omega (arith, both, end)
-          ]
+      | inr end ↦ elim is.group [
+        | inl own ↦ let within = own.within in omega (arith, within, end)
+        | inr both ↦ omega (arith, both, end)
+      ]
     ]
 
 end_once : {k j : ℕ} (units : List PictureUnit) (picture : ℕ) (to : Option ℕ) (after : ℕ) → IsEnd units picture to after k
@@ -227,11 +226,10 @@ module _ (old : Standing) (setup : Setup) (paused : Option Run) (range : Option 
       elim (curves_once (rest_sizes (stored_sizes is.stored) (run_of is.wanted))
       (timing_of (playback_of is.stored.film old.settings setup) (run_of is.wanted)) is.refused that.refused is.no_curves none) [
         | inl same ↦ inl (that.refusal_is ∙ same ∙ sym is.refusal_is)
-        | inr lacks ↦
-            elim lacks [
-              | inl first ↦ inr (inl (is.refusal_is ∙ first))
-              | inr second ↦ inr (inr (that.refusal_is ∙ second))
-            ]
+        | inr lacks ↦ elim lacks [
+          | inl first ↦ inr (inl (is.refusal_is ∙ first))
+          | inr second ↦ inr (inr (that.refusal_is ∙ second))
+        ]
       ]
 
   refused_once : (one other : Refusal) → HasNoRun old setup paused range one ⊎ HasNoPlan old setup paused range one

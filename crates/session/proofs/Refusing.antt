@@ -56,88 +56,77 @@ own_code BadRequest =
     record {
       small = omega arith;
       no_overflow = λ is. omega (arith, is);
-      not_full =
-          λ is. omega (arith, is);
+      not_full = λ is. omega (arith, is);
       memory = λ is. absurd (omega (arith, is));
     }
 own_code Version =
     record {
       small = omega arith;
       no_overflow = λ is. omega (arith, is);
-      not_full =
-          λ is. omega (arith, is);
+      not_full = λ is. omega (arith, is);
       memory = λ is. absurd (omega (arith, is));
     }
 own_code Method =
     record {
       small = omega arith;
       no_overflow = λ is. omega (arith, is);
-      not_full =
-          λ is. omega (arith, is);
+      not_full = λ is. omega (arith, is);
       memory = λ is. absurd (omega (arith, is));
     }
 own_code Required =
     record {
       small = omega arith;
       no_overflow = λ is. omega (arith, is);
-      not_full =
-          λ is. omega (arith, is);
+      not_full = λ is. omega (arith, is);
       memory = λ is. absurd (omega (arith, is));
     }
 own_code Session =
     record {
       small = omega arith;
       no_overflow = λ is. omega (arith, is);
-      not_full =
-          λ is. omega (arith, is);
+      not_full = λ is. omega (arith, is);
       memory = λ is. absurd (omega (arith, is));
     }
 own_code Film =
     record {
       small = omega arith;
       no_overflow = λ is. omega (arith, is);
-      not_full =
-          λ is. omega (arith, is);
+      not_full = λ is. omega (arith, is);
       memory = λ is. absurd (omega (arith, is));
     }
 own_code NotNow =
     record {
       small = omega arith;
       no_overflow = λ is. omega (arith, is);
-      not_full =
-          λ is. omega (arith, is);
+      not_full = λ is. omega (arith, is);
       memory = λ is. absurd (omega (arith, is));
     }
 own_code Transport =
     record {
       small = omega arith;
       no_overflow = λ is. omega (arith, is);
-      not_full =
-          λ is. omega (arith, is);
+      not_full = λ is. omega (arith, is);
       memory = λ is. absurd (omega (arith, is));
     }
 own_code Parameter =
     record {
       small = omega arith;
       no_overflow = λ is. omega (arith, is);
-      not_full =
-          λ is. omega (arith, is);
+      not_full = λ is. omega (arith, is);
       memory = λ is. absurd (omega (arith, is));
     }
 own_code (Buffer least) =
     record {
       small = omega arith;
       no_overflow = λ is. omega (arith, is);
-      not_full =
-          λ is. omega (arith, is);
+      not_full = λ is. omega (arith, is);
       memory = λ is. absurd (omega (arith, is));
     }
 own_code Range =
     record {
       small = omega arith;
       no_overflow = λ is. omega (arith, is);
-      not_full =
-          λ is. omega (arith, is);
+      not_full = λ is. omega (arith, is);
       memory = λ is. absurd (omega (arith, is));
     }
 own_code Memory =
@@ -265,13 +254,12 @@ pub hears_same : (twice : TwoHearings) → (Is500 twice.ask twice.one → Is500 
 hears_same twice there back =
     elim (hears_once twice) [
       | inl same ↦ (sym same.ask_is, sym same.session_is)
-      | inr lacks ↦
-          elim lacks [
-            | inl first ↦ same_wanting old message first
-                (hears_500 old other message again its (there (wanting_500 old one message ask first)))
-            | inr second ↦ same_wanting old message
-                (hears_500 old one message ask is (back (wanting_500 old other message again second))) second
-          ]
+      | inr lacks ↦ elim lacks [
+        | inl first ↦ same_wanting old message first
+            (hears_500 old other message again its (there (wanting_500 old one message ask first)))
+        | inr second ↦ same_wanting old message
+            (hears_500 old one message ask is (back (wanting_500 old other message again second))) second
+      ]
     ]
   where
     open twice use {old, one, other, message, ask, again, is, its}

@@ -28,8 +28,7 @@ pub data HearsAs (old : Standing) (ask : Ask) (new : Standing) : Type 0 where
   Stops : (setup : Setup) (play : Played) (keep : ℕ) (next : Next) (text : List ℕ) → old.state ≡ Playing setup play
       → is_answered next ≡ true → keep ≡ next_boundary play.pacer → ask ≡ AskHalt keep
       → new ≡ record old {
-        state =
-            Playing setup (record play { pacer = record play.pacer { keep = keep } });
+        state = Playing setup (record play { pacer = record play.pacer { keep = keep } });
         awaited = Halt keep next;
         text = text;
       }

@@ -33,11 +33,10 @@ missed_of heard start (suc n) =
     let more = rw add-one at (sum_by-range_more (is_missed heard start) n) in
     elim (cases_lt heard n) [
       | inr early ↦ omega (arith, before, more, missed_early heard start n early)
-      | inl later ↦
-          elim (cases_lt n start) [
-            | inr from ↦ omega (arith, before, more, missed_yes heard start n later from)
-            | inl under ↦ omega (arith, before, more, missed_before heard start n under)
-          ]
+      | inl later ↦ elim (cases_lt n start) [
+        | inr from ↦ omega (arith, before, more, missed_yes heard start n later from)
+        | inl under ↦ omega (arith, before, more, missed_before heard start n under)
+      ]
     ]
 
 pub missed_is : (heard start slot : ℕ) → missed_between heard start slot ≡ slots_missed heard slot start

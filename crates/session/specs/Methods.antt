@@ -68,8 +68,7 @@ IsSetUp old sequence (Ok setup) ask new =
     (ask ≡ Reply)
     × (new ≡ record (with_reply old
     (setup_text sequence setup.media setup.control old.source.ssrc old.id)) {
-      state =
-          Ready setup None;
+      state = Ready setup None;
     })
 IsSetUp old sequence (Err refusal) ask new = IsRefused old (Some sequence) refusal [] ask new
 

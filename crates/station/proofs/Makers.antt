@@ -24,8 +24,7 @@ all-at place maker d (e ∷ rest) =
       at = suc h.at;
       inside = omega (arith, h.inside);
       entry_is = h.entry_is;
-      place_is =
-          omega (arith, h.place_is);
+      place_is = omega (arith, h.place_is);
       maker_is = h.maker_is;
     }) more
     (all-at (place + 1) maker d rest) in
@@ -37,8 +36,7 @@ all-at place maker d (e ∷ rest) =
             inside = omega arith;
             entry_is = refl;
             place_is = omega arith;
-            maker_is =
-                eqb-true e.maker maker his;
+            maker_is = eqb-true e.maker maker his;
           } in
           subst (All P) (sym (cond-true (eqb e.maker maker) (here ∷ more) more his)) (All-cons P here more first later)
           )

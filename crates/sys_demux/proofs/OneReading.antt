@@ -306,8 +306,7 @@ end_no_fault chosen start t (Truncated place) (inr c) f =
     (inr (record {
       zeros = c.zeros;
       rest = c.rest ++ f.lacking;
-      is =
-          ap (λ (l : List ℕ). l ++ f.lacking) c.is ∙ prefixed_more c.zeros (185 ∷ c.rest) f.lacking;
+      is = ap (λ (l : List ℕ). l ++ f.lacking) c.is ∙ prefixed_more c.zeros (185 ∷ c.rest) f.lacking;
     }))
 
 -- one fault stands there

@@ -89,8 +89,7 @@ other_done {before} {kind} {high} {start} {place} {kept} low rest h kind_is othe
   is_item = record {
     kind_is = kind_is;
     length_is = long;
-    header =
-        λ chosen. absurd (both_ways (is_chosen (choose before kind) kind) other chosen);
+    header = λ chosen. absurd (both_ways (is_chosen (choose before kind) kind) other chosen);
   };
   bytes_are = sym
       (ap (λ (l : List ℕ). (l ++ low ∷ []) ++ rest) h.are

@@ -61,8 +61,7 @@ joins {side} {curve} {s} {o} (suc n) (p ∷ rest) few open_ =
       | inl turns ↦
           record {
             chain = (e.front ++ e.last ∷ []) ++ on_curve curve (s + 1) ∷ [];
-            is =
-                (open_joins e.front e.last same turns).joined;
+            is = (open_joins e.front e.last same turns).joined;
           }
       | inr out ↦ joins n e.front (omega (arith, few, ap length e.is, length-append e.front (e.last ∷ [])))
           (open_pops (record { side = side; curve = curve; last = s }) o e.front e.last same out)

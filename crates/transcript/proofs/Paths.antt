@@ -242,8 +242,7 @@ path_taken old new message outcome parts replied = record {
         session_is = refl;
         next = replied.next;
         hears = replied.heard.hears;
-        answered =
-            replied.heard.answered;
+        answered = replied.heard.answered;
         new_is = replied.new_is;
       },
       refl,

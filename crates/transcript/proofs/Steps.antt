@@ -92,8 +92,7 @@ begin_film : {plan : List Segment} {more : List ℕ} (prepared : Prepared) (star
       start = start;
       plan = plan;
       keep = kept_in askings (total_bytes plan);
-      before =
-          prepared.run.sent;
+      before = prepared.run.sent;
       pieces = run_pieces prepared.frames;
     } ∷ plays_of askings) more
 begin_film {plan} {more} prepared start askings end same is =
@@ -102,8 +101,7 @@ begin_film {plan} {more} prepared start askings end same is =
       start = start;
       plan = pl;
       keep = kept_in askings (total_bytes pl);
-      before =
-          prepared.run.sent;
+      before = prepared.run.sent;
       pieces = run_pieces prepared.frames;
     } ∷ plays_of askings) more)
     same is

@@ -35,13 +35,12 @@ units-counted n time long =
       | inl less ↦
           let rows : (c + 1) * time ≤ n * time = mul-le-mul_right time (omega (arith, less)) in
           absurd (omega (arith, times, rows, long))
-      | inr more ↦
-          elim (cases_lt n c) [
-            | inl over ↦
-                let rows : (n + 1) * time ≤ c * time = mul-le-mul_right time (omega (arith, over)) in
-                absurd (omega (arith, times, rows))
-            | inr same ↦ omega (arith, more, same)
-          ]
+      | inr more ↦ elim (cases_lt n c) [
+        | inl over ↦
+            let rows : (n + 1) * time ≤ c * time = mul-le-mul_right time (omega (arith, over)) in
+            absurd (omega (arith, times, rows))
+        | inr same ↦ omega (arith, more, same)
+      ]
     ]
 
 three : (a b c : ℕ) → a < 10 → b < 10 → c < 10 → number_of ((48 + a) ∷ (48 + b) ∷ (48 + c) ∷ []) ≡ Some (a * 100 + b * 10 + c)

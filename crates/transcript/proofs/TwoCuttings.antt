@@ -163,8 +163,7 @@ slot_split {base} {cur} {opened} {mid} {new} {slot} {due} {halt} {sent} {taken} 
       halt = halt;
       opened = opened;
       bytes = rest.first;
-      pieces =
-          rest.pieces;
+      pieces = rest.pieces;
       until = rest.until;
     } in
     record {

@@ -177,8 +177,7 @@ split-at : (wish : Wish) (h : History) (before later : List Round) (round : Roun
     → IsSplit wish h before round (rounds_doings wish h (before ++ round ∷ later))
 split-at wish h [] later round =
     record {
-      later =
-          sends (requests_after wish h round.moments) ++ rounds_doings wish (after h round.moments) later;
+      later = sends (requests_after wish h round.moments) ++ rounds_doings wish (after h round.moments) later;
       told_is = refl;
     }
 split-at wish h (first ∷ before) later round =

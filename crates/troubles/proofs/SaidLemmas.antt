@@ -13,8 +13,7 @@ said_nothing faults told =
     record {
       count = omega arith;
       all = λ _. sym (told_more-nil told);
-      risen =
-          λ e. absurd (true≢false e);
+      risen = λ e. absurd (true≢false e);
       front = λ e. absurd (true≢false e);
     }
 

@@ -247,8 +247,7 @@ module _ {B : Type 0} (entries : B → List Entry) (terms_of : B → Terms) (ter
             (λ _. record {
               numbers = λ e. absurd (omega arith);
               tickets = λ t here there. absurd here;
-              past =
-                  λ k j' e. absurd (none_there k j' e);
+              past = λ k j' e. absurd (none_there k j' e);
             })
             (λ same. absurd (same refl))
             (λ j z other l _. let g = r.each j z l in let a = g.few in record {
@@ -275,8 +274,7 @@ module _ {B : Type 0} (entries : B → List Entry) (terms_of : B → Terms) (ter
               old = v;
               new = w;
               live = (at, left);
-              old_free =
-                  idle_free v.stage idle;
+              old_free = idle_free v.stage idle;
               new_free = idle_free v.stage idle;
             })
             s.words r.where_is);
@@ -403,8 +401,7 @@ module _ {B : Type 0} (entries : B → List Entry) (terms_of : B → Terms) (ter
               idle = idle;
               other_idle = widle;
               joined = b;
-              joined_idle =
-                  idle;
+              joined_idle = idle;
               remnant = x;
               gone = refl;
             }) r.where_is;

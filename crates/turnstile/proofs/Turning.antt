@@ -173,8 +173,7 @@ module _ {B : Type 0} (entries : B → List Entry) (terms_of : B → Terms) (ter
                 old = v;
                 new = w;
                 live = (at, left);
-                old_free =
-                    idle_free v.stage idle;
+                old_free = idle_free v.stage idle;
                 new_free = waits_free w.stage r.drawn refl;
               })
               (set s.words 0 ((get_or s.words 0 0 + 1) % 2 ^ 64)) r.where_is;
@@ -376,8 +375,7 @@ module _ {B : Type 0} (entries : B → List Entry) (terms_of : B → Terms) (ter
           past = λ k j at. let p =
               f.past k j at in
               record {
-                mine =
-                    p.mine ∙ sym (made_other j.number r.log e (λ same. p.other (sym same ∙ own)));
+                mine = p.mine ∙ sym (made_other j.number r.log e (λ same. p.other (sym same ∙ own)));
                 few = p.few;
                 other = p.other;
               };

@@ -124,8 +124,7 @@ not_opened_on before mid (Some c) first since =
       told = middle.told;
       told_is = middle.told_is;
       openings = since.openings ∙ middle.openings;
-      own =
-          since.own ∙ middle.own;
+      own = since.own ∙ middle.own;
     }
 
 pub opened_once : (how : Option Opening) (before gate : Option Content)
@@ -144,8 +143,7 @@ once_since before mid (Some c) once since =
       told = middle.told;
       told_is = middle.told_is;
       openings = since.openings ∙ middle.openings;
-      own =
-          since.own ∙ middle.own;
+      own = since.own ∙ middle.own;
     }
 
 -- ---- parts that gave no connection

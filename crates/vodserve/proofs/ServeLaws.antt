@@ -354,8 +354,7 @@ leaves_none_out before after seed serving ended gate (inr served) status told =
             serving = _;
             seed = seed;
             journal = _;
-            gate =
-                _;
+            gate = _;
             gate_after = _;
           }) worked.parts
           worked.each worker none within)

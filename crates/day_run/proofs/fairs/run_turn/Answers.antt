@@ -26,8 +26,7 @@ returns-clause-turned c =
       old = moment_of c.args.runner.now;
       mid = moment_of mid;
       new = moment_of new;
-      text =
-          said_text new.book.entries c.in_ok-told.told;
+      text = said_text new.book.entries c.in_ok-told.told;
     } in
     turn-of turn (record {
       same = c.go_on.ensures.kept.link;

@@ -8,7 +8,6 @@ returns c = record {
   first = first-range;
   other = other-range;
   each = each-size;
-  front =
-      sizes-front;
+  front = sizes-front;
   lines = trace-lines;
 }

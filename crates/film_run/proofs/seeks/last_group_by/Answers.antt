@@ -13,8 +13,7 @@ returns-clause-found c =
     (record {
       starts = c.group_before.ensures.group;
       within = c.group_before.ensures.before;
-      greatest =
-          c.group_before.ensures.last;
+      greatest = c.group_before.ensures.last;
     })
 
 pub returns-clause-rest : goal.returns-clause-rest

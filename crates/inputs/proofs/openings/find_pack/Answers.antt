@@ -11,8 +11,7 @@ loop-at-init g c =
       kept = refl;
       count = omega arith;
       within = omega arith;
-      told =
-          λ held is found. none_looked held c.args.name.now c.args.size found;
+      told = λ held is found. none_looked held c.args.name.now c.args.size found;
     }
 
 pub loop-at-preserved : goal.loop-at-preserved

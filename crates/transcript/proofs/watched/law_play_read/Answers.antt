@@ -10,7 +10,6 @@ returns c = λ message id authority name sequence end_ms number time slots size 
       slots = slots;
       small = small;
       short = short;
-      some =
-          some;
+      some = some;
       few = few;
     }) size is plain

@@ -46,8 +46,7 @@ returns-in-Going-clause-passed g c =
     {b = sight (record {
       session = c.slot.new.self;
       input = c.args.self.now.input;
-      booking =
-          c.args.self.now.booking;
+      booking = c.args.self.now.booking;
     }) (g.K.Link.told c.slot.new.link) c.args.seat.now}
     c.in_ok-slot.ensures.exact c.in_ok-slot.ensures.told
     (subst (λ s. Brings s c.slot.new.self) c.in-Going.is c.in_ok-slot.ensures.brings) refl refl

@@ -43,8 +43,7 @@ returns-in-Ok-More-clause-takes g c = (
   }) c.look.ensures.waiting,
   record {
     torn = search rules;
-    waits =
-        inl (first_is c.in-Ok-More.ensures.first c.look.ensures.waiting c.in-Ok-More.field-0-is);
+    waits = inl (first_is c.in-Ok-More.ensures.first c.look.ensures.waiting c.in-Ok-More.field-0-is);
   },
 )
 
@@ -66,8 +65,7 @@ returns-in-Ok-Block-clause-takes g c =
     (sight (record {
       session = c.args.self.now.session;
       input = c.drop_front-in-Ok-Block.new.self;
-      booking =
-          c.args.self.now.booking;
+      booking = c.args.self.now.booking;
     })
     (g.K.Link.told c.args.link.now) c.args.seat.now) c.in-Ok-Block.count
     (inr (c.in-Ok-Block.field-0-0, first_is c.in-Ok-Block.ensures.first refl c.in-Ok-Block.field-0-is)) (search rules)

@@ -38,8 +38,7 @@ returns-in-Ok-clause-takes g c =
     {b = sight (record {
       session = c.reply.new.self;
       input = c.take_request.new.self.input;
-      booking =
-          c.take_request.new.self.booking;
+      booking = c.take_request.new.self.booking;
     })
     (g.K.Link.told c.reply.new.link) c.take_request.new.seat} {asked = c.take_request.new.self.session} {n = c.args.length}
     c.requires.first (search rules) c.requires.torn c.take_request.ensures.heard
@@ -53,8 +52,7 @@ returns-in-Err-clause-takes g c =
           {b = sight (record {
             session = c.reply.new.self;
             input = c.take_request.new.self.input;
-            booking =
-                c.take_request.new.self.booking;
+            booking = c.take_request.new.self.booking;
           })
           (g.K.Link.told c.reply.new.link) c.take_request.new.seat} {asked = c.take_request.new.self.session}
           {n = c.args.length} (record {
@@ -74,8 +72,7 @@ returns-in-Ok-clause-kept g c =
     {b = record {
       session = c.reply.new.self;
       input = c.take_request.new.self.input;
-      booking =
-          c.take_request.new.self.booking;
+      booking = c.take_request.new.self.booking;
     }}
     c.take_request.ensures.kept c.reply.ensures.rest refl c.reply.ensures.open c.reply.ensures.receipts
 
@@ -85,8 +82,7 @@ returns-in-Err-clause-kept g c =
     {b = record {
       session = c.reply.new.self;
       input = c.take_request.new.self.input;
-      booking =
-          c.take_request.new.self.booking;
+      booking = c.take_request.new.self.booking;
     }}
     c.take_request.ensures.kept c.reply.ensures.rest refl c.reply.ensures.open c.reply.ensures.receipts
 

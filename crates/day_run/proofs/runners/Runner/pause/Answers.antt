@@ -51,8 +51,7 @@ returns-in-Some-clause-line c =
     let new : Moment =
     record {
       entries = c.halt-noted.new.self.entries;
-      states =
-          map state_of (set old.clients.items c.args.client next);
+      states = map state_of (set old.clients.items c.args.client next);
       heard = old.heard;
     } in
     let inside : c.args.client < length old.clients.items = omega (arith, day.count, c.ranges.client.fits) in
@@ -84,8 +83,7 @@ returns-in-None-clause-line c =
     let new : Moment =
     record {
       entries = old.book.entries;
-      states =
-          map state_of (set old.clients.items c.args.client next);
+      states = map state_of (set old.clients.items c.args.client next);
       heard = old.heard;
     } in
     let inside : c.args.client < length old.clients.items = omega (arith, day.count, c.ranges.client.fits) in

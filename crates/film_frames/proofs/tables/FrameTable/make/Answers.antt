@@ -15,8 +15,7 @@ loop-number-init c =
     let film = c.args.film.now in
     record {
       table = c.in_ok-table.ensures.table film.units.items;
-      firsts =
-          c.in_ok-table.ensures.firsts film.slice_starts.items film.units.items;
+      firsts = c.in_ok-table.ensures.firsts film.slice_starts.items film.units.items;
     }
 
 pub returns : goal.returns

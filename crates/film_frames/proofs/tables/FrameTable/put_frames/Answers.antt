@@ -22,8 +22,7 @@ loop-packet-init c =
     c.index-unit.ensures in
     let P : List Piece → Type 0 = λ l. IsTable film.units.items l c.args.self.now in
     record {
-      table =
-          subst P (packets-begun film c.args.number unit c.args.packets.now) (c.requires.table unit at);
+      table = subst P (packets-begun film c.args.number unit c.args.packets.now) (c.requires.table unit at);
       firsts = refl;
     }
 

@@ -10,7 +10,6 @@ invariant_of-self c = record {
   known = rw c.in-Ok.ensures.items (kept_known {old = c.self.inside.bytes.items} {from = c.self.inside.start} _ _
       (record {
         within = c.make_room-self-inside.ensures.start;
-        same =
-            c.make_room-self-inside.ensures.waiting;
+        same = c.make_room-self-inside.ensures.waiting;
       }) c.self.invariant.known);
 }

@@ -30,8 +30,7 @@ returns-in-1-clause-passed g c = λ h k.
     (record {
       alloc = c.args.self.now.alloc;
       input = c.args.self.now.input;
-      replies =
-          c.args.self.now.replies;
+      replies = c.args.self.now.replies;
       session = c.args.self.now.session;
       watching = c.add_report.new.self;
     })

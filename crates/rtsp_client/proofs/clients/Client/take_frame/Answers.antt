@@ -118,8 +118,7 @@ returns-in_err-send-clause-ended g c =
     (record {
       alloc = c.args.self.now.alloc;
       input = c.args.self.now.input;
-      replies =
-          c.args.self.now.replies;
+      replies = c.args.self.now.replies;
       session = c.args.self.now.session;
       watching = c.add_frame.new.self;
     })

@@ -49,8 +49,7 @@ returns-in_ok-take_block-in-Ok-Block-clause-taken g c = λ h k.
     (record {
       alloc = c.take_block.new.self.alloc;
       input = c.drop_front-in-Ok-Block.new.self;
-      replies =
-          c.take_block.new.self.replies;
+      replies = c.take_block.new.self.replies;
       session = c.take_block.new.self.session;
       watching = c.take_block.new.self.watching;
     })
@@ -80,8 +79,7 @@ returns-in_ok-take_reply-in-Ok-Request-clause-taken g c = λ h k.
     (record {
       alloc = c.take_reply.new.self.alloc;
       input = c.drop_front-in-Ok-Request.new.self;
-      replies =
-          c.take_reply.new.self.replies;
+      replies = c.take_reply.new.self.replies;
       session = c.take_reply.new.self.session;
       watching = c.take_reply.new.self.watching;
     })
@@ -102,8 +100,7 @@ returns-in-Ok-Skip-clause-going g c =
     {new = record {
       alloc = c.args.self.now.alloc;
       input = c.drop_front.new.self;
-      replies =
-          c.args.self.now.replies;
+      replies = c.args.self.now.replies;
       session = c.args.self.now.session;
       watching = c.args.self.now.watching;
     }}
@@ -124,11 +121,9 @@ returns-in_ok-take_block-in-Ok-Block-clause-going g c =
     goes-on {c = c.args.self.now}
     {new = record {
       alloc = c.take_block.new.self.alloc;
-      input =
-          c.drop_front-in-Ok-Block.new.self;
+      input = c.drop_front-in-Ok-Block.new.self;
       replies = c.take_block.new.self.replies;
-      session =
-          c.take_block.new.self.session;
+      session = c.take_block.new.self.session;
       watching = c.take_block.new.self.watching;
     }}
     c.in-Ok-Block.length (subst (λ r. r ≤ 2) (sym c.take_block.ensures.replies) c.requires.going.replies)
@@ -150,11 +145,9 @@ returns-in_ok-take_reply-in-Ok-Request-clause-going g c =
     goes-on {c = c.args.self.now}
     {new = record {
       alloc = c.take_reply.new.self.alloc;
-      input =
-          c.drop_front-in-Ok-Request.new.self;
+      input = c.drop_front-in-Ok-Request.new.self;
       replies = c.take_reply.new.self.replies;
-      session =
-          c.take_reply.new.self.session;
+      session = c.take_reply.new.self.session;
       watching = c.take_reply.new.self.watching;
     }}
     c.in-Ok-Request.length c.in_ok-take_reply-in-Ok-Request.ensures.replies (omega (arith, c.take_reply.ensures.few)) first.2

@@ -31,7 +31,6 @@ returns-clause-passed c = λ h s k.
       keeps = k;
       second = c.requires.second;
       awaited = c.requires.good;
-      start_is =
-          start;
+      start_is = start;
       range_is = range;
     }) refl refl c.begin.ensures

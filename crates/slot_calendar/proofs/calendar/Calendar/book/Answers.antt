@@ -26,8 +26,7 @@ returns-clause-stands c = λ plays stands. (
     record {
       first = c.book_segments.new.ring.first;
       steps = c.self.inside.profile;
-      totals =
-          c.book_segments.new.ring.totals;
+      totals = c.book_segments.new.ring.totals;
     } in
     let first : c.self.inside.ring.first ≡ old.first = ap (λ e. e.first) c.self.view_is in
     stands-push c.args.start c.segments.ensures.plan (c.book_segments.ensures.now ∙ first)

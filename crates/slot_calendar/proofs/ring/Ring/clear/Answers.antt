@@ -10,19 +10,16 @@ invariant_of-self c =
     topped-zeros xs ys
     (record {
       count_is = c.fill_with_zeros.ensures.count_is ∙ c.self.invariant.places_are;
-      each =
-          c.fill_with_zeros.ensures.each;
+      each = c.fill_with_zeros.ensures.each;
     })
     (record {
       count_is = c.fill_with_zeros-2.ensures.count_is ∙ c.self.invariant.tops_are;
-      each =
-          c.fill_with_zeros-2.ensures.each;
+      each = c.fill_with_zeros-2.ensures.each;
     })
 
 pub returns-clause-empty : goal.returns-clause-empty
 returns-clause-empty c = λ t. total-zeros c.args.now t
     (record {
       some = omega arith;
-      length_is =
-          c.fill_with_zeros.ensures.count_is ∙ c.self.invariant.places_are;
+      length_is = c.fill_with_zeros.ensures.count_is ∙ c.self.invariant.places_are;
     }) c.fill_with_zeros.ensures.each

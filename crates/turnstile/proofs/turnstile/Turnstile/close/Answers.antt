@@ -18,8 +18,7 @@ unreachable-requires g c =
     {v = v} record {
       left = free.left;
       idle = free.idle;
-      first =
-          c.rise.ensures.view.number_is ∙ c.requires.first;
+      first = c.rise.ensures.view.number_is ∙ c.requires.first;
       all = all;
     } _ _ c.close_with-closed.ensures.values.2 in
     c.in_default.not-Some last.value (some-injective _ _ (sym c.take-slot.ensures.value ∙ last.slot))
@@ -33,8 +32,7 @@ returns-clause-whole g c =
     {v = v} record {
       left = free.left;
       idle = free.idle;
-      first =
-          c.rise.ensures.view.number_is ∙ c.requires.first;
+      first = c.rise.ensures.view.number_is ∙ c.requires.first;
       all = all;
     } _ _ c.close_with-closed.ensures.values.2 in
     let same : c.in-Some.value ≡ last.value =
@@ -51,8 +49,7 @@ returns-clause-terms g c =
     {v = v} record {
       left = free.left;
       idle = free.idle;
-      first =
-          c.rise.ensures.view.number_is ∙ c.requires.first;
+      first = c.rise.ensures.view.number_is ∙ c.requires.first;
       all = all;
     } _ _ c.close_with-closed.ensures.values.2 in
     let same : c.in-Some.value ≡ last.value =
