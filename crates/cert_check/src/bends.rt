@@ -12,7 +12,7 @@ use slope_frac::{Slope, compare};
 use wire_curve::Curves;
 
 /// The first segment that has the slope of the next one.
-pub fn first_equal(segments: &[Segment]) -> Option<u64>
+pub(crate) fn first_equal(segments: &[Segment]) -> Option<u64>
     ensures { MatchOption result ((i : ℕ) →
         ¬ IsEqualAt segments.now i) (IsFirst (IsEqualAt segments.now)) }
 {
@@ -25,7 +25,7 @@ pub fn first_equal(segments: &[Segment]) -> Option<u64>
 }
 
 /// The first segment after which the slope rises off the upper curve.
-pub fn first_rise_off(curves: &Curves, segments: &[Segment]) -> Option<u64>
+pub(crate) fn first_rise_off(curves: &Curves, segments: &[Segment]) -> Option<u64>
     requires { AddsUp curves.now.from curves.now.low.items curves.now.up.items segments.now }
     ensures { MatchOption result ((i : ℕ) →
         ¬ IsRiseOffUpper curves.now.from curves.now.up.items segments.now i)
@@ -46,7 +46,7 @@ pub fn first_rise_off(curves: &Curves, segments: &[Segment]) -> Option<u64>
 }
 
 /// The first segment after which the slope falls off the lower curve.
-pub fn first_fall_off(curves: &Curves, segments: &[Segment]) -> Option<u64>
+pub(crate) fn first_fall_off(curves: &Curves, segments: &[Segment]) -> Option<u64>
     requires { AddsUp curves.now.from curves.now.low.items curves.now.up.items segments.now }
     ensures { MatchOption result ((i : ℕ) →
         ¬ IsFallOffLower curves.now.from curves.now.low.items segments.now i)

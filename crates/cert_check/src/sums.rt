@@ -8,7 +8,7 @@ ghost use Rattle.cert_check.specs.First.{IsFirst};
 use plan_cert::{Segment, has_bytes};
 
 /// The first segment without slots.
-pub fn first_empty(segments: &[Segment]) -> Option<u64>
+pub(crate) fn first_empty(segments: &[Segment]) -> Option<u64>
     ensures { MatchOption result ((i : ℕ) →
         ¬ IsEmptyAt segments.now i) (IsFirst (IsEmptyAt segments.now)) }
 {
@@ -21,7 +21,7 @@ pub fn first_empty(segments: &[Segment]) -> Option<u64>
 }
 
 /// Whether the bytes of the segments lead from `from` to `total`.
-pub fn leads_to(from: u64, segments: &[Segment], total: u64) -> bool
+pub(crate) fn leads_to(from: u64, segments: &[Segment], total: u64) -> bool
     ensures { IsTrue result ↔ (from + total_bytes segments.now ≡ total) }
 {
     from <= total && has_bytes(segments, total - from)

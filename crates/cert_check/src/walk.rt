@@ -9,7 +9,7 @@ use wire_curve::Curves;
 
 /// Where the exact line first leaves the curves.
 #[derive(Clone, Copy)]
-pub enum Outside {
+pub(crate) enum Outside {
     /// It is below the lower curve at the end of this slot.
     Below(u64),
     /// It is nowhere below the lower curve, and above the upper one at the end of this slot.
@@ -19,7 +19,7 @@ pub enum Outside {
 }
 
 /// Where the exact line first leaves the curves, by one pass over the slots.
-pub fn first_outside(curves: &Curves, segments: &[Segment]) -> Outside
+pub(crate) fn first_outside(curves: &Curves, segments: &[Segment]) -> Outside
     requires { AddsUp curves.now.from curves.now.low.items curves.now.up.items segments.now }
     ensures { Leaves curves.now.from curves.now.low.items curves.now.up.items segments.now result }
 {

@@ -1,5 +1,5 @@
 -- Steps, each of which may follow the ones before it.
-use Rattle.std.proofs.Common.{◌≡◌, ◌+◌, ◌-◌, ◌^◌, ◌<◌, ◌≤◌, ℕ, true, false, ◌&&◌, ◌==◌, nat_lt, nat_le, List, [], ◌∷◌, ◌++◌, length, Option, Some, None, inl, inr, arith, refl, sym, ap, ◌∙◌, length-append}
+use Rattle.std.proofs.Common.{◌≡◌, ◌+◌, ◌-◌, ◌^◌, ◌<◌, ◌≤◌, ℕ, Bool, true, false, if◌then◌else◌, ◌&&◌, ◌==◌, nat_lt, nat_le, List, [], ◌∷◌, ◌++◌, length, Option, Some, None, inl, inr, arith, refl, sym, ap, ◌∙◌, length-append}
 use Rattle.std.specs.List.{before_first, after_first, position_or_len, slice_split, fold}
 use Rattle.std.proofs.lemmas.Bool.{and_parts, cases_lt, ltb-true, leb-true, eqb-true, eq-eqb, ne_eqb}
 use Rattle.std.proofs.lemmas.List.Elements.{All-from_get_or}
@@ -93,6 +93,25 @@ front_more steps step front may =
       ascend = ascend_more steps step front more;
       small = small_more steps step front more;
     }
+
+-- no steps are a front
+pub none_front : IsFront []
+none_front = record {
+  few = omega arith;
+  first = λ some. absurd (omega (arith, some));
+  ascend = λ i inside. absurd (omega (arith, inside));
+  small = λ i inside. absurd (omega (arith, inside));
+}
+
+-- with a step more there are some
+pub some_more : {more : List CapStep} (steps : List CapStep) (step : Option CapStep) → step_more steps step ≡ Some more
+    → 1 ≤ length more
+some_more steps None e = absurd (cc)
+some_more {more} steps (Some step) e = by (may_follow steps step) e
+  where
+    by : (b : Bool) → (if b then Some (steps ++ step ∷ []) else None) ≡ Some more → 1 ≤ length more
+    by true put = let same : steps ++ step ∷ [] ≡ more = cc in omega (arith, ap length same, length-append steps (step ∷ []))
+    by false put = absurd (cc)
 
 -- some steps that are a front are a profile
 pub profile_of : (steps : List CapStep) → IsFront steps → 1 ≤ length steps → IsProfile steps

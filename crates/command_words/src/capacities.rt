@@ -29,6 +29,10 @@ pub(crate) fn one_capacity(words: &[String], key: &str) -> Option<Steps>
 }
 
 /// The capacity of these steps, each from its slot on, in bytes a slot.
+///
+/// # Errors
+///
+/// [`NoMemory`] alone.
 pub fn profile_of(alloc: Global, steps: &[CapStep]) -> Result<Profile, NoMemory>
     requires { IsProfile steps.now }
     ensures { IfOk result (λ profile. profile ≡ steps.now) }

@@ -20,7 +20,7 @@ pub enum Command {
     Watch,
 }
 
-/// The command of that name.
+/// The command of that name, if there is one.
 pub fn command_named(word: &str) -> Option<Command>
     ensures { result ≡ command_named word.now }
 {

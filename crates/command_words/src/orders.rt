@@ -14,9 +14,9 @@ pub enum Order<'a> {
     Version,
     /// `plan`: the plan of a trace or film.
     Plan(Viewer<'a>),
-    /// `check`: whether a certificate is that of the best plan.
+    /// `check`: whether a certificate, by its name, is that of the best plan.
     Check(Viewer<'a>, &'a str),
-    /// `scan`: the units of a film.
+    /// `scan`: the units of a film, by its name.
     Scan(&'a str),
     /// `make`: a trace, film or system stream from a number, with 1 to 100,000 pictures.
     Make(Made, u64, u32),

@@ -5,7 +5,8 @@ ghost use Rattle.std.specs.Prelude.{◌≡◌, ◌<◌, ◌++◌, ◌∷◌, [],
 use slot_calendar::{CapStep, MAX_STEPS};
 use std::marker::Model;
 
-/// Up to 64 steps of a capacity, held without memory of their own.
+/// Up to 64 steps of a capacity, each from its slot on, in bytes a slot. They are held without
+/// memory of their own.
 ///
 /// Contracts see the list of the steps.
 #[derive(Debug, Drop)]

@@ -32,6 +32,7 @@ broken_slot {a} {b} {slot} slot_failed = record {
     receipts = receipts;
     plays = plays;
     offers = offers;
+    session_is = failed.rest;
   };
   sent = failed.front.1.1;
   noted = seat;

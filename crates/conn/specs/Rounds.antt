@@ -101,6 +101,13 @@ pub record HasFailedInSlot (old : Stage) (slot : ℕ) (front : List ℕ) (new : 
   pub receipts : new.session.receipts ≡ old.session.receipts
   pub plays : new.session.plays ≡ old.session.plays
   pub offers : new.session.offers ≡ old.session.offers
+  -- the link is lost, and nothing else of the session changes but its play
+  pub session_is : new.session ≡ record old.session {
+    heard = slot;
+    late = old.session.late + missed_between old.session.heard (start_in old.session.state) slot;
+    state = new.session.state;
+    lost = true;
+  }
 
 -- a send failed as a reply went out: a front of it was sent
 pub record HasFailedInReply (old : Stage) (message : List ℕ) (outcome : Outcome) (front : List ℕ)

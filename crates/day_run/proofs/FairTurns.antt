@@ -264,5 +264,15 @@ no-words {w} {client} clients c count small at none =
     let inside : c < length clients = omega (arith, count, small) in
     none-left w _ (ap words_for (state-at clients c client inside ∙ sym (ap state_of at)) ∙ none)
 
+-- what the drawn client does, by what it is
+pub done-as : {client : Client} (step : LineStep) (w : ℕ → ℕ) (clients : List Client) (c : ℕ) (is : Client)
+    → length clients ≡ 256 → c < 2 ^ 8 → client ≡ get_or clients c client → client ≡ is
+    → IsDone step.link w c (state_of is) step.old step.new step.text
+    → IsDone step.link w c (get_or (map state_of clients) c Idle) step.old step.new step.text
+done-as {client} step w clients c is count small at same own =
+    let inside : c < length clients = omega (arith, count, small) in
+    let S : ClientState → Type 0 = λ s. IsDone step.link w c s step.old step.new step.text in
+    subst S (ap state_of (sym same ∙ at) ∙ sym (state-at clients c client inside)) own
+
 pub ready-morning : (m : Moment) → m ≡ first_moment → IsReady m
 ready-morning m is = ready-kept first_moment m is morning-ready

@@ -35,8 +35,13 @@ const TRACES: usize = 16;
 /// A slot in 1/360,000 second.
 const SLOT_UNITS: u32 = 14_400;
 
-/// A large day that a number determines: 16 drawn traces, 256 clients and so many turns on one
-/// book, 1 to 100,000.
+/// A large day that a number determines: 16 drawn traces, 256 clients and so many turns, at most
+/// 100,000, on a link of this capacity in slots of 40 ms, whose journal has room for 1,048,576
+/// entries.
+///
+/// # Errors
+///
+/// [`NoMemory`] alone.
 pub fn fair(alloc: Global, seed: u64, plays: u32, profile: Profile) -> Result<Day, NoMemory>
     requires { plays ≤ 100000 }
     ensures fair { IfOk result (λ day.

@@ -18,9 +18,9 @@ pub enum Line {
         /// The slots before the first picture is used, at most 10,000.
         delay: u64,
     },
-    /// `pause C`
+    /// `pause C`: a client pauses its play, which ends with the frame or report in hand.
     Pause(u8),
-    /// `resume C`
+    /// `resume C`: a client goes on where it was paused.
     Resume(u8),
     /// `look T`: what is booked in a slot, at most 2^62.
     Look(u64),
@@ -65,8 +65,11 @@ pub struct Script {
 /// Why a text isn't read as a script.
 #[derive(Clone, Copy, Debug, PartialEq, Eq)]
 pub enum ScriptRefused {
-    /// The first line, from 1, that is no line of a script, or comes after 1,000,000 others.
-    BadScript { line: u64 },
+    /// A line is no line of a script, or comes after 1,000,000 others.
+    BadScript {
+        /// The first such line, from 1 to 1,000,001; empty lines are counted.
+        line: u64,
+    },
     /// Want of memory.
     NoMemory,
 }

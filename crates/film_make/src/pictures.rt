@@ -11,7 +11,7 @@ use crate::draws::Draws;
 use std::alloc::AllocError;
 
 /// Pictures of a group.
-pub const GROUP: u32 = 12;
+pub(crate) const GROUP: u32 = 12;
 
 /// Slices of a picture.
 const SLICES: u8 = 4;
@@ -25,7 +25,7 @@ const SEQUENCE_AND_GROUP: [u8; 20] = [
 
 /// How a picture is coded (ISO/IEC 11172-2, picture_coding_type).
 #[derive(Clone, Copy)]
-pub enum CodingType {
+pub(crate) enum CodingType {
     /// By itself.
     Intra,
     /// By a picture before it.
@@ -78,7 +78,11 @@ impl CodingType {
 
 /// Appends picture `index` of a film, whose draws are the next ones.
 #[tactic(auto, using(std::proofs::lemmas::List::append_assoc), unfolding(crate::specs::Film::picture_of))]
-pub fn write_picture(draws: &mut Draws, index: u32, out: &mut Vec<u8>) -> Result<(), AllocError>
+pub(crate) fn write_picture(
+    draws: &mut Draws,
+    index: u32,
+    out: &mut Vec<u8>,
+) -> Result<(), AllocError>
     ensures bytes { OnOk result (out.new.items ≡
         out.old.items ++ picture_of (words_left draws.old) index) }
     ensures left { OnOk result (words_left draws.new ≡

@@ -12,3 +12,4 @@ pub mod Words
 pub mod TraceWords
 pub mod TraceLines
 pub mod FaultLemmas
+pub mod LibraryLemmas

@@ -109,8 +109,11 @@ split_last {bad} {more = u ∷ more} f (t ∷ good) (s ∷ sizes) h g =
     let before : map f good ≡ map (λ size. Some size) sizes = cc in
     let after : map f (good ++ bad ∷ []) ≡ map (λ size. Some size) more = cc in
     let first : u ≡ s = cc in
-    let rest : (x : ℕ) × ((more ≡ sizes ++ x ∷ []) × (f bad ≡ Some x)) = split_last f good sizes before after in
-    (rest.0, (ap (λ (n : ℕ). n ∷ more) first ∙ ap (λ (ns : List ℕ). s ∷ ns) rest.1.0, rest.1.1))
+    one_more first (split_last f good sizes before after)
+  where
+    one_more : u ≡ s → ((x : ℕ) × ((more ≡ sizes ++ x ∷ []) × (f bad ≡ Some x)))
+        → (x : ℕ) × ((u ∷ more ≡ (s ∷ sizes) ++ x ∷ []) × (f bad ≡ Some x))
+    one_more same rest = (rest.0, (ap (λ (n : ℕ). n ∷ more) same ∙ ap (λ (ns : List ℕ). s ∷ ns) rest.1.0, rest.1.1))
 
 -- what a number more at the end means for a list
 record IsPushed (xs : List ℕ) (x : ℕ) (ys : List ℕ) : Type 0 where

@@ -20,7 +20,7 @@ use vod_base::{Library, NoMemory};
 pub struct ScannedFilm {
     /// How many bytes its video has.
     pub bytes: u64,
-    /// Its picture rate code, from 1 to 8.
+    /// Its picture rate code, from 1 to 8 (ISO/IEC 11172-2, section 2.4.3.2).
     pub rate: u8,
     /// Its units, in order.
     pub units: Vec<Unit>,
@@ -29,13 +29,17 @@ pub struct ScannedFilm {
 /// The sizes of an accepted film on the wire.
 #[derive(Drop)]
 pub struct SizedFilm {
-    /// Its picture rate code, from 1 to 8.
+    /// Its picture rate code, from 1 to 8 (ISO/IEC 11172-2, section 2.4.3.2).
     pub rate: u8,
     /// The bytes of each unit's frames, and of the report before it where it starts a group.
     pub sizes: Vec<u64>,
 }
 
-/// Scans a film of the library and keeps only its units.
+/// Scans a film of the library, of at most 2^40 bytes, and keeps only its units.
+///
+/// # Errors
+///
+/// As of [`load_script_film`](crate::load_script_film).
 pub fn scan_film<'a, L: Library>(
     alloc: Global,
     library: &mut L,
@@ -60,7 +64,12 @@ pub fn scan_film<'a, L: Library>(
     })
 }
 
-/// Scans a film of the library and keeps only the sizes of its units on the wire.
+/// Scans a film of the library, of at most 2^40 bytes, and keeps only the sizes of its units on the
+/// wire.
+///
+/// # Errors
+///
+/// As of [`load_script_film`](crate::load_script_film).
 pub fn size_film<'a, L: Library>(
     alloc: Global,
     library: &mut L,
@@ -103,10 +112,8 @@ impl Found for UnitList {
     }
 
     fn unit(&mut self, unit: Unit) -> Result<(), NoMemory> {
-        match self.units.push(unit) {
-            Ok(()) => Ok(()),
-            Err(_) => Err(NoMemory),
-        }
+        self.units.push(unit)?;
+        Ok(())
     }
 }
 
@@ -135,9 +142,7 @@ impl Found for SizeList {
     fn unit(&mut self, unit: Unit) -> Result<(), NoMemory> {
         let ended = mem::replace(&mut self.unit, UnitSize::begin(1));
         let report = if unit.starts_group { REPORT_BYTES } else { 0 };
-        match self.sizes.push(report + ended.end()) {
-            Ok(()) => Ok(()),
-            Err(_) => Err(NoMemory),
-        }
+        self.sizes.push(report + ended.end())?;
+        Ok(())
     }
 }

@@ -13,6 +13,11 @@ use vod_base::Library;
 pub(crate) const PIECE: usize = 65_536;
 
 /// Reads the whole input of that name, by reads of at most 65,536 bytes.
+///
+/// # Errors
+///
+/// [`Trouble::Refused`] with [`Fault::NotFound`] where there is no such file,
+/// [`Trouble::StoreFault`] where the library fails, and [`Trouble::NoMemory`].
 pub fn read_input<'a, L: Library>(
     alloc: Global,
     library: &mut L,
@@ -99,10 +104,7 @@ pub(crate) fn read_bytes<'a, L: Library>(
         (L.files library.old) (L.faults library.old) (L.faults library.new)) }
 {
     let mut bytes = Vec::new(alloc);
-    let mut piece = match zeros(alloc, PIECE) {
-        Ok(piece) => piece,
-        Err(_) => return Err(Trouble::NoMemory),
-    };
+    let mut piece = zeros(alloc, PIECE)?;
     let mut more = true;
     while more && (bytes.len() as u64) < size {
         more = read_piece(library, name, size, &mut piece, &mut bytes)?;
@@ -136,8 +138,6 @@ fn read_piece<'a, L: Library>(
     if count == 0 {
         return Ok(false);
     }
-    match bytes.extend_from_slice(&piece[..count]) {
-        Ok(()) => Ok(true),
-        Err(_) => Err(Trouble::NoMemory),
-    }
+    bytes.extend_from_slice(&piece[..count])?;
+    Ok(true)
 }

@@ -25,8 +25,15 @@ use vod_base::{Library, NoMemory};
 /// The most bytes of a film that a server holds.
 const HELD: u64 = 1 << 30;
 
-/// Loads a film that is to be served, an MPEG-1 video stream or a system stream with one. Its file
-/// has at most 2^30 bytes.
+/// Loads a film that is to be served, an MPEG-1 video stream (ISO/IEC 11172-2) or a system stream
+/// with one (ISO/IEC 11172-1). Its file has at most 2^30 bytes.
+///
+/// # Errors
+///
+/// [`Trouble::Refused`] with [`Fault::NotFound`] where there is no such file, with
+/// [`Fault::FilmTooLarge`] where it has more bytes, and with [`Fault::System`] or [`Fault::Film`]
+/// where its stream or its video is refused; [`Trouble::StoreFault`] where the library fails; and
+/// [`Trouble::NoMemory`].
 pub fn load_film<'a, L: Library>(
     alloc: Global,
     library: &mut L,
@@ -46,6 +53,10 @@ pub fn load_film<'a, L: Library>(
 }
 
 /// Loads a film that a script plays, of at most 2^40 bytes.
+///
+/// # Errors
+///
+/// As of [`load_film`], but that a file of more bytes is refused with [`FilmFault::TooLong`].
 pub fn load_script_film<'a, L: Library>(
     alloc: Global,
     library: &mut L,
@@ -69,10 +80,8 @@ fn store(alloc: Global, name: &str, film: Film) -> Result<Stored, NoMemory>
     ensures name { IfOk result (λ stored. string_bytes stored.name ≡ name.now) }
     ensures film { IfOk result (λ stored. stored.film ≡ film) }
 {
-    match String::from_str(alloc, name) {
-        Ok(name) => Stored::new(alloc, name, film),
-        Err(_) => Err(NoMemory),
-    }
+    let name = String::from_str(alloc, name)?;
+    Stored::new(alloc, name, film)
 }
 
 /// The video of a system stream.
@@ -85,19 +94,12 @@ fn unwrap_stream(alloc: Global, stream: &[u8]) -> Result<Vec<u8>, StreamRefused>
     let mut video = Vec::new(alloc);
     let mut at = 0;
     while at < stream.len() {
-        let fed = match unwrapper.feed(&stream[at..]) {
-            Ok(fed) => fed,
-            Err(fault) => return Err(StreamRefused::Fault(fault)),
-        };
-        match video.extend_from_slice(fed.video) {
-            Ok(()) => at += fed.taken,
-            Err(_) => return Err(StreamRefused::NoMemory),
-        }
+        let fed = unwrapper.feed(&stream[at..])?;
+        video.extend_from_slice(fed.video)?;
+        at += fed.taken;
     }
-    match unwrapper.finish() {
-        Ok(()) => Ok(video),
-        Err(fault) => Err(StreamRefused::Fault(fault)),
-    }
+    unwrapper.finish()?;
+    Ok(video)
 }
 
 /// The video of a file that was read.
@@ -170,8 +172,6 @@ fn load_within<'a, L: Library>(
     }
     let file = read_bytes(alloc, library, name, size)?;
     let film = scan_file(alloc, name, file)?;
-    match store(alloc, name, film) {
-        Ok(stored) => Ok(stored),
-        Err(NoMemory) => Err(Trouble::NoMemory),
-    }
+    let stored = store(alloc, name, film)?;
+    Ok(stored)
 }

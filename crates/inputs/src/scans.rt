@@ -60,10 +60,7 @@ pub(crate) fn hear_film<'a, L: Library, F: Found>(
     if FILM < size {
         return Err(Trouble::Refused(name, Fault::Film(FilmFault::TooLong)));
     }
-    let mut piece = match zeros(alloc, PIECE) {
-        Ok(piece) => piece,
-        Err(_) => return Err(Trouble::NoMemory),
-    };
+    let mut piece = zeros(alloc, PIECE)?;
     let stream = find_pack(library, name, size, &mut piece)?;
     match stream {
         None => scan_plain(library, name, size, &mut piece, found),

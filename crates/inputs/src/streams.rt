@@ -12,6 +12,7 @@ ghost use Rattle.inputs.specs.Scans.{IsPieceRefused, IsScanTrouble, WasOpened};
 use crate::files::read_at;
 use crate::scans::end_film;
 use mpeg_scan::{Ending, Found, ScanRefused, Scanner};
+use std::alloc::AllocError;
 use sys_demux::{SystemFault, Unwrapper};
 use troubles::{Fault, Trouble};
 use vod_base::{Library, NoMemory};
@@ -23,6 +24,44 @@ pub(crate) enum StreamRefused {
     Fault(SystemFault),
     /// Want of memory.
     NoMemory,
+}
+
+impl From<SystemFault> for StreamRefused {
+    ghost use Rattle.inputs.specs.declared.streams.StreamRefused.TheVariants.{Fault};
+
+    ghost from_gives = { λ fault refused. refused ≡ Fault fault };
+
+    fn from(fault: SystemFault) -> StreamRefused {
+        StreamRefused::Fault(fault)
+    }
+}
+
+impl From<NoMemory> for StreamRefused {
+    ghost use Rattle.inputs.specs.declared.streams.StreamRefused.TheVariants.{NoMemory as NoRoom};
+
+    ghost from_gives = { λ _ refused. refused ≡ NoRoom };
+
+    fn from(_want: NoMemory) -> StreamRefused {
+        StreamRefused::NoMemory
+    }
+}
+
+impl From<AllocError> for StreamRefused {
+    ghost use Rattle.inputs.specs.declared.streams.StreamRefused.TheVariants.{NoMemory as NoRoom};
+
+    ghost from_gives = { λ _ refused. refused ≡ NoRoom };
+
+    fn from(_error: AllocError) -> StreamRefused {
+        StreamRefused::NoMemory
+    }
+}
+
+/// The file of a system stream: its name, its size, and where the stream begins in it.
+#[derive(Clone, Copy)]
+struct StreamFile<'a> {
+    name: &'a str,
+    size: u64,
+    from: u64,
 }
 
 /// The fault of a stream that begins at a place of the file. A place in a file is below 2^64.
@@ -62,16 +101,8 @@ pub(crate) fn scan_stream<'a, L: Library, F: Found>(
 {
     let mut unwrapper = Unwrapper::new();
     let mut scanner = Scanner::new();
-    feed_stream(
-        library,
-        name,
-        size,
-        from,
-        piece,
-        &mut unwrapper,
-        &mut scanner,
-        found,
-    )?;
+    let file = StreamFile { name, size, from };
+    feed_stream(library, file, piece, &mut unwrapper, &mut scanner, found)?;
     match unwrapper.finish() {
         Ok(()) => end_film(name, scanner, found),
         Err(fault) => Err(Trouble::Refused(name, Fault::System(move_fault(from, fault)))),
@@ -118,14 +149,9 @@ fn unwrap_part<F: Found>(
         HasUnwrapped (F.heard found.old) unwrapper.old scanner.old seen
         → IfErr result (IsPieceRefused seen piece.now) }
 {
-    let fed = match unwrapper.feed(piece) {
-        Ok(fed) => fed,
-        Err(fault) => return Err(StreamRefused::Fault(fault)),
-    };
-    match take_video(scanner, fed.video, found) {
-        Ok(()) => Ok(fed.taken),
-        Err(NoMemory) => Err(StreamRefused::NoMemory),
-    }
+    let fed = unwrapper.feed(piece)?;
+    take_video(scanner, fed.video, found)?;
+    Ok(fed.taken)
 }
 
 /// Takes a piece of a stream, and feeds the video in it to the scanner.
@@ -156,13 +182,11 @@ fn unwrap_piece<F: Found>(
     Ok(())
 }
 
-/// Reads one piece of the stream that begins at `from`, feeds its video to the scanner, and answers
-/// how many bytes it had: 0 at the end.
+/// Reads one piece of a stream, feeds its video to the scanner, and answers how many bytes it had:
+/// 0 at the end.
 fn feed_stream_piece<'a, L: Library, F: Found>(
     library: &mut L,
-    name: &'a str,
-    size: u64,
-    from: u64,
+    file: StreamFile<'a>,
     at: u64,
     piece: &mut [u8],
     unwrapper: &mut Unwrapper,
@@ -170,54 +194,53 @@ fn feed_stream_piece<'a, L: Library, F: Found>(
     found: &mut F,
 ) -> Result<u64, Trouble<'a>>
     requires some { 0 < length piece.old }
-    requires before { at < size }
-    requires short { size ≤ 2 ^ 40 }
-    requires opened { WasOpened (L.files library.old) name.now size (Some from) }
+    requires before { at < file.size }
+    requires short { file.size ≤ 2 ^ 40 }
+    requires opened { WasOpened (L.files library.old) file.name.now file.size (Some file.from) }
     requires streamed { HasStreamed (F.heard found.old)
-        (L.files library.old) name.now size from at unwrapper.old scanner.old }
+        (L.files library.old) file.name.now file.size file.from at unwrapper.old scanner.old }
     requires few { bytes_fed scanner.old ≤ unwrapper.old.fed }
     requires ready { IsReady (F.ready_at found.old) scanner.old }
     ensures library { IsReadOnly (L.files library.old) (L.files library.new) (L.faults library.old)
         (L.faults library.new) }
-    ensures within { IfOk result (λ count. at + count ≤ size) }
+    ensures within { IfOk result (λ count. at + count ≤ file.entry.size) }
     ensures few { OnOk result (bytes_fed scanner.new ≤ unwrapper.new.fed) }
     ensures ready { IsReady (F.ready_at found.new) scanner.new }
     ensures streamed { IfOk result (λ count.
-        HasStreamed (F.heard found.new) (L.files library.old) name.entry.now size from (at + count)
-        unwrapper.new scanner.new) }
+        HasStreamed (F.heard found.new) (L.files library.old) file.entry.name.now file.entry.size
+        file.entry.from (at + count) unwrapper.new scanner.new) }
     ensures more { (held : List File) → L.files library.old ≡ Some held →
         IfOk result (λ count. 0 < count) }
-    ensures trouble { IfErr result (IsScanTrouble name.entry.now (L.files library.old)
+    ensures trouble { IfErr result (IsScanTrouble file.entry.name.now (L.files library.old)
         (L.faults library.old) (L.faults library.new)) }
 {
-    let count = read_at(library, name, size, at, piece)?;
+    let count = read_at(library, file.name, file.size, at, piece)?;
     match unwrap_piece(unwrapper, &piece[..count], scanner, found) {
         Ok(()) => Ok(count as u64),
         Err(StreamRefused::Fault(fault)) => Err(Trouble::Refused(
-            name,
-            Fault::System(move_fault(from, fault)),
+            file.name,
+            Fault::System(move_fault(file.from, fault)),
         )),
         Err(StreamRefused::NoMemory) => Err(Trouble::NoMemory),
     }
 }
 
-/// Reads the stream that begins at `from` to its end, and feeds its video to the scanner.
+/// Reads a stream to its end, and feeds its video to the scanner.
 fn feed_stream<'a, L: Library, F: Found>(
     library: &mut L,
-    name: &'a str,
-    size: u64,
-    from: u64,
+    file: StreamFile<'a>,
     piece: &mut [u8],
     unwrapper: &mut Unwrapper,
     scanner: &mut Scanner,
     found: &mut F,
 ) -> Result<(), Trouble<'a>>
     requires some { 0 < length piece.old }
-    requires short { size ≤ 2 ^ 40 }
-    requires opened { WasOpened (L.files library.old) name.now size (Some from) }
-    requires within { from ≤ size }
+    requires short { file.size ≤ 2 ^ 40 }
+    requires opened { WasOpened (L.files library.old) file.name.now file.size (Some file.from) }
+    requires within { file.from ≤ file.size }
     requires streamed { HasStreamed (F.heard found.old)
-        (L.files library.old) name.now size from from unwrapper.old scanner.old }
+        (L.files library.old) file.name.now file.size file.from file.from unwrapper.old
+        scanner.old }
     requires few { bytes_fed scanner.old ≤ unwrapper.old.fed }
     requires ready { IsReady (F.ready_at found.old) scanner.old }
     ensures library { IsReadOnly (L.files library.old) (L.files library.new) (L.faults library.old)
@@ -225,16 +248,15 @@ fn feed_stream<'a, L: Library, F: Found>(
     ensures ready { IsReady (F.ready_at found.new) scanner.new }
     ensures streamed { OnOk result
         (HasStreamedAll (F.heard found.new)
-        (L.files library.old) name.entry.now size from unwrapper.new scanner.new) }
-    ensures trouble { IfErr result (IsScanTrouble name.entry.now (L.files library.old)
+        (L.files library.old) file.entry.name.now file.entry.size file.entry.from unwrapper.new
+        scanner.new) }
+    ensures trouble { IfErr result (IsScanTrouble file.entry.name.now (L.files library.old)
         (L.faults library.old) (L.faults library.new)) }
 {
-    let mut at = from;
+    let mut at = file.from;
     let mut more = true;
-    while more && at < size {
-        let count = feed_stream_piece(
-            library, name, size, from, at, piece, unwrapper, scanner, found,
-        )?;
+    while more && at < file.size {
+        let count = feed_stream_piece(library, file, at, piece, unwrapper, scanner, found)?;
         at += count;
         more = 0 < count;
     }

@@ -33,8 +33,12 @@ pub enum TraceRefused {
     NoMemory,
 }
 
-/// Reads the picture sizes of a trace: decimal numbers up to 2^32 with white space between them, at
-/// most 1,000,000 of them with a sum up to 2^40.
+/// Reads the picture sizes of a trace, in bytes: decimal numbers up to 2^32 with white space
+/// between them, at most 1,000,000 of them with a sum up to 2^40.
+///
+/// # Errors
+///
+/// [`TraceRefused::BadTrace`] exactly where the text is no trace; [`TraceRefused::NoMemory`].
 pub fn read_trace(alloc: Global, text: &[u8]) -> Result<Vec<u64>, TraceRefused>
     ensures trace { IfOk result (λ sizes. IsTraceText text.now sizes.items) }
     ensures refused { IfErr result (IsTraceRefused text.now) }

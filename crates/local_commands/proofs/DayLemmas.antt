@@ -12,7 +12,11 @@ use Rattle.day_run.specs.declared.scripts.Named.{Named}
 use Rattle.day_run.specs.declared.reels.Source.{Source}
 use Rattle.day_run.specs.Sources.{AreSources, IsSource}
 use Rattle.vod_base.specs.Outside.{File}
+use Rattle.troubles.specs.Causes.{IsReadTrouble}
 use Rattle.troubles.specs.declared.faults.Fault.{Fault}
+use Rattle.troubles.specs.declared.faults.Trouble.{Trouble}
+use Rattle.troubles.proofs.CauseLemmas.{trouble_map}
+use Rattle.inputs.specs.Files.{IsNamed}
 use Rattle.day_run.specs.declared.reels.Source.TheVariants.{Film, Trace}
 use Rattle.day_run.specs.declared.scripts.Script.{Script}
 use Rattle.day_run.specs.Readings.{IsBadLine, IsScript, Name, Reading, line_read, lines_read, name_of, names_of, nothing_read}
@@ -23,6 +27,36 @@ use Rattle.local_commands.proofs.OneAnswer.{no_file, trace_not_refused}
 
 abbrev bytes_of : Named → List ℕ
 bytes_of n = string_bytes n.name
+
+-- the trouble of a film or trace that was read by its name, where the script names it
+pub named_trouble : {film : Bool} {name : List ℕ} (named : Named) (told : Option (List File)) (before after : ℕ) (t : Trouble)
+    → named.film ≡ film → name ≡ string_bytes named.name →
+    IsReadTrouble (IsNamed name) (IsRefusedAs film) told before after t →
+    IsReadTrouble (IsNameOf named) (IsNamedRefused named) told before after t
+named_trouble {film} {name} named told before after t kind is h =
+    trouble_map (record {
+      Reads = IsNamed name;
+      Refuses = IsRefusedAs film;
+      told = told;
+      before = before;
+      after = after;
+    })
+    (record {
+      Reads = IsNameOf named;
+      Refuses = IsNamedRefused named;
+      told = told;
+      before = before;
+      after = after;
+    })
+    t
+    (record {
+      reads = λ other same. same ∙ is;
+      refuses = λ held other fault told_is same refused. subst (λ (b : Bool). IsRefusedAs b held other fault) (sym kind) refused;
+      keeps = λ held told_is. told_is;
+      low = omega arith;
+      high = omega arith;
+    })
+    h
 
 -- a name of the script
 pub named_contains : {one : Named} {name : List ℕ} (named : List Named) (k : ℕ) → k < length named →

@@ -49,6 +49,11 @@ two_cut {c} {d} {xs = x ∷ xs} {ys = y ∷ ys} {ws} {bs} e none none' =
     cc_cons : (x y : ℕ) (xs ys : List ℕ) → x ≡ y → xs ≡ ys → x ∷ xs ≡ y ∷ ys
     cc_cons x y xs ys first rest = cc
 
+-- a byte that stands somewhere
+inside : (c : ℕ) (front rest : List ℕ) → All (λ b. b ≢ c) (front ++ c ∷ rest) → ⊥
+inside c [] rest none = All-head (λ b. b ≢ c) c rest none refl
+inside c (b ∷ front) rest none = inside c front rest (All-tail (λ b. b ≢ c) b (front ++ c ∷ rest) none)
+
 -- what stands after the last of a byte
 pub last_cut : {xs ys : List ℕ} (c : ℕ) (front other : List ℕ) → front ++ c ∷ xs ≡ other ++ c ∷ ys
     → All (λ b. b ≢ c) xs → All (λ b. b ≢ c) ys → xs ≡ ys
@@ -56,17 +61,9 @@ last_cut c [] [] e none none' = cc
 last_cut {xs} {ys} c [] (y ∷ other) e none none' =
     let same : xs ≡ other ++ c ∷ ys = cc in
     absurd (inside c other ys (subst (λ (l : List ℕ). All (λ b. b ≢ c) l) same none))
-  where
-    inside : (c : ℕ) (front rest : List ℕ) → All (λ b. b ≢ c) (front ++ c ∷ rest) → ⊥
-    inside c [] rest none = All-head (λ b. b ≢ c) c rest none refl
-    inside c (b ∷ front) rest none = inside c front rest (All-tail (λ b. b ≢ c) b (front ++ c ∷ rest) none)
 last_cut {xs} {ys} c (x ∷ front) [] e none none' =
     let same : ys ≡ front ++ c ∷ xs = cc in
     absurd (inside c front xs (subst (λ (l : List ℕ). All (λ b. b ≢ c) l) same none'))
-  where
-    inside : (c : ℕ) (front rest : List ℕ) → All (λ b. b ≢ c) (front ++ c ∷ rest) → ⊥
-    inside c [] rest none = All-head (λ b. b ≢ c) c rest none refl
-    inside c (b ∷ front) rest none = inside c front rest (All-tail (λ b. b ≢ c) b (front ++ c ∷ rest) none)
 last_cut {xs} {ys} c (x ∷ front) (y ∷ other) e none none' =
     let others : front ++ c ∷ xs ≡ other ++ c ∷ ys = cc in
     last_cut c front other others none none'

@@ -19,8 +19,9 @@ use Rattle.troubles.proofs.WordLemmas.{HasNo, none_by}
 use Rattle.mpeg_scan.specs.declared.units.Kind.{Kind}
 use Rattle.mpeg_scan.specs.declared.units.Kind.TheVariants.{I, P, B, D}
 use Rattle.mpeg_scan.specs.declared.units.Unit.{Unit as PictureUnit}
-use Rattle.local_commands.specs.ScanText.{film_line, kind_text, mark, unit_line, unit_marks, unit_name, unit_places}
+use Rattle.local_commands.specs.ScanText.{film_line, kind_text, unit_line, unit_marks, unit_name, unit_places}
 use Rattle.local_commands.specs.TextLaws.{GivesOnce, IsShortUnit, TellsFilm, TellsUnit, words_in}
+use Rattle.local_commands.proofs.ScanTextLemmas.{marks}
 use Rattle.local_commands.proofs.LineWords.{gap, IsWord, is-word, number-word, AreWords, all-words, line_rest, IsEnd, ended, line-words, line-values}
 
 -- a word without `=` gives no key a value
@@ -105,32 +106,20 @@ film-value counts key number none given plain =
 pub film-told : (bytes rate pictures : ℕ) → bytes < 2 ^ 64 → rate < 2 ^ 64 → pictures < 2 ^ 64
     → TellsFilm bytes rate pictures (film_line bytes rate pictures)
 unfolding film_settings
-film-told bytes rate pictures few short little = record {
-  bytes_told = film-value (record {
-    bytes = bytes;
-    rate = rate;
-    pictures = pictures;
-    bytes_fit = few;
-    rate_fits = short;
-    pictures_fit = little;
-  }) (codes "bytes") bytes refl refl refl;
-  rate_told = film-value (record {
-    bytes = bytes;
-    rate = rate;
-    pictures = pictures;
-    bytes_fit = few;
-    rate_fits = short;
-    pictures_fit = little;
-  }) (codes "rate") rate refl refl refl;
-  pictures_told = film-value (record {
-    bytes = bytes;
-    rate = rate;
-    pictures = pictures;
-    bytes_fit = few;
-    rate_fits = short;
-    pictures_fit = little;
-  }) (codes "pictures") pictures refl refl refl;
-}
+film-told bytes rate pictures few short little =
+    let counts : FilmCounts = record {
+      bytes = bytes;
+      rate = rate;
+      pictures = pictures;
+      bytes_fit = few;
+      rate_fits = short;
+      pictures_fit = little;
+    } in
+    record {
+      bytes_told = film-value counts (codes "bytes") bytes refl refl refl;
+      rate_told = film-value counts (codes "rate") rate refl refl refl;
+      pictures_told = film-value counts (codes "pictures") pictures refl refl refl;
+    }
 
 unit_settings : PictureUnit → List Setting
 unit_settings u =
@@ -196,11 +185,8 @@ mark_words true false = codes "sequence" ∷ [] ∷ []
 mark_words false true = codes "group" ∷ [] ∷ []
 mark_words false false = [] ∷ []
 
-marks_of : Bool → Bool → List ℕ
-marks_of sequence group = mark sequence (codes " sequence") ++ mark group (codes " group") ++ codes "\n"
-
-marks-ended : (sequence group : Bool) → IsEnd (marks_of sequence group) (mark_words sequence group)
-unfolding marks_of mark_words
+marks-ended : (sequence group : Bool) → IsEnd (marks sequence group) (mark_words sequence group)
+unfolding mark_words
 marks-ended true true = more-ended (codes "sequence group\n") (codes "sequence" ∷ codes "group" ∷ [] ∷ []) refl
 marks-ended true false = more-ended (codes "sequence\n") (codes "sequence" ∷ [] ∷ []) refl
 marks-ended false true = more-ended (codes "group\n") (codes "group" ∷ [] ∷ []) refl
@@ -222,7 +208,6 @@ kind-none key D = setting_none key (codes "D") (none_by 61 (codes "D") refl)
 unit-line-words : (number : ℕ) (u : PictureUnit) → number < 2 ^ 64 → IsShortUnit u →
     words_in (unit_line number u)
     ≡ decimal number ∷ kind_text u.kind ∷ (map word_of (unit_settings u) ++ mark_words u.has_sequence u.starts_group)
-unfolding marks_of
 unit-line-words number u few short =
     ap words_in (unit-line number u)
     ∙ slice_split_at gap (decimal number) 32 (kind_text u.kind ++ line_rest (unit_marks u) (unit_settings u))

@@ -18,6 +18,7 @@ use Rattle.local_commands.specs.TextLaws.{AreAlike, IsSameScan, IsShortFault, Is
 use Rattle.local_commands.specs.Verdict.{refused_line}
 use Rattle.local_commands.specs.Verdict.{cert_fault_text, fault_name}
 use Rattle.local_commands.proofs.FieldLemmas.{field_cut, line_cut, two_cut}
+use Rattle.local_commands.proofs.ScanTextLemmas.{marks}
 
 -- ---- a scan
 
@@ -45,15 +46,12 @@ kind_back P = refl
 kind_back B = refl
 kind_back D = refl
 
--- the words at the end of a unit's line
+-- what the words at the end of a unit's line tell
 sequence_of : List ℕ → Bool
 sequence_of text = (get_or text 0 0 == 32) && (get_or text 1 0 == 115)
 
 group_of : List ℕ → Bool
 group_of text = if sequence_of text then get_or text 9 0 == 32 else get_or text 0 0 == 32
-
-abbrev marks : Bool → Bool → List ℕ
-marks sequence group = mark sequence (codes " sequence") ++ mark group (codes " group") ++ codes "\n"
 
 sequence_back : (sequence group : Bool) (rest : List ℕ) → sequence_of (marks sequence group ++ rest) ≡ sequence
 unfolding sequence_of

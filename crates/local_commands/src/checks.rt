@@ -19,6 +19,11 @@ use troubles::{Fault, Trouble};
 use vod_base::Library;
 
 /// The verdict on a certificate of a trace or film.
+///
+/// # Errors
+///
+/// As of [`plan_viewer`](crate::plan_viewer); and [`Trouble::Refused`] where there is no such
+/// certificate, with [`Fault::NotFound`] or [`Fault::BadCert`].
 pub fn check_viewer<'a, L: Library>(
     alloc: Global,
     library: &mut L,

@@ -28,6 +28,12 @@ use troubles::{Fault, Trouble};
 use vod_base::{Library, NoMemory};
 
 /// The script of that name.
+///
+/// # Errors
+///
+/// [`Trouble::Refused`] with [`Fault::NotFound`] where there is no such file, and with
+/// [`Fault::BadScript`] and the first bad line where it is no script; [`Trouble::StoreFault`] where
+/// the library fails; and [`Trouble::NoMemory`].
 pub fn load_script<'a, L: Library>(
     alloc: Global,
     library: &mut L,
@@ -55,6 +61,11 @@ pub fn load_script<'a, L: Library>(
 }
 
 /// The films and traces that a script names, read and judged one by one in the order of its lines.
+///
+/// # Errors
+///
+/// [`Trouble::Refused`] with the first of them that is missing or refused;
+/// [`Trouble::StoreFault`] where the library fails; and [`Trouble::NoMemory`].
 pub fn load_sources<'a, L: Library>(
     alloc: Global,
     library: &mut L,
@@ -79,6 +90,10 @@ pub fn load_sources<'a, L: Library>(
 }
 
 /// Runs a script.
+///
+/// # Errors
+///
+/// [`NoMemory`] alone.
 pub fn run_day(
     alloc: Global,
     run: &ScriptRun<'_>,
@@ -100,6 +115,10 @@ pub fn run_day(
 }
 
 /// Runs drawn plays.
+///
+/// # Errors
+///
+/// [`NoMemory`] alone.
 pub fn run_fair(alloc: Global, run: &FairRun) -> Result<Day, NoMemory>
     requires { IsFairRunInRange run.now }
     ensures fair { IfOk result (λ day.

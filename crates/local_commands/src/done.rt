@@ -18,6 +18,10 @@ pub struct Done {
 }
 
 /// What was done, where its text was made.
+///
+/// # Errors
+///
+/// [`Trouble::NoMemory`] where it wasn't.
 pub fn finish<'a, F: Drop>(status: u8, text: Result<Vec<u8>, F>) -> Result<Done, Trouble<'a>>
     ensures done { IfOk result (λ done. (done.status ≡ status) × (text ≡ Ok done.text)
         × (done.plan ≡ None)) }

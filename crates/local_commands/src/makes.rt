@@ -10,6 +10,10 @@ use std::alloc::Global;
 use vod_base::NoMemory;
 
 /// The trace, film or system stream of a number.
+///
+/// # Errors
+///
+/// [`NoMemory`] alone.
 pub fn make(alloc: Global, kind: Made, seed: u64, pictures: u32) -> Result<Vec<u8>, NoMemory>
     ensures { IfOk result (λ text. text.items ≡ made_text (made_of kind) seed pictures) }
 {

@@ -17,6 +17,11 @@ use troubles::Trouble;
 use vod_base::Library;
 
 /// The plan of a trace or film, and its certificate.
+///
+/// # Errors
+///
+/// [`Trouble::Refused`] where the trace or film is missing or refused, or has no curves;
+/// [`Trouble::StoreFault`] where the library fails; and [`Trouble::NoMemory`].
 pub fn plan_viewer<'a, L: Library>(
     alloc: Global,
     library: &mut L,

@@ -16,6 +16,10 @@ use troubles::Trouble;
 use vod_base::Library;
 
 /// The text of a film's units.
+///
+/// # Errors
+///
+/// As of [`scan_film`].
 pub fn print_scan<'a, L: Library>(
     alloc: Global,
     library: &mut L,

@@ -70,6 +70,10 @@ one line on standard error says what.
 ";
 
 /// The text of `--version`.
+///
+/// # Errors
+///
+/// [`AllocError`] alone.
 #[tactic(auto, unfolding(crate::specs::Texts::version_text))]
 pub fn version(alloc: Global) -> Result<Vec<u8>, AllocError>
     ensures { IfOk result (λ text. text.items ≡ version_text) }
@@ -78,6 +82,10 @@ pub fn version(alloc: Global) -> Result<Vec<u8>, AllocError>
 }
 
 /// The text of `--help`.
+///
+/// # Errors
+///
+/// [`AllocError`] alone.
 pub fn help(alloc: Global) -> Result<Vec<u8>, AllocError>
     ensures { IfOk result (λ text. text.items ≡ help_text) }
 {

@@ -12,6 +12,7 @@ pub mod TextLemmas
 pub mod FirstLemmas
 pub mod RoomLemmas
 pub mod OpenLemmas
+pub mod ClosedLemmas
 pub mod StandardLemmas
 pub mod OrderLemmas
 pub mod SliceLemmas

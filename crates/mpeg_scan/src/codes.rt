@@ -4,7 +4,7 @@ ghost use Rattle.mpeg_scan.specs.Codes.{is_whole, next_prefix};
 
 use crate::texts::Text;
 
-/// How much of the start code prefix 00 00 01 the bytes so far end with.
+/// How much of the start code prefix 00 00 01 the bytes so far end with (ISO/IEC 11172-2, 2.4.2.1).
 #[derive(Clone, Copy)]
 pub enum Prefix {
     /// Nothing of it.
@@ -58,11 +58,11 @@ impl Prefix {
 
 /// A start code of a film.
 #[derive(Drop)]
-pub struct Code {
+pub(crate) struct Code {
     /// The place of its prefix.
-    pub place: u64,
+    pub(crate) place: u64,
     /// The byte after the prefix.
-    pub kind: u8,
+    pub(crate) kind: u8,
     /// The bytes after it, as far as they are kept.
-    pub text: Text,
+    pub(crate) text: Text,
 }

@@ -10,16 +10,16 @@ use vod_base::NoMemory;
 
 /// Keeps a film's units and the places of its slices.
 #[derive(Drop)]
-pub struct Collector {
+pub(crate) struct Collector {
     /// The units, in order.
-    pub units: Vec<Unit>,
+    pub(crate) units: Vec<Unit>,
     /// The places of the slices, in order.
-    pub slices: Vec<u64>,
+    pub(crate) slices: Vec<u64>,
 }
 
 impl Collector {
     /// Without any.
-    pub fn new(alloc: Global) -> Collector
+    pub(crate) fn new(alloc: Global) -> Collector
         ensures units { result.units.items ≡ [] }
         ensures slices { result.slices.items ≡ [] }
     {

@@ -145,7 +145,7 @@ const VECTORS_HEADER: u64 = 9;
 
 /// The refusal of the header that `code` begins, where the next code, or the film's end, stands at
 /// `end`. `rate` is the rate code of the film, or 0 before its first sequence header.
-pub fn header_fault(rate: u8, code: &Code, end: u64) -> Option<FilmFault>
+pub(crate) fn header_fault(rate: u8, code: &Code, end: u64) -> Option<FilmFault>
     ensures { result ≡ header_fault rate code.now end }
 {
     let length = end.saturating_sub(code.place);
@@ -169,7 +169,7 @@ pub fn header_fault(rate: u8, code: &Code, end: u64) -> Option<FilmFault>
 }
 
 /// The refusal of a code after those of `tally`, once the headers before it are judged.
-pub fn code_fault(tally: &Tally, place: u64, kind: u8) -> Option<FilmFault>
+pub(crate) fn code_fault(tally: &Tally, place: u64, kind: u8) -> Option<FilmFault>
     ensures { result ≡ code_fault tally.now place kind }
 {
     if let Some(fault) = kind_fault(tally, place, kind) {
@@ -185,7 +185,7 @@ pub fn code_fault(tally: &Tally, place: u64, kind: u8) -> Option<FilmFault>
 }
 
 /// The refusal at a film's end, once the headers are judged.
-pub fn last_fault(tally: &Tally) -> Option<FilmFault>
+pub(crate) fn last_fault(tally: &Tally) -> Option<FilmFault>
     ensures { result ≡ last_fault tally.now }
 {
     if !tally.begun {

@@ -28,6 +28,11 @@ pub struct Film {
 }
 
 /// Scans a whole film.
+///
+/// # Errors
+///
+/// [`ScanRefused::Fault`] with the film's refusal, the one that `law_refusals` tells of;
+/// [`ScanRefused::NoMemory`] where there is none for its units and slices.
 pub fn scan(alloc: Global, bytes: Vec<u8>) -> Result<Film, ScanRefused>
     ensures film { IfOk result (λ film. film.bytes.items ≡ bytes.items) }
     ensures grammatical { IfOk result (λ film. IsGrammatical (read [] film.bytes.items)) }

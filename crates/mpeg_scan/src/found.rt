@@ -10,7 +10,11 @@ use crate::units::{Kind, Unit};
 use vod_base::NoMemory;
 
 /// What hears of a film's parts while it is scanned: of each unit its head, its slices in order,
-/// and then the unit itself, each when it has ended.
+/// and then the unit itself, each when it has ended. Places are in bytes from the film's first.
+///
+/// # Errors
+///
+/// [`NoMemory`] ends the scan, which answers [`ScanRefused::NoMemory`](crate::ScanRefused).
 pub trait Found {
     ghost heard: { Self → List Call → Type 0 };
 
@@ -45,7 +49,7 @@ pub trait Found {
 
 /// Tells of the latest unit's last slice and of the unit, which end at `to`.
 #[tactic(auto, using(std::proofs::lemmas::List::append_assoc))]
-pub fn tell_unit<F: Found>(tally: &Tally, to: u64, found: &mut F) -> Result<(), NoMemory>
+pub(crate) fn tell_unit<F: Found>(tally: &Tally, to: u64, found: &mut F) -> Result<(), NoMemory>
     requires least { tally.now.slice + 4 ≤ to }
     requires within { to ≤ 2 ^ 40 }
     requires ready { F.ready_at found.old tally.now.slice }
@@ -58,7 +62,12 @@ pub fn tell_unit<F: Found>(tally: &Tally, to: u64, found: &mut F) -> Result<(), 
 
 /// Tells of what ends at a code after those of `tally`.
 #[tactic(auto, unfolding(crate::specs::Calls::calls_at))]
-pub fn tell<F: Found>(tally: &Tally, place: u64, kind: u8, found: &mut F) -> Result<(), NoMemory>
+pub(crate) fn tell<F: Found>(
+    tally: &Tally,
+    place: u64,
+    kind: u8,
+    found: &mut F,
+) -> Result<(), NoMemory>
     requires head { is_slice kind ≡ true → tally.now.slices ≡ 0 → tally.now.unit < place }
     requires short { is_slice kind ≡ true → tally.now.slices ≡ 0 → place ≤ tally.now.unit + 1380 }
     requires least { 0 < tally.now.slices → tally.now.slice + 4 ≤ place }

@@ -21,9 +21,9 @@ use memchr::memchr;
 
 /// How far a film was read: what is kept of its bytes.
 #[derive(Drop)]
-pub struct Progress {
+pub(crate) struct Progress {
     /// How many bytes were read.
-    pub fed: u64,
+    pub(crate) fed: u64,
     /// How much of the next prefix stands at the end.
     prefix: Prefix,
     /// The latest code, with what was read of its header.
@@ -35,7 +35,7 @@ pub struct Progress {
 impl Progress {
     /// Before the first byte.
     #[tactic(auto, unfolding(crate::specs::Codes::codes_of, crate::specs::Codes::latest_prefix, crate::specs::Faults::first_fault))]
-    pub fn new() -> Progress
+    pub(crate) fn new() -> Progress
         ensures read { HasRead result [] }
         ensures room { IsAhead result }
         ensures slices { (tally_now result).slices ≡ 0 }
@@ -194,7 +194,11 @@ impl Progress {
     }
 
     /// Takes bytes, until one is refused.
-    pub fn take_bytes<F: Found>(&mut self, piece: &[u8], found: &mut F) -> Result<(), ScanRefused>
+    pub(crate) fn take_bytes<F: Found>(
+        &mut self,
+        piece: &[u8],
+        found: &mut F,
+    ) -> Result<(), ScanRefused>
         requires short { self.old.fed + length piece.now ≤ 2 ^ 40 }
         requires room { IsAhead self.old }
         requires ready { AwaitsSlice (F.ready_at found.old) (tally_now self.old) }
@@ -245,7 +249,7 @@ impl Progress {
     }
 
     /// Judges the whole film.
-    pub fn judge_film(&self) -> Result<Tally, FilmFault>
+    pub(crate) fn judge_film(&self) -> Result<Tally, FilmFault>
         ensures tally { IfOk result (λ t. t ≡ tally_now self.now) }
         ensures sliced { IfOk result (λ t. 0 < t.slices) }
         ensures short { OnOk result (self.now.fed ≤ 2 ^ 40) }

@@ -42,8 +42,11 @@ impl Scanner {
 
     /// Takes the next bytes of the film, and tells of what has ended in them.
     ///
-    /// A fault is answered only once all that ends before the code that is refused was told. Once
-    /// it has refused the film, or memory was wanted, it answers the same again.
+    /// # Errors
+    ///
+    /// [`ScanRefused::Fault`] where a code is refused, once all that ends before that code was
+    /// told; [`ScanRefused::NoMemory`] where `found` wants memory. Once it has answered either, it
+    /// answers the same again.
     pub fn feed<F: Found>(&mut self, piece: &[u8], found: &mut F) -> Result<(), ScanRefused>
         requires short { bytes_fed self.old + length piece.now ≤ 2 ^ 40 }
         requires ready { IsReady (F.ready_at found.old) self.old }
@@ -78,6 +81,11 @@ impl Scanner {
     }
 
     /// Ends the film, and tells of its last slice and unit.
+    ///
+    /// # Errors
+    ///
+    /// What `feed` has answered before; else [`ScanRefused::Fault`] with the refusal of the film's
+    /// end, where nothing is told, or [`ScanRefused::NoMemory`] where `found` wants memory.
     pub fn finish<F: Found>(self, found: &mut F) -> Result<Ending, ScanRefused>
         requires { IsReady (F.ready_at found.old) self }
         ensures ended { IfOk result (λ e. (r : List ℕ) → HasScannedBytes self r

@@ -9,46 +9,46 @@ ghost use Rattle.mpeg_scan.specs.Steps.{next_starts_group, next_unit};
 use crate::codes::Code;
 
 /// The kind of a picture's start code (ISO/IEC 11172-2, table 2-D.1).
-pub const PICTURE: u8 = 0x00;
+pub(crate) const PICTURE: u8 = 0x00;
 
 /// The kind of a sequence header's start code.
-pub const SEQUENCE: u8 = 0xb3;
+pub(crate) const SEQUENCE: u8 = 0xb3;
 
 /// The kind of an extension's start code.
-pub const EXTENSION: u8 = 0xb5;
+pub(crate) const EXTENSION: u8 = 0xb5;
 
 /// The kind of a group header's start code.
-pub const GROUP: u8 = 0xb8;
+pub(crate) const GROUP: u8 = 0xb8;
 
 /// The least kind of a system start code; those above it are system start codes too.
-pub const FIRST_SYSTEM: u8 = 0xb9;
+pub(crate) const FIRST_SYSTEM: u8 = 0xb9;
 
 /// The greatest kind of a slice's start code; those from 1 to it are slices.
 const LAST_SLICE: u8 = 0xaf;
 
 /// Whether a code of this kind begins a header of a head.
-pub fn is_head(kind: u8) -> bool
+pub(crate) fn is_head(kind: u8) -> bool
     ensures { result ≡ is_head kind }
 {
     kind == PICTURE || kind == SEQUENCE || kind == GROUP
 }
 
 /// Whether a code of this kind begins a slice.
-pub fn is_slice(kind: u8) -> bool
+pub(crate) fn is_slice(kind: u8) -> bool
     ensures { result ≡ is_slice kind }
 {
     1 <= kind && kind <= LAST_SLICE
 }
 
 /// The picture rate code of a sequence header.
-pub fn rate_code(code: &Code) -> u8
+pub(crate) fn rate_code(code: &Code) -> u8
     ensures { result ≡ rate_code code.now }
 {
     code.text.byte(3) % 16
 }
 
 /// The type in a picture header.
-pub fn type_of(code: &Code) -> u8
+pub(crate) fn type_of(code: &Code) -> u8
     ensures { result ≡ type_of code.now }
 {
     code.text.byte(1) / 8 % 8
@@ -56,16 +56,16 @@ pub fn type_of(code: &Code) -> u8
 
 /// What a unit's picture header says.
 #[derive(Clone, Copy)]
-pub struct Header {
+pub(crate) struct Header {
     /// The place of its start code.
-    pub place: u64,
+    pub(crate) place: u64,
     /// temporal_reference.
-    pub temporal: u16,
+    pub(crate) temporal: u16,
     /// picture_coding_type.
-    pub coding: u8,
+    pub(crate) coding: u8,
     /// full_pel_backward, backward_f_code, full_pel_forward and forward_f_code, from the highest
     /// bit; those that the picture hasn't are 0.
-    pub vectors: u8,
+    pub(crate) vectors: u8,
 }
 
 impl Header {
@@ -93,36 +93,36 @@ impl Header {
 
 /// What the start codes so far say of the latest unit, and of the units before it.
 #[derive(Clone, Copy)]
-pub struct Tally {
+pub(crate) struct Tally {
     /// Whether a code was read.
-    pub begun: bool,
+    pub(crate) begun: bool,
     /// The rate code of the film's first sequence header, or 0 before it.
-    pub rate: u8,
+    pub(crate) rate: u8,
     /// The place of the latest unit.
-    pub unit: u64,
+    pub(crate) unit: u64,
     /// Its picture's header.
-    pub picture: Option<Header>,
+    pub(crate) picture: Option<Header>,
     /// How many pictures the film has.
-    pub pictures: u32,
+    pub(crate) pictures: u32,
     /// How many of them come before the latest group.
-    pub before_group: u32,
+    pub(crate) before_group: u32,
     /// How many slices the latest unit has.
-    pub slices: u64,
+    pub(crate) slices: u64,
     /// How many slices the film has.
-    pub all_slices: u64,
+    pub(crate) all_slices: u64,
     /// The place of the latest unit's first slice.
-    pub head_end: u64,
+    pub(crate) head_end: u64,
     /// The place of the latest slice.
-    pub slice: u64,
+    pub(crate) slice: u64,
     /// Whether a sequence header stands in the latest unit's head.
-    pub has_sequence: bool,
+    pub(crate) has_sequence: bool,
     /// Whether the latest unit starts a group.
-    pub starts_group: bool,
+    pub(crate) starts_group: bool,
 }
 
 impl Tally {
     /// Of no codes.
-    pub fn new() -> Tally
+    pub(crate) fn new() -> Tally
         ensures { result ≡ tally_of [] }
     {
         Tally {
@@ -144,7 +144,7 @@ impl Tally {
     /// The same with one code more, whose text is complete. Counts stop at the greatest numbers of
     /// their types, which no film reaches.
     #[tactic(auto, unfolding(crate::specs::Steps::next))]
-    pub fn then(&self, code: &Code) -> Tally
+    pub(crate) fn then(&self, code: &Code) -> Tally
         ensures { result ≡ next self.now code.now }
     {
         Tally {

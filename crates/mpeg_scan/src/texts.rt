@@ -6,11 +6,11 @@ ghost use Rattle.mpeg_scan.specs.Texts.{text_with};
 use std::marker::Model;
 
 /// The bytes of a text that the headers of this standard's films are read from.
-pub const TEXT: u8 = 5;
+pub(crate) const TEXT: u8 = 5;
 
 /// The first bytes after a start code, as far as they are read.
 #[derive(Drop)]
-pub struct Text {
+pub(crate) struct Text {
     bytes: [u8; 5],
     len: u8,
 }
@@ -25,7 +25,7 @@ impl Model for Text {
 
 impl Text {
     /// No bytes.
-    pub fn new() -> Text
+    pub(crate) fn new() -> Text
         ensures { result ≡ [] }
     {
         Text {
@@ -35,7 +35,7 @@ impl Text {
     }
 
     /// Whether it takes no further byte.
-    pub fn is_full(&self) -> bool
+    pub(crate) fn is_full(&self) -> bool
         ensures full { result ≡ not (nat_lt (length self.now) 5) }
         ensures bound { length self.now ≤ 5 }
     {
@@ -43,7 +43,7 @@ impl Text {
     }
 
     /// Adds a byte, where there is room.
-    pub fn note(&mut self, byte: u8)
+    pub(crate) fn note(&mut self, byte: u8)
         ensures { self.new ≡ text_with self.old byte }
     {
         if self.len < TEXT {
@@ -53,7 +53,7 @@ impl Text {
     }
 
     /// The byte at an index, or 0 where it isn't read.
-    pub fn byte(&self, index: u8) -> u8
+    pub(crate) fn byte(&self, index: u8) -> u8
         ensures { result ≡ slice_index self.now index }
     {
         if index < self.len {

@@ -4,19 +4,19 @@ ghost use Rattle.mpeg_scan.specs.Calls.{kind_of};
 ghost use Rattle.mpeg_scan.specs.Rates.{picture_time};
 ghost use Rattle.mpeg_scan.specs.Standard.{type_number};
 
-/// The most bytes of a film.
+/// The most bytes of a film, 2^40.
 pub const MAX_FILM_BYTES: u64 = 1 << 40;
 
 /// The most bytes of a unit before its first slice: they go into one packet.
 pub const MAX_HEAD_BYTES: u64 = 1380;
 
-/// The most pictures of a group: a temporal_reference has 10 bits.
+/// The most pictures of a group: a temporal_reference has 10 bits (ISO/IEC 11172-2, 2.4.2.5).
 pub const MAX_GROUP_PICTURES: u32 = 1024;
 
 /// The most pictures of a film.
 pub const MAX_FILM_PICTURES: u32 = 4_194_304;
 
-/// The kind of a picture (ISO/IEC 11172-2, picture_coding_type).
+/// The kind of a picture, its picture_coding_type (ISO/IEC 11172-2, 2.4.3.4).
 #[derive(Clone, Copy, Debug, PartialEq, Eq)]
 pub enum Kind {
     /// Coded by itself.
@@ -72,14 +72,14 @@ pub struct Unit {
     pub first_slice: u64,
     /// How many slices it has.
     pub slices: u64,
-    /// The picture's temporal_reference.
+    /// The picture's temporal_reference, 0 to 1,023.
     pub temporal: u16,
     /// The number of units before its group, and its temporal_reference more.
     pub presentation: u64,
     /// The picture's kind.
     pub kind: Kind,
     /// full_pel_backward, backward_f_code, full_pel_forward and forward_f_code, from the highest
-    /// bit; those that the picture hasn't are 0.
+    /// bit (ISO/IEC 11172-2, 2.4.2.5); those that the picture hasn't are 0.
     pub vectors: u8,
     /// Whether a sequence header stands in its head.
     pub has_sequence: bool,
@@ -87,7 +87,8 @@ pub struct Unit {
     pub starts_group: bool,
 }
 
-/// The time of a picture in 1/360,000 second, by the picture rate code of a sequence header.
+/// The time of a picture in 1/360,000 second, by the picture rate code of a sequence header, 1 to 8
+/// (ISO/IEC 11172-2, 2.4.3.2).
 pub fn picture_units(rate: u8) -> u32
     requires low { 1 ≤ rate }
     requires high { rate ≤ 8 }

@@ -10,7 +10,8 @@ use std::time::Clock;
 use std::{io, mem};
 use vod_base::{Gate, GateFault, Opening};
 
-/// A connection to a TCP port of this machine. Slots count from its opening, which connects.
+/// A connection to a TCP port of this machine. Slots count from its opening, which connects, and are
+/// as long as [`Opening`] says, in 1/360,000 second.
 ///
 /// The first part that is split from it gives the connection; no other part gives one.
 #[derive(Drop)]
@@ -54,18 +55,15 @@ impl<'a, R: Net<Listener = TcpListener, Stream = TcpStream> + Clock> Gate for Di
 
     fn open(&mut self, how: &Opening) -> Result<(), GateFault> {
         self.call = Call::NotOpen;
-        match dial(self.rt, how) {
-            Ok(dialed) => {
-                self.call = Call::Waiting(dialed);
-                Ok(())
-            }
-            Err(_) => Err(self.faults.add_gate_fault()),
-        }
+        let dialed = self.faults.pass_on(dial(self.rt, how), GateFault)?;
+        self.call = Call::Waiting(dialed);
+        Ok(())
     }
 
     fn split(&mut self) -> Result<Self, GateFault> {
         if matches!(self.call, Call::NotOpen) {
-            return Err(self.faults.add_gate_fault());
+            self.faults.add();
+            return Err(GateFault);
         }
         Ok(DialGate {
             rt: self.rt,
@@ -76,10 +74,8 @@ impl<'a, R: Net<Listener = TcpListener, Stream = TcpStream> + Clock> Gate for Di
     }
 
     fn take(&mut self) -> Result<Option<TcpLink<'a, R>>, GateFault> {
-        match self.next_link() {
-            Ok(next) => Ok(next),
-            Err(_) => Err(self.faults.add_gate_fault()),
-        }
+        let next = self.next_link();
+        self.faults.pass_on(next, GateFault)
     }
 
     fn give_back(&mut self, conn: TcpLink<'a, R>) {

@@ -1,9 +1,9 @@
 //! Counts of faults.
 
-ghost use Rattle.std.specs.Prelude.{◌≡◌, ◌≤◌, ◌<◌};
+ghost use Rattle.std.specs.Prelude.{◌≡◌, ◌≤◌, ◌<◌, IfOk, OnErr};
 ghost use Rattle.vod_base.specs.Outside.{HasRisen};
 
-use vod_base::GateFault;
+use std::io;
 
 /// How many faults an object has counted, at most 2^64 - 1.
 #[derive(Clone, Copy)]
@@ -27,13 +27,19 @@ impl Faults {
         self.count = self.count.saturating_add(1);
     }
 
-    /// Counts a fault of a gate.
-    pub(crate) fn add_gate_fault(&mut self) -> GateFault
+    /// Passes an answer on. An error is counted, and `fault` stands for it.
+    pub(crate) fn pass_on<T, E: Drop>(&mut self, answer: io::Result<T>, fault: E) -> Result<T, E>
         ensures count { self.old.count ≤ self.new.count }
-        ensures risen { HasRisen self.old.count self.new.count }
+        ensures value { IfOk result (λ value. answer ≡ Ok value) }
+        ensures risen { OnErr result (HasRisen self.old.count self.new.count) }
     {
-        self.add();
-        GateFault
+        match answer {
+            Ok(value) => Ok(value),
+            Err(_) => {
+                self.add();
+                Err(fault)
+            }
+        }
     }
 
     /// Counts the faults of a part, too.

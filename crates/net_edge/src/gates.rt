@@ -11,7 +11,8 @@ use std::net::{Ipv4Addr, Net, SocketAddr, TcpListener, TcpStream};
 use std::time::Clock;
 use vod_base::{Gate, GateFault, Opening};
 
-/// A TCP port that connections come to. Slots count from its opening.
+/// A TCP port that connections come to. Slots count from its opening, and are as long as
+/// [`Opening`] says, in 1/360,000 second.
 #[derive(Drop)]
 pub struct TcpGate<'a, R: Net<Listener = TcpListener, Stream = TcpStream> + Clock> {
     rt: &'a R,
@@ -34,7 +35,7 @@ impl<'a, R: Net<Listener = TcpListener, Stream = TcpStream> + Clock> TcpGate<'a,
         }
     }
 
-    /// The port of a gate that is open.
+    /// The port of a gate that is open; None where it isn't, or where the system doesn't tell.
     pub fn port(&self) -> Option<u16> {
         let door = self.door.as_ref()?;
         Some(door.listener.local_addr().ok()?.port())
@@ -81,33 +82,26 @@ impl<'a, R: Net<Listener = TcpListener, Stream = TcpStream> + Clock> Gate for Tc
     fn open(&mut self, how: &Opening) -> Result<(), GateFault> {
         self.door = None;
         self.given = 0;
-        match open_door(self.rt, how) {
-            Ok(door) => {
-                self.door = Some(door);
-                Ok(())
-            }
-            Err(_) => Err(self.faults.add_gate_fault()),
-        }
+        let door = self.faults.pass_on(open_door(self.rt, how), GateFault)?;
+        self.door = Some(door);
+        Ok(())
     }
 
     fn split(&mut self) -> Result<Self, GateFault> {
-        match self.copied_door() {
-            Ok(door) => Ok(TcpGate {
-                rt: self.rt,
-                alloc: self.alloc,
-                door: Some(door),
-                given: 0,
-                faults: Faults::new(),
-            }),
-            Err(_) => Err(self.faults.add_gate_fault()),
-        }
+        let copied = self.copied_door();
+        let door = self.faults.pass_on(copied, GateFault)?;
+        Ok(TcpGate {
+            rt: self.rt,
+            alloc: self.alloc,
+            door: Some(door),
+            given: 0,
+            faults: Faults::new(),
+        })
     }
 
     fn take(&mut self) -> Result<Option<TcpLink<'a, R>>, GateFault> {
-        match self.next_link() {
-            Ok(next) => Ok(next),
-            Err(_) => Err(self.faults.add_gate_fault()),
-        }
+        let next = self.next_link();
+        self.faults.pass_on(next, GateFault)
     }
 
     fn give_back(&mut self, conn: TcpLink<'a, R>) {

@@ -1,7 +1,6 @@
 //! A connection over TCP.
 
 ghost use Rattle.std.specs.Prelude.{◌≡◌, ◌<◌, ◌≤◌, None, length, IfOk, IfSome};
-ghost use Rattle.vod_base.specs.Outside.{HasRisen};
 ghost use Rattle.vod_base.specs.Links.{IsWithin};
 
 use crate::faults::Faults;
@@ -255,11 +254,13 @@ impl<R: Clock> TcpLink<'_, R> {
         let mut dropped = [0; 1024];
         for _ in 0..u64::MAX {
             let waited = begun.elapsed(self.rt)?;
-            if waited >= most || self.read(&mut dropped)? == Some(0) {
+            if waited >= most {
                 break;
             }
-            if !self.readable {
-                self.wait(most.saturating_sub(waited))?;
+            match self.read(&mut dropped)? {
+                Some(0) => break,
+                Some(_) => {}
+                None => self.wait(most.saturating_sub(waited))?,
             }
         }
         Ok(())
@@ -279,15 +280,6 @@ impl<R: Clock> TcpLink<'_, R> {
             let _ = self.close();
         }
     }
-
-    /// Counts a fault.
-    fn fault(&mut self) -> LinkFault
-        ensures count { self.old.faults.count ≤ self.new.faults.count }
-        ensures risen { HasRisen self.old.faults.count self.new.faults.count }
-    {
-        self.faults.add();
-        LinkFault
-    }
 }
 
 impl<R: Clock> Link for TcpLink<'_, R> {
@@ -296,16 +288,12 @@ impl<R: Clock> Link for TcpLink<'_, R> {
     ghost told = { λ _. None };
 
     fn next(&mut self, into: &mut [u8]) -> Result<Heard, LinkFault> {
-        match self.hear(into) {
-            Ok(heard) => Ok(heard),
-            Err(_) => Err(self.fault()),
-        }
+        let heard = self.hear(into);
+        self.faults.pass_on(heard, LinkFault)
     }
 
     fn send(&mut self, bytes: &[u8]) -> Result<(), LinkFault> {
-        match self.gather(bytes) {
-            Ok(()) => Ok(()),
-            Err(_) => Err(self.fault()),
-        }
+        let gathered = self.gather(bytes);
+        self.faults.pass_on(gathered, LinkFault)
     }
 }

@@ -11,9 +11,11 @@ use vod_base::NoMemory;
 
 /// Appends the text of a calendar: `calendar from=T` with T its now, then `at S booked=X` for each
 /// slot S of its ring, from now on, in which X bytes are booked, above 0, and then `end`. Numbers
-/// are decimal, and each line ends with LF.
+/// are decimal, and each line ends with LF. It takes one pass over the slots.
 ///
-/// After `NoMemory` the beginning of the text was appended. One pass over the slots.
+/// # Errors
+///
+/// After [`NoMemory`] a front of the text was appended.
 pub fn calendar_text(calendar: &Calendar, out: &mut Vec<u8>) -> Result<(), NoMemory>
     ensures { IsAppended out.old.items
         (calendar_text calendar.now.first (booked_at calendar.now)) out.new.items result }

@@ -12,9 +12,11 @@ use vod_base::NoMemory;
 /// Appends the line of the journal's entry at `place`: `PLACE seat=M` and then, for a play, `play
 /// slot=S slots=N bytes=B admitted start=T` or `play slot=S slots=N bytes=B overflow slot=U
 /// booked=X asked=Y`, for a halt `halt number=K keep=P halted`, for a look `look slot=S looked
-/// now=T at=U booked=X`. Numbers are decimal, and the line ends with LF.
+/// now=T at=U booked=X`. B, P, X and Y count bytes. Numbers are decimal, and the line ends with LF.
 ///
-/// After `NoMemory` the beginning of the line was appended.
+/// # Errors
+///
+/// After [`NoMemory`] a front of the line was appended.
 pub fn entry_line(place: u64, entry: &Entry, out: &mut Vec<u8>) -> Result<(), NoMemory>
     requires { IsOfKind entry.now.command entry.now.answer }
     ensures { IsAppended out.old.items (entry_line place entry.now) out.new.items result }

@@ -8,6 +8,10 @@ use itoa::Buffer;
 use vod_base::NoMemory;
 
 /// Appends a text.
+///
+/// # Errors
+///
+/// After [`NoMemory`] a front of the text was appended.
 pub fn push(out: &mut Vec<u8>, text: &[u8]) -> Result<(), NoMemory>
     ensures { IsAppended out.old.items text.now out.new.items result }
 {
@@ -15,14 +19,14 @@ pub fn push(out: &mut Vec<u8>, text: &[u8]) -> Result<(), NoMemory>
     Ok(())
 }
 
-/// Appends a number in decimal, without leading zeros.
+/// Appends a number in decimal, without leading zeros. Errors are those of `push`.
 pub fn push_number(out: &mut Vec<u8>, number: u64) -> Result<(), NoMemory>
     ensures { IsAppended out.old.items (decimal number) out.new.items result }
 {
     push(out, Buffer::new().format(number).as_bytes())
 }
 
-/// Appends a label and a number.
+/// Appends a label and a number in decimal. Errors are those of `push`.
 pub fn push_field(out: &mut Vec<u8>, label: &[u8], number: u64) -> Result<(), NoMemory>
     ensures { IsAppended out.old.items (field label.now number) out.new.items result }
 {

@@ -12,7 +12,9 @@ use vod_base::NoMemory;
 /// Appends the lines of a journal's entries from the place `from` on, each as `entry_line` has it,
 /// with its place in the journal.
 ///
-/// After `NoMemory` the beginning of the text was appended.
+/// # Errors
+///
+/// After [`NoMemory`] a front of the text was appended.
 pub fn journal_text(from: usize, entries: &[Entry], out: &mut Vec<u8>) -> Result<(), NoMemory>
     requires { AreOfKind entries.now }
     ensures { IsAppended out.old.items (journal_text from (drop from entries.now)) out.new.items

@@ -1,5 +1,5 @@
 -- A client's requests are requests of RTSP 1.0.
-use Rattle.std.proofs.Common.{◌≡◌, ℕ, ◌+◌, ◌-◌, ◌^◌, ◌<◌, ◌≤◌, ◌&&◌, ◌==◌, Bool, reverse, true, false, not, nat_lt, nat_le, List, [], ◌∷◌, ◌++◌, All, codes, decimal, string_bytes, length, get_or, refl, sym, ap, subst, ◌∙◌, arith, inr}
+use Rattle.std.proofs.Common.{◌≡◌, ℕ, ◌-◌, ◌^◌, ◌<◌, ◌≤◌, ◌&&◌, ◌==◌, Bool, reverse, true, false, not, nat_lt, nat_le, List, [], ◌∷◌, ◌++◌, All, codes, decimal, string_bytes, length, get_or, refl, sym, ap, subst, ◌∙◌, arith, inr}
 use Rattle.std.specs.List.{list_all}
 use Rattle.std.specs.Char.{is_ascii_digit}
 use Rattle.std.proofs.lemmas.Bool.{and_parts, and_from, cond-false}

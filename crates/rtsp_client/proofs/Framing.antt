@@ -1,6 +1,7 @@
 -- What a frame, a report and a slot come to.
-use Rattle.std.proofs.Common.{◌≡◌, ℕ, ◌≤◌, ◌==◌, true, false, List, [], ◌∷◌, length, take, drop, Option, Some, None, is_some, refl, sym, ap, subst, ◌∙◌, inr}
+use Rattle.std.proofs.Common.{◌≡◌, ℕ, ◌≤◌, ◌-◌, ◌==◌, true, false, List, [], ◌∷◌, length, take, drop, Option, Some, None, is_some, refl, sym, ap, subst, ◌∙◌, inr}
 use Rattle.std.proofs.lemmas.Bool.{cond-true, cond-false, ne_eqb}
+use Rattle.std.proofs.lemmas.List.{length-take-le}
 use Rattle.vod_base.specs.Links.{Doing, IsFrontTold, sends, told_more}
 use Rattle.vod_base.specs.Outside.{IsFrontMore}
 use Rattle.rtsp_client.specs.declared.clients.Client.{Client}
@@ -16,10 +17,11 @@ use Rattle.rtsp_client.specs.Films.{is_complete}
 use Rattle.rtsp_client.specs.Answers.{GoesOn, block_moments, request_after}
 use Rattle.rtsp_client.specs.Courses.{Fails, IsFront}
 use Rattle.rtsp_client.specs.Keeps.{Keeps, KeepsState}
-use Rattle.rtsp_client.specs.States.{after_frame, after_report, has_all, source_with}
+use Rattle.rtsp_client.specs.States.{State, after_frame, after_report, has_all, source_with}
 use Rattle.rtsp_client.specs.Takings.{HasEndedAt, HasPassed, Sight, sight, sight_more}
 use Rattle.rtsp_client.proofs.Keeping.{complete-is, good-is, keeps-frame, keeps-report}
 use Rattle.rtsp_client.proofs.Replying.{gives, passed-one}
+use Rattle.rtsp_client.proofs.Sources.{rest-whole}
 use Rattle.rtsp_client.proofs.Sighting.{all-front, no-front, sight-both, sight-handed, sight-none}
 
 -- it isn't the next frame
@@ -76,6 +78,15 @@ frame-cut {wish} {h} {c} {b} {next} {end} {out} {new_out} told k some is front =
   sight_is = sight-handed told out new_out (take front.0 (drop 20 b)) front.1.1;
 }
 
+-- what the frames say with the block in front, and the block's payload, where `w` is the input
+pub source-here : {w : List ℕ} {found answer : Option Source} (c : Client) (n : ℕ) → w ≡ c.input
+    → found ≡ source_with c.watching (take n w) → found ≡ answer → source_with c.watching (take n c.input) ≡ answer
+source-here c n same found is = ap (λ i. source_with c.watching (take n i)) (sym same) ∙ (sym found ∙ is)
+
+pub payload-here : {w : List ℕ} (c : Client) (n : ℕ) → w ≡ c.input
+    → take (length (take n w) - 20) (drop 20 (take n w)) ≡ drop 20 (take n c.input)
+payload-here {w} c n same = rest-whole 20 (take n w) ∙ ap (λ i. drop 20 (take n i)) same
+
 -- a frame is the film's next one, and the client took it up
 pub record TakenFrame (wish : Wish) (h : History) (c mid : Client) (b : List ℕ) (next : Source) : Type 0 where
   pub keeps : Keeps wish h c
@@ -97,6 +108,21 @@ keeps-taken {wish} {h} {b} taken = record {
   session_is = taken.session ∙ taken.keeps.session_is;
   state = subst (λ w. KeepsState wish (Frame b ∷ h) w) (sym taken.watching)
       (keeps-frame taken.keeps.state taken.next_is taken.long);
+}
+
+-- the frame in front is the film's next one, and was counted
+pub taken-frame : {wish : Wish} {h : History} {w : List ℕ} {found : Option Source} {next : Source} {state : State}
+    (c : Client) (n : ℕ) → Keeps wish h c → w ≡ c.input → n ≤ length c.input
+    → found ≡ source_with c.watching (take n w) → found ≡ Some next → 20 ≤ length (take n w)
+    → state ≡ after_frame c.watching next n
+    → TakenFrame wish h c (record c { watching = state }) (take n c.input) next
+taken-frame {next} c n keeps same within found is long state = record {
+  keeps = keeps;
+  next_is = source-here c n same found is;
+  long = subst (λ (i : List ℕ). 20 ≤ length (take n i)) same long;
+  replies = refl;
+  session = refl;
+  watching = state ∙ ap (after_frame c.watching next) (sym (length-take-le n c.input within));
 }
 
 -- it goes on, and no request is sent

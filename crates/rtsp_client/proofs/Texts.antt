@@ -5,6 +5,10 @@ use Rattle.std.proofs.Common.{◌≡◌, ℕ, ◌+◌, List, [], ◌∷◌, ◌+
 pub then_put : {old mid new : List ℕ} (next : List ℕ) → mid ≡ old → new ≡ mid ++ next → new ≡ old ++ next
 then_put next is put = put ∙ ap (λ (l : List ℕ). l ++ next) is
 
+pub then_field : {old mid new : List ℕ} (label next : List ℕ) → mid ≡ old → new ≡ mid ++ label ++ next
+    → new ≡ old ++ label ++ next
+then_field label next is put = put ∙ ap (λ (l : List ℕ). l ++ label ++ next) is
+
 -- parts put after a text, each after all before it; and as one row from the end on
 abbrev pub put_on : List ℕ → List (List ℕ) → List ℕ
 put_on text [] = text

@@ -1,7 +1,7 @@
 //! What a client reads in a reply (RFC 2326 sections 7 and 12).
 
 ghost use Rattle.std.specs.Prelude.{◌≡◌, ◌^◌, ◌<◌, ◌≤◌, ◌==◌, ℕ, length, option_map, IfSome};
-ghost use Rattle.std.specs.Prelude.{MatchOption};
+ghost use Rattle.std.specs.Prelude.{MatchOption, position};
 ghost use Rattle.std.specs.List.{position_or_len};
 ghost use Rattle.interleave.specs.Pieces.{IsRequestLength};
 ghost use Rattle.rtsp_client.specs.Replies.{IsAnswer, has_point, milliseconds, number_in};
@@ -61,17 +61,19 @@ fn number_in(message: &[u8], name: &[u8]) -> Option<u64>
     read_number(header_of(message, name)?).ok()
 }
 
+/// The place of the first `;`.
+fn first_semicolon(value: &[u8]) -> Option<usize>
+    ensures { result ≡ position (λ byte. byte == 59) value.now }
+{
+    value.iter().position(|byte| *byte == b';')
+}
+
 /// Where a session's id ends: at the first `;`, or at the value's end.
 fn id_end(value: &[u8]) -> usize
     ensures within { result ≤ length value.now }
     ensures end { result ≡ position_or_len (λ byte. byte == 59) value.now }
 {
-    for at in 0..value.len() {
-        if value[at] == b';' {
-            return at;
-        }
-    }
-    value.len()
+    first_semicolon(value).unwrap_or(value.len())
 }
 
 /// The id of a Session field: what stands before its first `;`, without the blanks around it.

@@ -29,10 +29,8 @@ pub(crate) fn setup_request(alloc: Global, wish: &Wish) -> Result<Vec<u8>, NoMem
         &mut text,
         b"Transport: RTP/AVP/TCP;unicast;interleaved=0-1\r\n",
     )?;
-    put(&mut text, b"x-Buffer: ")?;
-    put_number(&mut text, wish.buffer)?;
-    put(&mut text, b"\r\nx-Startup: ")?;
-    put_number(&mut text, wish.startup)?;
+    put_field(&mut text, b"x-Buffer: ", wish.buffer)?;
+    put_field(&mut text, b"\r\nx-Startup: ", wish.startup)?;
     put(&mut text, b"\r\n\r\n")?;
     Ok(text)
 }
@@ -79,12 +77,19 @@ fn put_number(text: &mut Vec<u8>, number: u64) -> Result<(), NoMemory>
     put(text, Buffer::new().format(number).as_bytes())
 }
 
+/// Appends a label and a number in decimal.
+fn put_field(text: &mut Vec<u8>, label: &[u8], number: u64) -> Result<(), NoMemory>
+    ensures { OnOk result (text.new.items ≡ text.old.items ++ label.now ++ decimal number) }
+{
+    put(text, label)?;
+    put_number(text, number)
+}
+
 /// Appends the film's URL.
 fn put_url(text: &mut Vec<u8>, wish: &Wish) -> Result<(), NoMemory>
     ensures { OnOk result (text.new.items ≡ text.old.items ++ film_url wish.now) }
 {
-    put(text, b"rtsp://127.0.0.1:")?;
-    put_number(text, u64::from(wish.port))?;
+    put_field(text, b"rtsp://127.0.0.1:", u64::from(wish.port))?;
     put(text, b"/")?;
     put(text, wish.name.as_bytes())?;
     Ok(())

@@ -16,7 +16,7 @@ use Rattle.session.specs.declared.states.State.{State}
 use Rattle.session.specs.declared.states.State.TheVariants.{Ready}
 use Rattle.session.specs.Changes.{AsksOrLacks, CanBePlayed, ChangesState, IsGoodPlay, IsPlayAskedFor, IsSameGround}
 use Rattle.session.specs.Hearings.{Hears, HearsOn}
-use Rattle.session.specs.Judging.{IsJudged, place_of}
+use Rattle.session.specs.Judging.{IsJudged}
 use Rattle.session.specs.Methods.{AsksPlayOr, IsRefused, IsReplied, Plays, Takes, play_front, prepared_of}
 use Rattle.session.specs.Planning.{IsPlanned, IsPlannedRun}
 use Rattle.session.specs.Standings.{Standing}
@@ -135,7 +135,7 @@ good_plays {old} {request} {ask} {new} authority ready good plays =
 
 good_takes : {old : Standing} {request : Request} {setup : Setup} {paused : Option Run} {ask : Ask} {new : Standing}
     (judgement : Result Task Refusal) → old.state ≡ Ready setup paused → IsGoodPlay old setup paused request
-    → IsJudged old.films old.id (place_of old.state) request judgement → Takes old request judgement ask new
+    → IsJudged old.films old.id old.state request judgement → Takes old request judgement ask new
     → AsksOrLacks old ask new
 good_takes {ask} {new} (Ok (ToPlay asked)) ready good judged takes =
     good_plays asked.authority.now ready good takes

@@ -21,14 +21,14 @@ use Rattle.session.specs.EndLaws.{CanBePaused, CanBeTornDown, EndsSession, Halts
 use Rattle.session.specs.Hearings.{Hears, HearsOn, after_halt, is_torn, new_standing}
 use Rattle.session.specs.declared.methods.Method.{Method}
 use Rattle.session.specs.declared.methods.Method.TheVariants.{Pause, Teardown}
-use Rattle.session.specs.Judging.{IsJudged, IsReadAs, method_of, name_of, option_of, place_of}
+use Rattle.session.specs.Judging.{IsJudged, IsReadAs, method_of, name_of, option_of}
 use Rattle.session.specs.Laws.{IsOfMethod, stage_of}
 use Rattle.session.specs.LookLaws.{Happening, Message, Admission, Overflow, Full, Halt, Look, Offer, Slot, Sending, AreAfter, IsAfter}
 use Rattle.session.specs.Methods.{AsksHalt, Ends, Pauses, PausesPlay, Takes, TearsDown}
 use Rattle.session.specs.PlayLaws.{IsDeclined}
 use Rattle.session.specs.Replies.{field, session_text}
 use Rattle.session.specs.Sendings.{after_play, is_between, is_done_in, is_sending, is_taken, next_of, sent_due, sent_in, sent_reply, sent_slot, stepped_in}
-use Rattle.session.specs.Standings.{Standing}
+use Rattle.session.specs.Standings.{Standing, is_playing_in}
 use Rattle.session.proofs.Grounds.{Beginning, TakenRequest}
 use Rattle.session.proofs.OneVerdict.{AreAlike, method_once, not_both}
 use Rattle.session.proofs.RangeInPlaying.{refused, same_request}
@@ -104,7 +104,7 @@ pauses_in {state = Stopping setup stop} {ask} {new} sequence is pauses = absurd 
 -- what all requests of a method come to
 abbrev TakesMethod : (Standing → Ask → Standing → Type 0) → List ℕ → Type 0
 TakesMethod P method = (taken : TakenRequest) (judgement : Result Task Refusal) → taken.request.method.now ≡ method
-    → IsJudged taken.old.films taken.old.id (place_of taken.old.state) taken.request judgement
+    → IsJudged taken.old.films taken.old.id taken.old.state taken.request judgement
     → Takes taken.old taken.request judgement taken.ask taken.new → Comes P taken.old taken.ask taken.new
 
 -- what the task of a method does
@@ -167,12 +167,12 @@ pause_leaves old new message ask is hears =
 record IsTakenUp (old : Standing) (message : List ℕ) (task : Task) : Type 0 where
   request : Request
   is_request : IsReadAs message request
-  judged : IsJudged old.films old.id (place_of old.state) request (Ok task)
+  judged : IsJudged old.films old.id old.state request (Ok task)
 
 takes_up : (P : Standing → Ask → Standing → Type 0) {message : List ℕ} {task : Task}
     → DoesTask P (method_of task) → (taken : TakenRequest)
     (judgement : Result Task Refusal) (is : IsTakenUp taken.old message task) → AreAlike is.request taken.request
-    → IsJudged taken.old.films taken.old.id (place_of taken.old.state) taken.request judgement
+    → IsJudged taken.old.films taken.old.id taken.old.state taken.request judgement
     → Takes taken.old taken.request judgement taken.ask taken.new → P taken.old taken.ask taken.new
 takes_up P {task} does taken (Ok other) is alike judged takes =
     does taken other (method_once taken.request.method.now (method_of other) (method_of task) judged.talk.spoken.named
@@ -210,7 +210,7 @@ pause_taken old new message ask can hears =
       judged = record {
         talk = can.good.talk;
         film = can.good.film;
-        state = ap (λ (s : State). (place_of s).playing) can.playing;
+        state = ap is_playing_in can.playing;
       };
     }) hears
 

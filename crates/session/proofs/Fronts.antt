@@ -1,17 +1,13 @@
 -- Lemmas on what a failed sending of a slot leaves.
-use Rattle.std.proofs.Common.{◌≡◌, ℕ, ◌+◌, ◌-◌, ◌≤◌, ◌++◌, Bool, true, false, if◌then◌else◌, min, max, List, [], length, take, drop, Option, Some, Result, Ok, Err, OnErr, refl, ap, sym, ◌∙◌, arith, inl, inr}
+use Rattle.std.proofs.Common.{◌≡◌, ℕ, ◌+◌, ◌-◌, ◌≤◌, ◌++◌, Bool, true, false, if◌then◌else◌, List, [], length, take, drop, Option, Result, Ok, Err, OnErr, refl, ap, sym, ◌∙◌, arith, inl, inr}
 use Rattle.std.proofs.lemmas.Bool.{cases_lt, true≢false}
-use Rattle.std.proofs.lemmas.List.{length-append, map-append, take-append-le, take-take, take_all}
+use Rattle.std.proofs.lemmas.List.{length-append, map-append, take-take, take_all}
 use Rattle.std.proofs.Math.Seq.{take-append-add}
 use Rattle.film_frames.specs.Tracks.{framed_bytes}
 use Rattle.vod_base.specs.Links.{Doing, Sent, IsFrontTold, sends, told_more}
 use Rattle.vod_base.proofs.Telling.{told_more-append}
-use Rattle.pacer.specs.Pacings.{Pacing, due_by, first_slots, plan_bytes, at_slot, slots_by, step_end}
+use Rattle.pacer.specs.Pacings.{Pacing, due_by, plan_bytes, at_slot, step_end}
 use Rattle.pacer.specs.Steps.{HasFailed}
-use Rattle.session.specs.declared.states.State.{State}
-use Rattle.session.specs.declared.states.State.TheVariants.{Init, Ready, Playing, Stopping}
-use Rattle.session.specs.Sendings.{stepped_in}
-use Rattle.session.specs.Standings.{open_in}
 
 -- a fact that holds, also where there is no fault
 pub on_err : {T E P : Type 0} (r : Result T E) → P → OnErr r P
@@ -34,17 +30,7 @@ pub front_of : (old new : Option (List Doing)) (bytes : List ℕ) (k : ℕ)
 front_of old new bytes k told =
     let front = any_front bytes k in (front.0, (front.1.0, told ∙ ap (λ bs. told_more old (sends bs)) (sym front.1.1)))
 
--- a front of what comes first is a front of all
-pub front_left : (old new : Option (List Doing)) (bytes more : List ℕ) → IsFrontTold old new bytes
-    → IsFrontTold old new (bytes ++ more)
-front_left old new bytes more front = (
-  front.0,
-  (
-    omega (arith, front.1.0, length-append bytes more),
-    front.1.1 ∙ ap (λ bs. told_more old (sends bs)) (sym (take-append-le front.0 bytes more front.1.0)),
-  ),
-)
-
+-- all of what comes first, and a front of the rest
 pub front_right : {mid new : Option (List Doing)} (old : Option (List Doing)) (bytes more : List ℕ) →
     mid ≡ told_more old (sends bytes) → IsFrontTold mid new more →
     IsFrontTold old new (bytes ++ more)
@@ -77,9 +63,6 @@ pub failed_due : {stop : Bool} {slot : ℕ} {p new : Pacing} {told next : Option
     → HasFailed stop slot p new told next → new.due ≡ due_by p slot
 failed_due {stop} {slot} {p} {new} {next} failed = ap (λ (q : Pacing). q.due) failed.state
 
-max_twice : (a b : ℕ) → max (max a b) b ≡ max a b
-max_twice a b = omega arith
-
 -- what a slot sends: what comes before a reply, the reply, what comes after it, and all where no reply waits
 pub record SlotSends : Type 0 where
   pub one : List ℕ
@@ -96,22 +79,3 @@ front_both {waits = true} {between = true} {new} old sent waiting between told f
     front_right old sent.one (sent.text ++ sent.after) told front
 front_both {waits = true} {between = false} {new} old sent waiting between told front = absurd (true≢false (sym between))
 front_both {waits = false} {between} {new} old sent waiting is told front = absurd (true≢false (sym waiting))
-
--- a slot that was stepped makes nothing more due as it is stepped again
-pub raised_twice : (stop : Bool) (slot : ℕ) (state : State)
-    → open_in (stepped_in false slot (stepped_in stop slot state)) ≡ open_in (stepped_in stop slot state)
-raised_twice stop slot Init = refl
-raised_twice stop slot (Ready setup paused) = refl
-raised_twice stop slot (Playing setup play) =
-    ap (λ n. Some (record { plan = play.plan; start = play.start; due = n }))
-    (max_twice play.pacer.due (min (first_slots play.pacer.plan (slots_by play.pacer slot)) play.pacer.keep))
-raised_twice stop slot (Stopping setup halted) = refl
-
-pub due_between : (between : Bool) (slot : ℕ) (state : State) →
-    open_in (if between then stepped_in false slot (stepped_in true slot state) else stepped_in true slot state)
-    ≡ open_in (stepped_in true slot state)
-due_between false slot state = refl
-due_between true slot state = raised_twice true slot state
-
--- what a slot with a waiting reply is proved by
-pub ruleset due_fronts = (front_left, front_right, raised_twice, due_between)

@@ -12,7 +12,7 @@ use Rattle.session.specs.declared.refusals.Refusal.TheVariants.{Memory}
 use Rattle.session.specs.declared.refusals.Task.{Task}
 use Rattle.session.specs.declared.refusals.Task.TheVariants.{Options as ToOptions, Describe as ToDescribe, Setup as ToSetup, Play as ToPlay, Pause as ToPause, Teardown as ToTeardown, GetParameter as ToGetParameter}
 use Rattle.session.specs.Hearings.{HearsOn, new_standing}
-use Rattle.session.specs.Judging.{IsJudged, IsWord, option_of, place_of}
+use Rattle.session.specs.Judging.{IsJudged, IsWord, option_of}
 use Rattle.session.specs.Laws.{Is500}
 use Rattle.session.specs.LookLaws.{Happening, Message, Admission, Overflow, Full, Halt, Look, Offer, Slot, Sending, AreAfter, AsksBooked, HasLooksLeft, IsAfter, looks_asked, looks_in, looks_of}
 use Rattle.session.specs.Changes.{HasCode}
@@ -116,7 +116,7 @@ record BookedRequest (old : Standing) (request : Request) : Type 0 where
   body : IsWord (codes "x-Booked") request.body.now
 
 takes_booked : (taken : TakenRequest) (judgement : Result Task Refusal) → BookedRequest taken.old taken.request
-    → IsJudged taken.old.films taken.old.id (place_of taken.old.state) taken.request judgement
+    → IsJudged taken.old.films taken.old.id taken.old.state taken.request judgement
     → Takes taken.old taken.request judgement taken.ask taken.new → ¬ Is500 taken.ask taken.new
 takes_booked taken (Ok ToGetParameter) asked judged takes =
     gets_booked taken asked.some (topic_once taken.request.body.now Booked takes.topic asked.body takes.is_topic) takes.gets
@@ -134,7 +134,7 @@ takes_booked taken (Ok ToTeardown) asked judged takes =
     absurd (let no : ⊥ = cc (judged.talk.spoken.named, asked.method) in no)
 takes_booked taken (Err refusal) asked judged takes =
     refuses_booked old request.sequence (option_of request.head.now)
-    (λ memory. subst (λ r. IsJudged old.films old.id (place_of old.state) request (Err r)) memory judged) takes
+    (λ memory. subst (λ r. IsJudged old.films old.id old.state request (Err r)) memory judged) takes
   where
     open taken use {old, request}
 

@@ -28,7 +28,7 @@ use Rattle.session.specs.declared.states.Setup.{Setup}
 use Rattle.session.specs.declared.states.State.{State}
 use Rattle.session.specs.declared.states.State.TheVariants.{Init, Ready, Playing, Stopping}
 use Rattle.session.specs.Hearings.{Hears, HearsOn, after_offer}
-use Rattle.session.specs.Judging.{IsJudged, IsReadAs, IsTopic, place_of}
+use Rattle.session.specs.Judging.{IsJudged, IsReadAs, IsTopic}
 use Rattle.session.specs.Methods.{AsksOfferOr, AsksPlayOr, Gets, GetsOffer, HasWait, IsWaitOf, Looks, Pauses, Plays, IsSetUp, Takes, TearsDown}
 use Rattle.session.specs.OfferLaws.{IsLeastBuffer, IsLeastTold, IsOfferAsked, IsOfferRequest, IsOfferTold, IsWaitIn, found_line, tried_line}
 use Rattle.session.specs.Planning.{HasNoPlan, IsPlanned}
@@ -145,7 +145,7 @@ module _ (old : Standing) (message : List ℕ) (plan : List Segment) (offers : O
   gets request Unknown is method about its = absurd (let no : ⊥ = cc (its.0) in no)
 
   takes : (request : Request) (judgement : Result Task Refusal) → IsReadAs message request
-      → IsJudged old.films old.id (place_of old.state) request judgement
+      → IsJudged old.films old.id old.state request judgement
       → Takes old request judgement (AskOffer plan offers) new → Asked
   takes request (Ok ToOptions) is judged its = absurd (let no : ⊥ = cc (its.0) in no)
   takes request (Ok (ToDescribe asked)) is judged its = absurd (let no : ⊥ = cc (its.reply.0) in no)

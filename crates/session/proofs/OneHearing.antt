@@ -26,7 +26,6 @@ use Rattle.session.specs.declared.methods.Topic.TheVariants.{Nothing as NoTopic,
 use Rattle.session.specs.declared.plans.Planned.{Planned}
 use Rattle.session.specs.declared.refusals.Refusal.{Refusal}
 use Rattle.session.specs.declared.refusals.Refusal.TheVariants.{BadRequest, Version, Method as UnknownMethod, Option as Required, Session, Film, State as NotNow, Transport, Parameter, Buffer, Range, Memory}
-use Rattle.session.specs.declared.refusals.Place.{Place}
 use Rattle.session.specs.declared.refusals.Task.{Task}
 use Rattle.session.specs.declared.refusals.Task.TheVariants.{Options as ToOptions, Describe as ToDescribe, Setup as ToSetup, Play as ToPlay, Pause as ToPause, Teardown as ToTeardown, GetParameter as ToGetParameter}
 use Rattle.session.specs.declared.states.Awaited.TheVariants.{Play, Halt}
@@ -39,7 +38,7 @@ use Rattle.session.specs.declared.states.State.TheVariants.{Init, Ready, Playing
 use Rattle.session.specs.declared.settings.Settings.{Settings}
 use Rattle.session.specs.Films.{Names, length_ms}
 use Rattle.session.specs.Hearings.{HearsOn, HearsWhole}
-use Rattle.session.specs.Judging.{IsJudged, IsTaskOf, IsTopic, IsWord, fault_refusal, method_of, option_of, place_of}
+use Rattle.session.specs.Judging.{IsJudged, IsTaskOf, IsTopic, IsWord, fault_refusal, method_of, option_of}
 use Rattle.session.specs.Laws.{IsOneHearing}
 use Rattle.session.specs.Methods.{AsksHalt, AsksOffer, AsksOfferOr, AsksPlay, AsksPlayOr, Describes, Gets, GetsOffer, GetsParameter, HasWait, IsWaitOf, IsRefused, IsReplied, IsSetUp, Looks, OffersReady, Pauses, PausesPlay, Plays, SetsUp, Takes, TearsDown, prepared_of, play_front}
 use Rattle.session.specs.Planning.{IsPlanned}
@@ -345,17 +344,17 @@ By old Pause r ask new = Pauses old.state old r.sequence ask new
 By old Teardown r ask new = TearsDown old.state old r.sequence ask new
 By old GetParameter r ask new = GetsParameter old r ask new
 
-by_method : (taken : TakenRequest) (place : Place) (task : Task)
-    → IsTaskOf taken.old.films place taken.request.url.now task
+by_method : (taken : TakenRequest) (stage : State) (task : Task)
+    → IsTaskOf taken.old.films stage taken.request.url.now task
     → Takes taken.old taken.request (Ok task) taken.ask taken.new
     → By taken.old (method_of task) taken.request taken.ask taken.new
-by_method taken place ToOptions film takes = takes
-by_method taken place (ToDescribe asked) film takes = (asked.authority.now, (asked.film, (film.named, takes)))
-by_method taken place (ToSetup number) film takes = (film.0, (number, (film.1.named, takes)))
-by_method taken place (ToPlay asked) film takes = (asked.authority.now, (asked.film, (film.named, takes)))
-by_method taken place ToPause film takes = takes
-by_method taken place ToTeardown film takes = takes
-by_method taken place ToGetParameter film takes = takes
+by_method taken stage ToOptions film takes = takes
+by_method taken stage (ToDescribe asked) film takes = (asked.authority.now, (asked.film, (film.named, takes)))
+by_method taken stage (ToSetup number) film takes = (film.0, (number, (film.1.named, takes)))
+by_method taken stage (ToPlay asked) film takes = (asked.authority.now, (asked.film, (film.named, takes)))
+by_method taken stage ToPause film takes = takes
+by_method taken stage ToTeardown film takes = takes
+by_method taken stage ToGetParameter film takes = takes
 
 wait_once : (value : Option (List ℕ)) (one other : ℕ) → IsWaitOf value one → IsWaitOf value other → other ≡ one
 wait_once None one other is its = absurd is
@@ -364,8 +363,8 @@ wait_once (Some value) one other is its = within_once its is
 -- what a session with films judges of a request, and again
 record JudgedTwice (old : Standing) (request request' : Request) (a b : Result Task Refusal) : Type 0 where
   films : AreFilms old.films
-  judged : IsJudged old.films old.id (place_of old.state) request a
-  judged_again : IsJudged old.films old.id (place_of old.state) request' b
+  judged : IsJudged old.films old.id old.state request a
+  judged_again : IsJudged old.films old.id old.state request' b
 
 module _ (old : Standing) (message : List ℕ) (ask again : Ask) (one other : Standing) (request request' : Request)
     (alike : AreAlike request request') (number : first_sequence message ≡ Some request.sequence) where
@@ -460,8 +459,8 @@ module _ (old : Standing) (message : List ℕ) (ask again : Ask) (one other : St
       judged.talk.spoken.named in
       let first : TakenRequest = record { old = old; new = one; request = request; ask = ask } in
       let second : TakenRequest = record { old = old; new = other; request = request'; ask = again } in
-      by_once films (method_of a) (by_method first (place_of old.state) a judged.film is)
-      (subst (λ m. By old m request' again other) method (by_method second (place_of old.state) b judged'.film its))
+      by_once films (method_of a) (by_method first old.state a judged.film is)
+      (subst (λ m. By old m request' again other) method (by_method second old.state b judged'.film its))
     where
       open twice use {films, judged, judged_again as judged'}
   takes_once (Ok a) (Err b) twice is its =
@@ -469,7 +468,7 @@ module _ (old : Standing) (message : List ℕ) (ask again : Ask) (one other : St
   takes_once (Err a) (Ok b) twice is its =
       absurd (not_both a (turned request request' alike) twice.judged_again twice.judged)
   takes_once (Err a) (Err b) twice is its =
-      let refusal = refusal_once old.films old.id (place_of old.state) alike twice.judged twice.judged_again in
+      let refusal = refusal_once old.films old.id old.state alike twice.judged twice.judged_again in
       replied_once old message ask again one other _ _
       (ap (λ s. refusal_text (Some s) b (option_of request'.head.now)) alike.sequence
       ∙ ap (λ r. refusal_text (Some request.sequence) r (option_of request'.head.now)) refusal

@@ -7,11 +7,12 @@ use Rattle.rtsp_text.specs.Fields.{header_value}
 use Rattle.rtsp_text.specs.declared.requests.Request.{Request}
 use Rattle.session.specs.declared.methods.Method.{Method}
 use Rattle.session.specs.declared.methods.Method.TheVariants.{Options, Describe, Setup, Play, Pause, Teardown, GetParameter}
-use Rattle.session.specs.declared.refusals.Place.{Place}
+use Rattle.session.specs.declared.states.State.{State as Stage}
 use Rattle.session.specs.declared.refusals.Refusal.{Refusal}
 use Rattle.session.specs.declared.refusals.Refusal.TheVariants.{BadRequest, Version, Method as Unknown, Option as Required, Session, Film, State, Transport, Parameter, Buffer, Range, Memory}
 use Rattle.session.specs.declared.refusals.Task.{Task}
 use Rattle.session.specs.declared.refusals.Task.TheVariants.{Options as ToOptions, Describe as ToDescribe, Setup as ToSetup, Play as ToPlay, Pause as ToPause, Teardown as ToTeardown, GetParameter as ToGetParameter}
+use Rattle.session.specs.Standings.{has_session_in}
 use Rattle.session.specs.Judging.{FitsSession, FitsState, HasFilm, IsJudged, IsTaskOf, method_of, name_of, required_of}
 
 -- a name is that of one method
@@ -71,18 +72,18 @@ rank (Err Memory) = 5
 none_some : (value : Option (List ℕ)) → value ≡ None → is_some value ≡ true → ⊥
 none_some value none some = cc
 
-module _ (films : List Stored) (id : List ℕ) (place : Place) (name url head : List ℕ) where
+module _ (films : List Stored) (id : List ℕ) (stage : Stage) (name url head : List ℕ) where
   abbrev Owns : Method → Type 0
-  Owns m = FitsSession m (is_some place.film) id (header_value head (codes "Session"))
+  Owns m = FitsSession m (has_session_in stage) id (header_value head (codes "Session"))
 
   abbrev HasTime : Method → Type 0
-  HasTime m = FitsState m place (is_some (header_value head (codes "Range")))
+  HasTime m = FitsState m stage (is_some (header_value head (codes "Range")))
 
   abbrev PassesBy : Check → Type 0
   PassesBy ByMethod = (m : Method) × (name ≡ name_of m)
   PassesBy ByOption = required_of head ≡ None
   PassesBy BySession = (m : Method) × ((name ≡ name_of m) × Owns m)
-  PassesBy ByFilm = (m : Method) × ((name ≡ name_of m) × ((m ≡ Options) ⊎ HasFilm films place url m))
+  PassesBy ByFilm = (m : Method) × ((name ≡ name_of m) × ((m ≡ Options) ⊎ HasFilm films stage url m))
   PassesBy ByState = (m : Method) × ((name ≡ name_of m) × HasTime m)
   PassesBy ByNone = ⊥
 
@@ -128,95 +129,95 @@ module _ (films : List Stored) (id : List ℕ) (place : Place) (name url head : 
   before_5 : PassesAll → (k : ℕ) → k < 5 → Passes k
   before_5 passed = below_more Passes 4 (before_4 passed.method passed.free passed.own passed.film) passed.time
 
-film_of : (films : List Stored) (place : Place) (url : List ℕ) (task : Task) → IsTaskOf films place url task
-    → (method_of task ≡ Options) ⊎ HasFilm films place url (method_of task)
-film_of films place url ToOptions is = inl refl
-film_of films place url (ToDescribe asked) is = inr (asked.authority.now, (asked.film, is))
-film_of films place url (ToSetup film) is = inr (is.0, (film, is.1))
-film_of films place url (ToPlay asked) is = inr (asked.authority.now, (asked.film, is))
-film_of films place url ToPause is = inr is
-film_of films place url ToTeardown is = inr is
-film_of films place url ToGetParameter is = inr is
+film_of : (films : List Stored) (stage : Stage) (url : List ℕ) (task : Task) → IsTaskOf films stage url task
+    → (method_of task ≡ Options) ⊎ HasFilm films stage url (method_of task)
+film_of films stage url ToOptions is = inl refl
+film_of films stage url (ToDescribe asked) is = inr (asked.authority.now, (asked.film, is))
+film_of films stage url (ToSetup film) is = inr (is.0, (film, is.1))
+film_of films stage url (ToPlay asked) is = inr (asked.authority.now, (asked.film, is))
+film_of films stage url ToPause is = inr is
+film_of films stage url ToTeardown is = inr is
+film_of films stage url ToGetParameter is = inr is
 
 -- a judgement is by the first that isn't passed
-stops : (films : List Stored) (id : List ℕ) (place : Place) (request : Request) (judgement : Result Task Refusal)
-    → IsJudged films id place request judgement
-    → StopsAt films id place request.method.now request.url.now request.head.now (rank judgement)
-stops films id place request (Ok task) is =
+stops : (films : List Stored) (id : List ℕ) (stage : Stage) (request : Request) (judgement : Result Task Refusal)
+    → IsJudged films id stage request judgement
+    → StopsAt films id stage request.method.now request.url.now request.head.now (rank judgement)
+stops films id stage request (Ok task) is =
     let m = method_of task in
     let spoken = is.talk.spoken in
     record {
-      before = before_5 films id place request.method.now request.url.now request.head.now (record {
+      before = before_5 films id stage request.method.now request.url.now request.head.now (record {
         method = (m, spoken.named);
         free = spoken.free;
         own = (m, (spoken.named, is.talk.session));
-        film = (m, (spoken.named, film_of films place request.url.now task is.film));
+        film = (m, (spoken.named, film_of films stage request.url.now task is.film));
         time = (m, (spoken.named, is.state));
       });
       at = λ no. no;
     }
-stops films id place request (Err BadRequest) is = absurd is
-stops films id place request (Err Version) is = absurd is
-stops films id place request (Err Unknown) is = record {
-  before = before_0 films id place request.method.now request.url.now request.head.now;
+stops films id stage request (Err BadRequest) is = absurd is
+stops films id stage request (Err Version) is = absurd is
+stops films id stage request (Err Unknown) is = record {
+  before = before_0 films id stage request.method.now request.url.now request.head.now;
   at = λ has. is.none has.0 has.1;
 }
-stops films id place request (Err Required) is = record {
-  before = before_1 films id place request.method.now request.url.now request.head.now (is.method, is.named);
+stops films id stage request (Err Required) is = record {
+  before = before_1 films id stage request.method.now request.url.now request.head.now (is.method, is.named);
   at = λ free. none_some (required_of request.head.now) free is.required;
 }
-stops films id place request (Err Session) is =
-    let Fits : Method → Type 0 = λ m. Owns films id place request.method.now request.url.now request.head.now m in
+stops films id stage request (Err Session) is =
+    let Fits : Method → Type 0 = λ m. Owns films id stage request.method.now request.url.now request.head.now m in
     record {
-      before = before_2 films id place request.method.now request.url.now request.head.now
+      before = before_2 films id stage request.method.now request.url.now request.head.now
           (is.method, is.spoken.named) is.spoken.free;
       at = λ own. is.session (subst Fits (method_once request.method.now own.0 is.method own.1.0 is.spoken.named) own.1.1);
     }
-stops films id place request (Err Film) is =
+stops films id stage request (Err Film) is =
     let spoken = is.talk.spoken in
     record {
-      before = before_3 films id place request.method.now request.url.now request.head.now (is.method, spoken.named) spoken.free
+      before = before_3 films id stage request.method.now request.url.now request.head.now (is.method, spoken.named) spoken.free
           (is.method, (spoken.named, is.talk.session));
       at = λ has.
           let same = method_once request.method.now has.0 is.method has.1.0 spoken.named in
           elim has.1.1 [
             | inl options ↦ is.asked (sym same ∙ options)
-            | inr film ↦ is.none (subst (λ (m : Method). HasFilm films place request.url.now m) same film)
+            | inr film ↦ is.none (subst (λ (m : Method). HasFilm films stage request.url.now m) same film)
           ];
     }
-stops films id place request (Err State) is =
+stops films id stage request (Err State) is =
     let spoken = is.talk.spoken in
-    let Fits : Method → Type 0 = λ m. HasTime films id place request.method.now request.url.now request.head.now m in
+    let Fits : Method → Type 0 = λ m. HasTime films id stage request.method.now request.url.now request.head.now m in
     record {
-      before = before_4 films id place request.method.now request.url.now request.head.now (is.method, spoken.named) spoken.free
+      before = before_4 films id stage request.method.now request.url.now request.head.now (is.method, spoken.named) spoken.free
           (is.method, (spoken.named, is.talk.session)) (is.method, (spoken.named, inr is.film));
       at = λ timely. is.state (subst Fits (method_once request.method.now timely.0 is.method timely.1.0 spoken.named) timely.1.1);
     }
-stops films id place request (Err Transport) is = absurd is
-stops films id place request (Err Parameter) is = absurd is
-stops films id place request (Err (Buffer least)) is = absurd is
-stops films id place request (Err Range) is = absurd is
-stops films id place request (Err Memory) is = absurd is
+stops films id stage request (Err Transport) is = absurd is
+stops films id stage request (Err Parameter) is = absurd is
+stops films id stage request (Err (Buffer least)) is = absurd is
+stops films id stage request (Err Range) is = absurd is
+stops films id stage request (Err Memory) is = absurd is
 
 -- a refusal is that of its judgement
 record IsRanked (refusal : Refusal) : Type 0 where
   below : rank (Err refusal) < 5
   is : refusal ≡ refusal_at (rank (Err refusal))
 
-ranked : (films : List Stored) (id : List ℕ) (place : Place) (request : Request) (refusal : Refusal)
-    → IsJudged films id place request (Err refusal) → IsRanked refusal
-ranked films id place request BadRequest is = absurd is
-ranked films id place request Version is = absurd is
-ranked films id place request Unknown is = record { below = omega arith; is = refl }
-ranked films id place request Required is = record { below = omega arith; is = refl }
-ranked films id place request Session is = record { below = omega arith; is = refl }
-ranked films id place request Film is = record { below = omega arith; is = refl }
-ranked films id place request State is = record { below = omega arith; is = refl }
-ranked films id place request Transport is = absurd is
-ranked films id place request Parameter is = absurd is
-ranked films id place request (Buffer least) is = absurd is
-ranked films id place request Range is = absurd is
-ranked films id place request Memory is = absurd is
+ranked : (films : List Stored) (id : List ℕ) (stage : Stage) (request : Request) (refusal : Refusal)
+    → IsJudged films id stage request (Err refusal) → IsRanked refusal
+ranked films id stage request BadRequest is = absurd is
+ranked films id stage request Version is = absurd is
+ranked films id stage request Unknown is = record { below = omega arith; is = refl }
+ranked films id stage request Required is = record { below = omega arith; is = refl }
+ranked films id stage request Session is = record { below = omega arith; is = refl }
+ranked films id stage request Film is = record { below = omega arith; is = refl }
+ranked films id stage request State is = record { below = omega arith; is = refl }
+ranked films id stage request Transport is = absurd is
+ranked films id stage request Parameter is = absurd is
+ranked films id stage request (Buffer least) is = absurd is
+ranked films id stage request Range is = absurd is
+ranked films id stage request Memory is = absurd is
 
 -- the parts of two requests are the same
 pub record AreAlike (request other : Request) : Type 0 where
@@ -236,40 +237,40 @@ turned request other alike = record {
 }
 
 -- the judgements of two requests that are alike
-record TwoVerdicts (request other : Request) (films : List Stored) (id : List ℕ) (place : Place) : Type 0 where
+record TwoVerdicts (request other : Request) (films : List Stored) (id : List ℕ) (stage : Stage) : Type 0 where
   pub a : Result Task Refusal
   pub b : Result Task Refusal
   pub alike : AreAlike request other
-  pub is : IsJudged films id place request a
-  pub its : IsJudged films id place other b
+  pub is : IsJudged films id stage request a
+  pub its : IsJudged films id stage other b
 
-same_rank : {request other : Request} {films : List Stored} {id : List ℕ} {place : Place}
-    (verdicts : TwoVerdicts request other films id place) → rank verdicts.a ≡ rank verdicts.b
-same_rank {request} {other} {films} {id} {place} verdicts =
-    let stop = stops films id place other b its in
-    let by_name = subst (λ (n : List ℕ). StopsAt films id place n other.url.now other.head.now (rank b)) alike.method stop in
-    let by_url = subst (λ (u : List ℕ). StopsAt films id place request.method.now u other.head.now (rank b)) alike.url by_name in
+same_rank : {request other : Request} {films : List Stored} {id : List ℕ} {stage : Stage}
+    (verdicts : TwoVerdicts request other films id stage) → rank verdicts.a ≡ rank verdicts.b
+same_rank {request} {other} {films} {id} {stage} verdicts =
+    let stop = stops films id stage other b its in
+    let by_name = subst (λ (n : List ℕ). StopsAt films id stage n other.url.now other.head.now (rank b)) alike.method stop in
+    let by_url = subst (λ (u : List ℕ). StopsAt films id stage request.method.now u other.head.now (rank b)) alike.url by_name in
     let by_head =
-    subst (λ (h : List ℕ). StopsAt films id place request.method.now request.url.now h (rank b)) alike.head by_url in
-    stops_once films id place request.method.now request.url.now request.head.now (rank a) (rank b)
-    (stops films id place request a is) by_head
+    subst (λ (h : List ℕ). StopsAt films id stage request.method.now request.url.now h (rank b)) alike.head by_url in
+    stops_once films id stage request.method.now request.url.now request.head.now (rank a) (rank b)
+    (stops films id stage request a is) by_head
   where
     open verdicts use {a, b, alike, is, its}
 
-pub refusal_once : {request other : Request} {a b : Refusal} (films : List Stored) (id : List ℕ) (place : Place)
-    → AreAlike request other → IsJudged films id place request (Err a) → IsJudged films id place other (Err b) → b ≡ a
-refusal_once {request} {other} {a} {b} films id place alike is its =
-    let verdicts : TwoVerdicts request other films id place =
+pub refusal_once : {request other : Request} {a b : Refusal} (films : List Stored) (id : List ℕ) (stage : Stage)
+    → AreAlike request other → IsJudged films id stage request (Err a) → IsJudged films id stage other (Err b) → b ≡ a
+refusal_once {request} {other} {a} {b} films id stage alike is its =
+    let verdicts : TwoVerdicts request other films id stage =
     record { a = Err a; b = Err b; alike = alike; is = is; its = its } in
     let same = same_rank verdicts in
-    (ranked films id place other b its).is ∙ ap refusal_at (sym same) ∙ sym (ranked films id place request a is).is
+    (ranked films id stage other b its).is ∙ ap refusal_at (sym same) ∙ sym (ranked films id stage request a is).is
 
-pub not_both : {films : List Stored} {id : List ℕ} {place : Place} {request other : Request} {task : Task}
+pub not_both : {films : List Stored} {id : List ℕ} {stage : Stage} {request other : Request} {task : Task}
     (refusal : Refusal)
-    → AreAlike request other → IsJudged films id place request (Ok task) → IsJudged films id place other (Err refusal) → ⊥
-not_both {films} {id} {place} {request} {other} {task} refusal alike is its =
-    let verdicts : TwoVerdicts request other films id place =
+    → AreAlike request other → IsJudged films id stage request (Ok task) → IsJudged films id stage other (Err refusal) → ⊥
+not_both {films} {id} {stage} {request} {other} {task} refusal alike is its =
+    let verdicts : TwoVerdicts request other films id stage =
     record { a = Ok task; b = Err refusal; alike = alike; is = is; its = its } in
     let same = same_rank verdicts in
-    let below = (ranked films id place other refusal its).below in
+    let below = (ranked films id stage other refusal its).below in
     omega (arith, same, below)

@@ -6,7 +6,6 @@ use Rattle.rtsp_text.specs.declared.requests.Request.{Request}
 use Rattle.rtsp_text.proofs.Once.{no_fault, request_once}
 use Rattle.session.specs.declared.asks.Ask.{Ask}
 use Rattle.session.specs.declared.methods.Method.TheVariants.{Play as PlayMethod}
-use Rattle.session.specs.declared.refusals.Place.{Place}
 use Rattle.session.specs.declared.refusals.Refusal.{Refusal}
 use Rattle.session.specs.declared.refusals.Refusal.TheVariants.{BadRequest, Version, Method, Option as Required, Session, Film, State as NotNow, Transport, Parameter, Buffer, Range, Memory}
 use Rattle.session.specs.declared.refusals.Task.{Task}
@@ -14,32 +13,32 @@ use Rattle.session.specs.declared.refusals.Task.TheVariants.{Options as ToOption
 use Rattle.session.specs.declared.states.State.{State}
 use Rattle.session.specs.Changes.{HasCode}
 use Rattle.session.specs.Hearings.{HearsOn}
-use Rattle.session.specs.Judging.{IsJudged, IsReadAs, option_of, place_of}
+use Rattle.session.specs.Judging.{IsJudged, IsReadAs, option_of}
 use Rattle.session.specs.Methods.{IsRefused, Takes}
 use Rattle.session.specs.PlayLaws.{HasRangeInPlaying, IsElseGood, IsDeclined}
 use Rattle.session.specs.Replies.{code_of, refusal_text}
-use Rattle.session.specs.Standings.{Standing, with_reply}
+use Rattle.session.specs.Standings.{Standing, is_playing_in, with_reply}
 use Rattle.session.proofs.Grounds.{HeardMessage}
 use Rattle.session.proofs.OneVerdict.{AreAlike, refusal_once}
 use Rattle.session.proofs.Refusing.{one_code, own_code, refusal_code}
 
 -- a PLAY with a Range, heard in Playing
-pub record IsRanged (place : Place) (request : Request) : Type 0 where
+pub record IsRanged (stage : State) (request : Request) : Type 0 where
   pub method : request.method.now ≡ codes "PLAY"
   pub range : is_some (header_value request.head.now (codes "Range")) ≡ true
-  pub playing : place.playing ≡ true
+  pub playing : is_playing_in stage ≡ true
 
-never_taken : {films : List Stored} {id : List ℕ} {place : Place} {request : Request} {task : Task} → IsRanged place request
-    → IsJudged films id place request (Ok task) → ⊥
-never_taken {id} {place} {task = ToPlay asked} ranged judged =
+never_taken : {films : List Stored} {id : List ℕ} {stage : State} {request : Request} {task : Task} → IsRanged stage request
+    → IsJudged films id stage request (Ok task) → ⊥
+never_taken {id} {stage} {task = ToPlay asked} ranged judged =
     let none = judged.state ranged.playing in
     let no : ⊥ = cc (none, ranged.range) in no
-never_taken {id} {place} {task = ToOptions} ranged judged = let no : ⊥ = cc (judged.talk.spoken.named, ranged.method) in no
-never_taken {id} {place} {task = ToDescribe asked} ranged judged = let no : ⊥ = cc (judged.talk.spoken.named, ranged.method) in no
-never_taken {id} {place} {task = ToSetup film} ranged judged = let no : ⊥ = cc (judged.talk.spoken.named, ranged.method) in no
-never_taken {id} {place} {task = ToPause} ranged judged = let no : ⊥ = cc (judged.talk.spoken.named, ranged.method) in no
-never_taken {id} {place} {task = ToTeardown} ranged judged = let no : ⊥ = cc (judged.talk.spoken.named, ranged.method) in no
-never_taken {id} {place} {task = ToGetParameter} ranged judged = let no : ⊥ = cc (judged.talk.spoken.named, ranged.method) in no
+never_taken {id} {stage} {task = ToOptions} ranged judged = let no : ⊥ = cc (judged.talk.spoken.named, ranged.method) in no
+never_taken {id} {stage} {task = ToDescribe asked} ranged judged = let no : ⊥ = cc (judged.talk.spoken.named, ranged.method) in no
+never_taken {id} {stage} {task = ToSetup film} ranged judged = let no : ⊥ = cc (judged.talk.spoken.named, ranged.method) in no
+never_taken {id} {stage} {task = ToPause} ranged judged = let no : ⊥ = cc (judged.talk.spoken.named, ranged.method) in no
+never_taken {id} {stage} {task = ToTeardown} ranged judged = let no : ⊥ = cc (judged.talk.spoken.named, ranged.method) in no
+never_taken {id} {stage} {task = ToGetParameter} ranged judged = let no : ⊥ = cc (judged.talk.spoken.named, ranged.method) in no
 
 -- no refusal has the code 200
 not_ok : (refusal : Refusal) → code_of refusal ≡ 200 → ⊥
@@ -83,15 +82,15 @@ same_request message request other is its =
       body = parts.body_is;
     }
 
-ranged_as : (place : Place) (request other : Request) → AreAlike request other → IsRanged place request → IsRanged place other
-ranged_as place request other alike is = record {
+ranged_as : (stage : State) (request other : Request) → AreAlike request other → IsRanged stage request → IsRanged stage other
+ranged_as stage request other alike is = record {
   method = alike.method ∙ is.method;
   range = ap (λ (h : List ℕ). is_some (header_value h (codes "Range"))) alike.head ∙ is.range;
   playing = is.playing;
 }
 
 takes_refused : {old : Standing} {request : Request} {ask : Ask} {new : Standing} (judgement : Result Task Refusal)
-    → IsRanged (place_of old.state) request → IsJudged old.films old.id (place_of old.state) request judgement
+    → IsRanged old.state request → IsJudged old.films old.id old.state request judgement
     → Takes old request judgement ask new → IsDeclined old ask new
 takes_refused {ask} {new} (Ok task) ranged judged takes =
     absurd (never_taken ranged judged)
@@ -99,22 +98,22 @@ takes_refused {request} {ask} {new} (Err refusal) ranged judged takes =
     refused (Some request.sequence) refusal (option_of request.head.now) takes
 
 hears_on_refused : {old : Standing} {message : List ℕ} {ask : Ask} {new : Standing} {request : Request} (lost : Bool)
-    → IsReadAs message request → IsRanged (place_of old.state) request → HearsOn lost old message ask new → IsDeclined old ask new
+    → IsReadAs message request → IsRanged old.state request → HearsOn lost old message ask new → IsDeclined old ask new
 hears_on_refused {ask} {new} true is ranged hears = refused _ Memory [] hears
 hears_on_refused {message} {ask} {new} {request} false is ranged (inl fault) =
     absurd (no_fault fault.fault is fault.is_fault)
 hears_on_refused {old} {message} {ask} {new} {request} false is ranged (inr whole) =
     let alike = same_request message request whole.request is whole.is_request in
-    takes_refused whole.hears.judgement (ranged_as (place_of old.state) request whole.request alike ranged)
+    takes_refused whole.hears.judgement (ranged_as old.state request whole.request alike ranged)
     whole.hears.judged whole.hears.takes
 
 -- what a PLAY with a Range is in Playing
 ranged_in : (old : Standing) (message : List ℕ) (request : Request) → HasRangeInPlaying old message request
-    → IsRanged (place_of old.state) request
+    → IsRanged old.state request
 ranged_in old message request is = record {
   method = is.method;
   range = ap is_some is.range;
-  playing = ap (λ (s : State). (place_of s).playing) is.playing;
+  playing = ap is_playing_in is.playing;
 }
 
 pub range_refused : {request : Request} (heard : HeardMessage) → HasRangeInPlaying heard.old heard.message request
@@ -125,23 +124,23 @@ range_refused {request} heard is =
 -- a PLAY with a Range, heard in Playing, that would else be good, under another reading
 record RangedPlay (old : Standing) (request other : Request) : Type 0 where
   pub alike : AreAlike request other
-  pub ranged : IsRanged (place_of old.state) request
+  pub ranged : IsRanged old.state request
   pub good : IsElseGood PlayMethod old request
 
 -- its code, where no other refusal comes before
 takes_455 : {old : Standing} {request other : Request} (judgement : Result Task Refusal) (ask : Ask) (new : Standing)
-    → RangedPlay old request other → IsJudged old.films old.id (place_of old.state) other judgement
+    → RangedPlay old request other → IsJudged old.films old.id old.state other judgement
     → Takes old other judgement ask new → HasCode 455 new.text
 takes_455 {old} {request} {other} (Ok task) ask new play judged takes =
-    absurd (never_taken (ranged_as (place_of old.state) request other play.alike play.ranged) judged)
+    absurd (never_taken (ranged_as old.state request other play.alike play.ranged) judged)
 takes_455 {old} {request} {other} (Err refusal) ask new play judged takes =
-    let own : IsJudged old.films old.id (place_of old.state) request (Err NotNow) = record {
+    let own : IsJudged old.films old.id old.state request (Err NotNow) = record {
       method = PlayMethod;
       talk = play.good.talk;
       film = play.good.film;
       state = λ timely. let none = timely play.ranged.playing in let no : ⊥ = cc (none, play.ranged.range) in no;
     } in
-    let same : refusal ≡ NotNow = refusal_once old.films old.id (place_of old.state) play.alike own judged in
+    let same : refusal ≡ NotNow = refusal_once old.films old.id old.state play.alike own judged in
     let text : new.text ≡ refusal_text (Some other.sequence) NotNow (option_of other.head.now) =
     ap (λ (s : Standing). s.text) takes.1 ∙ ap (λ r. refusal_text (Some other.sequence) r (option_of other.head.now)) same in
     subst (λ (t : List ℕ). HasCode 455 t) (sym text) (refusal_code (Some other.sequence) NotNow (option_of other.head.now))

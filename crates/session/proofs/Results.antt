@@ -1,5 +1,4 @@
 -- What a message comes to: the one analysis of it by cases, above which the laws stand.
-use Rattle.std.specs.Prelude.{is_none}
 use Rattle.std.proofs.Common.{◌≡◌, ◌≢◌, ℕ, ◌<◌, ◌≤◌, ◌⊎◌, Bool, true, false, List, [], length, Option, Some, None, Result, Ok, Err, codes, refl, sym, subst, inl, inr, arith}
 use Rattle.std.proofs.lemmas.Option.{slice_get_within}
 use Rattle.film_frames.specs.declared.stores.Stored.{Stored}
@@ -28,14 +27,14 @@ use Rattle.session.specs.declared.states.State.{State}
 use Rattle.session.specs.declared.states.State.TheVariants.{Init, Ready, Playing, Stopping}
 use Rattle.session.specs.EndLaws.{IsTeardown}
 use Rattle.session.specs.Hearings.{Hears, HearsOn, is_answered, is_torn}
-use Rattle.session.specs.Judging.{IsJudged, IsReadAs, IsTopic, IsWord, fault_refusal, option_of, place_of}
+use Rattle.session.specs.Judging.{IsJudged, IsReadAs, IsTopic, IsWord, fault_refusal, option_of}
 use Rattle.session.specs.Laws.{IsOfMethod, IsWanting, MayWantMemory}
 use Rattle.session.specs.Methods.{AsksHalt, AsksLook, AsksOffer, AsksOfferOr, AsksPlayOr, Gets, GetsOffer, IsRefused, IsReplied, IsSetUp, Looks, Pauses, Plays, Takes, TearsDown, play_front, prepared_of}
 use Rattle.session.specs.Planning.{IsPlanned, IsPlannedRun}
 use Rattle.session.specs.Ranges.{AreSettings, IsSetup}
 use Rattle.session.specs.Replies.{setup_text}
 use Rattle.session.specs.Setups.{AsksForSetup, IsChosen, IsSetupRead}
-use Rattle.session.specs.Standings.{IsReadyIn, Standing, with_reply}
+use Rattle.session.specs.Standings.{IsReadyIn, Standing, has_session_in, with_reply}
 use Rattle.session.proofs.Playables.{of_film}
 use Rattle.session.proofs.OneHearing.{first_is}
 
@@ -112,7 +111,7 @@ setup_ranges {head} {film} {films} asks within good =
       most_delay = delay.below;
     }
 
-init_of : (state : State) → is_none (place_of state).film ≡ true → state ≡ Init
+init_of : (state : State) → has_session_in state ≡ false → state ≡ Init
 init_of Init none = refl
 init_of (Ready setup paused) none = absurd (let no : ⊥ = cc in no)
 init_of (Playing setup play) none = absurd (let no : ⊥ = cc in no)
@@ -261,7 +260,7 @@ module _ (old : Standing) (message : List ℕ) (ask : Ask) (new : Standing) wher
 
   takes_to : (request : Request) (judgement : Result Task Refusal) → old.lost ≡ false → IsReadAs message request
       → first_sequence message ≡ Some request.sequence
-      → IsJudged old.films old.id (place_of old.state) request judgement → Takes old request judgement ask new → Comes
+      → IsJudged old.films old.id old.state request judgement → Takes old request judgement ask new → Comes
   takes_to request (Ok ToOptions) linked read number judged takes = says request.sequence _ [] takes
   takes_to request (Ok (ToDescribe asked)) linked read number judged takes = says request.sequence _ _ takes.reply
   takes_to request (Ok (ToSetup film)) linked read number judged takes =
@@ -283,7 +282,7 @@ module _ (old : Standing) (message : List ℕ) (ask : Ask) (new : Standing) wher
   takes_to request (Err refusal) linked read number judged takes =
       elim (is_memory refusal) [
         | inl memory ↦
-            absurd (subst (λ r. IsJudged old.films old.id (place_of old.state) request (Err r)) memory judged)
+            absurd (subst (λ r. IsJudged old.films old.id old.state request (Err r)) memory judged)
         | inr other ↦ Refuses (Some request.sequence) refusal (option_of request.head.now) other takes
       ]
 

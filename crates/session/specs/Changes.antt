@@ -17,7 +17,7 @@ use Rattle.session.specs.declared.states.Awaited.TheVariants.{Play}
 use Rattle.session.specs.declared.states.Play.{Play as Played}
 use Rattle.session.specs.declared.states.Setup.{Setup}
 use Rattle.session.specs.declared.states.State.TheVariants.{Ready, Playing}
-use Rattle.session.specs.Judging.{IsJudged, name_of, place_of}
+use Rattle.session.specs.Judging.{IsJudged, name_of}
 use Rattle.session.specs.declared.methods.Method.TheVariants.{Play as PlayMethod}
 use Rattle.session.specs.Methods.{IsRefused, play_front, prepared_of}
 use Rattle.session.specs.Planning.{IsPlanned, IsPlannedRun}
@@ -96,7 +96,7 @@ pub record IsGoodPlay (old : Standing) (setup : Setup) (paused : Option Run) (re
     : Type 0 where
   pub method : request.method.now ≡ name_of PlayMethod
   pub taken : (refusal : Refusal) →
-      ¬ IsJudged old.films old.id (place_of old.state) request (Err refusal)
+      ¬ IsJudged old.films old.id old.state request (Err refusal)
   pub plan : (refusal : Refusal) → refusal ≢ Memory
       → ¬ IsPlanned old setup paused (header_value request.head.now (codes "Range")) (Err refusal)
 

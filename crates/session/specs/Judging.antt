@@ -1,6 +1,6 @@
 -- The refusals that all methods share, in their order (RFC 2326 sections 7.1.1, 10 and 12).
 use Rattle.std.specs.Prelude.{ℕ, ◌≡◌, ◌≢◌, ◌⊎◌, ◌++◌, ⊤, true, false, Bool, List, [], Option, Some}
-use Rattle.std.specs.Prelude.{None, is_some, is_none, codes, Result, Ok, Err}
+use Rattle.std.specs.Prelude.{None, is_some, codes, Result, Ok, Err}
 use Rattle.rtsp_text.specs.Fields.{header_value}
 use Rattle.rtsp_text.specs.Requests.{IsRequest}
 use Rattle.rtsp_text.specs.declared.requests.Request.{Request}
@@ -11,6 +11,7 @@ use Rattle.rtsp_text.specs.declared.requests.RequestFault.TheVariants.{BadLength
 use Rattle.rtsp_fields.specs.Sessions.{IsSession}
 use Rattle.film_frames.specs.declared.stores.Stored.{Stored}
 use Rattle.session.specs.Films.{Names}
+use Rattle.session.specs.Standings.{has_session_in, is_playing_in}
 use Rattle.session.specs.declared.methods.Topic.{Topic}
 use Rattle.session.specs.declared.methods.Topic.TheVariants.{Nothing, Booked, Offer}
 use Rattle.session.specs.declared.methods.Topic.TheVariants.{Unknown as Other}
@@ -20,7 +21,6 @@ use Rattle.session.specs.declared.methods.Method.{Method}
 use Rattle.session.specs.declared.methods.Method.TheVariants.{Options, Describe, Setup, Play, Pause}
 use Rattle.session.specs.declared.methods.Method.TheVariants.{Teardown, GetParameter}
 use Rattle.session.specs.declared.refusals.Asked.{Asked}
-use Rattle.session.specs.declared.refusals.Place.{Place}
 use Rattle.session.specs.declared.refusals.Refusal.{Refusal}
 use Rattle.session.specs.declared.refusals.Refusal.TheVariants.{BadRequest, Version}
 use Rattle.session.specs.declared.refusals.Refusal.TheVariants.{Method as Unknown}
@@ -75,14 +75,14 @@ FitsSession Teardown exists id named = IsOwnSession exists id named ⊥
 FitsSession GetParameter exists id named = IsOwnSession exists id named ⊤
 
 -- a SETUP needs Init, a PLAY with a Range another state than Playing, a PAUSE Playing
-abbrev pub FitsState : Method → Place → Bool → Type 0
-FitsState Options place has_range = ⊤
-FitsState Describe place has_range = ⊤
-FitsState Setup place has_range = is_none place.film ≡ true
-FitsState Play place has_range = place.playing ≡ true → has_range ≡ false
-FitsState Pause place has_range = place.playing ≡ true
-FitsState Teardown place has_range = ⊤
-FitsState GetParameter place has_range = ⊤
+abbrev pub FitsState : Method → Stage → Bool → Type 0
+FitsState Options stage has_range = ⊤
+FitsState Describe stage has_range = ⊤
+FitsState Setup stage has_range = has_session_in stage ≡ false
+FitsState Play stage has_range = is_playing_in stage ≡ true → has_range ≡ false
+FitsState Pause stage has_range = is_playing_in stage ≡ true
+FitsState Teardown stage has_range = ⊤
+FitsState GetParameter stage has_range = ⊤
 
 abbrev pub method_of : Task → Method
 method_of ToOptions = Options
@@ -111,27 +111,22 @@ or_nothing (Some value) = value
 abbrev pub option_of : List ℕ → List ℕ
 option_of head = or_nothing (required_of head)
 
--- where a session stands, as far as refusals go by it
-abbrev pub place_of : Stage → Place
-place_of Init = record { film = None; playing = false }
-place_of (Ready setup paused) = record { film = Some setup.film; playing = false }
-place_of (Playing setup play) = record { film = Some setup.film; playing = true }
-place_of (Stopping setup stop) = record { film = Some setup.film; playing = false }
-
 -- the film is the session's, where there is one
-abbrev pub IsOwnFilm : Option ℕ → ℕ → Type 0
-IsOwnFilm None film = ⊤
-IsOwnFilm (Some own) film = film ≡ own
+abbrev pub IsOwnFilm : Stage → ℕ → Type 0
+IsOwnFilm Init film = ⊤
+IsOwnFilm (Ready setup paused) film = film ≡ setup.film
+IsOwnFilm (Playing setup play) film = film ≡ setup.film
+IsOwnFilm (Stopping setup stop) film = film ≡ setup.film
 
 -- any film can be described; what else is asked is asked of the session's
-abbrev pub FitsFilm : Method → Place → ℕ → Type 0
-FitsFilm Options place film = ⊤
-FitsFilm Describe place film = ⊤
-FitsFilm Setup place film = IsOwnFilm place.film film
-FitsFilm Play place film = IsOwnFilm place.film film
-FitsFilm Pause place film = IsOwnFilm place.film film
-FitsFilm Teardown place film = IsOwnFilm place.film film
-FitsFilm GetParameter place film = IsOwnFilm place.film film
+abbrev pub FitsFilm : Method → Stage → ℕ → Type 0
+FitsFilm Options stage film = ⊤
+FitsFilm Describe stage film = ⊤
+FitsFilm Setup stage film = IsOwnFilm stage film
+FitsFilm Play stage film = IsOwnFilm stage film
+FitsFilm Pause stage film = IsOwnFilm stage film
+FitsFilm Teardown stage film = IsOwnFilm stage film
+FitsFilm GetParameter stage film = IsOwnFilm stage film
 
 -- a request has one of the seven methods and requires no option: it is judged by its session
 pub record IsSpoken (request : Request) (method : Method) : Type 0 where
@@ -139,46 +134,46 @@ pub record IsSpoken (request : Request) (method : Method) : Type 0 where
   pub free : required_of request.head.now ≡ None
 
 -- its session fits too: it is judged by its film
-pub record IsOwnTalk (id : List ℕ) (place : Place) (request : Request) (method : Method)
+pub record IsOwnTalk (id : List ℕ) (stage : Stage) (request : Request) (method : Method)
     : Type 0 where
   pub spoken : IsSpoken request method
-  pub session : FitsSession method (is_some place.film) id
+  pub session : FitsSession method (has_session_in stage) id
       (header_value request.head.now (codes "Session"))
 
 -- its URL names a film that it can be asked of
-pub record IsOnFilm (films : List Stored) (place : Place) (url : List ℕ) (method : Method)
+pub record IsOnFilm (films : List Stored) (stage : Stage) (url : List ℕ) (method : Method)
     (authority : List ℕ) (film : ℕ) : Type 0 where
   pub named : Names films url authority film
-  pub own : FitsFilm method place film
+  pub own : FitsFilm method stage film
 
-abbrev pub HasFilm : List Stored → Place → List ℕ → Method → Type 0
-HasFilm films place url method = (authority : List ℕ)
-    × ((film : ℕ) × IsOnFilm films place url method authority film)
+abbrev pub HasFilm : List Stored → Stage → List ℕ → Method → Type 0
+HasFilm films stage url method = (authority : List ℕ)
+    × ((film : ℕ) × IsOnFilm films stage url method authority film)
 
 -- a task is asked of the film that the URL names
-abbrev pub IsTaskOf : List Stored → Place → List ℕ → Task → Type 0
-IsTaskOf films place url ToOptions = ⊤
-IsTaskOf films place url (ToDescribe asked) =
-    IsOnFilm films place url Describe asked.authority.now asked.film
-IsTaskOf films place url (ToSetup film) = (authority : List ℕ)
-    × IsOnFilm films place url Setup authority film
-IsTaskOf films place url (ToPlay asked) =
-    IsOnFilm films place url Play asked.authority.now asked.film
-IsTaskOf films place url ToPause = HasFilm films place url Pause
-IsTaskOf films place url ToTeardown = HasFilm films place url Teardown
-IsTaskOf films place url ToGetParameter = HasFilm films place url GetParameter
+abbrev pub IsTaskOf : List Stored → Stage → List ℕ → Task → Type 0
+IsTaskOf films stage url ToOptions = ⊤
+IsTaskOf films stage url (ToDescribe asked) =
+    IsOnFilm films stage url Describe asked.authority.now asked.film
+IsTaskOf films stage url (ToSetup film) = (authority : List ℕ)
+    × IsOnFilm films stage url Setup authority film
+IsTaskOf films stage url (ToPlay asked) =
+    IsOnFilm films stage url Play asked.authority.now asked.film
+IsTaskOf films stage url ToPause = HasFilm films stage url Pause
+IsTaskOf films stage url ToTeardown = HasFilm films stage url Teardown
+IsTaskOf films stage url ToGetParameter = HasFilm films stage url GetParameter
 
 -- the state fits, as far as the method and a Range go
-abbrev pub IsTimely : Place → Request → Method → Type 0
-IsTimely place request method =
-    FitsState method place (is_some (header_value request.head.now (codes "Range")))
+abbrev pub IsTimely : Stage → Request → Method → Type 0
+IsTimely stage request method =
+    FitsState method stage (is_some (header_value request.head.now (codes "Range")))
 
 -- a request that is taken up
-pub record IsTaken (films : List Stored) (id : List ℕ) (place : Place) (request : Request)
+pub record IsTaken (films : List Stored) (id : List ℕ) (stage : Stage) (request : Request)
     (task : Task) : Type 0 where
-  pub talk : IsOwnTalk id place request (method_of task)
-  pub film : IsTaskOf films place request.url.now task
-  pub state : IsTimely place request (method_of task)
+  pub talk : IsOwnTalk id stage request (method_of task)
+  pub film : IsTaskOf films stage request.url.now task
+  pub state : IsTimely stage request (method_of task)
 
 -- why a request is refused: the first of these that holds
 pub record IsUnknownMethod (request : Request) : Type 0 where
@@ -189,41 +184,41 @@ pub record RequiresOption (request : Request) : Type 0 where
   pub named : request.method.now ≡ name_of method
   pub required : is_some (required_of request.head.now) ≡ true
 
-pub record IsOtherSession (id : List ℕ) (place : Place) (request : Request) : Type 0 where
+pub record IsOtherSession (id : List ℕ) (stage : Stage) (request : Request) : Type 0 where
   pub method : Method
   pub spoken : IsSpoken request method
-  pub session : ¬ FitsSession method (is_some place.film) id
+  pub session : ¬ FitsSession method (has_session_in stage) id
       (header_value request.head.now (codes "Session"))
 
-pub record IsOtherFilm (films : List Stored) (id : List ℕ) (place : Place) (request : Request)
+pub record IsOtherFilm (films : List Stored) (id : List ℕ) (stage : Stage) (request : Request)
     : Type 0 where
   pub method : Method
-  pub talk : IsOwnTalk id place request method
+  pub talk : IsOwnTalk id stage request method
   pub asked : method ≢ Options
-  pub none : ¬ HasFilm films place request.url.now method
+  pub none : ¬ HasFilm films stage request.url.now method
 
-pub record IsUntimely (films : List Stored) (id : List ℕ) (place : Place) (request : Request)
+pub record IsUntimely (films : List Stored) (id : List ℕ) (stage : Stage) (request : Request)
     : Type 0 where
   pub method : Method
-  pub talk : IsOwnTalk id place request method
-  pub film : HasFilm films place request.url.now method
-  pub state : ¬ IsTimely place request method
+  pub talk : IsOwnTalk id stage request method
+  pub film : HasFilm films stage request.url.now method
+  pub state : ¬ IsTimely stage request method
 
 -- the judgement of a well formed request
-abbrev pub IsJudged : List Stored → List ℕ → Place → Request → Result Task Refusal → Type 0
-IsJudged films id place request (Ok task) = IsTaken films id place request task
-IsJudged films id place request (Err BadRequest) = ⊥
-IsJudged films id place request (Err Version) = ⊥
-IsJudged films id place request (Err Unknown) = IsUnknownMethod request
-IsJudged films id place request (Err Required) = RequiresOption request
-IsJudged films id place request (Err Session) = IsOtherSession id place request
-IsJudged films id place request (Err Film) = IsOtherFilm films id place request
-IsJudged films id place request (Err State) = IsUntimely films id place request
-IsJudged films id place request (Err Transport) = ⊥
-IsJudged films id place request (Err Parameter) = ⊥
-IsJudged films id place request (Err (Buffer least)) = ⊥
-IsJudged films id place request (Err Range) = ⊥
-IsJudged films id place request (Err Memory) = ⊥
+abbrev pub IsJudged : List Stored → List ℕ → Stage → Request → Result Task Refusal → Type 0
+IsJudged films id stage request (Ok task) = IsTaken films id stage request task
+IsJudged films id stage request (Err BadRequest) = ⊥
+IsJudged films id stage request (Err Version) = ⊥
+IsJudged films id stage request (Err Unknown) = IsUnknownMethod request
+IsJudged films id stage request (Err Required) = RequiresOption request
+IsJudged films id stage request (Err Session) = IsOtherSession id stage request
+IsJudged films id stage request (Err Film) = IsOtherFilm films id stage request
+IsJudged films id stage request (Err State) = IsUntimely films id stage request
+IsJudged films id stage request (Err Transport) = ⊥
+IsJudged films id stage request (Err Parameter) = ⊥
+IsJudged films id stage request (Err (Buffer least)) = ⊥
+IsJudged films id stage request (Err Range) = ⊥
+IsJudged films id stage request (Err Memory) = ⊥
 
 -- the refusal of a message that is no request
 abbrev pub fault_refusal : RequestFault → Refusal

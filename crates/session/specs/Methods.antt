@@ -40,7 +40,7 @@ use Rattle.session.specs.declared.states.State.{State}
 use Rattle.session.specs.declared.states.State.TheVariants.{Init, Ready, Playing, Stopping}
 use Rattle.session.specs.Films.{IsFilmAt, counts_after, identity_of, length_ms, milliseconds_at}
 use Rattle.session.specs.Films.{sending_of, timestamp_at}
-use Rattle.session.specs.Judging.{IsJudged, IsTopic, option_of, place_of}
+use Rattle.session.specs.Judging.{IsJudged, IsTopic, option_of}
 use Rattle.session.specs.Replies.{describe_text, plain_text, play_fields, public_text, refusal_text}
 use Rattle.session.specs.Replies.{session_text, setup_text}
 use Rattle.session.specs.Setups.{IsSetupRead}
@@ -276,5 +276,5 @@ Takes old request (Err refusal) ask new =
 pub record HearsRequest (old : Standing) (request : Request) (ask : Ask) (new : Standing)
     : Type 0 where
   pub judgement : Result Task Refusal
-  pub judged : IsJudged old.films old.id (place_of old.state) request judgement
+  pub judged : IsJudged old.films old.id old.state request judgement
   pub takes : Takes old request judgement ask new

@@ -26,7 +26,7 @@ use Rattle.session.specs.declared.states.Play.{Play as Played}
 use Rattle.session.specs.declared.states.Setup.{Setup}
 use Rattle.session.specs.declared.states.State.TheVariants.{Playing}
 use Rattle.session.specs.Changes.{HasCode}
-use Rattle.session.specs.Judging.{HasFilm, IsOwnTalk, IsReadAs, place_of}
+use Rattle.session.specs.Judging.{HasFilm, IsOwnTalk, IsReadAs}
 use Rattle.session.specs.Laws.{GoesOn}
 use Rattle.session.specs.Films.{sending_of}
 use Rattle.session.specs.Standings.{HaltAnswer, IsAtRest, Standing, awaited_answer, with_reply}
@@ -52,8 +52,8 @@ pub record IsDeclined (old : Standing) (ask : Ask) (new : Standing) : Type 0 whe
 -- option, and names the session and the session's film
 pub record IsElseGood (method : Method) (old : Standing) (request : Request) : Type 0 where
   pub linked : old.lost ≡ false
-  pub talk : IsOwnTalk old.id (place_of old.state) request method
-  pub film : HasFilm old.films (place_of old.state) request.url.now method
+  pub talk : IsOwnTalk old.id old.state request method
+  pub film : HasFilm old.films old.state request.url.now method
 
 -- a halt keeps what was sent up to the first boundary that is reached
 abbrev pub KeepsToBoundary : Played → ℕ → Type 0

@@ -1,8 +1,8 @@
 -- What is known of a request that is taken up.
-use Rattle.std.specs.Prelude.{ℕ, ◌≡◌, ◌<◌, ◌≤◌, ⊤, true, Bool, None, is_some, length}
+use Rattle.std.specs.Prelude.{ℕ, ◌≡◌, ◌<◌, ◌≤◌, ⊤, false, true, Bool, length}
 use Rattle.rtsp_text.specs.Lines.{is_one_line}
 use Rattle.session.specs.declared.refusals.Asked.{Asked}
-use Rattle.session.specs.declared.refusals.Place.{Place}
+use Rattle.session.specs.Standings.{has_session_in, is_playing_in}
 use Rattle.session.specs.declared.refusals.Task.{Task}
 use Rattle.session.specs.declared.refusals.Task.TheVariants.{Options as ToOptions}
 use Rattle.session.specs.declared.refusals.Task.TheVariants.{Describe as ToDescribe}
@@ -10,6 +10,7 @@ use Rattle.session.specs.declared.refusals.Task.TheVariants.{Setup as ToSetup, P
 use Rattle.session.specs.declared.refusals.Task.TheVariants.{Pause as ToPause}
 use Rattle.session.specs.declared.refusals.Task.TheVariants.{Teardown as ToTeardown}
 use Rattle.session.specs.declared.refusals.Task.TheVariants.{GetParameter as ToGetParameter}
+use Rattle.session.specs.declared.states.State.{State}
 use Rattle.session.specs.declared.methods.Method.{Method}
 use Rattle.session.specs.declared.methods.Method.TheVariants.{Options, Describe, Setup, Play, Pause}
 use Rattle.session.specs.declared.methods.Method.TheVariants.{Teardown, GetParameter}
@@ -31,21 +32,21 @@ NeedsSession Teardown exists = exists ≡ true
 NeedsSession GetParameter exists = ⊤
 
 -- a SETUP has none, and a PAUSE is Playing
-abbrev pub IsValid : Method → Place → Type 0
-IsValid Options place = ⊤
-IsValid Describe place = ⊤
-IsValid Setup place = place.film ≡ None
-IsValid Play place = ⊤
-IsValid Pause place = place.playing ≡ true
-IsValid Teardown place = ⊤
-IsValid GetParameter place = ⊤
+abbrev pub IsValid : Method → State → Type 0
+IsValid Options state = ⊤
+IsValid Describe state = ⊤
+IsValid Setup state = has_session_in state ≡ false
+IsValid Play state = ⊤
+IsValid Pause state = is_playing_in state ≡ true
+IsValid Teardown state = ⊤
+IsValid GetParameter state = ⊤
 
 -- a SETUP makes the first session; a PLAY, a PAUSE and a TEARDOWN have one; a PAUSE is Playing
-abbrev pub IsTask : ℕ → Place → Task → Type 0
-IsTask films place ToOptions = ⊤
-IsTask films place (ToDescribe asked) = IsAsked films asked
-IsTask films place (ToSetup film) = (film < films) × (place.film ≡ None)
-IsTask films place (ToPlay asked) = IsAsked films asked × is_some place.film ≡ true
-IsTask films place ToPause = place.playing ≡ true
-IsTask films place ToTeardown = is_some place.film ≡ true
-IsTask films place ToGetParameter = ⊤
+abbrev pub IsTask : ℕ → State → Task → Type 0
+IsTask films state ToOptions = ⊤
+IsTask films state (ToDescribe asked) = IsAsked films asked
+IsTask films state (ToSetup film) = (film < films) × (has_session_in state ≡ false)
+IsTask films state (ToPlay asked) = IsAsked films asked × has_session_in state ≡ true
+IsTask films state ToPause = is_playing_in state ≡ true
+IsTask films state ToTeardown = has_session_in state ≡ true
+IsTask films state ToGetParameter = ⊤

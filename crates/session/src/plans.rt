@@ -5,7 +5,7 @@ ghost use Rattle.film_run.specs.Plans.{IsPlayback};
 ghost use Rattle.session.specs.Films.{OfFilm};
 ghost use Rattle.session.specs.Planning.{IsPausedIn, IsPlanned};
 ghost use Rattle.session.specs.Playing.{IsAskedRun, IsPlayable, IsRunOf, counts_before, counts_for};
-ghost use Rattle.session.specs.Playing.{curve_refusal, playback_of, run_of};
+ghost use Rattle.session.specs.Playing.{playback_of, run_of};
 ghost use Rattle.session.specs.Ranges.{AreSettings, IsSetup};
 
 use crate::films::{counts_after, frames_of, picture_time, stored_at};
@@ -18,7 +18,6 @@ use film_frames::Stored;
 use film_run::{Playback, Run, plan_of};
 use mpeg_scan::Film;
 use plan_cert::Plan;
-use wire_curve::{CurveFault, CurveRefused};
 
 /// A run that is to be sent, what was sent before it, and the plan by which it is sent.
 #[derive(Drop)]
@@ -69,24 +68,8 @@ impl<'a> Session<'a> {
         };
         let (run, counts) = run_and_counts(stored, self.source, setup, self.counts, paused, wanted);
         let playback = playback_of(&stored.film, &self.settings, setup);
-        match plan_of(self.alloc, stored, &playback, &run) {
-            Ok(plan) => Ok(Planned { run, counts, plan }),
-            Err(refused) => Err(refusal_of(refused)),
-        }
-    }
-}
-
-/// The refusal of a play whose units have no curves.
-fn refusal_of(refused: CurveRefused) -> Refusal
-    ensures { result ≡ curve_refusal refused }
-{
-    match refused {
-        CurveRefused::NoMemory => Refusal::Memory,
-        CurveRefused::Fault(fault) => match fault {
-            CurveFault::NoPictures => Refusal::Range,
-            CurveFault::TooManySlots { .. } => Refusal::Range,
-            CurveFault::BufferTooSmall { least, .. } => Refusal::Buffer(least),
-        },
+        let plan = plan_of(self.alloc, stored, &playback, &run)?;
+        Ok(Planned { run, counts, plan })
     }
 }
 

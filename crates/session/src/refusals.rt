@@ -1,21 +1,25 @@
 //! Whether a request can be done, and the refusal where it can't.
 
-ghost use Rattle.std.specs.Prelude.{◌≡◌, ◌≢◌, ◌<◌, ◌≤◌, ℕ, true, List, length, is_some};
-ghost use Rattle.std.specs.Prelude.{string_bytes, IfOk, IsTrue, IfSome, MatchOption, ◌↔◌};
+ghost use Rattle.std.specs.Prelude.{◌≡◌, ◌<◌, ◌≤◌, ℕ, true, List, length};
+ghost use Rattle.std.specs.Prelude.{IfOk, IsTrue, IfSome, MatchOption, ◌↔◌};
 ghost use Rattle.std.specs.Prelude.{option_map, IfErr, Err};
 ghost use Rattle.film_frames.specs.declared.stores.Stored.{Stored};
 ghost use Rattle.session.specs.Films.{IsFilmNamed, Names};
 ghost use Rattle.session.specs.Judging.{FitsFilm, FitsSession, FitsState, HasFilm, IsJudged};
 ghost use Rattle.session.specs.Judging.{IsOnFilm, IsOwnTalk, fault_refusal, option_of, required_of};
 ghost use Rattle.session.specs.Judging.{task_for};
+ghost use Rattle.session.specs.Playing.{curve_refusal};
 ghost use Rattle.session.specs.Ranges.{AreFilms};
+ghost use Rattle.session.specs.Standings.{has_session_in};
 ghost use Rattle.rtsp_text.specs.Lines.{is_one_line};
 ghost use Rattle.session.specs.Tasks.{IsAsked, IsTask, IsValid, NeedsSession};
 
 use crate::methods::{Method, read_method};
+use crate::states::State;
 use film_frames::Stored;
 use rtsp_fields::{read_url, session_matches};
 use rtsp_text::{Request, RequestFault, header};
+use wire_curve::{CurveFault, CurveRefused};
 
 /// Why a request is refused; none changes the state (RFC 2326 section 7.1.1).
 #[derive(Clone, Copy)]
@@ -74,25 +78,34 @@ pub(crate) enum Task<'m> {
     GetParameter,
 }
 
-/// Where a session stands, as far as refusals go by it.
-#[derive(Clone, Copy)]
-pub(crate) struct Place {
-    /// The film of the session, where there is one.
-    pub(crate) film: Option<usize>,
-    /// Whether it is Playing.
-    pub(crate) playing: bool,
+impl From<RequestFault> for Refusal {
+    ghost from_gives = { λ fault refusal. refusal ≡ fault_refusal fault };
+
+    /// The refusal of a request that isn't well formed.
+    fn from(fault: RequestFault) -> Refusal {
+        match fault {
+            RequestFault::BadLine => Refusal::BadRequest,
+            RequestFault::BadVersion => Refusal::Version,
+            RequestFault::BadHeader(_) => Refusal::BadRequest,
+            RequestFault::NoSequenceNumber => Refusal::BadRequest,
+            RequestFault::BadLength => Refusal::BadRequest,
+        }
+    }
 }
 
-/// The refusal of a request that isn't well formed.
-pub(crate) fn refusal_of(fault: RequestFault) -> Refusal
-    ensures { result ≡ fault_refusal fault }
-{
-    match fault {
-        RequestFault::BadLine => Refusal::BadRequest,
-        RequestFault::BadVersion => Refusal::Version,
-        RequestFault::BadHeader(_) => Refusal::BadRequest,
-        RequestFault::NoSequenceNumber => Refusal::BadRequest,
-        RequestFault::BadLength => Refusal::BadRequest,
+impl From<CurveRefused> for Refusal {
+    ghost from_gives = { λ refused refusal. refusal ≡ curve_refusal refused };
+
+    /// The refusal of a play whose units have no curves.
+    fn from(refused: CurveRefused) -> Refusal {
+        match refused {
+            CurveRefused::NoMemory => Refusal::Memory,
+            CurveRefused::Fault(fault) => match fault {
+                CurveFault::NoPictures => Refusal::Range,
+                CurveFault::TooManySlots { .. } => Refusal::Range,
+                CurveFault::BufferTooSmall { least, .. } => Refusal::Buffer(least),
+            },
+        }
     }
 }
 
@@ -113,33 +126,33 @@ pub(crate) fn option_of<'m>(request: &Request<'m>) -> &'m [u8]
 pub(crate) fn judge<'m>(
     films: &[Stored],
     id: &[u8; 16],
-    place: Place,
+    state: &State<'_>,
     request: &Request<'m>,
 ) -> Result<Task<'m>, Refusal>
     requires films { AreFilms films.now }
     requires url { length request.now.url.now ≤ 16384 }
-    ensures task { IfOk result (IsTask (length films.now) place) }
-    ensures judged { IsJudged films.now id.now place request.now result }
+    ensures task { IfOk result (IsTask (length films.now) state.now) }
+    ensures judged { IsJudged films.now id.now state.now request.now result }
 {
-    let method = own_method(id, place, request)?;
+    let method = own_method(id, state, request)?;
     if let Method::Options = method {
         return Ok(Task::Options);
     }
-    let Some(asked) = own_film(films, place, method, request.url) else {
+    let Some(asked) = own_film(films, state, method, request.url) else {
         return Err(Refusal::Film);
     };
-    if !is_valid(method, place, header(request, b"Range").is_some()) {
+    if !is_valid(method, state, header(request, b"Range").is_some()) {
         return Err(Refusal::State);
     }
-    Ok(task_of(films.len(), place, method, asked))
+    Ok(task_of(method, asked))
 }
 
 /// The method of a request that requires no option and whose session fits.
-fn own_method(id: &[u8; 16], place: Place, request: &Request<'_>) -> Result<Method, Refusal>
-    ensures talk { IfOk result (IsOwnTalk id.now place request.now) }
-    ensures needs { IfOk result (λ method. NeedsSession method (is_some place.film)) }
+fn own_method(id: &[u8; 16], state: &State<'_>, request: &Request<'_>) -> Result<Method, Refusal>
+    ensures talk { IfOk result (IsOwnTalk id.now state.now request.now) }
+    ensures needs { IfOk result (λ method. NeedsSession method (has_session_in state.now)) }
     ensures refused { IfErr result (λ refusal. (films : List Stored) →
-        IsJudged films id.now place request.now (Err refusal)) }
+        IsJudged films id.now state.now request.now (Err refusal)) }
 {
     let Some(method) = read_method(request.method) else {
         return Err(Refusal::Method);
@@ -147,27 +160,27 @@ fn own_method(id: &[u8; 16], place: Place, request: &Request<'_>) -> Result<Meth
     if required_options(request).is_some() {
         return Err(Refusal::Option);
     }
-    if !has_session(
-        method,
-        place.film.is_some(),
-        id,
-        header(request, b"Session"),
-    ) {
+    if !fits_session(method, state.has_session(), id, header(request, b"Session")) {
         return Err(Refusal::Session);
     }
     Ok(method)
 }
 
 /// The film that a URL names, where the method can be asked of it.
-fn own_film<'m>(films: &[Stored], place: Place, method: Method, url: &'m [u8]) -> Option<Asked<'m>>
+fn own_film<'m>(
+    films: &[Stored],
+    state: &State<'_>,
+    method: Method,
+    url: &'m [u8],
+) -> Option<Asked<'m>>
     requires films { AreFilms films.now }
     requires short { length url.now ≤ 16384 }
-    ensures film { MatchOption result (¬ HasFilm films.now place url.now method)
-        (λ asked. IsOnFilm films.now place url.now method asked.authority.now asked.film) }
+    ensures film { MatchOption result (¬ HasFilm films.now state.now url.now method)
+        (λ asked. IsOnFilm films.now state.now url.now method asked.authority.now asked.film) }
     ensures asked { IfSome result (IsAsked (length films.now)) }
 {
     let asked = asked_film(films, url)?;
-    if is_own(method, place, asked.film) {
+    if is_own(method, state, asked.film) {
         Some(asked)
     } else {
         None
@@ -187,7 +200,7 @@ fn required_options<'m>(request: &Request<'m>) -> Option<&'m [u8]>
 }
 
 /// Whether the session that a request names, or names not, goes with its method.
-fn has_session(method: Method, exists: bool, id: &[u8; 16], named: Option<&[u8]>) -> bool
+fn fits_session(method: Method, exists: bool, id: &[u8; 16], named: Option<&[u8]>) -> bool
     ensures fits { IsTrue result ↔
         FitsSession method exists id.now (option_map (λ value. value.now) named.entry) }
     ensures needs { IsTrue result → NeedsSession method exists }
@@ -240,10 +253,15 @@ fn asked_film<'m>(films: &[Stored], url: &'m [u8]) -> Option<Asked<'m>>
 
 /// Whether a method may be asked of that film: it is the session's, or there is none, or it is to
 /// be described.
-fn is_own(method: Method, place: Place, film: usize) -> bool
-    ensures { IsTrue result ↔ FitsFilm method place film }
+fn is_own(method: Method, state: &State<'_>, film: usize) -> bool
+    ensures { IsTrue result ↔ FitsFilm method state.now film }
 {
-    let own = place.film.is_none_or(|own| film == own);
+    let own = match state {
+        State::Init => true,
+        State::Ready(setup, _) => film == setup.film,
+        State::Playing(setup, _) => film == setup.film,
+        State::Stopping(setup, _) => film == setup.film,
+    };
     match method {
         Method::Options | Method::Describe => true,
         _ => own,
@@ -251,28 +269,22 @@ fn is_own(method: Method, place: Place, film: usize) -> bool
 }
 
 /// Whether a method is valid in a state.
-fn is_valid(method: Method, place: Place, has_range: bool) -> bool
-    ensures fits { IsTrue result ↔ FitsState method place has_range }
-    ensures valid { IsTrue result → IsValid method place }
+fn is_valid(method: Method, state: &State<'_>, has_range: bool) -> bool
+    ensures fits { IsTrue result ↔ FitsState method state.now has_range }
+    ensures valid { IsTrue result → IsValid method state.now }
 {
     match method {
-        Method::Setup => place.film.is_none(),
-        Method::Play => !place.playing || !has_range,
-        Method::Pause => place.playing,
+        Method::Setup => !state.has_session(),
+        Method::Play => !state.is_playing() || !has_range,
+        Method::Pause => state.is_playing(),
         _ => true,
     }
 }
 
-/// What a valid request of a method asks to be done.
-fn task_of(films: usize, place: Place, method: Method, asked: Asked<'_>) -> Task<'_>
-    requires asked { IsAsked films asked }
-    requires session { NeedsSession method (is_some place.film) }
-    requires valid { IsValid method place }
-    ensures task { IsTask films place result }
-    ensures exact { result ≡ task_for method asked.entry }
+/// What a request of a method asks to be done.
+fn task_of(method: Method, asked: Asked<'_>) -> Task<'_>
+    ensures { result ≡ task_for method asked.entry }
 {
-    // only the contract speaks of these two
-    let _ = (films, place);
     match method {
         Method::Options => Task::Options,
         Method::Describe => Task::Describe(asked),

@@ -1,6 +1,6 @@
 //! Requests, method by method.
 
-ghost use Rattle.std.specs.Prelude.{◌≡◌, ◌<◌, ◌≤◌, ℕ, true, false, length, is_some, IfOk, IfSome};
+ghost use Rattle.std.specs.Prelude.{◌≡◌, ◌<◌, ◌≤◌, ℕ, true, false, length, IfOk, IfSome};
 ghost use Rattle.std.specs.Prelude.{MatchOption, IfNone, OnOk, Ok, None, [], ◌+◌};
 ghost use Rattle.interleave.specs.Pieces.{IsRequestLength};
 ghost use Rattle.rtsp_text.specs.Lines.{is_one_line};
@@ -9,7 +9,6 @@ ghost use Rattle.session.specs.Hearings.{Hears};
 ghost use Rattle.session.specs.Playing.{IsPlayable};
 ghost use Rattle.session.specs.Ranges.{IsSetup};
 ghost use Rattle.session.specs.Films.{OfFilm};
-ghost use Rattle.session.specs.Judging.{place_of};
 ghost use Rattle.session.specs.Logs.{IsSameLists};
 ghost use Rattle.session.specs.Methods.{AsksOfferOr, AsksPlayOr, Describes, GetsParameter, HasWait};
 ghost use Rattle.session.specs.Methods.{HearsRequest, Looks, GetsOffer, OffersReady};
@@ -27,7 +26,7 @@ use crate::films::{frames_of, length_ms, stored_at};
 use crate::logs::Log;
 use crate::methods::{Topic, read_topic};
 use crate::plans::{Planned, playback_of};
-use crate::refusals::{Place, Refusal, Task, judge, option_of, refusal_of};
+use crate::refusals::{Refusal, Task, judge, option_of};
 use crate::replies::{
     info_of, put_description, put_plain, put_play, put_public, put_refusal, put_session, put_setup,
 };
@@ -64,7 +63,7 @@ impl<'a> Session<'a> {
         }
         match read_request(message) {
             Ok(request) => self.hear_request(&request),
-            Err(fault) => self.refuse(sequence_of(message), refusal_of(fault), b""),
+            Err(fault) => self.refuse(sequence_of(message), fault.into(), b""),
         }
     }
 
@@ -77,7 +76,7 @@ impl<'a> Session<'a> {
         ensures asks { AsksFor result self.new }
         ensures same { IsSameBusiness self.old self.new }
     {
-        match judge(self.films, &self.id, self.place(), request) {
+        match judge(self.films, &self.id, &self.state, request) {
             Ok(task) => self.take_up(request, task),
             Err(refusal) => self.refuse(Some(request.sequence), refusal, option_of(request)),
         }
@@ -86,7 +85,7 @@ impl<'a> Session<'a> {
     /// Takes up a request by its method.
     fn take_up(&mut self, request: &Request<'_>, task: Task<'_>) -> Ask
         requires hear { CanHear self.old }
-        requires task { IsTask (length self.old.films) (place_of self.old.state) task }
+        requires task { IsTask (length self.old.films) self.old.state task }
         ensures takes { Takes self.old request.now (Ok task.entry) result self.new }
         ensures asks { AsksFor result self.new }
         ensures same { IsSameBusiness self.old self.new }
@@ -103,28 +102,6 @@ impl<'a> Session<'a> {
             Task::Pause => self.pause(sequence),
             Task::Teardown => self.tear_down(sequence),
             Task::GetParameter => self.get_parameter(request),
-        }
-    }
-
-    /// Where the session stands, as far as refusals go by it.
-    fn place(&self) -> Place
-        ensures place { result ≡ place_of self.now.state }
-        ensures film { is_some result.film ≡ has_session_in self.now.state }
-        ensures playing { result.playing ≡ is_playing_in self.now.state }
-    {
-        match &self.state {
-            State::Init => Place {
-                film: None,
-                playing: false,
-            },
-            State::Playing(setup, _) => Place {
-                film: Some(setup.film),
-                playing: true,
-            },
-            State::Ready(setup, _) | State::Stopping(setup, _) => Place {
-                film: Some(setup.film),
-                playing: false,
-            },
         }
     }
 
@@ -323,7 +300,7 @@ impl<'a> Session<'a> {
         ensures same { IsSameBusiness self.old self.new }
     {
         let looks_left = self.looks_left.saturating_sub(1);
-        let open = usize::from(self.place().playing);
+        let open = usize::from(self.state.is_playing());
         if self.log.reserve_receipts(looks_left + open + 1).is_err() {
             return self.refuse(Some(sequence), Refusal::Memory, b"");
         }

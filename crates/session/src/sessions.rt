@@ -102,6 +102,8 @@ impl<'a> Session<'a> {
         ensures offers { IfOk result (λ session. session.offers ≡ []) }
         ensures late { IfOk result (λ session. session.late ≡ 0) }
     {
+        let id = session_id(u64::from(words[0]) * (1 << 32) + u64::from(words[1]));
+        let source = source_of(&words);
         let reply = Reply::new(alloc)?;
         let body = Text::new(alloc)?;
         let log = Log::new(alloc)?;
@@ -109,8 +111,8 @@ impl<'a> Session<'a> {
             alloc,
             films,
             settings,
-            id: session_id(u64::from(words[0]) * (1 << 32) + u64::from(words[1])),
-            source: source_of(&words),
+            id,
+            source,
             state: State::Init,
             counts: NOTHING_SENT,
             awaited: Awaited::Nothing,

@@ -2,6 +2,7 @@
 
 ghost use Rattle.std.specs.Prelude.{◌≡◌};
 ghost use Rattle.session.specs.Hearings.{source_of};
+ghost use Rattle.session.specs.Standings.{has_session_in, is_playing_in};
 
 use film_frames::Frames;
 use film_run::Run;
@@ -132,6 +133,20 @@ pub(crate) enum Awaited<'a> {
 }
 
 impl<'a> State<'a> {
+    /// Whether there is a session.
+    pub(crate) fn has_session(&self) -> bool
+        ensures { result ≡ has_session_in self.now }
+    {
+        !matches!(self, State::Init)
+    }
+
+    /// Whether a play is sent whose booking is open.
+    pub(crate) fn is_playing(&self) -> bool
+        ensures { result ≡ is_playing_in self.now }
+    {
+        matches!(self, State::Playing(..))
+    }
+
     /// Goes over to another state.
     pub(crate) fn enter(&mut self, state: State<'a>)
         ensures { self.new ≡ state.entry }

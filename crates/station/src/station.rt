@@ -46,8 +46,8 @@ impl Model for Station {
 }
 
 impl Station {
-    /// A station of a link of this capacity, whose journal has room for `limit` entries, 2 to
-    /// 1,048,576; and its first seat. No other call takes memory.
+    /// A station of a link of this capacity, in bytes a slot, whose journal has room for `limit`
+    /// entries, 2 to 1,048,576; and its first seat. No other call takes memory.
     ///
     /// # Errors
     ///

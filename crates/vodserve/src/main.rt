@@ -1,5 +1,5 @@
-//! `vodserve`: a video-on-demand server for RTSP 1.0 that sends each film by its optimal smoothing
-//! plan.
+//! `vodserve`: a video-on-demand server for RTSP 1.0 (RFC 2326) that sends each film by its optimal
+//! smoothing plan.
 #![tactic(auto)]
 
 mod day_ends;
@@ -11,6 +11,8 @@ mod film_tests;
 mod loopback_tests;
 #[cfg(test)]
 mod meeting_tests;
+#[cfg(test)]
+mod outcomes;
 mod run;
 #[cfg(test)]
 mod scenes;

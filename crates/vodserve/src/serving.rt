@@ -167,7 +167,8 @@ where
     run_workers(rt, alloc, service, &mut workers);
     let end = join_workers(&station, &mut seat, gate, workers, &mut reports);
     let book = station.close(seat);
-    // read for what it tells: with the halts to come the entries are within the book's limit
+    // a book's own invariant isn't seen from outside: only `entries` tells that the entries, with
+    // the halts to come, are within its limit
     let _within = book.entries();
     Ok(Closed { book, reports, end })
 }

@@ -1,7 +1,9 @@
-//! What several tests hand to `run`: words, and a library of one film.
+//! What tests hand to `run`: words, the files of a library, and a library of one film.
 
+use film_frames::Stored;
+use mpeg_scan::scan;
 use std::alloc::Global;
-use vod_base::{MemoryLibrary, NoMemory};
+use vod_base::{MemoryLibrary, NoMemory, read_number};
 
 /// Two pictures: a sequence header, a group header, an I picture of one slice, and a P picture of
 /// one slice.
@@ -26,4 +28,107 @@ pub(crate) fn words_of(alloc: Global, line: &str) -> Result<Vec<String>, NoMemor
         words.push(String::from_str(alloc, word)?)?;
     }
     Ok(words)
+}
+
+/// A line's first word, and what stands after it.
+pub(crate) fn word_and_rest(line: &str) -> (&str, &str) {
+    line.split_once(' ').unwrap_or((line, ""))
+}
+
+/// The number of a word, or 0.
+pub(crate) fn number_of(word: &str) -> u64 {
+    read_number(word.as_bytes()).unwrap_or(0)
+}
+
+/// The bytes of a text, in which `|` stands for a line's end.
+pub(crate) fn bytes_of(alloc: Global, text: &str, end: &[u8]) -> Result<Vec<u8>, NoMemory> {
+    let mut bytes = Vec::new(alloc);
+    for byte in text.as_bytes() {
+        match *byte {
+            b'|' => bytes.extend_from_slice(end)?,
+            other => bytes.push(other)?,
+        }
+    }
+    Ok(bytes)
+}
+
+/// The files of a library, by their names.
+#[derive(Drop)]
+pub(crate) struct Files {
+    held: Vec<(String, Vec<u8>)>,
+}
+
+impl Files {
+    /// No files.
+    pub(crate) fn new(alloc: Global) -> Files {
+        Files {
+            held: Vec::new(alloc),
+        }
+    }
+
+    /// Puts a file into the library.
+    pub(crate) fn keep(
+        &mut self,
+        alloc: Global,
+        name: &str,
+        bytes: Vec<u8>,
+    ) -> Result<(), NoMemory> {
+        self.held.push((String::from_str(alloc, name)?, bytes))?;
+        Ok(())
+    }
+
+    /// The bytes of a file of the library.
+    pub(crate) fn bytes(&self, name: &str) -> Option<&[u8]> {
+        for (held, bytes) in &self.held {
+            if held.as_str() == name {
+                return Some(bytes.as_slice());
+            }
+        }
+        None
+    }
+
+    /// The bytes of words, each of which names a file or has hexadecimal digits.
+    pub(crate) fn joined(&self, alloc: Global, words: &str) -> Result<Vec<u8>, NoMemory> {
+        let mut bytes = Vec::new(alloc);
+        for word in words.split_whitespace() {
+            match self.bytes(word) {
+                Some(held) => bytes.extend_from_slice(held)?,
+                None => match hex::decode(alloc, word) {
+                    Ok(part) => bytes.extend_from_slice(&part)?,
+                    Err(_) => return Err(NoMemory),
+                },
+            }
+        }
+        Ok(bytes)
+    }
+
+    /// The sizes of a film's units on the wire, as a trace.
+    pub(crate) fn sizes_of(&self, alloc: Global, film: &str) -> Result<Vec<u8>, NoMemory> {
+        let bytes = self.bytes(film).unwrap_or(&[]);
+        let Ok(film) = scan(alloc, Vec::from_slice(alloc, bytes)?) else {
+            return Err(NoMemory);
+        };
+        let film = Stored::new(alloc, String::new(alloc), film)?;
+        let mut text = Vec::new(alloc);
+        for unit in 0..film.film.units.len() {
+            let mut digits = itoa::Buffer::new();
+            text.extend_from_slice(digits.format(film.wire_size(unit)).as_bytes())?;
+            text.push(b'\n')?;
+        }
+        Ok(text)
+    }
+
+    /// A library of these files, of which the calls of these numbers fail.
+    pub(crate) fn library(
+        &self,
+        alloc: Global,
+        failing: Vec<u64>,
+    ) -> Result<MemoryLibrary, NoMemory> {
+        let mut files = Vec::new(alloc);
+        for (name, bytes) in &self.held {
+            let bytes = Vec::from_slice(alloc, bytes)?;
+            files.push((String::from_str(alloc, name.as_str())?, bytes))?;
+        }
+        Ok(MemoryLibrary::new(files, failing))
+    }
 }

@@ -1,9 +1,10 @@
-use Rattle.std.proofs.lemmas.Grind.{common_steps}
-use Rattle.std.proofs.Common.{ap, arith}
+use Rattle.std.proofs.Common.{ap, refl}
+use Rattle.film_make.specs.Generator.{words_left}
 use Rattle.day_run.specs.declared.clients.Client.{Client}
 use Rattle.day_run.specs.Clients.{state_of}
 use Rattle.day_run.specs.FairDays.{words_for}
-use Rattle.day_run.proofs.FairTurns.{no-words}
+use Rattle.day_run.specs.Runners.{link_on, moment_of}
+use Rattle.day_run.proofs.FairTurns.{done-as, no-words}
 use Rattle.day_run.proofs.fairs.turn_client.Goals as goal
 
 pub returns-in-Playing-clause-left : goal.returns-in-Playing-clause-left
@@ -22,10 +23,19 @@ returns-in_ok-resume-in-Paused-clause-left c =
     (ap (λ (x : Client). words_for (state_of x)) c.in-Paused.is)
 
 pub returns-in-Playing-clause-done : goal.returns-in-Playing-clause-done
-returns-in-Playing-clause-done c = grind (arith, common_steps)
+returns-in-Playing-clause-done c =
+    done-as (record { link = link_on c.args.runner.now; old = moment_of c.args.runner.now; new = _; text = _ })
+    (words_left c.args.draws.now) c.args.runner.now.clients.items c.args.client _ c.requires.runner.count
+    c.ranges.client.fits c.index.ensures c.in-Playing.is c.pause.ensures.line
 
 pub returns-in-Pausing-clause-done : goal.returns-in-Pausing-clause-done
-returns-in-Pausing-clause-done c = grind (arith, common_steps)
+returns-in-Pausing-clause-done c =
+    done-as (record { link = link_on c.args.runner.now; old = moment_of c.args.runner.now; new = _; text = _ })
+    (words_left c.args.draws.now) c.args.runner.now.clients.items c.args.client _ c.requires.runner.count
+    c.ranges.client.fits c.index.ensures c.in-Pausing.is (record { kept = refl; text_is = refl })
 
 pub returns-in_ok-resume-in-Paused-clause-done : goal.returns-in_ok-resume-in-Paused-clause-done
-returns-in_ok-resume-in-Paused-clause-done c = grind (arith, common_steps)
+returns-in_ok-resume-in-Paused-clause-done c =
+    done-as (record { link = link_on c.args.runner.now; old = moment_of c.args.runner.now; new = _; text = _ })
+    (words_left c.args.draws.now) c.args.runner.now.clients.items c.args.client _ c.requires.runner.count
+    c.ranges.client.fits c.index.ensures c.in-Paused.is c.in_ok-resume-in-Paused.ensures.line

@@ -2,8 +2,12 @@ use Rattle.std.proofs.Common.{◌≡◌, ◌≤◌, ◌∙◌, length, arith, re
 use Rattle.inputs.specs.Files.{IsNever}
 use Rattle.inputs.proofs.ScanLemmas.{handed_on, trouble_on}
 use Rattle.inputs.proofs.ReadLemmas.{first_front, whole_front, measure_falls}
+use Rattle.inputs.proofs.LibraryLemmas.{then_read}
 use Rattle.inputs.proofs.files.read_bytes.Goals as goal
 use Rattle.inputs.proofs.files.read_bytes.Goals.{else-loop-more-test, then-loop-more-test+else-len-size}
+
+pub returns-in_err-piece-clause-trouble : goal.returns-in_err-piece-clause-trouble
+returns-in_err-piece-clause-trouble g c = handed_on _ c.from_residual.result c.from_residual.ensures.1 tt
 
 pub loop-more-init : goal.loop-more-init
 loop-more-init g c = (
@@ -12,7 +16,7 @@ loop-more-init g c = (
     count = omega arith;
     told = λ held told found. (rw c.new-bytes.ensures.items (first_front held c.args.name.now c.args.size found), refl);
   },
-  omega (arith, c.in-Ok.ensures {u = tt}),
+  omega (arith, c.in_ok-piece.ensures {u = tt}),
   omega (arith, c.new-bytes.ensures.len),
 )
 
@@ -47,7 +51,11 @@ loop-more-smaller g c =
 
 pub returns-in_err-more-clause-trouble : goal.returns-in_err-more-clause-trouble
 returns-in_err-more-clause-trouble g c =
-    handed_on _ c.from_residual.result c.from_residual.ensures.1
+    handed_on _ c.from_residual-in_err-more.result c.from_residual-in_err-more.ensures.1
     (trouble_on c.args.name.now IsNever (g.L.Library.faults c.read_piece.new.library) c.in_err-more.field-0.0
     (record { kept = c.loop-more.invariant.0.kept; count = c.loop-more.invariant.0.count })
     ((c.in_err-more.ensures {u = tt}).trouble))
+
+pub returns-in_err-more-clause-library : goal.returns-in_err-more-clause-library
+returns-in_err-more-clause-library g c =
+    then_read (record { kept = c.loop-more.invariant.0.kept; count = c.loop-more.invariant.0.count }) c.read_piece.ensures.library

@@ -6,6 +6,7 @@ use Rattle.inputs.specs.Videos.{IsRefusedAbove, IsVideo}
 use Rattle.inputs.proofs.LoadLemmas.{WasRead, bytes_trouble, film_loaded, size_above}
 use Rattle.inputs.proofs.ScanLemmas.{ReadOn, handed_on, never_refused}
 use Rattle.inputs.proofs.VideoLemmas.{HoldsAccepted, file_not_refused}
+use Rattle.inputs.proofs.LibraryLemmas.{then_read}
 use Rattle.inputs.proofs.films.load_within.Goals as goal
 
 pub returns-in_err-size-clause-trouble : goal.returns-in_err-size-clause-trouble
@@ -63,26 +64,42 @@ returns-in_err-film-clause-trouble g c =
     (bytes_trouble c.args.over (g.L.Library.faults c.args.library.now) (g.L.Library.faults c.read_bytes.new.library)
     c.in_err-film.field-0.0 read ((c.in_err-film.ensures {u = tt}).trouble))
 
-pub returns-in-Ok-clause-film : goal.returns-in-Ok-clause-film
-returns-in-Ok-clause-film g c = λ held is.
-    let same : c.in-Ok.stored.film ≡ c.in_ok-film.film = (c.in-Ok.ensures {u = tt}).film in
+pub returns-clause-film : goal.returns-clause-film
+returns-clause-film g c = λ held is.
+    let same : c.in_ok-stored.stored.film ≡ c.in_ok-film.film = (c.in_ok-stored.ensures {u = tt}).film in
     film_loaded
     ((c.in_ok-file.ensures {u = tt}).read held (c.find_file.ensures.library.kept ∙ is)
     ((c.in_ok-size.ensures {u = tt}).found held is))
     (omega (arith, (c.in_ok-file.ensures {u = tt}).within, c.in_ok-file.file.ok, c.if-most-size.false, c.requires))
     (subst (λ (f : Film). IsVideo c.in_ok-file.file.items f.bytes.items) (sym same) ((c.in_ok-film.ensures {u = tt}).film))
-    c.in-Ok.stored.film.grammar.accepted
+    c.in_ok-stored.stored.film.grammar.accepted
 
-pub returns-in-Ok-clause-small : goal.returns-in-Ok-clause-small
-returns-in-Ok-clause-small g c = λ held is fault refused.
-    let same : c.in-Ok.stored.film ≡ c.in_ok-film.film = (c.in-Ok.ensures {u = tt}).film in
-    let holds : HoldsAccepted held c.args.name.now c.in-Ok.stored.film.bytes.items c.args.most = record {
+pub returns-clause-small : goal.returns-clause-small
+returns-clause-small g c = λ held is fault refused.
+    let same : c.in_ok-stored.stored.film ≡ c.in_ok-film.film = (c.in_ok-stored.ensures {u = tt}).film in
+    let holds : HoldsAccepted held c.args.name.now c.in_ok-stored.stored.film.bytes.items c.args.most = record {
       file = c.in_ok-file.file.items;
       found = (c.in_ok-file.ensures {u = tt}).read held (c.find_file.ensures.library.kept ∙ is)
           ((c.in_ok-size.ensures {u = tt}).found held is);
       short = omega (arith, (c.in_ok-file.ensures {u = tt}).within, c.in_ok-file.file.ok, c.if-most-size.false);
       is_video = subst (λ (f : Film). IsVideo c.in_ok-file.file.items f.bytes.items) (sym same)
           ((c.in_ok-film.ensures {u = tt}).film);
-      accepted = c.in-Ok.stored.film.grammar.accepted;
+      accepted = c.in_ok-stored.stored.film.grammar.accepted;
     } in
     file_not_refused c.args.over fault holds refused
+
+pub returns-in_err-stored-clause-trouble : goal.returns-in_err-stored-clause-trouble
+returns-in_err-stored-clause-trouble g c =
+    handed_on _ c.from_residual-in_err-stored.result c.from_residual-in_err-stored.ensures.1 tt
+
+pub returns-in_err-file-clause-library : goal.returns-in_err-file-clause-library
+returns-in_err-file-clause-library g c = then_read c.find_file.ensures.library c.read_bytes.ensures.library
+
+pub returns-in_err-film-clause-library : goal.returns-in_err-film-clause-library
+returns-in_err-film-clause-library g c = then_read c.find_file.ensures.library c.read_bytes.ensures.library
+
+pub returns-in_err-stored-clause-library : goal.returns-in_err-stored-clause-library
+returns-in_err-stored-clause-library g c = then_read c.find_file.ensures.library c.read_bytes.ensures.library
+
+pub returns-clause-library : goal.returns-clause-library
+returns-clause-library g c = then_read c.find_file.ensures.library c.read_bytes.ensures.library

@@ -3,6 +3,7 @@ use Rattle.std.proofs.lemmas.List.{length-take-le}
 use Rattle.inputs.specs.Files.{IsNever}
 use Rattle.inputs.proofs.OpeningLemmas.{HasLooked, found_opened, more_looked, none_looked, whole_looked}
 use Rattle.inputs.proofs.ScanLemmas.{handed_on, trouble_on}
+use Rattle.inputs.proofs.LibraryLemmas.{then_read}
 use Rattle.inputs.proofs.openings.find_pack.Goals as goal
 
 pub loop-at-init : goal.loop-at-init
@@ -78,3 +79,19 @@ returns-in_err-count-clause-trouble g c =
     handed_on _ c.from_residual.result c.from_residual.ensures.1
     (trouble_on c.args.name.now IsNever (g.L.Library.faults c.read_at.new.library) c.in_err-count.field-0.0
     (record { kept = c.loop-at.invariant.kept; count = c.loop-at.invariant.count }) ((c.in_err-count.ensures {u = tt}).trouble))
+
+pub returns-then-count-eq0-clause-library : goal.returns-then-count-eq0-clause-library
+returns-then-count-eq0-clause-library g c =
+    then_read (record { kept = c.loop-at.invariant.kept; count = c.loop-at.invariant.count }) c.read_at.ensures.library
+
+pub returns-in-Pack-clause-library : goal.returns-in-Pack-clause-library
+returns-in-Pack-clause-library g c =
+    then_read (record { kept = c.loop-at.invariant.kept; count = c.loop-at.invariant.count }) c.read_at.ensures.library
+
+pub returns-in-Other-clause-library : goal.returns-in-Other-clause-library
+returns-in-Other-clause-library g c =
+    then_read (record { kept = c.loop-at.invariant.kept; count = c.loop-at.invariant.count }) c.read_at.ensures.library
+
+pub returns-in_err-count-clause-library : goal.returns-in_err-count-clause-library
+returns-in_err-count-clause-library g c =
+    then_read (record { kept = c.loop-at.invariant.kept; count = c.loop-at.invariant.count }) c.read_at.ensures.library

@@ -3,6 +3,7 @@ use Rattle.std.proofs.lemmas.Bool.{lt-ltb}
 use Rattle.vod_base.specs.Outside.{File}
 use Rattle.inputs.specs.Scans.{HasScanned, IsFilmRefused}
 use Rattle.inputs.proofs.ScanLemmas.{all_scanned, handed_on, trouble_on}
+use Rattle.inputs.proofs.LibraryLemmas.{then_read}
 use Rattle.inputs.proofs.scans.feed_film.Goals as goal
 use Rattle.inputs.proofs.scans.feed_film.Goals.{else-loop-more-test, then-loop-more-test+else-at-size}
 
@@ -51,3 +52,7 @@ returns-in_err-count-clause-trouble g c =
     (trouble_on c.args.name.now IsFilmRefused (g.L.Library.faults c.feed_piece.new.library) c.in_err-count.field-0.0
     (record { kept = c.loop-more.invariant.0.kept; count = c.loop-more.invariant.0.count })
     ((c.in_err-count.ensures {u = tt}).trouble))
+
+pub returns-in_err-count-clause-library : goal.returns-in_err-count-clause-library
+returns-in_err-count-clause-library g c =
+    then_read (record { kept = c.loop-more.invariant.0.kept; count = c.loop-more.invariant.0.count }) c.feed_piece.ensures.library

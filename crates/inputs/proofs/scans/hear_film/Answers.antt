@@ -4,6 +4,7 @@ use Rattle.inputs.specs.Files.{IsNamed, IsMissing}
 use Rattle.inputs.specs.Scans.{IsFilmRefused, IsOpened}
 use Rattle.inputs.proofs.ScanLemmas.{ReadOn, handed_on, heard_on, missing_refused, never_refused, size_refused}
 use Rattle.inputs.proofs.ScanLemmas.{troubles_on}
+use Rattle.inputs.proofs.LibraryLemmas.{then_read}
 use Rattle.inputs.proofs.scans.hear_film.Goals as goal
 
 pub returns-in_err-size-clause-trouble : goal.returns-in_err-size-clause-trouble
@@ -32,6 +33,10 @@ returns-in_err-size-clause-trouble g c =
       high = omega arith;
     })
     ((c.in_err-size.ensures {u = tt}).trouble))
+
+pub returns-in_err-piece-clause-trouble : goal.returns-in_err-piece-clause-trouble
+returns-in_err-piece-clause-trouble g c =
+    handed_on _ c.from_residual-in_err-piece.result c.from_residual-in_err-piece.ensures.1 tt
 
 pub returns-in_err-stream-clause-trouble : goal.returns-in_err-stream-clause-trouble
 returns-in_err-stream-clause-trouble g c =
@@ -91,3 +96,14 @@ returns-clause-trouble g c =
     } in
     troubles_on c.args.name.now (g.L.Library.faults c.scan_stream.new.library) c.scan_stream.result on
     c.scan_stream.ensures.trouble
+
+pub returns-in_err-stream-clause-library : goal.returns-in_err-stream-clause-library
+returns-in_err-stream-clause-library g c = then_read c.find_file.ensures.library c.find_pack.ensures.library
+
+pub returns-in-None-clause-library : goal.returns-in-None-clause-library
+returns-in-None-clause-library g c =
+    then_read (then_read c.find_file.ensures.library c.find_pack.ensures.library) c.scan_plain.ensures.library
+
+pub returns-clause-library : goal.returns-clause-library
+returns-clause-library g c =
+    then_read (then_read c.find_file.ensures.library c.find_pack.ensures.library) c.scan_stream.ensures.library

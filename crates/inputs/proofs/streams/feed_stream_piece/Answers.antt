@@ -34,8 +34,9 @@ returns-in-Err-Fault-clause-trouble g c = (
   refl,
   λ held is.
       let piece = take c.in_ok-count.count c.read_at.new.piece in
-      let read : PieceRead held c.args.name.now c.args.size c.args.from c.requires.streamed.seen piece = record {
-        front = front_more c.args.from c.requires.streamed.seen piece (c.requires.streamed.front held is) c.requires.streamed.long
+      let read : PieceRead held c.args.file.name.now c.args.file.size c.args.file.from c.requires.streamed.seen piece = record {
+        front = front_more c.args.file.from c.requires.streamed.seen piece (c.requires.streamed.front held is)
+            c.requires.streamed.long
             (λ bytes front long. (c.in_ok-count.ensures {u = tt}).told held bytes is front long);
         opened = c.requires.opened held is;
         short = c.requires.short;
@@ -51,5 +52,5 @@ returns-in_err-count-clause-trouble g c =
     (g.L.Library.faults c.args.library.now) (g.L.Library.faults c.args.library.now) =
     record { kept = refl; count = omega arith } in
     handed_on _ c.from_residual.result c.from_residual.ensures.1
-    (never_refused c.args.name.now IsFilmRefused (g.L.Library.faults c.read_at.new.library)
+    (never_refused c.args.file.name.now IsFilmRefused (g.L.Library.faults c.read_at.new.library)
     c.in_err-count.field-0.0 on ((c.in_err-count.ensures {u = tt}).trouble))

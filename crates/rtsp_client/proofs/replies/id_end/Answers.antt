@@ -1,13 +1,16 @@
-use Rattle.std.proofs.Common.{◌==◌, sym, eq-eqb, arith}
-use Rattle.std.proofs.lemmas.List.Sums.{position_or_len_is}
+use Rattle.std.proofs.Common.{◌≡◌, ◌≤◌, ◌==◌, ℕ, length, Option, Some, None, cond, ltb, ap, ◌∙◌, arith}
+use Rattle.std.specs.Prelude.{unwrap_or}
+use Rattle.std.specs.List.{position_or_len}
+use Rattle.std.proofs.lemmas.Bool.Decides.{nat_tests}
+use Rattle.std.proofs.lemmas.List.Sums.{prefix_len-le-length}
 use Rattle.rtsp_client.proofs.replies.id_end.Goals as goal
 
-pub returns-then-value-at-eq59-clause-end : goal.returns-then-value-at-eq59-clause-end
-returns-then-value-at-eq59-clause-end c =
-    sym (position_or_len_is (λ byte. byte == 59) c.args.value.now c.loop-at.at 0 (omega arith) c.loop-at.invariant
-    (λ _. eq-eqb _ 59 c.if-value-at-eq59.true))
+or-end : (at end : ℕ) → at ≤ end → unwrap_or (cond (ltb at end) (Some at) None) end ≡ at
+or-end at end within = grind (arith, nat_tests)
 
 pub returns-clause-end : goal.returns-clause-end
 returns-clause-end c =
-    sym (position_or_len_is (λ byte. byte == 59) c.args.value.now _ 0 (omega arith) (λ k few. c.loop-at.invariant k (omega arith))
-    (λ h. absurd (omega (arith, h))))
+    let value = c.args.value.now in
+    c.unwrap_or.ensures
+    ∙ (ap (λ (place : Option ℕ). unwrap_or place (length value)) c.first_semicolon.ensures
+    ∙ or-end (position_or_len (λ byte. byte == 59) value) (length value) (prefix_len-le-length _ value))

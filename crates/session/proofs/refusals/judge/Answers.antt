@@ -1,8 +1,9 @@
-use Rattle.std.proofs.Common.{rules, sym, subst}
+use Rattle.std.proofs.Common.{length, rules, sym, subst}
 use Rattle.std.proofs.lemmas.Result.{err_from_is_err_and}
 use Rattle.session.specs.Judging.{IsTaken, IsTimely}
 use Rattle.session.specs.declared.refusals.Task.{Task}
-use Rattle.session.proofs.TaskLaws.{taken}
+use Rattle.session.specs.Tasks.{IsTask, IsValid}
+use Rattle.session.proofs.TaskLaws.{taken, task_known}
 use Rattle.session.proofs.refusals.judge.Goals as goal
 
 pub returns-in_err-method-clause-judged : goal.returns-in_err-method-clause-judged
@@ -12,7 +13,13 @@ returns-in_err-method-clause-judged c =
 
 pub returns-clause-judged : goal.returns-clause-judged
 returns-clause-judged c =
-    let timely : IsTimely c.args.place c.args.request.now c.in_ok-method.method = search rules in
-    subst (λ (task : Task). IsTaken c.args.films.now c.args.id.now c.args.place c.args.request.now task)
-    (sym c.task_of.ensures.exact)
+    let timely : IsTimely c.args.state.now c.args.request.now c.in_ok-method.method = search rules in
+    subst (λ (task : Task). IsTaken c.args.films.now c.args.id.now c.args.state.now c.args.request.now task)
+    (sym c.task_of.ensures)
     (taken c.in-Some.asked c.in_ok-method.ensures.talk c.in-Some.ensures.film timely)
+
+pub returns-clause-task : goal.returns-clause-task
+returns-clause-task c =
+    let valid : IsValid c.in_ok-method.method c.args.state.now = search rules in
+    subst (λ (task : Task). IsTask (length c.args.films.now) c.args.state.now task) (sym c.task_of.ensures)
+    (task_known c.args.state.now c.in_ok-method.method c.in-Some.asked c.in-Some.ensures.asked c.in_ok-method.ensures.needs valid)

@@ -4,8 +4,8 @@ use Rattle.rtp_pack.specs.Sizes.{Measure, frames_of}
 use Rattle.inputs.proofs.SizeLemmas.{sized-more}
 use Rattle.inputs.proofs.collectors.SizeListFound.unit.Goals as goal
 
-pub returns-in-Ok : goal.returns-in-Ok
-returns-in-Ok c = λ calls so_far.
+pub returns : goal.returns
+returns c = λ calls so_far.
     let ended : c.end.result ≡ frames_of c.args.self.now.unit =
     c.end.ensures.size ∙ ap (λ (m : Measure). frames_of m) c.replace-ended.ensures.value in
     let report : c.if-unit.report ≡ (if c.args.unit.starts_group then 52 else 0) = search rules in
@@ -13,4 +13,4 @@ returns-in-Ok c = λ calls so_far.
     ap (λ n. n + c.end.result) report ∙ ap (λ n. (if c.args.unit.starts_group then 52 else 0) + n) ended in
     sized-more (unit_call c.args.unit) so_far
     (c.replace-ended.ensures.after ∙ c.begin.ensures.begun)
-    ((c.in-Ok.ensures {u = tt}).items ∙ ap (λ (n : ℕ). c.args.self.now.sizes.items ++ n ∷ []) size)
+    ((c.in_ok-push.ensures {u = tt}).items ∙ ap (λ (n : ℕ). c.args.self.now.sizes.items ++ n ∷ []) size)

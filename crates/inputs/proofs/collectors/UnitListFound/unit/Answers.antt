@@ -4,7 +4,7 @@ use Rattle.mpeg_scan.specs.Calls.{unit_call}
 use Rattle.mpeg_scan.proofs.FilmLemmas.{units_in-append}
 use Rattle.inputs.proofs.collectors.UnitListFound.unit.Goals as goal
 
-pub returns-in-Ok : goal.returns-in-Ok
-returns-in-Ok c = λ calls h.
-    c.in-Ok.ensures.items ∙ ap (λ (l : List PictureUnit). l ++ c.args.unit ∷ []) h
+pub returns : goal.returns
+returns c = λ calls h.
+    c.in_ok-push.ensures.items ∙ ap (λ (l : List PictureUnit). l ++ c.args.unit ∷ []) h
     ∙ sym (units_in-append calls (unit_call c.args.unit ∷ []))

@@ -1,4 +1,5 @@
 use Rattle.std.proofs.Common.{ℕ, ◌⊎◌, List, Option, Ok, option_map, refl, subst, inl, inr}
+use Rattle.std.proofs.lemmas.Result.{err_from_is_err_and}
 use Rattle.std.specs.Borrow.{Bor}
 use Rattle.wire_curve.specs.Refusal.{IsRefused as HaveNoCurves}
 use Rattle.film_run.specs.declared.plans.Playback.{Playback}
@@ -6,7 +7,7 @@ use Rattle.film_run.specs.declared.runs.Run.{Run}
 use Rattle.film_run.specs.Plans.{IsPlanOf, IsPlayback, rest_sizes, timing_of}
 use Rattle.film_run.specs.Units.{stored_sizes}
 use Rattle.session.specs.Planning.{HasNoPlan, HasNoRun, IsPlanned}
-use Rattle.session.specs.Playing.{playback_of}
+use Rattle.session.specs.Playing.{curve_refusal, playback_of}
 use Rattle.session.specs.Standings.{Standing}
 use Rattle.session.specs.declared.refusals.Refusal.TheVariants.{Range}
 use Rattle.session.proofs.sessions.Session.plan_play.Goals as goal
@@ -23,12 +24,13 @@ returns-in_default-clause-exact c =
       refusal_is = refl;
     }))
 
-pub returns-in-Ok-clause-exact : goal.returns-in-Ok-clause-exact
-returns-in-Ok-clause-exact c =
+pub returns-clause-exact : goal.returns-clause-exact
+returns-clause-exact c =
     let range : Option (List ℕ) = option_map {T = Bor (List ℕ)} {U = List ℕ} (λ value. value.now) c.args.range in
     let sizes = stored_sizes c.stored_at-stored.result.now in
     subst (λ (old : Standing). IsPlanned old c.args.setup.now c.args.paused range
-    (Ok (record { run = c.run_and_counts.result.0; counts = c.run_and_counts.result.1; plan = c.in-Ok.plan }))) c.self.view_is (
+    (Ok (record { run = c.run_and_counts.result.0; counts = c.run_and_counts.result.1; plan = c.in_ok-plan.plan })))
+    c.self.view_is (
       c.stored_at-stored.result.now,
       record {
         at = c.stored_at-stored.ensures.film;
@@ -43,29 +45,32 @@ returns-in-Ok-clause-exact c =
           run_is = c.run_and_counts.ensures.goes_on.run_is;
           fits = c.run_and_counts.ensures.goes_on.fits;
         };
-        plan_is = subst (λ (p : Playback). IsPlanOf sizes p c.run_and_counts.result.0 c.in-Ok.plan)
-            c.playback_of-playback.ensures.playback c.in-Ok.ensures.plan;
+        plan_is = subst (λ (p : Playback). IsPlanOf sizes p c.run_and_counts.result.0 c.in_ok-plan.plan)
+            c.playback_of-playback.ensures.playback c.in_ok-plan.ensures.plan;
       },
     )
 
-pub returns-in-Err-clause-exact : goal.returns-in-Err-clause-exact
-returns-in-Err-clause-exact c =
+pub returns-in_err-plan-clause-exact : goal.returns-in_err-plan-clause-exact
+returns-in_err-plan-clause-exact c =
     let range : Option (List ℕ) = option_map {T = Bor (List ℕ)} {U = List ℕ} (λ value. value.now) c.args.range in
     let stored = c.stored_at-stored.result.now in
     let sizes = stored_sizes stored in
     let playback = playback_of stored.film c.self.inside.settings c.args.setup.now in
-    subst (λ (old : Standing). HasNoRun old c.args.setup.now c.args.paused range c.refusal_of.result
-    ⊎ HasNoPlan old c.args.setup.now c.args.paused range c.refusal_of.result) c.self.view_is
+    let refused = c.in_err-plan.field-0.0 in
+    let p = err_from_is_err_and c.from_residual.result c.from_residual.ensures.1 in
+    rw (p.1, p.2)
+    (subst (λ (old : Standing). HasNoRun old c.args.setup.now c.args.paused range (curve_refusal refused)
+    ⊎ HasNoPlan old c.args.setup.now c.args.paused range (curve_refusal refused)) c.self.view_is
     (inr (record {
       stored = stored;
       at = c.stored_at-stored.ensures.film;
       wanted = c.in-Some.wanted;
       asked = c.in-Some.ensures;
-      refused = c.in-Err.refused;
-      no_curves = subst (λ (r : Run). HaveNoCurves (rest_sizes sizes r) (timing_of playback r) c.in-Err.refused)
+      refused = refused;
+      no_curves = subst (λ (r : Run). HaveNoCurves (rest_sizes sizes r) (timing_of playback r) refused)
           c.run_and_counts.ensures.run
           (subst (λ (p : Playback). HaveNoCurves (rest_sizes sizes c.run_and_counts.result.0)
-          (timing_of p c.run_and_counts.result.0)
-          c.in-Err.refused) c.playback_of-playback.ensures.playback c.in-Err.ensures.refused);
-      refusal_is = c.refusal_of.ensures;
-    }))
+          (timing_of p c.run_and_counts.result.0) refused) c.playback_of-playback.ensures.playback
+          c.in_err-plan.ensures.refused);
+      refusal_is = refl;
+    })))

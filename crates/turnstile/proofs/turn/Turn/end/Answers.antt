@@ -1,15 +1,20 @@
-use Rattle.std.proofs.Common.{ap, ◌∙◌, ◌∷◌, Some}
-use Rattle.atomic_table.specs.Table.{rest}
+use Rattle.std.proofs.Common.{◌≡◌, ℕ, List, Option, Some, None, ap, ◌∙◌, ◌∷◌}
+use Rattle.atomic_table.specs.Table.{Me, rest}
+use Rattle.turnstile.specs.declared.view.View.{View}
+use Rattle.turnstile.specs.Steps.{IsTurn}
 use Rattle.turnstile.proofs.turn.Turn.end.Goals as goal
 
+-- the pass has the turn still once the value is back in the slot
+put_back : {B : Type 0} {me next : Me (Option B) View} (value : B) → next ≡ (me.0, (0, Some value) ∷ rest me.1)
+    → IsTurn me None → IsTurn next (Some value)
+put_back {B} value put turn = record {
+  number = turn.number;
+  stage = ap (λ (m : Me (Option B) View). m.0.stage) put ∙ turn.stage;
+  left = ap (λ (m : Me (Option B) View). m.0.spent) put ∙ turn.left;
+  held = ap (λ (m : Me (Option B) View). m.1) put
+      ∙ ap (λ (cells : List (ℕ × Option B)). (0, Some value) ∷ rest cells) turn.held;
+}
+
 pub settle-requires-clause-turn : goal.settle-requires-clause-turn
-settle-requires-clause-turn g c = let t = c.self.invariant.turn in let value = c.self.inside.value in let e =
-    c.exchange-empty.ensures.3 in (
-      value,
-      record {
-        number = t.number;
-        stage = ap (λ m. m.0.stage) e ∙ t.stage;
-        left = ap (λ m. m.0.spent) e ∙ t.left;
-        held = ap (λ m. m.1) e ∙ ap (λ cs. (0, Some value) ∷ rest cs) t.held;
-      },
-    )
+settle-requires-clause-turn g c =
+    (c.self.inside.value, put_back c.self.inside.value c.exchange-empty.ensures.3 c.self.invariant.turn)
