@@ -4,7 +4,8 @@
 PROGRAM is the built vodserve (default: ../crates/vodserve/out/vodserve). The grammar (ISO/IEC 11172-2) is computed here
 anew from the whole list of a film's start codes, with no eye on speed, and gives the text or the refusal that `scan` should
 print. Compared are two films whose texts were worked out by hand, all their cuts, each of their bytes left out or changed,
-and FILMS (default 3,000) films of headers and slices drawn at random. Ends with status 1 where something differs.
+and FILMS (default 3,000) films of headers and slices drawn at random, but for those that begin as a system stream. Ends with
+status 1 where something differs.
 """
 import os, random, subprocess, sys, tempfile
 
@@ -15,6 +16,11 @@ KINDS = {1: "I", 2: "P", 3: "B", 4: "D"}
 
 def start_codes(film):
     return [(i, film[i + 3]) for i in range(len(film) - 3) if film[i:i + 3] == b"\0\0\1"]
+
+
+def is_system_stream(film):
+    """Whether the first start code is a pack's: then `scan` takes the video out of it, by other rules."""
+    return [kind for _, kind in start_codes(film)][:1] == [0xBA]
 
 
 def is_slice(kind):
@@ -167,6 +173,8 @@ def main():
     seen, different = {}, 0
     with tempfile.TemporaryDirectory() as folder:
         for film in films(int(sys.argv[2]) if len(sys.argv) > 2 else 3000):
+            if is_system_stream(film):
+                continue
             fault = refusal(film)
             want = (3, "", f"vodserve: f: {fault}\n") if fault else (0, text(film), "")
             if film in BY_HAND:
