@@ -102,13 +102,19 @@ mod tests {
         }
     }
 
+    // Level slopes stand in the same order to a third one, and the order passes over them.
     #[test]
-    fn laws_run() {
+    fn level_slopes_compare_alike(rt: HostRuntime) {
         let half = Slope { bytes: 1, slots: 2 };
         let same = Slope { bytes: 2, slots: 4 };
         let whole = Slope { bytes: 1, slots: 1 };
-        law_transitive(half, same, whole);
         law_level(half, same, whole);
-        law_steeper();
+        law_transitive(half, same, whole);
+        assert_eq!(rt; compare(half, same), Ordering::Equal);
+        assert_eq!(rt; compare(same, half), Ordering::Equal);
+        for slope in [half, same] {
+            assert_eq!(rt; compare(slope, whole), Ordering::Less, "{slope:?}");
+            assert_eq!(rt; compare(whole, slope), Ordering::Greater, "{slope:?}");
+        }
     }
 }
