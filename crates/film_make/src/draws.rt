@@ -8,9 +8,10 @@ use rand_core::SeedableRng;
 use rand_core::utils::NextWord;
 use std::marker::Model;
 
-/// The draws of a number: ChaCha with eight rounds, seeded with the number's eight bytes, the least
-/// first, and 24 zero bytes. A contract sees the words that are
-/// still to come as `words_left`, from the next one on.
+/// The draws of a number: ChaCha with eight rounds (D. J. Bernstein, 2008), seeded with the number's
+/// eight bytes, the least first, and 24 zero bytes.
+///
+/// Contracts see the words that are still to come as `words_left`, from the next one on.
 #[derive(Drop)]
 pub struct Draws {
     rng: ChaCha8Rng,
@@ -36,7 +37,7 @@ impl Draws {
         }
     }
 
-    /// The next word modulo `n`.
+    /// The next word modulo `n`, which is at least 1.
     pub fn draw(&mut self, n: u32) -> u32
         requires { 1 ≤ n }
         ensures value { result ≡ words_left self.old 0 % n }

@@ -20,7 +20,7 @@ pub fn make_film(alloc: Global, number: u64, pictures: u32) -> Result<Vec<u8>, N
     ensures begins { 1 ≤ pictures →
         take 20 (film_of (words_of number) pictures) ≡ sequence_and_group }
 {
-    whole_film(alloc, number, pictures).map_err(|_| NoMemory)
+    Ok(whole_film(alloc, number, pictures)?)
 }
 
 /// The pictures of a film, without the end of the sequence.

@@ -28,7 +28,7 @@ pub fn make_system(alloc: Global, number: u64, pictures: u32) -> Result<Vec<u8>,
         system_of (film_of (words_of number) pictures)) }
 {
     let film = make_film(alloc, number, pictures)?;
-    wrap(alloc, &film).map_err(|_| NoMemory)
+    Ok(wrap(alloc, &film)?)
 }
 
 /// Appends a pack of one packet with these video bytes.
