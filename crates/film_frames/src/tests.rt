@@ -7,9 +7,7 @@ use std::test::Fail;
 
 #[test]
 fn tracks_traces(rt: HostRuntime) -> Result<(), Fail> {
-    let Ok(track) = TraceTrack::new(Vec::from_slice(rt.alloc(), &[3, 0, 2000, 5])?) else {
-        return Err(Fail::from("no memory for a track"));
-    };
+    let track = TraceTrack::new(Vec::from_slice(rt.alloc(), &[3, 0, 2000, 5])?)?;
     assert_eq!(rt; track.total(), 2008);
     for (at, want) in [
         (0, 0),
@@ -46,9 +44,7 @@ fn tracks_traces(rt: HostRuntime) -> Result<(), Fail> {
 
 #[test]
 fn tracks_no_frames(rt: HostRuntime) -> Result<(), Fail> {
-    let Ok(none) = TraceTrack::new(Vec::new(rt.alloc())) else {
-        return Err(Fail::from("no memory for a track"));
-    };
+    let none = TraceTrack::new(Vec::new(rt.alloc()))?;
     assert_eq!(rt; none.total(), 0);
     assert_eq!(rt; none.boundary_after(0), 0);
     Ok(())

@@ -1,12 +1,12 @@
-//! Films A, B and C: film A is a sequence header, a group header, an I picture and one slice; film B is film A, a P
-//! picture and one slice; film C is film B, a group header, an I picture and one slice. Expected bytes are worked
-//! out by hand from RFC 2326 section 10.12, RFC 3550 and RFC 2250.
+//! Films A, B and C: film A is a sequence header, a group header, an I picture and one slice; film
+//! B is film A, a P picture and one slice; film C is film B, a group header, an I picture and one
+//! slice. Expected bytes are worked out by hand from RFC 2326 section 10.12, RFC 3550 and RFC 2250.
 
 use crate::{
     Frames, Stored, Track, law_counts_on, law_ended, law_film_comes_back, law_piece_sizes,
     law_reports_count, law_wire_sizes,
 };
-use mpeg_scan::{Film, ScanRefused, scan};
+use mpeg_scan::scan;
 use rtp_pack::Identity;
 use std::alloc::Global;
 use std::test::Fail;
@@ -72,21 +72,10 @@ fn joined(alloc: Global, texts: &[&str]) -> Result<Vec<u8>, Fail> {
     Ok(bytes)
 }
 
-fn scanned(alloc: Global, bytes: Vec<u8>) -> Result<Film, Fail> {
-    match scan(alloc, bytes) {
-        Ok(film) => Ok(film),
-        Err(ScanRefused::NoMemory) => Err(Fail::from("no memory for a film")),
-        Err(_) => Err(Fail::from("refused")),
-    }
-}
-
 /// A film of these bytes with its table.
 fn stored(alloc: Global, bytes: Vec<u8>) -> Result<Stored, Fail> {
-    let film = scanned(alloc, bytes)?;
-    match Stored::new(alloc, String::from_str(alloc, "film.mpg")?, film) {
-        Ok(stored) => Ok(stored),
-        Err(_) => Err(Fail::from("no memory for a table")),
-    }
+    let film = scan(alloc, bytes)?;
+    Ok(Stored::new(alloc, String::from_str(alloc, "film.mpg")?, film)?)
 }
 
 /// The sizes of the film's units on the wire.
@@ -127,7 +116,16 @@ fn sizes_units(rt: HostRuntime) -> Result<(), Fail> {
 }
 
 /// A piece's end, and the frames and their octets up to it.
-type Ended = (u64, u64, u64);
+#[derive(Clone, Copy)]
+struct Ended {
+    at: u64,
+    frames: u64,
+    octets: u64,
+}
+
+fn end_of(at: u64, frames: u64, octets: u64) -> Ended {
+    Ended { at, frames, octets }
+}
 
 /// What is wrong with a run at a place, where its bytes and the ends of its pieces are these.
 fn wrong_at(
@@ -137,21 +135,21 @@ fn wrong_at(
     want: &[u8],
     ends: &[Ended],
 ) -> Result<Option<&'static str>, Fail> {
-    let mut before = (0, 0, 0);
+    let mut before = end_of(0, 0, 0);
     let mut boundary = 0;
     let mut next = 0;
-    for count_ended in ends {
-        if count_ended.0 <= at {
-            before = *count_ended;
+    for end in ends {
+        if end.at <= at {
+            before = *end;
         }
         if boundary < at {
-            boundary = count_ended.0;
+            boundary = end.at;
         }
         if next <= at {
-            next = count_ended.0;
+            next = end.at;
         }
     }
-    if run.frames_before(at) != before.1 || run.octets_before(at) != before.2 {
+    if run.frames_before(at) != before.frames || run.octets_before(at) != before.octets {
         return Ok(Some("frames or octets before"));
     }
     let total = run.total();
@@ -171,7 +169,8 @@ fn wrong_at(
     Ok(None)
 }
 
-/// The first place of a run, and what is wrong there, where its bytes and the ends of its pieces are these.
+/// The first place of a run, and what is wrong there, where its bytes and the ends of its pieces
+/// are these.
 fn first_wrong(
     alloc: Global,
     run: &Frames<'_>,
@@ -229,11 +228,11 @@ fn sends_whole_films(rt: HostRuntime) -> Result<(), Fail> {
         ],
     )?;
     let ends = [
-        (52, 0, 0),
-        (106, 1, 38),
-        (141, 2, 57),
-        (193, 2, 57),
-        (235, 3, 83),
+        end_of(52, 0, 0),
+        end_of(106, 1, 38),
+        end_of(141, 2, 57),
+        end_of(193, 2, 57),
+        end_of(235, 3, 83),
     ];
     let film_b = run_of(&film_c, 0, 2, FIRST)?;
     assert_eq!(rt; first_wrong(alloc, &film_b, &want, &ends[..3])?, None);
@@ -268,7 +267,11 @@ fn sends_a_slice_in_fragments(rt: HostRuntime) -> Result<(), Fail> {
     want.extend_from_slice(last)?;
     let film = stored(alloc, bytes)?;
     let run = run_of(&film, 0, 1, FIRST)?;
-    let ends = [(52, 0, 0), (1452, 1, 1384), (1501, 2, 1417)];
+    let ends = [
+        end_of(52, 0, 0),
+        end_of(1452, 1, 1384),
+        end_of(1501, 2, 1417),
+    ];
     assert_eq!(rt; first_wrong(alloc, &run, &want, &ends)?, None);
     Ok(())
 }
@@ -288,7 +291,7 @@ fn sends_from_the_middle_and_wraps(rt: HostRuntime) -> Result<(), Fail> {
             UNIT_C,
         ],
     )?;
-    let ends = [(35, 1, 19), (87, 1, 19), (129, 2, 45)];
+    let ends = [end_of(35, 1, 19), end_of(87, 1, 19), end_of(129, 2, 45)];
     let run = run_of(&film_c, 1, 3, WRAPPING)?;
     assert_eq!(rt; first_wrong(alloc, &run, &want, &ends)?, None);
     let want = joined(
@@ -301,9 +304,7 @@ fn sends_from_the_middle_and_wraps(rt: HostRuntime) -> Result<(), Fail> {
         ],
     )?;
     let run = run_of(&film_c, 2, 3, WRAPPING)?;
-    assert_eq!(rt;
-        first_wrong(alloc, &run, &want, &[(52, 0, 0), (94, 1, 26)])?,
-        None
-    );
+    let ends = [end_of(52, 0, 0), end_of(94, 1, 26)];
+    assert_eq!(rt; first_wrong(alloc, &run, &want, &ends)?, None);
     Ok(())
 }

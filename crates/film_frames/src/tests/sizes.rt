@@ -34,9 +34,9 @@ impl Found for Sizes {
     }
 
     fn unit(&mut self, unit: Unit) -> Result<(), NoMemory> {
-        let count_ended = std::mem::replace(&mut self.unit, UnitSize::begin(1));
+        let whole = std::mem::replace(&mut self.unit, UnitSize::begin(1));
         let report = if unit.starts_group { REPORT } else { 0 };
-        self.all.push(count_ended.end() + report)?;
+        self.all.push(whole.end() + report)?;
         Ok(())
     }
 }
@@ -54,12 +54,9 @@ fn collects_sizes_in_pieces(rt: HostRuntime) -> Result<(), Fail> {
     };
     let mut scanner = Scanner::new();
     let (front, rest) = film.split_at(31);
-    if scanner.feed(front, &mut found).is_err()
-        || scanner.feed(rest, &mut found).is_err()
-        || scanner.finish(&mut found).is_err()
-    {
-        return Err(Fail::from("refused"));
-    }
+    scanner.feed(front, &mut found)?;
+    scanner.feed(rest, &mut found)?;
+    scanner.finish(&mut found)?;
     assert_eq!(rt; found.all.as_slice(), [106, 35].as_slice());
     Ok(())
 }
