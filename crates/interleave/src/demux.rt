@@ -9,22 +9,14 @@ ghost use Rattle.interleave.specs.Heads.{is_line_end};
 use crate::pieces::{DemuxFault, Step, is_line_end};
 use crate::requests::{Known, learn, request_step};
 use std::alloc::Global;
-use std::error::Error;
-use std::fmt;
 use std::marker::Model;
+use thiserror::Error;
 use vod_base::NoMemory;
 
 /// More than 131,072 bytes would wait.
-#[derive(Clone, Copy, Debug, PartialEq, Eq)]
+#[derive(Clone, Copy, Debug, PartialEq, Eq, Error)]
+#[error("too many bytes wait")]
 pub struct TooMuchInput;
-
-impl fmt::Display for TooMuchInput {
-    fn fmt<W: fmt::Write>(&self, f: &mut fmt::Formatter<W>) -> fmt::Result {
-        f.write_str("too many bytes wait")
-    }
-}
-
-impl Error for TooMuchInput {}
 
 /// The bytes of a connection that wait, and the first piece of them (RFC 2326 sections 4, 6 and
 /// 10.12).
@@ -128,12 +120,10 @@ impl Demux {
 fn line_ends(bytes: &[u8]) -> usize
     ensures { AreLineEnds bytes.now result }
 {
-    for (place, byte) in bytes.iter().enumerate() {
-        if !is_line_end(*byte) {
-            return place;
-        }
-    }
-    bytes.len()
+    bytes
+        .iter()
+        .position(|byte| !is_line_end(*byte))
+        .unwrap_or(bytes.len())
 }
 
 /// The block in front, where it is whole.

@@ -2,8 +2,7 @@
 ghost use Rattle.std.specs.Prelude.{◌≡◌, ◌/◌, ◌%◌, [], ◌∷◌};
 ghost use Rattle.interleave.specs.Heads.{is_line_end};
 
-use std::error::Error;
-use std::fmt;
+use thiserror::Error;
 
 /// What stands in front of the waiting bytes.
 #[derive(Clone, Copy, Debug, PartialEq, Eq)]
@@ -19,24 +18,15 @@ pub enum Step {
 }
 
 /// Why the waiting bytes can't begin a request.
-#[derive(Clone, Copy, Debug, PartialEq, Eq)]
+#[derive(Clone, Copy, Debug, PartialEq, Eq, Error)]
 pub enum DemuxFault {
     /// The first 16,384 bytes of a request have no empty line.
+    #[error("the head of a request is too long")]
     HeadTooLong,
     /// The first Content-Length of a request is all digits and above 65,536.
+    #[error("the body of a request is too long")]
     BodyTooLong,
 }
-
-impl fmt::Display for DemuxFault {
-    fn fmt<W: fmt::Write>(&self, f: &mut fmt::Formatter<W>) -> fmt::Result {
-        match self {
-            DemuxFault::HeadTooLong => write!(f, "the head of a request is too long"),
-            DemuxFault::BodyTooLong => write!(f, "the body of a request is too long"),
-        }
-    }
-}
-
-impl Error for DemuxFault {}
 
 /// The head of an interleaved block (RFC 2326 section 10.12): `$`, the channel, and the number of
 /// the bytes that follow, the high byte first.

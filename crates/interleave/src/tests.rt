@@ -157,14 +157,35 @@ fn limits_what_waits(rt: HostRuntime) -> Result<(), Fail> {
     Ok(())
 }
 
+/// What comes later changes neither a whole piece nor a fault, and only adds to bytes that are
+/// skipped.
 #[test]
-fn laws_run(_rt: HostRuntime) {
+fn answers_stay(rt: HostRuntime) -> Result<(), Fail> {
     law_cutting(b"$\x00\x00\x00", b"x", Ok(Step::Block(0, 4)));
-    law_one_answer(b"", Ok(Step::More), Ok(Step::More));
     law_skipping(b"\r", b"\n", 1, Ok(Step::Skip(2)));
-    law_stream_grows();
-    law_cuts_join();
-    law_cuts_agree();
-    law_next_pieces();
-    law_one_stream();
+    law_one_answer(b"", Ok(Step::More), Ok(Step::More));
+    for (waiting, later, early, late) in [
+        (
+            "$\x00\x00\x00",
+            "x",
+            Ok(Step::Block(0, 4)),
+            Ok(Step::Block(0, 4)),
+        ),
+        ("a\n\n", "\n$", Ok(Step::Request(3)), Ok(Step::Request(3))),
+        ("\r", "\n", Ok(Step::Skip(1)), Ok(Step::Skip(2))),
+        ("\r", "a", Ok(Step::Skip(1)), Ok(Step::Skip(1))),
+        (
+            "a\nContent-Length: 65537\n\n",
+            "b",
+            Err(DemuxFault::BodyTooLong),
+            Err(DemuxFault::BodyTooLong),
+        ),
+    ] {
+        let mut demux = Demux::new(rt.alloc())?;
+        demux.put(waiting.as_bytes())?;
+        assert_eq!(rt; demux.look(), early, "at {waiting:?}");
+        demux.put(later.as_bytes())?;
+        assert_eq!(rt; demux.look(), late, "at {waiting:?} and {later:?}");
+    }
+    Ok(())
 }
