@@ -65,7 +65,7 @@ impl Profile {
             && are_small(steps)
     }
 
-    /// A profile of these steps.
+    /// A profile of these steps, which [`Profile::is_allowed`] allows.
     pub fn new(steps: Vec<CapStep>) -> Profile
         requires { IsProfile steps.items }
         ensures { result ≡ steps.items }
@@ -73,7 +73,11 @@ impl Profile {
         Profile { steps }
     }
 
-    /// The same capacity in all slots.
+    /// The same capacity in all slots, at most [`MAX_CAPACITY`] bytes in each.
+    ///
+    /// # Errors
+    ///
+    /// [`NoMemory`] where there is none for its one step.
     pub fn flat(alloc: Global, bytes: u64) -> Result<Profile, NoMemory>
         requires { bytes ≤ 2 ^ 42 }
         ensures { IfOk result (λ profile. profile ≡ record { from = 0; bytes = bytes } ∷ []) }
@@ -125,12 +129,7 @@ fn ascend(steps: &[CapStep]) -> bool
 fn are_small(steps: &[CapStep]) -> bool
     ensures { IsTrue result ↔ AreSmall steps.now }
 {
-    for step in steps {
-        if step.bytes > MAX_CAPACITY {
-            return false;
-        }
-    }
-    true
+    steps.iter().all(|step| step.bytes <= MAX_CAPACITY)
 }
 
 /// The capacity of a slot, and up to where it stays: the next step's first slot, or the greatest

@@ -181,17 +181,6 @@ fn tells_capacities(rt: HostRuntime) -> Result<(), Fail> {
     Ok(())
 }
 
-/// The laws are calls.
-#[test]
-fn states_laws(_rt: HostRuntime) {
-    law_sending();
-    law_capacity();
-    law_release();
-    law_room();
-    law_shares();
-    law_one_overflow();
-}
-
 /// A capacity of 5, and of 3 from slot 3 on. The plan of 7 bytes sends 2, 2 and 3.
 #[test]
 fn books_and_cuts(rt: HostRuntime) -> Result<(), Fail> {
