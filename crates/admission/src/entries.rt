@@ -1,8 +1,7 @@
 //! Commands, answers and entries.
 
 use plan_cert::Plan;
-use std::error::Error;
-use std::fmt;
+use thiserror::Error;
 
 /// What is asked of the book.
 #[derive(Debug, Drop)]
@@ -71,25 +70,14 @@ pub struct Entry {
 
 /// The journal has no room for an entry besides those that the open plays will need for their
 /// halts. Nothing was changed.
-#[derive(Clone, Copy, Debug, PartialEq, Eq)]
+#[derive(Clone, Copy, Debug, PartialEq, Eq, Error)]
+#[error("the journal is full: {entries} entries, {live} open plays")]
 pub struct Full {
     /// How many entries the journal has.
     pub entries: u64,
     /// How many plays are open.
     pub live: u64,
 }
-
-impl fmt::Display for Full {
-    fn fmt<W: fmt::Write>(&self, f: &mut fmt::Formatter<W>) -> fmt::Result {
-        write!(
-            f,
-            "the journal is full: {} entries, {} open plays",
-            self.entries, self.live
-        )
-    }
-}
-
-impl Error for Full {}
 
 /// An entry was made.
 #[derive(Clone, Copy, Debug, PartialEq, Eq)]
@@ -101,18 +89,11 @@ pub struct Noted {
 }
 
 /// The journal has no room for a play, whose plan is handed back.
-#[derive(Debug, Drop)]
+#[derive(Debug, Drop, Error)]
+#[error("{full}")]
 pub struct PlayFull {
     /// The plan that was asked for.
     pub plan: Plan,
     /// The entries and the open plays.
     pub full: Full,
 }
-
-impl fmt::Display for PlayFull {
-    fn fmt<W: fmt::Write>(&self, f: &mut fmt::Formatter<W>) -> fmt::Result {
-        write!(f, "{}", self.full)
-    }
-}
-
-impl Error for PlayFull {}

@@ -271,24 +271,6 @@ fn keeps_each_capacity(rt: HostRuntime) -> Result<(), Fail> {
     run(&rt, rt.alloc(), &mut book, rows.as_slice(), &[2, 2, 3, 0])
 }
 
-/// The laws are calls.
-#[test]
-fn states_laws(_rt: HostRuntime) {
-    law_bookings();
-    law_prefix();
-    law_starts();
-    law_never_overbooked();
-    law_open();
-    law_plays();
-    law_one_step();
-    law_one_history();
-    law_counts();
-    law_looks();
-    law_own_play();
-    law_makers();
-    law_halts_fit();
-}
-
 #[test]
 fn tells_refusals(rt: HostRuntime) -> Result<(), Fail> {
     let full = Full {
