@@ -76,8 +76,8 @@ fn search(
 }
 
 impl Offers {
-    /// Reserves room for all starts up to `wait` slots later than the first; no other call takes
-    /// memory.
+    /// Reserves room for all starts up to `wait` slots later than the first, at most [`MAX_WAIT`];
+    /// no other call takes memory.
     ///
     /// # Errors
     ///
@@ -122,6 +122,8 @@ impl Offers {
 
     /// Finds the least start from `first` to `first + wait` where the plan fits into every slot of
     /// the calendar, in place of what was found before. It books nothing and takes no memory.
+    ///
+    /// `first` is after the calendar's now, and at most 2^62 + 1.
     pub fn find(&mut self, calendar: &Calendar, plan: &Plan, first: u64)
         requires after { calendar.now.first < first }
         requires small { first ≤ 2 ^ 62 + 1 }
