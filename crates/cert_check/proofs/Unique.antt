@@ -7,21 +7,7 @@ use Rattle.std.proofs.lemmas.Bool.{cases_lt, cases_order}
 use Rattle.std.proofs.lemmas.List.Sums.{sum_by-cons}
 use Rattle.plan_cert.specs.declared.Segment.{Segment}
 use Rattle.plan_cert.specs.Slots.{total_slots, total_bytes}
-use Rattle.cert_check.specs.Taut.{StaysBetween, RunsTaut}
-
--- the ray of a segment from place k and height v meets the lower curve, with the upper one not below it on the way
-pub record MeetsLow (lo hi : ℕ → ℕ) (k v : ℕ) (s : Segment) : Type 0 where
-  pub far : ℕ
-  pub later : 1 ≤ far
-  pub touches : v * s.slots + far * s.bytes ≤ lo (k + far) * s.slots
-  pub free : (i : ℕ) → i ≤ far → v * s.slots + i * s.bytes ≤ hi (k + i) * s.slots
-
--- it meets the upper curve, with the lower one not above it on the way
-pub record MeetsHigh (lo hi : ℕ → ℕ) (k v : ℕ) (s : Segment) : Type 0 where
-  pub far : ℕ
-  pub later : 1 ≤ far
-  pub touches : hi (k + far) * s.slots ≤ v * s.slots + far * s.bytes
-  pub free : (i : ℕ) → i ≤ far → lo (k + i) * s.slots ≤ v * s.slots + i * s.bytes
+use Rattle.cert_check.specs.Taut.{StaysBetween, RunsTaut, MeetsLower, MeetsUpper}
 
 -- the line ends on both curves
 pub record EndsOn (lo hi : ℕ → ℕ) (k v : ℕ) (segments : List Segment) : Type 0 where
@@ -93,7 +79,7 @@ apart fork j h some below above =
     open fork use {height as v, flat.{slots as n, bytes as b}, steep.{slots as n', bytes as b'}}
 
 -- so a steeper ray that meets low and a flatter one that meets high don't begin together
-pub no_steeper : {lo hi : ℕ → ℕ} {k v : ℕ} {flat steep : Segment} → MeetsHigh lo hi k v flat → MeetsLow lo hi k v steep
+pub no_steeper : {lo hi : ℕ → ℕ} {k v : ℕ} {flat steep : Segment} → MeetsUpper lo hi k v flat → MeetsLower lo hi k v steep
     → flat.bytes * steep.slots < steep.bytes * flat.slots → ⊥
 no_steeper {lo} {hi} {k} {v} {flat} {steep} high low steeper =
     let fork : Fork = record { height = v; flat = flat; steep = steep; steeper = steeper } in
@@ -103,7 +89,7 @@ no_steeper {lo} {hi} {k} {v} {flat} {steep} high low steeper =
     ]
 
 first_meets_low : {lo hi : ℕ → ℕ} {k v : ℕ} {s : Segment} → StaysBetween lo hi k v s → v + s.bytes ≡ lo (k + s.slots)
-    → MeetsLow lo hi k v s
+    → MeetsLower lo hi k v s
 first_meets_low {lo} {k} {v} {s} stays on_low = record {
   far = s.slots;
   later = stays.some;
@@ -112,7 +98,7 @@ first_meets_low {lo} {k} {v} {s} stays on_low = record {
 }
 
 first_meets_high : {lo hi : ℕ → ℕ} {k v : ℕ} {s : Segment} → StaysBetween lo hi k v s → v + s.bytes ≡ hi (k + s.slots)
-    → MeetsHigh lo hi k v s
+    → MeetsUpper lo hi k v s
 first_meets_high {lo} {hi} {k} {v} {s} stays on_high = record {
   far = s.slots;
   later = stays.some;
@@ -122,7 +108,7 @@ first_meets_high {lo} {hi} {k} {v} {s} stays on_high = record {
 
 -- the meeting of a steeper segment's ray, seen along the ray of the segment before it
 low_further : {lo hi : ℕ → ℕ} {k v : ℕ} {s : Segment} (next : Segment) → StaysBetween lo hi k v s → 1 ≤ next.slots →
-    s.bytes * next.slots ≤ next.bytes * s.slots → MeetsLow lo hi (k + s.slots) (v + s.bytes) next → MeetsLow lo hi k v s
+    s.bytes * next.slots ≤ next.bytes * s.slots → MeetsLower lo hi (k + s.slots) (v + s.bytes) next → MeetsLower lo hi k v s
 low_further {lo} {hi} {k} {v} {s} next stays some steeper meets =
     let bend : Bend = record { place = k; height = v; first = s; next = next; some = some } in
     record {
@@ -137,7 +123,7 @@ low_further {lo} {hi} {k} {v} {s} next stays some steeper meets =
     }
 
 high_further : {lo hi : ℕ → ℕ} {k v : ℕ} {s : Segment} (next : Segment) → StaysBetween lo hi k v s → 1 ≤ next.slots →
-    next.bytes * s.slots ≤ s.bytes * next.slots → MeetsHigh lo hi (k + s.slots) (v + s.bytes) next → MeetsHigh lo hi k v s
+    next.bytes * s.slots ≤ s.bytes * next.slots → MeetsUpper lo hi (k + s.slots) (v + s.bytes) next → MeetsUpper lo hi k v s
 high_further {lo} {hi} {k} {v} {s} next stays some flatter meets =
     let bend : Bend = record { place = k; height = v; first = s; next = next; some = some } in
     record {
@@ -172,7 +158,7 @@ line_on {lo} {hi} {k} {v} {s} {rest} line =
 
 -- every taut line's first ray meets low
 pub meets_low : {lo hi : ℕ → ℕ} {k v : ℕ} {s : Segment} {rest : List Segment} → IsTautLine lo hi k v (s ∷ rest)
-    → MeetsLow lo hi k v s
+    → MeetsLower lo hi k v s
 meets_low {lo} {k} {v} {s} {rest = []} line =
     let e = (line_on line).ends.low in
     let on_low : v + s.bytes ≡ lo (k + s.slots) = sym (ap lo (omega arith) ∙ e ∙ omega arith) in
@@ -186,7 +172,7 @@ meets_low {lo} {hi} {k} {v} {s} {rest = next ∷ rest} line =
 
 -- and meets high
 pub meets_high : {lo hi : ℕ → ℕ} {k v : ℕ} {s : Segment} {rest : List Segment} → IsTautLine lo hi k v (s ∷ rest)
-    → MeetsHigh lo hi k v s
+    → MeetsUpper lo hi k v s
 meets_high {lo} {hi} {k} {v} {s} {rest = []} line =
     let e = (line_on line).ends.high in
     let on_high : v + s.bytes ≡ hi (k + s.slots) = sym (ap hi (omega arith) ∙ e ∙ omega arith) in

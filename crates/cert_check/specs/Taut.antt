@@ -26,3 +26,19 @@ RunsTaut lo hi k v (s ∷ rest) =
     StaysBetween lo hi k v s
     × Bends lo hi (k + s.slots) (v + s.bytes) s rest
     × RunsTaut lo hi (k + s.slots) (v + s.bytes) rest
+
+-- The ray of a segment from place k and height v comes to stand on or below the lower curve, and
+-- isn't above the upper one until then: no flatter line can keep between the curves from there.
+pub record MeetsLower (lo hi : ℕ → ℕ) (k v : ℕ) (s : Segment) : Type 0 where
+  pub far : ℕ
+  pub later : 1 ≤ far
+  pub touches : v * s.slots + far * s.bytes ≤ lo (k + far) * s.slots
+  pub free : (i : ℕ) → i ≤ far → v * s.slots + i * s.bytes ≤ hi (k + i) * s.slots
+
+-- It comes to stand on or above the upper curve, and isn't below the lower one until then: no
+-- steeper line can.
+pub record MeetsUpper (lo hi : ℕ → ℕ) (k v : ℕ) (s : Segment) : Type 0 where
+  pub far : ℕ
+  pub later : 1 ≤ far
+  pub touches : hi (k + far) * s.slots ≤ v * s.slots + far * s.bytes
+  pub free : (i : ℕ) → i ≤ far → lo (k + i) * s.slots ≤ v * s.slots + i * s.bytes

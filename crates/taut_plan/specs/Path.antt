@@ -1,26 +1,10 @@
 -- The part of the taut line that is known: its segments up to the last corner, and what may follow
 -- there.
-use Rattle.std.specs.Prelude.{◌≡◌, ℕ, ◌+◌, ◌-◌, ◌*◌, ◌≤◌, List, [], ◌∷◌, ◌++◌}
+use Rattle.std.specs.Prelude.{◌≡◌, ℕ, ◌+◌, ◌-◌, ◌≤◌, List, [], ◌∷◌, ◌++◌}
 use Rattle.plan_cert.specs.declared.Segment.{Segment}
 use Rattle.plan_cert.specs.Slots.{total_slots, total_bytes}
-use Rattle.cert_check.specs.Taut.{RunsTaut}
+use Rattle.cert_check.specs.Taut.{MeetsLower, MeetsUpper, RunsTaut}
 use Rattle.taut_plan.specs.declared.points.Point.{Point}
-
--- The ray of a segment from place k and height v comes to stand on or below the lower curve, and
--- isn't above the upper one until then: no flatter line can keep between the curves from there.
-pub record MeetsLower (lo hi : ℕ → ℕ) (k v : ℕ) (s : Segment) : Type 0 where
-  pub far : ℕ
-  pub later : 1 ≤ far
-  pub touches : v * s.slots + far * s.bytes ≤ lo (k + far) * s.slots
-  pub free : (i : ℕ) → i ≤ far → v * s.slots + i * s.bytes ≤ hi (k + i) * s.slots
-
--- It comes to stand on or above the upper curve, and isn't below the lower one until then: no
--- steeper line can.
-pub record MeetsUpper (lo hi : ℕ → ℕ) (k v : ℕ) (s : Segment) : Type 0 where
-  pub far : ℕ
-  pub later : 1 ≤ far
-  pub touches : hi (k + far) * s.slots ≤ v * s.slots + far * s.bytes
-  pub free : (i : ℕ) → i ≤ far → lo (k + i) * s.slots ≤ v * s.slots + i * s.bytes
 
 -- the first of the segments that follow has the one slope that the curves leave there
 abbrev pub HasOneSlope : (lo hi : ℕ → ℕ) → ℕ → ℕ → List Segment → Type 0
