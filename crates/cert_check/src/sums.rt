@@ -12,12 +12,8 @@ pub(crate) fn first_empty(segments: &[Segment]) -> Option<u64>
     ensures { MatchOption result ((i : ℕ) →
         ¬ IsEmptyAt segments.now i) (IsFirst (IsEmptyAt segments.now)) }
 {
-    for (i, segment) in segments.iter().enumerate() {
-        if segment.slots == 0 {
-            return Some(i as u64);
-        }
-    }
-    None
+    let i = segments.iter().position(|segment| segment.slots == 0)?;
+    Some(i as u64)
 }
 
 /// Whether the bytes of the segments lead from `from` to `total`.
