@@ -1,9 +1,10 @@
 //! Counts of faults.
 
-ghost use Rattle.std.specs.Prelude.{◌≡◌, ◌≤◌, ◌<◌, IfOk, OnErr};
-ghost use Rattle.vod_base.specs.Outside.{HasRisen};
+ghost use Rattle.std.specs.Prelude.{◌≡◌, ◌+◌, ◌-◌, ◌^◌, ◌≤◌, ◌<◌, min, Err, IfOk, OnOk, OnErr};
+ghost use Rattle.vod_base.specs.Outside.{HasRisen, one_more};
 
 use std::io;
+use std::io::ErrorKind;
 
 /// How many faults an object has counted, at most 2^64 - 1.
 #[derive(Clone, Copy)]
@@ -21,7 +22,7 @@ impl Faults {
 
     /// Counts a fault.
     pub(crate) fn add(&mut self)
-        ensures count { self.old.count ≤ self.new.count }
+        ensures count { self.new.count ≡ one_more self.old.count }
         ensures risen { HasRisen self.old.count self.new.count }
     {
         self.count = self.count.saturating_add(1);
@@ -31,6 +32,8 @@ impl Faults {
     pub(crate) fn pass_on<T, E: Drop>(&mut self, answer: io::Result<T>, fault: E) -> Result<T, E>
         ensures count { self.old.count ≤ self.new.count }
         ensures value { IfOk result (λ value. answer ≡ Ok value) }
+        ensures same { OnOk result (self.new ≡ self.old) }
+        ensures fault { OnErr answer (result ≡ Err fault) }
         ensures risen { OnErr result (HasRisen self.old.count self.new.count) }
     {
         match answer {
@@ -45,8 +48,15 @@ impl Faults {
     /// Counts the faults of a part, too.
     pub(crate) fn join(&mut self, part: Faults)
         ensures count { self.old.count ≤ self.new.count }
+        ensures sum { self.new.count ≡ min (self.old.count + part.count) (2 ^ 64 - 1) }
         ensures risen { 0 < part.count → HasRisen self.old.count self.new.count }
     {
         self.count = self.count.saturating_add(part.count);
     }
+}
+
+/// What is answered where a loop that its body alone ends has counted to 2^64 - 1, which it never
+/// reaches.
+pub(crate) fn end_of_count() -> io::Error {
+    io::Error::from(ErrorKind::TimedOut)
 }

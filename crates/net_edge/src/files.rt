@@ -1,8 +1,8 @@
 //! The files of the current folder.
 
-ghost use Rattle.std.specs.Prelude.{◌≡◌, None};
+ghost use Rattle.std.specs.Prelude.{◌≡◌, ◌≤◌, None, length, IfOk};
 
-use crate::faults::Faults;
+use crate::faults::{Faults, end_of_count};
 use std::alloc::Global;
 use std::io::{ErrorKind, Read, Seek, SeekFrom};
 use std::rt::Files;
@@ -50,7 +50,8 @@ impl<'a, R: Files> FileLibrary<'a, R> {
 
     /// Reads at a place of a file.
     fn read_at(&mut self, name: &str, at: u64, into: &mut [u8]) -> io::Result<usize>
-        ensures { self.new.faults ≡ self.old.faults }
+        ensures faults { self.new.faults ≡ self.old.faults }
+        ensures within { IfOk result (λ count. count ≤ length into.new) }
     {
         let mut open = self.open_at(name, at)?;
         let count = read_some(&mut open.file, into)?;
@@ -66,24 +67,13 @@ impl<R: Files> Library for FileLibrary<'_, R> {
     ghost files = { λ _. None };
 
     fn find(&mut self, name: &str) -> Result<Option<u64>, StoreFault> {
-        match fs::metadata(self.rt, name) {
-            Ok(metadata) => Ok(Some(metadata.len())),
-            Err(error) if error.kind() == ErrorKind::NotFound => Ok(None),
-            Err(_) => {
-                self.faults.add();
-                Err(StoreFault)
-            }
-        }
+        let found = file_size(self.rt, name);
+        self.faults.pass_on(found, StoreFault)
     }
 
     fn read(&mut self, name: &str, at: u64, into: &mut [u8]) -> Result<usize, StoreFault> {
-        match self.read_at(name, at, into) {
-            Ok(count) if count <= into.len() => Ok(count),
-            _ => {
-                self.faults.add();
-                Err(StoreFault)
-            }
-        }
+        let read = self.read_at(name, at, into);
+        self.faults.pass_on(read, StoreFault)
     }
 }
 
@@ -95,13 +85,24 @@ struct Open<F> {
     place: u64,
 }
 
+/// The size in bytes of the file of that name, or None where there is none.
+fn file_size<R: Files>(rt: &R, name: &str) -> io::Result<Option<u64>> {
+    match fs::metadata(rt, name) {
+        Ok(metadata) => Ok(Some(metadata.len())),
+        Err(error) if error.kind() == ErrorKind::NotFound => Ok(None),
+        Err(error) => Err(error),
+    }
+}
+
 /// Reads, again where a signal interrupted it.
-fn read_some<F: Read>(file: &mut F, into: &mut [u8]) -> io::Result<usize> {
+fn read_some<F: Read>(file: &mut F, into: &mut [u8]) -> io::Result<usize>
+    ensures { IfOk result (λ count. count ≤ length into.new) }
+{
     for _ in 0..u64::MAX {
         match file.read(into) {
             Err(error) if error.kind() == ErrorKind::Interrupted => {}
             read => return read,
         }
     }
-    Ok(0)
+    Err(end_of_count())
 }

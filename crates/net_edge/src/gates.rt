@@ -2,7 +2,7 @@
 
 ghost use Rattle.std.specs.Prelude.{◌≡◌, None, IfOk, IfSome};
 
-use crate::faults::Faults;
+use crate::faults::{Faults, end_of_count};
 use crate::links::{SlotClock, TcpLink};
 use std::alloc::Global;
 use std::io;
@@ -58,7 +58,7 @@ impl<'a, R: Net<Listener = TcpListener, Stream = TcpStream> + Clock> TcpGate<'a,
         let Some(door) = &self.door else {
             return Err(io::Error::from(ErrorKind::NotConnected));
         };
-        if door.connections != 0 && self.given >= door.connections {
+        if door.most.is_some_and(|most| self.given >= most) {
             return Ok(None);
         }
         for _ in 0..u64::MAX {
@@ -68,7 +68,7 @@ impl<'a, R: Net<Listener = TcpListener, Stream = TcpStream> + Clock> TcpGate<'a,
                 return Ok(Some(link));
             }
         }
-        Err(io::Error::from(ErrorKind::TimedOut))
+        Err(end_of_count())
     }
 }
 
@@ -118,8 +118,8 @@ impl<'a, R: Net<Listener = TcpListener, Stream = TcpStream> + Clock> Gate for Tc
 struct Door {
     listener: TcpListener,
     clock: SlotClock,
-    /// The most connections that are given, or 0 where there is no end.
-    connections: u64,
+    /// The most connections that are given, if there is an end.
+    most: Option<u64>,
 }
 
 /// Opens a port.
@@ -136,7 +136,10 @@ fn open_door<R: Net<Listener = TcpListener, Stream = TcpStream> + Clock>(
     Ok(Door {
         listener,
         clock: SlotClock::start(rt, how)?,
-        connections: how.connections,
+        most: match how.connections {
+            0 => None,
+            most => Some(most),
+        },
     })
 }
 
@@ -168,7 +171,7 @@ impl Door {
         Ok(Door {
             listener: self.listener.try_clone()?,
             clock: self.clock,
-            connections: self.connections,
+            most: self.most,
         })
     }
 
@@ -181,6 +184,6 @@ impl Door {
                 Err(error) => return Err(error),
             }
         }
-        Err(io::Error::from(ErrorKind::TimedOut))
+        Err(end_of_count())
     }
 }

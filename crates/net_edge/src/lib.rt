@@ -3,8 +3,8 @@
 //! faults rose in it.
 #![tactic(auto)]
 
-// Where a loop ends by its body alone, it counts to 2^64 - 1, which it never reaches: a call must
-// be proved to end.
+// Where a loop ends by its body alone, it counts to 2^64 - 1, which it never reaches, and an error
+// stands after it: a call must be proved to end.
 mod dials;
 mod faults;
 mod files;

@@ -3,7 +3,7 @@
 ghost use Rattle.std.specs.Prelude.{◌≡◌, ◌<◌, ◌≤◌, None, length, IfOk, IfSome};
 ghost use Rattle.vod_base.specs.Links.{IsWithin};
 
-use crate::faults::Faults;
+use crate::faults::{Faults, end_of_count};
 use crate::gathers::Gathered;
 use crate::slots::{rest_of_slot, slot_at};
 use mio::net::TcpStream;
@@ -39,6 +39,21 @@ impl SlotClock {
             opened: Instant::now(rt)?,
             slot_units: how.slot_units,
         })
+    }
+
+    /// The time since slot 0 began.
+    fn elapsed<R: Clock>(&self, rt: &R) -> io::Result<Duration> {
+        self.opened.elapsed(rt)
+    }
+
+    /// The slot by the clock.
+    fn slot<R: Clock>(&self, rt: &R) -> io::Result<u64> {
+        Ok(slot_at(self.elapsed(rt)?, self.slot_units.max(1)))
+    }
+
+    /// How long the slot by the clock still lasts.
+    fn rest_of_slot<R: Clock>(&self, rt: &R) -> io::Result<Duration> {
+        Ok(rest_of_slot(self.elapsed(rt)?, self.slot_units.max(1)))
     }
 }
 
@@ -98,16 +113,11 @@ impl<'a, R: Net + Clock> TcpLink<'a, R> {
 }
 
 impl<R: Clock> TcpLink<'_, R> {
-    /// The time since the gate was opened.
-    fn elapsed(&self) -> io::Result<Duration> {
-        self.clock.opened.elapsed(self.rt)
-    }
-
     /// The slot by the clock, where it wasn't told yet.
     fn new_slot(&mut self) -> io::Result<Option<u64>>
         ensures { self.new.faults ≡ self.old.faults }
     {
-        let slot = slot_at(self.elapsed()?, self.clock.slot_units.max(1));
+        let slot = self.clock.slot(self.rt)?;
         if self.slot.is_some_and(|told| slot <= told) {
             return Ok(None);
         }
@@ -152,7 +162,7 @@ impl<R: Clock> TcpLink<'_, R> {
     {
         for _ in 0..u64::MAX {
             if self.gathered.waiting().is_empty() {
-                break;
+                return Ok(());
             }
             match self.socket.write(self.gathered.waiting()) {
                 Ok(0) => return Err(io::Error::from(ErrorKind::WriteZero)),
@@ -165,7 +175,7 @@ impl<R: Clock> TcpLink<'_, R> {
                 Err(error) => return Err(error),
             }
         }
-        Ok(())
+        Err(end_of_count())
     }
 
     /// Gathers bytes, and writes while there is no room for them.
@@ -177,14 +187,14 @@ impl<R: Clock> TcpLink<'_, R> {
             let count = self.gathered.put(rest);
             rest = &rest[count..];
             if rest.is_empty() {
-                break;
+                return Ok(());
             }
             self.flush()?;
             if self.stuck.is_some() {
                 self.wait(Duration::from_secs(RETRY))?;
             }
         }
-        Ok(())
+        Err(end_of_count())
     }
 
     /// Reads what came; None where nothing came.
@@ -206,7 +216,7 @@ impl<R: Clock> TcpLink<'_, R> {
                 Err(error) => return Err(error),
             }
         }
-        Ok(None)
+        Err(end_of_count())
     }
 
     /// Waits for the next event: first what is gathered leaves, then the slot goes by the clock,
@@ -226,10 +236,10 @@ impl<R: Clock> TcpLink<'_, R> {
                 Some(count) => return Ok(Heard::Bytes(count)),
                 None => {}
             }
-            let rest = rest_of_slot(self.elapsed()?, self.clock.slot_units.max(1));
+            let rest = self.clock.rest_of_slot(self.rt)?;
             self.wait(rest)?;
         }
-        Ok(Heard::End)
+        Err(end_of_count())
     }
 
     /// Writes all gathered bytes, within the time that a peer has for them.
@@ -240,11 +250,11 @@ impl<R: Clock> TcpLink<'_, R> {
             self.flush()?;
             let waited = begun.elapsed(self.rt)?;
             if self.gathered.waiting().is_empty() || waited >= patience {
-                break;
+                return Ok(());
             }
             self.wait(patience.saturating_sub(waited))?;
         }
-        Ok(())
+        Err(end_of_count())
     }
 
     /// Waits a little for the peer to end, and drops what it still sends.
@@ -255,15 +265,15 @@ impl<R: Clock> TcpLink<'_, R> {
         for _ in 0..u64::MAX {
             let waited = begun.elapsed(self.rt)?;
             if waited >= most {
-                break;
+                return Ok(());
             }
             match self.read(&mut dropped)? {
-                Some(0) => break,
+                Some(0) => return Ok(()),
                 Some(_) => {}
                 None => self.wait(most.saturating_sub(waited))?,
             }
         }
-        Ok(())
+        Err(end_of_count())
     }
 
     /// Writes all gathered bytes and ends the sending side. It reads on for a little: a socket that

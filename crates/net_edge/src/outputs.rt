@@ -1,8 +1,9 @@
 //! Streams that are written to.
 
-ghost use Rattle.std.specs.Prelude.{None};
+ghost use Rattle.std.specs.Prelude.{◌≡◌, None};
 
 use crate::faults::Faults;
+use std::io;
 use std::io::Write;
 use vod_base::{Sink, SinkFault};
 
@@ -21,6 +22,14 @@ impl<W: Write + Drop> OutSink<W> {
             faults: Faults::new(),
         }
     }
+
+    /// Writes all bytes, and leaves none of them in a buffer of the stream.
+    fn write_through(&mut self, bytes: &[u8]) -> io::Result<()>
+        ensures { self.new.faults ≡ self.old.faults }
+    {
+        self.stream.write_all(bytes)?;
+        self.stream.flush()
+    }
 }
 
 impl<W: Write + Drop> Sink for OutSink<W> {
@@ -29,10 +38,7 @@ impl<W: Write + Drop> Sink for OutSink<W> {
     ghost written = { λ _. None };
 
     fn write_all(&mut self, bytes: &[u8]) -> Result<(), SinkFault> {
-        if self.stream.write_all(bytes).is_ok() && self.stream.flush().is_ok() {
-            return Ok(());
-        }
-        self.faults.add();
-        Err(SinkFault)
+        let written = self.write_through(bytes);
+        self.faults.pass_on(written, SinkFault)
     }
 }
