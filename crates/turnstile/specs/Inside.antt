@@ -6,6 +6,7 @@ use Rattle.turnstile.specs.declared.view.View.{View}
 use Rattle.admission.specs.Makers.{made_by}
 use Rattle.turnstile.specs.Passes.{PassState}
 use Rattle.turnstile.specs.Steps.{spent_view}
+use Rattle.turnstile.specs.Taken.{stands_as}
 
 abbrev pub view_at_rest : List View → View
 view_at_rest [] = spent_view
@@ -16,15 +17,10 @@ is_away [] = true
 is_away (v ∷ rest) = false
 
 abbrev pub pass_state : Inside → PassState
-pass_state p = record {
-  id = p.badge.table_id;
+pass_state p = record (stands_as p.badge.table_id (view_at_rest p.badge.views)) {
   has_turn = is_away p.badge.views;
   number = p.number;
-  terms = (view_at_rest p.badge.views).terms;
-  seen = (view_at_rest p.badge.views).seen;
-  mine = (view_at_rest p.badge.views).mine;
   splits = p.splits;
-  joined = (view_at_rest p.badge.views).joined;
 }
 
 pub record IsResting (v : View) (number splits : ℕ) : Type 0 where

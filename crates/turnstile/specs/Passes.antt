@@ -34,11 +34,11 @@ IsJoined (j ∷ rest) number = (j.number ≡ number) ⊎ IsJoined rest number
 
 -- the first pass of a turnstile
 abbrev pub first_pass : TurnstileState → PassState
-first_pass gate = record {
-  id = gate.id;
+first_pass turnstile = record {
+  id = turnstile.id;
   has_turn = false;
   number = 0;
-  terms = gate.terms;
+  terms = turnstile.terms;
   seen = [];
   mine = [];
   splits = 0;
@@ -51,15 +51,9 @@ after_split pass = record pass { splits = pass.splits + 1 }
 
 -- the pass that was split from it
 abbrev pub new_pass : PassState → PassState
-new_pass pass = record {
-  id = pass.id;
-  has_turn = false;
+new_pass pass = record (first_pass (record { id = pass.id; terms = pass.terms })) {
   number = pass.splits + 1;
-  terms = pass.terms;
   seen = pass.seen;
-  mine = [];
-  splits = 0;
-  joined = [];
 }
 
 -- the longer of two lists

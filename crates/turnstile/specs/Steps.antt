@@ -42,18 +42,7 @@ view_after_split v = record v { splits = v.splits + 1 }
 
 -- the pass that is split from it
 abbrev pub split_view : View → View
-split_view v = record {
-  spent = false;
-  number = v.splits + 1;
-  stage = Idle;
-  terms = v.terms;
-  seen = v.seen;
-  told = [];
-  told_terms = v.terms;
-  mine = [];
-  splits = 0;
-  joined = [];
-}
+split_view v = record (first_view v.terms) { number = v.splits + 1; seen = v.seen }
 
 abbrev pub past_of : View → Joined
 past_of w = record { number = w.number; mine = w.mine }
@@ -72,18 +61,7 @@ no_terms = record { steps = []; limit = 0 }
 
 -- what is left of the other
 abbrev pub spent_view : View
-spent_view = record {
-  spent = true;
-  number = 0;
-  stage = Idle;
-  terms = no_terms;
-  seen = [];
-  told = [];
-  told_terms = no_terms;
-  mine = [];
-  splits = 0;
-  joined = [];
-}
+spent_view = record (first_view no_terms) { spent = true }
 
 -- a pass that reads what it knows
 pub record Knows (v : View) : Type 0 where

@@ -13,6 +13,7 @@ pub(crate) struct Bells {
 }
 
 impl Bells {
+    /// Bells at which nobody sleeps.
     pub(crate) fn new() -> Bells {
         Bells {
             bells: array::from_fn(|_| EventCount::new()),

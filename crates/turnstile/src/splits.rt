@@ -4,6 +4,7 @@ ghost use Rattle.turnstile.specs.Steps.{view_after_join, split_view, spent_view,
 use crate::view::View;
 use atomic_table::{Join, Split};
 
+/// How a view is split in two.
 pub(crate) struct Splits;
 
 impl Split<View> for Splits {
@@ -12,6 +13,7 @@ impl Split<View> for Splits {
     ghost right = { split_view };
 }
 
+/// How two views are joined, and what is left of the second.
 pub(crate) struct Joins;
 
 impl Join<View> for Joins {

@@ -13,12 +13,14 @@ use crate::view::View;
 use atomic_table::Play;
 use std::marker::PhantomData;
 
+/// What drawing a ticket tells.
 pub(crate) struct Draws;
 
 impl<B> Play<Option<B>, View> for Draws {
     ghost then = { λ _. Drew };
 }
 
+/// What a look at the ticket whose turn it is tells.
 pub(crate) struct Looks<B> {
     marker: PhantomData<B>,
 }
@@ -27,6 +29,7 @@ impl<B: Kept> Play<Option<B>, View> for Looks<B> {
     ghost then = { λ _. Looked B.entries B.terms };
 }
 
+/// What counting an entry tells.
 pub(crate) struct Raises<B> {
     marker: PhantomData<B>,
 }
@@ -35,12 +38,14 @@ impl<B: Kept> Play<Option<B>, View> for Raises<B> {
     ghost then = { λ _. Raised B.entries };
 }
 
+/// What giving the turn on tells.
 pub(crate) struct Leaves;
 
 impl<B> Play<Option<B>, View> for Leaves {
     ghost then = { λ _. Left };
 }
 
+/// What reading a word tells of what the pass knows.
 pub(crate) struct Tells;
 
 impl<B> Play<Option<B>, View> for Tells {

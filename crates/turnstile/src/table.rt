@@ -12,12 +12,13 @@ pub(crate) const TICKETS: usize = 0;
 /// The ticket whose turn it is, modulo 2^64.
 pub(crate) const SERVING: usize = 1;
 
-/// The slot of the value.
-pub(crate) const VALUE: usize = 0;
-
 /// How many entries the list has, modulo 2^64.
 pub(crate) const ENTRIES: usize = 2;
 
+/// The slot of the value.
+pub(crate) const VALUE: usize = 0;
+
+/// The rule of the turn: what holds of the words, the slot and the views at each moment.
 pub(crate) struct Turns<B> {
     marker: PhantomData<B>,
 }
@@ -31,8 +32,11 @@ impl<B: Kept> TableRule<Option<B>, View, Snapshot<B>> for Turns<B> {
     ghost first = { λ key. first_view (B.terms key.value) };
 }
 
+/// The table of a turnstile.
 pub(crate) type Board<B> = Table<Option<B>, View, Snapshot<B>, Turns<B>, Global>;
 
+/// What the passes share of the table.
 pub(crate) type Top<B> = Shared<Option<B>, View, Snapshot<B>, Turns<B>>;
 
+/// A pass at the table, with its view and the slot that it has taken.
 pub(crate) type Place<B> = Seat<Option<B>, View>;

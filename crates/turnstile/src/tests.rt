@@ -40,6 +40,7 @@ impl Kept for Log {
 }
 
 impl Log {
+    /// Appends a look by this maker.
     fn add<R: Abort>(&mut self, rt: &R, maker: u32)
         ensures { self.new ≡ self.old ++ record {
           maker = maker;
@@ -57,29 +58,30 @@ impl Log {
 }
 
 /// A turn in which the pass adds an entry.
-fn take_turn<R: Wait + Abort>(rt: &R, gate: &Turnstile<Log>, pass: &mut Pass)
-    requires own { pass.old.id ≡ gate.now.id }
+fn take_turn<R: Wait + Abort>(rt: &R, turnstile: &Turnstile<Log>, pass: &mut Pass)
+    requires own { pass.old.id ≡ turnstile.now.id }
     requires free { pass.old.has_turn ≡ false }
     ensures { pass.new ≡ record pass.old { seen = pass.new.seen; mine = pass.new.mine } }
 {
-    let mut turn = gate.enter(rt, pass);
+    let mut turn = turnstile.enter(rt, pass);
     let maker = pass.number();
     turn.value().add(rt, maker);
-    gate.leave(pass, turn);
+    turnstile.leave(pass, turn);
 }
 
 /// 50 turns.
-fn take_turns<R: Wait + Abort>(rt: &R, gate: &Turnstile<Log>, mut pass: Pass) -> Pass
-    requires own { pass.id ≡ gate.now.id }
+fn take_turns<R: Wait + Abort>(rt: &R, turnstile: &Turnstile<Log>, mut pass: Pass) -> Pass
+    requires own { pass.id ≡ turnstile.now.id }
     requires free { pass.has_turn ≡ false }
     ensures { result ≡ record pass { seen = result.seen; mine = result.mine } }
 {
     for _ in 0..50 {
-        take_turn(rt, gate, &mut pass);
+        take_turn(rt, turnstile, &mut pass);
     }
     pass
 }
 
+/// How many entries of a maker a list has.
 fn count_of(log: &Log, maker: u32) -> usize {
     log.entries
         .iter()
@@ -87,14 +89,19 @@ fn count_of(log: &Log, maker: u32) -> usize {
         .count()
 }
 
-fn two<R: Threads + Wait + Abort + Sync>(rt: &R, gate: Turnstile<Log>, mut first: Pass)
-    requires { first ≡ first_pass gate }
+/// Two passes beside each other take 50 turns each, after one of the first pass.
+fn run_two_passes<R: Threads + Wait + Abort + Sync>(
+    rt: &R,
+    turnstile: Turnstile<Log>,
+    mut first: Pass,
+)
+    requires { first ≡ first_pass turnstile }
 {
-    take_turn(rt, &gate, &mut first);
-    let one = gate.split(&mut first);
-    let two = gate.split(&mut first);
+    take_turn(rt, &turnstile, &mut first);
+    let one = turnstile.split(&mut first);
+    let two = turnstile.split(&mut first);
     assert_eq!(rt; (first.number(), one.number(), two.number()), (0, 1, 2));
-    let shared = &gate;
+    let shared = &turnstile;
     let (one, two) = join(
         rt,
         || -> Pass
@@ -108,9 +115,9 @@ fn two<R: Threads + Wait + Abort + Sync>(rt: &R, gate: Turnstile<Log>, mut first
             ensures { result ≡ record two { seen = result.seen; mine = result.mine } }
         { take_turns(rt, shared, two) },
     );
-    gate.join(&mut first, two);
-    gate.join(&mut first, one);
-    let log = gate.close(first);
+    turnstile.join(&mut first, two);
+    turnstile.join(&mut first, one);
+    let log = turnstile.close(first);
     assert_eq!(rt;
         (count_of(&log, 0), count_of(&log, 1), count_of(&log, 2)),
         (1, 50, 50)
@@ -127,7 +134,7 @@ fn threads_take_turns(rt: HostRuntime) -> Result<(), Fail> {
     let log = Log {
         entries: Vec::new(alloc),
     };
-    let (gate, first) = Turnstile::new(alloc, log)?;
-    two(&rt, gate, first);
+    let (turnstile, first) = Turnstile::new(alloc, log)?;
+    run_two_passes(&rt, turnstile, first);
     Ok(())
 }

@@ -21,6 +21,7 @@ use std::marker::Model;
 pub struct Turn<B: Kept> {
     seat: Place<B>,
     value: B,
+    /// How many entries its list had when the turn was taken.
     before: u64,
 }
 
@@ -37,6 +38,7 @@ impl<B: Kept> Model for Turn<B> {
 }
 
 impl<B: Kept> Turn<B> {
+    /// The turn of a pass that has emptied the slot, with the value from it.
     pub(crate) fn begin(seat: Place<B>, value: B) -> Turn<B>
         requires turn { IsTurn seat.me None }
         requires list { B.entries value ≡ seat.me.0.seen }

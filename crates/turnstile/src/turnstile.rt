@@ -14,7 +14,7 @@ use crate::steps::tell;
 use crate::table::{Board, VALUE};
 use crate::taking::take;
 use crate::turn::Turn;
-use atomic_table::{Refused, Table};
+use atomic_table::Table;
 use std::alloc::Global;
 use std::marker::Model;
 use std::snapshot::Snapshot;
@@ -62,16 +62,14 @@ impl<B: Kept> Turnstile<B> {
         let about = Snapshot::of(&kept);
         let mut slots = Vec::with_capacity(alloc, 1)?;
         slots.push_reserved(Some(kept));
-        match Table::new(alloc, &[0, 0, 0], slots, &about) {
-            Ok((table, seat)) => Ok((
-                Turnstile {
-                    table,
-                    bells: Bells::new(),
-                },
-                Pass::at_rest(seat, 0, 0),
-            )),
-            Err(_) => Err(NoMemory),
-        }
+        let Ok((table, seat)) = Table::new(alloc, &[0, 0, 0], slots, &about) else {
+            return Err(NoMemory);
+        };
+        let turnstile = Turnstile {
+            table,
+            bells: Bells::new(),
+        };
+        Ok((turnstile, Pass::at_rest(seat, 0, 0)))
     }
 
     /// Waits for the turn of the pass, and takes the value.
