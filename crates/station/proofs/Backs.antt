@@ -19,21 +19,10 @@ use Rattle.station.specs.declared.answers.PlayRefused.{PlayRefused}
 use Rattle.station.specs.declared.answers.PlayRefused.TheVariants.{JournalFull, Overflow as PlayOverflow}
 use Rattle.station.specs.Ledgers.{IsEntered, IsFullFor, IsPlayRefused, look_at, play_of}
 use Rattle.station.specs.Answers.{IsFull, IsRefused, Made}
+use Rattle.station.specs.Inside.{seat_of}
 use Rattle.station.specs.Seats.{IsSameSeat, Sitting}
 use Rattle.station.proofs.Entered.{IsAt, entry_made, full_for, refused_for, seat_after}
 use Rattle.station.proofs.Plays.{play_open}
-
-abbrev pub seat_of : PassState → Sitting
-seat_of p = record {
-  id = p.id;
-  steps = p.terms.steps;
-  limit = p.terms.limit;
-  number = p.number;
-  seen = p.seen;
-  mine = p.mine;
-  splits = p.splits;
-  joined = p.joined;
-}
 
 pub back_seat : {taken back : PassState} {seat : Sitting} (p : PassState) (old new : Journal) → seat_of p ≡ seat
     → taken ≡ record p { seen = old.entries }

@@ -6,7 +6,7 @@ use Rattle.admission.specs.Histories.{IsLegal}
 use Rattle.admission.specs.Makers.{AreHaltsOwn, made_by}
 use Rattle.turnstile.specs.Passes.{PassState, after_join as after}
 use Rattle.station.specs.Seats.{IsSeat}
-use Rattle.station.proofs.Backs.{seat_of}
+use Rattle.station.specs.Inside.{seat_of}
 
 either_of : (P : List Entry → Type 0) (b : Bool) (xs ys : List Entry) → P xs → P ys → P (cond b ys xs)
 either_of P true xs ys p q = q

@@ -1,19 +1,24 @@
 -- What contracts see of a seat, and what its fields keep.
 use Rattle.std.specs.Prelude.{◌≡◌, false}
+use Rattle.turnstile.specs.Passes.{PassState}
 use Rattle.station.specs.declared.seat.Seat.TheInside.{Inside}
 use Rattle.station.specs.Seats.{Sitting, IsSeat}
 
-abbrev pub sitting_of : Inside → Sitting
-sitting_of seat = record {
-  id = seat.pass.id;
-  steps = seat.pass.terms.steps;
-  limit = seat.pass.terms.limit;
-  number = seat.pass.number;
-  seen = seat.pass.seen;
-  mine = seat.pass.mine;
-  splits = seat.pass.splits;
-  joined = seat.pass.joined;
+-- a pass as a seat
+abbrev pub seat_of : PassState → Sitting
+seat_of pass = record {
+  id = pass.id;
+  steps = pass.terms.steps;
+  limit = pass.terms.limit;
+  number = pass.number;
+  seen = pass.seen;
+  mine = pass.mine;
+  splits = pass.splits;
+  joined = pass.joined;
 }
+
+abbrev pub sitting_of : Inside → Sitting
+sitting_of seat = seat_of seat.pass
 
 pub record IsKept (seat : Inside) : Type 0 where
   pub rests : seat.pass.has_turn ≡ false

@@ -1,5 +1,6 @@
 //! What a station answers.
 
+use admission::PlayFull;
 use plan_cert::Plan;
 use thiserror::Error;
 
@@ -36,6 +37,23 @@ pub enum PlayRefused {
         /// The bytes that the plan asks for in it.
         asked: u64,
     },
+}
+
+impl From<PlayFull> for PlayRefused {
+    ghost use Rattle.std.specs.Prelude.{◌≡◌};
+    ghost use Rattle.station.specs.declared.answers.PlayRefused.TheVariants.{JournalFull};
+
+    ghost from_gives = { λ refused why.
+        why ≡ JournalFull refused.plan refused.full.entries refused.full.live };
+
+    fn from(refused: PlayFull) -> PlayRefused {
+        let PlayFull { plan, full } = refused;
+        PlayRefused::JournalFull {
+            plan,
+            entries: full.entries,
+            live: full.live,
+        }
+    }
 }
 
 /// What is booked in a slot.

@@ -44,6 +44,7 @@ impl Kept for Ledger {
 }
 
 impl Ledger {
+    /// A ledger of an empty book.
     pub(crate) fn new(book: Book) -> Ledger
         requires { book.entries ≡ [] }
         ensures { result ≡ book }
@@ -82,29 +83,23 @@ impl Ledger {
             (Answer.Admitted booking.start)) }
         ensures refused { IfErr result (IsPlayRefused self.old self.new maker heard plan) }
     {
-        match self.note_play(maker, heard, plan) {
-            Ok(noted) => match noted.answer {
-                Answer::Admitted { start } => Ok(Booking {
-                    number: noted.place,
-                    start,
-                }),
-                Answer::Overflow {
-                    slot,
-                    booked,
-                    asked,
-                } => Err(PlayRefused::Overflow {
-                    place: noted.place,
-                    slot,
-                    booked,
-                    asked,
-                }),
-                _ => unreachable!(),
-            },
-            Err(PlayFull { plan, full }) => Err(PlayRefused::JournalFull {
-                plan,
-                entries: full.entries,
-                live: full.live,
+        let noted = self.note_play(maker, heard, plan)?;
+        match noted.answer {
+            Answer::Admitted { start } => Ok(Booking {
+                number: noted.place,
+                start,
             }),
+            Answer::Overflow {
+                slot,
+                booked,
+                asked,
+            } => Err(PlayRefused::Overflow {
+                place: noted.place,
+                slot,
+                booked,
+                asked,
+            }),
+            _ => unreachable!(),
         }
     }
 
@@ -155,6 +150,7 @@ impl Ledger {
         }
     }
 
+    /// Its book.
     pub(crate) fn into_book(self) -> Book
         ensures same { result ≡ self }
         ensures halts { AreHaltsOwn result.entries }

@@ -2,7 +2,7 @@
 
 ghost use Rattle.std.specs.Prelude.{◌≡◌, ◌≤◌, [], ◌∷◌};
 ghost use Rattle.plan_cert.specs.Slots.{total_bytes};
-ghost use Rattle.station.specs.Seats.{IsSplit, first_seat};
+ghost use Rattle.station.specs.Seats.{IsSameSeat, first_seat};
 
 use super::*;
 use admission::Book;
@@ -31,7 +31,7 @@ fn plan<R: Abort>(rt: &R, alloc: Global) -> Plan {
 /// A play at slot 0, and its halt where it was admitted. Says how many entries they made.
 fn play<R: Wait + Abort>(rt: &R, alloc: Global, station: &Station, seat: &mut Seat) -> u64
     requires { seat.old.id ≡ station.now.id }
-    ensures { IsSplit seat.old seat.new }
+    ensures { IsSameSeat seat.old seat.new }
 {
     match station.play(rt, seat, 0, plan(rt, alloc)) {
         Ok(booking) => {
@@ -63,7 +63,7 @@ fn ask<R: Wait + Abort>(
     offers: &mut Offers,
 ) -> u64
     requires { seat.old.id ≡ station.now.id }
-    ensures { IsSplit seat.old seat.new }
+    ensures { IsSameSeat seat.old seat.new }
 {
     let Ok(looked) = station.look(rt, seat, 4) else {
         panic!(rt; "the journal has room");
@@ -85,7 +85,7 @@ fn rounds<R: Wait + Abort>(
     asks: bool,
 ) -> (Seat, u64)
     requires { seat.id ≡ station.now.id }
-    ensures { IsSplit seat result.0 }
+    ensures { IsSameSeat seat result.0 }
 {
     let mut offers = Offers::new(alloc, 4).expect(rt, "memory");
     let mut made = 0u64;
@@ -111,18 +111,18 @@ fn side_by_side<R: Threads + Wait + Abort + Sync>(
 ) -> ((Seat, u64), (Seat, u64))
     requires one { one.id ≡ station.now.id }
     requires two { two.id ≡ station.now.id }
-    ensures one { IsSplit one result.0.0 }
-    ensures two { IsSplit two result.1.0 }
+    ensures one { IsSameSeat one result.0.0 }
+    ensures two { IsSameSeat two result.1.0 }
 {
     join(
         rt,
         || -> (Seat, u64)
             requires { one.id ≡ station.now.id }
-            ensures { IsSplit one result.0 }
+            ensures { IsSameSeat one result.0 }
         { rounds(rt, alloc, station, one, asks) },
         || -> (Seat, u64)
             requires { two.id ≡ station.now.id }
-            ensures { IsSplit two result.0 }
+            ensures { IsSameSeat two result.0 }
         { rounds(rt, alloc, station, two, asks) },
     )
 }
@@ -135,7 +135,13 @@ fn count_of(book: &Book, maker: u32) -> u64 {
         .count() as u64
 }
 
-fn two<R: Threads + Wait + Abort + Sync>(rt: &R, alloc: Global, station: Station, mut seat: Seat)
+/// Two threads that play and halt.
+fn run_two_seats<R: Threads + Wait + Abort + Sync>(
+    rt: &R,
+    alloc: Global,
+    station: Station,
+    mut seat: Seat,
+)
     requires first { seat ≡ first_seat station }
 {
     let one = station.split(&mut seat);
@@ -151,7 +157,12 @@ fn two<R: Threads + Wait + Abort + Sync>(rt: &R, alloc: Global, station: Station
 
 /// Four threads that play, halt, look and offer; their seats are joined in another order than they
 /// were split.
-fn four<R: Threads + Wait + Abort + Sync>(rt: &R, alloc: Global, station: Station, mut seat: Seat)
+fn run_four_seats<R: Threads + Wait + Abort + Sync>(
+    rt: &R,
+    alloc: Global,
+    station: Station,
+    mut seat: Seat,
+)
     requires first { seat ≡ first_seat station }
 {
     let one = station.split(&mut seat);
@@ -164,14 +175,14 @@ fn four<R: Threads + Wait + Abort + Sync>(rt: &R, alloc: Global, station: Statio
         || -> ((Seat, u64), (Seat, u64))
             requires one { one.id ≡ shared.now.id }
             requires two { two.id ≡ shared.now.id }
-            ensures one { IsSplit one result.0.0 }
-            ensures two { IsSplit two result.1.0 }
+            ensures one { IsSameSeat one result.0.0 }
+            ensures two { IsSameSeat two result.1.0 }
         { side_by_side(rt, alloc, shared, one, two, true) },
         || -> ((Seat, u64), (Seat, u64))
             requires three { three.id ≡ shared.now.id }
             requires four { four.id ≡ shared.now.id }
-            ensures three { IsSplit three result.0.0 }
-            ensures four { IsSplit four result.1.0 }
+            ensures three { IsSameSeat three result.0.0 }
+            ensures four { IsSameSeat four result.1.0 }
         { side_by_side(rt, alloc, shared, three, four, true) },
     );
     station.join(&mut seat, three);
@@ -184,22 +195,14 @@ fn four<R: Threads + Wait + Abort + Sync>(rt: &R, alloc: Global, station: Statio
     assert!(rt; count_of(&book, 0) == 0 && book.entries().len() > 800);
 }
 
-/// The laws are calls.
-#[test]
-fn states_laws(_rt: HostRuntime) {
-    law_longer_journal();
-    law_last_entry();
-    law_still_open();
-}
-
 #[test]
 fn threads_share_one_book(rt: HostRuntime) -> Result<(), Fail> {
     let alloc = rt.alloc();
     let (station, seat) = Station::new(alloc, Profile::flat(alloc, 36)?, 1024)?;
     assert_eq!(rt; seat.number(), 0);
-    two(&rt, alloc, station, seat);
+    run_two_seats(&rt, alloc, station, seat);
     let (station, seat) = Station::new(alloc, Profile::flat(alloc, 36)?, 2048)?;
-    four(&rt, alloc, station, seat);
+    run_four_seats(&rt, alloc, station, seat);
     Ok(())
 }
 

@@ -1,5 +1,5 @@
-use Rattle.station.specs.Seats.{IsSplit}
+use Rattle.station.specs.Seats.{IsSameSeat}
 use Rattle.station.proofs.tests.rounds.Given as goal
 
 abbrev pub invariant-loop : goal.invariant-loop
-invariant-loop g l = IsSplit l.fn.seat l.seat
+invariant-loop g l = IsSameSeat l.fn.seat l.seat

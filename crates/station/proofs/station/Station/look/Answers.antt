@@ -3,7 +3,8 @@ use Rattle.std.proofs.lemmas.Result.{IfErr-weaker, IfOk-weaker}
 use Rattle.admission.specs.declared.entries.Answer.TheVariants.{Looked}
 use Rattle.station.specs.Answers.{IsFull, Made}
 use Rattle.station.specs.Ledgers.{IsEntered, IsFullFor, look_at}
-use Rattle.station.proofs.Backs.{BookCall, look_longer, seat_of, visit, visit_full, visit_made, visit_same}
+use Rattle.station.proofs.Backs.{BookCall, look_longer, visit, visit_full, visit_made, visit_same}
+use Rattle.station.specs.Inside.{seat_of}
 use Rattle.station.proofs.station.Station.look.Goals as goal
 
 pub returns-clause-same : goal.returns-clause-same

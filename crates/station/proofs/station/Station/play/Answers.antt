@@ -5,7 +5,8 @@ use Rattle.admission.specs.Makers.{IsOpenAmong}
 use Rattle.admission.specs.declared.entries.Answer.TheVariants.{Admitted}
 use Rattle.station.specs.Answers.{IsRefused, Made}
 use Rattle.station.specs.Ledgers.{IsEntered, IsPlayRefused, play_of}
-use Rattle.station.proofs.Backs.{BookCall, play_longer, seat_of, visit, visit_made, visit_open, visit_refused, visit_same}
+use Rattle.station.proofs.Backs.{BookCall, play_longer, visit, visit_made, visit_open, visit_refused, visit_same}
+use Rattle.station.specs.Inside.{seat_of}
 use Rattle.station.proofs.station.Station.play.Goals as goal
 
 pub returns-clause-same : goal.returns-clause-same
