@@ -1,24 +1,20 @@
 -- Bytes that are sent in several sends.
-use Rattle.std.proofs.Common.{◌≡◌, ℕ, ◌+◌, ◌-◌, ◌<◌, ◌≤◌, List, ◌++◌, length, take, drop, min, Option, Some, None, refl, sym, ap, ◌∙◌, arith, inl, inr, append_assoc}
-use Rattle.std.proofs.lemmas.List.{append-nil}
-use Rattle.std.proofs.lemmas.List.{take-append-le, take-take, take_all, length-take, length-append, length-drop, drop-drop, map-append}
+use Rattle.std.proofs.Common.{◌≡◌, ℕ, ◌+◌, ◌-◌, ◌<◌, ◌≤◌, List, ◌++◌, length, take, drop, min, Option, refl, sym, ap, ◌∙◌, arith, inl, inr}
+use Rattle.std.proofs.lemmas.List.{append-nil, take-append-le, take-take, take_all, length-take, length-append, length-drop, drop-drop, map-append}
 use Rattle.std.proofs.Math.Seq.{take-append-add, take-add}
 use Rattle.std.proofs.lemmas.Bool.{cases_lt}
 use Rattle.film_frames.specs.Tracks.{framed_bytes, IsNext, IsSplit}
 use Rattle.vod_base.specs.Links.{Doing, Sent, told_more, sends, IsFrontTold}
+use Rattle.vod_base.proofs.Telling.{told_more-append}
 use Rattle.pacer.specs.Boundaries.{IsSeam, bytes_between}
 use Rattle.pacer.specs.Sending.{HasStopped}
-
-told-more-twice : (told : Option (List Doing)) (a b : List Doing) → told_more (told_more told a) b ≡ told_more told (a ++ b)
-told-more-twice None a b = refl
-told-more-twice (Some told) a b = ap (λ (l : List Doing). Some l) (append_assoc told a b)
 
 -- bytes, and further ones
 pub sends-more : {middle new : Option (List Doing)} (old : Option (List Doing)) (a b : List ℕ)
     → middle ≡ told_more old (sends a) → new ≡ told_more middle (sends b)
     → new ≡ told_more old (sends (a ++ b))
 sends-more {new} old a b first then =
-    then ∙ ap (λ (t : Option (List Doing)). told_more t (sends b)) first ∙ told-more-twice old (sends a) (sends b)
+    then ∙ ap (λ (t : Option (List Doing)). told_more t (sends b)) first ∙ told_more-append old (sends a) (sends b)
     ∙ ap (λ (l : List Doing). told_more old l) (sym (map-append Sent a b))
 
 -- the first bytes of two texts, one after the other
@@ -196,12 +192,3 @@ part-stopped {pieces} {at} {head_bytes} {old} {new} {whole} {from} {to} head pay
       told = sends-more old (bytes_between pieces from at) (take out (take most next)) first stopped.told
           ∙ ap (λ (l : List ℕ). told_more old (sends l)) joined;
     }
-
--- nothing yet
-pub none-sent : (pieces : List (List ℕ)) (from : ℕ) (told : Option (List Doing))
-    → told ≡ told_more told (sends (bytes_between pieces from from))
-none-sent pieces from None = refl
-none-sent pieces from (Some told) =
-    let none : from - from ≡ 0 = omega arith in
-    ap (λ (l : List Doing). Some l)
-    (sym (append-nil told) ∙ ap (λ n. told ++ sends (take n (drop from (framed_bytes pieces)))) (sym none))
