@@ -32,11 +32,15 @@ pub struct Pacer<T: Track> {
     before: u64,
     /// The plan, read from the slot on that was stepped last.
     cursor: PlanCursor,
+    /// The slot of the link in which the plan begins.
     start: u64,
+    /// The bytes that may become due: all of the plan until a halt is asked.
     keep: u64,
     /// The plan's last slot that was stepped.
     last: Option<u64>,
+    /// The bytes that are due.
     due: u64,
+    /// The bytes that were sent.
     sent: u64,
 }
 
@@ -86,7 +90,8 @@ impl<T: Track> Pacer<T> {
         }
     }
 
-    /// The slot of the link steps what is due up to: through the plan's slot of it, and never down.
+    /// Raises what is due to what the plan has through this slot of the link, or to what is kept if
+    /// that is less. It never falls, and slots before the plan's start raise nothing.
     fn raise(&mut self, slot: u64)
         ensures { self.new ≡ at_slot slot self.old }
     {
