@@ -17,13 +17,8 @@ const FILM_B: [u8; 49] = [
 ];
 
 fn film_b(alloc: Global) -> Result<Stored, Fail> {
-    let Ok(film) = scan(alloc, Vec::from_slice(alloc, &FILM_B)?) else {
-        return Err(Fail::from("no film"));
-    };
-    match Stored::new(alloc, String::from_str(alloc, "b.mpg")?, film) {
-        Ok(stored) => Ok(stored),
-        Err(_) => Err(Fail::from("no memory for a table")),
-    }
+    let film = scan(alloc, Vec::from_slice(alloc, &FILM_B)?)?;
+    Ok(Stored::new(alloc, String::from_str(alloc, "b.mpg")?, film)?)
 }
 
 /// A step, a step with a stop, or a halt that is asked.
@@ -96,20 +91,23 @@ fn pacer_of(alloc: Global, film: &Stored) -> Result<Pacer<Frames<'_>>, Fail> {
 /// Calls, each with its answer and what holds after it.
 type Calls<'a> = &'a [(Call, Option<u64>, After)];
 
-/// The bytes that a new pacer of the film sent by these calls, over a link whose send of number
-/// `failing` fails; 0: none.
+/// A link whose sends of these numbers fail.
+fn link_of(alloc: Global, failing: &[u64]) -> Result<MemoryLink, Fail> {
+    let failing = Vec::from_slice(alloc, failing)?;
+    Ok(MemoryLink::new(alloc, Vec::new(alloc), 200, failing, Vec::new(alloc))?)
+}
+
+/// The bytes that a new pacer of the film sent by these calls, over a link whose sends of these
+/// numbers fail.
 fn sent_by(
     rt: &impl Abort,
     alloc: Global,
     film: &Stored,
-    failing: u64,
+    failing: &[u64],
     calls: Calls<'_>,
 ) -> Result<Vec<u8>, Fail> {
     let mut pacer = pacer_of(alloc, film)?;
-    let failing = vec![in alloc; failing]?;
-    let Ok(mut link) = MemoryLink::new(alloc, Vec::new(alloc), 200, failing, Vec::new(alloc)) else {
-        return Err(Fail::from("no memory for a link"));
-    };
+    let mut link = link_of(alloc, failing)?;
     for (call, answer, after) in calls {
         let got = answer_to(&mut pacer, &mut link, *call)?;
         assert_eq!(rt; got, (*answer, *after), "at {call:?}");
@@ -129,7 +127,7 @@ fn whole_play(rt: &impl Abort, alloc: Global, film: &Stored) -> Result<Vec<u8>, 
         (Call::Step(3), Some(36), (106, 106, true, false)),
         (Call::Step(4), Some(35), (141, 141, true, true)),
     ];
-    let whole = sent_by(rt, alloc, film, 0, calls)?;
+    let whole = sent_by(rt, alloc, film, &[], calls)?;
     assert_eq!(rt; whole.get(..4), Some(&[0x24, 1, 0, 0x30][..]));
     assert_eq!(rt;
         whole.get(52..60),
@@ -140,12 +138,15 @@ fn whole_play(rt: &impl Abort, alloc: Global, film: &Stored) -> Result<Vec<u8>, 
     Ok(whole)
 }
 
+/// The numbers of the sends that fail, and the calls.
+type Row<'a> = (&'a [u64], Calls<'a>);
+
 /// Calls that send the first bytes of the whole play.
-fn sends_the_front(rt: &impl Abort, alloc: Global, rows: &[(u64, Calls<'_>)]) -> Result<(), Fail> {
+fn sends_the_front(rt: &impl Abort, alloc: Global, rows: &[Row<'_>]) -> Result<(), Fail> {
     let film = film_b(alloc)?;
     let whole = whole_play(rt, alloc, &film)?;
     for (failing, calls) in rows {
-        let sent = sent_by(rt, alloc, &film, *failing, calls)?;
+        let sent = sent_by(rt, alloc, &film, failing, calls)?;
         assert_eq!(rt; Some(sent.as_slice()), whole.get(..sent.len()));
     }
     Ok(())
@@ -158,7 +159,7 @@ fn steps_film_b(rt: HostRuntime) -> Result<(), Fail> {
         (Call::Step(2), Some(35), (70, 70, false, false)),
         (Call::Step(5), Some(71), (141, 141, true, true)),
     ];
-    sends_the_front(&rt, rt.alloc(), &[(0, calls)])
+    sends_the_front(&rt, rt.alloc(), &[(&[], calls)])
 }
 
 #[test]
@@ -181,7 +182,7 @@ fn stops_and_halts_at_boundaries(rt: HostRuntime) -> Result<(), Fail> {
     sends_the_front(
         &rt,
         rt.alloc(),
-        &[(0, stopped), (0, halted), (0, halted_at_once)],
+        &[(&[], stopped), (&[], halted), (&[], halted_at_once)],
     )
 }
 
@@ -196,5 +197,24 @@ fn goes_on_after_a_send_that_failed(rt: HostRuntime) -> Result<(), Fail> {
         (Call::Step(3), None, (72, 106, false, false)),
         (Call::Step(3), Some(34), (106, 106, true, false)),
     ];
-    sends_the_front(&rt, rt.alloc(), &[(1, first), (2, second), (3, third)])
+    sends_the_front(
+        &rt,
+        rt.alloc(),
+        &[(&[1], first), (&[2], second), (&[3], third)],
+    )
+}
+
+#[test]
+fn tells_the_last_slot_and_hands_out_the_plan(rt: HostRuntime) -> Result<(), Fail> {
+    let film = film_b(rt.alloc())?;
+    let mut pacer = pacer_of(rt.alloc(), &film)?;
+    let mut link = link_of(rt.alloc(), &[])?;
+    assert_eq!(rt; pacer.last_slot(), None);
+    let third = pacer.step(3, false, &mut link)?;
+    assert_eq!(rt; (third.sent, third.left), (106, 0));
+    pacer.step(1, false, &mut link)?;
+    assert_eq!(rt; pacer.last_slot(), Some(2));
+    let (frames, plan) = pacer.end();
+    assert_eq!(rt; (frames.total(), plan.bytes(), plan.slots()), (141, 141, 4));
+    Ok(())
 }
