@@ -3,6 +3,7 @@ pub mod Heads
 pub mod Cuts
 pub mod Words
 pub mod Values
+pub mod Numbers
 pub mod Once
 pub mod Texts
 pub mod Whole

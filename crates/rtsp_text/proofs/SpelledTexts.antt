@@ -1,9 +1,9 @@
 -- A message that is spelled from its parts is cut whole from what comes, and read as these parts.
-use Rattle.std.proofs.Common.{◌≡◌, ℕ, ◌^◌, ◌<◌, ◌≤◌, ◌&&◌, ◌==◌, true, false, nat_lt, List, [], ◌∷◌, ◌++◌, All, codes, decimal, map, flat_map, length, take, Option, Some, None, Ok, Err, MatchOption, refl, sym, ap, subst, ◌∙◌, arith, inl, inr, ne_eqb}
+use Rattle.std.proofs.Common.{◌≡◌, ℕ, ◌<◌, ◌≤◌, ◌==◌, true, false, nat_lt, List, [], ◌∷◌, ◌++◌, All, codes, decimal, map, flat_map, length, take, Option, Some, None, Ok, Err, MatchOption, refl, sym, ap, subst, ◌∙◌, arith, ne_eqb}
 use Rattle.std.specs.Prelude.{IfSome, option_and_then}
 use Rattle.std.specs.List.{list_all}
 use Rattle.std.specs.Str.Parse.{digits_value}
-use Rattle.std.proofs.lemmas.Bool.{cases_Bool, and_parts, both_ways, cond-true, cond-false}
+use Rattle.std.proofs.lemmas.Bool.{and_parts, both_ways, cond-true}
 use Rattle.std.proofs.lemmas.List.{append_assoc, append-nil, length-append, take_at}
 use Rattle.std.proofs.lemmas.List.Elements.{All-nil, All-cons, All-head, All-tail}
 use Rattle.vod_base.specs.Numbers.{is_decimal, number_of}
@@ -22,6 +22,7 @@ use Rattle.rtsp_text.specs.Spelled.{Parts, request_line, request_front, request_
 use Rattle.rtsp_text.proofs.OneLines.{one_line_from, one_line-append, one_line-url}
 use Rattle.rtsp_text.proofs.ReadBack.{IsLineText, ReplyParts, core, flat, flat-fields, text_of, texts_lines, values_named, status_of, status_text-line, front_lines}
 use Rattle.rtsp_text.proofs.Words.{token_without}
+use Rattle.rtsp_text.proofs.Numbers.{number_read}
 use Rattle.rtsp_text.proofs.WordTexts.{word_is, word_of, value_is, named_texts, visible_of}
 use Rattle.rtsp_text.proofs.BodyLengths.{length_given, body_length_of}
 
@@ -49,37 +50,18 @@ whole_message {s} fields body one all given short =
     }
 
 -- the length that a Content-Length gives
-some_number : (value : List ℕ) (n : ℕ) → number_of value ≡ Some n → (is_decimal value ≡ true) × (digits_value 10 value ≡ n)
-some_number value n read =
-    elim (cases_Bool (is_decimal value && nat_lt (digits_value 10 value) (2 ^ 64))) [
-      | inl good ↦ (
-          let is : Some (digits_value 10 value) ≡ Some n =
-          sym (cond-true (is_decimal value && nat_lt (digits_value 10 value) (2 ^ 64))
-          (Some (digits_value 10 value)) None good) ∙ read in (
-            (and_parts (is_decimal value) (nat_lt (digits_value 10 value) (2 ^ 64)) good).0,
-            (let e : digits_value 10 value ≡ n = cc in e),
-          )
-          )
-      | inr wrong ↦ (
-          let bad : None ≡ Some n =
-          sym (cond-false (is_decimal value && nat_lt (digits_value 10 value) (2 ^ 64))
-          (Some (digits_value 10 value)) None wrong) ∙ read in
-          absurd (let no : ⊥ = cc in no)
-          )
-    ]
-
 written_is : (value : List ℕ) → is_decimal value ≡ true → written_length value ≡ digits_value 10 value
 written_is value decimal = cond-true (is_decimal value) (digits_value 10 value) 0 decimal
 
 given_is : (o : Option (List ℕ)) (body : List ℕ)
     → MatchOption o (body ≡ []) (λ value. number_of value ≡ Some (length body)) → length_given o ≡ length body
 given_is None body none = sym (ap length none)
-given_is (Some value) body read = let is = some_number value (length body) read in written_is value is.0 ∙ is.1
+given_is (Some value) body read = let is = number_read value (length body) read in written_is value is.0 ∙ sym is.1
 
 given_digits : (o : Option (List ℕ)) (body : List ℕ)
     → MatchOption o (body ≡ []) (λ value. number_of value ≡ Some (length body)) → IfSome o (λ value. is_decimal value ≡ true)
 given_digits None body none = tt
-given_digits (Some value) body read = (some_number value (length body) read).0
+given_digits (Some value) body read = (number_read value (length body) read).0
 
 -- header fields are read as they were written
 plain_field : (field : Field) → IsHeaderField field → IsPlain field

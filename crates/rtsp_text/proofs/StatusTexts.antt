@@ -1,17 +1,18 @@
 -- A status line, from where it is cut.
-use Rattle.std.proofs.Common.{◌≡◌, ◌≢◌, ℕ, ◌^◌, ◌<◌, ◌&&◌, ◌==◌, true, not, nat_lt, List, ◌∷◌, ◌++◌, codes, length, get_or, take, drop, Some, None, refl, sym, ap, ◌∙◌, arith, inl, inr, lt-ltb}
+use Rattle.std.proofs.Common.{◌≡◌, ◌≢◌, ℕ, ◌^◌, ◌<◌, ◌&&◌, ◌==◌, true, not, nat_lt, List, ◌∷◌, ◌++◌, codes, length, get_or, take, drop, Some, None, refl, sym, ap, ◌∙◌, arith, lt-ltb}
 use Rattle.std.specs.List.{list_all}
 use Rattle.std.specs.Char.{is_ascii_digit}
 use Rattle.std.specs.Str.Parse.{digits_value}
-use Rattle.std.proofs.lemmas.Bool.{cases_Bool, and_parts, and_from, cond-true, cond-false}
+use Rattle.std.proofs.lemmas.Bool.{and_parts, and_from, cond-true}
 use Rattle.std.proofs.lemmas.List.{take_at, drop_at}
 use Rattle.std.proofs.lemmas.Str.Parse.{digits_value_short}
-use Rattle.std.proofs.lemmas.Option.{none-some, same_Some}
+use Rattle.std.proofs.lemmas.Option.{none-some}
 use Rattle.vod_base.specs.Numbers.{is_decimal, number_of}
 use Rattle.vod_base.specs.Splits.{IsSplitAtFirst}
 use Rattle.interleave.proofs.Unique.{head_once}
 use Rattle.rtsp_text.specs.StatusLines.{IsCode, IsStatusLine, IsReply}
 use Rattle.rtsp_text.proofs.Cuts.{cut_once, cut_none, all_other}
+use Rattle.rtsp_text.proofs.Numbers.{number_read}
 use Rattle.rtsp_text.proofs.OneLines.{decimal_numerals}
 
 code_small : (text : List ℕ) → length text ≡ 3 → is_decimal text ≡ true → digits_value 10 text < 10 ^ 3
@@ -28,18 +29,8 @@ digits_number text three decimal =
 
 pub code_read : (text : List ℕ) (n : ℕ) → length text ≡ 3 → number_of text ≡ Some n → IsCode text n × (n < 1000)
 code_read text n three read =
-    elim (cases_Bool (is_decimal text && nat_lt (digits_value 10 text) (2 ^ 64))) [
-      | inl good ↦ (
-          let decimal = (and_parts (is_decimal text) (nat_lt (digits_value 10 text) (2 ^ 64)) good).0 in
-          let same : n ≡ digits_value 10 text =
-          same_Some n (digits_value 10 text) (sym read ∙ digits_number text three decimal) in
-          (record { three = three; decimal = decimal; code_is = same }, omega (arith, same, code_small text three decimal))
-          )
-      | inr wrong ↦
-          absurd (none-some n
-          (sym (cond-false (is_decimal text && nat_lt (digits_value 10 text) (2 ^ 64))
-          (Some (digits_value 10 text)) None wrong) ∙ read))
-    ]
+    let found = number_read text n read in
+    (record { three = three; decimal = found.0; code_is = found.1 }, omega (arith, found.1, code_small text three found.0))
 
 pub code_none : (text : List ℕ) (n : ℕ) → number_of text ≡ None → IsCode text n → ⊥
 code_none text n none code = none-some (digits_value 10 text) (sym none ∙ digits_number text code.three code.decimal)

@@ -55,10 +55,8 @@ fn read_code(text: &[u8]) -> Option<u16>
     if text.len() != 3 {
         return None;
     }
-    match read_number(text) {
-        Ok(number) => Some(number as u16),
-        Err(_) => None,
-    }
+    let number = read_number(text).ok()?;
+    Some(number as u16)
 }
 
 /// The code and the reason of a status line.
