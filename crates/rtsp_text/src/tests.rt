@@ -250,7 +250,8 @@ const REQUESTS: [RequestRow; 9] = [
     },
     RequestRow {
         text: "SETUP rtsp://h/news.mpg/video RTSP/1.0\r\n\
-            Transport: RTP/AVP/UDP;unicast;client_port=5000-5001, RTP/AVP/TCP;unicast;interleaved=0-1\r\n\
+            Transport: RTP/AVP/UDP;unicast;client_port=5000-5001, \
+            RTP/AVP/TCP;unicast;interleaved=0-1\r\n\
             CSeq: 3\r\n\r\n",
         method: "SETUP",
         url: "rtsp://h/news.mpg/video",
@@ -343,5 +344,20 @@ fn finds_sequences_in_heads(rt: HostRuntime) {
         ("a\nX\nCSeq=1\ncSEQ:18446744073709551615\n", Some(u64::MAX)),
     ] {
         assert_eq!(rt; sequence_of(text.as_bytes()), want, "at {text:?}");
+    }
+}
+
+#[test]
+fn judges_the_bytes_of_urls(rt: HostRuntime) {
+    for (text, want) in [
+        ("", true),
+        ("!~", true),
+        ("rtsp://h/a", true),
+        ("a b", false),
+        ("a\t", false),
+        ("\u{7f}", false),
+        ("\u{e4}", false),
+    ] {
+        assert_eq!(rt; has_url_bytes(text.as_bytes()), want, "at {text:?}");
     }
 }
