@@ -1,38 +1,20 @@
 -- Short numbers and their values.
-use Rattle.std.proofs.Common.{◌≡◌, ◌<◌, ◌≤◌, ◌+◌, ◌-◌, ◌*◌, ◌^◌, ◌&&◌, ℕ, true, List, length, Option, Some, None, nat_lt, inl, inr, arith, refl, sym, ap, ◌∙◌, lt-ltb, [], ◌++◌, take, drop, MatchOption, min}
+use Rattle.std.proofs.Common.{◌≡◌, ◌<◌, ◌≤◌, ◌+◌, ◌-◌, ◌*◌, ◌^◌, ◌&&◌, ℕ, true, List, length, Option, Some, None, nat_lt, inl, inr, arith, refl, sym, ap, ◌∙◌, lt-ltb, [], take, MatchOption, min}
 use Rattle.std.specs.Option.{unwrap_or}
 use Rattle.std.proofs.Math.Nat.{mul-lt-mul_of_pos_right, min_comm, one-le-pow}
-use Rattle.std.proofs.lemmas.List.Folds.{list_all-append}
 use Rattle.std.proofs.lemmas.Nat.{pow-add}
-use Rattle.std.proofs.lemmas.List.{take_min, length-take, nil_from_length, take-append-drop}
+use Rattle.std.proofs.lemmas.List.{take_min, length-take, nil_from_length}
 use Rattle.std.specs.List.{list_all}
 use Rattle.std.specs.Char.{is_ascii_digit}
 use Rattle.std.specs.Str.Parse.{digits_value}
-use Rattle.std.proofs.lemmas.Bool.{cases_Bool, cases_lt, cond-true, cond-false, and_from, and_parts}
+use Rattle.std.proofs.lemmas.Bool.{cases_lt, cond-true, and_from, and_parts}
 use Rattle.std.proofs.lemmas.Str.Parse.{digits_value_short}
-use Rattle.std.proofs.lemmas.Option.{none-some, same_Some}
+use Rattle.std.proofs.lemmas.Option.{none-some}
 use Rattle.vod_base.specs.Numbers.{is_decimal, number_of}
 use Rattle.rtsp_fields.specs.Times.{IsDigits, IsFraction}
+use Rattle.rtsp_text.proofs.Inside.{all-take}
+use Rattle.rtsp_text.proofs.Numbers.{number_read}
 use Rattle.rtsp_text.proofs.OneLines.{decimal_numerals}
-
--- a text that is read as a number is decimal, and that is its value
-pub number_read : (text : List ℕ) (n : ℕ) → number_of text ≡ Some n → (is_decimal text ≡ true) × (n ≡ digits_value 10 text)
-number_read text n read =
-    let value = digits_value 10 text in
-    elim (cases_Bool (is_decimal text && nat_lt (digits_value 10 text) (2 ^ 64))) [
-      | inl good ↦ (
-          let found : number_of text ≡ Some (digits_value 10 text) =
-          cond-true (is_decimal text && nat_lt (digits_value 10 text) (2 ^ 64)) (Some (digits_value 10 text)) None good in (
-            (and_parts (is_decimal text) (nat_lt (digits_value 10 text) (2 ^ 64)) good).0,
-            same_Some n (digits_value 10 text) (sym read ∙ found),
-          )
-          )
-      | inr wrong ↦ (
-          let none : number_of text ≡ None =
-          cond-false (is_decimal text && nat_lt (digits_value 10 text) (2 ^ 64)) (Some (digits_value 10 text)) None wrong in
-          absurd (none-some n (sym none ∙ read))
-          )
-    ]
 
 -- at most nine digits are below 10^9
 pub below_billion : (text : List ℕ) → is_decimal text ≡ true → length text ≤ 9 → digits_value 10 text < 10 ^ 9
@@ -48,21 +30,21 @@ short_is_read most text n few d =
     cond-true (is_decimal text && nat_lt (digits_value 10 text) (2 ^ 64)) (Some (digits_value 10 text)) None
     (and_from (is_decimal text) (nat_lt (digits_value 10 text) (2 ^ 64)) d.decimal fits)
 
-pub digits_read : (most : ℕ) (text : List ℕ) (n : ℕ) → most ≤ 9 → length text ≤ most → number_of text ≡ Some n
+digits_read : (most : ℕ) (text : List ℕ) (n : ℕ) → most ≤ 9 → length text ≤ most → number_of text ≡ Some n
     → IsDigits most text n × (n < 10 ^ 9)
 digits_read most text n few short read =
     let found = number_read text n read in
     let small : digits_value 10 text < 10 ^ 9 = below_billion text found.0 (omega (arith, few, short)) in
     (record { decimal = found.0; short = short; value = found.1 }, omega (arith, small, found.1))
 
-pub digits_not_read : (most : ℕ) (text : List ℕ) (n : ℕ) → most ≤ 9 → number_of text ≡ None → IsDigits most text n → ⊥
+digits_not_read : (most : ℕ) (text : List ℕ) (n : ℕ) → most ≤ 9 → number_of text ≡ None → IsDigits most text n → ⊥
 digits_not_read most text n few none d = none-some (digits_value 10 text) (sym none ∙ short_is_read most text n few d)
 
-digits_take : (n : ℕ) (text : List ℕ) → list_all is_ascii_digit text ≡ true → list_all is_ascii_digit (take n text) ≡ true
-digits_take n text all =
-    let whole : list_all is_ascii_digit (take n text ++ drop n text) ≡ true = rw (take-append-drop n text) all in
-    (and_parts (list_all is_ascii_digit (take n text)) (list_all is_ascii_digit (drop n text))
-    (sym (list_all-append is_ascii_digit (take n text) (drop n text)) ∙ whole)).0
+-- a short text is such digits where it is a number
+pub digits_or_none : (o : Option ℕ) (most : ℕ) (text : List ℕ) → most ≤ 9 → length text ≤ most → o ≡ number_of text →
+    MatchOption o ((n : ℕ) → ¬ IsDigits most text n) (λ n. IsDigits most text n × (n < 10 ^ 9))
+digits_or_none None most text few short is = λ n digits. digits_not_read most text n few (sym is) digits
+digits_or_none (Some n) most text few short is = digits_read most text n few short (sym is)
 
 -- the first nine digits, where they were read or there are none
 pub counted_value : (o : Option ℕ) (text : List ℕ) → list_all is_ascii_digit text ≡ true → length text ≤ 9 →
@@ -83,7 +65,7 @@ pub fraction_read : {text : List ℕ} {k power : ℕ} (o : Option ℕ) → list_
     power ≡ 10 ^ (9 - length (take k text)) → IsFraction text (unwrap_or o 0 * power) × (unwrap_or o 0 * power < 10 ^ 9)
 fraction_read {text} {k} {power} o all cut read is_power =
     let nine : take k text ≡ take 9 text = ap (λ n. take n text) (cut ∙ min_comm (length text) 9) ∙ take_min 9 text in
-    let digits : list_all is_ascii_digit (take k text) ≡ true = digits_take k text all in
+    let digits : list_all is_ascii_digit (take k text) ≡ true = all-take is_ascii_digit k text all in
     let short : length (take k text) ≤ 9 = rw (length-take k text, cut) (omega arith) in
     let value : unwrap_or o 0 ≡ digits_value 10 (take k text) = counted_value o (take k text) digits short read in
     let small : digits_value 10 (take k text) < 10 ^ length (take k text) =

@@ -19,7 +19,7 @@ use Rattle.rtsp_fields.specs.declared.ranges.Span.{Span}
 use Rattle.std.proofs.lemmas.List.{length-take, take-take, get_or-take}
 use Rattle.std.proofs.Math.Nat.{min-le_left}
 use Rattle.rtsp_text.proofs.OneLines.{decimal_numerals}
-use Rattle.rtsp_fields.proofs.Digits.{number_read}
+use Rattle.rtsp_text.proofs.Numbers.{number_read}
 use Rattle.rtsp_fields.proofs.Places.{end_once, first_once}
 use Rattle.rtsp_fields.proofs.Parts.{IsPairAt, pair_at, within_once}
 use Rattle.rtsp_fields.proofs.Clocks.{value_once}

@@ -31,10 +31,7 @@ fn read_digits(text: &[u8], most: usize) -> Option<u64>
     if text.len() > most {
         return None;
     }
-    match read_number(text) {
-        Ok(number) => Some(number),
-        Err(_) => None,
-    }
+    read_number(text).ok()
 }
 
 /// Hours, minutes and seconds, as seconds.
