@@ -1,5 +1,5 @@
 -- The codes of replies: none of the session's own is 453 or 503, and 500 is want of memory.
-use Rattle.std.proofs.Common.{◌≡◌, ℕ, ◌<◌, ◌++◌, List, [], Option, Some, refl, sym, ap, subst, ◌∙◌, inl, inr, arith}
+use Rattle.std.proofs.Common.{◌≡◌, ℕ, ◌<◌, ◌++◌, List, [], Option, Some, refl, sym, ap, subst, ◌∙◌, arith}
 use Rattle.std.proofs.lemmas.Fmt.{decimal_injective}
 use Rattle.std.specs.Fmt.{digits}
 use Rattle.rtsp_text.specs.Replies.{Field, reply_front, reply_text, status_line}
@@ -12,8 +12,6 @@ use Rattle.session.specs.Hearings.{Hears}
 use Rattle.session.specs.Laws.{Is500, IsWanting, MayWantMemory, NeverLacks}
 use Rattle.session.specs.Replies.{code_of, refusal_text}
 use Rattle.session.specs.Standings.{Standing}
-use Rattle.session.proofs.Grounds.{TwoHearings}
-use Rattle.session.proofs.OneHearing.{hears_once}
 use Rattle.session.proofs.Results.{ComesTo, Lacks, Refuses, Says, SettlesSetup, AsksForPlay, AsksForHalt, AsksForLook, AsksForOffer, comes_to}
 
 -- a reply has one code
@@ -236,33 +234,6 @@ hears_500 old new message ask hears code = (hears_wanting old new message ask he
 pub hears_may : (old new : Standing) (message : List ℕ) (ask : Ask) → Hears old message ask new → Is500 ask new
     → MayWantMemory old message
 hears_may old new message ask hears code = (hears_wanting old new message ask hears code).0
-
--- and the other way round
-wanting_500 : (old new : Standing) (message : List ℕ) (ask : Ask) → IsWanting old message ask new → Is500 ask new
-wanting_500 old new message ask is =
-    subst (λ a. Is500 a new) (sym is.0)
-    (subst (λ (t : List ℕ). HasCode 500 t) (sym (ap (λ (s : Standing). s.text) is.1)) (refusal_code _ Memory []))
-
-same_wanting : {one other : Standing} {ask again : Ask} (old : Standing) (message : List ℕ)
-    → IsWanting old message ask one → IsWanting old message again other
-    → (ask ≡ again) × (one ≡ other)
-same_wanting {one} {other} {ask} old message is its = (is.0 ∙ sym its.0, is.1 ∙ sym its.1)
-
--- where memory is found for both hearings of a message, or for none, they come to the same
-pub hears_same : (twice : TwoHearings) → (Is500 twice.ask twice.one → Is500 twice.again twice.other)
-    → (Is500 twice.again twice.other → Is500 twice.ask twice.one) → (twice.ask ≡ twice.again) × (twice.one ≡ twice.other)
-hears_same twice there back =
-    elim (hears_once twice) [
-      | inl same ↦ (sym same.ask_is, sym same.session_is)
-      | inr lacks ↦ elim lacks [
-        | inl first ↦ same_wanting old message first
-            (hears_500 old other message again its (there (wanting_500 old one message ask first)))
-        | inr second ↦ same_wanting old message
-            (hears_500 old one message ask is (back (wanting_500 old other message again second))) second
-      ]
-    ]
-  where
-    open twice use {old, one, other, message, ask, again, is, its}
 
 -- what is begun with the station is no want of memory
 comes_never : (old new : Standing) (message : List ℕ) (ask : Ask) → ComesTo old message ask new → NeverLacks ask new
