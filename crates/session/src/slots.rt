@@ -28,13 +28,13 @@ impl<'a> Session<'a> {
     /// # Errors
     ///
     /// [`LinkFault`] only where the link's count rose.
-    pub fn slot<K: Link>(&mut self, t: u64, link: &mut K) -> Result<Slotted, LinkFault>
+    pub fn slot<K: Link>(&mut self, slot: u64, link: &mut K) -> Result<Slotted, LinkFault>
         requires rest { IsAtRest self.old }
-        ensures exact { OnOk result (self.new ≡ after_slot self.old t) }
-        ensures told { OnOk result (IsTold (is_taken self.old t
+        ensures exact { OnOk result (self.new ≡ after_slot self.old slot) }
+        ensures told { OnOk result (IsTold (is_taken self.old slot
             && is_sending self.old.state) (K.told link.old)
-            (due_bytes self.old.waits self.old.state self.old.text t) (K.told link.new)) }
-        ensures heard { self.new.heard ≡ taken_up self.old.heard t }
+            (due_bytes self.old.waits self.old.state self.old.text slot) (K.told link.new)) }
+        ensures heard { self.new.heard ≡ taken_up self.old.heard slot }
         ensures brings { IfOk result (λ step. Brings step self.new) }
         ensures kept { OnOk result (self.new.lost ≡ self.old.lost) }
         ensures lost { OnErr result (IsAtRest self.new) }
@@ -44,18 +44,18 @@ impl<'a> Session<'a> {
         ensures offers { self.new.offers ≡ self.old.offers }
         ensures count { K.faults link.old ≤ K.faults link.new }
         ensures failed { OnErr result
-            (HasFailed self.old t (K.told link.old) (K.told link.new) self.new) }
+            (HasFailed self.old slot (K.told link.old) (K.told link.new) self.new) }
         ensures fault { OnErr result (HasRisen (K.faults link.old) (K.faults link.new)) }
     {
-        if t <= self.heard || t > LATEST_SLOT {
+        if slot <= self.heard || slot > LATEST_SLOT {
             return Ok(Slotted::Going);
         }
-        let before = mem::replace(&mut self.heard, t);
+        let before = mem::replace(&mut self.heard, slot);
         let Some(start) = start_of(&self.state) else {
             return Ok(Slotted::Going);
         };
-        self.late += missed_slots(before, start, t);
-        let Ok(replied) = send_due(&mut self.state, &self.reply, self.waits, t, link) else {
+        self.late += missed_slots(before, start, slot);
+        let Ok(replied) = send_due(&mut self.state, &self.reply, self.waits, slot, link) else {
             self.lost = true;
             return Err(LinkFault);
         };
