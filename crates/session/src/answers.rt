@@ -364,9 +364,8 @@ fn kept_and_next(asked: &Awaited<'_>, due: u64) -> (u64, Next)
 {
     match asked {
         Awaited::Halt(keep, next) => (*keep, *next),
-        Awaited::Nothing => (due, Next::Done),
-        Awaited::Play(_) => (due, Next::Done),
-        Awaited::Look(_) => (due, Next::Done),
-        Awaited::Offer(_) => (due, Next::Done),
+        Awaited::Nothing | Awaited::Play(_) | Awaited::Look(_) | Awaited::Offer(_) => {
+            (due, Next::Done)
+        }
     }
 }

@@ -21,8 +21,8 @@ ghost use Rattle.session.specs.Standings.{Standing, sequence_of};
 /// PLAY without a Range and the wait that its `x-Wait` names, and nothing else changes. The reply
 /// tells the start that was found, and each start that was tried in vain, a line each.
 pub fn law_offer()
-    ensures asked { (old new : Standing) (message : List ℕ) (plan : List Segment) (offers : Offers) →
-        Hears old message (Ask.Offer plan offers) new
+    ensures asked { (old new : Standing) (message : List ℕ) (plan : List Segment) (offers : Offers)
+        → Hears old message (Ask.Offer plan offers) new
         → IsOfferAsked old message plan offers new }
     ensures told { (old : Standing) (note : OfferNote)
         → IsOfferTold (sequence_of old.awaited) note.offers (after_offer old note).text }

@@ -84,11 +84,11 @@ impl From<RequestFault> for Refusal {
     /// The refusal of a request that isn't well formed.
     fn from(fault: RequestFault) -> Refusal {
         match fault {
-            RequestFault::BadLine => Refusal::BadRequest,
             RequestFault::BadVersion => Refusal::Version,
-            RequestFault::BadHeader(_) => Refusal::BadRequest,
-            RequestFault::NoSequenceNumber => Refusal::BadRequest,
-            RequestFault::BadLength => Refusal::BadRequest,
+            RequestFault::BadLine
+            | RequestFault::BadHeader(_)
+            | RequestFault::NoSequenceNumber
+            | RequestFault::BadLength => Refusal::BadRequest,
         }
     }
 }
@@ -101,8 +101,7 @@ impl From<CurveRefused> for Refusal {
         match refused {
             CurveRefused::NoMemory => Refusal::Memory,
             CurveRefused::Fault(fault) => match fault {
-                CurveFault::NoPictures => Refusal::Range,
-                CurveFault::TooManySlots { .. } => Refusal::Range,
+                CurveFault::NoPictures | CurveFault::TooManySlots { .. } => Refusal::Range,
                 CurveFault::BufferTooSmall { least, .. } => Refusal::Buffer(least),
             },
         }
@@ -258,9 +257,9 @@ fn is_own(method: Method, state: &State<'_>, film: usize) -> bool
 {
     let own = match state {
         State::Init => true,
-        State::Ready(setup, _) => film == setup.film,
-        State::Playing(setup, _) => film == setup.film,
-        State::Stopping(setup, _) => film == setup.film,
+        State::Ready(setup, _) | State::Playing(setup, _) | State::Stopping(setup, _) => {
+            film == setup.film
+        }
     };
     match method {
         Method::Options | Method::Describe => true,

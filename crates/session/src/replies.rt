@@ -292,16 +292,16 @@ fn put_refusal_field(reply: &mut Reply, refusal: Refusal, option: &[u8])
     match refusal {
         Refusal::Option => reply.field(b"Unsupported", option),
         Refusal::Buffer(least) => reply.number_field(b"x-Least-Buffer", least),
-        Refusal::BadRequest => {}
-        Refusal::Version => {}
-        Refusal::Method => {}
-        Refusal::Session => {}
-        Refusal::Film => {}
-        Refusal::State => {}
-        Refusal::Transport => {}
-        Refusal::Parameter => {}
-        Refusal::Range => {}
-        Refusal::Memory => {}
+        Refusal::BadRequest
+        | Refusal::Version
+        | Refusal::Method
+        | Refusal::Session
+        | Refusal::Film
+        | Refusal::State
+        | Refusal::Transport
+        | Refusal::Parameter
+        | Refusal::Range
+        | Refusal::Memory => {}
     }
 }
 

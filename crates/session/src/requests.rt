@@ -323,13 +323,14 @@ impl<'a> Session<'a> {
                 None => self.refuse(Some(sequence), Refusal::Parameter, b""),
             },
             State::Init => self.refuse(Some(sequence), Refusal::Session, b""),
-            State::Playing(..) => self.refuse(Some(sequence), Refusal::State, b""),
-            State::Stopping(..) => self.refuse(Some(sequence), Refusal::State, b""),
+            State::Playing(..) | State::Stopping(..) => {
+                self.refuse(Some(sequence), Refusal::State, b"")
+            }
         }
     }
 
-    /// Answers a GET_PARAMETER for an offer in Ready: the run from the beginning, or on from where it
-    /// was paused, is planned, and an offer is asked for.
+    /// Answers a GET_PARAMETER for an offer in Ready: the run from the beginning, or on from where
+    /// it was paused, is planned, and an offer is asked for.
     fn offer_ready(&mut self, sequence: u64, wait: u64, setup: &Setup, paused: Option<Run>) -> Ask
         requires hear { CanHear self.old }
         requires setup { IsSetup (length self.old.films) setup.now }
@@ -362,8 +363,8 @@ impl<'a> Session<'a> {
     }
 }
 
-/// Asks for the halt of the play that is sent, if one is, at the end of the piece in hand, and tells
-/// how many bytes it keeps.
+/// Asks for the halt of the play that is sent, if one is, at the end of the piece in hand, and
+/// tells how many bytes it keeps.
 fn ask_halt(state: &mut State<'_>) -> Option<u64>
     requires { IsGoing false state.old }
     ensures halted { IfSome result (IsHalted state.old state.new) }
