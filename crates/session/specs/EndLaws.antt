@@ -19,8 +19,7 @@ use Rattle.session.specs.Films.{IsFilmAt}
 use Rattle.session.specs.Hearings.{after_halt}
 use Rattle.session.specs.Judging.{IsReadAs}
 use Rattle.session.specs.Laws.{InitStage, IsOfMethod, PlayingStage, ReadyStage, Stage, stage_of}
-use Rattle.session.specs.LookLaws.{Admission, Full, Halt, Happening, Look, Message, Offer}
-use Rattle.session.specs.LookLaws.{Overflow, Sending, Slot}
+use Rattle.session.specs.LookLaws.{Happening, Message}
 use Rattle.session.specs.Playing.{playback_of}
 use Rattle.session.specs.PlayLaws.{IsElseGood}
 use Rattle.session.specs.Sendings.{sent_reply}
@@ -50,14 +49,7 @@ pub record CanBeTornDown (old : Standing) (message : List ℕ) : Type 0 where
 -- a TEARDOWN is heard
 abbrev pub IsTeardownHeard : Happening → Type 0
 IsTeardownHeard (Message message ask) = IsTeardown message
-IsTeardownHeard (Admission place start) = ⊥
-IsTeardownHeard (Overflow place slot booked asked) = ⊥
-IsTeardownHeard (Full entries live) = ⊥
-IsTeardownHeard (Halt place) = ⊥
-IsTeardownHeard (Look place now at booked) = ⊥
-IsTeardownHeard (Offer note) = ⊥
-IsTeardownHeard (Slot slot) = ⊥
-IsTeardownHeard Sending = ⊥
+IsTeardownHeard _ = ⊥
 
 abbrev pub HasTeardown : List Happening → Type 0
 HasTeardown [] = ⊥

@@ -54,14 +54,7 @@ looks_in (AskOffer plan offers) = 0
 
 abbrev pub looks_of : Happening → ℕ
 looks_of (Message message ask) = looks_in ask
-looks_of (Admission place start) = 0
-looks_of (Overflow place slot booked asked) = 0
-looks_of (Full entries live) = 0
-looks_of (Halt place) = 0
-looks_of (Look place now at booked) = 0
-looks_of (Offer note) = 0
-looks_of (Slot slot) = 0
-looks_of Sending = 0
+looks_of _ = 0
 
 abbrev pub looks_asked : List Happening → ℕ
 looks_asked happenings = sum_by looks_of happenings

@@ -8,10 +8,7 @@ use Rattle.rtsp_fields.specs.declared.transports.Channels.{Channels}
 use Rattle.session.specs.declared.settings.Settings.{Settings}
 use Rattle.session.specs.declared.states.Setup.{Setup}
 use Rattle.session.specs.declared.refusals.Refusal.{Refusal}
-use Rattle.session.specs.declared.refusals.Refusal.TheVariants.{BadRequest, Version, Method}
-use Rattle.session.specs.declared.refusals.Refusal.TheVariants.{Option as Required, Session, Film}
-use Rattle.session.specs.declared.refusals.Refusal.TheVariants.{State, Transport, Parameter, Buffer}
-use Rattle.session.specs.declared.refusals.Refusal.TheVariants.{Range, Memory}
+use Rattle.session.specs.declared.refusals.Refusal.TheVariants.{Transport, Parameter}
 
 -- the channels of the first transport that can be taken
 abbrev pub AreChannelsOf : Option (List ℕ) → Channels → Type 0
@@ -52,15 +49,6 @@ pub record HasNoMeaning (settings : Settings) (head : List ℕ) : Type 0 where
 -- what a SETUP asks for, or why it is refused
 abbrev pub IsSetupRead : Settings → List ℕ → ℕ → Result Setup Refusal → Type 0
 IsSetupRead settings head film (Ok setup) = AsksForSetup settings head film setup
-IsSetupRead settings head film (Err BadRequest) = ⊥
-IsSetupRead settings head film (Err Version) = ⊥
-IsSetupRead settings head film (Err Method) = ⊥
-IsSetupRead settings head film (Err Required) = ⊥
-IsSetupRead settings head film (Err Session) = ⊥
-IsSetupRead settings head film (Err Film) = ⊥
-IsSetupRead settings head film (Err State) = ⊥
 IsSetupRead settings head film (Err Transport) = (channels : Channels) → ¬ HasChannels head channels
 IsSetupRead settings head film (Err Parameter) = HasNoMeaning settings head
-IsSetupRead settings head film (Err (Buffer least)) = ⊥
-IsSetupRead settings head film (Err Range) = ⊥
-IsSetupRead settings head film (Err Memory) = ⊥
+IsSetupRead settings head film (Err _) = ⊥

@@ -131,33 +131,22 @@ IsSameBooking (Some old) (Some new) = (new.plan ≡ old.plan) × (new.start ≡ 
 
 -- the answer that is called for is one to a play, to a halt, to a look, or to an offer
 abbrev pub IsPlay : Awaits → Type 0
-IsPlay NoAnswer = ⊥
 IsPlay (PlayAnswer plan) = ⊤
-IsPlay (HaltAnswer keep) = ⊥
-IsPlay LookAnswer = ⊥
-IsPlay OfferAnswer = ⊥
+IsPlay _ = ⊥
 
 abbrev pub IsLook : Awaits → Type 0
-IsLook NoAnswer = ⊥
-IsLook (PlayAnswer plan) = ⊥
-IsLook (HaltAnswer keep) = ⊥
 IsLook LookAnswer = ⊤
-IsLook OfferAnswer = ⊥
+IsLook _ = ⊥
 
 abbrev pub IsOffer : Awaits → Type 0
-IsOffer NoAnswer = ⊥
-IsOffer (PlayAnswer plan) = ⊥
-IsOffer (HaltAnswer keep) = ⊥
-IsOffer LookAnswer = ⊥
 IsOffer OfferAnswer = ⊤
+IsOffer _ = ⊥
 
 -- a play or a look, which a full journal answers alike
 abbrev pub IsPlayOrLook : Awaits → Type 0
-IsPlayOrLook NoAnswer = ⊥
 IsPlayOrLook (PlayAnswer plan) = ⊤
-IsPlayOrLook (HaltAnswer keep) = ⊥
 IsPlayOrLook LookAnswer = ⊤
-IsPlayOrLook OfferAnswer = ⊥
+IsPlayOrLook _ = ⊥
 
 -- a booking is open
 abbrev pub IsOpen : Option Open → Type 0
@@ -167,18 +156,13 @@ IsOpen (Some booking) = ⊤
 -- a halt: the session asked for it, or the connection ends while a booking is open
 abbrev pub IsHalt : Awaits → Option Open → Type 0
 IsHalt NoAnswer booking = IsOpen booking
-IsHalt (PlayAnswer plan) booking = ⊥
 IsHalt (HaltAnswer keep) booking = ⊤
-IsHalt LookAnswer booking = ⊥
-IsHalt OfferAnswer booking = ⊥
+IsHalt _ booking = ⊥
 
 -- the booking of an admitted play: nothing is due yet
 abbrev pub booking_of : Awaits → ℕ → Option Open
-booking_of NoAnswer start = None
 booking_of (PlayAnswer plan) start = Some (record { plan = plan; start = start; due = 0 })
-booking_of (HaltAnswer keep) start = None
-booking_of LookAnswer start = None
-booking_of OfferAnswer start = None
+booking_of _ start = None
 
 -- what a call leaves as it was
 pub record IsSameBusiness (old new : Standing) : Type 0 where
@@ -227,10 +211,8 @@ is_playing_in (Stopping setup stop) = false
 
 -- the session is Ready, with this of SETUP
 abbrev pub IsReadyIn : State → Setup → Type 0
-IsReadyIn Init setup = ⊥
 IsReadyIn (Ready own paused) setup = own ≡ setup
-IsReadyIn (Playing own play) setup = ⊥
-IsReadyIn (Stopping own stop) setup = ⊥
+IsReadyIn _ setup = ⊥
 
 -- the request that waits for the station's answer
 abbrev pub sequence_of : Awaited → ℕ

@@ -19,26 +19,15 @@ pub record IsSamePacing (old new : Pacing) : Type 0 where
 -- the same state, but for what was sent
 abbrev pub IsCarried : State → State → Type 0
 IsCarried Init Init = ⊤
-IsCarried Init (Ready s p) = ⊥
-IsCarried Init (Playing s p) = ⊥
-IsCarried Init (Stopping s p) = ⊥
-IsCarried (Ready setup paused) Init = ⊥
 IsCarried (Ready setup paused) (Ready s p) = (s ≡ setup) × (p ≡ paused)
-IsCarried (Ready setup paused) (Playing s p) = ⊥
-IsCarried (Ready setup paused) (Stopping s p) = ⊥
-IsCarried (Playing setup play) Init = ⊥
-IsCarried (Playing setup play) (Ready s p) = ⊥
 IsCarried (Playing setup play) (Playing s p) =
     (s ≡ setup) × (p.run ≡ play.run) × (p.place ≡ play.place) × (p.start ≡ play.start)
     × (p.plan ≡ play.plan)
     × IsSamePacing play.pacer p.pacer
-IsCarried (Playing setup play) (Stopping s p) = ⊥
-IsCarried (Stopping setup stop) Init = ⊥
-IsCarried (Stopping setup stop) (Ready s p) = ⊥
-IsCarried (Stopping setup stop) (Playing s p) = ⊥
 IsCarried (Stopping setup stop) (Stopping s p) =
     (s ≡ setup) × (p.paused ≡ stop.paused) × (p.start ≡ stop.start)
     × IsSamePacing stop.pacer p.pacer
+IsCarried _ _ = ⊥
 
 -- all that is due was sent
 abbrev pub IsEven : State → Type 0
@@ -62,10 +51,8 @@ IsLeft (Stopping setup stop) left = left ≡ 0 → stop.pacer.due ≡ stop.pacer
 
 -- a halt is asked for in Playing, within the plan
 abbrev pub IsHaltIn : State → ℕ → Type 0
-IsHaltIn Init keep = ⊥
-IsHaltIn (Ready setup paused) keep = ⊥
 IsHaltIn (Playing setup play) keep = keep ≤ total_bytes play.plan
-IsHaltIn (Stopping setup stop) keep = ⊥
+IsHaltIn _ keep = ⊥
 
 -- a play's pacing, with the play's plan
 abbrev pub IsPlayIn : State → Type 0
