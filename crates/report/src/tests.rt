@@ -3,10 +3,7 @@
 ghost use Rattle.std.specs.Prelude.{IsTrue};
 ghost use Rattle.report.specs.Kinds.{IsOfKind};
 
-use crate::{
-    calendar_text, entry_line, journal_text, law_answer_kinds, law_calendar_lines, law_entry_line,
-    law_journal_text, law_kinds, law_slot_lines, law_state_text,
-};
+use crate::{calendar_text, entry_line, journal_text, law_answer_kinds};
 use admission::{Answer, Book, Command, Entry};
 use plan_cert::{Plan, Segment};
 use slot_calendar::{Calendar, Profile};
@@ -152,20 +149,6 @@ fn texts_of_journals(rt: HostRuntime) -> Result<(), Fail> {
     assert_eq!(rt; journal_text(1, entries, &mut out), Ok(()));
     let last: &[u8] = b"1 seat=1 look slot=4 looked now=0 at=4 booked=0\n";
     assert_eq!(rt; out.as_slice(), last);
-    Ok(())
-}
-
-/// The laws are calls.
-#[test]
-fn states_laws(rt: HostRuntime) -> Result<(), Fail> {
-    let profile = Profile::flat(rt.alloc(), 5)?;
-    law_kinds(&profile, &[]);
-    law_answer_kinds();
-    law_entry_line();
-    law_journal_text();
-    law_calendar_lines();
-    law_slot_lines();
-    law_state_text();
     Ok(())
 }
 
