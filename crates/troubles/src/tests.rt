@@ -2,10 +2,9 @@
 
 use crate::{Fault, Trouble, add, add_count, say, status_of};
 use mpeg_scan::FilmFault;
-use std::alloc::AllocError;
 use std::test::Fail;
 use sys_demux::SystemFault;
-use vod_base::{MemorySink, NoMemory};
+use vod_base::MemorySink;
 
 #[test]
 fn says_each_trouble(rt: HostRuntime) -> Result<(), Fail> {
@@ -38,10 +37,7 @@ fn says_each_trouble(rt: HostRuntime) -> Result<(), Fail> {
         (Trouble::GateFault, 7, "vodserve: GateFault\n"),
         (Trouble::LinkFault, 8, "vodserve: LinkFault\n"),
     ] {
-        let mut sink = match MemorySink::new(alloc, 64, Vec::new(alloc)) {
-            Ok(sink) => sink,
-            Err(NoMemory) => return Err(Fail::from(AllocError)),
-        };
+        let mut sink = MemorySink::new(alloc, 64, Vec::new(alloc))?;
         assert_eq!(rt; status_of(&trouble), status, "at {line}");
         assert!(rt; say(&mut sink, trouble), "at {line}");
         assert_eq!(rt; sink.bytes(), line.as_bytes());
@@ -52,10 +48,7 @@ fn says_each_trouble(rt: HostRuntime) -> Result<(), Fail> {
 #[test]
 fn says_a_line_of_numbers(rt: HostRuntime) -> Result<(), Fail> {
     let alloc = rt.alloc();
-    let mut sink = match MemorySink::new(alloc, 64, Vec::new(alloc)) {
-        Ok(sink) => sink,
-        Err(NoMemory) => return Err(Fail::from(AllocError)),
-    };
+    let mut sink = MemorySink::new(alloc, 64, Vec::new(alloc))?;
     let word = add(&mut sink, true, b"watched");
     let units = add_count(&mut sink, word, "units", 2);
     assert!(rt; add_count(&mut sink, units, "bytes", 49));
