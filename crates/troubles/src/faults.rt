@@ -4,7 +4,7 @@ use mpeg_scan::FilmFault;
 use std::alloc::{AllocError, AllocFailed};
 use sys_demux::SystemFault;
 use thiserror::Error;
-use vod_base::NoMemory;
+use vod_base::{GateFault, NoMemory, SinkFault};
 use wire_curve::CurveFault;
 
 /// Why an input is refused.
@@ -57,7 +57,8 @@ pub enum Fault {
     TurnsSpent,
 }
 
-/// Why the words weren't carried out, as the line on the error stream says it.
+/// Why the words weren't carried out. [`say`](crate::say) writes it on the error stream as a line of
+/// names and numbers; its `Display` is prose.
 #[derive(Clone, Copy, Debug, Error)]
 pub enum Trouble<'a> {
     /// The words have no meaning.
@@ -113,5 +114,27 @@ impl<T: Drop> From<AllocFailed<T>> for Trouble<'_> {
 
     fn from(_error: AllocFailed<T>) -> Self {
         Trouble::NoMemory
+    }
+}
+
+impl From<GateFault> for Trouble<'_> {
+    ghost use Rattle.std.specs.Prelude.{◌≡◌};
+    ghost use Rattle.troubles.specs.declared.faults.Trouble.TheVariants.{GateFault as TroubleGateFault};
+
+    ghost from_gives = { λ _ trouble. trouble ≡ TroubleGateFault };
+
+    fn from(_fault: GateFault) -> Self {
+        Trouble::GateFault
+    }
+}
+
+impl From<SinkFault> for Trouble<'_> {
+    ghost use Rattle.std.specs.Prelude.{◌≡◌};
+    ghost use Rattle.troubles.specs.declared.faults.Trouble.TheVariants.{SinkFault as TroubleSinkFault};
+
+    ghost from_gives = { λ _ trouble. trouble ≡ TroubleSinkFault };
+
+    fn from(_fault: SinkFault) -> Self {
+        Trouble::SinkFault
     }
 }
