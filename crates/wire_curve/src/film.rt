@@ -12,8 +12,8 @@ ghost use Rattle.wire_curve.specs.Refusal.{IsAccepted, IsOverfull, HasFault, IsR
 
 use crate::curves::Curves;
 use std::alloc::{AllocError, Global};
-use std::error::Error;
-use std::fmt;
+use thiserror::Error;
+use vod_base::NoMemory;
 
 /// The most slots that a plan may have.
 const MAX_SLOTS: u64 = 1_000_000;
@@ -38,54 +38,57 @@ pub struct Timing {
     pub sent: u64,
 }
 
+impl Timing {
+    /// The slot in which a picture is used, one of at most 4,194,304, from 0.
+    pub fn due_slot(&self, picture: u64) -> u64
+        requires some_slot_units { 1 ≤ self.now.slot_units }
+        requires picture_units { self.now.picture_units ≤ 360000 }
+        requires picture { picture < 4194304 }
+        requires delay { self.now.delay ≤ 10000 }
+        ensures { result ≡ due_slot self.now picture }
+    {
+        if self.picture_units == self.slot_units {
+            return picture + self.delay;
+        }
+        picture * u64::from(self.picture_units) / u64::from(self.slot_units) + self.delay
+    }
+}
+
 /// Why pictures have no curves, in the order in which the faults are looked for.
-#[derive(Clone, Copy, PartialEq, Eq, Debug)]
+#[derive(Clone, Copy, PartialEq, Eq, Debug, Error)]
 pub enum CurveFault {
     /// There is no picture.
+    #[error("there is no picture")]
     NoPictures,
     /// The last picture is used after slot 999,999.
+    #[error("{slots} slots are too many")]
     TooManySlots { slots: u64 },
     /// Slot `slot` is the first that uses more than the buffer holds: `used` bytes. The greatest
     /// use of any slot is `least`, so a buffer of that many bytes would do.
+    #[error("slot {slot} uses {used} bytes; the least buffer is {least}")]
     BufferTooSmall { slot: u64, used: u64, least: u64 },
 }
 
 /// Why `film_curves` gives no curves.
-#[derive(Clone, Copy, PartialEq, Eq, Debug)]
+#[derive(Clone, Copy, PartialEq, Eq, Debug, Error)]
 pub enum CurveRefused {
     /// The pictures have none.
+    #[error("{0}")]
     Fault(CurveFault),
-    /// No memory was found.
+    /// Want of memory.
+    #[error("out of memory")]
     NoMemory,
 }
 
-impl fmt::Display for CurveFault {
-    fn fmt<W: fmt::Write>(&self, f: &mut fmt::Formatter<W>) -> fmt::Result {
-        match self {
-            CurveFault::NoPictures => f.write_str("there is no picture"),
-            CurveFault::TooManySlots { slots } => write!(f, "{slots} slots are too many"),
-            CurveFault::BufferTooSmall { slot, used, least } => {
-                write!(
-                    f,
-                    "slot {slot} uses {used} bytes; the least buffer is {least}"
-                )
-            }
-        }
+impl From<NoMemory> for CurveRefused {
+    ghost use Rattle.wire_curve.specs.declared.film.CurveRefused.TheVariants.{NoMemory as WantsMemory};
+
+    ghost from_gives = { λ _ refusal. refusal ≡ WantsMemory };
+
+    fn from(_want: NoMemory) -> Self {
+        CurveRefused::NoMemory
     }
 }
-
-impl Error for CurveFault {}
-
-impl fmt::Display for CurveRefused {
-    fn fmt<W: fmt::Write>(&self, f: &mut fmt::Formatter<W>) -> fmt::Result {
-        match self {
-            CurveRefused::Fault(fault) => write!(f, "{fault}"),
-            CurveRefused::NoMemory => f.write_str("no memory"),
-        }
-    }
-}
-
-impl Error for CurveRefused {}
 
 impl From<AllocError> for CurveRefused {
     ghost use Rattle.wire_curve.specs.declared.film.CurveRefused.TheVariants.{NoMemory};
@@ -111,7 +114,7 @@ pub fn film_curves(alloc: Global, sizes: &[u64], timing: &Timing) -> Result<Curv
     let Some(last) = sizes.len().checked_sub(1) else {
         return Err(CurveRefused::Fault(CurveFault::NoPictures));
     };
-    let slots = due_slot(timing, last as u64) + 1;
+    let slots = timing.due_slot(last as u64) + 1;
     if slots > MAX_SLOTS {
         return Err(CurveRefused::Fault(CurveFault::TooManySlots { slots }));
     }
@@ -120,20 +123,6 @@ pub fn film_curves(alloc: Global, sizes: &[u64], timing: &Timing) -> Result<Curv
         return Err(CurveRefused::Fault(fault));
     }
     Ok(curves_of_uses(alloc, timing, uses)?)
-}
-
-/// The slot in which a picture is used.
-fn due_slot(timing: &Timing, picture: u64) -> u64
-    requires some_slot_units { 1 ≤ timing.now.slot_units }
-    requires picture_units { timing.now.picture_units ≤ 360000 }
-    requires picture { picture < 4194304 }
-    requires delay { timing.now.delay ≤ 10000 }
-    ensures { result ≡ due_slot timing.now picture }
-{
-    if timing.picture_units == timing.slot_units {
-        return picture + timing.delay;
-    }
-    picture * u64::from(timing.picture_units) / u64::from(timing.slot_units) + timing.delay
 }
 
 /// What a film's pictures use, slot by slot.
@@ -161,7 +150,7 @@ fn uses_of_slots(
     let mut in_slot = vec![in alloc; 0u64; slots]?;
     let mut total = timing.played;
     for (picture, size) in sizes.iter().enumerate() {
-        let slot = due_slot(timing, picture as u64) as usize;
+        let slot = timing.due_slot(picture as u64) as usize;
         in_slot[slot] += *size;
         total += *size;
     }
