@@ -8,7 +8,7 @@ ghost use Rattle.film_run.specs.Runs.{Fits, IsRun};
 ghost use Rattle.film_run.specs.Plans.{IsPlanOf, IsPlayback, timing_of};
 ghost use Rattle.film_run.specs.Pauses.{IsHalt, IsLeft, IsStop, ReachesAt};
 
-use crate::plans::Playback;
+use crate::plans::{Playback, timing_of};
 use crate::runs::Run;
 use crate::units::Units;
 use plan_cert::Plan;
@@ -93,6 +93,5 @@ fn due_slot(playback: &Playback, run: &Run, picture: u64) -> u64
     requires picture { picture < 4194304 }
     ensures { result ≡ due_slot (timing_of playback.now run.now) picture }
 {
-    let _run = run;
-    picture * u64::from(playback.picture_units) / u64::from(playback.slot_units) + playback.delay
+    timing_of(playback, run).due_slot(picture)
 }

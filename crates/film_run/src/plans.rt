@@ -13,7 +13,6 @@ use crate::units::Units;
 use plan_cert::Plan;
 use std::alloc::{AllocError, Global};
 use taut_plan::plan;
-use vod_base::NoMemory;
 use wire_curve::{CurveRefused, Timing, film_curves};
 
 /// How a client plays: when it uses pictures, and what it can hold.
@@ -63,14 +62,11 @@ pub fn plan_of<U: Units>(
     let _count = units.count();
     let sizes = rest_sizes(alloc, units, run)?;
     let curves = film_curves(alloc, &sizes, &timing_of(playback, run))?;
-    match plan(alloc, &curves) {
-        Ok(plan) => Ok(plan),
-        Err(NoMemory) => Err(CurveRefused::NoMemory),
-    }
+    Ok(plan(alloc, &curves)?)
 }
 
 /// When the pictures of a run's play are used, and what was sent and played before.
-fn timing_of(playback: &Playback, run: &Run) -> Timing
+pub(crate) fn timing_of(playback: &Playback, run: &Run) -> Timing
     ensures { result ≡ timing_of playback.now run.now }
 {
     Timing {

@@ -31,13 +31,8 @@ fn film_of(alloc: Global, pictures: u32) -> Result<Stored, Fail> {
             bytes.extend_from_slice(&PICTURE_P)?;
         }
     }
-    let Ok(film) = scan(alloc, bytes) else {
-        return Err(Fail::from("no film"));
-    };
-    match Stored::new(alloc, String::from_str(alloc, "film.mpg")?, film) {
-        Ok(stored) => Ok(stored),
-        Err(_) => Err(Fail::from("no memory for a table")),
-    }
+    let film = scan(alloc, bytes)?;
+    Ok(Stored::new(alloc, String::from_str(alloc, "film.mpg")?, film)?)
 }
 
 /// The plan of a run, which has these slots.
@@ -53,9 +48,7 @@ fn planned<U: Units>(
     requires fits { Fits playback.now.buffer run.now }
     ensures { IfOk result (IsPlanOf (U.sizes units.now) playback.now run.now) }
 {
-    let Ok(plan) = plan_of(alloc, units, playback, run) else {
-        return Err(Fail::from("no plan"));
-    };
+    let plan = plan_of(alloc, units, playback, run)?;
     if plan.slots() != slots.len() as u64 {
         return Err(Fail::from("a plan of other slots"));
     }
