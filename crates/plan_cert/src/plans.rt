@@ -61,7 +61,7 @@ impl Plan {
         true
     }
 
-    /// A plan of these segments. One pass over them.
+    /// A plan of these segments, which [`Plan::is_allowed`] allows. One pass over them.
     pub fn new(segments: Vec<Segment>) -> Plan
         requires { IsPlan segments.items }
         ensures { result ≡ segments.items }

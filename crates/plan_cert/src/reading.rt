@@ -10,9 +10,8 @@ ghost use Rattle.plan_cert.specs.Reading.{IsBody};
 
 use crate::Segment;
 use crate::sums::{has_bytes, has_slots};
-use std::alloc::Global;
-use std::error::Error;
-use std::fmt;
+use std::alloc::{AllocFailed, Global};
+use thiserror::Error;
 use vod_base::{read_number, split_at_first};
 
 /// What a certificate says.
@@ -27,26 +26,27 @@ pub struct CertText {
 }
 
 /// Why a text isn't read as a certificate.
-#[derive(Clone, Copy, Debug, PartialEq, Eq)]
+#[derive(Clone, Copy, Debug, PartialEq, Eq, Error)]
 pub enum CertRead {
     /// This line, from 1, is the first that breaks the grammar, or the one after the last where the
     /// text ends early; or, where all lines are well formed, the first of the lines `slots` and
     /// `bytes` that doesn't agree with the segments.
+    #[error("line {line} of the certificate is bad")]
     BadCert { line: u64 },
     /// Want of memory.
+    #[error("out of memory")]
     NoMemory,
 }
 
-impl fmt::Display for CertRead {
-    fn fmt<W: fmt::Write>(&self, f: &mut fmt::Formatter<W>) -> fmt::Result {
-        match self {
-            CertRead::BadCert { line } => write!(f, "line {line} of the certificate is bad"),
-            CertRead::NoMemory => f.write_str("no memory"),
-        }
+impl<T: Drop> From<AllocFailed<T>> for CertRead {
+    ghost use Rattle.plan_cert.specs.declared.reading.CertRead.TheVariants.{NoMemory};
+
+    ghost from_gives = { λ _ refusal. refusal ≡ NoMemory };
+
+    fn from(_error: AllocFailed<T>) -> Self {
+        CertRead::NoMemory
     }
 }
-
-impl Error for CertRead {}
 
 /// The most segments of a certificate.
 const MAX_SEGMENTS: u64 = 1_000_000;
@@ -103,25 +103,16 @@ fn number_after(line: &[u8], word: &[u8]) -> Option<u64>
     ensures { MatchOption result ((n : ℕ) → ¬ IsNumberLine word.now line.now n)
         (IsNumberLine word.now line.now) }
 {
-    match rest_after(line, word) {
-        Some(digits) => cert_number(digits),
-        None => None,
-    }
+    cert_number(rest_after(line, word)?)
 }
 
 /// The two numbers with a space between them.
 fn two_numbers(text: &[u8]) -> Option<Segment>
     ensures { MatchOption result ((s : Segment) → ¬ AreNumbers text.now s) (AreNumbers text.now) }
 {
-    let Some((first, second)) = split_at_first(text, b' ') else {
-        return None;
-    };
-    let Some(slots) = cert_number(first) else {
-        return None;
-    };
-    let Some(bytes) = cert_number(second) else {
-        return None;
-    };
+    let (first, second) = split_at_first(text, b' ')?;
+    let slots = cert_number(first)?;
+    let bytes = cert_number(second)?;
     Some(Segment { slots, bytes })
 }
 
@@ -130,10 +121,7 @@ fn segment_in(line: &[u8]) -> Option<Segment>
     ensures { MatchOption result ((s : Segment) → ¬ IsSegmentLine line.now s)
         (IsSegmentLine line.now) }
 {
-    match rest_after(line, b"segment ") {
-        Some(numbers) => two_numbers(numbers),
-        None => None,
-    }
+    two_numbers(rest_after(line, b"segment ")?)
 }
 
 /// Whether the line is this text.
@@ -152,27 +140,27 @@ struct Head<'a> {
 }
 
 /// Reads the three lines of the head, or names the first bad one.
-fn read_head(text: &[u8]) -> Result<Head<'_>, u64>
+fn read_head(text: &[u8]) -> Result<Head<'_>, CertRead>
     ensures { MatchResult result (λ head. IsHead text.now head.slots head.bytes head.rest.now)
-        (IsBadLine text.now) }
+        (IsRefused text.now) }
 {
     let Some((title, rest)) = split_at_first(text, b'\n') else {
-        return Err(1);
+        return Err(CertRead::BadCert { line: 1 });
     };
     if !is_text(title, b"smooth 1") {
-        return Err(1);
+        return Err(CertRead::BadCert { line: 1 });
     }
     let Some((slots_line, rest)) = split_at_first(rest, b'\n') else {
-        return Err(2);
+        return Err(CertRead::BadCert { line: 2 });
     };
     let Some(slots) = number_after(slots_line, b"slots ") else {
-        return Err(2);
+        return Err(CertRead::BadCert { line: 2 });
     };
     let Some((bytes_line, rest)) = split_at_first(rest, b'\n') else {
-        return Err(3);
+        return Err(CertRead::BadCert { line: 3 });
     };
     let Some(bytes) = number_after(bytes_line, b"bytes ") else {
-        return Err(3);
+        return Err(CertRead::BadCert { line: 3 });
     };
     Ok(Head { slots, bytes, rest })
 }
@@ -201,9 +189,7 @@ fn read_body(alloc: Global, text: &[u8]) -> Result<Vec<Segment>, CertRead>
         if count == MAX_SEGMENTS {
             return Err(CertRead::BadCert { line: count + 4 });
         }
-        if segments.push(segment).is_err() {
-            return Err(CertRead::NoMemory);
-        }
+        segments.push(segment)?;
         rest = after;
     }
     unreachable!()
@@ -215,10 +201,7 @@ fn read_lines(alloc: Global, text: &[u8]) -> Result<CertText, CertRead>
         IsCertificate text.now cert.slots cert.bytes cert.segments.items) }
     ensures refused { IfErr result (IsRefused text.now) }
 {
-    let head = match read_head(text) {
-        Ok(head) => head,
-        Err(line) => return Err(CertRead::BadCert { line }),
-    };
+    let head = read_head(text)?;
     let segments = read_body(alloc, head.rest)?;
     if !has_slots(segments.as_slice(), head.slots) {
         return Err(CertRead::BadCert { line: 2 });

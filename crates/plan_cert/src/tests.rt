@@ -74,12 +74,8 @@ fn sends_and_writes(
 ) -> Result<(), Fail> {
     let plan = plan_of(rt, alloc, pairs)?;
     sends(rt, &plan, want, text);
-    let Ok(copy) = plan.copy() else {
-        panic!(rt; "no memory for a copy");
-    };
-    let Ok(written) = write_cert(alloc, &copy) else {
-        panic!(rt; "no memory for a text");
-    };
+    let copy = plan.copy()?;
+    let written = write_cert(alloc, &copy)?;
     assert_eq!(rt; written.as_slice(), text.as_bytes());
     follows(rt, copy, &plan, text);
     Ok(())
@@ -170,9 +166,7 @@ fn reads_certificates(rt: HostRuntime) -> Result<(), Fail> {
         ),
     ];
     for (text, sums, pairs) in rows {
-        let Ok(cert) = read_cert(rt.alloc(), text.as_bytes()) else {
-            panic!(rt; "{text} is refused");
-        };
+        let cert = read_cert(rt.alloc(), text.as_bytes())?;
         assert_eq!(rt; (cert.slots, cert.bytes), sums, "sums of {text}");
         let plan = segments_of(rt.alloc(), pairs)?;
         assert_eq!(rt;

@@ -1,6 +1,6 @@
 use Rattle.std.proofs.lemmas.Grind.{common_steps}
-use Rattle.std.proofs.Common.{◌≡◌, ◌≢◌, ◌<◌, ◌≤◌, ◌+◌, ◌^◌, ◌++◌, true, not, [], ◌∷◌, length, is_ok, arith, ap, subst, ◌∙◌, inl, inr, eq-eqb}
-use Rattle.std.proofs.lemmas.Bool.{both_ways, cond-true}
+use Rattle.std.proofs.Common.{◌≡◌, ◌≢◌, ◌<◌, ◌≤◌, ◌+◌, ◌^◌, ◌++◌, [], ◌∷◌, length, arith, ap, subst, ◌∙◌, inl, inr, eq-eqb}
+use Rattle.std.proofs.lemmas.Bool.{both_ways}
 use Rattle.std.proofs.lemmas.List.{length_push}
 use Rattle.std.proofs.lemmas.List.Elements.{All-push}
 use Rattle.plan_cert.specs.Reading.{HasRead, MayEnd}
@@ -50,10 +50,7 @@ loop-count-preserved c =
     let inv = c.loop-count.invariant in
     let s = c.in-Some-segment_in.segment in
     let more : c.loop-count.count < 1000000 = omega (arith, inv.few) in
-    let ok : is_ok c.push.result ≡ true = c.is_err.ensures.negation ∙ ap not c.if-is_err.false in
-    let items : c.push.new.self.items ≡ c.loop-count.segments.items ++ s ∷ [] =
-    c.push.ensures.items
-    ∙ cond-true (is_ok c.push.result) (c.loop-count.segments.items ++ s ∷ []) c.loop-count.segments.items ok in
+    let items : c.push.new.self.items ≡ c.loop-count.segments.items ++ s ∷ [] = c.in_ok-push.ensures.items in
     record {
       few = omega arith;
       counted = ap length items ∙ length_push c.loop-count.segments.items s ∙ ap (λ n. n + 1) inv.counted;

@@ -29,19 +29,19 @@ wrong_sum {text} {slots} {bytes} {segments} {i} head body wrong = (
 
 pub returns-then-not-has_slots-clause-refused : goal.returns-then-not-has_slots-clause-refused
 returns-then-not-has_slots-clause-refused c =
-    let wrong = λ (e : total_slots c.in_ok-segments.segments.items ≡ c.in-Ok.head.slots).
+    let wrong = λ (e : total_slots c.in_ok-segments.segments.items ≡ c.in_ok-head.head.slots).
     both_ways c.has_slots.result c.if-not-has_slots.true (c.has_slots.ensures.1 (ap total_slots c.as_slice.ensures.value ∙ e)) in
     wrong_sum
-    c.in-Ok.ensures c.in_ok-segments.ensures.read (inl (refl, wrong))
+    c.in_ok-head.ensures c.in_ok-segments.ensures.read (inl (refl, wrong))
 
 pub returns-then-not-has_bytes-clause-refused : goal.returns-then-not-has_bytes-clause-refused
 returns-then-not-has_bytes-clause-refused c =
     let same = sym (ap total_slots c.as_slice.ensures.value) ∙ c.has_slots.ensures.0 c.if-not-has_slots.false in
-    let wrong = λ (e : total_bytes c.in_ok-segments.segments.items ≡ c.in-Ok.head.bytes).
+    let wrong = λ (e : total_bytes c.in_ok-segments.segments.items ≡ c.in_ok-head.head.bytes).
     both_ways c.has_bytes.result c.if-not-has_bytes.true
     (c.has_bytes.ensures.1 (ap total_bytes c.as_slice-2.ensures.value ∙ e)) in
     wrong_sum
-    c.in-Ok.ensures c.in_ok-segments.ensures.read (inr (refl, same, wrong))
+    c.in_ok-head.ensures c.in_ok-segments.ensures.read (inr (refl, same, wrong))
 
 pub returns-clause-read : goal.returns-clause-read
 returns-clause-read c = grind (arith, common_steps)
