@@ -18,6 +18,7 @@ ghost use Rattle.rtsp_client.specs.Takings.{HasPassed, HasRound, IsUnsent, Passe
 ghost use Rattle.rtsp_client.specs.Takings.{PassesReply, Sight, StopsAtPieces, TakesPieces, sight};
 ghost use Rattle.rtsp_client.specs.Wishes.{IsWish};
 
+use crate::frames::HEADS;
 use crate::replies::{play_range, play_start, reply_code, session_in};
 use crate::requests::{copy_of, play_request, setup_request, teardown_request};
 use crate::watching::Watching;
@@ -279,7 +280,7 @@ impl Client {
             return Err(WatchEnd::Fault(WatchFault::BadFrame(number)));
         };
         self.watching.add_frame(source, length as u64)?;
-        out.write_all(&block[20..])?;
+        out.write_all(&block[HEADS..])?;
         if !self.watching.is_complete() {
             return Ok(());
         }
@@ -329,18 +330,14 @@ impl Client {
         ensures ended { EndsAtReply wish.now length self.old result (K.told link.old)
             (K.told link.new) }
     {
-        match self.awaited_code(&self.input.waiting()[..length]) {
-            None => {
-                let number = self.replies + 1;
-                Err(WatchEnd::Fault(WatchFault::BadReply(number)))
-            }
-            Some(code) => {
-                if code != 200 {
-                    return Err(WatchEnd::Fault(WatchFault::Refused(code)));
-                }
-                self.take_good(wish, length, link)
-            }
+        let Some(code) = self.awaited_code(&self.input.waiting()[..length]) else {
+            let number = self.replies + 1;
+            return Err(WatchEnd::Fault(WatchFault::BadReply(number)));
+        };
+        if code != 200 {
+            return Err(WatchEnd::Fault(WatchFault::Refused(code)));
         }
+        self.take_good(wish, length, link)
     }
 
     /// Takes up the reply in front, which is awaited and has the code 200.

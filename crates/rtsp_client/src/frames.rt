@@ -5,11 +5,14 @@ ghost use Rattle.rtsp_client.specs.Sound.{IsSoundSource};
 ghost use Rattle.rtsp_client.specs.Films.{begins_film, units_until};
 ghost use Rattle.rtsp_client.specs.States.{first_source, next_source};
 
-use mpeg_scan::picture_units;
-use rtp_pack::Head;
+use mpeg_scan::{MAX_FILM_PICTURES, picture_units};
+use rtp_pack::{FRAME_HEADS, Head};
 
-/// The most pictures of a film.
-const MAX_UNITS: u128 = 4_194_304;
+/// The bytes of a block's head: `$`, the channel and the length (RFC 2326 section 10.12).
+pub(crate) const BLOCK_HEAD: usize = 4;
+
+/// The bytes before a frame's payload: the heads of the block, of RTP and of its video.
+pub(crate) const HEADS: usize = FRAME_HEADS as usize;
 
 /// What the frames so far say of their film.
 #[derive(Clone, Copy)]
@@ -41,7 +44,7 @@ impl Source {
         }
         let picture_units = picture_units(payload[7] % 16);
         let units = units_until(end_ms, picture_units);
-        if units < 1 || units > MAX_UNITS {
+        if units < 1 || units > u128::from(MAX_FILM_PICTURES) {
             return None;
         }
         Some(Source {

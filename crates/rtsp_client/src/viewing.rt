@@ -70,9 +70,8 @@ fn hear_all<K: Link, O: Sink>(
         let Ok(heard) = link.next(&mut into) else {
             return WatchEnd::LinkFault;
         };
-        match client.hear(wish, heard, &into, link, out) {
-            Err(end) => return end,
-            Ok(()) => {}
+        if let Err(end) = client.hear(wish, heard, &into, link, out) {
+            return end;
         }
     }
     WatchEnd::Fault(WatchFault::TurnsSpent)

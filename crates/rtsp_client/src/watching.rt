@@ -7,10 +7,10 @@ ghost use Rattle.rtsp_client.specs.States.{after_frame, after_play, after_readin
 ghost use Rattle.rtsp_client.specs.States.{after_slot, has_all, is_between, is_lacking, new_state};
 ghost use Rattle.rtsp_client.specs.States.{place_of, played_of, source_after, source_with};
 
-use crate::frames::Source;
+use crate::frames::{BLOCK_HEAD, HEADS, Source};
 use crate::plays::Play;
 use crate::wishes::{Watched, Wish};
-use rtp_pack::{Head, read_head};
+use rtp_pack::{FRAME_HEADS, Head, read_head};
 use std::alloc::Global;
 use std::marker::Model;
 use vod_base::NoMemory;
@@ -122,10 +122,10 @@ impl Watching {
         if self.is_complete() {
             return None;
         }
-        let Ok(head) = read_head(&block[4..]) else {
+        let Ok(head) = read_head(&block[BLOCK_HEAD..]) else {
             return None;
         };
-        self.source_after(&head, &block[20..], play.end_ms)
+        self.source_after(&head, &block[HEADS..], play.end_ms)
     }
 
     /// What the frames say with one more of this head and payload, where that is the next frame of
@@ -152,7 +152,7 @@ impl Watching {
     {
         self.source = Some(source);
         self.watched.frames += 1;
-        self.watched.bytes += length - 20;
+        self.watched.bytes += length - FRAME_HEADS;
         self.received += length;
         self.taken += length;
         if source.marker {
@@ -179,9 +179,9 @@ impl Watching {
         requires few { self.old.received + length < 2 ^ 63 }
         ensures { self.new ≡ after_report self.old length }
     {
-        let Some(_play) = &self.play else {
+        if self.play.is_none() {
             return;
-        };
+        }
         if self.is_between() {
             self.taken += length;
         }

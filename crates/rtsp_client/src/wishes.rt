@@ -1,7 +1,6 @@
 //! What is to be watched, and what came of it.
 
-use std::error::Error;
-use std::fmt;
+use thiserror::Error;
 use vod_base::{LinkFault, NoMemory, SinkFault};
 
 /// What is to be watched, and how it is to be played.
@@ -41,43 +40,29 @@ pub struct Watched {
 }
 
 /// Why a film wasn't watched to its end.
-#[derive(Clone, Copy, Debug, PartialEq, Eq)]
+#[derive(Clone, Copy, Debug, PartialEq, Eq, Error)]
 pub enum WatchFault {
     /// A request was answered with this code.
+    #[error("a request was answered {0}")]
     Refused(u16),
     /// The reply of this number, from 1, isn't awaited, has a bad first line or another CSeq, or
     /// lacks a field.
+    #[error("reply {0} isn't as it should be")]
     BadReply(u64),
     /// The frame of this number, from 0, comes when none is to come, or isn't the next one of the
     /// film.
+    #[error("frame {0} isn't as it should be")]
     BadFrame(u64),
     /// What came begins no reply and no block.
+    #[error("what came begins no reply and no block")]
     Framing,
     /// The server ended when so many pictures were whole.
+    #[error("the server ended after {0} pictures")]
     EndedEarly(u64),
     /// So many events were heard as a client hears, 2^40.
+    #[error("too many events")]
     TurnsSpent,
 }
-
-impl fmt::Display for WatchFault {
-    fn fmt<W: fmt::Write>(&self, f: &mut fmt::Formatter<W>) -> fmt::Result {
-        match self {
-            WatchFault::Refused(code) => write!(f, "a request was answered {code}"),
-            WatchFault::BadReply(number) => write_bad(f, "reply", *number),
-            WatchFault::BadFrame(number) => write_bad(f, "frame", *number),
-            WatchFault::Framing => f.write_str("what came begins no reply and no block"),
-            WatchFault::EndedEarly(units) => write!(f, "the server ended after {units} pictures"),
-            WatchFault::TurnsSpent => f.write_str("too many events"),
-        }
-    }
-}
-
-/// Writes which one of what was heard is bad.
-fn write_bad<W: fmt::Write>(f: &mut fmt::Formatter<W>, what: &str, number: u64) -> fmt::Result {
-    write!(f, "{what} {number} isn't as it should be")
-}
-
-impl Error for WatchFault {}
 
 /// What came of watching a film.
 #[derive(Clone, Copy, Debug, PartialEq, Eq)]

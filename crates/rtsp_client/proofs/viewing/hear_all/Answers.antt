@@ -41,14 +41,14 @@ returns-clause-watched g c = λ told begun.
 
 pub events-preserved : goal.events-preserved
 events-preserved g c = (
-  c.in-Ok-hear.ensures.replies,
-  omega (arith, c.events.invariant.1, c.in-Ok-hear.ensures.few),
-  c.in-Ok-hear.ensures.waits,
-  (c.in-Ok-hear.ensures.on c.events.invariant.4.history c.events.invariant.4.keeps).idle,
+  c.in_default-hear.ensures.replies,
+  omega (arith, c.events.invariant.1, c.in_default-hear.ensures.few),
+  c.in_default-hear.ensures.waits,
+  (c.in_default-hear.ensures.on c.events.invariant.4.history c.events.invariant.4.keeps).idle,
   run-on
       c.events.invariant.4
       (ap (λ (t : Option (List Doing)). sight t (g.O.Sink.written c.events.out)) c.in-Ok.ensures.heard)
-      (λ h k. c.in-Ok-hear.ensures.on h k),
+      (λ h k. c.in_default-hear.ensures.on h k),
   omega (arith, c.events.invariant.5, c.next.ensures.count, c.hear.ensures.count),
   omega (arith, c.events.invariant.6, c.hear.ensures.count_out),
 )

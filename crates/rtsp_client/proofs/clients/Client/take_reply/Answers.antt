@@ -8,12 +8,12 @@ pub awaited_code-requires-clause-whole : goal.awaited_code-requires-clause-whole
 awaited_code-requires-clause-whole g c =
     whole_request c.args.self.now.input c.waiting.result.now c.args.length c.requires.message c.waiting.ensures
 
-pub returns-in-None-clause-ended : goal.returns-in-None-clause-ended
-returns-in-None-clause-ended g c = λ h out k.
+pub returns-in_default-clause-ended : goal.returns-in_default-clause-ended
+returns-in_default-clause-ended g c = λ h out k.
     bad-reply
     k
     (subst (λ (i : List ℕ). (code : ℕ) → ¬ IsAwaited c.args.self.now (take c.args.length i) code)
-    c.waiting.ensures c.in-None.ensures) refl
+    c.waiting.ensures c.in_default.ensures) refl
 
 pub returns-then-code-ne200-clause-ended : goal.returns-then-code-ne200-clause-ended
 returns-then-code-ne200-clause-ended g c = λ h out k.
@@ -22,8 +22,8 @@ returns-then-code-ne200-clause-ended g c = λ h out k.
     (subst (λ (i : List ℕ). IsAwaited c.args.self.now (take c.args.length i) c.in-Some.code) c.waiting.ensures c.in-Some.ensures)
     c.if-code-ne200.true refl
 
-pub returns-else-code-ne200-clause-passed : goal.returns-else-code-ne200-clause-passed
-returns-else-code-ne200-clause-passed g c = λ h out k. c.take_good.ensures.passed h out k
+pub returns-clause-passed : goal.returns-clause-passed
+returns-clause-passed g c = λ h out k. c.take_good.ensures.passed h out k
 
-pub returns-else-code-ne200-clause-ended : goal.returns-else-code-ne200-clause-ended
-returns-else-code-ne200-clause-ended g c = λ h out k. c.take_good.ensures.ended h out k
+pub returns-clause-ended : goal.returns-clause-ended
+returns-clause-ended g c = λ h out k. c.take_good.ensures.ended h out k
