@@ -417,12 +417,8 @@ impl Client {
             (λ end. HasEndedAt wish.now h (Reply (take length self.old.input)) end s s) }
     {
         let message = &self.input.waiting()[..length];
-        let Some(end_ms) = play_range(message) else {
-            return Err(WatchEnd::Fault(WatchFault::BadReply(2)));
-        };
-        let Some(start) = play_start(message) else {
-            return Err(WatchEnd::Fault(WatchFault::BadReply(2)));
-        };
+        let end_ms = play_range(message).ok_or(WatchFault::BadReply(2))?;
+        let start = play_start(message).ok_or(WatchFault::BadReply(2))?;
         self.watching.begin(start, end_ms);
         self.replies = 2;
         Ok(())
