@@ -13,19 +13,19 @@ use Rattle.vod_base.specs.Outside.{File, file_named}
 use Rattle.inputs.specs.Files.{IsFront}
 use Rattle.inputs.specs.Scans.{IsOpened}
 use Rattle.inputs.proofs.ReadLemmas.{first_front, front_rest, one_file, whole_front}
-use Rattle.inputs.specs.Openings.{IsOpen}
+use Rattle.inputs.specs.Openings.{HasNoCode}
 use Rattle.inputs.specs.Videos.{pack_in, pack_of}
 use Rattle.mpeg_scan.specs.declared.codes.Prefix.{Prefix}
 use Rattle.mpeg_scan.specs.declared.codes.Prefix.TheVariants.{Nothing, Zero, Zeros, Whole}
 
 -- before the first byte
-pub open_none : IsOpen Nothing []
+pub open_none : HasNoCode Nothing []
 unfolding latest_prefix
 open_none = record { none = codes-none; prefix_is = refl }
 
 -- a byte that isn't the kind of a code
-pub open_more : {prefix next : Prefix} {seen : List ℕ} (byte : ℕ) → IsOpen prefix seen → is_whole prefix ≡ false →
-    next ≡ next_prefix prefix byte → IsOpen next (seen ++ byte ∷ [])
+pub open_more : {prefix next : Prefix} {seen : List ℕ} (byte : ℕ) → HasNoCode prefix seen → is_whole prefix ≡ false →
+    next ≡ next_prefix prefix byte → HasNoCode next (seen ++ byte ∷ [])
 open_more {next} {seen} byte so_far part is =
     let joined : read [] (seen ++ byte ∷ []) ≡ byte ∷ read [] seen = read-append [] seen (byte ∷ []) in
     let plain : is_whole (latest_prefix (read [] seen)) ≡ false = ap is_whole (sym so_far.prefix_is) ∙ part in
@@ -70,7 +70,7 @@ pack-stays [] r pack has = ap pack_of has.are ∙ has.pack_is
 pack-stays (x ∷ more) r pack has = pack-stays more (x ∷ r) pack (older-more r x pack has)
 
 -- a byte that is the kind of the first code
-first_code : (prefix : Prefix) (seen : List ℕ) (byte : ℕ) → IsOpen prefix seen → prefix ≡ Whole →
+first_code : (prefix : Prefix) (seen : List ℕ) (byte : ℕ) → HasNoCode prefix seen → prefix ≡ Whole →
     HasOlder (byte ∷ read [] seen) (cond (eqb byte 0xba) (Some (length seen - 3)) None)
 first_code prefix seen byte so_far whole =
     let is : is_whole (latest_prefix (read [] seen)) ≡ true = ap is_whole (sym so_far.prefix_is ∙ whole) in
@@ -86,7 +86,7 @@ first_code prefix seen byte so_far whole =
 
 -- whatever follows it
 pub first_found : {prefix : Prefix} {seen : List ℕ} {pack : Option ℕ} (byte : ℕ) (more : List ℕ) →
-    IsOpen prefix seen → prefix ≡ Whole →
+    HasNoCode prefix seen → prefix ≡ Whole →
     cond (eqb byte 0xba) (Some (length seen - 3)) None ≡ pack → pack_in ((seen ++ byte ∷ []) ++ more) ≡ pack
 first_found {prefix} {seen} byte more so_far whole is =
     let joined : read [] ((seen ++ byte ∷ []) ++ more) ≡ read (byte ∷ read [] seen) more =
@@ -96,7 +96,7 @@ first_found {prefix} {seen} byte more so_far whole is =
     (first_code prefix seen byte so_far whole) ∙ is
 
 -- bytes without a start code begin no system stream
-pub open_plain : (prefix : Prefix) (seen : List ℕ) → IsOpen prefix seen → pack_in seen ≡ None
+pub open_plain : (prefix : Prefix) (seen : List ℕ) → HasNoCode prefix seen → pack_in seen ≡ None
 open_plain prefix seen so_far = ap pack_of so_far.none
 
 -- a byte of a piece, and what follows it
@@ -113,7 +113,7 @@ pub record HasLooked (held : List File) (name : List ℕ) (size place : ℕ) (pr
   pub bytes : List ℕ
   pub front : IsFront held name size bytes
   pub long : length bytes ≡ place
-  pub unfound : IsOpen prefix bytes
+  pub unfound : HasNoCode prefix bytes
 
 pub none_looked : (held : List File) (name : List ℕ) (size : ℕ)
     → Some size ≡ option_map length (file_named held name) → HasLooked held name size 0 Nothing
@@ -123,7 +123,7 @@ none_looked held name size found =
 pub more_looked : {held : List File} {name : List ℕ} {size place : ℕ} {prefix next : Prefix} (piece : List ℕ)
     (count : ℕ) → (so_far : HasLooked held name size place prefix) →
     IsFront held name size (so_far.bytes ++ take count piece) → count ≤ length piece
-    → IsOpen next (so_far.bytes ++ take count piece) → HasLooked held name size (place + count) next
+    → HasNoCode next (so_far.bytes ++ take count piece) → HasLooked held name size (place + count) next
 more_looked {name} {place} {next} piece count so_far front within unfound = record {
   bytes = so_far.bytes ++ take count piece;
   front = front;
@@ -161,17 +161,17 @@ whole_looked {held} {name} {size} {place} {prefix} so_far end =
 pub record IsOpenBefore (prefix : Prefix) (seen piece : List ℕ) (index at : ℕ) : Type 0 where
   pub inside : index < length piece
   pub long : length seen ≡ at
-  pub so_far : IsOpen prefix (seen ++ take index piece)
+  pub so_far : HasNoCode prefix (seen ++ take index piece)
 
 -- one byte of a piece more
 pub open_step : {prefix next : Prefix} {seen piece : List ℕ} {index at : ℕ} →
     IsOpenBefore prefix seen piece index at → is_whole prefix ≡ false →
-    next ≡ next_prefix prefix (get_or piece index 0) → IsOpen next (seen ++ take (index + 1) piece)
+    next ≡ next_prefix prefix (get_or piece index 0) → HasNoCode next (seen ++ take (index + 1) piece)
 open_step {next} {seen} {piece} {index} before part is =
     let joined : (seen ++ take index piece) ++ get_or piece index 0 ∷ [] ≡ seen ++ take (index + 1) piece =
     append_assoc seen (take index piece) (get_or piece index 0 ∷ [])
     ∙ ap (λ (l : List ℕ). seen ++ l) (sym (take_more piece index 0 before.inside)) in
-    subst (IsOpen next) joined (open_more (get_or piece index 0) before.so_far part is)
+    subst (HasNoCode next) joined (open_more (get_or piece index 0) before.so_far part is)
 
 -- the first code of a piece is found
 pub found_step : {prefix : Prefix} {seen piece : List ℕ} {index at : ℕ} {pack : Option ℕ} →

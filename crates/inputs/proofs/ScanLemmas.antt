@@ -224,6 +224,18 @@ end_trouble name faults faults' NoMemory refuses h = tt
 end_trouble name faults faults' GateFault refuses h = absurd h
 end_trouble name faults faults' LinkFault refuses h = absurd h
 
+-- a trouble with a film that is refused for one reason, as one for another
+pub film_trouble_map : {Refuses Refuses' : FilmFault → Type 0} (name : List ℕ) (t : Trouble) →
+    ((fault : FilmFault) → Refuses fault → Refuses' fault) → IsFilmTrouble name Refuses t → IsFilmTrouble name Refuses' t
+film_trouble_map name Usage refuses h = absurd h
+film_trouble_map name (Refused other (Film fault)) refuses h = (h.0, refuses fault h.1)
+film_trouble_map name (Refused other fault) refuses h = absurd h
+film_trouble_map name (StoreFault other) refuses h = absurd h
+film_trouble_map name SinkFault refuses h = absurd h
+film_trouble_map name NoMemory refuses h = tt
+film_trouble_map name GateFault refuses h = absurd h
+film_trouble_map name LinkFault refuses h = absurd h
+
 -- more of the library was read: it holds what it held, and counts no fewer faults
 pub record ReadOn (told told' : Option (List File)) (a b : ℕ) : Type 0 where
   pub kept : told' ≡ told

@@ -3,22 +3,22 @@ use Rattle.std.specs.Prelude.{◌≡◌, ℕ, ◌≤◌, List, [], ◌++◌, Som
 use Rattle.mpeg_scan.specs.declared.codes.Prefix.{Prefix}
 use Rattle.mpeg_scan.specs.Codes.{codes_of, latest_prefix, read}
 use Rattle.inputs.specs.Videos.{pack_in}
-use Rattle.inputs.specs.declared.openings.Opening.{Opening}
-use Rattle.inputs.specs.declared.openings.Opening.TheVariants.{Open, Pack, Other}
+use Rattle.inputs.specs.declared.openings.FirstCode.{FirstCode}
+use Rattle.inputs.specs.declared.openings.FirstCode.TheVariants.{NotYet, Pack, Other}
 
 -- no start code stands among these bytes, which end with so much of a prefix
-pub record IsOpen (prefix : Prefix) (seen : List ℕ) : Type 0 where
+pub record HasNoCode (prefix : Prefix) (seen : List ℕ) : Type 0 where
   pub none : codes_of (read [] seen) ≡ []
   pub prefix_is : prefix ≡ latest_prefix (read [] seen)
 
 -- what these bytes show of the first start code, whatever follows them
-abbrev pub IsOpening : Opening → List ℕ → Type 0
-IsOpening (Open prefix) seen = IsOpen prefix seen
-IsOpening (Pack place) seen = (more : List ℕ) → pack_in (seen ++ more) ≡ Some place
-IsOpening Other seen = (more : List ℕ) → pack_in (seen ++ more) ≡ None
+abbrev pub IsFirstCode : FirstCode → List ℕ → Type 0
+IsFirstCode (NotYet prefix) seen = HasNoCode prefix seen
+IsFirstCode (Pack place) seen = (more : List ℕ) → pack_in (seen ++ more) ≡ Some place
+IsFirstCode Other seen = (more : List ℕ) → pack_in (seen ++ more) ≡ None
 
 -- a place that was found is at most this one
-abbrev pub IsFoundBy : ℕ → Opening → Type 0
-IsFoundBy end (Open prefix) = Unit {0}
+abbrev pub IsFoundBy : ℕ → FirstCode → Type 0
+IsFoundBy end (NotYet prefix) = Unit {0}
 IsFoundBy end (Pack place) = place ≤ end
 IsFoundBy end Other = Unit {0}

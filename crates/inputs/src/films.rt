@@ -13,17 +13,17 @@ ghost use Rattle.inputs.specs.Videos.{IsFilmRefused, IsRefusedAbove, IsVideo};
 
 use crate::files::{find_file, read_bytes};
 use crate::openings::pack_in;
-use crate::scans::FILM;
+use crate::scans::scan_trouble;
 use crate::streams::{StreamRefused, move_fault};
 use film_frames::Stored;
-use mpeg_scan::{Film, FilmFault, ScanRefused, scan};
+use mpeg_scan::{Film, FilmFault, MAX_FILM_BYTES, scan};
 use std::alloc::Global;
 use sys_demux::Unwrapper;
 use troubles::{Fault, Trouble};
 use vod_base::{Library, NoMemory};
 
 /// The most bytes of a film that a server holds.
-const HELD: u64 = 1 << 30;
+const MAX_HELD_BYTES: u64 = 1 << 30;
 
 /// Loads a film that is to be served, an MPEG-1 video stream (ISO/IEC 11172-2) or a system stream
 /// with one (ISO/IEC 11172-1). Its file has at most 2^30 bytes.
@@ -49,7 +49,7 @@ pub fn load_film<'a, L: Library>(
     ensures trouble { IfErr result (IsReadTrouble (IsNamed name.entry.now) IsHeldRefused
         (L.files library.old) (L.faults library.old) (L.faults library.new)) }
 {
-    load_within(alloc, library, name, HELD, Fault::FilmTooLarge)
+    load_within(alloc, library, name, MAX_HELD_BYTES, Fault::FilmTooLarge)
 }
 
 /// Loads a film that a script plays, of at most 2^40 bytes.
@@ -72,7 +72,13 @@ pub fn load_script_film<'a, L: Library>(
     ensures trouble { IfErr result (IsReadTrouble (IsNamed name.entry.now) IsFilmRefused
         (L.files library.old) (L.faults library.old) (L.faults library.new)) }
 {
-    load_within(alloc, library, name, FILM, Fault::Film(FilmFault::TooLong))
+    load_within(
+        alloc,
+        library,
+        name,
+        MAX_FILM_BYTES,
+        Fault::Film(FilmFault::TooLong),
+    )
 }
 
 /// The film under its name, with its table of frames.
@@ -108,9 +114,8 @@ fn video_of<'a>(alloc: Global, name: &'a str, file: Vec<u8>) -> Result<Vec<u8>, 
     ensures video { IfOk result (λ video. IsVideo file.items video.items) }
     ensures trouble { IfErr result (IsBytesTrouble name.entry.now file.items) }
 {
-    let from = match pack_in(&file) {
-        Some(from) => from,
-        None => return Ok(file),
+    let Some(from) = pack_in(&file) else {
+        return Ok(file);
     };
     match unwrap_stream(alloc, &file[from as usize..]) {
         Ok(video) => Ok(video),
@@ -130,8 +135,7 @@ fn scan_video<'a>(alloc: Global, name: &'a str, video: Vec<u8>) -> Result<Film, 
 {
     match scan(alloc, video) {
         Ok(film) => Ok(film),
-        Err(ScanRefused::Fault(fault)) => Err(Trouble::Refused(name, Fault::Film(fault))),
-        Err(ScanRefused::NoMemory) => Err(Trouble::NoMemory),
+        Err(refused) => Err(scan_trouble(name, refused)),
     }
 }
 

@@ -4,7 +4,7 @@ ghost use Rattle.std.specs.Prelude.{option_map, IfErr, IfOk, IfSome};
 ghost use Rattle.vod_base.specs.Outside.{File, file_named};
 ghost use Rattle.troubles.specs.Causes.{IsReadOnly, IsReadTrouble};
 ghost use Rattle.inputs.specs.Files.{IsNamed, IsNever};
-ghost use Rattle.inputs.specs.Openings.{IsOpen, IsOpening, IsFoundBy};
+ghost use Rattle.inputs.specs.Openings.{HasNoCode, IsFirstCode, IsFoundBy};
 ghost use Rattle.inputs.specs.Scans.{IsOpened};
 ghost use Rattle.inputs.specs.Videos.{pack_in};
 
@@ -23,9 +23,9 @@ pub(crate) fn pack_in(file: &[u8]) -> Option<u64>
     ensures within { IfSome result (λ place. place ≤ length file.now) }
 {
     match open_piece(Prefix::Nothing, 0, file) {
-        Opening::Pack(place) => Some(place),
-        Opening::Other => None,
-        Opening::Open(_) => None,
+        FirstCode::Pack(place) => Some(place),
+        FirstCode::Other => None,
+        FirstCode::NotYet(_) => None,
     }
 }
 
@@ -56,9 +56,9 @@ pub(crate) fn find_pack<'a, L: Library>(
             return Ok(None);
         }
         match open_piece(prefix, at, &piece[..count]) {
-            Opening::Open(next) => prefix = next,
-            Opening::Pack(place) => return Ok(Some(place)),
-            Opening::Other => return Ok(None),
+            FirstCode::NotYet(next) => prefix = next,
+            FirstCode::Pack(place) => return Ok(Some(place)),
+            FirstCode::Other => return Ok(None),
         }
         at += count as u64;
     }
@@ -67,9 +67,9 @@ pub(crate) fn find_pack<'a, L: Library>(
 
 /// What the bytes of a file so far show of its first start code.
 #[derive(Clone, Copy)]
-enum Opening {
+enum FirstCode {
     /// There is none among them.
-    Open(Prefix),
+    NotYet(Prefix),
     /// It is that of a pack, at this place.
     Pack(u64),
     /// It is another one.
@@ -77,21 +77,21 @@ enum Opening {
 }
 
 /// Looks for the first start code in the next bytes of a file, which stand at `at`.
-fn open_piece(before: Prefix, at: u64, piece: &[u8]) -> Opening
+fn open_piece(before: Prefix, at: u64, piece: &[u8]) -> FirstCode
     requires { at + length piece.now ≤ 2 ^ 40 }
-    ensures opening { (seen : List ℕ) → length seen ≡ at → IsOpen before seen →
-        IsOpening result (seen ++ piece.now) }
+    ensures opening { (seen : List ℕ) → length seen ≡ at → HasNoCode before seen →
+        IsFirstCode result (seen ++ piece.now) }
     ensures within { IsFoundBy (at + length piece.now) result }
 {
     let mut prefix = before;
     for (index, byte) in piece.iter().enumerate() {
         match prefix {
             Prefix::Whole if *byte == PACK => {
-                return Opening::Pack((at + index as u64).saturating_sub(3));
+                return FirstCode::Pack((at + index as u64).saturating_sub(3));
             }
-            Prefix::Whole => return Opening::Other,
+            Prefix::Whole => return FirstCode::Other,
             _ => prefix = prefix.then(*byte),
         }
     }
-    Opening::Open(prefix)
+    FirstCode::NotYet(prefix)
 }

@@ -3,6 +3,7 @@ ghost use Rattle.std.specs.Prelude.{◌≡◌, ◌<◌, ◌≤◌, ◌+◌, ◌^
 ghost use Rattle.std.specs.Prelude.{IfErr, IfOk, OnOk};
 ghost use Rattle.vod_base.specs.Outside.{File};
 ghost use Rattle.mpeg_scan.specs.Scans.{IsReady, bytes_fed};
+ghost use Rattle.mpeg_scan.specs.declared.faults.ScanRefused.TheVariants.{Fault as ScanFault};
 ghost use Rattle.troubles.specs.Causes.{IsReadOnly};
 ghost use Rattle.inputs.specs.Films.{IsFilmTrouble};
 ghost use Rattle.inputs.specs.Scans.{HasEnded, HasHeard, HasScanned, HasScannedAll, HasTaken};
@@ -11,13 +12,20 @@ ghost use Rattle.inputs.specs.Scans.{IsRefusedAtEnd, IsScanTrouble, WasOpened};
 use crate::files::{PIECE, find_file, read_at, zeros};
 use crate::openings::find_pack;
 use crate::streams::scan_stream;
-use mpeg_scan::{Ending, FilmFault, Found, ScanRefused, Scanner};
+use mpeg_scan::{Ending, FilmFault, Found, MAX_FILM_BYTES, ScanRefused, Scanner};
 use std::alloc::Global;
 use troubles::{Fault, Trouble};
 use vod_base::Library;
 
-/// The most bytes of a film.
-pub(crate) const FILM: u64 = 1 << 40;
+/// The trouble with the film of that name, where its scan is refused.
+pub(crate) fn scan_trouble<'a>(name: &'a str, refused: ScanRefused) -> Trouble<'a>
+    ensures { IsFilmTrouble name.entry.now (λ fault. refused ≡ ScanFault fault) result }
+{
+    match refused {
+        ScanRefused::Fault(fault) => Trouble::Refused(name, Fault::Film(fault)),
+        ScanRefused::NoMemory => Trouble::NoMemory,
+    }
+}
 
 /// Ends the scan of a video.
 pub(crate) fn end_film<'a, F: Found>(
@@ -34,8 +42,7 @@ pub(crate) fn end_film<'a, F: Found>(
 {
     match scanner.finish(found) {
         Ok(ending) => Ok(ending),
-        Err(ScanRefused::Fault(fault)) => Err(Trouble::Refused(name, Fault::Film(fault))),
-        Err(ScanRefused::NoMemory) => Err(Trouble::NoMemory),
+        Err(refused) => Err(scan_trouble(name, refused)),
     }
 }
 
@@ -57,7 +64,7 @@ pub(crate) fn hear_film<'a, L: Library, F: Found>(
         (L.faults library.old) (L.faults library.new)) }
 {
     let size = find_file(library, name)?;
-    if FILM < size {
+    if MAX_FILM_BYTES < size {
         return Err(Trouble::Refused(name, Fault::Film(FilmFault::TooLong)));
     }
     let mut piece = zeros(alloc, PIECE)?;
@@ -101,8 +108,7 @@ fn feed_piece<'a, L: Library, F: Found>(
     let count = read_at(library, name, size, at, piece)?;
     match scanner.feed(&piece[..count], found) {
         Ok(()) => Ok(count as u64),
-        Err(ScanRefused::Fault(fault)) => Err(Trouble::Refused(name, Fault::Film(fault))),
-        Err(ScanRefused::NoMemory) => Err(Trouble::NoMemory),
+        Err(refused) => Err(scan_trouble(name, refused)),
     }
 }
 

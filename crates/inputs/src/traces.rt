@@ -9,7 +9,7 @@ ghost use Rattle.inputs.specs.Traces.{AddsSize, IsTraceText};
 ghost use Rattle.inputs.specs.Words.{word_length, first_word, WritesSize};
 ghost use Rattle.inputs.specs.TraceRefusals.{IsTraceRefused};
 
-use std::alloc::Global;
+use std::alloc::{AllocError, AllocFailed, Global};
 use thiserror::Error;
 
 /// The most pictures of a trace.
@@ -33,6 +33,26 @@ pub enum TraceRefused {
     NoMemory,
 }
 
+impl From<AllocError> for TraceRefused {
+    ghost use Rattle.inputs.specs.declared.traces.TraceRefused.TheVariants.{NoMemory};
+
+    ghost from_gives = { λ _ refused. refused ≡ NoMemory };
+
+    fn from(_error: AllocError) -> TraceRefused {
+        TraceRefused::NoMemory
+    }
+}
+
+impl<T: Drop> From<AllocFailed<T>> for TraceRefused {
+    ghost use Rattle.inputs.specs.declared.traces.TraceRefused.TheVariants.{NoMemory};
+
+    ghost from_gives = { λ _ refused. refused ≡ NoMemory };
+
+    fn from(_error: AllocFailed<T>) -> TraceRefused {
+        TraceRefused::NoMemory
+    }
+}
+
 /// Reads the picture sizes of a trace, in bytes: decimal numbers up to 2^32 with white space
 /// between them, at most 1,000,000 of them with a sum up to 2^40.
 ///
@@ -44,18 +64,14 @@ pub fn read_trace(alloc: Global, text: &[u8]) -> Result<Vec<u64>, TraceRefused>
     ensures refused { IfErr result (IsTraceRefused text.now) }
 {
     let most = (text.len() / 2 + 1).min(MAX_PICTURES);
-    let Ok(mut sizes) = Vec::with_capacity(alloc, most) else {
-        return Err(TraceRefused::NoMemory);
-    };
+    let mut sizes = Vec::with_capacity(alloc, most)?;
     let mut total = 0u64;
     let mut at = 0usize;
     while let Some(from) = next_place(text, at) {
         let Some(size) = next_size(&text[from..], sizes.len(), total) else {
             return Err(TraceRefused::BadTrace(from as u64));
         };
-        if sizes.push(size.value).is_err() {
-            return Err(TraceRefused::NoMemory);
-        }
+        sizes.push(size.value)?;
         total += size.value;
         at = from + size.len;
     }

@@ -5,9 +5,9 @@ use Rattle.inputs.specs.Videos.{pack_in}
 use Rattle.inputs.proofs.LoadLemmas.{fault_is, plain_is, stream_is}
 use Rattle.inputs.proofs.films.video_of.Goals as goal
 
-pub returns-in-None-clause-video : goal.returns-in-None-clause-video
-returns-in-None-clause-video c =
-    plain_is c.args.file.items (ap pack_in (sym c.deref.ensures.value) ∙ sym ((c.in-None.ensures {u = tt}).place))
+pub returns-in_default-clause-video : goal.returns-in_default-clause-video
+returns-in_default-clause-video c =
+    plain_is c.args.file.items (ap pack_in (sym c.deref.ensures.value) ∙ sym ((c.in_default.ensures {u = tt}).place))
 
 pub returns-in-Ok-clause-video : goal.returns-in-Ok-clause-video
 returns-in-Ok-clause-video c =

@@ -26,7 +26,7 @@ loop-at-preserved g c = record {
       more_looked c.read_at.new.piece c.in_ok-count.count so_far
       ((c.in_ok-count.ensures {u = tt}).told held so_far.bytes (c.loop-at.invariant.kept ∙ is) so_far.front
       so_far.long) ((c.in_ok-count.ensures {u = tt}).within)
-      ((c.in-Open.ensures {u = tt}).opening so_far.bytes so_far.long so_far.unfound);
+      ((c.in-NotYet.ensures {u = tt}).opening so_far.bytes so_far.long so_far.unfound);
 }
 
 pub returns-clause-opened : goal.returns-clause-opened

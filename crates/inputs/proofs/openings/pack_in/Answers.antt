@@ -12,6 +12,6 @@ pub returns-in-Other-clause-place : goal.returns-in-Other-clause-place
 returns-in-Other-clause-place c =
     sym ((c.in-Other.ensures {u = tt}).opening [] refl open_none []) ∙ ap pack_in (append-nil c.args.file.now)
 
-pub returns-in-Open-clause-place : goal.returns-in-Open-clause-place
-returns-in-Open-clause-place c =
-    sym (open_plain c.in-Open.field-0 c.args.file.now ((c.in-Open.ensures {u = tt}).opening [] refl open_none))
+pub returns-in-NotYet-clause-place : goal.returns-in-NotYet-clause-place
+returns-in-NotYet-clause-place c =
+    sym (open_plain c.in-NotYet.field-0 c.args.file.now ((c.in-NotYet.ensures {u = tt}).opening [] refl open_none))

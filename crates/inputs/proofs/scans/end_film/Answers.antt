@@ -2,7 +2,7 @@ use Rattle.std.proofs.Common.{◌≡◌, ◌∙◌, Some, Err, [], inl, inr, ref
 use Rattle.mpeg_scan.specs.declared.faults.FilmFault.{FilmFault}
 use Rattle.mpeg_scan.specs.declared.faults.ScanRefused.TheVariants.{Fault as FaultAnswer}
 use Rattle.mpeg_scan.specs.Codes.{read}
-use Rattle.inputs.proofs.ScanLemmas.{told_ended, refused_ended}
+use Rattle.inputs.proofs.ScanLemmas.{film_trouble_map, told_ended, refused_ended}
 use Rattle.inputs.proofs.scans.end_film.Goals as goal
 
 pub returns-in-Ok-clause-ended : goal.returns-in-Ok-clause-ended
@@ -14,15 +14,15 @@ returns-in-Ok-clause-ended g c = λ video short taken. elim taken [
       (c.finish.ensures.again (FaultAnswer so_far.fault) so_far.answers).0 in absurd (cc))
 ]
 
-pub returns-in-Err-Fault-clause-trouble : goal.returns-in-Err-Fault-clause-trouble
-returns-in-Err-Fault-clause-trouble g c = (
-  refl,
-  λ video short taken. elim taken [
-    | inl so_far ↦ c.finish.ensures.fault c.in-Err-Fault.fault (cc) (read [] video) so_far.fed
-    | inr so_far ↦
-        (let answered : c.finish.result ≡ Err (FaultAnswer so_far.fault) =
-        (c.finish.ensures.again (FaultAnswer so_far.fault) so_far.answers).0 in
-        let same : so_far.fault ≡ c.in-Err-Fault.fault = cc in
-        refused_ended c.args.scanner video short so_far ∙ ap (λ (f : FilmFault). Some f) same)
-  ],
-)
+pub returns-in-Err-clause-trouble : goal.returns-in-Err-clause-trouble
+returns-in-Err-clause-trouble g c =
+    film_trouble_map c.args.name.now c.scan_trouble.result
+    (λ fault is video short taken. elim taken [
+      | inl so_far ↦ c.finish.ensures.fault fault (cc) (read [] video) so_far.fed
+      | inr so_far ↦
+          (let answered : c.finish.result ≡ Err (FaultAnswer so_far.fault) =
+          (c.finish.ensures.again (FaultAnswer so_far.fault) so_far.answers).0 in
+          let same : so_far.fault ≡ fault = cc in
+          refused_ended c.args.scanner video short so_far ∙ ap (λ (f : FilmFault). Some f) same)
+    ])
+    c.scan_trouble.ensures

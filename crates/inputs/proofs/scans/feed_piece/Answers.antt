@@ -1,7 +1,7 @@
 use Rattle.std.proofs.Common.{take, arith, refl}
 use Rattle.std.proofs.lemmas.List.{length-take-le}
 use Rattle.inputs.specs.Scans.{IsFilmRefused}
-use Rattle.inputs.proofs.ScanLemmas.{ReadOn, handed_on, more_scanned, never_refused, piece_refused, scanned_fed}
+use Rattle.inputs.proofs.ScanLemmas.{ReadOn, end_trouble, handed_on, more_scanned, never_refused, piece_refused, scanned_fed}
 use Rattle.inputs.proofs.scans.feed_piece.Goals as goal
 
 pub feed-requires-clause-short : goal.feed-requires-clause-short
@@ -27,16 +27,17 @@ returns-in-Ok-clause-more g c = λ held is.
     (c.in_ok-count.ensures {u = tt}).more held c.requires.scanned.bytes is (c.requires.scanned.front held is)
     c.requires.scanned.long
 
-pub returns-in-Err-Fault-clause-trouble : goal.returns-in-Err-Fault-clause-trouble
-returns-in-Err-Fault-clause-trouble g c = (
-  refl,
-  λ held is.
-      piece_refused
-      (take c.in_ok-count.count c.read_at.new.piece) c.requires.scanned.scanned (c.requires.opened held is)
-      ((c.in_ok-count.ensures {u = tt}).told held c.requires.scanned.bytes is (c.requires.scanned.front held is)
-      c.requires.scanned.long) c.requires.short
-      (c.feed.ensures.fault c.in-Err-Fault.fault (cc)),
-)
+pub returns-in-Err-clause-trouble : goal.returns-in-Err-clause-trouble
+returns-in-Err-clause-trouble g c =
+    end_trouble c.args.name.now (g.L.Library.faults c.args.library.now) (g.L.Library.faults c.read_at.new.library)
+    c.scan_trouble.result
+    (λ held fault is refused.
+    piece_refused
+    (take c.in_ok-count.count c.read_at.new.piece) c.requires.scanned.scanned (c.requires.opened held is)
+    ((c.in_ok-count.ensures {u = tt}).told held c.requires.scanned.bytes is (c.requires.scanned.front held is)
+    c.requires.scanned.long) c.requires.short
+    (c.feed.ensures.fault fault (cc)))
+    c.scan_trouble.ensures
 
 pub returns-in_err-count-clause-trouble : goal.returns-in_err-count-clause-trouble
 returns-in_err-count-clause-trouble g c =

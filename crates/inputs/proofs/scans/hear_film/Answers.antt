@@ -47,11 +47,11 @@ returns-in_err-stream-clause-trouble g c =
     (never_refused c.args.name.now IsFilmRefused (g.L.Library.faults c.find_pack.new.library)
     c.in_err-stream.field-0.0 on ((c.in_err-stream.ensures {u = tt}).trouble))
 
-pub returns-then-size-gt-FILM-clause-trouble : goal.returns-then-size-gt-FILM-clause-trouble
-returns-then-size-gt-FILM-clause-trouble g c = (
+pub returns-then-size-gt-MAX_FILM_BYTES-clause-trouble : goal.returns-then-size-gt-MAX_FILM_BYTES-clause-trouble
+returns-then-size-gt-MAX_FILM_BYTES-clause-trouble g c = (
   refl,
   λ held told. size_refused held c.args.name.now c.in_ok-size.size
-      ((c.in_ok-size.ensures {u = tt}).found held told) (omega (arith, c.if-size-gt-FILM.true)),
+      ((c.in_ok-size.ensures {u = tt}).found held told) (omega (arith, c.if-size-gt-MAX_FILM_BYTES.true)),
 )
 
 pub scan_plain-requires-clause-opened : goal.scan_plain-requires-clause-opened
