@@ -29,6 +29,7 @@ use std::mem::replace;
 pub(crate) struct Rest<'r> {
     pub(crate) reel: &'r Reel<'r>,
     pub(crate) playback: Playback,
+    /// Its pictures, and how many bytes of theirs were sent and played.
     pub(crate) run: Run,
 }
 
@@ -56,24 +57,31 @@ pub(crate) struct Stop<'r> {
 /// A client.
 #[derive(Drop)]
 pub(crate) enum Client<'r> {
+    /// It plays nothing.
     Idle,
+    /// Its play is open.
     Playing(Play<'r>),
+    /// Its play was halted, and the frame or report in hand isn't sent whole.
     Pausing(Stop<'r>),
+    /// Its play was halted, and this is left to be sent.
     Paused(Rest<'r>),
 }
 
 /// The play that is to be halted, and the bytes that it keeps.
 #[derive(Clone, Copy)]
 pub(crate) struct Halt {
+    /// The place of the play's admission.
     pub(crate) number: u64,
+    /// The bytes of its plan that it keeps.
     pub(crate) keep: u64,
 }
 
-/// Which plays are halted: those that are done, which keep all their bytes, or all that are open,
-/// which keep what is due.
+/// Which plays are halted.
 #[derive(Clone, Copy)]
 pub(crate) enum Which {
+    /// Those that are done, which keep all their bytes.
     Done,
+    /// All that are open, which keep what is due.
     Open,
 }
 
@@ -238,18 +246,13 @@ fn pause_play<'r>(play: Play<'r>) -> (Halt, Client<'r>)
         number,
         rest,
         plan,
-        pacer,
+        mut pacer,
     } = play;
-    let mut pacer = pacer;
     let last = pacer.last_slot();
     let sent = pacer.sent();
     let keep = pacer.ask_halt();
     let run = run_after(rest.reel, &rest.playback, &rest.run, &plan, last, keep);
-    let rest = Rest {
-        reel: rest.reel,
-        playback: rest.playback,
-        run,
-    };
+    let rest = Rest { run, ..rest };
     let halt = Halt { number, keep };
     if sent == keep {
         return (halt, Client::Paused(rest));

@@ -50,7 +50,7 @@ pub fn fair(alloc: Global, seed: u64, plays: u32, profile: Profile) -> Result<Da
 {
     let mut draws = Draws::new(seed);
     let traces = draw_traces(alloc, &mut draws)?;
-    let reels = reels_of(alloc, &traces)?;
+    let reels = trace_reels(alloc, &traces)?;
     let mut runner = Runner::new(alloc, &reels, profile, MAX_ENTRIES, SLOT_UNITS)?;
     let counts = run_turns(alloc, &mut draws, &mut runner, plays)?;
     runner.end();
@@ -78,7 +78,7 @@ fn draw_traces(alloc: Global, draws: &mut Draws) -> Result<Vec<Vec<u64>>, NoMemo
 }
 
 /// The traces as they are played.
-fn reels_of<'s>(alloc: Global, traces: &'s [Vec<u64>]) -> Result<Vec<Reel<'s>>, NoMemory>
+fn trace_reels<'s>(alloc: Global, traces: &'s [Vec<u64>]) -> Result<Vec<Reel<'s>>, NoMemory>
     requires { AreTraces traces.now }
     ensures count { IfOk result (λ reels. length reels.items ≡ length traces.entry.now) }
     ensures contents { IfOk result (λ reels. map (reel_content 14400) reels.items

@@ -237,8 +237,7 @@ fn place_of(named: &[Named], film: bool, name: &[u8]) -> usize
     ensures value { result ≡ source_in (names_of named.now) (name_as film name.now) }
     ensures most { result ≤ length named.now }
 {
-    for place in 0..named.len() {
-        let other = &named[place];
+    for (place, other) in named.iter().enumerate() {
         if film == other.film && name == other.name.as_bytes() {
             return place;
         }

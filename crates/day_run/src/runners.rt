@@ -44,18 +44,21 @@ pub(crate) enum Told {
 pub(crate) struct Passed {
     /// The bytes that were sent.
     pub(crate) sent: u64,
-    /// The bytes that are booked in the slots since the last one that was heard, and the most of
-    /// them in one slot.
+    /// The bytes that are booked in the slots since the last one that was heard.
     pub(crate) booked: u64,
+    /// The most of them in one slot.
     pub(crate) peak: u64,
 }
 
 /// A day as far as it has run.
 #[derive(Drop)]
 pub(crate) struct Runner<'r> {
+    /// The sources, in the order of their numbers.
     pub(crate) reels: &'r [Reel<'r>],
+    /// The slot length in 1/360,000 second.
     pub(crate) slot_units: u32,
     pub(crate) book: Book,
+    /// The 256 clients, in the order of their numbers.
     pub(crate) clients: Vec<Client<'r>>,
     /// The slot that was heard last, 0 before the first.
     pub(crate) heard: u64,
@@ -178,12 +181,9 @@ impl<'r> Runner<'r> {
     {
         match self.book.play(u32::from(client), self.heard, plan) {
             Ok(noted) => {
-                match start_of(noted.answer) {
-                    Some(start) => {
-                        let play = begin_play(noted.place, rest, kept, paced, start);
-                        self.clients[client as usize] = Client::Playing(play);
-                    }
-                    None => {}
+                if let Some(start) = start_of(noted.answer) {
+                    let play = begin_play(noted.place, rest, kept, paced, start);
+                    self.clients[client as usize] = Client::Playing(play);
                 }
                 Told::Entry(noted.place)
             }

@@ -16,8 +16,11 @@ use vod_base::read_number;
 #[derive(Clone, Copy)]
 pub(crate) struct Asked {
     pub(crate) client: u8,
+    /// Whether it names a film; else it names a trace.
     pub(crate) film: bool,
+    /// The bytes that the client's buffer holds, 1 to 2^42.
     pub(crate) buffer: u64,
+    /// The slots before the first picture is used, at most 10,000.
     pub(crate) delay: u64,
 }
 
@@ -25,10 +28,15 @@ pub(crate) struct Asked {
 #[derive(Clone, Copy)]
 pub(crate) enum Saying {
     Play(Asked),
+    /// The client.
     Pause(u8),
+    /// The client.
     Resume(u8),
+    /// The slot, at most 2^62.
     Look(u64),
+    /// The slot, from 1 to 2^62.
     Slot(u64),
+    /// What is asked for, and the wait in slots, at most 255.
     Offer(Asked, u64),
 }
 

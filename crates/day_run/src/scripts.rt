@@ -1,7 +1,6 @@
 //! The lines of a script, what it names, and why a text is none.
 
-use std::error::Error;
-use std::fmt;
+use thiserror::Error;
 use vod_base::NoMemory;
 
 /// A line of a script. Clients are 0 to 255.
@@ -63,27 +62,18 @@ pub struct Script {
 }
 
 /// Why a text isn't read as a script.
-#[derive(Clone, Copy, Debug, PartialEq, Eq)]
+#[derive(Clone, Copy, Debug, PartialEq, Eq, Error)]
 pub enum ScriptRefused {
     /// A line is no line of a script, or comes after 1,000,000 others.
+    #[error("line {line} of the script is bad")]
     BadScript {
         /// The first such line, from 1 to 1,000,001; empty lines are counted.
         line: u64,
     },
     /// Want of memory.
+    #[error("no memory")]
     NoMemory,
 }
-
-impl fmt::Display for ScriptRefused {
-    fn fmt<W: fmt::Write>(&self, f: &mut fmt::Formatter<W>) -> fmt::Result {
-        match self {
-            ScriptRefused::BadScript { line } => write!(f, "line {line} of the script is bad"),
-            ScriptRefused::NoMemory => f.write_str("no memory"),
-        }
-    }
-}
-
-impl Error for ScriptRefused {}
 
 impl From<NoMemory> for ScriptRefused {
     ghost use Rattle.std.specs.Prelude.{◌≡◌};

@@ -85,8 +85,8 @@ returns-in-Some-clause-planned c =
       });
     }
 
-pub returns-in-None : goal.returns-in-None
-returns-in-None c =
+pub returns-in_default : goal.returns-in_default
+returns-in_default c =
     let old = c.args.self.now in
     let day = c.requires.runner in
     let made = c.in-Ok.ensures.noted in
@@ -115,7 +115,7 @@ returns-in-None c =
                 entries_are = y;
                 states_are =
                     states-same c.args.client (rest_of c.args.rest) c.args.plan (length old.book.entries)
-                    c.in-Ok.noted.answer c.in-None.ensures.none;
+                    c.in-Ok.noted.answer c.in_default.ensures.none;
                 heard_is = refl;
               });
         });

@@ -2,7 +2,7 @@ use Rattle.std.proofs.Common.{◌≡◌, length, map, take}
 use Rattle.day_run.specs.Fairs.{sizes_in}
 use Rattle.day_run.specs.ClientStates.{trace_content}
 use Rattle.day_run.specs.ReelContents.{reel_content}
-use Rattle.day_run.proofs.fairs.reels_of.Given as goal
+use Rattle.day_run.proofs.fairs.trace_reels.Given as goal
 
 abbrev pub invariant-loop-trace : goal.invariant-loop-trace
 invariant-loop-trace l = record {
