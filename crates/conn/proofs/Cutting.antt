@@ -5,7 +5,7 @@ use Rattle.std.proofs.lemmas.List.{append-nil, append_assoc, length-drop}
 use mathlib.Core.List.{IsPrefix}
 use Rattle.admission.specs.declared.entries.Entry.{Entry}
 use Rattle.interleave.specs.Streams.{AreCut, told_length, told_pieces}
-use Rattle.interleave.specs.Pieces.{IsFirst}
+use Rattle.interleave.specs.Pieces.{IsFirst, IsRequestLength}
 use Rattle.interleave.specs.declared.pieces.Step.{Step}
 use Rattle.interleave.proofs.Streams.{next_pieces}
 use Rattle.station.specs.Seats.{Sitting, IsSameSeat}
@@ -58,6 +58,10 @@ seat_on a b c first second = record {
   joined = second.joined ∙ first.joined;
   longer = prefix_on a.seen b.seen c.seen first.longer second.longer;
 }
+
+-- a request has a byte
+pub some_request : (bytes : List ℕ) (n : ℕ) → IsRequestLength bytes n → 0 < n
+some_request bytes n is = omega (arith, is.is_head.some, is.total_is)
 
 -- fewer bytes wait once a piece is gone
 pub fewer : (input rest : List ℕ) (n : ℕ) → 0 < n → n ≤ length input → rest ≡ drop n input → length rest < length input

@@ -24,7 +24,6 @@ pub mod Showing
 pub mod Sighting
 pub mod Outcomes
 pub mod Staying
-pub mod Taking
 pub mod Telling
 pub mod Workers
 pub mod Journals

@@ -1,16 +1,16 @@
 use Rattle.std.proofs.Common.{List, ℕ, ap, length, refl, take, sym, subst}
 use Rattle.interleave.specs.Pieces.{IsRequestLength}
+use Rattle.rtsp_text.proofs.Whole.{request-take}
 use Rattle.conn.specs.Keeping.{IsHeld}
 use Rattle.conn.proofs.Asking.{answered_none, asked_on}
 use Rattle.conn.proofs.Keeping.{kept_after, kept_none, kept_then}
-use Rattle.conn.proofs.Taking.{whole_request}
 use Rattle.conn.proofs.connections.Connection.take_request.Goals as goal
 
 pub hear-ask-requires-clause-whole : goal.hear-ask-requires-clause-whole
 hear-ask-requires-clause-whole g c =
     subst (λ (bytes : List ℕ). IsRequestLength (take c.args.length bytes) (length (take c.args.length bytes)))
     (sym c.waiting.ensures)
-    (whole_request c.args.self.now.input c.args.length c.requires.whole c.requires.within)
+    (request-take c.args.self.now.input c.args.length c.requires.within c.requires.whole)
 
 pub returns-in-Play-clause-kept : goal.returns-in-Play-clause-kept
 returns-in-Play-clause-kept g c =
