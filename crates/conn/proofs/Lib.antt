@@ -21,6 +21,7 @@ pub mod Progress
 pub mod Steps
 pub mod Rooms
 pub mod Showing
+pub mod SeatReplies
 pub mod Sighting
 pub mod Outcomes
 pub mod Staying

@@ -30,7 +30,8 @@ use Rattle.conn.proofs.Between.{planned_between}
 use Rattle.conn.proofs.Hearing.{AreShown, HasPlay, IsStateOf, IsWell}
 use Rattle.conn.proofs.Playing.{as_it_was}
 use Rattle.conn.proofs.Replying.{film_count}
-use Rattle.conn.proofs.Telling.{course_tells, refusals_told}
+use Rattle.conn.proofs.SeatReplies.{refusals_told}
+use Rattle.conn.proofs.Telling.{course_tells}
 use Rattle.conn.specs.Films.{rounds_parts}
 use Rattle.conn.specs.Rounds.{ending_outcomes, entries_in, rounds_outcomes}
 use Rattle.conn.specs.Plays.{ending_rounds}
