@@ -33,8 +33,11 @@ use vod_base::{Heard, Link, LinkFault, NoMemory};
 
 /// A connection between two events.
 pub(crate) struct Connection<'a> {
+    /// What its requests and slots come to.
     session: Session<'a>,
+    /// The bytes that came and weren't taken up.
     input: Demux,
+    /// The booking of the play that is sent.
     booking: Option<Booking>,
 }
 
@@ -375,9 +378,8 @@ impl<'a> Connection<'a> {
         ensures open { open_of self.new.session ≡ None }
         ensures booking { self.new.booking ≡ None }
     {
-        match self.session.open_due() {
-            Some(due) => self.halt(rt, station, seat, due),
-            None => {}
+        if let Some(due) = self.session.open_due() {
+            self.halt(rt, station, seat, due);
         }
     }
 

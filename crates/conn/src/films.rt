@@ -14,8 +14,8 @@ use mpeg_scan::{Film, law_film, picture_units};
 pub(crate) fn law_all_shown(films: &[Stored])
     ensures { (number : ℕ) → OfFilm films.now number IsShown }
 {
-    for film in 0..films.len() {
-        law_shown(&films[film]);
+    for stored in films {
+        law_shown(stored);
     }
 }
 

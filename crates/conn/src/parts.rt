@@ -48,8 +48,7 @@ pub fn serve_part<R: Wait, G: Gate>(
             };
         }
         match part.take() {
-            Ok(Some(taken)) => {
-                let mut link = taken;
+            Ok(Some(mut link)) => {
                 let words = connection_words(seed, worker, reports.len() as u64);
                 let report = serve_connection(
                     rt, alloc, station, seat, films, settings, words, worker, &mut link,

@@ -4,5 +4,6 @@ use Rattle.session.specs.Films.{IsFilmAt}
 use Rattle.conn.specs.Plays.{IsShown}
 use Rattle.conn.proofs.films.law_all_shown.Given as goal
 
-abbrev pub invariant-loop-film : goal.invariant-loop-film
-invariant-loop-film l = (number : ℕ) (stored : Stored) → number < l.film → IsFilmAt l.films number stored → IsShown stored
+abbrev pub invariant-loop-stored : goal.invariant-loop-stored
+invariant-loop-stored l =
+    (number : ℕ) (other : Stored) → number < l.stored-index → IsFilmAt l.films number other → IsShown other
