@@ -112,16 +112,6 @@ either asked (Entered placed) = entered-either asked placed placed.entry.answer 
 either asked (WasFull more entries live) = BeginsNone (λ askings. refl)
 either asked (Offered slot note) = BeginsNone (λ askings. refl)
 
--- no play so far: all come later
-none-by : {asked : Awaited} {outcome : Outcome} (a b : List Asking)
-    → (plays_of a ≡ [] → plays_of (a ++ b) ≡ plays_of b) → Beginning asked outcome → plays_of (Asks asked outcome ∷ a) ≡ []
-    → plays_of (Asks asked outcome ∷ (a ++ b)) ≡ plays_of b
-none-by a b rest (BeginsNone is) none =
-    ap (λ l. l ++ plays_of (a ++ b)) (is (a ++ b)) ∙ rest (sym (ap (λ l. l ++ plays_of a) (is a)) ∙ none)
-none-by a b rest (BeginsOne prepared start is) none =
-    let some : begun_play prepared start a ∷ plays_of a ≡ [] =
-    sym (ap (λ l. l ++ plays_of a) (is a)) ∙ none in absurd (let no : ⊥ = cc in no)
-
 -- none at all, none so far
 before-by : {asked : Awaited} {outcome : Outcome} (a b : List Asking)
     → (plays_of (a ++ b) ≡ [] → plays_of a ≡ []) → Beginning asked outcome → plays_of (Asks asked outcome ∷ (a ++ b)) ≡ []
