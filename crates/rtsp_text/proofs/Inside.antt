@@ -4,11 +4,12 @@ use Rattle.std.specs.Prelude.{Option, Some, None, IfSome}
 use Rattle.std.specs.List.{list_all, slice_split, onto_first}
 use Rattle.std.specs.Str.Lines.{lines, lines_of_parts, strip_carriage_return}
 use Rattle.std.proofs.lemmas.Bool.{cases_Bool, and_parts, and_from, cond-true, cond-false}
-use Rattle.std.proofs.lemmas.List.{length-append, length-reverse, length-take, reverse-append, take-append-drop}
+use Rattle.std.proofs.lemmas.List.{length-append, length-reverse, length-take, take-append-drop}
 use Rattle.std.proofs.lemmas.List.Elements.{All-nil, All-cons, All-head, All-tail, All-weaker, All-take, All-drop, All-get_or}
 use Rattle.std.proofs.lemmas.List.Folds.{list_all-append}
 use Rattle.std.proofs.lemmas.List.Splits.{slice_split-cons_yes, slice_split-cons_no}
 use Rattle.vod_base.specs.Blanks.{is_blank, without_front_blanks, without_blanks}
+use Rattle.vod_base.proofs.Written.{all-reverse}
 use Rattle.rtsp_text.specs.Lines.{is_one_line, header_lines}
 use Rattle.rtsp_text.specs.Fields.{IsField, IsFirstField}
 
@@ -123,13 +124,6 @@ length-front (x ∷ text) =
       | inl blank ↦ omega (arith, more, ap length (cond-true (is_blank x) (without_front_blanks text) (x ∷ text) blank))
       | inr other ↦ omega (arith, ap length (cond-false (is_blank x) (without_front_blanks text) (x ∷ text) other))
     ]
-
-all-reverse : (p : ℕ → Bool) (text : List ℕ) → list_all p text ≡ true → list_all p (reverse text) ≡ true
-all-reverse p [] all = refl
-all-reverse p (x ∷ text) all =
-    let parts = and_parts (p x) (list_all p text) all in
-    ap (list_all p) (reverse-append (x ∷ []) text) ∙ list_all-append p (reverse text) (x ∷ [])
-    ∙ and_from (list_all p (reverse text)) (list_all p (x ∷ [])) (all-reverse p text parts.1) (and_from (p x) true parts.0 refl)
 
 pub all-trimmed : (p : ℕ → Bool) (text : List ℕ) → list_all p text ≡ true → list_all p (without_blanks text) ≡ true
 all-trimmed p text all =
