@@ -5,6 +5,7 @@ use Rattle.std.proofs.lemmas.List.Concat.{flat_map-cons}
 use Rattle.std.proofs.lemmas.List.Sums.{sum_by-take-le}
 use Rattle.std.proofs.lemmas.Bool.{cases_lt, eqb-true, eqb-false}
 use Rattle.film_frames.specs.Tracks.{framed_bytes, begin_of, IsBoundary, IsBoundaryAfter, IsHeadEnd}
+use Rattle.film_frames.proofs.RunLemmas.{begin-cons}
 use Rattle.film_frames.proofs.TrackLemmas.{boundary-zero, begin-all}
 use Rattle.plan_cert.specs.declared.Segment.{Segment}
 use Rattle.plan_cert.specs.Plan.{IsPlan}
@@ -14,11 +15,6 @@ use Rattle.pacer.specs.Boundaries.{IsSeam, boundary_from, bytes_between}
 use Rattle.pacer.specs.Sending.{HasStopped}
 use Rattle.pacer.specs.Pacings.{IsPacing, Pacing, pacing_of, first_slots, at_slot, step_end}
 use Rattle.pacer.specs.Steps.{HasFailed}
-
-begin-cons : (piece : List ℕ) (pieces : List (List ℕ)) (k : ℕ)
-    → begin_of (piece ∷ pieces) (suc k) ≡ length piece + begin_of pieces k
-begin-cons piece pieces k =
-    ap length (flat_map-cons (λ (p : List ℕ). p) piece (take k pieces)) ∙ length-append piece (framed_bytes (take k pieces))
 
 framed-cons : (piece : List ℕ) (pieces : List (List ℕ))
     → length (framed_bytes (piece ∷ pieces)) ≡ length piece + length (framed_bytes pieces)
