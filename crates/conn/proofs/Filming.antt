@@ -5,11 +5,7 @@ use Rattle.std.proofs.Common.{arith, inl, inr}
 use Rattle.std.proofs.lemmas.Bool.{cases_lt, true≢false}
 use Rattle.std.proofs.lemmas.List.{append-nil}
 use Rattle.film_frames.specs.Tracks.{framed_bytes}
-use Rattle.plan_cert.specs.declared.Segment.{Segment}
-use Rattle.plan_cert.specs.Plan.{IsPlan}
-use Rattle.plan_cert.specs.Slots.{plan_slots, total_bytes}
-use Rattle.plan_cert.proofs.SlotSums.{sum-plan_slots}
-use Rattle.std.proofs.lemmas.List.Sums.{sum_by-take-le}
+use Rattle.pacer.proofs.SlotLemmas.{most-slots}
 use Rattle.session.specs.declared.states.Play.{Play as Played}
 use Rattle.conn.specs.Films.{HasSent, planned_bytes}
 use Rattle.pacer.specs.Boundaries.{bytes_between}
@@ -121,9 +117,6 @@ through_is slot p is = sent_upto slot (due_by p slot) p is (omega arith)
 pub stopped_is : (slot : ℕ) (p : Pacing) → IsPacing p → IsPacing (after_step true slot p)
 stopped_is slot p is = sent_upto slot (step_end true (at_slot slot p)) p is (omega arith)
 
-pub few_slots : (plan : List Segment) (k : ℕ) → IsPlan plan → first_slots plan k ≤ total_bytes plan
-few_slots plan k is = omega (arith, sum_by-take-le (λ (x : ℕ). x) (plan_slots plan) k, sum-plan_slots plan is.no_empty)
-
 -- a play goes on by a slot
 pub sent_slot : {play : Played} {heard slot : ℕ} {film : List ℕ} (waits : Bool) → HasSent play heard film → heard < slot →
     HasSent (record play { pacer = slot_pacing waits slot play.pacer }) slot (film ++ slot_film waits slot play.pacer)
@@ -137,7 +130,7 @@ sent_slot {play} {heard} {slot} {film} waits has later =
     omega (
       arith,
       due-of-both p.plan p.passed (slots_by p slot) p.keep p.due has.pacing.due,
-      few_slots p.plan (max p.passed (slots_by p slot)) has.pacing.plan,
+      most-slots p.plan (max p.passed (slots_by p slot)) has.pacing.plan,
       has.kept,
     ) in
     let before : p.sent ≤ due_by p slot = omega (arith, has.pacing.sent) in

@@ -22,7 +22,8 @@ use Rattle.conn.specs.Rounds.{Round, Runs, RunsAll, round_outcomes, rounds_outco
 use Rattle.conn.specs.Rounds.{takings_outcomes}
 use Rattle.conn.specs.Films.{AreUnhalted, GoesOn, HasSent, StandBetween, Stretch, round_parts}
 use Rattle.conn.specs.Films.{rounds_parts, takings_parts}
-use Rattle.conn.proofs.Filming.{few_slots, stopped_is}
+use Rattle.pacer.proofs.SlotLemmas.{most-slots}
+use Rattle.conn.proofs.Filming.{stopped_is}
 use Rattle.conn.proofs.Playing.{comes_on, heard_left, round_on, taking_left, takes_left}
 use Rattle.conn.proofs.Playing.{unhalted_front, unhalted_rest}
 use Rattle.conn.proofs.Occasions.{SlotBytes, EventCome, PlayGoing}
@@ -33,7 +34,7 @@ pub film_count : (play : Played) (heard : ℕ) (film : List ℕ) → HasSent pla
 film_count play heard film has =
     let p = play.pacer in
     let n : ℕ = first_slots p.plan (heard + 1 - p.start) in
-    let few : n ≤ p.keep = omega (arith, few_slots p.plan (heard + 1 - p.start) has.pacing.plan, has.kept) in
+    let few : n ≤ p.keep = omega (arith, most-slots p.plan (heard + 1 - p.start) has.pacing.plan, has.kept) in
     let whole : p.before + n ≤ length (framed_bytes p.pieces) = omega (arith, few, has.pacing.whole, has.pacing.most) in
     let exact : (p.before + n) - p.before ≡ n = omega arith in
     ap length has.film_is ∙ ap (λ k. length (take k (drop p.before (framed_bytes p.pieces)))) (sym exact)

@@ -1,4 +1,4 @@
 pub mod SendingLemmas
 pub mod PacingLemmas
-mod SlotLemmas
+pub mod SlotLemmas
 pub mod ByteLemmas

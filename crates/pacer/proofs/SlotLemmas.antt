@@ -47,7 +47,8 @@ one-more plan t =
           omega (arith, all, same, none)
     ]
 
-most-slots : (plan : List Segment) (t : ℕ) → IsPlan plan → first_slots plan t ≤ total_bytes plan
+-- a plan's first slots have no more than all of its bytes
+pub most-slots : (plan : List Segment) (t : ℕ) → IsPlan plan → first_slots plan t ≤ total_bytes plan
 most-slots plan t is = omega (arith, sum_by-take-le (λ x. x) (plan_slots plan) t, sum-plan_slots plan is.no_empty)
 
 pub sends-next : (p : Pacing) (slot : ℕ) → IsPacing p → SendsNext p slot

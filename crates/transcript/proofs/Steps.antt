@@ -14,7 +14,7 @@ use Rattle.session.specs.declared.states.Awaited.TheVariants.{Play}
 use Rattle.session.specs.declared.states.Prepared.{Prepared}
 use Rattle.session.specs.Standings.{Standing}
 use Rattle.conn.specs.Turns.{Outcome}
-use Rattle.conn.proofs.Filming.{few_slots}
+use Rattle.pacer.proofs.SlotLemmas.{most-slots}
 use Rattle.transcript.specs.Plays.{Asking, Asks, plays_admitted, plays_begun, kept_by, kept_in, kept_with, plays_of}
 use Rattle.transcript.proofs.Films.{IsFilm, IsRest, IsSound, film_in, play_with}
 use Rattle.transcript.proofs.Turning.{Begins, Ends, Ending, Going, Halts, Idle, IsStill, Sends, Starts, Stays, TurnsAs, pacing_for, sends_in}
@@ -130,7 +130,7 @@ halted_pacing p slot is =
     let most : boundary_from p.pieces (p.before + p.sent) ≤ p.before + p.keep =
     next.least (p.before + p.keep) on.pacing.ends (omega (arith, on.pacing.due, on.even)) in
     let place : p.before + next_boundary p ≡ boundary_from p.pieces (p.before + p.sent) = omega (arith, next.after) in
-    let few : first_slots p.plan p.passed ≤ total_bytes p.plan = few_slots p.plan p.passed on.pacing.plan in (
+    let few : first_slots p.plan p.passed ≤ total_bytes p.plan = most-slots p.plan p.passed on.pacing.plan in (
       record {
         pacing = record {
           plan = on.pacing.plan;

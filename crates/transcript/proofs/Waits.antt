@@ -9,7 +9,8 @@ use Rattle.pacer.specs.Pacings.{IsPacing, Pacing, due_by, first_slots, next_boun
 use Rattle.pacer.proofs.PacingLemmas.{boundary-from, boundary-is, first-slots-rise}
 use Rattle.plan_cert.specs.Slots.{total_bytes}
 use Rattle.conn.specs.Turns.{Part, Film, Text}
-use Rattle.conn.proofs.Filming.{few_slots, sent_through, slot_is, stopped_is}
+use Rattle.pacer.proofs.SlotLemmas.{most-slots}
+use Rattle.conn.proofs.Filming.{sent_through, slot_is, stopped_is}
 use Rattle.transcript.specs.Places.{AreSentAt}
 use Rattle.transcript.specs.Plays.{Asking, FilmPlay, due_of, kept_in, plays_of}
 use Rattle.transcript.specs.Replies.{placed_texts}
@@ -76,7 +77,7 @@ pub due_going : (p : Pacing) (slot keep : ℕ) → IsPacing p → p.keep ≡ tot
     → min (first_slots p.plan (slot + 1 - p.start)) p.keep ≤ keep
     → due_of slot (play_with p keep) ≡ min (first_slots p.plan (slot + 1 - p.start)) p.keep
 due_going p slot keep is whole holds =
-    let few : first_slots p.plan (slot + 1 - p.start) ≤ total_bytes p.plan = few_slots p.plan (slot + 1 - p.start) is.plan in
+    let few : first_slots p.plan (slot + 1 - p.start) ≤ total_bytes p.plan = most-slots p.plan (slot + 1 - p.start) is.plan in
     omega (arith, few, whole, holds)
 
 -- what was sent is due by the end of each later slot
