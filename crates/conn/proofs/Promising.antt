@@ -18,7 +18,7 @@ use Rattle.session.specs.declared.states.State.{State}
 use Rattle.session.specs.declared.states.State.TheVariants.{Init, Playing, Ready, Stopping}
 use Rattle.session.specs.Hearings.{new_standing}
 use Rattle.session.specs.Ranges.{AreSettings}
-use Rattle.session.specs.Sendings.{after_play, is_between, is_sending, is_taken, sent_due, sent_reply}
+use Rattle.session.specs.Sendings.{after_play, is_between, is_sending, is_taken, sent_due}
 use Rattle.session.specs.Sendings.{sent_slot, after_slot, stepped_in}
 use Rattle.session.specs.Standings.{Standing, taken_up}
 use Rattle.conn.specs.Turns.{Outcome, Part, Stage, film_bytes, stage}
@@ -28,7 +28,7 @@ use Rattle.conn.specs.Plays.{ArePlaysKept, IsKeptIn, IsSentBy, client_of, heard_
 use Rattle.conn.specs.Plays.{play_pieces}
 use Rattle.conn.proofs.Between.{planned_between}
 use Rattle.conn.proofs.Hearing.{AreShown, HasPlay, IsStateOf, IsWell}
-use Rattle.conn.proofs.Playing.{as_it_was}
+use Rattle.conn.proofs.Playing.{as_it_was, reply_heard}
 use Rattle.conn.proofs.Replying.{film_count}
 use Rattle.conn.proofs.SeatReplies.{refusals_told}
 use Rattle.conn.proofs.Telling.{course_tells}
@@ -52,10 +52,6 @@ pub new_well : (films : List Stored) (settings : Settings) (words : List ℕ) �
 new_well films settings words shown good = record { films = shown; settings = good; state = tt }
 
 -- the heard slot after a slot
-reply_heard : (goes : Bool) (s : Standing) → (if goes then sent_reply s else s).heard ≡ s.heard
-reply_heard true s = refl
-reply_heard false s = refl
-
 heard_cases : {slot : ℕ} (taken sending : Bool) (standings : SlotStandings) → standings.sending.heard ≡ slot →
     standings.still.heard ≡ slot →
     (if taken then (if sending then standings.sending else standings.still) else standings.before).heard ≡

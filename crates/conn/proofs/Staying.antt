@@ -40,7 +40,7 @@ use Rattle.session.specs.Sendings.{after_slot, state_after, stepped_in}
 use Rattle.session.specs.Standings.{Awaits, NoAnswer, PlayAnswer, HaltAnswer, LookAnswer}
 use Rattle.session.specs.Standings.{OfferAnswer, Standing, awaited_answer}
 use Rattle.session.specs.Steps.{IsPlayIn, after_stop}
-use Rattle.conn.specs.Turns.{Outcome, Unasked, Entered, WasFull, Offered, Text, Stage, Taking}
+use Rattle.conn.specs.Turns.{Outcome, Unasked, Entered, WasFull, Offered, Stage, Taking}
 use Rattle.conn.specs.Turns.{Passed, Answered, HasHeard, IsAnswered, IsFinished, IsHalted}
 use Rattle.conn.specs.Turns.{IsLookAnswered, IsPlayAnswered, Takes, TakesAll, after_reply}
 use Rattle.conn.specs.Turns.{due_parts, film_bytes, slot_parts}
@@ -50,7 +50,8 @@ use Rattle.conn.specs.Plays.{film_in, film_since, film_taken}
 use Rattle.conn.proofs.Beginning.{play_begins}
 use Rattle.conn.proofs.Hearing.{AreShown, HasPlay, IsAskedWell, IsHalting, IsSetUpIn, IsStateOf}
 use Rattle.conn.proofs.Hearing.{IsWell, hears_well}
-use Rattle.conn.proofs.Playing.{as_it_was, later_slot, slot_cases, taken_slot}
+use Rattle.conn.proofs.Playing.{as_it_was, later_slot, reply_state, slot_cases, taken_slot}
+use Rattle.conn.proofs.Replying.{no_film}
 use Rattle.conn.proofs.Occasions.{EventCome}
 
 -- an admitted play is a sending of which nothing was sent
@@ -215,10 +216,6 @@ reply_well true s film well = record {
   state = settled_well (ground_of s film) s.state well.state;
 }
 
-reply_film : (goes : Bool) (text : List ℕ) → film_bytes (if goes then Text text ∷ [] else []) ≡ []
-reply_film false text = refl
-reply_film true text = refl
-
 -- one piece, and pieces
 pub taking_well : (old new : Stage) (taking : Taking) (film : List ℕ) → Takes old taking new → IsWell old.session film →
     IsWell new.session (film_taken film (taking ∷ []))
@@ -228,7 +225,7 @@ taking_well old new (Answered message outcome parts) film takes well =
     let heard : IsWell takes.answered since = heard_well well takes.heard in
     let after : IsWell (after_reply takes.answered) since = reply_well (can_reply takes.answered) takes.answered since heard in
     let none : film_bytes parts ≡ [] =
-    ap film_bytes takes.parts_are ∙ reply_film (can_reply takes.answered) takes.answered.text in
+    ap film_bytes takes.parts_are ∙ no_film (can_reply takes.answered) takes.answered.text in
     let same : since ≡ since ++ film_bytes parts = sym (append-nil since) ∙ ap (λ bs. since ++ bs) (sym none) in
     subst (IsWell new.session) same (subst (λ (s : Stage). IsWell s.session since) (sym takes.new_is) after)
 
@@ -304,11 +301,6 @@ rest_off : {films : ℕ} {setup : Setup} (waits between : Bool) (both one plain 
 rest_off false between both one plain values = values
 rest_off true false both one plain values = values
 rest_off true true both one plain values = values
-
-reply_state : (goes : Bool) (s : Standing)
-    → (if goes then sent_reply s else s).state ≡ (if goes then after_stop s.state else s.state)
-reply_state true s = refl
-reply_state false s = refl
 
 sent_off : {films : ℕ} {setup : Setup} {stop : Stop} (old : Standing) (slot : ℕ) →
     old.state ≡ Stopping setup stop → IsSetup films setup →
