@@ -22,7 +22,7 @@ pub mod OneHearing
 pub mod Results
 pub mod Tellings
 mod RangeInPlaying
-mod SlotCounts
+pub mod SlotCounts
 mod PlayEnds
 mod Offers
 mod Looks

@@ -1,9 +1,6 @@
 -- A report's missed slots are those of its events.
-use Rattle.std.proofs.Common.{◌≡◌, ℕ, zero, suc, ◌+◌, ◌-◌, ◌&&◌, max, nat_le, nat_lt, cond, if◌then◌else◌, Option, Some, None, Bool, true, false, List, [], ◌∷◌, length, arith, refl, sym, ap, ◌∙◌, inl, inr}
-use Rattle.std.specs.Prelude.{sum_by}
-use Rattle.std.specs.List.{range_with_len}
-use Rattle.std.proofs.lemmas.Bool.{and_from, and_right, cases_lt, false_from_ne_true, le-leb, lt-leb, lt-ltb, ltb-true}
-use Rattle.std.proofs.lemmas.List.Sums.{sum_by-cons}
+use Rattle.std.proofs.Common.{◌≡◌, ℕ, ◌+◌, ◌-◌, ◌&&◌, if◌then◌else◌, Option, Some, None, Bool, true, false, List, [], ◌∷◌, length, arith, refl, sym, ap, ◌∙◌}
+use Rattle.std.proofs.lemmas.Bool.{and_from}
 use Rattle.vod_base.specs.Links.{Doing, HeardBytes, HeardEnd, HeardSlot, Sent}
 use Rattle.film_frames.specs.declared.stores.Stored.{Stored}
 use Rattle.admission.specs.Makers.{Placed}
@@ -15,6 +12,7 @@ use Rattle.session.specs.declared.settings.Settings.{Settings}
 use Rattle.session.specs.PlayLaws.{slots_missed}
 use Rattle.session.specs.Sendings.{can_reply, after_play, is_between, is_sending, is_taken, missed_between, sent_due, sent_reply, sent_slot, after_slot, start_in, stepped_in}
 use Rattle.session.specs.Standings.{Awaits, HaltAnswer, LookAnswer, NoAnswer, OfferAnswer, Open, PlayAnswer, Standing, awaited_answer, open_of}
+use Rattle.session.proofs.SlotCounts.{missed_is}
 use Rattle.session.proofs.Shapes.{HearsAs, Replies, SetsUp, AsksPlay, Stops, AsksLook, AsksOffer, hears_as}
 use Rattle.conn.specs.Rounds.{Comes, Ending, Unheard, PeerEnded, Overfull, AtPiece, InSlot, InReply, Ends, Round, Runs, RunsAll}
 use Rattle.conn.specs.Turns.{HasHeard, IsAnswered, IsClosed, IsFinished, IsHalted, IsLookAnswered, IsPlayAnswered, Outcome, Unasked, Entered, WasFull, Offered, Part, Stage, Taking, Passed, Answered, TakesAll}
@@ -23,46 +21,6 @@ use Rattle.conn.specs.declared.reports.ConnReport.{ConnReport}
 use Rattle.transcript.specs.Agreement.{Doings, HasDone}
 use Rattle.transcript.specs.Courses.{first_stage}
 use Rattle.transcript.specs.Notes.{ending_missed, missed_by, missed_in, rounds_missed}
-
--- ---- how many slots are missed
-abbrev misses_at : ℕ → ℕ → ℕ → ℕ
-misses_at heard start t = cond (nat_lt heard t && nat_le start t) 1 0
-
-test-of : (heard start t : ℕ)
-    → misses_at heard start t + (t + 1 - max (t + 1) (max (heard + 1) start)) ≡ t + 1 - max t (max (heard + 1) start)
-test-of heard start t = elim (cases_lt heard t) [
-  | inl later ↦ elim (cases_lt t start) [
-    | inl early ↦
-        let no : (nat_lt heard t && nat_le start t) ≡ false =
-        and_right (nat_lt heard t) (nat_le start t) (lt-leb start t early) in
-        ap (λ (b : Bool). cond b 1 0 + (t + 1 - max (t + 1) (max (heard + 1) start))) no ∙ omega (arith, early)
-    | inr begun ↦
-        let yes : (nat_lt heard t && nat_le start t) ≡ true =
-        and_from (nat_lt heard t) (nat_le start t) (lt-ltb heard t later) (le-leb start t (omega (arith, begun))) in
-        ap (λ (b : Bool). cond b 1 0 + (t + 1 - max (t + 1) (max (heard + 1) start))) yes ∙ omega (arith, later, begun)
-  ]
-  | inr past ↦
-      let none : nat_lt heard t ≡ false =
-      false_from_ne_true (nat_lt heard t) (λ less. absurd (omega (arith, ltb-true heard t less, past))) in
-      let no : (nat_lt heard t && nat_le start t) ≡ false = ap (λ (b : Bool). b && nat_le start t) none in
-      ap (λ (b : Bool). cond b 1 0 + (t + 1 - max (t + 1) (max (heard + 1) start))) no ∙ omega (arith, past)
-]
-
-counted-is : (heard start from n : ℕ)
-    → sum_by (misses_at heard start) (range_with_len from n) ≡ (from + n) - max from (max (heard + 1) start)
-counted-is heard start from zero = omega arith
-counted-is heard start from (suc n) =
-    omega (
-      arith,
-      sum_by-cons (misses_at heard start) from (range_with_len (from + 1) n),
-      counted-is heard start (from + 1) n,
-      test-of heard start from,
-    )
-
-missed_is : (heard start slot : ℕ) → missed_between heard start slot ≡ slots_missed heard slot start
-missed_is heard start slot =
-    let all : slots_missed heard slot start ≡ (0 + slot) - max 0 (max (heard + 1) start) = counted-is heard start 0 slot in
-    omega (arith, all)
 
 -- ---- no request and no answer changes what was missed
 asked-late : (old : Standing) (ask : Ask) (asking : Standing) → HearsAs old ask asking → asking.late ≡ old.late

@@ -24,6 +24,7 @@ use Rattle.transcript.proofs.Filming.{Stands, course_step, round_step, stands_by
 use Rattle.transcript.proofs.Turning.{turns_as}
 use Rattle.transcript.proofs.Following.{follows_all}
 use Rattle.transcript.proofs.Noting.{Carries, IsKept, carries-as, carries-none, carries-then, halt-turn, halted-open, heard-on, no-halt-note, no-note, notes_until, open_note, unasked-turn}
+use Rattle.session.proofs.Carries.{nothing_of}
 use Rattle.conn.proofs.Telling.{CourseEnd}
 
 abbrev CarriesOf : Standing → List Turn → Standing → Type 0
@@ -234,20 +235,13 @@ stands-round old new round runs stands =
     stands_by old.session new.session (round_askings old round new runs) (film_bytes round.due)
     (round_step old new round runs stands)
 
-at-rest : (awaited : Awaited) → awaited_answer_of awaited ≡ NoAnswer → awaited ≡ Nothing
-at-rest Nothing rest = refl
-at-rest (Play prepared) rest = absurd (let never : ⊥ = cc rest in never)
-at-rest (Halt keep next) rest = absurd (let never : ⊥ = cc rest in never)
-at-rest (Look sequence) rest = absurd (let never : ⊥ = cc rest in never)
-at-rest (Offer sequence) rest = absurd (let never : ⊥ = cc rest in never)
-
 ending-rest : {old : Stage} (ending : Ending) (ended : CourseEnd old ending) → Stands old.session →
     ended.new.session.awaited ≡ Nothing
 ending-rest Unheard ended stands = ap (λ (s : Stage). s.session.awaited) ended.ends.1 ∙ stands.rest
 ending-rest PeerEnded ended stands = ap (λ (s : Stage). s.session.awaited) ended.ends.1 ∙ stands.rest
 ending-rest (Overfull bytes) ended stands = ap (λ (s : Stage). s.session.awaited) ended.ends.3 ∙ stands.rest
 ending-rest {old} (AtPiece round) ended stands = (stands-round old ended.new round ended.ends.0 stands).rest
-ending-rest (InSlot slot front) ended stands = at-rest ended.new.session.awaited ended.ends.1.rest
+ending-rest (InSlot slot front) ended stands = nothing_of ended.new.session.awaited ended.ends.1.rest
 ending-rest {old} (InReply round message outcome front) ended stands =
     let e = ended.ends.1 in
     let failed = e.fails in

@@ -15,6 +15,7 @@ use Rattle.session.specs.Hearings.{Hears}
 use Rattle.session.specs.Ranges.{AreFilms}
 use Rattle.session.specs.Standings.{Standing}
 use Rattle.session.proofs.Changing.{hears_ground}
+use Rattle.conn.proofs.Sighting.{stage_is}
 use Rattle.conn.specs.Rounds.{IsStopped, takings_bytes, takings_outcomes}
 use Rattle.conn.specs.Turns.{Answered, IsAnswered, IsNext, IsPassed, IsReplied, Outcome, Part, Passed, Stage, Taking, TakesAll, after_reply, parts_bytes, reply_parts, stage}
 use Rattle.conn.specs.declared.reports.ConnEnd.{ConnEnd}
@@ -348,9 +349,6 @@ lacks_same {session} {s} {r} {message} {m} ask again asking other same alike =
     (subst (λ z. LackAlike (hearing s z ask asking) (hearing r message again other)) same.message_is
     (subst (λ z. LackAlike (hearing s m ask asking) (hearing r z again other)) same.also_message alike)))
 
-stages_same : (a b : Standing) (x y : List ℕ) → a ≡ b → x ≡ y → stage a x ≡ stage b y
-stages_same a b x y one two = ap (λ s. stage s x) one ∙ ap (λ input. stage b input) two
-
 turns_same : {old one other : Stage} {turn again : Turn} (given : AnswersAlike turn.outcome again.outcome) →
     AreFilms old.session.films → IsTaken old turn one → IsTaken old again other →
     LackAlike (hearing turn.session turn.message turn.ask turn.asking)
@@ -372,9 +370,7 @@ turns_same {old} {one} {other} {turn} {again} given films taken also alike =
     (subst (λ s. IsAnswered s again.ask again.outcome again.answered) heard.1 also.answered) in
     let both = answers_same turn.asking turn.ask given taken.answered answered in (
       also.new_is
-          ∙ stages_same (after_reply again.answered) (after_reply turn.answered)
-          (drop (length again.message) old.input) (drop (length turn.message) old.input)
-          (ap after_reply both.0) (ap (λ (m : List ℕ). drop (length m) old.input) message)
+          ∙ stage_is (ap after_reply both.0) (ap (λ (m : List ℕ). drop (length m) old.input) message)
           ∙ sym taken.new_is,
       ap (λ s. parts_bytes (reply_parts s)) both.0,
       both.1,

@@ -41,7 +41,8 @@ use Rattle.transcript.proofs.Curves.{curves-same}
 use Rattle.transcript.proofs.Film.{IsFilmIn, blocks-sum, film_sizes, run-blocks}
 use Rattle.transcript.proofs.Reading.{AreTexts, Stream, all_of, text-is}
 use Rattle.transcript.proofs.Readings.{IsFed}
-use Rattle.transcript.proofs.Serving.{askings-parts, course-late, late-play, one-so-far, parted}
+use Rattle.transcript.proofs.Serving.{askings-parts, course-late, late-play, one-so-far}
+use Rattle.transcript.proofs.Following.{parts_of}
 use Rattle.transcript.proofs.Streaming.{AreAlone, alone-append}
 use Rattle.transcript.proofs.Units.{blocks-one}
 use Rattle.transcript.proofs.Woven.{AreEvents, IsCounted, IsEvent, IsFromTo, IsFrontOf, all-woven, counted-by, framed-append, parts-length, rounds-latest, rounds-sent, texts-parts, texts-within, texts_length, whole-rounds}
@@ -121,7 +122,7 @@ sent-through : {first : List Round} {play : FilmPlay} (course : Course) (later :
 sent-through {first} {play} course later last follows one whole =
     let begin = first_stage course.films course.settings course.words in
     let stands = first-stands course in
-    let parts = parted begin course.last first later follows in
+    let parts = parts_of begin course.last first later follows in
     let a = askings_of begin first parts.0 parts.1.0 in
     let b = askings_of parts.0 later course.last parts.1.1 in
     let both : plays_of (a ++ b) ≡ play ∷ [] = ap plays_of (sym (askings-parts begin course.last first later follows)) ∙ one in

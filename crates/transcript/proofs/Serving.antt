@@ -20,24 +20,19 @@ use Rattle.conn.specs.Turns.{Outcome, Unasked, Entered, WasFull, Offered, Stage,
 use Rattle.transcript.specs.Courses.{Follows, IsParted, asked_by, askings_of, round_askings, takings_askings}
 use Rattle.transcript.specs.Plays.{Asking, Asks, FilmPlay, plays_admitted, plays_begun, kept_by, kept_in, kept_with, plays_of}
 use Rattle.transcript.proofs.Filming.{Stands, opened_stands, round_step, stands_by, taken_stands, takes_step}
+use Rattle.transcript.proofs.Following.{parts_of}
 use Rattle.transcript.proofs.Turning.{Begins, Ends, Starts, Stays, TurnsAs, turns_as}
 use Rattle.conn.proofs.Occasions.{EventCome}
 
 -- ---- askings in two parts
 
-abbrev pub parted : (old new : Stage) (first rest : List Round) → Follows old (first ++ rest) new → IsParted old first rest new
-parted old new [] rest follows = (old, (refl, follows))
-parted old new (round ∷ first) rest follows =
-    let parts : IsParted follows.0 first rest new = parted follows.0 new first rest follows.1.1 in
-    (parts.0, ((follows.0, (follows.1.0, parts.1.0)), parts.1.1))
-
 pub askings-parts : (old new : Stage) (first rest : List Round) (follows : Follows old (first ++ rest) new)
-    → let parts : IsParted old first rest new = parted old new first rest follows in
+    → let parts : IsParted old first rest new = parts_of old new first rest follows in
     askings_of old (first ++ rest) new follows ≡ askings_of old first parts.0 parts.1.0 ++ askings_of parts.0 rest new parts.1.1
 askings-parts old new [] rest follows = refl
 askings-parts old new (round ∷ first) rest follows =
     let made = round_askings old round follows.0 follows.1.0 in
-    let parts = parted follows.0 new first rest follows.1.1 in
+    let parts = parts_of follows.0 new first rest follows.1.1 in
     ap (λ l. made ++ l) (askings-parts follows.0 new first rest follows.1.1)
     ∙ sym (append_assoc made (askings_of follows.0 first parts.0 parts.1.0) (askings_of parts.0 rest new parts.1.1))
 
