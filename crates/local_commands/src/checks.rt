@@ -9,7 +9,7 @@ ghost use Rattle.local_commands.specs.Carrying.{IsDone, IsInputRefused, IsRead};
 ghost use Rattle.local_commands.specs.Verdict.{AreFaultWords, cert_fault_text};
 
 use crate::curves::viewer_curves;
-use crate::done::{Done, finish};
+use crate::done::{Done, done_with_text};
 use cert_check::{CertFault, check};
 use command_words::Viewer;
 use inputs::read_input;
@@ -51,8 +51,8 @@ pub fn check_viewer<'a, L: Library>(
         Err(CertRead::NoMemory) => return Err(Trouble::NoMemory),
     };
     match check(&curves, &certificate.segments) {
-        Ok(()) => finish(0, Vec::from_slice(alloc, b"least\n")),
-        Err(fault) => finish(1, refusal_text(alloc, &fault)),
+        Ok(()) => done_with_text(0, Vec::from_slice(alloc, b"least\n")),
+        Err(fault) => done_with_text(1, refusal_text(alloc, &fault)),
     }
 }
 

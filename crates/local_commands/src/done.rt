@@ -22,7 +22,10 @@ pub struct Done {
 /// # Errors
 ///
 /// [`Trouble::NoMemory`] where it wasn't.
-pub fn finish<'a, F: Drop>(status: u8, text: Result<Vec<u8>, F>) -> Result<Done, Trouble<'a>>
+pub fn done_with_text<'a, F: Drop>(
+    status: u8,
+    text: Result<Vec<u8>, F>,
+) -> Result<Done, Trouble<'a>>
     ensures done { IfOk result (λ done. (done.status ≡ status) × (text ≡ Ok done.text)
         × (done.plan ≡ None)) }
     ensures trouble { IfErr result (λ trouble. trouble ≡ Trouble.NoMemory) }

@@ -17,9 +17,9 @@ mod traces;
 
 pub use checks::check_viewer;
 pub use days::{law_day_not_refused, load_script, load_sources, run_day, run_fair};
-pub use done::{Done, finish};
+pub use done::{Done, done_with_text};
 pub use makes::make;
 pub use plans::plan_viewer;
-pub use scans::{law_one_scan, print_scan};
+pub use scans::{law_one_scan, list_units};
 pub use text_laws::{law_help, law_scan_tells_units, law_verdict_tells_fault};
 pub use texts::{help, version};

@@ -8,19 +8,19 @@ ghost use Rattle.command_words.specs.Words.{scan_of};
 ghost use Rattle.troubles.specs.Causes.{IsReadOnly, IsReadTrouble};
 ghost use Rattle.local_commands.specs.Carrying.{IsDone, IsInputRefused, IsRead, IsScanned};
 
-use crate::done::{Done, finish};
+use crate::done::{Done, done_with_text};
 use crate::scan_text::scan_text;
 use inputs::scan_film;
 use std::alloc::Global;
 use troubles::Trouble;
 use vod_base::Library;
 
-/// The text of a film's units.
+/// Lists the units of a film.
 ///
 /// # Errors
 ///
 /// As of [`scan_film`].
-pub fn print_scan<'a, L: Library>(
+pub fn list_units<'a, L: Library>(
     alloc: Global,
     library: &mut L,
     film: &'a str,
@@ -35,7 +35,7 @@ pub fn print_scan<'a, L: Library>(
         (L.files library.old) (L.faults library.old) (L.faults library.new)) }
 {
     let scanned = scan_film(alloc, library, film)?;
-    finish(
+    done_with_text(
         0,
         scan_text(alloc, scanned.bytes, scanned.rate, &scanned.units),
     )

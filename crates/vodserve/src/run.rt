@@ -26,7 +26,9 @@ use crate::watches::watch_film;
 use admission::Entry;
 use command_words::{Order, Serving, read_words};
 use conn::ConnReport;
-use local_commands::{Done, check_viewer, finish, help, make, plan_viewer, print_scan, version};
+use local_commands::{
+    Done, check_viewer, done_with_text, help, list_units, make, plan_viewer, version,
+};
 use plan_cert::Plan;
 use std::alloc::Global;
 use std::sync::Wait;
@@ -253,8 +255,8 @@ where
         return end_with(alloc, err, Trouble::Usage);
     };
     match order {
-        Order::Help => print(alloc, out, err, finish(0, help(alloc))),
-        Order::Version => print(alloc, out, err, finish(0, version(alloc))),
+        Order::Help => print(alloc, out, err, done_with_text(0, help(alloc))),
+        Order::Version => print(alloc, out, err, done_with_text(0, version(alloc))),
         Order::Plan(viewer) => {
             let done = plan_viewer(alloc, library, viewer);
             print(alloc, out, err, done)
@@ -268,11 +270,11 @@ where
                 alloc,
                 out,
                 err,
-                finish(0, make(alloc, kind, seed, pictures)),
+                done_with_text(0, make(alloc, kind, seed, pictures)),
             )
         }
         Order::Scan(film) => {
-            let done = print_scan(alloc, library, film);
+            let done = list_units(alloc, library, film);
             print(alloc, out, err, done)
         }
         Order::Day(order) => day(alloc, library, out, err, &order),

@@ -106,14 +106,14 @@ returns-in-Ok-check-clause-done g c =
     } in
     ok_map (λ done. (done.status ≡ 0) × (c.from_slice.result ≡ Ok done.text) × (done.plan ≡ None))
     (λ done. IsDone (g.L.Library.files c.args.library.now) (check_of (viewer_of c.args.viewer) c.args.cert.now)
-    done.status done.text.items done.plan) c.finish.result
+    done.status done.text.items done.plan) c.done_with_text.result
     (λ done is. (
       inl (is.0, text_of (codes "least\n") c.from_slice.result done.text c.from_slice.ensures.items is.1),
       is.2,
       λ held told.
           least_checked (read held told) (c.in-Ok-check.ensures {u = tt}).best c.from_slice.ensures.items done is,
     ))
-    c.finish.ensures.done
+    c.done_with_text.ensures.done
 
 pub returns-clause-done : goal.returns-clause-done
 returns-clause-done g c =
@@ -130,7 +130,7 @@ returns-clause-done g c =
     } in
     ok_map (λ done. (done.status ≡ 1) × (c.refusal_text.result ≡ Ok done.text) × (done.plan ≡ None))
     (λ done. IsDone (g.L.Library.files c.args.library.now) (check_of (viewer_of c.args.viewer) c.args.cert.now)
-    done.status done.text.items done.plan) c.finish-in-Err.result
+    done.status done.text.items done.plan) c.done_with_text-in-Err.result
     (λ done is. (
       inr (
         c.in-Err.fault,
@@ -140,4 +140,4 @@ returns-clause-done g c =
       λ held told.
           fault_checked (read held told) (c.in-Err.ensures {u = tt}).verdict c.refusal_text.ensures done is,
     ))
-    c.finish-in-Err.ensures.done
+    c.done_with_text-in-Err.ensures.done

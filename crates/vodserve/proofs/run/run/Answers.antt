@@ -25,21 +25,21 @@ returns-in-Make g c = record {
   ran = ran_as ((c.in-Some.ensures {u = tt}).order) c.in-Make.is (record { kept = refl; count = omega arith })
       c.print-in-Make.ensures.count (omega arith) (
         refl,
-        printed c.finish-in-Make.result refl
+        printed c.done_with_text-in-Make.result refl
             c.print-in-Make.ensures.nothing
             (made_done None (record { kind = made_of c.in-Make.kind; seed = c.in-Make.seed; pictures = c.in-Make.pictures })
-            c.make.result c.make.ensures c.finish-in-Make.result c.finish-in-Make.ensures.done)
+            c.make.result c.make.ensures c.done_with_text-in-Make.result c.done_with_text-in-Make.ensures.done)
             (no_memory _ _ _ (make_of (made_of c.in-Make.kind) c.in-Make.seed c.in-Make.pictures)
-            c.finish-in-Make.result c.finish-in-Make.ensures.trouble)
+            c.done_with_text-in-Make.result c.done_with_text-in-Make.ensures.trouble)
             c.print-in-Make.ensures.printed,
       );
 }
 
 pub returns-in-Scan : goal.returns-in-Scan
 returns-in-Scan g c = record {
-  ran = ran_as ((c.in-Some.ensures {u = tt}).order) c.in-Scan.is c.print_scan-done.ensures.library c.print-in-Scan.ensures.count
-      (omega arith) (printed c.print_scan-done.result refl c.print-in-Scan.ensures.nothing
-      c.print_scan-done.ensures.done c.print_scan-done.ensures.trouble c.print-in-Scan.ensures.printed);
+  ran = ran_as ((c.in-Some.ensures {u = tt}).order) c.in-Scan.is c.list_units-done.ensures.library c.print-in-Scan.ensures.count
+      (omega arith) (printed c.list_units-done.result refl c.print-in-Scan.ensures.nothing
+      c.list_units-done.ensures.done c.list_units-done.ensures.trouble c.print-in-Scan.ensures.printed);
 }
 
 pub returns-in-Help : goal.returns-in-Help
@@ -47,9 +47,9 @@ returns-in-Help g c = record {
   ran = ran_as ((c.in-Some.ensures {u = tt}).order) c.in-Help.is (record { kept = refl; count = omega arith })
       c.print.ensures.count (omega arith) (
         refl,
-        printed c.finish.result refl c.print.ensures.nothing
-            (help_done None c.help.result c.help.ensures c.finish.result c.finish.ensures.done)
-            (no_memory _ _ _ help c.finish.result c.finish.ensures.trouble) c.print.ensures.printed,
+        printed c.done_with_text.result refl c.print.ensures.nothing
+            (help_done None c.help.result c.help.ensures c.done_with_text.result c.done_with_text.ensures.done)
+            (no_memory _ _ _ help c.done_with_text.result c.done_with_text.ensures.trouble) c.print.ensures.printed,
       );
 }
 
@@ -58,9 +58,9 @@ returns-in-Version g c = record {
   ran = ran_as ((c.in-Some.ensures {u = tt}).order) c.in-Version.is (record { kept = refl; count = omega arith })
       c.print-in-Version.ensures.count (omega arith) (
         refl,
-        printed c.finish-in-Version.result refl c.print-in-Version.ensures.nothing
-            (version_done None c.version.result c.version.ensures c.finish-in-Version.result c.finish-in-Version.ensures.done)
-            (no_memory _ _ _ version c.finish-in-Version.result c.finish-in-Version.ensures.trouble)
+        printed c.done_with_text-in-Version.result refl c.print-in-Version.ensures.nothing
+            (version_done None c.version.result c.version.ensures c.done_with_text-in-Version.result c.done_with_text-in-Version.ensures.done)
+            (no_memory _ _ _ version c.done_with_text-in-Version.result c.done_with_text-in-Version.ensures.trouble)
             c.print-in-Version.ensures.printed,
       );
 }

@@ -5,13 +5,13 @@ use Rattle.local_commands.specs.Carrying.{IsDone}
 use Rattle.local_commands.specs.ScanText.{scan_text}
 use Rattle.inputs.proofs.ScanLemmas.{ok_map}
 use Rattle.local_commands.proofs.CommandLemmas.{film_done, text_of}
-use Rattle.local_commands.proofs.scans.print_scan.Goals as goal
+use Rattle.local_commands.proofs.scans.list_units.Goals as goal
 
 pub returns-clause-done : goal.returns-clause-done
 returns-clause-done g c =
     ok_map (λ done. (done.status ≡ 0) × (c.scan_text.result ≡ Ok done.text) × (done.plan ≡ None))
     (λ done. IsDone (g.L.Library.files c.args.library.now) (scan_of c.args.film.now) done.status done.text.items
-    done.plan) c.finish.result
+    done.plan) c.done_with_text.result
     (λ done is. (
       is.0,
       is.2,
@@ -29,4 +29,4 @@ returns-clause-done g c =
           rw c.deref.ensures.value ((c.in_ok-scanned.ensures {u = tt}).film held told) in
           film_done holds c.scan_text.ensures done is.1,
     ))
-    c.finish.ensures.done
+    c.done_with_text.ensures.done
