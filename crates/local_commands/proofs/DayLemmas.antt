@@ -19,6 +19,7 @@ use Rattle.troubles.proofs.CauseLemmas.{trouble_map}
 use Rattle.inputs.specs.Files.{IsNamed}
 use Rattle.day_run.specs.declared.reels.Source.TheVariants.{Film, Trace}
 use Rattle.day_run.specs.declared.scripts.Script.{Script}
+use Rattle.day_run.specs.declared.scripts.Line.{Line}
 use Rattle.day_run.specs.Readings.{IsBadLine, IsScript, Name, Reading, line_read, lines_read, name_of, names_of, nothing_read}
 use Rattle.inputs.proofs.ReadLemmas.{one_file}
 use Rattle.inputs.proofs.VideoLemmas.{held_not_refused}
@@ -121,7 +122,7 @@ held_whole held named sources long are =
     record { count = long; each = λ k name none inside. are.each k name none (omega (arith, inside, long)) }
 
 -- one of a list that has that many
-first_of : {A : Type 0} (xs : List A) (k : ℕ) → k < length xs → A
+pub first_of : {A : Type 0} (xs : List A) (k : ℕ) → k < length xs → A
 first_of [] k inside = absurd (omega (arith, inside))
 first_of (x ∷ xs) k inside = x
 
@@ -230,18 +231,41 @@ read_names : Option Reading → List Name
 read_names None = []
 read_names (Some reading) = reading.names
 
+read_lines : Option Reading → List Line
+read_lines None = []
+read_lines (Some reading) = reading.lines
+
+-- what was read of a script's text
+abbrev reading_in : Script → ℕ → Reading
+reading_in script slot = record {
+  lines = script.lines.items;
+  names = names_of script.named.items;
+  slot = slot;
+}
+
+-- what is read of a script is always the same
+same_reading : (held : List File) (name : List ℕ) (a b : Script) (p : HoldsScript held name a)
+    (q : HoldsScript held name b) →
+    Some (reading_in a p.script_is.slot) ≡ Some (reading_in b q.script_is.slot)
+same_reading held name a b p q =
+    sym p.script_is.read
+    ∙ ap (λ (t : List ℕ). lines_read nothing_read (lines_of_script t))
+    (one_file held name p.text q.text p.found q.found) ∙ q.script_is.read
+
 -- a script's names are the only ones
-names_once : (held : List File) (name : List ℕ) (a b : Script) → HoldsScript held name a
+pub names_once : (held : List File) (name : List ℕ) (a b : Script) → HoldsScript held name a
     → HoldsScript held name b → names_of a.named.items ≡ names_of b.named.items
 unfolding read_names
-names_once held name a b p q =
-    ap read_names
-    (sym p.script_is.read
-    ∙ ap (λ (t : List ℕ). lines_read nothing_read (lines_of_script t))
-    (one_file held name p.text q.text p.found q.found) ∙ q.script_is.read)
+names_once held name a b p q = ap read_names (same_reading held name a b p q)
+
+-- so are its lines
+pub lines_once : (held : List File) (name : List ℕ) (a b : Script) → HoldsScript held name a
+    → HoldsScript held name b → a.lines.items ≡ b.lines.items
+unfolding read_lines
+lines_once held name a b p q = ap read_lines (same_reading held name a b p q)
 
 -- a film or trace that is held in place of another of its name and kind
-same_name : (a b : Named) → name_of a ≡ name_of b → (held : List File) (source : Source)
+pub same_name : (a b : Named) → name_of a ≡ name_of b → (held : List File) (source : Source)
     → IsHeldAs held a source → IsHeldAs held b source
 same_name a b same held source is =
     subst (λ (n : Name). IsHeldUnder n.film held n.name source) same is

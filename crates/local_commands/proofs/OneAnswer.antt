@@ -39,7 +39,7 @@ some_once (x ∷ xs) (y ∷ ys) e =
     let rest : map (λ (x : ℕ). Some x) xs ≡ map (λ (x : ℕ). Some x) ys = cc in
     ap (λ (n : ℕ). n ∷ xs) first ∙ ap (λ (ns : List ℕ). y ∷ ns) (some_once xs ys rest)
 
-trace_once : (held : List File) (name xs ys : List ℕ) → HoldsTrace held name xs → HoldsTrace held name ys → xs ≡ ys
+pub trace_once : (held : List File) (name xs ys : List ℕ) → HoldsTrace held name xs → HoldsTrace held name ys → xs ≡ ys
 trace_once held name xs ys p q =
     some_once xs ys (sym p.trace.numbers
     ∙ ap (λ (t : List ℕ). map (λ (token : Token). number_of token.bytes) (tokens_from 0 t))

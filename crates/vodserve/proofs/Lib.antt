@@ -8,3 +8,4 @@ pub mod ConnectionLaws
 pub mod TextReading
 pub mod LineReading
 pub mod WatchLemmas
+pub mod OneDay

@@ -21,8 +21,12 @@ use Rattle.conn.specs.declared.reports.PartReport.{PartReport}
 use Rattle.inputs.specs.Films.{IsHeldRefused}
 use Rattle.troubles.specs.declared.faults.Fault.{Fault}
 use Rattle.command_words.specs.Words.{ScriptRun, Serving}
-use Rattle.day_run.specs.DayLaws.{KeepsAfter}
-use Rattle.day_run.specs.Days.{link_of}
+use Rattle.day_run.specs.DayLaws.{AreClients, IsLink, KeepsAfter}
+use Rattle.day_run.specs.Days.{IsDay, link_of}
+use Rattle.day_run.specs.Scripts.{AreLines}
+use Rattle.day_run.specs.declared.reels.Source.{Source}
+use Rattle.day_run.specs.declared.scripts.Script.{Script}
+use Rattle.local_commands.specs.Days.{AreHeldAs, HoldsScript}
 use Rattle.vodserve.specs.Worked.{AreLoaded, IsOpenedOnce, all_reports, opening_of, settings_of}
 use Rattle.vodserve.specs.Worked.{terms_for}
 use Rattle.vodserve.specs.Run.{HasRunScript, HasServedNothing, Seen, Serves, World}
@@ -177,3 +181,31 @@ KeepsEachLine =
     (store : Seen (List File)) (out out' err err' : Seen (List ℕ)) (run : ScriptRun)
     (ended : Ended) (ran : HasRunScript store out out' err err' run ended) (count : ℕ) →
     KeepsAfter (link_of run.capacity run.journal run.slot ran.sources) ran.script.lines.items count
+
+-- the day of a script that a library holds, with the films and traces that it names: what it prints
+-- and its journal
+pub record IsScriptDay (held : List File) (run : ScriptRun) (text : List ℕ) (journal : List Entry)
+    : Type 0 where
+  pub script : Script
+  pub sources : List Source
+  pub read : HoldsScript held run.script script
+  pub loaded : AreHeldAs held script.named.items sources
+  pub clients : AreClients script.lines.items
+  pub lines : AreLines (length sources) script.lines.items
+  pub link : IsLink (link_of run.capacity run.journal run.slot sources)
+  pub day : IsDay (link_of run.capacity run.journal run.slot sources) script.lines.items text
+      journal
+
+-- there is one such text and one such journal
+abbrev pub HasOneDay : Type 0
+HasOneDay =
+    (held : List File) (run : ScriptRun) (text text' : List ℕ) (journal journal' : List Entry) →
+    IsScriptDay held run text journal → IsScriptDay held run text' journal' →
+    (text ≡ text') × (journal ≡ journal')
+
+-- what a run of the script writes, and the journal that it leaves, are those of this day
+abbrev pub RunsItsDay : Type 0
+RunsItsDay =
+    (held : List File) (store : Seen (List File)) (out out' err err' : Seen (List ℕ))
+    (run : ScriptRun) (ended : Ended) (ran : HasRunScript store out out' err err' run ended) →
+    store.told ≡ Some held → IsScriptDay held run ran.ran.text ended.journal.items

@@ -14,8 +14,9 @@ ghost use Rattle.local_commands.specs.Carrying.{IsPlanned, IsRead, IsViewerRefus
 ghost use Rattle.command_words.specs.Orders.{serving_of};
 ghost use Rattle.command_words.specs.Ranges.{IsServingInRange};
 ghost use Rattle.vodserve.specs.Served.{served_text};
-ghost use Rattle.vodserve.specs.Laws.{GivesEachBack, KeepsEachLine, LeavesNoneOut, ServesEach};
-ghost use Rattle.vodserve.specs.Laws.{ServesNoRefused, ServesWhatItMay, TellsItsJournal};
+ghost use Rattle.vodserve.specs.Laws.{GivesEachBack, HasOneDay, KeepsEachLine, LeavesNoneOut};
+ghost use Rattle.vodserve.specs.Laws.{RunsItsDay, ServesEach, ServesNoRefused, ServesWhatItMay};
+ghost use Rattle.vodserve.specs.Laws.{TellsItsJournal};
 ghost use Rattle.vodserve.specs.Run.{Ends, Fails, HasServedNothing, Printed, Ran, Serves};
 ghost use Rattle.vodserve.specs.Run.{gate_seen, sight_of, world};
 
@@ -124,6 +125,13 @@ pub fn law_one_verdict()
 /// there up to any later slot is what is booked in those slots, and no more than their capacity.
 pub fn law_day_keeps()
     ensures { KeepsEachLine }
+{}
+
+/// A law: a script that a library holds, with the films and traces that it names, has one day: one
+/// text and one journal. What a run of the script writes and leaves is that.
+pub fn law_one_day()
+    ensures once { HasOneDay }
+    ensures ran { RunsItsDay }
 {}
 
 /// Ends a server: prints its journal, what is still booked and a last line, and hands journal and

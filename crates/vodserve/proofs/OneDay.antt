@@ -1,0 +1,147 @@
+-- A script that a library holds has one day: one text and one journal.
+use Rattle.std.proofs.Common.{◌≡◌, ◌∙◌, ◌-◌, ◌<◌, ℕ, Bool, true, false, List, [], ◌∷◌, length, take, drop, map, get_or, refl, sym, ap, subst, suc, zero, arith, string_bytes}
+use Rattle.std.proofs.Math.ListN.{get_or-map}
+use Rattle.std.proofs.lemmas.Bool.{true≢false}
+use Rattle.std.proofs.lemmas.List.{length-map}
+use Rattle.vod_base.specs.Outside.{File}
+use Rattle.mpeg_scan.specs.Codes.{codes_of, read}
+use Rattle.mpeg_scan.specs.Films.{IsFilm, slices_in, told_of, units_in}
+use Rattle.mpeg_scan.specs.Rates.{picture_time}
+use Rattle.mpeg_scan.specs.Words.{rate_of}
+use Rattle.mpeg_scan.specs.declared.units.Unit.{Unit as PictureUnit}
+use Rattle.film_frames.specs.Pieces.{wire_size}
+use Rattle.film_frames.specs.Runs.{run_pieces}
+use Rattle.film_frames.specs.declared.stores.Stored.{Stored}
+use Rattle.admission.specs.declared.entries.Entry.{Entry}
+use Rattle.command_words.specs.Words.{ScriptRun}
+use Rattle.inputs.proofs.VideoLemmas.{held_once}
+use Rattle.day_run.specs.ClientStates.{ReelContent, source_content, trace_content}
+use Rattle.day_run.specs.Days.{IsDay, Link, link_of}
+use Rattle.day_run.specs.Readings.{Name, name_of, names_of}
+use Rattle.day_run.specs.Reels.{no_identity}
+use Rattle.day_run.specs.Scripts.{AreLines}
+use Rattle.day_run.specs.declared.reels.Source.{Source}
+use Rattle.day_run.specs.declared.reels.Source.TheVariants.{Film, Trace}
+use Rattle.day_run.specs.declared.scripts.Line.{Line}
+use Rattle.day_run.specs.declared.scripts.Named.{Named}
+use Rattle.day_run.specs.declared.scripts.Script.{Script}
+use Rattle.day_run.proofs.OneDay.{one-day}
+use Rattle.local_commands.specs.Days.{AreHeldAs, HoldsScript, IsHeldUnder}
+use Rattle.local_commands.proofs.DayLemmas.{first_of, lines_once, names_once, same_name}
+use Rattle.local_commands.proofs.OneAnswer.{trace_once}
+use Rattle.vodserve.specs.Laws.{HasOneDay, IsScriptDay, RunsItsDay}
+
+-- a film as it is played: what is said of it, and what its bytes say
+abbrev content_as : List ℕ → ℕ → List PictureUnit → List ℕ → ReelContent
+content_as video rate units slices = record {
+  sizes = map (λ u. wire_size slices u) units;
+  pieces = run_pieces (record {
+    film = video;
+    rate = rate;
+    slice_starts = slices;
+    units = take (length units - 0) (drop 0 units);
+    identity = no_identity;
+  });
+  picture_units = picture_time rate;
+}
+
+abbrev content_in : List ℕ → ReelContent
+content_in video =
+    content_as video (rate_of (codes_of (read [] video))) (units_in (told_of video)) (slices_in (told_of video))
+
+content_is : (slot : ℕ) (stored : Stored) → source_content slot (Film stored) ≡ content_in stored.film.bytes.items
+content_is slot stored =
+    let video : List ℕ = stored.film.bytes.items in
+    let slices : List ℕ = stored.film.slice_starts.items in
+    let is : IsFilm video stored.film.rate stored.film.units.items slices = stored.film.grammar in
+    ap (λ (r : ℕ). content_as video r stored.film.units.items slices) is.rate
+    ∙ ap (λ (us : List PictureUnit). content_as video (rate_of (codes_of (read [] video))) us slices) is.units
+    ∙ ap (λ (ss : List ℕ). content_as video (rate_of (codes_of (read [] video))) (units_in (told_of video)) ss) is.slices
+
+-- what is held under a name is played in one way
+content_once : (held : List File) (film : Bool) (name : List ℕ) (slot : ℕ) (a b : Source) →
+    IsHeldUnder film held name a → IsHeldUnder film held name b → source_content slot a ≡ source_content slot b
+content_once held film name slot (Film a) (Film b) p q =
+    content_is slot a
+    ∙ ap content_in (held_once held name a.film.bytes.items b.film.bytes.items p.1 q.1)
+    ∙ sym (content_is slot b)
+content_once held film name slot (Film a) (Trace b) p q = absurd (true≢false (sym p.0 ∙ q.0))
+content_once held film name slot (Trace a) (Film b) p q = absurd (true≢false (sym q.0 ∙ p.0))
+content_once held film name slot (Trace a) (Trace b) p q =
+    ap (trace_content slot) (trace_once held name a.items b.items p.1 q.1)
+
+contents_same : (slot : ℕ) (xs ys : List Source) → length xs ≡ length ys →
+    ((k : ℕ) (none : Source) → k < length xs →
+    source_content slot (get_or xs k none) ≡ source_content slot (get_or ys k none)) →
+    map (source_content slot) xs ≡ map (source_content slot) ys
+contents_same slot [] [] long each = refl
+contents_same slot [] (y ∷ ys) long each = absurd (omega (arith, long))
+contents_same slot (x ∷ xs) [] long each = absurd (omega (arith, long))
+contents_same slot (x ∷ xs) (y ∷ ys) long each =
+    ap (λ (c : ReelContent). c ∷ map (source_content slot) xs) (each zero x (omega arith))
+    ∙ ap (λ (cs : List ReelContent). source_content slot y ∷ cs)
+    (contents_same slot xs ys (omega (arith, long)) (λ k none inside. each (suc k) none (omega (arith, inside))))
+
+-- the films and traces of a script are played in one way
+reels_once : {held : List File} {name : List ℕ} {a b : Script} {sources others : List Source} (slot : ℕ) →
+    HoldsScript held name a → HoldsScript held name b → AreHeldAs held a.named.items sources →
+    AreHeldAs held b.named.items others →
+    map (source_content slot) sources ≡ map (source_content slot) others
+reels_once {held} {name} {a} {b} {sources} {others} slot p q are others_are =
+    let names : names_of a.named.items ≡ names_of b.named.items = names_once held name a b p q in
+    let long : length sources ≡ length others =
+    omega (
+      arith,
+      are.count,
+      others_are.count,
+      length-map a.named.items name_of,
+      length-map b.named.items name_of,
+      ap length names,
+    ) in
+    contents_same slot sources others long
+    (λ k none inside.
+    let one : Named = first_of a.named.items k (omega (arith, inside, are.count)) in
+    let alike : name_of (get_or a.named.items k one) ≡ name_of (get_or b.named.items k one) =
+    sym (get_or-map name_of a.named.items k one)
+    ∙ ap (λ (ns : List Name). get_or ns k (name_of one)) names
+    ∙ get_or-map name_of b.named.items k one in
+    content_once held (get_or b.named.items k one).film (string_bytes (get_or b.named.items k one).name) slot
+    (get_or sources k none) (get_or others k none)
+    (same_name (get_or a.named.items k one) (get_or b.named.items k one) alike held (get_or sources k none)
+    (are.each k one none (omega (arith, inside, are.count))))
+    (others_are.each k one none (omega (arith, inside, long, others_are.count))))
+
+day_once : {held : List File} {run : ScriptRun} {text text' : List ℕ} {journal journal' : List Entry} →
+    IsScriptDay held run text journal → IsScriptDay held run text' journal' → (text ≡ text') × (journal ≡ journal')
+day_once {held} {run} {text'} {journal'} p q =
+    let link : Link = link_of run.capacity run.journal run.slot p.sources in
+    let other : Link = link_of run.capacity run.journal run.slot q.sources in
+    let lines : q.script.lines.items ≡ p.script.lines.items =
+    lines_once held run.script q.script p.script q.read p.read in
+    let links : other ≡ link =
+    ap (λ (rs : List ReelContent). record {
+      steps = run.capacity;
+      limit = run.journal;
+      slot_units = run.slot;
+      reels = rs;
+    }) (reels_once run.slot q.read p.read q.loaded p.loaded) in
+    one-day {link = link} p.link p.clients
+    (subst (λ (n : ℕ). AreLines n p.script.lines.items) (sym (length-map p.sources (source_content run.slot))) p.lines)
+    p.day
+    (subst (λ (l : Link). IsDay l p.script.lines.items text' journal') links
+    (subst (λ (ls : List Line). IsDay other ls text' journal') lines q.day))
+
+pub has_one_day : HasOneDay
+has_one_day held run text text' journal journal' p q = day_once p q
+
+pub runs_its_day : RunsItsDay
+runs_its_day held store out out' err err' run ended ran told = record {
+  script = ran.script;
+  sources = ran.sources;
+  read = ran.read held told;
+  loaded = ran.loaded held told;
+  clients = ran.clients;
+  lines = ran.lines;
+  link = ran.link;
+  day = ran.ran.day;
+}
