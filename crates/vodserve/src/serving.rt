@@ -88,17 +88,13 @@ pub(crate) fn prepare<'a, L: Library, G: Gate>(
         connections: serving.listening.connections,
         slot_units: serving.pace.slot,
     };
-    if gate.open(&opening).is_err() {
-        return Err(Trouble::GateFault);
-    }
-    match make_station(alloc, serving.capacity.as_slice(), serving.journal) {
-        Ok((station, seat)) => Ok(Prepared {
-            films,
-            station,
-            seat,
-        }),
-        Err(NoMemory) => Err(Trouble::NoMemory),
-    }
+    gate.open(&opening)?;
+    let (station, seat) = make_station(alloc, serving.capacity.as_slice(), serving.journal)?;
+    Ok(Prepared {
+        films,
+        station,
+        seat,
+    })
 }
 
 /// Runs the workers over the open gate and closes the station. Where a seat or a part can't be made

@@ -70,12 +70,8 @@ pub(crate) fn make_workers<G: Gate + Drop>(
     ensures since { IfSome (G.told gate.new) (IsNotOpened (G.told gate.old)) }
 {
     for number in 0..count {
-        if workers.reserve(1).is_err() {
-            return Err(Trouble::NoMemory);
-        }
-        let Ok(part) = gate.split() else {
-            return Err(Trouble::GateFault);
-        };
+        workers.reserve(1)?;
+        let part = gate.split()?;
         workers.push_reserved(Worker {
             number,
             seat: station.split(seat),

@@ -20,10 +20,12 @@ returns-in_err-films-clause-trouble g c =
     (outlet (g.G.Gate.faults c.args.gate.now) (g.G.Gate.told c.args.gate.now)) c.in_err-films.field-0.0
     ((c.in_err-films.ensures {u = tt}).trouble))
 
-pub returns-then-is_err-clause-trouble : goal.returns-then-is_err-clause-trouble
-returns-then-is_err-clause-trouble g c =
-    let lost : g.G.Gate.told c.open.new.self ≡ option_map (after_open None) (g.G.Gate.told c.args.gate.now) = search rules in (
-      search rules,
+pub returns-in_err-open-clause-trouble : goal.returns-in_err-open-clause-trouble
+returns-in_err-open-clause-trouble g c =
+    let lost : g.G.Gate.told c.open.new.self ≡ option_map (after_open None) (g.G.Gate.told c.args.gate.now) =
+    (c.in_err-open.ensures {u = tt}).lost in
+    handed_on _ c.from_residual-in_err-open.result c.from_residual-in_err-open.ensures.1 (
+      (c.in_err-open.ensures {u = tt}).fault,
       only_opened c.in_ok-films.films.items ((c.in_ok-films.ensures {u = tt}).loaded)
           (opened_once None (g.G.Gate.told c.args.gate.now) (g.G.Gate.told c.open.new.self) lost)
           (opened_few c.args.serving.now.listening.workers None (g.G.Gate.told c.args.gate.now)
@@ -31,13 +33,14 @@ returns-then-is_err-clause-trouble g c =
           c.requires.listening.some_workers),
     )
 
-pub returns-in-Err-clause-trouble : goal.returns-in-Err-clause-trouble
-returns-in-Err-clause-trouble g c =
+pub returns-in_err-station-clause-trouble : goal.returns-in_err-station-clause-trouble
+returns-in_err-station-clause-trouble g c =
     let opens : g.G.Gate.told c.open.new.self
     ≡ option_map (after_open (Some (opening_of (serving_of c.args.serving.now))))
-    (g.G.Gate.told c.args.gate.now) = search rules in
-    inr (only_opened c.in_ok-films.films.items ((c.in_ok-films.ensures {u = tt}).loaded)
+    (g.G.Gate.told c.args.gate.now) = (c.in_ok-open.ensures {u = tt}).open in
+    handed_on _ c.from_residual-in_err-station.result c.from_residual-in_err-station.ensures.1
+    (inr (only_opened c.in_ok-films.films.items ((c.in_ok-films.ensures {u = tt}).loaded)
     (opened_once (Some (opening_of (serving_of c.args.serving.now))) (g.G.Gate.told c.args.gate.now)
     (g.G.Gate.told c.open.new.self) opens) (opened_few c.args.serving.now.listening.workers
     (Some (opening_of (serving_of c.args.serving.now))) (g.G.Gate.told c.args.gate.now) (g.G.Gate.told c.open.new.self) opens
-    c.requires.listening.some_workers))
+    c.requires.listening.some_workers)))

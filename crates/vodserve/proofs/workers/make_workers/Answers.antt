@@ -4,7 +4,8 @@ use Rattle.station.specs.Seats.{Sitting, after_split}
 use Rattle.conn.specs.declared.reports.PartEnd.TheVariants.{AllTaken}
 use Rattle.vodserve.specs.Workers.{AreWorkers, IsFresh, IsWorker}
 use Rattle.vodserve.specs.declared.workers.Worker.{Worker}
-use Rattle.vodserve.proofs.WorkerLemmas.{all_push, workers_push}
+use Rattle.std.proofs.lemmas.List.Elements.{All-push}
+use Rattle.vodserve.proofs.WorkerLemmas.{workers_push}
 use Rattle.vodserve.proofs.GateLemmas.{new_untouched, not_opened_split, told_out_more, split_open, split_still_open, new_number}
 use Rattle.vodserve.proofs.workers.make_workers.Goals as goal
 
@@ -13,7 +14,7 @@ loop-number-preserved g c =
     let worker : Worker _ = record {
       number = c.loop-number.number;
       seat = c.split-in-loop-number.result;
-      part = c.in-Ok.part;
+      part = c.in_ok-part.part;
       report = record { end = AllTaken; reports = c.new.result };
     } in
     let items : c.push_reserved.new.self.items ≡ c.loop-number.workers.items ++ worker ∷ [] =
@@ -28,15 +29,15 @@ loop-number-preserved g c =
       seat = ap (λ (s : Sitting). s.number) c.split-in-loop-number.ensures.new
           ∙ ap (λ (s : Sitting). s.splits + 1) c.loop-number.invariant.seat;
       joined = ap (λ (s : Sitting). s.joined) c.split-in-loop-number.ensures.new;
-      part = new_number c.loop-number.number (g.G.Gate.told c.loop-number.gate) (g.G.Gate.told c.in-Ok.part)
+      part = new_number c.loop-number.number (g.G.Gate.told c.loop-number.gate) (g.G.Gate.told c.in_ok-part.part)
           c.loop-number.invariant.parts
-          (((c.in-Ok.ensures {u = tt}).part).0);
+          (((c.in_ok-part.ensures {u = tt}).part).0);
       fault = λ e. cc;
     } in
     let fresh : IsFresh g.G.Gate.told g.G.Gate.faults worker = record {
       mine = ap (λ (s : Sitting). s.mine) c.split-in-loop-number.ensures.new;
-      part = new_untouched (g.G.Gate.told c.loop-number.gate) (g.G.Gate.told c.in-Ok.part) (((c.in-Ok.ensures {u = tt}).part).0);
-      count = ((c.in-Ok.ensures {u = tt}).part).1;
+      part = new_untouched (g.G.Gate.told c.loop-number.gate) (g.G.Gate.told c.in_ok-part.part) (((c.in_ok-part.ensures {u = tt}).part).0);
+      count = ((c.in_ok-part.ensures {u = tt}).part).1;
     } in
     record {
       made = omega (
@@ -50,18 +51,18 @@ loop-number-preserved g c =
           (workers_push 0 c.loop-number.workers.items c.loop-number.invariant.workers
           (omega (arith, c.loop-number.invariant.made)) is);
       fresh = subst (All (IsFresh g.G.Gate.told g.G.Gate.faults)) (sym items)
-          (all_push (IsFresh g.G.Gate.told g.G.Gate.faults) c.loop-number.workers.items worker
+          (All-push (IsFresh g.G.Gate.told g.G.Gate.faults) c.loop-number.workers.items worker
           c.loop-number.invariant.fresh fresh);
       opened = split_open (g.G.Gate.told c.loop-number.gate) (g.G.Gate.told c.split.new.self)
-          c.loop-number.invariant.opened ((c.in-Ok.ensures {u = tt}).split);
+          c.loop-number.invariant.opened ((c.in_ok-part.ensures {u = tt}).split);
       kept = λ opening is.
           split_still_open opening (g.G.Gate.told c.loop-number.gate) (g.G.Gate.told c.split.new.self)
-          (c.loop-number.invariant.kept opening is) ((c.in-Ok.ensures {u = tt}).split);
+          (c.loop-number.invariant.kept opening is) ((c.in_ok-part.ensures {u = tt}).split);
       since = not_opened_split (g.G.Gate.told c.args.gate.now) (g.G.Gate.told c.loop-number.gate)
           (g.G.Gate.told c.split.new.self) c.loop-number.invariant.since
-          ((c.in-Ok.ensures {u = tt}).split);
+          ((c.in_ok-part.ensures {u = tt}).split);
       parts = told_out_more c.loop-number.number (g.G.Gate.told c.loop-number.gate)
           (g.G.Gate.told c.split.new.self) c.loop-number.invariant.parts
-          ((c.in-Ok.ensures {u = tt}).split);
+          ((c.in_ok-part.ensures {u = tt}).split);
       count = omega (arith, c.split.ensures.count, c.loop-number.invariant.count);
     }
