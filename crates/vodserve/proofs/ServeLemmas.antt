@@ -4,11 +4,10 @@ use Rattle.std.specs.Prelude.{All, IfSome, codes, map, nat_le, slice_index_or}
 use Rattle.std.specs.List.{Contains, list_all, list_any}
 use Rattle.std.specs.Option.{option_to_list}
 use Rattle.std.specs.Str.{bytes_eq}
+use Rattle.std.proofs.Math.ListN.{get_or-map}
 use Rattle.std.proofs.Math.Seq.{drop-cons, get_or-append_seam}
-use Rattle.std.proofs.lemmas.Bool.{and_parts, eq-eqb, leb-true, not-true, true≢false}
 use Rattle.std.proofs.lemmas.List.{length-map}
 use Rattle.std.proofs.lemmas.List.Elements.{All-cons, All-map, All-nil}
-use Rattle.std.proofs.lemmas.List.Folds.{list_any_at}
 use Rattle.vod_base.specs.Names.{is_good_name}
 use Rattle.film_frames.specs.declared.stores.Stored.{Stored}
 use Rattle.session.specs.Ranges.{AreFilms, names_of}
@@ -19,7 +18,9 @@ use Rattle.conn.specs.declared.reports.PartReport.{PartReport}
 use Rattle.conn.specs.declared.reports.PartEnd.{PartEnd}
 use Rattle.conn.specs.declared.reports.PartEnd.TheVariants.{GateFault as PartFault}
 use Rattle.command_words.specs.Settings.{setting_value, texts, values_of}
-use Rattle.command_words.specs.Words.{are_distinct, are_films, are_names}
+use Rattle.command_words.specs.Spelling.{MayBeFilms}
+use Rattle.command_words.specs.Words.{are_films}
+use Rattle.command_words.proofs.FilmLemmas.{films_asked}
 use Rattle.vod_base.specs.Outside.{File, HasRisen}
 use Rattle.inputs.specs.Scans.{HoldsVideo}
 use Rattle.vod_base.specs.Gates.{Content}
@@ -111,43 +112,18 @@ first_refused {told} {held} {name} {words} word_at films whole named all refused
   refused = refused_held.refused;
 }
 
-bytes_same : (x : List ℕ) → bytes_eq x x ≡ true
-bytes_same [] = refl
-bytes_same (b ∷ x) = rw (eq-eqb b b refl) (bytes_same x)
-
-all_good : (films : List Stored) → list_all is_good_name (names_of films) ≡ true
-    → All (λ film. is_good_name (string_bytes film.name) ≡ true) films
-all_good [] is = All-nil (λ (film : Stored). is_good_name (string_bytes film.name) ≡ true)
-all_good (film ∷ films) is =
-    let parts = and_parts (is_good_name (string_bytes film.name)) (list_all is_good_name (names_of films)) is in
-    All-cons (λ (f : Stored). is_good_name (string_bytes f.name) ≡ true) film films parts.0 (all_good films parts.1)
-
-apart : (names : List (List ℕ)) → are_distinct names ≡ true → (i j : ℕ) → i < j → j < length names
-    → slice_index_or names i [] ≢ slice_index_or names j []
-apart [] is i j before inside = absurd (omega (arith, inside))
-apart (name ∷ names) is i zero before inside = absurd (omega (arith, before))
-apart (name ∷ names) is zero (suc j) before inside =
-    let parts = and_parts (not (list_any (bytes_eq name) names)) (are_distinct names) is in
-    λ same. true≢false
-    (sym (list_any_at (bytes_eq name) names j [] (omega (arith, inside)) (ap (bytes_eq name) (sym same) ∙ bytes_same name))
-    ∙ not-true (list_any (bytes_eq name) names) parts.0)
-apart (name ∷ names) is (suc i) (suc j) before inside =
-    let parts = and_parts (not (list_any (bytes_eq name) names)) (are_distinct names) is in
-    apart names parts.1 i j (omega (arith, before)) (omega (arith, inside))
-
 -- films of names that may be served
 pub films_are : (films : List Stored) (names : List (List ℕ)) → are_films names ≡ true → names ≡ names_of films → AreFilms films
 films_are films names is named =
-    let same : are_films (names_of films) ≡ true = subst (λ (ns : List (List ℕ)). are_films ns ≡ true) named is in
-    let parts = and_parts (nat_le 1 (length (names_of films)))
-    (nat_le (length (names_of films)) 64 && are_names (names_of films)) same in
-    let rest = and_parts (nat_le (length (names_of films)) 64) (are_names (names_of films)) parts.1 in
-    let each = and_parts (list_all is_good_name (names_of films)) (are_distinct (names_of films)) rest.1 in
+    let may : MayBeFilms (names_of films) =
+    films_asked (names_of films) (subst (λ (ns : List (List ℕ)). are_films ns ≡ true) named is) in
     let long : length (names_of films) ≡ length films = length-map films (λ (film : Stored). string_bytes film.name) in
     record {
-      few = omega (arith, leb-true (length (names_of films)) 64 rest.0, long);
-      good = all_good films each.0;
-      differ = λ i j before inside. apart (names_of films) each.1 i j before (omega (arith, inside, long));
+      few = omega (arith, may.few, long);
+      good = λ i d inside. subst (λ (n : List ℕ). is_good_name n ≡ true)
+          (get_or-map (λ (film : Stored). string_bytes film.name) films i d)
+          (may.good i (string_bytes d.name) (omega (arith, inside, long)));
+      differ = λ i j before inside. may.apart i j before (omega (arith, inside, long));
     }
 
 -- a film that the library holds under its name, and that may be served

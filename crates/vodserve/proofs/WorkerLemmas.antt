@@ -7,7 +7,7 @@ use Rattle.std.proofs.Math.ListN.{length-set, get_or-append}
 use Rattle.std.proofs.Math.Seq.{get_or-append_seam}
 use Rattle.std.proofs.lemmas.Bool.{cases_lt}
 use Rattle.std.proofs.lemmas.List.{append-nil, append_assoc, get_or-set_other, get_or-set_same, map-append}
-use Rattle.std.proofs.lemmas.List.Elements.{All-append, All-cons, All-head, All-nil, All-tail}
+use Rattle.std.proofs.lemmas.List.Elements.{All-append, All-cons, All-head, All-nil, All-push, All-tail}
 use Rattle.vod_base.specs.Outside.{HasRisen}
 use Rattle.vod_base.specs.Gates.{Content, Part, after_rejoin, split_off, told_rejoined}
 use Rattle.film_frames.specs.declared.stores.Stored.{Stored}
@@ -141,10 +141,6 @@ pub record PartOut (from count : ℕ) (part gate : Option Content) : Type 0 wher
   pub number : IfSome part (λ content. content.own.number ≡ from)
   pub out : IfSome gate (AreOut from count)
 
--- one more of which something holds
-pub all_push : {A : Type 0} (P : A → Type 0) (items : List A) (item : A) → All P items → P item → All P (items ++ item ∷ [])
-all_push P items item all is = All-append P items (item ∷ []) all (All-cons P item [] is (All-nil P))
-
 -- a part that came back is in the gate, and those from before are too
 kept_one : (k : ℕ) (told part gate : Option Content) → IfSome gate (HasBack k told)
     → IfSome part (λ p. k < p.own.number) → IfSome (told_rejoined part gate) (HasBack k told)
@@ -236,7 +232,7 @@ join_one {told} {count} {workers} {worker} {seat} {seat'} {gate} so_far is numbe
           ∙ ap (λ (js : List Joined). seat.joined ++ joined_of worker ∷ js) is.joined
           ∙ ap (λ (js : List Joined). js ++ joined_of worker ∷ []) so_far.joined
           ∙ sym (map-append joined_of workers (worker ∷ []));
-      seen = all_push (λ (w : Worker _). IsPrefix w.seat.seen seat'.seen) workers worker
+      seen = All-push (λ (w : Worker _). IsPrefix w.seat.seen seat'.seen) workers worker
           (λ i d within. prefix_trans (slice_index_or workers i d).seat.seen seat.seen seat'.seen
           (so_far.seen i d within) longer) seen;
       out = subst (λ (c : Option Content). IfSome c (AreOut (length (workers ++ worker ∷ [])) count)) (sym rejoins)
@@ -301,11 +297,11 @@ found_more parts part end found none = by part.end refl
   where
     by : (is : PartEnd) → part.end ≡ is → (end ≡ NoMemory) ⊎ All (λ (p : PartReport). p.end ≢ NoMemory) (parts ++ part ∷ [])
     by NoMemory is = inl (none is)
-    by AllTaken is = inr (all_push (λ (p : PartReport). p.end ≢ NoMemory) parts part found (λ e. other (sym is ∙ e)))
+    by AllTaken is = inr (All-push (λ (p : PartReport). p.end ≢ NoMemory) parts part found (λ e. other (sym is ∙ e)))
       where
         other : AllTaken ≡ NoMemory → ⊥
         other e = cc
-    by PartFault is = inr (all_push (λ (p : PartReport). p.end ≢ NoMemory) parts part found (λ e. other (sym is ∙ e)))
+    by PartFault is = inr (All-push (λ (p : PartReport). p.end ≢ NoMemory) parts part found (λ e. other (sym is ∙ e)))
       where
         other : PartFault ≡ NoMemory → ⊥
         other e = cc
@@ -314,7 +310,7 @@ pub left_more : {parts : List PartReport} {end end' : PartEnd} {reports : List C
     AreLeft parts end reports → IsWorse end part.end end' →
     AreLeft (parts ++ part ∷ []) end' (reports ++ part.reports.items)
 left_more {parts} {end} {end'} part left worse = record {
-  taken = λ e. all_push (λ (p : PartReport). p.end ≡ AllTaken) parts part (left.taken (worse.taken e).0) (worse.taken e).1;
+  taken = λ e. All-push (λ (p : PartReport). p.end ≡ AllTaken) parts part (left.taken (worse.taken e).0) (worse.taken e).1;
   failed = λ e. elim (worse.fault e) [
     | inl one ↦ one_before PartFault parts part (left.failed one)
     | inr other ↦ one_last PartFault parts part other

@@ -3,7 +3,7 @@ use Rattle.std.specs.Prelude.{All}
 use Rattle.film_frames.specs.declared.stores.Stored.{Stored}
 use Rattle.vodserve.specs.Worked.{IsHeld}
 use Rattle.vodserve.proofs.ServeLemmas.{held_film}
-use Rattle.vodserve.proofs.WorkerLemmas.{all_push}
+use Rattle.std.proofs.lemmas.List.Elements.{All-push}
 use Rattle.vodserve.proofs.serving.add_film.Goals as goal
 
 pub returns-clause-held : goal.returns-clause-held
@@ -14,4 +14,4 @@ returns-clause-held g c =
     (λ held told. (c.in_ok-film.ensures {u = tt}).film held told)
     (λ held told. (c.in_ok-film.ensures {u = tt}).small held told) in
     λ all. subst (All Held) (sym ((c.in_ok-push.ensures {u = tt}).items))
-    (all_push Held c.args.films.now.items c.in_ok-film.film all film)
+    (All-push Held c.args.films.now.items c.in_ok-film.film all film)

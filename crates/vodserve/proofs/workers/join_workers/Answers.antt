@@ -2,14 +2,14 @@ use Rattle.std.proofs.Common.{◌≡◌, ◌+◌, ◌∙◌, ◌<◌, ◌++◌, 
 use Rattle.std.specs.Prelude.{All, map}
 use Rattle.std.specs.List.{remove}
 use Rattle.std.proofs.lemmas.List.{append-nil, map-append}
-use Rattle.std.proofs.lemmas.List.Elements.{All-nil}
+use Rattle.std.proofs.lemmas.List.Elements.{All-nil, All-push}
 use Rattle.vod_base.specs.Outside.{HasRisen}
 use Rattle.station.specs.Seats.{Sitting}
 use Rattle.conn.specs.declared.reports.PartReport.{PartReport}
 use Rattle.vodserve.specs.Worked.{AreLeft}
 use Rattle.vodserve.specs.Workers.{AreJoined, AreWorkers, IsWorker, report_of}
 use Rattle.vodserve.specs.declared.workers.Worker.{Worker}
-use Rattle.vodserve.proofs.WorkerLemmas.{all_push, first_worker, join_one, rest_workers}
+use Rattle.vodserve.proofs.WorkerLemmas.{first_worker, join_one, rest_workers}
 use Rattle.vodserve.proofs.GateLemmas.{first_split, not_opened_back, not_opened_here, one_done, risen_on, risen_since, back_still_open}
 use Rattle.vodserve.proofs.workers.join_workers.Goals as goal
 
@@ -83,7 +83,7 @@ loop-workers-preserved g c =
             (g.G.Gate.told c.loop-workers.gate) (g.G.Gate.told c.rejoin.new.self) inv.since
             c.rejoin.ensures.joined;
         count = omega (arith, c.rejoin.ensures.count, inv.count);
-        counted = all_push
+        counted = All-push
             (λ (w : Worker _). 0 < g.G.Gate.faults w.part
             → HasRisen (g.G.Gate.faults c.args.gate.now) (g.G.Gate.faults c.rejoin.new.self)) done worker
             (λ i d h some. risen_on (g.G.Gate.faults c.args.gate.now) (g.G.Gate.faults c.loop-workers.gate)
