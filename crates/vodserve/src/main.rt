@@ -30,14 +30,19 @@ mod watch_tests;
 mod watches;
 mod workers;
 
-use crate::run::run;
+use crate::run::{end_with, run};
+use command_words::{Command, command_named};
 use net_edge::{DialGate, FileLibrary, OutSink, TcpGate};
 use std::alloc::AllocError;
 use std::env;
 use std::io::ErrorKind;
 use std::process::ExitCode;
 use std::random::RandomSource;
-use std::rt::Env;
+use std::rt::{Env, Files};
+use std::sync::Wait;
+use std::thread::Threads;
+use troubles::Trouble;
+use vod_base::{Gate, Sink};
 
 /// The words after the program's name. One that isn't UTF-8 leaves none, which mean nothing.
 fn program_words(rt: &(impl Env + AllocGlobal)) -> Result<Vec<String>, AllocError> {
@@ -50,47 +55,44 @@ fn program_words(rt: &(impl Env + AllocGlobal)) -> Result<Vec<String>, AllocErro
 
 /// Whether a client is asked for, which makes a connection where a server waits for them.
 fn is_watch(words: &[String]) -> bool {
-    words.first().is_some_and(|word| word.as_str() == "watch")
+    words.first().is_some_and(|word| command_named(word.as_str()) == Some(Command::Watch))
 }
 
-/// Carries out the words of the command line, over a gate of the kind that they ask for.
+/// Carries out the words over the files of the current folder and a gate; answers the exit status.
+fn status_over<R, O: Sink, E: Sink, G: Gate + Send + Drop>(
+    rt: &R,
+    words: &[String],
+    out: &mut O,
+    err: &mut E,
+    gate: &mut G,
+    seed: [u8; 32],
+) -> u8
+where
+    R: Files + AllocGlobal + Threads + Wait + Sync,
+    G::Conn: Send,
+{
+    let mut library = FileLibrary::new(rt, rt.alloc());
+    run(rt, rt.alloc(), words, &mut library, out, err, gate, seed).status
+}
+
+/// Carries out the words of the command line, over a gate of the kind that they ask for. The gate
+/// fails where there are no random bytes, from which the identities of connections are drawn.
 fn main(rt: HostRuntime) -> ExitCode {
+    let mut out = OutSink::new(rt.stdout());
+    let mut err = OutSink::new(rt.stderr());
     let Ok(words) = program_words(&rt) else {
-        return ExitCode::from(6);
+        return ExitCode::from(end_with(rt.alloc(), &mut err, Trouble::NoMemory).status);
     };
     let mut seed = [0; 32];
     if rt.fill_bytes(&mut seed).is_err() {
-        return ExitCode::from(6);
+        return ExitCode::from(end_with(rt.alloc(), &mut err, Trouble::GateFault).status);
     }
-    let mut library = FileLibrary::new(&rt, rt.alloc());
-    let mut out = OutSink::new(rt.stdout());
-    let mut err = OutSink::new(rt.stderr());
     let status = if is_watch(&words) {
         let mut gate = DialGate::new(&rt, rt.alloc());
-        run(
-            &rt,
-            rt.alloc(),
-            &words,
-            &mut library,
-            &mut out,
-            &mut err,
-            &mut gate,
-            seed,
-        )
-        .status
+        status_over(&rt, &words, &mut out, &mut err, &mut gate, seed)
     } else {
         let mut gate = TcpGate::new(&rt, rt.alloc());
-        run(
-            &rt,
-            rt.alloc(),
-            &words,
-            &mut library,
-            &mut out,
-            &mut err,
-            &mut gate,
-            seed,
-        )
-        .status
+        status_over(&rt, &words, &mut out, &mut err, &mut gate, seed)
     };
     ExitCode::from(status)
 }
