@@ -235,11 +235,12 @@ pub fn law_serves_each()
 /// Carries out the words of the command line, which come without the program's name.
 ///
 /// Each command's text goes to `out` when all of it is known, and a trouble's line to `err`. With
-/// the statuses 2, 3 and 4 nothing is written to `out`, with 5 a front of the text. But `watch`
-/// writes the film's bytes to `out` as they come, so that those which came before a trouble stand
-/// there, with the statuses 3, 6 and 8 too; at the film's end it says one line on `err`. A fault of
-/// `err` changes no status. `serve` takes its connections from `gate`, and draws their identities
-/// from `seed`; `watch` makes its one connection by `gate`.
+/// the statuses 2, 3 and 4 nothing is written to `out`, with 5 a front of the text. With 6 and 7
+/// nothing is written either, unless `serve` ran its workers: then with 6 a front of its text, and
+/// with 7 all of it. But `watch` writes the film's bytes to `out` as they come, so that those which
+/// came before a trouble stand there, with the statuses 3, 6 and 8 too; at the film's end it says
+/// one line on `err`. A fault of `err` changes no status. `serve` takes its connections from
+/// `gate`, and draws their identities from `seed`; `watch` makes its one connection by `gate`.
 pub fn run<R: Threads + Wait + Sync, L: Library, O: Sink, E: Sink, G: Gate + Send + Drop>(
     rt: &R,
     alloc: Global,
