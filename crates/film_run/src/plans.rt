@@ -13,6 +13,7 @@ use crate::units::Units;
 use plan_cert::Plan;
 use std::alloc::{AllocError, Global};
 use taut_plan::plan;
+use vod_base::NoMemory;
 use wire_curve::{CurveRefused, Timing, film_curves};
 
 /// How a client plays: when it uses pictures, and what it can hold.
@@ -62,7 +63,10 @@ pub fn plan_of<U: Units>(
     let _count = units.count();
     let sizes = rest_sizes(alloc, units, run)?;
     let curves = film_curves(alloc, &sizes, &timing_of(playback, run))?;
-    Ok(plan(alloc, &curves)?)
+    match plan(alloc, &curves) {
+        Ok(plan) => Ok(plan),
+        Err(NoMemory) => Err(CurveRefused::NoMemory),
+    }
 }
 
 /// When the pictures of a run's play are used, and what was sent and played before.

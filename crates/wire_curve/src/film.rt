@@ -13,7 +13,6 @@ ghost use Rattle.wire_curve.specs.Refusal.{IsAccepted, IsOverfull, HasFault, IsR
 use crate::curves::Curves;
 use std::alloc::{AllocError, Global};
 use thiserror::Error;
-use vod_base::NoMemory;
 
 /// The most slots that a plan may have.
 const MAX_SLOTS: u64 = 1_000_000;
@@ -78,16 +77,6 @@ pub enum CurveRefused {
     /// Want of memory.
     #[error("out of memory")]
     NoMemory,
-}
-
-impl From<NoMemory> for CurveRefused {
-    ghost use Rattle.wire_curve.specs.declared.film.CurveRefused.TheVariants.{NoMemory as WantsMemory};
-
-    ghost from_gives = { λ _ refusal. refusal ≡ WantsMemory };
-
-    fn from(_want: NoMemory) -> Self {
-        CurveRefused::NoMemory
-    }
 }
 
 impl From<AllocError> for CurveRefused {

@@ -11,32 +11,32 @@ film_curves-requires g c =
     limits-both (c.deref.ensures.value ∙ c.in_ok-sizes.ensures) c.timing_of.ensures
     (limits c.requires.playback c.requires.run c.requires.fits c.count-count.ensures.few c.count-count.ensures.small)
 
-pub returns-clause-plan : goal.returns-clause-plan
-returns-clause-plan g c =
+pub returns-in-Ok-clause-plan : goal.returns-in-Ok-clause-plan
+returns-in-Ok-clause-plan g c =
     let sizes = g.U.Units.sizes c.args.units.now in
     let playback = c.args.playback.now in
     let run = c.args.run.now in
     taut-for-both
     (c.deref.ensures.value ∙ c.in_ok-sizes.ensures) c.timing_of.ensures
-    c.in_ok-curves.ensures.accepted c.in_ok-curves.ensures.curves c.in_ok-plan.ensures.taut
+    c.in_ok-curves.ensures.accepted c.in_ok-curves.ensures.curves c.in-Ok.ensures.taut
 
-pub returns-clause-bytes : goal.returns-clause-bytes
-returns-clause-bytes g c =
+pub returns-in-Ok-clause-bytes : goal.returns-in-Ok-clause-bytes
+returns-in-Ok-clause-bytes g c =
     let sizes = g.U.Units.sizes c.args.units.now in
     let playback = c.args.playback.now in
     let run = c.args.run.now in
     let within =
     limits c.requires.playback c.requires.run c.requires.fits c.count-count.ensures.few c.count-count.ensures.small in
-    let is : IsPlanOf sizes playback run c.in_ok-plan.field-0 = returns-clause-plan g c in
-    (keeps-to (rest_sizes sizes run) (timing_of playback run) c.in_ok-plan.field-0 within is).bytes
+    let is : IsPlanOf sizes playback run c.in-Ok.plan = returns-in-Ok-clause-plan g c in
+    (keeps-to (rest_sizes sizes run) (timing_of playback run) c.in-Ok.plan within is).bytes
     ∙ total-of-rest sizes playback run c.requires.run
 
-pub returns-clause-best : goal.returns-clause-best
-returns-clause-best g c =
+pub returns-in-Ok-clause-best : goal.returns-in-Ok-clause-best
+returns-in-Ok-clause-best g c =
     let sizes = g.U.Units.sizes c.args.units.now in
     let playback = c.args.playback.now in
     let run = c.args.run.now in
     let within =
     limits c.requires.playback c.requires.run c.requires.fits c.count-count.ensures.few c.count-count.ensures.small in
-    let is : IsPlanOf sizes playback run c.in_ok-plan.field-0 = returns-clause-plan g c in
-    best-of (rest_sizes sizes run) (timing_of playback run) c.in_ok-plan.field-0 within is
+    let is : IsPlanOf sizes playback run c.in-Ok.plan = returns-in-Ok-clause-plan g c in
+    best-of (rest_sizes sizes run) (timing_of playback run) c.in-Ok.plan within is
