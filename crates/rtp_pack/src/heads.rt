@@ -7,8 +7,7 @@ use crate::payloads::Packet;
 use crate::reports::Identity;
 use byteorder::{BigEndian, ByteOrder};
 use mpeg_scan::Unit;
-use std::error::Error;
-use std::fmt;
+use thiserror::Error;
 
 /// What the RTP header and the video header of a packet say (RFC 3550 section 5.1, RFC 2250 section
 /// 3.4).
@@ -27,27 +26,18 @@ pub struct Head {
 }
 
 /// Why bytes don't begin with the head of a packet of MPEG video.
-#[derive(Clone, Copy, Debug, PartialEq, Eq)]
+#[derive(Clone, Copy, Debug, PartialEq, Eq, Error)]
 pub enum HeadFault {
     /// There are fewer than 16 bytes.
+    #[error("the packet is shorter than its headers")]
     Short,
     /// The first byte isn't that of RTP, version 2, without padding, extension or sources.
+    #[error("the packet isn't of RTP version 2")]
     NotRtp,
     /// The payload type isn't 32.
+    #[error("the packet isn't MPEG video")]
     NotVideo,
 }
-
-impl fmt::Display for HeadFault {
-    fn fmt<W: fmt::Write>(&self, f: &mut fmt::Formatter<W>) -> fmt::Result {
-        f.write_str(match self {
-            HeadFault::Short => "the packet is shorter than its headers",
-            HeadFault::NotRtp => "the packet isn't of RTP version 2",
-            HeadFault::NotVideo => "the packet isn't MPEG video",
-        })
-    }
-}
-
-impl Error for HeadFault {}
 
 /// The bytes of a head.
 const HEAD: usize = 16;

@@ -9,7 +9,7 @@ use crate::{
     law_last_marked, law_one_cutting, law_unit_laid, media_timestamp, packet_head, packets,
     read_head, refill_packets, unit_report, video_header, write_head, write_report,
 };
-use mpeg_scan::{Film, Kind, ScanRefused, Unit, scan};
+use mpeg_scan::{Film, Kind, Unit, scan};
 use std::alloc::Global;
 use std::process::Abort;
 use std::test::Fail;
@@ -40,19 +40,11 @@ const IDENTITY: Identity = Identity {
     octets: 0,
 };
 
-fn scanned(alloc: Global, bytes: Vec<u8>) -> Result<Film, Fail> {
-    match scan(alloc, bytes) {
-        Ok(film) => Ok(film),
-        Err(ScanRefused::NoMemory) => Err(Fail::from("no memory for a film")),
-        Err(_) => Err(Fail::from("refused")),
-    }
-}
-
 fn film_b(alloc: Global) -> Result<Film, Fail> {
     let mut bytes = Vec::from_slice(alloc, &HEAD)?;
     bytes.extend_from_slice(&SLICE)?;
     bytes.extend_from_slice(&UNIT_P)?;
-    scanned(alloc, bytes)
+    Ok(scan(alloc, bytes)?)
 }
 
 /// A film of one unit: the headers of film A, filled up to `head` bytes, and slices of these
@@ -68,7 +60,7 @@ fn film_of(alloc: Global, head: usize, slices: &[usize]) -> Result<Film, Fail> {
             bytes.push(0xff)?;
         }
     }
-    scanned(alloc, bytes)
+    Ok(scan(alloc, bytes)?)
 }
 
 /// A packet, by its place and the letters of what is set: M marker, B begin, E end, S sequence
@@ -361,10 +353,19 @@ fn reports_units(rt: HostRuntime) -> Result<(), Fail> {
     Ok(())
 }
 
+/// The cut points of a unit by the rules, and those of its packets.
 #[test]
-fn laws_run(_rt: HostRuntime) {
-    law_one_cutting(0, 28, &[], &[28], &[28]);
-    law_cutting(0, 28, &[], &[28]);
+fn cuts_by_the_rules(rt: HostRuntime) -> Result<(), Fail> {
+    law_one_cutting(0, 28, &[1353], &[28, 1381], &[28, 1381]);
+    law_cutting(0, 28, &[1353], &[28, 1381]);
+    let film = film_of(rt.alloc(), 28, &[1353])?;
+    assert_eq!(rt; film.units.len(), 1);
+    let mut cuts = Vec::new(rt.alloc());
+    for packet in &packets(rt.alloc(), &film, 0)? {
+        cuts.push(packet.to)?;
+    }
+    assert_eq!(rt; cuts.as_slice(), [28, 1381].as_slice());
+    Ok(())
 }
 
 #[test]
