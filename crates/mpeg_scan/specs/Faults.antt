@@ -14,21 +14,6 @@ use Rattle.mpeg_scan.specs.declared.tallies.Tally.{Tally}
 use Rattle.mpeg_scan.specs.Codes.{codes_of}
 use Rattle.mpeg_scan.specs.Words.{is_head, is_slice, rate_of, rate_code, type_of, tally_of}
 
--- the place that a refusal speaks of
-abbrev pub place_of : FilmFault → Option ℕ
-place_of Empty = None
-place_of NoSequence = None
-place_of (SystemCode place) = Some place
-place_of (Mpeg2 place) = Some place
-place_of (ShortHeader place) = Some place
-place_of (BadRate place code) = Some place
-place_of (BadType place) = Some place
-place_of (PictureWithoutSlices place) = Some place
-place_of (HeadTooLong place) = Some place
-place_of (GroupTooLong place) = Some place
-place_of TooLong = None
-place_of (HeadWithoutPicture place) = Some place
-
 -- the first of two refusals
 abbrev pub first_refusal : Option FilmFault → Option FilmFault → Option FilmFault
 first_refusal None g = g

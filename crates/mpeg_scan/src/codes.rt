@@ -39,20 +39,14 @@ impl Prefix {
     pub fn is_whole(self) -> bool
         ensures { result ≡ is_whole self }
     {
-        match self {
-            Prefix::Whole => true,
-            _ => false,
-        }
+        matches!(self, Prefix::Whole)
     }
 
     /// Whether nothing of the prefix stands there.
     pub fn is_nothing(self) -> bool
         ensures { IsTrue result ↔ self ≡ Prefix.Nothing }
     {
-        match self {
-            Prefix::Nothing => true,
-            _ => false,
-        }
+        matches!(self, Prefix::Nothing)
     }
 }
 

@@ -2,113 +2,67 @@
 ghost use Rattle.std.specs.Prelude.{◌≡◌};
 ghost use Rattle.mpeg_scan.specs.Faults.{header_fault, kind_fault, second_fault, first_slice_fault};
 ghost use Rattle.mpeg_scan.specs.Faults.{count_fault, code_fault, last_fault, picture_fault};
-ghost use Rattle.mpeg_scan.specs.Faults.{place_of, rate_fault};
+ghost use Rattle.mpeg_scan.specs.Faults.{rate_fault};
 
 use crate::codes::Code;
 use crate::tallies::{
     EXTENSION, FIRST_SYSTEM, GROUP, PICTURE, SEQUENCE, Tally, is_head, is_slice, rate_code, type_of,
 };
 use crate::units::{MAX_FILM_PICTURES, MAX_GROUP_PICTURES, MAX_HEAD_BYTES};
-use std::error::Error;
-use std::fmt;
+use thiserror::Error;
 use vod_base::NoMemory;
 
 /// Why a film is refused. Places are those of start codes, in bytes from the film's first.
-#[derive(Clone, Copy, Debug, PartialEq, Eq)]
+#[derive(Clone, Copy, Debug, PartialEq, Eq, Error)]
 pub enum FilmFault {
     /// There is no byte.
+    #[error("the film has no byte")]
     Empty,
     /// The first start code isn't that of a sequence header, or there is none.
+    #[error("no sequence header is first")]
     NoSequence,
     /// A system code.
+    #[error("a system code at byte {0}")]
     SystemCode(u64),
     /// An extension, which MPEG-1 video hasn't.
+    #[error("an extension at byte {0}")]
     Mpeg2(u64),
     /// A header with fewer bytes than its fields have.
+    #[error("a header cut short at byte {0}")]
     ShortHeader(u64),
     /// A picture rate code outside 1 to 8, or another than the film's first.
+    #[error("picture rate code {1} at byte {0}")]
     BadRate(u64, u8),
     /// A picture type outside 1 to 4.
+    #[error("no type of a picture at byte {0}")]
     BadType(u64),
     /// A picture without slices.
+    #[error("no slice of the picture at byte {0}")]
     PictureWithoutSlices(u64),
     /// A unit whose head has more than 1,380 bytes.
+    #[error("a head too long at byte {0}")]
     HeadTooLong(u64),
     /// The 1,025th picture of a group.
+    #[error("too many pictures of a group at byte {0}")]
     GroupTooLong(u64),
     /// More than 2^40 bytes, or the 4,194,305th picture.
+    #[error("the film is too long")]
     TooLong,
     /// A unit whose head has no picture.
+    #[error("a head without a picture at byte {0}")]
     HeadWithoutPicture(u64),
 }
 
-impl FilmFault {
-    /// The place that it speaks of.
-    fn place(&self) -> Option<u64>
-        ensures { result ≡ place_of self.now }
-    {
-        match *self {
-            FilmFault::Empty | FilmFault::NoSequence | FilmFault::TooLong => None,
-            FilmFault::SystemCode(place)
-            | FilmFault::Mpeg2(place)
-            | FilmFault::ShortHeader(place)
-            | FilmFault::BadRate(place, _)
-            | FilmFault::BadType(place)
-            | FilmFault::PictureWithoutSlices(place)
-            | FilmFault::HeadTooLong(place)
-            | FilmFault::GroupTooLong(place)
-            | FilmFault::HeadWithoutPicture(place) => Some(place),
-        }
-    }
-}
-
 /// Why a film isn't scanned.
-#[derive(Clone, Copy, Debug, PartialEq, Eq)]
+#[derive(Clone, Copy, Debug, PartialEq, Eq, Error)]
 pub enum ScanRefused {
     /// The film is refused.
+    #[error("{0}")]
     Fault(FilmFault),
-    /// Memory was wanted.
+    /// Want of memory.
+    #[error("out of memory")]
     NoMemory,
 }
-
-impl fmt::Display for FilmFault {
-    fn fmt<W: fmt::Write>(&self, f: &mut fmt::Formatter<W>) -> fmt::Result {
-        let what = match self {
-            FilmFault::Empty => "the film has no byte",
-            FilmFault::NoSequence => "no sequence header is first",
-            FilmFault::SystemCode(_) => "a system code",
-            FilmFault::Mpeg2(_) => "an extension",
-            FilmFault::ShortHeader(_) => "a header cut short",
-            FilmFault::BadRate(..) => "picture rate code",
-            FilmFault::BadType(_) => "no type of a picture",
-            FilmFault::PictureWithoutSlices(_) => "no slice of the picture",
-            FilmFault::HeadTooLong(_) => "a head too long",
-            FilmFault::GroupTooLong(_) => "too many pictures of a group",
-            FilmFault::TooLong => "the film is too long",
-            FilmFault::HeadWithoutPicture(_) => "a head without a picture",
-        };
-        match (self, self.place()) {
-            (FilmFault::BadRate(_, code), Some(place)) => {
-                write!(f, "{what} {code} at byte {place}")
-            }
-            (_, Some(place)) => write!(f, "{what} at byte {place}"),
-            (_, None) => f.write_str(what),
-        }
-    }
-}
-
-impl Error for FilmFault {}
-
-impl fmt::Display for ScanRefused {
-    fn fmt<W: fmt::Write>(&self, f: &mut fmt::Formatter<W>) -> fmt::Result {
-        match self {
-            ScanRefused::Fault(fault) => fmt::Display::fmt(fault, f),
-            ScanRefused::NoMemory => fmt::Display::fmt(&NoMemory, f),
-        }
-    }
-}
-
-impl Error for ScanRefused {}
 
 impl From<FilmFault> for ScanRefused {
     ghost use Rattle.mpeg_scan.specs.declared.faults.ScanRefused.TheVariants.{Fault};

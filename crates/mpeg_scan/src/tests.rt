@@ -139,27 +139,19 @@ fn picture_of(kind: u8) -> [u8; 8]
 fn units_of_films(rt: HostRuntime) -> Result<(), Fail> {
     let bytes = joined(rt.alloc(), &[&SEQUENCE, &GROUP, &PICTURE_I, &SLICE])?;
     law_start_codes(&bytes);
-    match scan(rt.alloc(), bytes) {
-        Ok(film) => {
-            assert_eq!(rt; film.rate, 3);
-            assert_eq!(rt; film.bytes.len(), 34);
-            assert_eq!(rt; film.units.as_slice(), [UNIT_A].as_slice());
-            assert_eq!(rt; film.slice_starts.as_slice(), [28].as_slice());
-            law_film(&film);
-        }
-        Err(refused) => assert!(rt; false, "{refused:?}"),
-    }
+    let film = scan(rt.alloc(), bytes)?;
+    assert_eq!(rt; film.rate, 3);
+    assert_eq!(rt; film.bytes.len(), 34);
+    assert_eq!(rt; film.units.as_slice(), [UNIT_A].as_slice());
+    assert_eq!(rt; film.slice_starts.as_slice(), [28].as_slice());
+    law_film(&film);
     let bytes = joined(
         rt.alloc(),
         &[&SEQUENCE, &GROUP, &PICTURE_I, &SLICE, &PICTURE_P, &SLICE],
     )?;
-    match scan(rt.alloc(), bytes) {
-        Ok(film) => {
-            assert_eq!(rt; film.units.as_slice(), [UNIT_A, UNIT_B].as_slice());
-            assert_eq!(rt; film.slice_starts.as_slice(), [28, 43].as_slice());
-        }
-        Err(refused) => assert!(rt; false, "{refused:?}"),
-    }
+    let film = scan(rt.alloc(), bytes)?;
+    assert_eq!(rt; film.units.as_slice(), [UNIT_A, UNIT_B].as_slice());
+    assert_eq!(rt; film.slice_starts.as_slice(), [28, 43].as_slice());
     Ok(())
 }
 
@@ -220,19 +212,15 @@ fn fields_of_headers(rt: HostRuntime) -> Result<(), Fail> {
             &GROUP, &PICTURE_I, &SLICE, &picture_d, &SLICE,
         ],
     )?;
-    match scan(rt.alloc(), bytes) {
-        Ok(film) => {
-            assert_eq!(rt;
-                film.units.as_slice(),
-                [UNIT_A, UNIT_B, UNIT_C, UNIT_D, UNIT_E].as_slice()
-            );
-            assert_eq!(rt;
-                film.slice_starts.as_slice(),
-                [28, 43, 58, 64, 86, 100].as_slice()
-            );
-        }
-        Err(refused) => assert!(rt; false, "{refused:?}"),
-    }
+    let film = scan(rt.alloc(), bytes)?;
+    assert_eq!(rt;
+        film.units.as_slice(),
+        [UNIT_A, UNIT_B, UNIT_C, UNIT_D, UNIT_E].as_slice()
+    );
+    assert_eq!(rt;
+        film.slice_starts.as_slice(),
+        [28, 43, 58, 64, 86, 100].as_slice()
+    );
     Ok(())
 }
 
@@ -278,15 +266,11 @@ fn cuts_change_nothing(rt: HostRuntime) -> Result<(), Fail> {
         Told::Unit(UNIT_B),
     ];
     for cut in 0..=film.len() {
-        match told_in_pieces(rt.alloc(), &film, Some(cut)) {
-            Ok(got) => assert_eq!(rt; got.as_slice(), want.as_slice(), "cut at {cut}"),
-            Err(refused) => assert!(rt; false, "{refused:?}"),
-        }
+        let got = told_in_pieces(rt.alloc(), &film, Some(cut))?;
+        assert_eq!(rt; got.as_slice(), want.as_slice(), "cut at {cut}");
     }
-    match told_in_pieces(rt.alloc(), &film, None) {
-        Ok(got) => assert_eq!(rt; got.as_slice(), want.as_slice()),
-        Err(refused) => assert!(rt; false, "{refused:?}"),
-    }
+    let got = told_in_pieces(rt.alloc(), &film, None)?;
+    assert_eq!(rt; got.as_slice(), want.as_slice());
     Ok(())
 }
 

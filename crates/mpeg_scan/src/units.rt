@@ -34,14 +34,11 @@ impl Kind {
     pub(crate) fn from_code(code: u8) -> Kind
         ensures { result ≡ kind_of code }
     {
-        if code == 1 {
-            Kind::I
-        } else if code == 2 {
-            Kind::P
-        } else if code == 3 {
-            Kind::B
-        } else {
-            Kind::D
+        match code {
+            1 => Kind::I,
+            2 => Kind::P,
+            3 => Kind::B,
+            _ => Kind::D,
         }
     }
 
