@@ -8,31 +8,21 @@ ghost use Rattle.std.specs.Result.{result_ok};
 ghost use Rattle.std.specs.Str.Parse.{digits_value};
 ghost use Rattle.vod_base.specs.Numbers.{number_of, IsNumberFault};
 
-use std::error::Error;
-use std::fmt;
+use thiserror::Error;
 
 /// Why a text is no number that fits 64 bits.
-#[derive(Clone, Copy, Debug, PartialEq, Eq)]
+#[derive(Clone, Copy, Debug, PartialEq, Eq, Error)]
 pub enum NumberFault {
     /// The text has no byte.
+    #[error("the number has no digit")]
     Empty,
     /// The place, from 0, of the first byte that isn't one of the digits `0` to `9`.
+    #[error("byte {0} of the number is no digit")]
     NotDigit(usize),
     /// All bytes are digits, and the number is 2^64 or more.
+    #[error("the number is 2^64 or more")]
     TooLarge,
 }
-
-impl fmt::Display for NumberFault {
-    fn fmt<W: fmt::Write>(&self, f: &mut fmt::Formatter<W>) -> fmt::Result {
-        match self {
-            NumberFault::Empty => f.write_str("the number has no digit"),
-            NumberFault::NotDigit(place) => write!(f, "byte {place} of the number is no digit"),
-            NumberFault::TooLarge => f.write_str("the number is 2^64 or more"),
-        }
-    }
-}
-
-impl Error for NumberFault {}
 
 /// Reads a decimal number: one or more digits `0` to `9`, leading zeros allowed, up to 2^64 - 1.
 pub fn read_number(text: &[u8]) -> Result<u64, NumberFault>
@@ -45,10 +35,7 @@ pub fn read_number(text: &[u8]) -> Result<u64, NumberFault>
     if let Some(place) = first_other(text) {
         return Err(NumberFault::NotDigit(place));
     }
-    match value_of(text) {
-        Some(value) => Ok(value),
-        None => Err(NumberFault::TooLarge),
-    }
+    value_of(text).ok_or(NumberFault::TooLarge)
 }
 
 /// The place of the first byte that is no digit.
@@ -75,13 +62,8 @@ fn value_of(text: &[u8]) -> Option<u64>
 {
     let mut value = 0u64;
     for digit in text {
-        let Some(tens) = value.checked_mul(10) else {
-            return None;
-        };
-        let Some(more) = tens.checked_add(u64::from(*digit - b'0')) else {
-            return None;
-        };
-        value = more;
+        let tens = value.checked_mul(10)?;
+        value = tens.checked_add(u64::from(*digit - b'0'))?;
     }
     Some(value)
 }

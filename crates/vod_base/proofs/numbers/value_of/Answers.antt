@@ -2,16 +2,16 @@ use Rattle.std.proofs.Common.{◌<◌, ◌≤◌, ◌+◌, ◌*◌, ◌^◌, ari
 use Rattle.vod_base.proofs.Digits.{digits_value_more}
 use Rattle.vod_base.proofs.numbers.value_of.Goals as goal
 
-pub returns-in_default-clause-large : goal.returns-in_default-clause-large
-returns-in_default-clause-large c =
+pub returns-in_err-tens-clause-large : goal.returns-in_err-tens-clause-large
+returns-in_err-tens-clause-large c = rw c.from_residual.ensures (
     let step = digits_value_more c.args.text.now c.loop-digit.digit-index c.requires c.loop-digit-test.true in
     let large : 2 ^ 64 ≤ c.loop-digit.value * 10 = let no : c.loop-digit.value * 10 < 2 ^ 64 → ⊥ =
-    c.in_default.ensures {u = tt} in omega (arith, no) in
-    omega (arith, step.0, step.2, c.loop-digit.invariant, large)
+    c.in_err-tens.ensures {u = tt} in omega (arith, no) in
+    omega (arith, step.0, step.2, c.loop-digit.invariant, large))
 
-pub returns-in_default-checked_add-clause-large : goal.returns-in_default-checked_add-clause-large
-returns-in_default-checked_add-clause-large c =
+pub returns-in_err-value-clause-large : goal.returns-in_err-value-clause-large
+returns-in_err-value-clause-large c = rw c.from_residual-in_err-value.ensures (
     let step = digits_value_more c.args.text.now c.loop-digit.digit-index c.requires c.loop-digit-test.true in
-    let large : 2 ^ 64 ≤ c.in-Some.tens + c.from.result = let no : c.in-Some.tens + c.from.result < 2 ^ 64 → ⊥ =
-    c.in_default-checked_add.ensures {u = tt} in omega (arith, no) in
-    omega (arith, step.0, step.2, c.loop-digit.invariant, c.in-Some.ensures {u = tt}, c.from.ensures, large)
+    let large : 2 ^ 64 ≤ c.in_ok-tens.tens + c.from.result = let no : c.in_ok-tens.tens + c.from.result < 2 ^ 64 → ⊥ =
+    c.in_err-value.ensures {u = tt} in omega (arith, no) in
+    omega (arith, step.0, step.2, c.loop-digit.invariant, c.in_ok-tens.ensures {u = tt}, c.from.ensures, large))
