@@ -93,12 +93,3 @@ pub record IsJournalOf (seat : Sitting) (entries : List Entry) : Type 0 where
       (slice_index_or seat.joined i none).mine ≡
       made_by (slice_index_or seat.joined i none).number entries
   pub others : (maker : ℕ) → seat.splits < maker → made_by maker entries ≡ []
-
--- what stays of a seat, whatever it asks
-pub record IsSplit (old new : Sitting) : Type 0 where
-  pub id : new.id ≡ old.id
-  pub steps : new.steps ≡ old.steps
-  pub limit : new.limit ≡ old.limit
-  pub number : new.number ≡ old.number
-  pub splits : new.splits ≡ old.splits
-  pub joined : new.joined ≡ old.joined

@@ -2,7 +2,7 @@
 
 ghost use Rattle.std.specs.Prelude.{◌≡◌, IfOk};
 ghost use Rattle.session.specs.Ranges.{AreFilms};
-ghost use Rattle.station.specs.Seats.{IsSameSeat, IsSplit, first_seat};
+ghost use Rattle.station.specs.Seats.{IsSameSeat, first_seat};
 
 use crate::scripts::{bytes_of, compare_front, message_of, numbers_of, word_and_rest};
 use crate::talks::{SETTINGS, WORDS};
@@ -267,7 +267,7 @@ fn visit_station<R: Wait + Abort>(
 ) -> Result<(), NoMemory>
     requires seat { seat.old.id ≡ station.now.id }
     requires films { AreFilms films.now }
-    ensures { IsSplit seat.old seat.new }
+    ensures { IsSameSeat seat.old seat.new }
 {
     let mut visit = Visit::new(alloc);
     for line in lines.lines() {
