@@ -1,4 +1,4 @@
-use Rattle.std.proofs.Common.{◌≡◌, ◌∙◌, Some, Err, [], inl, inr, refl, ap}
+use Rattle.std.proofs.Common.{◌≡◌, ◌∙◌, Some, Err, [], inl, inr, ap}
 use Rattle.mpeg_scan.specs.declared.faults.FilmFault.{FilmFault}
 use Rattle.mpeg_scan.specs.declared.faults.ScanRefused.TheVariants.{Fault as FaultAnswer}
 use Rattle.mpeg_scan.specs.Codes.{read}
