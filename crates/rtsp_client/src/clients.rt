@@ -391,9 +391,8 @@ impl Client {
         ensures ended { EndsAtReply wish.now length self.old result (K.told link.old)
             (K.told link.new) }
     {
-        let Some(session) = session_in(&self.input.waiting()[..length]) else {
-            return Err(WatchEnd::Fault(WatchFault::BadReply(1)));
-        };
+        let message = &self.input.waiting()[..length];
+        let session = session_in(message).ok_or(WatchFault::BadReply(1))?;
         let request = play_request(self.alloc, wish, session)?;
         let kept = copy_of(self.alloc, session)?;
         link.send(request.as_slice())?;

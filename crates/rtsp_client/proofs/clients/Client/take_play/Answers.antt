@@ -1,26 +1,18 @@
-use Rattle.std.proofs.Common.{◌≡◌, ◌&&◌, Option, Some, None, Result, Ok, Err, is_some, take, refl, sym, ap, ◌∙◌}
-use Rattle.std.specs.Prelude.{ok_or}
+use Rattle.std.proofs.Common.{◌≡◌, ◌&&◌, Some, None, is_some, take, refl, sym, ap, ◌∙◌}
 use Rattle.std.specs.Result.{result_ok}
 use Rattle.std.proofs.lemmas.Result.{err_from_is_err_and}
 use Rattle.rtsp_client.specs.declared.wishes.WatchEnd.TheVariants.{Fault}
 use Rattle.rtsp_client.specs.declared.wishes.WatchFault.{WatchFault}
 use Rattle.rtsp_client.specs.declared.wishes.WatchFault.TheVariants.{BadReply}
 use Rattle.rtsp_client.specs.Replies.{play_range, play_start}
+use Rattle.rtsp_client.proofs.Outcomes.{ok-or-err}
 use Rattle.rtsp_client.proofs.Replying.{play-done, play-lacks}
 use Rattle.rtsp_client.proofs.clients.Client.take_play.Goals as goal
-
--- what `ok_or` made an error of was None, and the error is the one that it was given
-lacking : {A : Type 0} {o : Option A} {r : Result A WatchFault} {fault : WatchFault} (given : WatchFault) →
-    r ≡ ok_or o given → o ≡ result_ok r → r ≡ Err fault → (o ≡ None) × (fault ≡ given)
-lacking {A} {o} {r} {fault} given value part was =
-    let none : o ≡ None = part ∙ ap result_ok was in
-    let is : r ≡ Err given = value ∙ ap (λ (x : Option A). ok_or x given) none in
-    (none, cc)
 
 pub returns-in_err-end_ms-clause-ended : goal.returns-in_err-end_ms-clause-ended
 returns-in_err-end_ms-clause-ended c =
     let p = err_from_is_err_and c.from_residual.result c.from_residual.ensures.1 in
-    let lacks = lacking (BadReply 2) c.ok_or.ensures.value c.ok_or.ensures.ok_part (c.in_err-end_ms.was {u = tt}) in
+    let lacks = ok-or-err (BadReply 2) c.ok_or.ensures.value c.ok_or.ensures.ok_part (c.in_err-end_ms.was {u = tt}) in
     rw (p.1, p.2)
     (λ h s k.
     let range : play_range (take c.args.length c.args.self.now.input) ≡ None =
@@ -32,7 +24,7 @@ returns-in_err-end_ms-clause-ended c =
 pub returns-in_err-start-clause-ended : goal.returns-in_err-start-clause-ended
 returns-in_err-start-clause-ended c =
     let p = err_from_is_err_and c.from_residual-in_err-start.result c.from_residual-in_err-start.ensures.1 in
-    let lacks = lacking (BadReply 2) c.ok_or-2.ensures.value c.ok_or-2.ensures.ok_part (c.in_err-start.was {u = tt}) in
+    let lacks = ok-or-err (BadReply 2) c.ok_or-2.ensures.value c.ok_or-2.ensures.ok_part (c.in_err-start.was {u = tt}) in
     rw (p.1, p.2)
     (λ h s k.
     let range : play_range (take c.args.length c.args.self.now.input) ≡ Some c.in_ok-end_ms.end_ms =

@@ -1,24 +1,37 @@
 use Rattle.std.proofs.Common.{◌≡◌, Some, None, take, rules, refl, sym, ap, subst, ◌∙◌}
+use Rattle.std.specs.Prelude.{option_map}
+use Rattle.std.specs.Result.{result_ok}
 use Rattle.std.proofs.lemmas.Result.{err_from_is_err_and}
 use Rattle.vod_base.specs.Links.{IsFrontTold, sends, told_more}
+use Rattle.rtsp_client.specs.declared.wishes.WatchEnd.TheVariants.{Fault}
+use Rattle.rtsp_client.specs.declared.wishes.WatchFault.{WatchFault}
+use Rattle.rtsp_client.specs.declared.wishes.WatchFault.TheVariants.{BadReply}
 use Rattle.rtsp_client.specs.Replies.{session_in}
 use Rattle.rtsp_client.specs.Requests.{play_text}
+use Rattle.rtsp_client.proofs.Outcomes.{ok-or-err}
 use Rattle.rtsp_client.proofs.Replying.{setup-cut, setup-done, setup-lacks, setup-starved}
 use Rattle.rtsp_client.proofs.clients.Client.take_setup.Goals as goal
 
-pub returns-in_default-clause-ended : goal.returns-in_default-clause-ended
-returns-in_default-clause-ended g c = λ h out k.
-    let here : session_in (take c.args.length c.waiting.result.now) ≡ None = search rules in
+pub returns-in_err-session-clause-ended : goal.returns-in_err-session-clause-ended
+returns-in_err-session-clause-ended g c =
+    let p = err_from_is_err_and c.from_residual.result c.from_residual.ensures.1 in
+    let lacks = ok-or-err (BadReply 1) c.ok_or.ensures.value c.ok_or.ensures.ok_part (c.in_err-session.was {u = tt}) in
+    rw (p.1, p.2)
+    (λ h out k.
+    let here : session_in (take c.args.length c.waiting.result.now) ≡ None =
+    sym c.session_in.ensures ∙ ap (option_map (λ s. s.now)) lacks.0 in
     setup-lacks
     k c.requires.first c.requires.good
-    (ap (λ i. session_in (take c.args.length i)) (sym c.waiting.ensures) ∙ here) refl
+    (ap (λ i. session_in (take c.args.length i)) (sym c.waiting.ensures) ∙ here)
+    (ap (λ (f : WatchFault). Fault f) lacks.1))
 
 pub returns-in_err-request-clause-ended : goal.returns-in_err-request-clause-ended
 returns-in_err-request-clause-ended g c =
-    let p = err_from_is_err_and c.from_residual.result c.from_residual.ensures.1 in
+    let p = err_from_is_err_and c.from_residual-in_err-request.result c.from_residual-in_err-request.ensures.1 in
     rw (p.1, p.2)
     (λ h out k.
-    let here : session_in (take c.args.length c.waiting.result.now) ≡ Some c.in-Some.session.now = search rules in
+    let here : session_in (take c.args.length c.waiting.result.now) ≡ Some c.in_ok-session.session.now =
+    sym c.session_in.ensures ∙ ap (option_map (λ s. s.now)) (c.ok_or.ensures.ok_part ∙ ap result_ok (c.in_ok-session.was {u = tt})) in
     setup-starved (record {
       keeps = k;
       first = c.requires.first;
@@ -32,7 +45,8 @@ returns-in_err-kept-clause-ended g c =
     let p = err_from_is_err_and c.from_residual-in_err-kept.result c.from_residual-in_err-kept.ensures.1 in
     rw (p.1, p.2)
     (λ h out k.
-    let here : session_in (take c.args.length c.waiting.result.now) ≡ Some c.in-Some.session.now = search rules in
+    let here : session_in (take c.args.length c.waiting.result.now) ≡ Some c.in_ok-session.session.now =
+    sym c.session_in.ensures ∙ ap (option_map (λ s. s.now)) (c.ok_or.ensures.ok_part ∙ ap result_ok (c.in_ok-session.was {u = tt})) in
     setup-starved (record {
       keeps = k;
       first = c.requires.first;
@@ -46,8 +60,9 @@ returns-in_err-send-clause-ended g c =
     let p = err_from_is_err_and c.from_residual-in_err-send.result c.from_residual-in_err-send.ensures.1 in
     rw (p.1, p.2)
     (λ h out k.
-    let here : session_in (take c.args.length c.waiting.result.now) ≡ Some c.in-Some.session.now = search rules in
-    let text : c.as_slice.result.now ≡ play_text c.args.wish.now c.in-Some.session.now =
+    let here : session_in (take c.args.length c.waiting.result.now) ≡ Some c.in_ok-session.session.now =
+    sym c.session_in.ensures ∙ ap (option_map (λ s. s.now)) (c.ok_or.ensures.ok_part ∙ ap result_ok (c.in_ok-session.was {u = tt})) in
+    let text : c.as_slice.result.now ≡ play_text c.args.wish.now c.in_ok-session.session.now =
     c.as_slice.ensures.value ∙ c.in_ok-request.ensures in
     let front : IsFrontTold (g.K.Link.told c.args.link.now) (g.K.Link.told c.send.new.self)
     c.as_slice.result.now = c.in_err-send.ensures.front in
@@ -63,8 +78,9 @@ returns-in_err-send-clause-ended g c =
 
 pub returns-clause-passed : goal.returns-clause-passed
 returns-clause-passed g c = λ h out k.
-    let here : session_in (take c.args.length c.waiting.result.now) ≡ Some c.in-Some.session.now = search rules in
-    let text : c.as_slice.result.now ≡ play_text c.args.wish.now c.in-Some.session.now =
+    let here : session_in (take c.args.length c.waiting.result.now) ≡ Some c.in_ok-session.session.now =
+    sym c.session_in.ensures ∙ ap (option_map (λ s. s.now)) (c.ok_or.ensures.ok_part ∙ ap result_ok (c.in_ok-session.was {u = tt})) in
+    let text : c.as_slice.result.now ≡ play_text c.args.wish.now c.in_ok-session.session.now =
     c.as_slice.ensures.value ∙ c.in_ok-request.ensures in
     let sent : g.K.Link.told c.send.new.self
     ≡ told_more (g.K.Link.told c.args.link.now) (sends c.as_slice.result.now) = c.in_ok-send.ensures.whole in
