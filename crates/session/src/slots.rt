@@ -63,7 +63,6 @@ impl<'a> Session<'a> {
             self.waits = false;
             self.torn = self.tearing;
             settle(&mut self.state);
-            return Ok(finish(&self.state, &mut self.awaited));
         }
         Ok(finish(&self.state, &mut self.awaited))
     }

@@ -1,8 +1,9 @@
 use Rattle.std.proofs.Common.{◌≡◌, false, true, sym, ap, subst, ◌∙◌, rules, arith}
-use Rattle.session.specs.Inside.{Coming, IsAwaitedKept, IsGoing, IsStateKept, IsStopAnswered, awaited_offers, awaited_plays, awaited_receipts, coming_of, open_receipts, standing_of}
+use Rattle.session.specs.Inside.{Coming, IsAwaitedKept, IsGoing, IsKept, IsStateKept, IsStopAnswered, awaited_offers, awaited_plays, awaited_receipts, coming_of, open_receipts, standing_of}
 use Rattle.session.specs.Sendings.{IsFinished}
 use Rattle.session.specs.Standings.{IsAtRest}
 use Rattle.session.specs.Steps.{IsCarried, IsEven, after_stop}
+use Rattle.session.specs.declared.sessions.Session.TheInside.{Inside}
 use Rattle.session.specs.declared.states.Awaited.{Awaited}
 use Rattle.session.specs.declared.states.Awaited.TheVariants.{Nothing}
 use Rattle.session.specs.declared.states.State.{State}
@@ -10,6 +11,7 @@ use Rattle.session.proofs.Carries.{awaited_kept, awaited_lost, awaited_settled, 
 use Rattle.session.proofs.Carries.{nothing_of, receipts_kept, receipts_settled, settled_kept, state_kept, stop_kept, stop_settled}
 use Rattle.session.proofs.Grounds.{ground_of}
 use Rattle.session.proofs.sessions.Session.slot.Goals as goal
+use Rattle.session.proofs.sessions.Session.slot.Goals.{then-replied, else-replied}
 
 pub invariant_of-self-in_default-send_due : goal.invariant_of-self-in_default-send_due
 invariant_of-self-in_default-send_due g c =
@@ -38,83 +40,75 @@ invariant_of-self-in_default-send_due g c =
       front = c.self.invariant.front;
     }
 
-pub invariant_of-self-then-replied : goal.invariant_of-self-then-replied
-invariant_of-self-then-replied g c =
-    let inside = c.self.inside in
-    let films = inside.films.now in
-    let new : State = c.send_due.new.state in
-    let after : State = c.settle.new.state in
-    let awaited : Awaited = c.finish.new.awaited in
-    let carried : IsCarried inside.state new = c.send_due.ensures.carried in
-    let even : IsEven new = c.in-Ok.ensures.even in
-    let is : after ≡ after_stop new = c.settle.ensures in
-    let finished : IsFinished after awaited = c.finish.ensures.halt in
-    let rest : IsAtRest (standing_of inside) = subst IsAtRest (sym c.self.view_is) c.requires.rest in
-    let none : inside.awaited ≡ Nothing = nothing_of inside.awaited rest in
-    let going : IsGoing inside.lost inside.state =
-    subst (λ (a : Awaited). IsAwaitedKept films inside.source inside.settings inside.counts inside.lost inside.state a) none
-    c.self.invariant.awaited in
-    let same : open_receipts after ≡ open_receipts inside.state =
-    ap open_receipts is ∙ receipts_settled new ∙ receipts_kept inside.state new carried in
-    let coming : coming_of awaited ≡ coming_of Nothing = finished_none after awaited finished in
-    let receipts : awaited_receipts awaited ≡ 0 = ap (λ (n : Coming). n.receipts) coming in
-    let plays : awaited_plays awaited ≡ 0 = ap (λ (n : Coming). n.plays) coming in
-    let offers : awaited_offers awaited ≡ 0 = ap (λ (n : Coming). n.offers) coming in
-    record {
-      films = c.self.invariant.films;
-      settings = c.self.invariant.settings;
-      id = c.self.invariant.id;
-      state = subst (λ (s : State). IsStateKept films inside.source inside.settings inside.counts s) (sym is)
-          (settled_kept (ground_of inside) new (state_kept (ground_of inside) inside.state new c.self.invariant.state carried));
-      awaited = subst (λ (s : State). IsAwaitedKept films inside.source inside.settings inside.counts
-          inside.lost s awaited) (sym is)
-          (awaited_settled (ground_of inside) new awaited (record { going = going; carried = carried; even = even })
-          (subst (λ (s : State). IsFinished s awaited) is finished));
-      stop = subst (λ (s : State). IsStopAnswered s false) (sym is) (stop_settled false new);
-      receipt_room = omega (arith, c.self.invariant.receipt_room);
-      play_room = omega (arith, c.self.invariant.play_room);
-      offer_room = omega (arith, c.self.invariant.offer_room);
-      looks = c.self.invariant.looks;
-      torn = λ tearing waits. tearing;
-      late = search rules;
-      heard = search rules;
-      front = λ asks. absurd (omega (arith, asks));
-    }
-
 pub invariant_of-self-2 : goal.invariant_of-self-2
 invariant_of-self-2 g c =
     let inside = c.self.inside in
     let films = inside.films.now in
     let new : State = c.send_due.new.state in
-    let awaited : Awaited = c.finish-2.new.awaited in
+    let awaited : Awaited = c.finish.new.awaited in
     let carried : IsCarried inside.state new = c.send_due.ensures.carried in
     let even : IsEven new = c.in-Ok.ensures.even in
-    let finished : IsFinished new awaited = c.finish-2.ensures.halt in
+    let finished : IsFinished c.if-replied.self-inside.state awaited = c.finish.ensures.halt in
     let rest : IsAtRest (standing_of inside) = subst IsAtRest (sym c.self.view_is) c.requires.rest in
     let none : inside.awaited ≡ Nothing = nothing_of inside.awaited rest in
     let going : IsGoing inside.lost inside.state =
     subst (λ (a : Awaited). IsAwaitedKept films inside.source inside.settings inside.counts inside.lost inside.state a) none
     c.self.invariant.awaited in
-    let same : open_receipts new ≡ open_receipts inside.state = receipts_kept inside.state new carried in
-    let coming : coming_of awaited ≡ coming_of Nothing = finished_none new awaited finished in
+    let coming : coming_of awaited ≡ coming_of Nothing = finished_none c.if-replied.self-inside.state awaited finished in
     let receipts : awaited_receipts awaited ≡ 0 = ap (λ (n : Coming). n.receipts) coming in
     let plays : awaited_plays awaited ≡ 0 = ap (λ (n : Coming). n.plays) coming in
     let offers : awaited_offers awaited ≡ 0 = ap (λ (n : Coming). n.offers) coming in
-    record {
-      films = c.self.invariant.films;
-      settings = c.self.invariant.settings;
-      id = c.self.invariant.id;
-      state = state_kept (ground_of inside) inside.state new c.self.invariant.state carried;
-      awaited = awaited_kept {old = inside.state} (ground_of inside) awaited
-          (record { going = going; carried = carried; even = even })
-          finished;
-      stop = stop_kept inside.waits inside.state new c.self.invariant.stop carried;
-      receipt_room = omega (arith, c.self.invariant.receipt_room);
-      play_room = omega (arith, c.self.invariant.play_room);
-      offer_room = omega (arith, c.self.invariant.offer_room);
-      looks = c.self.invariant.looks;
-      torn = c.self.invariant.torn;
-      late = search rules;
-      heard = search rules;
-      front = λ asks. absurd (omega (arith, asks));
-    }
+    elim c.if-replied.branch [
+      | then-replied w ↦
+          let after : State = w.settle.new.state in
+          let is : after ≡ after_stop new = w.settle.ensures in
+          let over : IsFinished after awaited =
+          subst (λ (x : Inside). IsFinished x.state awaited) w.self-inside-is finished in
+          let same : open_receipts after ≡ open_receipts inside.state =
+          ap open_receipts is ∙ receipts_settled new ∙ receipts_kept inside.state new carried in
+          subst (λ (x : Inside). IsKept (record x { awaited = awaited })) (sym w.self-inside-is)
+          (record {
+            films = c.self.invariant.films;
+            settings = c.self.invariant.settings;
+            id = c.self.invariant.id;
+            state = subst (λ (s : State). IsStateKept films inside.source inside.settings inside.counts s) (sym is)
+                (settled_kept (ground_of inside) new
+                (state_kept (ground_of inside) inside.state new c.self.invariant.state carried));
+            awaited = subst (λ (s : State). IsAwaitedKept films inside.source inside.settings inside.counts
+                inside.lost s awaited) (sym is)
+                (awaited_settled (ground_of inside) new awaited (record { going = going; carried = carried; even = even })
+                (subst (λ (s : State). IsFinished s awaited) is over));
+            stop = subst (λ (s : State). IsStopAnswered s false) (sym is) (stop_settled false new);
+            receipt_room = omega (arith, c.self.invariant.receipt_room);
+            play_room = omega (arith, c.self.invariant.play_room);
+            offer_room = omega (arith, c.self.invariant.offer_room);
+            looks = c.self.invariant.looks;
+            torn = λ tearing waits. tearing;
+            late = search rules;
+            heard = search rules;
+            front = λ asks. absurd (omega (arith, asks));
+          })
+      | else-replied w ↦
+          let over : IsFinished new awaited =
+          subst (λ (x : Inside). IsFinished x.state awaited) w.self-inside-is finished in
+          let same : open_receipts new ≡ open_receipts inside.state = receipts_kept inside.state new carried in
+          subst (λ (x : Inside). IsKept (record x { awaited = awaited })) (sym w.self-inside-is)
+          (record {
+            films = c.self.invariant.films;
+            settings = c.self.invariant.settings;
+            id = c.self.invariant.id;
+            state = state_kept (ground_of inside) inside.state new c.self.invariant.state carried;
+            awaited = awaited_kept {old = inside.state} (ground_of inside) awaited
+                (record { going = going; carried = carried; even = even })
+                over;
+            stop = stop_kept inside.waits inside.state new c.self.invariant.stop carried;
+            receipt_room = omega (arith, c.self.invariant.receipt_room);
+            play_room = omega (arith, c.self.invariant.play_room);
+            offer_room = omega (arith, c.self.invariant.offer_room);
+            looks = c.self.invariant.looks;
+            torn = c.self.invariant.torn;
+            late = search rules;
+            heard = search rules;
+            front = λ asks. absurd (omega (arith, asks));
+          })
+    ]
