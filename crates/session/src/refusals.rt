@@ -137,9 +137,7 @@ pub(crate) fn judge<'m>(
     if let Method::Options = method {
         return Ok(Task::Options);
     }
-    let Some(asked) = own_film(films, state, method, request.url) else {
-        return Err(Refusal::Film);
-    };
+    let asked = own_film(films, state, method, request.url).ok_or(Refusal::Film)?;
     if !is_valid(method, state, header(request, b"Range").is_some()) {
         return Err(Refusal::State);
     }
@@ -153,9 +151,7 @@ fn own_method(id: &[u8; 16], state: &State<'_>, request: &Request<'_>) -> Result
     ensures refused { IfErr result (λ refusal. (films : List Stored) →
         IsJudged films id.now state.now request.now (Err refusal)) }
 {
-    let Some(method) = read_method(request.method) else {
-        return Err(Refusal::Method);
-    };
+    let method = read_method(request.method).ok_or(Refusal::Method)?;
     if required_options(request).is_some() {
         return Err(Refusal::Option);
     }

@@ -21,15 +21,9 @@ pub(crate) fn read_setup(
     ensures read { IsSetupRead settings.now request.now.head.now film result }
     ensures ranges { (films : ℕ) → film < films → IfOk result (IsSetup films) }
 {
-    let Some(channels) = channels_of(request) else {
-        return Err(Refusal::Transport);
-    };
-    let Some(buffer) = buffer_of(request, settings) else {
-        return Err(Refusal::Parameter);
-    };
-    let Some(delay) = delay_of(request, settings) else {
-        return Err(Refusal::Parameter);
-    };
+    let channels = channels_of(request).ok_or(Refusal::Transport)?;
+    let buffer = buffer_of(request, settings).ok_or(Refusal::Parameter)?;
+    let delay = delay_of(request, settings).ok_or(Refusal::Parameter)?;
     Ok(Setup {
         film,
         media: channels.media,

@@ -16,10 +16,11 @@ returns-clause-judged c =
     let timely : IsTimely c.args.state.now c.args.request.now c.in_ok-method.method = search rules in
     subst (λ (task : Task). IsTaken c.args.films.now c.args.id.now c.args.state.now c.args.request.now task)
     (sym c.task_of.ensures)
-    (taken c.in-Some.asked c.in_ok-method.ensures.talk c.in-Some.ensures.film timely)
+    (taken c.in_ok-asked.asked c.in_ok-method.ensures.talk (rw c.in_ok-asked.ensures.ok_part at c.own_film.ensures.film) timely)
 
 pub returns-clause-task : goal.returns-clause-task
 returns-clause-task c =
     let valid : IsValid c.in_ok-method.method c.args.state.now = search rules in
     subst (λ (task : Task). IsTask (length c.args.films.now) c.args.state.now task) (sym c.task_of.ensures)
-    (task_known c.args.state.now c.in_ok-method.method c.in-Some.asked c.in-Some.ensures.asked c.in_ok-method.ensures.needs valid)
+    (task_known c.args.state.now c.in_ok-method.method c.in_ok-asked.asked
+    (rw c.in_ok-asked.ensures.ok_part at c.own_film.ensures.asked) c.in_ok-method.ensures.needs valid)
