@@ -161,18 +161,14 @@ fn read_parts(message: &[u8]) -> Result<Request<'_>, RequestFault>
         IsRequest message.now r.method.now r.url.now r.sequence r.head.now r.body.now) }
     ensures refused { IfErr result (IsFault message.now) }
 {
-    let Some(line) = request_line(first_line(message)) else {
-        return Err(RequestFault::BadLine);
-    };
+    let line = request_line(first_line(message)).ok_or(RequestFault::BadLine)?;
     if !is_rtsp_1_0(line.version) {
         return Err(RequestFault::BadVersion);
     }
     if let Some(number) = first_bad(message) {
         return Err(RequestFault::BadHeader(number));
     }
-    let Some(sequence) = fields::sequence_number(message) else {
-        return Err(RequestFault::NoSequenceNumber);
-    };
+    let sequence = fields::sequence_number(message).ok_or(RequestFault::NoSequenceNumber)?;
     if !has_length(message) {
         return Err(RequestFault::BadLength);
     }
