@@ -114,10 +114,7 @@ pub(crate) fn option_of<'m>(request: &Request<'m>) -> &'m [u8]
     ensures short { length result.now ≤ length request.now.head.now }
     ensures line { is_one_line result.now ≡ true }
 {
-    match required_options(request) {
-        Some(option) => option,
-        None => b"",
-    }
+    required_options(request).unwrap_or(b"")
 }
 
 /// Judges a well formed request by the refusals that all methods share, in their order: the method
