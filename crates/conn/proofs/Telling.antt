@@ -112,15 +112,15 @@ refusal_more mine mine' made made' text told = record {
       };
 }
 
-told_more : (made more : List Outcome) (text : List ℕ) → IsTold made text → IsTold (made ++ more) text
-told_more made more text told =
+told_with_more : (made more : List Outcome) (text : List ℕ) → IsTold made text → IsTold (made ++ more) text
+told_with_more made more text told =
     subst (λ mine. IsReplyTold mine (made ++ more) text) (sym (entries_in-append made more))
     (refusal_more (entries_in made) (entries_in more) made more text told)
 
 are_more : (made more : List Outcome) (parts : List Part) → AreTold made parts → AreTold (made ++ more) parts
 are_more made more [] told = tt
 are_more made more (Film bytes ∷ parts) told = are_more made more parts told
-are_more made more (Text text ∷ parts) told = (told_more made more text told.0, are_more made more parts told.1)
+are_more made more (Text text ∷ parts) told = (told_with_more made more text told.0, are_more made more parts told.1)
 
 are_both : (made : List Outcome) (xs ys : List Part) → AreTold made xs → AreTold made ys → AreTold made (xs ++ ys)
 are_both made [] ys first second = second
@@ -360,7 +360,7 @@ round_tells : (made : List Outcome) (old new : Stage) (round : Round) → IsTold
 round_tells made old new round told runs =
     let first = comes_tells old runs.opened round.event round.halt told runs.comes in
     let opened : IsTold (made ++ round.halt ∷ []) runs.opened.session.text =
-    told_more made (round.halt ∷ []) runs.opened.session.text first.waiting in
+    told_with_more made (round.halt ∷ []) runs.opened.session.text first.waiting in
     let rest = takings_tell (made ++ round.halt ∷ []) runs.opened new round.takings opened runs.takes in
     let all : (made ++ round.halt ∷ []) ++ takings_outcomes round.takings ≡ made ++ round_outcomes round =
     append_assoc made (round.halt ∷ []) (takings_outcomes round.takings) in
