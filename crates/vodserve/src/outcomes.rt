@@ -62,12 +62,7 @@ fn all_halted(journal: &[Entry]) -> bool {
 
 /// Whether a connection ended for want of memory, which changes no status.
 fn lacked_memory(reports: &[ConnReport]) -> bool {
-    for report in reports {
-        if report.end == ConnEnd::NoMemory {
-            return true;
-        }
-    }
-    false
+    reports.iter().any(|report| report.end == ConnEnd::NoMemory)
 }
 
 /// What the links of a gate's first parts sent, in the order in which they came back.
@@ -184,33 +179,32 @@ impl Outcome {
         rest: &str,
     ) -> Result<(), NoMemory> {
         let (first, more) = word_and_rest(rest);
-        if word == "out" || word == "err" {
-            self.read_text(rt, alloc, word == "out", rest)
-        } else if word == "is" {
-            let out = std::mem::replace(&mut self.out, Vec::new(alloc));
-            assert!(rt;
-                files.bytes(first) == Some(out.as_slice()),
-                "another output than {first}"
-            );
-            Ok(())
-        } else if word == "has" {
-            let want = bytes_of(alloc, rest, b"\n")?;
-            assert!(rt; has(&self.out, &want), "not in the output: {rest}");
-            self.is_out_searched = true;
-            Ok(())
-        } else if word == "keeps" {
-            let out = std::mem::replace(&mut self.out, Vec::new(alloc));
-            files.keep(alloc, first, out)
-        } else if word == "ends" {
-            assert_eq!(rt; self.status, number_of(first));
-            Ok(())
-        } else if word == "counts" {
-            assert_eq!(rt; self.reports as u64, number_of(first), "reports");
-            assert_eq!(rt; self.entries as u64, number_of(more), "entries");
-            Ok(())
-        } else {
-            self.check_sent(rt, alloc, files, word, rest)
+        match word {
+            "out" | "err" => self.read_text(rt, alloc, word == "out", rest)?,
+            "is" => {
+                let out = std::mem::replace(&mut self.out, Vec::new(alloc));
+                assert!(rt;
+                    files.bytes(first) == Some(out.as_slice()),
+                    "another output than {first}"
+                );
+            }
+            "has" => {
+                let want = bytes_of(alloc, rest, b"\n")?;
+                assert!(rt; has(&self.out, &want), "not in the output: {rest}");
+                self.is_out_searched = true;
+            }
+            "keeps" => {
+                let out = std::mem::replace(&mut self.out, Vec::new(alloc));
+                files.keep(alloc, first, out)?;
+            }
+            "ends" => assert_eq!(rt; self.status, number_of(first)),
+            "counts" => {
+                assert_eq!(rt; self.reports as u64, number_of(first), "reports");
+                assert_eq!(rt; self.entries as u64, number_of(more), "entries");
+            }
+            _ => self.check_sent(rt, alloc, files, word, rest)?,
         }
+        Ok(())
     }
 
     /// Takes up a line on what was sent, or on a status and its text.
@@ -223,34 +217,40 @@ impl Outcome {
         rest: &str,
     ) -> Result<(), NoMemory> {
         let (first, more) = word_and_rest(rest);
-        if word == "says" {
-            let want = bytes_of(alloc, rest, b"\r\n")?;
-            assert!(rt;
-                self.unread().starts_with(&want),
-                "another reply than {rest}"
-            );
-            self.read = self.read.saturating_add(want.len());
-        } else if word == "sends" {
-            let want = files.joined(alloc, rest)?;
-            assert!(rt; self.unread().starts_with(&want), "other bytes than {rest}");
-            self.read = self.read.saturating_add(want.len());
-        } else if word == "plays" {
-            let film = self.read_film(alloc)?;
-            assert!(rt;
-                files.bytes(first) == Some(film.as_slice()),
-                "another film than {first}"
-            );
-        } else if word == "said" {
-            let want = bytes_of(alloc, more, b"\r\n")?;
-            let mut count = 0u64;
-            for sent in &self.sent {
-                count = count.saturating_add(u64::from(has(sent, &want)));
+        match word {
+            "says" => {
+                let want = bytes_of(alloc, rest, b"\r\n")?;
+                assert!(rt;
+                    self.unread().starts_with(&want),
+                    "another reply than {rest}"
+                );
+                self.read = self.read.saturating_add(want.len());
             }
-            assert_eq!(rt; count, number_of(first), "at {more}");
-            self.is_sent_searched = true;
-        } else {
-            assert_eq!(rt; self.status, number_of(word), "at {word} {rest}");
-            self.read_text(rt, alloc, word == "0" || word == "1", rest)?;
+            "sends" => {
+                let want = files.joined(alloc, rest)?;
+                assert!(rt; self.unread().starts_with(&want), "other bytes than {rest}");
+                self.read = self.read.saturating_add(want.len());
+            }
+            "plays" => {
+                let film = self.read_film(alloc)?;
+                assert!(rt;
+                    files.bytes(first) == Some(film.as_slice()),
+                    "another film than {first}"
+                );
+            }
+            "said" => {
+                let want = bytes_of(alloc, more, b"\r\n")?;
+                let mut count = 0u64;
+                for sent in &self.sent {
+                    count = count.saturating_add(u64::from(has(sent, &want)));
+                }
+                assert_eq!(rt; count, number_of(first), "at {more}");
+                self.is_sent_searched = true;
+            }
+            _ => {
+                assert_eq!(rt; self.status, number_of(word), "at {word} {rest}");
+                self.read_text(rt, alloc, word == "0" || word == "1", rest)?;
+            }
         }
         Ok(())
     }

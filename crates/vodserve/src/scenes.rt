@@ -136,38 +136,43 @@ impl Stage {
     /// Takes up a line on the objects of the next run; answers whether it is one.
     fn set(&mut self, alloc: Global, word: &str, rest: &str) -> Result<bool, NoMemory> {
         let (first, more) = word_and_rest(rest);
-        if word == "file" {
-            self.files
-                .keep(alloc, first, bytes_of(alloc, more, b"\n")?)?;
-        } else if word == "reply" {
-            self.files
-                .keep(alloc, first, bytes_of(alloc, more, b"\r\n")?)?;
-        } else if word == "bytes" {
-            let bytes = self.files.joined(alloc, more)?;
-            self.files.keep(alloc, first, bytes)?;
-        } else if word == "sizes" {
-            let sizes = self.files.sizes_of(alloc, more)?;
-            self.files.keep(alloc, first, sizes)?;
-        } else if word == "hears" {
-            self.events
-                .push(Event::Bytes(bytes_of(alloc, rest, b"\r\n")?))?;
-        } else if word == "gets" {
-            let bytes = self.files.joined(alloc, rest)?;
-            self.events.push(Event::Bytes(bytes))?;
-        } else if word == "slots" {
-            for slot in number_of(first)..=number_of(more) {
-                self.events.push(Event::Slot(slot))?;
+        match word {
+            "file" => self
+                .files
+                .keep(alloc, first, bytes_of(alloc, more, b"\n")?)?,
+            "reply" => self
+                .files
+                .keep(alloc, first, bytes_of(alloc, more, b"\r\n")?)?,
+            "bytes" => {
+                let bytes = self.files.joined(alloc, more)?;
+                self.files.keep(alloc, first, bytes)?;
             }
-        } else if word == "again" {
-            self.events = first_events(alloc, &self.last_events, number_of(first))?;
-        } else if word == "part" {
-            let events = std::mem::replace(&mut self.events, Vec::new(alloc));
-            self.last_events = first_events(alloc, &events, events.len() as u64)?;
-            self.push_part(alloc, events, number_of(first))?;
-        } else if word == "fails" {
-            self.fail(first, number_of(more))?;
-        } else {
-            return Ok(false);
+            "sizes" => {
+                let sizes = self.files.sizes_of(alloc, more)?;
+                self.files.keep(alloc, first, sizes)?;
+            }
+            "hears" => self
+                .events
+                .push(Event::Bytes(bytes_of(alloc, rest, b"\r\n")?))?,
+            "gets" => {
+                let bytes = self.files.joined(alloc, rest)?;
+                self.events.push(Event::Bytes(bytes))?;
+            }
+            "slots" => {
+                for slot in number_of(first)..=number_of(more) {
+                    self.events.push(Event::Slot(slot))?;
+                }
+            }
+            "again" => {
+                self.events = first_events(alloc, &self.last_events, number_of(first))?;
+            }
+            "part" => {
+                let events = std::mem::replace(&mut self.events, Vec::new(alloc));
+                self.last_events = first_events(alloc, &events, events.len() as u64)?;
+                self.push_part(alloc, events, number_of(first))?;
+            }
+            "fails" => self.fail(first, number_of(more))?,
+            _ => return Ok(false),
         }
         Ok(true)
     }
@@ -186,15 +191,13 @@ impl Stage {
 
     /// Lets the call of that number fail.
     fn fail(&mut self, object: &str, number: u64) -> Result<(), NoMemory> {
-        if object == "library" {
-            self.failing.library.push(number)?;
-        } else if object == "out" {
-            self.failing.out.push(number)?;
-        } else if object == "err" {
-            self.failing.err.push(number)?;
-        } else {
-            self.failing.gate.push(number)?;
-        }
+        let calls = match object {
+            "library" => &mut self.failing.library,
+            "out" => &mut self.failing.out,
+            "err" => &mut self.failing.err,
+            _ => &mut self.failing.gate,
+        };
+        calls.push(number)?;
         Ok(())
     }
 }
