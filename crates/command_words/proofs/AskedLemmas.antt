@@ -7,7 +7,7 @@ use Rattle.std.specs.Str.{bytes_eq}
 use Rattle.std.proofs.lemmas.Bool.{and_parts, le-leb, leb-true}
 use Rattle.std.proofs.lemmas.List.Elements.{All-nil, All-push}
 use Rattle.std.proofs.lemmas.List.Splits.{length-slice_split}
-use Rattle.std.proofs.lemmas.Option.{none-some}
+use Rattle.std.proofs.lemmas.Option.{none-some, same_Some}
 use Rattle.vod_base.specs.Names.{is_good_name}
 use Rattle.vod_base.specs.Numbers.{number_of}
 use Rattle.slot_calendar.specs.declared.profiles.CapStep.{CapStep}
@@ -21,7 +21,7 @@ use Rattle.command_words.specs.Words.{Source, trace_source, film_source, Viewer,
 use Rattle.command_words.specs.Spelling.{IsBetween, IsCapacity, MayBeSlot, MayBeJournal, MayBeSource, MayBeViewer, MayBePace, MayListen, MayServe, MayRun, MayDraw, MayWatch, MayBeAsked}
 use Rattle.command_words.proofs.CapacityLemmas.{front_more, profile_of}
 use Rattle.command_words.proofs.FilmLemmas.{films_asked}
-use Rattle.command_words.proofs.FormLemmas.{last_step_found, some_one, step_found, test_passes}
+use Rattle.command_words.proofs.FormLemmas.{last_step_found, step_found, test_passes}
 
 -- ---- one value
 between_found : (least most n : ℕ) (o : Option ℕ) → in_range least most o ≡ Some n → IsBetween least most n
@@ -29,7 +29,7 @@ between_found least most n None e = absurd (none-some _ e)
 between_found least most n (Some m) e =
     let found = test_passes (nat_le least m && nat_le m most) (Some m) n e in
     let parts = and_parts (nat_le least m) (nat_le m most) found.0 in
-    subst (IsBetween least most) (some_one m n found.1) (leb-true least m parts.0, leb-true m most parts.1)
+    subst (IsBetween least most) (same_Some m n found.1) (leb-true least m parts.0, leb-true m most parts.1)
 
 one_between : (least most n : ℕ) (values : List (List ℕ)) → one_number least most values ≡ Some n → IsBetween least most n
 one_between least most n [] e = absurd (none-some _ e)
@@ -38,14 +38,14 @@ one_between least most n (value ∷ other ∷ others) e = absurd (none-some _ e)
 
 or_between : {default least most n : ℕ} (values : List (List ℕ)) → IsBetween least most default
     → number_or default least most values ≡ Some n → IsBetween least most n
-or_between {default} {least} {most} {n} [] inside e = subst (IsBetween least most) (some_one default n e) inside
+or_between {default} {least} {most} {n} [] inside e = subst (IsBetween least most) (same_Some default n e) inside
 or_between {default} {least} {most} {n} (value ∷ values) inside e = one_between least most n (value ∷ values) e
 
 name_found : (name : List ℕ) (values : List (List ℕ)) → one_name values ≡ Some name → is_good_name name ≡ true
 name_found name [] e = absurd (none-some _ e)
 name_found name (value ∷ []) e =
     let found = test_passes (is_good_name value) (Some value) name e in
-    subst (λ (n : List ℕ). is_good_name n ≡ true) (some_one value name found.1) found.0
+    subst (λ (n : List ℕ). is_good_name n ≡ true) (same_Some value name found.1) found.0
 name_found name (value ∷ other ∷ others) e = absurd (none-some _ e)
 
 -- ---- a capacity
@@ -101,7 +101,7 @@ parts_read : (front : List CapStep) (parts : List (List ℕ)) (steps : List CapS
     fold part_more (Some front) parts ≡ Some steps →
     AreRead steps × (length front + length parts ≤ length steps)
 parts_read front [] steps read e =
-    subst (λ (ss : List CapStep). AreRead ss × (length front + 0 ≤ length ss)) (some_one front steps e) (read, omega arith)
+    subst (λ (ss : List CapStep). AreRead ss × (length front + 0 ≤ length ss)) (same_Some front steps e) (read, omega arith)
 parts_read front (part ∷ parts) steps read e =
     let next = part_found front (step_of part) parts steps e in
     let rest = parts_read (front ++ next.0 ∷ []) parts steps (one_read front next.0 read next.1) next.2 in
@@ -129,7 +129,7 @@ text_capacity text steps e = by (nat_lt (position_or_len (λ b. b == 58) text) (
         subst IsCapacity bytes.2 (flat_capacity bytes.0 (between_found 1 (2 ^ 42) bytes.0 (number_of text) bytes.1).1)
 
 capacity_asked : (steps : List CapStep) (values : List (List ℕ)) → one_capacity values ≡ Some steps → IsCapacity steps
-capacity_asked steps [] e = subst IsCapacity (some_one (flat_steps 50000) steps e) (flat_capacity 50000 (omega arith))
+capacity_asked steps [] e = subst IsCapacity (same_Some (flat_steps 50000) steps e) (flat_capacity 50000 (omega arith))
 capacity_asked steps (value ∷ []) e = text_capacity value steps e
 capacity_asked steps (value ∷ other ∷ others) e = absurd (none-some _ e)
 
@@ -289,7 +289,7 @@ given_asked Watch words order e =
 
 lone_asked : (lone : Order) (words : List (List ℕ)) (order : Order) → MayBeAsked lone
     → lone_order lone words ≡ Some order → MayBeAsked order
-lone_asked lone [] order may e = subst MayBeAsked (some_one lone order e) may
+lone_asked lone [] order may e = subst MayBeAsked (same_Some lone order e) may
 lone_asked lone (word ∷ words) order may e = absurd (none-some _ e)
 
 command_asked : (first : List ℕ) (words : List (List ℕ)) (order : Order)

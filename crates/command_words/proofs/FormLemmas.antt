@@ -9,7 +9,7 @@ use Rattle.std.proofs.lemmas.List.Elements.{All-cons, All-nil}
 use Rattle.std.proofs.lemmas.List.Folds.{Any-from_list_any}
 use Rattle.std.proofs.lemmas.List.Sums.{passes_at_first, split_at_first}
 use Rattle.std.proofs.lemmas.Slice.Eq.{bytes_eq-Decides}
-use Rattle.std.proofs.lemmas.Option.{none-some}
+use Rattle.std.proofs.lemmas.Option.{none-some, same_Some}
 use Rattle.slot_calendar.specs.declared.profiles.CapStep.{CapStep}
 use Rattle.command_words.specs.Settings.{number_or, one_name, one_number, setting_value, values_of}
 use Rattle.command_words.specs.Capacities.{one_capacity}
@@ -23,10 +23,6 @@ use Rattle.command_words.specs.Words.{Source, Viewer, Pace, Listening, Order, he
 use Rattle.command_words.proofs.FilmLemmas.{films_asked}
 use Rattle.command_words.proofs.MeaningLemmas.{meaning_of}
 
--- what two readings alike found
-pub some_one : {A : Type 0} (a b : A) → Some a ≡ Some b → a ≡ b
-some_one a b e = cc
-
 -- what a step of a reading found, and the rest of it
 pub step_found : {A B : Type 0} (f : A → Option B) (o : Option A) (b : B) → option_and_then f o ≡ Some b
     → (a : A) × (o ≡ Some a) × (f a ≡ Some b)
@@ -36,7 +32,7 @@ step_found f (Some a) b e = (a, refl, e)
 pub last_step_found : {A B : Type 0} (f : A → B) (o : Option A) (b : B) → option_map f o ≡ Some b
     → (a : A) × (o ≡ Some a) × (f a ≡ b)
 last_step_found f None b e = absurd (none-some _ e)
-last_step_found f (Some a) b e = (a, refl, some_one _ _ e)
+last_step_found f (Some a) b e = (a, refl, same_Some _ _ e)
 
 -- a value that a test lets through
 pub test_passes : {A : Type 0} (t : Bool) (o : Option A) (a : A) → (if t then o else None) ≡ Some a → (t ≡ true) × (o ≡ Some a)
