@@ -13,8 +13,8 @@ use slot_calendar::{CapStep, MAX_CAPACITY, MAX_STEPS, Profile};
 use std::alloc::Global;
 use vod_base::{LATEST_SLOT, NoMemory, read_number};
 
-/// The bytes of a slot where the words say nothing.
-const BYTES: u64 = 50_000;
+/// The capacity of each slot in bytes, where the words say nothing.
+const DEFAULT_CAPACITY: u64 = 50_000;
 
 /// The steps of the capacity that the words give.
 pub(crate) fn one_capacity(words: &[String], key: &str) -> Option<Steps>
@@ -22,7 +22,7 @@ pub(crate) fn one_capacity(words: &[String], key: &str) -> Option<Steps>
     ensures profile { IfSome result IsProfile }
 {
     match find_given(words, key) {
-        Given::Absent => Some(flat_steps(BYTES)),
+        Given::Absent => Some(flat_steps(DEFAULT_CAPACITY)),
         Given::Once(text) => read_capacity(text),
         Given::Again => None,
     }
@@ -45,12 +45,8 @@ fn read_step(text: &str) -> Option<CapStep>
     ensures { result ≡ step_of text.now }
 {
     let (slot, bytes) = text.split_once(':')?;
-    let Ok(from) = read_number(slot.as_bytes()) else {
-        return None;
-    };
-    let Ok(bytes) = read_number(bytes.as_bytes()) else {
-        return None;
-    };
+    let from = read_number(slot.as_bytes()).ok()?;
+    let bytes = read_number(bytes.as_bytes()).ok()?;
     Some(CapStep { from, bytes })
 }
 
@@ -58,10 +54,9 @@ fn read_step(text: &str) -> Option<CapStep>
 fn stands_after(steps: &[CapStep], slot: u64) -> bool
     ensures { result ≡ stands_after steps.now slot }
 {
-    if steps.is_empty() {
-        slot == 0
-    } else {
-        steps[steps.len() - 1].from < slot
+    match steps.last() {
+        Some(last) => last.from < slot,
+        None => slot == 0,
     }
 }
 

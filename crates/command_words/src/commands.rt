@@ -10,13 +10,21 @@ use crate::settings::setting;
 /// The commands whose words are settings.
 #[derive(Clone, Copy, Debug, PartialEq, Eq)]
 pub enum Command {
+    /// The best plan of a trace or film.
     Plan,
+    /// The verdict on a certificate.
     Check,
+    /// The units of a film.
     Scan,
+    /// The trace, film or system stream of a number.
     Make,
+    /// A script of plays over one link.
     Day,
+    /// Drawn plays over one link.
     Fair,
+    /// A server of films over RTSP.
     Serve,
+    /// A client of such a server.
     Watch,
 }
 

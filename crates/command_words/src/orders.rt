@@ -65,8 +65,11 @@ pub struct Viewer<'a> {
 /// What `make` makes.
 #[derive(Clone, Copy, Debug, PartialEq, Eq)]
 pub enum Made {
+    /// An MPEG-1 video stream (ISO/IEC 11172-2).
     Film,
+    /// The sizes of pictures, in bytes.
     Trace,
+    /// A system stream (ISO/IEC 11172-1) that carries the film.
     System,
 }
 

@@ -13,8 +13,11 @@ use vod_base::{good_name, read_number};
 /// How often words give a value to a key.
 #[derive(Clone, Copy)]
 pub(crate) enum Given<'a> {
+    /// None does.
     Absent,
+    /// One does, and this is the value.
     Once(&'a str),
+    /// Two or more do.
     Again,
 }
 

@@ -52,7 +52,7 @@ fn reads_a_server(rt: HostRuntime) -> Result<(), Fail> {
     ] {
         let words = words_of(alloc, line)?;
         let Some(Order::Serve(serving)) = read_words(&words) else {
-            return Err(Fail::from(AllocError));
+            return Err(Fail::from("no server"));
         };
         assert_eq!(rt;
             numbers(&serving).as_slice(),

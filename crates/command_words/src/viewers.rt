@@ -67,11 +67,7 @@ pub(crate) fn fair_run_given(words: &[String]) -> Option<FairRun>
 fn is_absent(words: &[String], key: &str) -> bool
     ensures { result ≡ is_absent (values_of key.now (texts words.now)) }
 {
-    match find_given(words, key) {
-        Given::Absent => true,
-        Given::Once(_) => false,
-        Given::Again => false,
-    }
+    matches!(find_given(words, key), Given::Absent)
 }
 
 /// The trace of that name, where neither a film nor a slot's length is given.

@@ -19,19 +19,12 @@ pub fn read_words<'a>(words: &'a [String]) -> Option<Order<'a>>
     ensures order { option_map order_of result ≡ meaning (texts words.entry.now) }
     ensures range { IfSome result IsOrderInRange }
 {
-    if words.is_empty() {
-        return None;
+    let (command, rest) = words.split_first()?;
+    match command.as_str() {
+        "--help" => lone_order(Order::Help, rest),
+        "--version" => lone_order(Order::Version, rest),
+        name => command_order(command_named(name)?, rest),
     }
-    let command = words[0].as_str();
-    let rest = &words[1..];
-    if command == "--help" {
-        return lone_order(Order::Help, rest);
-    }
-    if command == "--version" {
-        return lone_order(Order::Version, rest);
-    }
-    let command = command_named(command)?;
-    command_order(command, rest)
 }
 
 /// A law: an order that may be asked is what its words mean, in which each key has its value.
