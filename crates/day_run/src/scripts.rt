@@ -71,7 +71,7 @@ pub enum ScriptRefused {
         line: u64,
     },
     /// Want of memory.
-    #[error("no memory")]
+    #[error("out of memory")]
     NoMemory,
 }
 

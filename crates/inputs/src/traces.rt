@@ -29,7 +29,7 @@ pub enum TraceRefused {
     #[error("the word at byte {0} makes it no trace")]
     BadTrace(u64),
     /// Want of memory.
-    #[error("no memory")]
+    #[error("out of memory")]
     NoMemory,
 }
 

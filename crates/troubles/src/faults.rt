@@ -74,7 +74,7 @@ pub enum Trouble<'a> {
     #[error("the output could not be written")]
     SinkFault,
     /// Want of memory.
-    #[error("no memory")]
+    #[error("out of memory")]
     NoMemory,
     /// The gate failed.
     #[error("the gate failed")]
