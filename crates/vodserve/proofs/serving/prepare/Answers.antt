@@ -1,4 +1,4 @@
-use Rattle.std.proofs.Common.{◌≡◌, rules, None, Some, inr, option_map}
+use Rattle.std.proofs.Common.{◌≡◌, None, Some, inr, option_map}
 use Rattle.vod_base.specs.Gates.{after_open}
 use Rattle.vodserve.specs.Worked.{opening_of}
 use Rattle.vodserve.proofs.GateLemmas.{opened_few, opened_once}
