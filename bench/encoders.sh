@@ -7,20 +7,10 @@
 # are made in a folder that is removed again.
 set -u
 here=$(cd "$(dirname "$0")" && pwd)
-program=$(realpath "${1:-$here/../crates/vodserve/out/vodserve}")
-for tool in ffmpeg ffprobe python3; do
-    command -v "$tool" >/dev/null || { echo "encoders.sh: $tool is missing; nothing is compared"; exit 2; }
-done
-[ -x "$program" ] || { echo "encoders.sh: no program $program"; exit 2; }
-
-folder=$(mktemp -d)
-trap 'rm -rf "$folder"' EXIT
-cd "$folder" || exit 2
-"$program" scan film=none.mpg >/dev/null 2>&1
-if [ $? -eq 2 ]; then
-    echo "encoders.sh: $program has no command scan"
-    exit 2
-fi
+. "$here/setup.sh"
+find_program "${1:-}"
+need ffmpeg ffprobe python3
+enter_folder
 
 films=0
 different=0

@@ -9,10 +9,10 @@
 # Needs cc and python3. All files are made in a folder that is removed again.
 set -eu
 here=$(cd "$(dirname "$0")" && pwd)
+. "$here/setup.sh"
+need cc python3
 tests=$(realpath "$1")
 shift
-folder=$(mktemp -d)
-trap 'rm -rf "$folder"' EXIT
-cc -O2 -shared -fPIC -o "$folder/refuse.so" "$here/fail_alloc/refuse.c"
-cd "$folder"
+enter_folder
+cc -O2 -shared -fPIC -o refuse.so "$here/fail_alloc/refuse.c"
 python3 "$here/fail_alloc/each.py" "$folder/refuse.so" "$tests" "$@"

@@ -6,11 +6,10 @@
 # folder that is removed again.
 set -eu
 here=$(cd "$(dirname "$0")" && pwd)
-program=$(realpath "${1:-$here/../crates/vodserve/out/vodserve}")
+. "$here/setup.sh"
+find_program "${1:-}"
 rounds=${2:-3}
-folder=$(mktemp -d)
-trap 'rm -rf "$folder"' EXIT
-cd "$folder"
+enter_folder
 uptime
 python3 "$here/fair.py" "$program"
 echo "fair: plays, seconds by the clock, of the processor, and peak KiB"

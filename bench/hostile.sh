@@ -7,18 +7,10 @@
 # again, and the server is stopped in any case.
 set -u
 here=$(cd "$(dirname "$0")" && pwd)
-program=$(realpath "${1:-$here/../crates/vodserve/out/vodserve}")
-for tool in python3 ffmpeg; do
-    command -v "$tool" >/dev/null || { echo "hostile.sh: $tool is missing; nothing is tried"; exit 2; }
-done
-[ -x "$program" ] || { echo "hostile.sh: no program $program"; exit 2; }
-"$program" serve >/dev/null 2>&1
-[ $? -eq 2 ] || { echo "hostile.sh: $program has no command serve"; exit 2; }
-
-folder=$(mktemp -d)
-trap 'rm -rf "$folder"' EXIT
-trap 'exit 130' INT TERM
-cd "$folder" || exit 2
+. "$here/setup.sh"
+find_program "${1:-}"
+need python3 ffmpeg
+enter_folder
 # Where the reader of its pipe leaves, the program ends with the status and the line of its output's fault.
 { "$program" make kind=trace seed=1 pictures=100000 2>pipe.err; echo $? >pipe.status; } | head -n 1 >/dev/null
 pipe="status $(cat pipe.status), $(cat pipe.err)"

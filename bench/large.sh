@@ -7,12 +7,11 @@
 # All files are made in a folder that is removed again.
 set -eu
 here=$(cd "$(dirname "$0")" && pwd)
-program=$(realpath "${1:-$here/../crates/vodserve/out/vodserve}")
+. "$here/setup.sh"
+find_program "${1:-}"
 pictures=${2:-100000}
 times=${3:-5}
-folder=$(mktemp -d)
-trap 'rm -rf "$folder"' EXIT
-cd "$folder"
+enter_folder
 
 # joined KIND CUT: a made film so many times, each without its last CUT bytes
 joined() {

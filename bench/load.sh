@@ -9,20 +9,12 @@
 # in a folder that is removed again, and the servers are stopped in any case.
 set -u
 here=$(cd "$(dirname "$0")" && pwd)
-program=$(realpath "${1:-$here/../crates/vodserve/out/vodserve}")
+. "$here/setup.sh"
+find_program "${1:-}"
 [ $# -gt 0 ] && shift
 [ $# -gt 0 ] || set -- 1 25 100 250
-for tool in python3 ffmpeg; do
-    command -v "$tool" >/dev/null || { echo "load.sh: $tool is missing; nothing is played"; exit 2; }
-done
-[ -x "$program" ] || { echo "load.sh: no program $program"; exit 2; }
-"$program" serve >/dev/null 2>&1
-[ $? -eq 2 ] || { echo "load.sh: $program has no command serve"; exit 2; }
-
-folder=$(mktemp -d)
-trap 'rm -rf "$folder"' EXIT
-trap 'exit 130' INT TERM
-cd "$folder" || exit 2
+need python3 ffmpeg
+enter_folder
 ffmpeg -v error -f lavfi -i testsrc2=size=352x288:rate=25 -t 25 -c:v mpeg1video -bf 2 -b:v 1500k -maxrate 1800k \
     -bufsize 1000k film.mkv || exit 2
 ffmpeg -v error -i film.mkv -c copy -f mpeg1video film.mpg 2>/dev/null || exit 2

@@ -8,12 +8,12 @@
 # Needs python3 and ffmpeg. All files are made in a folder that is removed again.
 set -eu
 here=$(cd "$(dirname "$0")" && pwd)
-program=$(realpath "${1:-$here/../crates/vodserve/out/vodserve}")
+. "$here/setup.sh"
+find_program "${1:-}"
+need python3 ffmpeg
 [ $# -gt 0 ] && shift
 [ $# -gt 0 ] || set -- 0 1 50 100 200
-folder=$(mktemp -d)
-trap 'rm -rf "$folder"' EXIT
-cd "$folder"
+enter_folder
 ffmpeg -v error -f lavfi -i testsrc2=size=352x288:rate=25 -t 25 -c:v mpeg1video -bf 2 -b:v 1500k -maxrate 1800k \
     -bufsize 1000k -f mpeg1video film.mpg
-exec python3 "$here/memory/resident.py" "$program" "$folder" "$@"
+python3 "$here/memory/resident.py" "$program" "$folder" "$@"

@@ -7,16 +7,11 @@
 # removed again.
 set -eu
 here=$(cd "$(dirname "$0")" && pwd)
-program=$(realpath "${1:-$here/../crates/vodserve/out/vodserve}")
+. "$here/setup.sh"
+find_program "${1:-}"
 rounds=${2:-15}
-for tool in rustc cc python3; do
-    command -v "$tool" >/dev/null || { echo "plan.sh: $tool is missing"; exit 2; }
-done
-[ -x "$program" ] || { echo "plan.sh: no program $program"; exit 2; }
-
-folder=$(mktemp -d)
-trap 'rm -rf "$folder"' EXIT
-cd "$folder"
+need rustc cc python3
+enter_folder
 rustc --edition 2024 -O -o plain "$here/plan/plan.rs"
 cc -O2 -o plain_c "$here/plan/plan.c"
 

@@ -9,21 +9,13 @@
 # folder that is removed again, and the server is stopped in any case.
 set -u
 here=$(cd "$(dirname "$0")" && pwd)
-program=$(realpath "${1:-$here/../crates/vodserve/out/vodserve}")
-for tool in python3 ffmpeg; do
-    command -v "$tool" >/dev/null || { echo "players.sh: $tool is missing; nothing is played"; exit 2; }
-done
-[ -x "$program" ] || { echo "players.sh: no program $program"; exit 2; }
-"$program" serve >/dev/null 2>&1
-[ $? -eq 2 ] || { echo "players.sh: $program has no command serve"; exit 2; }
+. "$here/setup.sh"
+find_program "${1:-}"
+need python3 ffmpeg
 for tool in gst-launch-1.0 mpv mpeg2enc; do
     command -v "$tool" >/dev/null || echo "players.sh: $tool is missing; it is left out"
 done
-
-folder=$(mktemp -d)
-trap 'rm -rf "$folder"' EXIT
-trap 'exit 130' INT TERM
-cd "$folder" || exit 2
+enter_folder
 films=""
 bad=0
 

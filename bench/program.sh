@@ -6,7 +6,6 @@
 # TRY_FLAGS has further words for `rt try`, as --seconds 600.
 set -eu
 here=$(cd "$(dirname "$0")" && pwd)
-command -v rt >/dev/null || { echo "program.sh: rt is missing"; exit 2; }
 main=$1
 shift
 mkdir -p crates/bench_program/src

@@ -7,23 +7,12 @@
 # folder for temporary files, which is given back.
 set -eu
 here=$(cd "$(dirname "$0")" && pwd)
-program=$(realpath "${1:-$here/../crates/vodserve/out/vodserve}")
+. "$here/setup.sh"
+find_program "${1:-}"
 rounds=${2:-7}
 given=${3:+$(realpath "$3")}
-for tool in rustc python3; do
-    command -v "$tool" >/dev/null || { echo "scan.sh: $tool is missing"; exit 2; }
-done
-[ -x "$program" ] || { echo "scan.sh: no program $program"; exit 2; }
-
-folder=$(mktemp -d)
-trap 'rm -rf "$folder"' EXIT
-cd "$folder"
-status=0
-"$program" scan film=none.mpg >/dev/null 2>&1 || status=$?
-if [ "$status" -eq 2 ]; then
-    echo "scan.sh: $program has no command scan"
-    exit 2
-fi
+need rustc python3
+enter_folder
 rustc --edition 2024 -O -o count "$here/scan/count.rs"
 
 measure() { # TITLE FILM

@@ -7,19 +7,11 @@
 # has to be refused. Ends with status 2 where nothing could be tried. The server is stopped in any case.
 set -u
 here=$(cd "$(dirname "$0")" && pwd)
-program=$(realpath "${1:-$here/../crates/vodserve/out/vodserve}")
+. "$here/setup.sh"
+find_program "${1:-}"
 rounds=${2:-3}
-for tool in python3 ffmpeg; do
-    command -v "$tool" >/dev/null || { echo "start.sh: $tool is missing; nothing is tried"; exit 2; }
-done
-[ -x "$program" ] || { echo "start.sh: no program $program"; exit 2; }
-"$program" serve >/dev/null 2>&1
-[ $? -eq 2 ] || { echo "start.sh: $program has no command serve"; exit 2; }
-
-folder=$(mktemp -d)
-trap 'rm -rf "$folder"' EXIT
-trap 'exit 130' INT TERM
-cd "$folder" || exit 2
+need python3 ffmpeg
+enter_folder
 ffmpeg -v error -f lavfi -i testsrc2=size=352x288:rate=25 -t 6 -c:v mpeg1video -bf 2 -b:v 1500k -f mpeg1video part.mpg || exit 2
 limit=1073741824
 copies=$((limit / $(wc -c <part.mpg)))

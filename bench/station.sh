@@ -5,9 +5,9 @@
 # Needs rt and rustc. The programs are proved and built (`rt run`), so that both run at full speed; the first run takes minutes.
 set -eu
 here=$(cd "$(dirname "$0")" && pwd)
-folder=$(mktemp -d)
-trap 'rm -rf "$folder"' EXIT
-cd "$folder"
+. "$here/setup.sh"
+need rt rustc python3
+enter_folder
 crates="vod_base plan_cert slot_calendar admission early_start turnstile station"
 program=crates/bench_station
 hold=crates/bench_hold

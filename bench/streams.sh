@@ -7,13 +7,10 @@
 # where nothing could be compared. All files are made in a folder that is removed again.
 set -u
 here=$(cd "$(dirname "$0")" && pwd)
-program=$(realpath "${1:-$here/../crates/vodserve/out/vodserve}")
-command -v ffmpeg >/dev/null || { echo "streams.sh: ffmpeg is missing; nothing is compared"; exit 2; }
-[ -x "$program" ] || { echo "streams.sh: no program $program"; exit 2; }
-
-folder=$(mktemp -d)
-trap 'rm -rf "$folder"' EXIT
-cd "$folder" || exit 2
+. "$here/setup.sh"
+find_program "${1:-}"
+need ffmpeg
+enter_folder
 compared=0
 differing=0
 

@@ -9,16 +9,11 @@
 # removed again, and the servers are stopped in any case.
 set -u
 here=$(cd "$(dirname "$0")" && pwd)
-program=$(realpath "${1:-$here/../crates/vodserve/out/vodserve}")
+. "$here/setup.sh"
+find_program "${1:-}"
 pictures=${2:-15000}
-for tool in python3 ffmpeg; do
-    command -v "$tool" >/dev/null || { echo "watch.sh: $tool is missing; nothing is watched"; exit 2; }
-done
-[ -x "$program" ] || { echo "watch.sh: no program $program"; exit 2; }
-
-folder=$(mktemp -d)
-trap 'rm -rf "$folder"' EXIT
-trap 'exit 130' INT TERM
+need python3 ffmpeg
+enter_folder
 ffmpeg -v error -f lavfi -i testsrc2=size=352x288:rate=25 -frames:v "$pictures" -c:v mpeg1video -bf 2 -b:v 800k \
-    -f mpeg1video "$folder/film.mpg" || { echo "watch.sh: no film was encoded"; exit 2; }
+    -f mpeg1video film.mpg || { echo "watch.sh: no film was encoded"; exit 2; }
 python3 "$here/watch/play.py" "$program" "$folder" film.mpg

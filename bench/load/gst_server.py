@@ -1,9 +1,9 @@
 #!/usr/bin/env python3
-"""A plain server of gst-rtsp-server (Debian package gir1.2-gst-rtsp-server-1.0): gst_server.py PORT NAME FILM
+"""A server of gst-rtsp-server (Debian package gir1.2-gst-rtsp-server-1.0): gst_server.py PORT NAME FILM [STREAM]
 
 Serves FILM, MPEG-1 video in Matroska, as rtsp://127.0.0.1:PORT/NAME to any number of clients, each with a pipeline of its
-own that begins at the film's first picture. Runs until it is stopped. (A file of video alone has no times, and would be
-sent at once.)
+own that begins at the film's first picture. Its one stream is called STREAM, or `stream=0` as this server calls it. Runs
+until it is stopped. (A file of video alone has no times, and would be sent at once.)
 """
 
 import sys
@@ -32,6 +32,8 @@ def main():
     server.set_backlog(512)
     factory = GstRtspServer.RTSPMediaFactory()
     factory.set_launch(PIPELINE.format(film=film))
+    if sys.argv[4:]:
+        factory.connect("media-constructed", lambda _, media: media.get_stream(0).set_control(sys.argv[4]))
     server.get_mount_points().add_factory("/" + name, factory)
     server.attach(None)
     GLib.MainLoop().run()
