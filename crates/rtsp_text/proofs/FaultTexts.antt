@@ -1,9 +1,8 @@
 -- What a fault says of a message's lines.
-use Rattle.std.proofs.Common.{◌≡◌, ℕ, ◌<◌, true, nat_lt, List, [], ◌∷◌, ◌++◌, All, codes, length, get_or, drop, Option, Some, None, refl, sym, ap, subst, ◌∙◌, inl, inr, lt-ltb}
+use Rattle.std.proofs.Common.{◌≡◌, ℕ, true, List, [], ◌∷◌, ◌++◌, All, codes, get_or, drop, Option, Some, None, refl, sym, ap, subst, ◌∙◌, inl, inr}
 use Rattle.std.specs.Prelude.{IfSome, option_and_then, slice_index_or}
 use Rattle.std.proofs.lemmas.Bool.{cases_Bool, cases_order}
 use Rattle.std.proofs.lemmas.List.{append_assoc}
-use Rattle.std.proofs.lemmas.List.Elements.{All-head, All-tail}
 use Rattle.vod_base.specs.Numbers.{is_decimal, number_of}
 use Rattle.rtsp_text.specs.Lines.{before_empty, first_line, header_lines}
 use Rattle.rtsp_text.specs.Grammar.{IsRequestLine, IsHeaderLine}
@@ -14,7 +13,7 @@ use Rattle.rtsp_text.specs.Faults.{HasLines, IsFirstUnnamed, IsLineOf, IsWrong, 
 use Rattle.rtsp_text.specs.declared.requests.RequestFault.{RequestFault}
 use Rattle.rtsp_text.specs.declared.requests.RequestFault.TheVariants.{BadLine, BadVersion, BadHeader, NoSequenceNumber, BadLength}
 use Rattle.rtsp_text.proofs.FirstField.{field_value, first_tells, read_of}
-use Rattle.rtsp_text.proofs.Walks.{while_no, while_yes}
+use Rattle.rtsp_text.proofs.Walks.{before_empty-all}
 use Rattle.rtsp_text.proofs.WordTexts.{line_named, named_line, named_texts, word_is, word_of}
 
 -- the first line and the header lines
@@ -22,17 +21,10 @@ first_is : (message first : List ℕ) (texts : List (List ℕ)) → HasLines mes
 unfolding first_line
 first_is message first texts has = ap (λ (ls : List (List ℕ)). slice_index_or ls 0 []) has.lines_are
 
-before_some : (texts rest : List (List ℕ)) → All (λ text. 0 < length text) texts → before_empty (texts ++ [] ∷ rest) ≡ texts
-before_some [] rest all = while_no (λ text. nat_lt 0 (length text)) [] rest refl
-before_some (t ∷ ts) rest all =
-    while_yes (λ text. nat_lt 0 (length text)) t (ts ++ [] ∷ rest)
-    (lt-ltb 0 (length t) (All-head (λ text. 0 < length text) t ts all))
-    ∙ ap (λ l. t ∷ l) (before_some ts rest (All-tail (λ text. 0 < length text) t ts all))
-
 headers_are : (message first : List ℕ) (texts : List (List ℕ)) → HasLines message first texts → header_lines message ≡ texts
 unfolding header_lines
 headers_are message first texts has =
-    ap (λ (ls : List (List ℕ)). before_empty (drop 1 ls)) has.lines_are ∙ before_some texts has.others has.some
+    ap (λ (ls : List (List ℕ)). before_empty (drop 1 ls)) has.lines_are ∙ before_empty-all texts has.others has.some
 
 -- a request line
 spaced : (method url version : List ℕ) → method ++ codes " " ++ url ++ codes " " ++ version ≡ method ++ 32 ∷ (url ++ 32 ∷ version)

@@ -253,7 +253,7 @@ walk_more {w} {at} {e} {n} walked line some =
       feed = line.feed;
       none = no_head_more walked.after line some walked.none;
       seen = walked.seen ++ text ∷ [];
-      whole = walked.whole ∙ ap (λ l. walked.seen ++ l) next.lines_are
+      whole = walked.whole ∙ ap (λ l. walked.seen ++ l) next
           ∙ sym (append_assoc walked.seen (text ∷ []) (lines_before_empty (drop n w)));
       front = λ m few.
           let there = next_at (take m w) at e n (line_take m few line) in

@@ -7,7 +7,7 @@ use Rattle.std.specs.Str.Lines.{lines, strip_carriage_return}
 use Rattle.std.proofs.lemmas.Bool.{cases_Bool, cases_lt, and_from, or_cases, both_ways, cond-true, cond-false, eqb-true, lt-ltb}
 use Rattle.std.proofs.lemmas.Bool.Decides.{nat_tests}
 use Rattle.std.proofs.lemmas.List.{append_assoc, length-append, take_at, drop_at, get_or_append_left, get_or-append_right}
-use Rattle.std.proofs.lemmas.List.Elements.{All-nil, All-cons, All-head, All-tail, All-from_get_or}
+use Rattle.std.proofs.lemmas.List.Elements.{All-nil, All-cons, All-head, All-tail, All-weaker, All-from_get_or}
 use Rattle.std.proofs.lemmas.List.Folds.{list_all_at}
 use Rattle.std.proofs.lemmas.Fmt.{decimal_digit, decimal_step, decimal_nonempty, digits_decimal, digits_value-decimal}
 use Rattle.vod_base.specs.Lines.{IsLine}
@@ -22,7 +22,7 @@ use Rattle.rtsp_text.proofs.Heads.{HasWalked, walk_first, walk_more, walk_end}
 use Rattle.rtsp_text.proofs.OneLines.{decimal_numerals, one_line-append, one_line-decimal}
 use Rattle.rtsp_text.proofs.Values.{value_some, value_other, first_value-nil, first_value_some, first_value_more}
 use Rattle.rtsp_text.proofs.Words.{token_without}
-use Rattle.rtsp_text.proofs.Walks.{lines-at, while_yes, while_no}
+use Rattle.rtsp_text.proofs.Walks.{lines-at, before_empty-all}
 
 -- a text that is a line by itself
 pub record IsLineText (text : List ℕ) : Type 0 where
@@ -126,13 +126,6 @@ lines-flat (t ∷ ts) rest all =
     ap lines (append_assoc (t ++ codes "\r\n") (flat ts) rest)
     ∙ lines-line t (flat ts ++ rest) (All-head IsLineText t ts all).one_line
     ∙ ap (λ l. t ∷ l) (lines-flat ts rest (All-tail IsLineText t ts all))
-
-before_empty-all : (texts rest : List (List ℕ)) → All IsLineText texts → before_empty (texts ++ [] ∷ rest) ≡ texts
-before_empty-all [] rest all = while_no (λ text. nat_lt 0 (length text)) [] rest refl
-before_empty-all (t ∷ ts) rest all =
-    let long = (All-head IsLineText t ts all).some in
-    while_yes (λ text. nat_lt 0 (length text)) t (ts ++ [] ∷ rest) (grind (arith, nat_tests))
-    ∙ ap (λ l. t ∷ l) (before_empty-all ts rest (All-tail IsLineText t ts all))
 
 -- the text of a field's line
 abbrev pub text_of : Field → List ℕ
@@ -486,7 +479,8 @@ core s ts body one all =
       split = subst (λ (b : List ℕ). IsSplit m (front ++ codes "\r\n") b) body_is
           (subst (λ (h : List ℕ). IsSplit m h (drop (n + 2) m)) head_is ended);
       first = ap (λ ls. get_or ls 0 []) all_lines;
-      headers = ap (λ ls. before_empty (drop 1 ls)) head_lines ∙ before_empty-all ts [] all;
+      headers = ap (λ ls. before_empty (drop 1 ls)) head_lines
+          ∙ before_empty-all ts [] (All-weaker IsLineText (λ text. 0 < length text) (λ text line. line.some) ts all);
     }
 
 -- the front of a reply by its lines

@@ -1,15 +1,15 @@
 -- Going through a text line by line, against its lines as a whole.
-use Rattle.std.proofs.Common.{◌≡◌, ◌≢◌, ℕ, ◌+◌, ◌-◌, ◌<◌, ◌&&◌, ◌==◌, Bool, true, false, nat_lt, List, [], ◌∷◌, ◌++◌, All, length, get_or, take, drop, suc, refl, sym, ap, subst, ◌∙◌, arith, inl, inr, ne_eqb}
-use Rattle.std.specs.Prelude.{take_while}
+use Rattle.std.proofs.Common.{◌≡◌, ◌≢◌, ℕ, ◌+◌, ◌-◌, ◌<◌, ◌&&◌, ◌==◌, ◌≤◌, true, false, nat_lt, List, [], ◌∷◌, ◌++◌, All, length, get_or, take, drop, refl, sym, ap, subst, ◌∙◌, arith, inl, inr, ne_eqb}
 use Rattle.std.specs.List.{slice_split, prefix_len}
 use Rattle.std.specs.Str.Lines.{lines, lines_of_parts, strip_carriage_return}
-use Rattle.std.proofs.lemmas.Bool.{cases_Bool, cases_lt, cond-true, cond-false}
+use Rattle.std.proofs.lemmas.Bool.{cases_Bool, cases_lt, cond-true, cond-false, lt-ltb}
 use Rattle.std.proofs.lemmas.Bool.Decides.{nat_tests}
 use Rattle.std.proofs.lemmas.List.{take-append-drop, drop_more, take-take, length-take, length-take-le, length-drop, get_or-take}
-use Rattle.std.proofs.lemmas.List.Elements.{All-from_get_or}
+use Rattle.std.proofs.lemmas.List.Elements.{All-head, All-tail, All-from_get_or}
+use Rattle.std.proofs.lemmas.List.Sums.{take_while-cons, count_by-le-length}
 use Rattle.std.proofs.lemmas.List.Splits.{slice_split_none, slice_split_at, length-slice_split}
 use Rattle.vod_base.specs.Lines.{IsLine, HasNoLine}
-use Rattle.rtsp_text.specs.Lines.{before_empty, first_line, lines_before_empty, header_lines, IsNextLine, IsNextHeaderLine}
+use Rattle.rtsp_text.specs.Lines.{before_empty, first_line, lines_before_empty, header_lines, IsNextLine}
 
 -- a part before a newline is a line
 parts_more : (x : List ℕ) (parts : List (List ℕ)) → 0 < length parts
@@ -115,47 +115,75 @@ pub header_lines-nil : (bytes : List ℕ) → bytes ≡ [] → lines_before_empt
 unfolding header_lines lines_before_empty
 header_lines-nil bytes none = let P : List ℕ → Type 0 = λ b. lines_before_empty b ≡ header_lines b in subst P (sym none) refl
 
--- one element more, or none
-pub while_yes : (p : List ℕ → Bool) (x : List ℕ) (xs : List (List ℕ)) → p x ≡ true → take_while p (x ∷ xs) ≡ x ∷ take_while p xs
-while_yes p x xs holds =
-    let more : prefix_len p (x ∷ xs) ≡ suc (prefix_len p xs) = rw holds (omega arith) in
-    ap (λ n. take n (x ∷ xs)) more
+-- the lines before the first empty one, one line on
+before_empty-some : (x : List ℕ) (xs : List (List ℕ)) → 0 < length x → before_empty (x ∷ xs) ≡ x ∷ before_empty xs
+before_empty-some x xs some =
+    take_while-cons (λ text. nat_lt 0 (length text)) x xs
+    ∙ cond-true (nat_lt 0 (length x)) (x ∷ before_empty xs) [] (lt-ltb 0 (length x) some)
 
-pub while_no : (p : List ℕ → Bool) (x : List ℕ) (xs : List (List ℕ)) → p x ≡ false → take_while p (x ∷ xs) ≡ []
-while_no p x xs fails =
-    let none : prefix_len p (x ∷ xs) ≡ 0 = rw fails refl in
-    ap (λ n. take n (x ∷ xs)) none
+before_empty-none : (x : List ℕ) (xs : List (List ℕ)) → length x ≡ 0 → before_empty (x ∷ xs) ≡ []
+before_empty-none x xs none =
+    take_while-cons (λ text. nat_lt 0 (length text)) x xs
+    ∙ cond-false (nat_lt 0 (length x)) (x ∷ before_empty xs) [] (grind (arith, nat_tests))
 
-pub next_header : (bytes line rest : List ℕ) → IsNextLine bytes line rest → 0 < length line → IsNextHeaderLine bytes line rest
+-- lines up to an empty one
+pub before_empty-all : (texts rest : List (List ℕ)) → All (λ text. 0 < length text) texts
+    → before_empty (texts ++ [] ∷ rest) ≡ texts
+before_empty-all [] rest all = before_empty-none [] rest refl
+before_empty-all (t ∷ ts) rest all =
+    before_empty-some t (ts ++ [] ∷ rest) (All-head (λ text. 0 < length text) t ts all)
+    ∙ ap (λ l. t ∷ l) (before_empty-all ts rest (All-tail (λ text. 0 < length text) t ts all))
+
+pub next_header : (bytes line rest : List ℕ) → IsNextLine bytes line rest → 0 < length line
+    → lines_before_empty bytes ≡ line ∷ lines_before_empty rest
 unfolding lines_before_empty
-next_header bytes line rest h some = record {
-  lines_are = ap before_empty h.lines_are
-      ∙ while_yes (λ text. nat_lt 0 (length text)) line (lines rest) (grind (arith, nat_tests));
-  shorter = h.shorter;
-}
+next_header bytes line rest h some =
+    ap before_empty h.lines_are ∙ before_empty-some line (lines rest) some
 
 pub next_empty : (bytes line rest : List ℕ) → IsNextLine bytes line rest → length line ≡ 0 → lines_before_empty bytes ≡ []
 unfolding lines_before_empty
 next_empty bytes line rest h none =
-    ap before_empty h.lines_are ∙ while_no (λ text. nat_lt 0 (length text)) line (lines rest) (grind (arith, nat_tests))
+    ap before_empty h.lines_are ∙ before_empty-none line (lines rest) none
 
 pub lines_before_empty-nil : (bytes : List ℕ) → bytes ≡ [] → lines_before_empty bytes ≡ []
 unfolding lines_before_empty
 lines_before_empty-nil bytes none = let P : List ℕ → Type 0 = λ b. lines_before_empty b ≡ [] in subst P (sym none) refl
 
+-- a text has at most as many header lines as bytes
+few_parts : (parts : List (List ℕ)) → length (lines_of_parts parts) ≤ length parts
+few_parts [] = omega arith
+few_parts (x ∷ []) = elim (cases_Bool (length x == 0)) [
+  | inl none ↦ rw none (omega arith)
+  | inr some ↦ rw some (omega arith)
+]
+few_parts (x ∷ y ∷ parts) = omega (arith, few_parts (y ∷ parts))
+
+pub header_lines-few : (bytes : List ℕ) → length (header_lines bytes) ≤ length bytes
+unfolding header_lines
+header_lines-few bytes =
+    let parts = slice_split (λ b. b == 10) bytes in
+    omega (
+      arith,
+      length-take (prefix_len (λ text. nat_lt 0 (length text)) (drop 1 (lines bytes))) (drop 1 (lines bytes)),
+      length-drop 1 (lines bytes),
+      few_parts parts,
+      length-slice_split (λ b. b == 10) bytes,
+      count_by-le-length (λ b. b == 10) bytes,
+    )
+
 -- what stands before the first empty line has no empty line
 pub before_empty-closed : (xs : List (List ℕ)) → before_empty (before_empty xs ++ [] ∷ []) ≡ before_empty xs
 before_empty-closed [] = refl
 before_empty-closed (x ∷ xs) =
-    elim (cases_Bool (nat_lt 0 (length x))) [
+    elim (cases_lt 0 (length x)) [
       | inl some ↦ (
-          let front : before_empty (x ∷ xs) ≡ x ∷ before_empty xs = while_yes (λ text. nat_lt 0 (length text)) x xs some in
+          let front : before_empty (x ∷ xs) ≡ x ∷ before_empty xs = before_empty-some x xs some in
           ap (λ l. before_empty (l ++ [] ∷ [])) front
-          ∙ while_yes (λ text. nat_lt 0 (length text)) x (before_empty xs ++ [] ∷ []) some
+          ∙ before_empty-some x (before_empty xs ++ [] ∷ []) some
           ∙ ap (λ l. x ∷ l) (before_empty-closed xs) ∙ sym front
           )
       | inr none ↦ (
-          let front : before_empty (x ∷ xs) ≡ [] = while_no (λ text. nat_lt 0 (length text)) x xs none in
+          let front : before_empty (x ∷ xs) ≡ [] = before_empty-none x xs (omega (arith, none)) in
           ap (λ l. before_empty (l ++ [] ∷ [])) front ∙ sym front
           )
     ]

@@ -31,11 +31,6 @@ pub record IsNextLine (bytes line rest : List ℕ) : Type 0 where
   pub lines_are : lines bytes ≡ line ∷ lines rest
   pub shorter : length rest < length bytes
 
--- the same, where that line isn't empty
-pub record IsNextHeaderLine (bytes line rest : List ℕ) : Type 0 where
-  pub lines_are : lines_before_empty bytes ≡ line ∷ lines_before_empty rest
-  pub shorter : length rest < length bytes
-
 -- a message is cut after the empty line of its head, which has the lines of the message up to there
 pub record IsSplit (message head body : List ℕ) : Type 0 where
   pub parts : message ≡ head ++ body

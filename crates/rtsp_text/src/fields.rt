@@ -6,7 +6,7 @@ ghost use Rattle.vod_base.specs.Numbers.{number_of};
 ghost use Rattle.rtsp_text.specs.Lines.{header_lines};
 ghost use Rattle.rtsp_text.specs.Fields.{value_in, header_value, sequence_number, first_sequence};
 
-use crate::lines::{after_first_line, next_header_line};
+use crate::lines::header_lines;
 use vod_base::{read_number, split_at_first, trim};
 
 /// The name of the field that has the sequence number.
@@ -16,12 +16,10 @@ const SEQUENCE: &[u8; 4] = b"CSeq";
 pub(crate) fn header_value<'a>(head: &'a [u8], name: &[u8]) -> Option<&'a [u8]>
     ensures { option_map (λ value. value.now) result ≡ header_value head.now name.now }
 {
-    let mut rest = after_first_line(head);
-    while let Some((line, after)) = next_header_line(rest) {
+    for line in header_lines(head) {
         if let Some(value) = value_in(name, line) {
             return Some(value);
         }
-        rest = after;
     }
     None
 }
@@ -37,12 +35,10 @@ pub(crate) fn sequence_number(head: &[u8]) -> Option<u64>
 pub(crate) fn first_sequence(head: &[u8]) -> Option<u64>
     ensures { result ≡ first_sequence head.now }
 {
-    let mut rest = after_first_line(head);
-    while let Some((line, after)) = next_header_line(rest) {
+    for line in header_lines(head) {
         if let Some(number) = number_in(value_in(SEQUENCE, line)) {
             return Some(number);
         }
-        rest = after;
     }
     None
 }

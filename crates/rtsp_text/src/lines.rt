@@ -1,9 +1,10 @@
 //! The lines of a message's head.
 
 ghost use Rattle.std.specs.Prelude.{◌≡◌, ◌≤◌, [], length, take, drop, MatchOption};
+ghost use Rattle.std.specs.Iterator.{YieldsFirstRef, item_count};
 ghost use Rattle.interleave.specs.Pieces.{IsRequestLength};
 ghost use Rattle.rtsp_text.specs.Lines.{first_line, lines_before_empty, header_lines, IsNextLine};
-ghost use Rattle.rtsp_text.specs.Lines.{IsNextHeaderLine, IsSplit};
+ghost use Rattle.rtsp_text.specs.Lines.{IsSplit};
 
 use vod_base::line_end;
 
@@ -17,25 +18,37 @@ pub(crate) fn first_line(message: &[u8]) -> &[u8]
     }
 }
 
-/// What stands after a head's first line.
-pub(crate) fn after_first_line(head: &[u8]) -> &[u8]
-    ensures lines { lines_before_empty result.now ≡ header_lines head.now }
-    ensures shorter { length result.now ≤ length head.now }
-{
-    match next_line(head) {
-        Some((_, rest)) => rest,
-        None => head,
+/// The texts of the header lines of a head that are still to come, up to its empty line.
+#[derive(Drop)]
+pub(crate) struct HeaderLines<'a> {
+    rest: &'a [u8],
+}
+
+impl<'a> Iterator for HeaderLines<'a> {
+    type Item = &'a [u8];
+
+    ghost next_gives = { YieldsFirstRef (λ lines. lines_before_empty lines.rest.now) };
+
+    ghost remaining = { item_count (λ lines. lines_before_empty lines.rest.now) };
+
+    fn next(&mut self) -> Option<&'a [u8]> {
+        match next_line(self.rest) {
+            Some((line, rest)) if !line.is_empty() => {
+                self.rest = rest;
+                Some(line)
+            }
+            _ => None,
+        }
     }
 }
 
-/// The text of the first line, where that isn't empty, and what stands after that line's end.
-pub(crate) fn next_header_line(bytes: &[u8]) -> Option<(&[u8], &[u8])>
-    ensures { MatchOption result (lines_before_empty bytes.now ≡
-        []) (λ parts. IsNextHeaderLine bytes.now parts.0.now parts.1.now) }
+/// The texts of a head's header lines, in order.
+pub(crate) fn header_lines(head: &[u8]) -> HeaderLines<'_>
+    ensures { lines_before_empty result.rest.now ≡ header_lines head.now }
 {
-    match next_line(bytes) {
-        Some((line, rest)) if !line.is_empty() => Some((line, rest)),
-        _ => None,
+    match next_line(head) {
+        Some((_, rest)) => HeaderLines { rest },
+        None => HeaderLines { rest: head },
     }
 }
 

@@ -13,7 +13,7 @@ ghost use Rattle.rtsp_text.specs.Fields.{IsFirstNumber, HasNoNumber};
 
 use crate::fields;
 use crate::grammar::{is_decimal, is_header_line, is_rtsp_1_0, request_line};
-use crate::lines::{after_first_line, first_line, next_header_line, split};
+use crate::lines::{first_line, header_lines, split};
 use std::error::Error;
 use std::fmt;
 
@@ -132,14 +132,12 @@ fn first_bad(message: &[u8]) -> Option<u64>
     ensures { MatchOption result (All IsHeaderLine (header_lines message.now))
         (IsFirstBad (header_lines message.now)) }
 {
-    let mut rest = after_first_line(message);
     let mut count = 0u64;
-    while let Some((line, after)) = next_header_line(rest) {
+    for line in header_lines(message) {
         count += 1;
         if !is_header_line(line) {
             return Some(count);
         }
-        rest = after;
     }
     None
 }

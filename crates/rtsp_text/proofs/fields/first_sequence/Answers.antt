@@ -6,13 +6,13 @@ use Rattle.rtsp_text.proofs.fields.first_sequence.Goals as goal
 
 pub returns-in-Some-number_in : goal.returns-in-Some-number_in
 returns-in-Some-number_in c =
-    sym (first_number_some (codes "CSeq") _ _ _ c.in-Some.ensures.lines_are
+    sym (first_number_some (codes "CSeq") _ _ _ c.in-Some.ensures.steps
     (ap (option_and_then number_of) (sym c.value_in.ensures) ∙ sym c.in-Some-number_in.ensures)) ∙ c.loop-line.invariant
 
 pub loop-line-preserved : goal.loop-line-preserved
 loop-line-preserved c =
-    sym (first_number_more (codes "CSeq") _ _ _ c.in-Some.ensures.lines_are
-    (ap (option_and_then number_of) (sym c.value_in.ensures) ∙ sym c.in_default-number_in.ensures)) ∙ c.loop-line.invariant
+    sym (first_number_more (codes "CSeq") _ _ _ c.in-Some.ensures.steps
+    (ap (option_and_then number_of) (sym c.value_in.ensures) ∙ sym c.in_default.ensures)) ∙ c.loop-line.invariant
 
 pub returns : goal.returns
-returns c = sym (first_number-nil (codes "CSeq") _ c.in_default.ensures) ∙ c.loop-line.invariant
+returns c = sym (first_number-nil (codes "CSeq") _ c.in-None.ensures.steps.0) ∙ c.loop-line.invariant

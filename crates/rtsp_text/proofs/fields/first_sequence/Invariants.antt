@@ -1,11 +1,9 @@
-use Rattle.std.proofs.Common.{◌≡◌, length, codes}
+use Rattle.std.proofs.Common.{◌≡◌, codes}
 use Rattle.rtsp_text.specs.Lines.{lines_before_empty, header_lines}
 use Rattle.rtsp_text.specs.Fields.{first_number}
 use Rattle.rtsp_text.proofs.fields.first_sequence.Given as goal
 
 abbrev pub invariant-loop-line : goal.invariant-loop-line
 invariant-loop-line l =
-    first_number (codes "CSeq") (lines_before_empty l.rest) ≡ first_number (codes "CSeq") (header_lines l.head)
-
-abbrev pub decreases-loop-line : goal.decreases-loop-line
-decreases-loop-line l = length l.rest
+    first_number (codes "CSeq") (lines_before_empty l.line-iterator.rest.now) ≡
+    first_number (codes "CSeq") (header_lines l.head)
