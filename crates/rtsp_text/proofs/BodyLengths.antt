@@ -15,7 +15,8 @@ use Rattle.interleave.proofs.Found.{name_within}
 use Rattle.rtsp_text.specs.Lines.{is_one_line}
 use Rattle.rtsp_text.specs.Replies.{Field, IsPlain, value_named}
 use Rattle.rtsp_text.proofs.Cuts.{is_other, other_is, cut_once}
-use Rattle.rtsp_text.proofs.ReadBack.{IsLineText, flat, text_of, text_line, line_here}
+use Rattle.rtsp_text.proofs.LineTexts.{IsLineText, flat, line_here}
+use Rattle.rtsp_text.proofs.ReadBack.{text_of, text_line}
 use Rattle.rtsp_text.proofs.Words.{token_without}
 
 -- the bytes of a field's line, between others

@@ -9,7 +9,7 @@ use Rattle.interleave.specs.Heads.{HasNoHead, IsHead}
 use Rattle.rtsp_text.specs.Lines.{is_one_line}
 use Rattle.rtsp_text.specs.EndedLines.{EndedLine, line_bytes, head_bytes, IsEnded, IsHeader, IsEmpty}
 use Rattle.rtsp_text.proofs.Heads.{no_head_first, no_head_more, head_here}
-use Rattle.rtsp_text.proofs.ReadBack.{line_here, other_byte}
+use Rattle.rtsp_text.proofs.LineTexts.{line_here, other_byte}
 
 -- the line that ends with LF alone and stands after these bytes
 line_here_lf : (a t rest : List ℕ) → is_one_line t ≡ true → (0 < length t → get_or t (length t - 1) 0 ≢ 13)

@@ -12,6 +12,8 @@ pub mod Inside
 pub mod Bounds
 pub mod OneLines
 pub mod StatusTexts
+pub mod LineTexts
+pub mod Statuses
 pub mod ReadBack
 pub mod BodyLengths
 pub mod WordTexts

@@ -20,7 +20,9 @@ use Rattle.rtsp_text.specs.Requests.{IsRequest}
 use Rattle.rtsp_text.specs.Replies.{Field, field_line, IsPlain, value_named, is_code, reply_front, reply_text, all_fields}
 use Rattle.rtsp_text.specs.Spelled.{Parts, request_line, request_front, request_head, request_text, IsHeaderField, HasGivenLength, GivesLongBody, HasForm, AreFront, AreRequest, AreShort}
 use Rattle.rtsp_text.proofs.OneLines.{one_line_from, one_line-append, one_line-url}
-use Rattle.rtsp_text.proofs.ReadBack.{IsLineText, ReplyParts, core, flat, flat-fields, text_of, texts_lines, values_named, status_of, status_text-line, front_lines}
+use Rattle.rtsp_text.proofs.LineTexts.{IsLineText, core, flat}
+use Rattle.rtsp_text.proofs.Statuses.{status_of, status_text-line}
+use Rattle.rtsp_text.proofs.ReadBack.{ReplyParts, flat-fields, text_of, texts_lines, values_named, front_lines}
 use Rattle.rtsp_text.proofs.Words.{token_without}
 use Rattle.rtsp_text.proofs.Numbers.{number_read}
 use Rattle.rtsp_text.proofs.WordTexts.{word_is, word_of, value_is, named_texts, visible_of}

@@ -1,6 +1,6 @@
 -- The text of a reply (RFC 2326 section 7): a status line, CSeq, fields, an empty line and a body.
 -- Lines end with CR LF.
-use Rattle.std.specs.Prelude.{◌≡◌, ℕ, ◌++◌, ◌==◌, ◌||◌, Bool, true, if◌then◌else◌, List, [], ◌∷◌}
+use Rattle.std.specs.Prelude.{◌≡◌, ℕ, ◌++◌, ◌==◌, ◌||◌, Bool, true, false, if◌then◌else◌, List, [], ◌∷◌}
 use Rattle.std.specs.Prelude.{Option, Some, None, codes, decimal, flat_map}
 use Rattle.std.specs.Str.{str_eq_ignore_ascii_case}
 use Rattle.vod_base.specs.Blanks.{without_blanks}
@@ -9,31 +9,44 @@ use Rattle.rtsp_text.specs.Lines.{is_one_line}
 use Rattle.rtsp_text.specs.Fields.{header_value}
 use Rattle.rtsp_text.specs.StatusLines.{IsReply}
 
--- the codes that a reply may have
-abbrev pub is_code : ℕ → Bool
-is_code code =
-    (code == 200) || (code == 400) || (code == 404) || (code == 451) || (code == 453)
-    || (code == 454) || (code == 455)
-    || (code == 457) || (code == 461) || (code == 500) || (code == 501) || (code == 503)
-    || (code == 505) || (code == 551)
+-- the statuses that a reply may have: each code, and the phrase that RFC 2326 section 7.1.1
+-- recommends for it
+abbrev pub statuses : List (ℕ × List ℕ)
+statuses =
+    (200, codes "OK")
+    ∷ (400, codes "Bad Request")
+    ∷ (404, codes "Not Found")
+    ∷ (451, codes "Parameter Not Understood")
+    ∷ (453, codes "Not Enough Bandwidth")
+    ∷ (454, codes "Session Not Found")
+    ∷ (455, codes "Method Not Valid In This State")
+    ∷ (457, codes "Invalid Range")
+    ∷ (461, codes "Unsupported Transport")
+    ∷ (500, codes "Internal Server Error")
+    ∷ (501, codes "Not Implemented")
+    ∷ (503, codes "Service Unavailable")
+    ∷ (505, codes "RTSP Version Not Supported")
+    ∷ (551, codes "Option Not Supported")
+    ∷ []
 
--- the reason of each code (RFC 2326 section 7.1.1 recommends such phrases)
+-- whether a code is among these
+abbrev pub has_code : List (ℕ × List ℕ) → ℕ → Bool
+has_code [] code = false
+has_code (status ∷ others) code = (code == status.0) || has_code others code
+
+-- the phrase that these give a code
+abbrev pub phrase_among : List (ℕ × List ℕ) → ℕ → List ℕ
+phrase_among [] code = []
+phrase_among (status ∷ others) code =
+    if code == status.0 then status.1 else phrase_among others code
+
+-- whether a reply may have this code
+abbrev pub is_code : ℕ → Bool
+is_code code = has_code statuses code
+
+-- the reason of a code
 abbrev pub reason : ℕ → List ℕ
-reason code =
-    if code == 200 then codes "OK"
-    else (if code == 400 then codes "Bad Request"
-    else (if code == 404 then codes "Not Found"
-    else (if code == 451 then codes "Parameter Not Understood"
-    else (if code == 453 then codes "Not Enough Bandwidth"
-    else (if code == 454 then codes "Session Not Found"
-    else (if code == 455 then codes "Method Not Valid In This State"
-    else (if code == 457 then codes "Invalid Range"
-    else (if code == 461 then codes "Unsupported Transport"
-    else (if code == 500 then codes "Internal Server Error"
-    else (if code == 501 then codes "Not Implemented"
-    else (if code == 503 then codes "Service Unavailable"
-    else (if code == 505 then codes "RTSP Version Not Supported"
-    else codes "Option Not Supported"))))))))))))
+reason code = phrase_among statuses code
 
 -- a field: its name and its value
 pub record Field : Type 0 where

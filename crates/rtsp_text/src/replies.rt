@@ -202,6 +202,7 @@ fn reason(code: u16) -> &'static [u8]
         501 => b"Not Implemented",
         503 => b"Service Unavailable",
         505 => b"RTSP Version Not Supported",
-        _ => b"Option Not Supported",
+        551 => b"Option Not Supported",
+        _ => unreachable!(),
     }
 }

@@ -1,0 +1,107 @@
+-- The statuses of replies, and the status line of each.
+use Rattle.std.proofs.Common.{◌≡◌, ◌≢◌, ℕ, ◌+◌, ◌-◌, ◌/◌, ◌%◌, ◌^◌, ◌<◌, ◌≤◌, ◌&&◌, ◌||◌, ◌==◌, true, false, not, nat_le, nat_lt, Bool, List, [], ◌∷◌, ◌++◌, All, codes, decimal, map, flat_map, length, get_or, take, drop, Option, Some, None, refl, sym, ap, subst, ◌∙◌, arith, inl, inr, ne_eqb, eq-eqb}
+use Rattle.std.specs.List.{list_all}
+use Rattle.std.specs.Char.{is_ascii_digit}
+use Rattle.std.specs.Str.{str_eq_ignore_ascii_case}
+use Rattle.std.specs.Str.Lines.{lines, strip_carriage_return}
+use Rattle.std.proofs.lemmas.Bool.{cases_Bool, cases_lt, and_from, and_parts, both_ways, cond-true, cond-false, eqb-true, lt-ltb}
+use Rattle.std.proofs.lemmas.Bool.Decides.{nat_tests}
+use Rattle.std.proofs.lemmas.List.{append_assoc, length-append, take_at, drop_at, get_or_append_left, get_or-append_right}
+use Rattle.std.proofs.lemmas.List.Elements.{All-nil, All-cons, All-head, All-tail, All-weaker, All-from_get_or}
+use Rattle.std.proofs.lemmas.List.Folds.{list_all_at}
+use Rattle.std.proofs.lemmas.Fmt.{decimal_digit, decimal_step, decimal_nonempty, digits_decimal, digits_value-decimal}
+use Rattle.vod_base.specs.Lines.{IsLine}
+use Rattle.vod_base.specs.Splits.{IsSplitAtFirst}
+use Rattle.interleave.specs.Pieces.{IsRequestLength}
+use Rattle.rtsp_text.specs.Lines.{is_one_line, before_empty, first_line, header_lines, IsSplit}
+use Rattle.rtsp_text.specs.Fields.{first_value}
+use Rattle.rtsp_text.specs.Replies.{statuses, has_code, phrase_among, is_code, reason, Field, field_line, sequence_line, status_line, reply_front, reply_text, all_fields, IsPlain, value_named, IsReadBack}
+use Rattle.rtsp_text.specs.StatusLines.{IsCode, IsStatusLine}
+use Rattle.rtsp_text.proofs.Bounds.{lengths_of}
+use Rattle.rtsp_text.proofs.Heads.{HasWalked, walk_first, walk_more, walk_end}
+use Rattle.rtsp_text.proofs.OneLines.{decimal_numerals, one_line-append, one_line-decimal}
+use Rattle.rtsp_text.proofs.Values.{value_some, value_other, first_value-nil, first_value_some, first_value_more}
+use Rattle.rtsp_text.proofs.Words.{token_without}
+use Rattle.rtsp_text.proofs.Walks.{lines-at, before_empty-all}
+use Rattle.rtsp_text.proofs.LineTexts.{IsLineText}
+
+-- what a code's status line needs
+pub record IsStatus (code : ℕ) : Type 0 where
+  pub three : 100 ≤ code
+  pub small : code < 1000
+  pub some : 0 < length (reason code)
+  pub no_space : get_or (reason code) 0 0 ≢ 32
+  pub one_line : is_one_line (reason code) ≡ true
+
+-- such a code has three digits
+code_digits : (code : ℕ) → 100 ≤ code → code < 1000 → IsCode (decimal code) code
+code_digits code three small =
+    let fits : code < 2 ^ 64 = omega arith in
+    let one : length (decimal code) ≡ length (decimal (code / 10)) + 1 =
+    ap length (decimal_step code (omega arith) fits) ∙ length-append (decimal (code / 10)) ((48 + code % 10) ∷ []) in
+    let two : length (decimal (code / 10)) ≡ length (decimal (code / 10 / 10)) + 1 =
+    ap length (decimal_step (code / 10) (omega arith) (omega arith))
+    ∙ length-append (decimal (code / 10 / 10)) ((48 + code / 10 % 10) ∷ []) in
+    let last : length (decimal (code / 10 / 10)) ≡ 1 = ap length (decimal_digit (code / 10 / 10) (omega arith)) in
+    record {
+      three = omega (arith, one, two, last);
+      decimal = and_from (nat_lt 0 (length (decimal code))) (list_all is_ascii_digit (decimal code))
+          (lt-ltb 0 (length (decimal code)) (decimal_nonempty code fits)) (digits_decimal decimal_numerals code fits);
+      code_is = sym (digits_value-decimal decimal_numerals code fits);
+    }
+
+-- what the table has to say of each of its statuses
+abbrev is_sound : List ℕ → ℕ → Bool
+is_sound phrase code = nat_le 100 code && nat_lt code 1000 && nat_lt 0 (length phrase)
+    && not (get_or phrase 0 0 == 32) && is_one_line phrase
+
+found_sound : (table : List (ℕ × List ℕ)) (code : ℕ) → list_all (λ status. is_sound status.1 status.0) table ≡ true →
+    has_code table code ≡ true → is_sound (phrase_among table code) code ≡ true
+found_sound [] code sound has = cc
+found_sound (status ∷ others) code sound has =
+    let parts = and_parts (is_sound status.1 status.0) (list_all (λ s. is_sound s.1 s.0) others) sound in
+    elim (cases_Bool (code == status.0)) [
+      | inl here ↦
+          ap (λ phrase. is_sound phrase code) (cond-true (code == status.0) status.1 (phrase_among others code) here)
+          ∙ ap (is_sound status.1) (eqb-true code status.0 here) ∙ parts.0
+      | inr other ↦
+          ap (λ phrase. is_sound phrase code) (cond-false (code == status.0) status.1 (phrase_among others code) other)
+          ∙ found_sound others code parts.1 (sym (ap (λ b. b || has_code others code) other) ∙ has)
+    ]
+
+pub status_of : (code : ℕ) → is_code code ≡ true → IsStatus code
+status_of code is =
+    let sound = found_sound statuses code refl is in
+    let phrase = reason code in
+    let all = and_parts (nat_le 100 code && nat_lt code 1000 && nat_lt 0 (length phrase)
+    && not (get_or phrase 0 0 == 32)) (is_one_line phrase) sound in
+    record {
+      three = grind (arith, nat_tests, all);
+      small = grind (arith, nat_tests, all);
+      some = grind (arith, nat_tests, all);
+      no_space = grind (arith, nat_tests, all);
+      one_line = all.1;
+    }
+
+-- the text of the status line
+abbrev pub status_text : ℕ → List ℕ
+status_text code = codes "RTSP/1.0 " ++ decimal code ++ codes " " ++ reason code
+
+pub status_text-line : (code : ℕ) → IsStatus code → IsLineText (status_text code)
+status_text-line code status = record {
+  some = omega (arith, length-append (codes "RTSP/1.0 " ++ decimal code ++ codes " ") (reason code), status.some);
+  one_line = one_line-append (codes "RTSP/1.0 " ++ decimal code ++ codes " ") (reason code)
+      (one_line-append (codes "RTSP/1.0 " ++ decimal code) (codes " ")
+      (one_line-append (codes "RTSP/1.0 ") (decimal code) refl
+      (one_line-decimal code (omega (arith, status.small)))) refl) status.one_line;
+}
+
+pub status_text-status : (code : ℕ) → IsStatus code → IsStatusLine (status_text code) code (reason code)
+status_text-status code status = record {
+  digits = decimal code;
+  parts = append_assoc (codes "RTSP/1.0 " ++ decimal code) (codes " ") (reason code)
+      ∙ append_assoc (codes "RTSP/1.0 ") (decimal code) (32 ∷ reason code);
+  is_code = code_digits code status.three status.small;
+  some = status.some;
+  no_space = status.no_space;
+}
