@@ -1,28 +1,15 @@
 -- The statuses of replies, and the status line of each.
-use Rattle.std.proofs.Common.{◌≡◌, ◌≢◌, ℕ, ◌+◌, ◌-◌, ◌/◌, ◌%◌, ◌^◌, ◌<◌, ◌≤◌, ◌&&◌, ◌||◌, ◌==◌, true, false, not, nat_le, nat_lt, Bool, List, [], ◌∷◌, ◌++◌, All, codes, decimal, map, flat_map, length, get_or, take, drop, Option, Some, None, refl, sym, ap, subst, ◌∙◌, arith, inl, inr, ne_eqb, eq-eqb}
+use Rattle.std.proofs.Common.{◌≡◌, ◌≢◌, ℕ, ◌+◌, ◌/◌, ◌%◌, ◌^◌, ◌<◌, ◌≤◌, ◌&&◌, ◌||◌, ◌==◌, true, not, nat_le, nat_lt, Bool, List, [], ◌∷◌, ◌++◌, codes, decimal, length, get_or, refl, sym, ap, ◌∙◌, arith, inl, inr}
 use Rattle.std.specs.List.{list_all}
 use Rattle.std.specs.Char.{is_ascii_digit}
-use Rattle.std.specs.Str.{str_eq_ignore_ascii_case}
-use Rattle.std.specs.Str.Lines.{lines, strip_carriage_return}
-use Rattle.std.proofs.lemmas.Bool.{cases_Bool, cases_lt, and_from, and_parts, both_ways, cond-true, cond-false, eqb-true, lt-ltb}
+use Rattle.std.proofs.lemmas.Bool.{cases_Bool, and_from, and_parts, cond-true, cond-false, eqb-true, lt-ltb}
 use Rattle.std.proofs.lemmas.Bool.Decides.{nat_tests}
-use Rattle.std.proofs.lemmas.List.{append_assoc, length-append, take_at, drop_at, get_or_append_left, get_or-append_right}
-use Rattle.std.proofs.lemmas.List.Elements.{All-nil, All-cons, All-head, All-tail, All-weaker, All-from_get_or}
-use Rattle.std.proofs.lemmas.List.Folds.{list_all_at}
+use Rattle.std.proofs.lemmas.List.{append_assoc, length-append}
 use Rattle.std.proofs.lemmas.Fmt.{decimal_digit, decimal_step, decimal_nonempty, digits_decimal, digits_value-decimal}
-use Rattle.vod_base.specs.Lines.{IsLine}
-use Rattle.vod_base.specs.Splits.{IsSplitAtFirst}
-use Rattle.interleave.specs.Pieces.{IsRequestLength}
-use Rattle.rtsp_text.specs.Lines.{is_one_line, before_empty, first_line, header_lines, IsSplit}
-use Rattle.rtsp_text.specs.Fields.{first_value}
-use Rattle.rtsp_text.specs.Replies.{statuses, has_code, phrase_among, is_code, reason, Field, field_line, sequence_line, status_line, reply_front, reply_text, all_fields, IsPlain, value_named, IsReadBack}
+use Rattle.rtsp_text.specs.Lines.{is_one_line}
+use Rattle.rtsp_text.specs.Replies.{statuses, has_code, phrase_among, is_code, reason}
 use Rattle.rtsp_text.specs.StatusLines.{IsCode, IsStatusLine}
-use Rattle.rtsp_text.proofs.Bounds.{lengths_of}
-use Rattle.rtsp_text.proofs.Heads.{HasWalked, walk_first, walk_more, walk_end}
 use Rattle.rtsp_text.proofs.OneLines.{decimal_numerals, one_line-append, one_line-decimal}
-use Rattle.rtsp_text.proofs.Values.{value_some, value_other, first_value-nil, first_value_some, first_value_more}
-use Rattle.rtsp_text.proofs.Words.{token_without}
-use Rattle.rtsp_text.proofs.Walks.{lines-at, before_empty-all}
 use Rattle.rtsp_text.proofs.LineTexts.{IsLineText}
 
 -- what a code's status line needs

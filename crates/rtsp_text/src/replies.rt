@@ -23,14 +23,29 @@ pub struct Reply {
 /// The most bytes of a reply.
 const ROOM: usize = 65_536;
 
+/// The most bytes of a reason.
+const REASON_ROOM: usize = 30;
+
+/// The most bytes of a status line: `RTSP/1.0 `, the code's digits, a space, the reason and the
+/// line's end.
+const STATUS_ROOM: usize = 9 + 5 + 1 + REASON_ROOM + 2;
+
+/// The most bytes of a field's line after its name, where the value is a number: `: `, 20 digits
+/// and the line's end.
+const NUMBER_ROOM: usize = 24;
+
+/// The most bytes of a status line and a line `CSeq: N`.
+const START_ROOM: usize = STATUS_ROOM + 4 + NUMBER_ROOM;
+
 impl Model for Reply {
     ghost use Rattle.std.specs.Prelude.{ℕ, List, ◌≤◌, vec_capacity};
+    ghost use Rattle.rtsp_text.specs.declared.replies.TheConstants.{ROOM};
 
     ghost Value = { List ℕ };
 
     ghost view = { λ r. r.text.items };
 
-    ghost invariant = { λ r. 65536 ≤ vec_capacity r.text };
+    ghost invariant = { λ r. ROOM ≤ vec_capacity r.text };
 }
 
 impl Reply {
@@ -58,7 +73,7 @@ impl Reply {
 
     /// Appends bytes.
     fn put(&mut self, bytes: &[u8])
-        requires { length self.old + length bytes.now ≤ 65536 }
+        requires { length self.old + length bytes.now ≤ ROOM }
         ensures text { self.new ≡ self.old ++ bytes.now }
         ensures long { length self.new ≡ length self.old + length bytes.now }
     {
@@ -71,9 +86,9 @@ impl Reply {
     /// Appends the status line.
     fn put_status(&mut self, code: u16)
         requires code { IsTrue (is_code code) }
-        requires fits { length self.old + 47 ≤ 65536 }
+        requires fits { length self.old + STATUS_ROOM ≤ ROOM }
         ensures text { self.new ≡ self.old ++ status_line code }
-        ensures short { length self.new ≤ length self.old + 47 }
+        ensures short { length self.new ≤ length self.old + STATUS_ROOM }
     {
         self.put(b"RTSP/1.0 ");
         self.put(Buffer::new().format(code).as_bytes());
@@ -84,7 +99,7 @@ impl Reply {
 
     /// Appends a field's line.
     fn put_field(&mut self, name: &[u8], value: &[u8])
-        requires { length self.old + (length name.now + length value.now + 4) ≤ 65536 }
+        requires { length self.old + (length name.now + length value.now + 4) ≤ ROOM }
         ensures text { self.new ≡
             self.old ++ field_line (record { name = name.now; value = value.now }) }
         ensures long { length self.new ≡
@@ -100,9 +115,9 @@ impl Reply {
     /// line `CSeq: N`: at most 75 bytes.
     pub fn start(&mut self, code: u16, sequence: Option<u64>)
         requires code { IsTrue (is_code code) }
-        requires fits { length self.old + 75 ≤ 65536 }
+        requires fits { length self.old + START_ROOM ≤ ROOM }
         ensures text { self.new ≡ self.old ++ (status_line code ++ sequence_line sequence) }
-        ensures short { length self.new ≤ length self.old + 75 }
+        ensures short { length self.new ≤ length self.old + START_ROOM }
         ensures front { self.old ≡ [] → self.new ≡ reply_front code sequence [] }
     {
         self.put_status(code);
@@ -114,7 +129,7 @@ impl Reply {
     /// Appends the line `NAME: VALUE`. The value has no LF.
     pub fn field(&mut self, name: &[u8], value: &[u8])
         requires one_line { is_one_line value.now ≡ true }
-        requires fits { length self.old + (length name.now + length value.now + 4) ≤ 65536 }
+        requires fits { length self.old + (length name.now + length value.now + 4) ≤ ROOM }
         ensures text { self.new ≡
             self.old ++ field_line (record { name = name.now; value = value.now }) }
         ensures long { length self.new ≡
@@ -127,7 +142,7 @@ impl Reply {
 
     /// Appends bytes, part after part.
     fn put_parts(&mut self, parts: &[&[u8]])
-        requires { length self.old + sum_by (λ part. length part.now) parts.now ≤ 65536 }
+        requires { length self.old + sum_by (λ part. length part.now) parts.now ≤ ROOM }
         ensures text { self.new ≡ self.old ++ flat_map (λ part. part.now) parts.now }
         ensures long { length self.new ≡
             length self.old + sum_by (λ part. length part.now) parts.now }
@@ -142,7 +157,7 @@ impl Reply {
     pub fn field_of(&mut self, name: &[u8], parts: &[&[u8]])
         requires one_line { list_all (λ part. is_one_line part.now) parts.now ≡ true }
         requires fits { length self.old
-            + (length name.now + sum_by (λ part. length part.now) parts.now + 4) ≤ 65536 }
+            + (length name.now + sum_by (λ part. length part.now) parts.now + 4) ≤ ROOM }
         ensures text { let value = flat_map (λ part. part.now) parts.now in
             self.new ≡ self.old ++ field_line (record { name = name.now; value = value }) }
         ensures long { let value_length = sum_by (λ part. length part.now) parts.now in
@@ -158,10 +173,10 @@ impl Reply {
 
     /// Appends the line `NAME: VALUE`, the value in decimal, of at most 20 digits.
     pub fn number_field(&mut self, name: &[u8], value: u64)
-        requires { length self.old + (length name.now + 24) ≤ 65536 }
+        requires { length self.old + (length name.now + NUMBER_ROOM) ≤ ROOM }
         ensures text { self.new ≡
             self.old ++ field_line (record { name = name.now; value = decimal value }) }
-        ensures short { length self.new ≤ length self.old + (length name.now + 24) }
+        ensures short { length self.new ≤ length self.old + (length name.now + NUMBER_ROOM) }
         ensures front { AddsField self.old self.new
             (record { name = name.now; value = decimal value }) }
     {
@@ -170,7 +185,7 @@ impl Reply {
 
     /// Appends the empty line and the body.
     pub fn finish(&mut self, body: &[u8])
-        requires { length self.old + (2 + length body.now) ≤ 65536 }
+        requires { length self.old + (2 + length body.now) ≤ ROOM }
         ensures text { self.new ≡ self.old ++ (codes "\r\n" ++ body.now) }
         ensures long { length self.new ≡ length self.old + (2 + length body.now) }
         ensures whole { (code : ℕ) (sequence : Option ℕ) (fields : List Field) →
@@ -186,7 +201,7 @@ impl Reply {
 fn reason(code: u16) -> &'static [u8]
     requires { IsTrue (is_code code) }
     ensures text { result.now ≡ reason code }
-    ensures short { length result.now ≤ 30 }
+    ensures short { length result.now ≤ REASON_ROOM }
 {
     match code {
         200 => b"OK",

@@ -152,7 +152,8 @@ fn has_length(message: &[u8]) -> bool
     }
 }
 
-/// Reads a whole request.
+/// Reads a whole request. What else [`read_request`] ensures follows from these two clauses, and so
+/// is proved there once, and not at each return here.
 fn read_parts(message: &[u8]) -> Result<Request<'_>, RequestFault>
     requires { IsRequestLength message.now (length message.now) }
     ensures read { IfOk result (λ r.
