@@ -6,6 +6,7 @@ use Rattle.std.proofs.lemmas.Fmt.{digits_decimal}
 use Rattle.std.proofs.lemmas.List.{append_assoc, take_at, drop_at, take_all, length-append, get_or_append_left, get_or-append-add}
 use Rattle.std.proofs.lemmas.List.Folds.{list_all-append}
 use Rattle.rtsp_text.proofs.OneLines.{decimal_numerals}
+use Rattle.rtsp_text.proofs.Inside.{all-append}
 use Rattle.rtsp_fields.specs.Descriptions.{seconds_text}
 use Rattle.rtsp_fields.specs.Pieces.{HasNone}
 use Rattle.rtsp_fields.specs.Ranges.{IsLimit, IsOrigin, IsSpan}
@@ -65,21 +66,16 @@ span_read from to span free begins ends =
     }
 
 -- a text of seconds has no `-`
-both : (a b : List ℕ) → list_all (other_than 45) a ≡ true → list_all (other_than 45) b ≡ true
-    → list_all (other_than 45) (a ++ b) ≡ true
-both a b one other =
-    list_all-append (other_than 45) a b ∙ and_from (list_all (other_than 45) a) (list_all (other_than 45) b) one other
-
 number_free : (n : ℕ) → n < 2 ^ 64 → list_all (other_than 45) (decimal n) ≡ true
 number_free n fits = digits_other 45 (decimal n) refl (digits_decimal decimal_numerals n fits)
 
 seconds_free : (ms : ℕ) → ms < 2 ^ 64 → list_all (other_than 45) (seconds_text ms) ≡ true
 unfolding other_than
 seconds_free ms small =
-    both (decimal (ms / 1000) ++ codes "." ++ decimal (ms / 100 % 10) ++ decimal (ms / 10 % 10)) (decimal (ms % 10))
-    (both (decimal (ms / 1000) ++ codes "." ++ decimal (ms / 100 % 10)) (decimal (ms / 10 % 10))
-    (both (decimal (ms / 1000) ++ codes ".") (decimal (ms / 100 % 10))
-    (both (decimal (ms / 1000)) (codes ".") (number_free (ms / 1000) (omega (arith, small))) refl)
+    all-append (other_than 45) (decimal (ms / 1000) ++ codes "." ++ decimal (ms / 100 % 10) ++ decimal (ms / 10 % 10)) (decimal (ms % 10))
+    (all-append (other_than 45) (decimal (ms / 1000) ++ codes "." ++ decimal (ms / 100 % 10)) (decimal (ms / 10 % 10))
+    (all-append (other_than 45) (decimal (ms / 1000) ++ codes ".") (decimal (ms / 100 % 10))
+    (all-append (other_than 45) (decimal (ms / 1000)) (codes ".") (number_free (ms / 1000) (omega (arith, small))) refl)
     (number_free (ms / 100 % 10) (omega arith)))
     (number_free (ms / 10 % 10) (omega arith)))
     (number_free (ms % 10) (omega arith))

@@ -1,24 +1,23 @@
 -- Texts without LF, which the value of a field may have: for the crates above as well.
-use Rattle.std.proofs.Common.{◌≡◌, ℕ, ◌<◌, ◌^◌, ◌&&◌, ◌==◌, true, false, not, nat_lt, nat_le, List, ◌++◌, length, get_or, decimal, rules, refl, ◌∙◌, Bool}
+use Rattle.std.proofs.Common.{◌≡◌, ℕ, ◌<◌, ◌^◌, ◌&&◌, ◌==◌, true, false, not, nat_lt, nat_le, List, ◌++◌, length, get_or, decimal, rules, refl, Bool}
 use Rattle.std.specs.List.{list_all}
 use Rattle.std.specs.Char.{is_ascii_digit}
 use Rattle.std.specs.Str.Parse.{digits_value}
-use Rattle.std.proofs.lemmas.Bool.{and_parts, and_from}
+use Rattle.std.proofs.lemmas.Bool.{and_parts}
 use Rattle.std.proofs.lemmas.Fmt.{digits_decimal}
-use Rattle.std.proofs.lemmas.List.Folds.{list_all-append}
 use Rattle.std.proofs.lemmas.Str.Parse.{IsNumeralModel, numerals_by_value}
 use Rattle.vod_base.specs.Names.{is_good_name, is_name_byte}
 use Rattle.rtsp_text.specs.Lines.{is_one_line}
 use Rattle.rtsp_text.specs.Grammar.{is_url_byte}
 use Rattle.rtsp_text.proofs.Cuts.{all_other}
+use Rattle.rtsp_text.proofs.Inside.{all-append}
 
 -- bytes of a kind that LF isn't of
 pub one_line_from : (q : ℕ → Bool) → q 10 ≡ false → (text : List ℕ) → list_all q text ≡ true → is_one_line text ≡ true
 one_line_from q fails text all = all_other q 10 fails text all
 
 pub one_line-append : (a b : List ℕ) → is_one_line a ≡ true → is_one_line b ≡ true → is_one_line (a ++ b) ≡ true
-one_line-append a b one other =
-    list_all-append (λ byte. not (byte == 10)) a b ∙ and_from (is_one_line a) (is_one_line b) one other
+one_line-append = all-append (λ byte. not (byte == 10))
 
 pub one_line-url : (text : List ℕ) → list_all is_url_byte text ≡ true → is_one_line text ≡ true
 one_line-url text all = one_line_from is_url_byte refl text all
