@@ -1,6 +1,7 @@
 -- What a reply comes to.
-use Rattle.std.proofs.Common.{◌≡◌, ◌≢◌, ℕ, ◌+◌, ◌==◌, ◌&&◌, ◌||◌, true, false, nat_lt, List, [], ◌∷◌, ◌++◌, take, Option, Some, None, is_some, unwrap_or, refl, sym, ap, subst, ◌∙◌, arith, inl, inr}
-use Rattle.std.specs.Prelude.{MatchOption}
+use Rattle.std.proofs.Common.{◌≡◌, ◌≢◌, ℕ, ◌+◌, ◌==◌, ◌&&◌, ◌||◌, true, false, nat_lt, List, [], ◌∷◌, ◌++◌, take, Option, Some, None, Result, Ok, is_some, unwrap_or, refl, sym, ap, subst, ◌∙◌, arith, inl, inr}
+use Rattle.std.specs.Prelude.{MatchOption, option_map}
+use Rattle.std.specs.Result.{result_ok}
 use Rattle.std.proofs.lemmas.Bool.{cond-true, cond-false, eq-eqb, ne_eqb}
 use Rattle.std.proofs.lemmas.List.{append-nil}
 use Rattle.vod_base.specs.Links.{Doing, IsFrontTold, sends, told_more}
@@ -83,6 +84,13 @@ setup-lacks {wish} {h} {c} {m} {end} {s} k first is none end_is =
     (inl (inr (orderly k is, fields-first h m zero_ ∙ ap is_some none), end_is ∙ ap (λ n. Fault (BadReply (n + 1))) (sym zero_)))
 
 -- the reply that is awaited first, with the id of a session
+-- the session that was read of the message in front
+pub session-read : {X E : Type 0} {input waiting : List ℕ} {found : Option X} {r : Result X E} {s : X}
+    (now : X → List ℕ) (length : ℕ) → waiting ≡ input → option_map now found ≡ session_in (take length waiting)
+    → found ≡ result_ok r → r ≡ Ok s → session_in (take length input) ≡ Some (now s)
+session-read now length same read part was =
+    ap (λ i. session_in (take length i)) (sym same) ∙ sym read ∙ ap (option_map now) (part ∙ ap result_ok was)
+
 pub record SetupReply (wish : Wish) (h : History) (c : Client) (m id : List ℕ) : Type 0 where
   pub keeps : Keeps wish h c
   pub first : c.replies ≡ 0

@@ -399,7 +399,7 @@ fn film(alloc: Global, count: usize) -> Result<Vec<u8>, Fail> {
 }
 
 /// What should come of a case.
-fn wanted(alloc: Global, case: &Case) -> Result<Outcome, Fail> {
+fn wanted_outcome(alloc: Global, case: &Case) -> Result<Outcome, Fail> {
     let sent = requests(alloc, case.requests, case.buffer)?;
     Ok(Outcome {
         end: case.end,
@@ -415,7 +415,7 @@ fn watches_films(rt: HostRuntime) -> Result<(), Fail> {
         for cut in [false, true] {
             let events = events_of(alloc, case.tells, cut)?;
             let got = watch_events(alloc, case.buffer, events, (&[], &[], &[]))?;
-            assert_eq!(rt; got, wanted(alloc, case)?, "case {number} {cut}");
+            assert_eq!(rt; got, wanted_outcome(alloc, case)?, "case {number} {cut}");
         }
     }
     Ok(())
@@ -442,7 +442,7 @@ fn blames_the_outside(rt: HostRuntime) -> Result<(), Fail> {
         };
         let events = events_of(alloc, case.tells, false)?;
         let got = watch_events(alloc, case.buffer, events, failing)?;
-        assert_eq!(rt; got, wanted(alloc, &case)?, "{failing:?}");
+        assert_eq!(rt; got, wanted_outcome(alloc, &case)?, "{failing:?}");
     }
     Ok(())
 }

@@ -1,6 +1,5 @@
-use Rattle.std.proofs.Common.{◌≡◌, Some, None, take, rules, refl, sym, ap, subst, ◌∙◌}
+use Rattle.std.proofs.Common.{◌≡◌, None, take, rules, refl, sym, ap, subst, ◌∙◌}
 use Rattle.std.specs.Prelude.{option_map}
-use Rattle.std.specs.Result.{result_ok}
 use Rattle.std.proofs.lemmas.Result.{err_from_is_err_and}
 use Rattle.vod_base.specs.Links.{IsFrontTold, sends, told_more}
 use Rattle.rtsp_client.specs.declared.wishes.WatchEnd.TheVariants.{Fault}
@@ -9,7 +8,7 @@ use Rattle.rtsp_client.specs.declared.wishes.WatchFault.TheVariants.{BadReply}
 use Rattle.rtsp_client.specs.Replies.{session_in}
 use Rattle.rtsp_client.specs.Requests.{play_text}
 use Rattle.rtsp_client.proofs.Outcomes.{ok-or-err}
-use Rattle.rtsp_client.proofs.Replying.{setup-cut, setup-done, setup-lacks, setup-starved}
+use Rattle.rtsp_client.proofs.Replying.{session-read, setup-cut, setup-done, setup-lacks, setup-starved}
 use Rattle.rtsp_client.proofs.clients.Client.take_setup.Goals as goal
 
 pub returns-in_err-session-clause-ended : goal.returns-in_err-session-clause-ended
@@ -30,14 +29,11 @@ returns-in_err-request-clause-ended g c =
     let p = err_from_is_err_and c.from_residual-in_err-request.result c.from_residual-in_err-request.ensures.1 in
     rw (p.1, p.2)
     (λ h out k.
-    let here : session_in (take c.args.length c.waiting.result.now) ≡ Some c.in_ok-session.session.now =
-    sym c.session_in.ensures ∙ ap (option_map (λ s. s.now)) (c.ok_or.ensures.ok_part ∙ ap result_ok (c.in_ok-session.was {u = tt})) in
     setup-starved (record {
       keeps = k;
       first = c.requires.first;
       awaited = c.requires.good;
-      session_is = ap
-          (λ i. session_in (take c.args.length i)) (sym c.waiting.ensures) ∙ here;
+      session_is = session-read (λ s. s.now) c.args.length c.waiting.ensures c.session_in.ensures c.ok_or.ensures.ok_part (c.in_ok-session.was {u = tt});
     }) refl)
 
 pub returns-in_err-kept-clause-ended : goal.returns-in_err-kept-clause-ended
@@ -45,14 +41,11 @@ returns-in_err-kept-clause-ended g c =
     let p = err_from_is_err_and c.from_residual-in_err-kept.result c.from_residual-in_err-kept.ensures.1 in
     rw (p.1, p.2)
     (λ h out k.
-    let here : session_in (take c.args.length c.waiting.result.now) ≡ Some c.in_ok-session.session.now =
-    sym c.session_in.ensures ∙ ap (option_map (λ s. s.now)) (c.ok_or.ensures.ok_part ∙ ap result_ok (c.in_ok-session.was {u = tt})) in
     setup-starved (record {
       keeps = k;
       first = c.requires.first;
       awaited = c.requires.good;
-      session_is = ap
-          (λ i. session_in (take c.args.length i)) (sym c.waiting.ensures) ∙ here;
+      session_is = session-read (λ s. s.now) c.args.length c.waiting.ensures c.session_in.ensures c.ok_or.ensures.ok_part (c.in_ok-session.was {u = tt});
     }) refl)
 
 pub returns-in_err-send-clause-ended : goal.returns-in_err-send-clause-ended
@@ -60,8 +53,6 @@ returns-in_err-send-clause-ended g c =
     let p = err_from_is_err_and c.from_residual-in_err-send.result c.from_residual-in_err-send.ensures.1 in
     rw (p.1, p.2)
     (λ h out k.
-    let here : session_in (take c.args.length c.waiting.result.now) ≡ Some c.in_ok-session.session.now =
-    sym c.session_in.ensures ∙ ap (option_map (λ s. s.now)) (c.ok_or.ensures.ok_part ∙ ap result_ok (c.in_ok-session.was {u = tt})) in
     let text : c.as_slice.result.now ≡ play_text c.args.wish.now c.in_ok-session.session.now =
     c.as_slice.ensures.value ∙ c.in_ok-request.ensures in
     let front : IsFrontTold (g.K.Link.told c.args.link.now) (g.K.Link.told c.send.new.self)
@@ -71,15 +62,12 @@ returns-in_err-send-clause-ended g c =
       keeps = k;
       first = c.requires.first;
       awaited = c.requires.good;
-      session_is = ap (λ i. session_in (take c.args.length i))
-          (sym c.waiting.ensures) ∙ here;
+      session_is = session-read (λ s. s.now) c.args.length c.waiting.ensures c.session_in.ensures c.ok_or.ensures.ok_part (c.in_ok-session.was {u = tt});
     }) refl
     (subst (IsFrontTold (g.K.Link.told c.args.link.now) (g.K.Link.told c.send.new.self)) text front))
 
 pub returns-clause-passed : goal.returns-clause-passed
 returns-clause-passed g c = λ h out k.
-    let here : session_in (take c.args.length c.waiting.result.now) ≡ Some c.in_ok-session.session.now =
-    sym c.session_in.ensures ∙ ap (option_map (λ s. s.now)) (c.ok_or.ensures.ok_part ∙ ap result_ok (c.in_ok-session.was {u = tt})) in
     let text : c.as_slice.result.now ≡ play_text c.args.wish.now c.in_ok-session.session.now =
     c.as_slice.ensures.value ∙ c.in_ok-request.ensures in
     let sent : g.K.Link.told c.send.new.self
@@ -90,8 +78,7 @@ returns-clause-passed g c = λ h out k.
       keeps = k;
       first = c.requires.first;
       awaited = c.requires.good;
-      session_is = ap (λ i. session_in (take c.args.length i))
-          (sym c.waiting.ensures) ∙ here;
+      session_is = session-read (λ s. s.now) c.args.length c.waiting.ensures c.session_in.ensures c.ok_or.ensures.ok_part (c.in_ok-session.was {u = tt});
     })
     (record { replies = refl; session = search rules; watching = refl })
     (sent ∙ ap (λ x. told_more (g.K.Link.told c.args.link.now) (sends x)) text)
