@@ -5,7 +5,7 @@ use Rattle.std.proofs.lemmas.List.{append-nil, append_assoc, length-drop}
 use mathlib.Core.List.{IsPrefix}
 use Rattle.admission.specs.declared.entries.Entry.{Entry}
 use Rattle.interleave.specs.Streams.{AreCut, told_length, told_pieces}
-use Rattle.interleave.specs.Pieces.{IsFirst, IsRequestLength}
+use Rattle.interleave.specs.Pieces.{IsFirst}
 use Rattle.interleave.specs.declared.pieces.Step.{Step}
 use Rattle.interleave.proofs.Streams.{next_pieces}
 use Rattle.station.specs.Seats.{Sitting, IsSameSeat}
@@ -34,10 +34,6 @@ cuts_drop {input} {rest} step first length_is dropped = record {
 pub cuts_same : (old new : List ℕ) → new ≡ old → CutsOn old new
 cuts_same old new same = subst (CutsOn old) (sym same) (cuts_none old)
 
--- what stands in front of the same bytes is the same step
-pub first_is : {b w : List ℕ} {s t : Step} → IsFirst b (Ok s) → w ≡ b → s ≡ t → IsFirst w (Ok t)
-first_is {b} {w} {s} {t} first same is = subst (λ x. IsFirst x (Ok t)) (sym same) (subst (λ x. IsFirst b (Ok x)) is first)
-
 prefix_on : (a b c : List Entry) → IsPrefix a b → IsPrefix b c → IsPrefix a c
 prefix_on a b c p q = (p.0 ++ q.0, sym (append_assoc a p.0 q.0) ∙ (ap (λ w. w ++ q.0) p.1 ∙ q.1))
 
@@ -58,14 +54,6 @@ seat_on a b c first second = record {
   joined = second.joined ∙ first.joined;
   longer = prefix_on a.seen b.seen c.seen first.longer second.longer;
 }
-
--- a request has a byte
-pub some_request : (bytes : List ℕ) (n : ℕ) → IsRequestLength bytes n → 0 < n
-some_request bytes n is = omega (arith, is.is_head.some, is.total_is)
-
--- fewer bytes wait once a piece is gone
-pub fewer : (input rest : List ℕ) (n : ℕ) → 0 < n → n ≤ length input → rest ≡ drop n input → length rest < length input
-fewer input rest n some within dropped = omega (arith, some, within, ap length dropped, length-drop n input)
 
 -- a piece of the bytes that wait is dropped
 pub drop_is : {old mid new : List ℕ} (n : ℕ) → new ≡ drop n mid → mid ≡ old → new ≡ drop n old

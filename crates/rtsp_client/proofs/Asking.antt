@@ -17,6 +17,7 @@ use Rattle.rtsp_text.specs.Spelled.{Parts, request_head, request_text, IsHeaderF
 use Rattle.rtsp_text.proofs.OneLines.{decimal_numerals}
 use Rattle.rtsp_text.proofs.WordTexts.{word_of, value_of}
 use Rattle.rtsp_text.proofs.SpelledTexts.{request_found, request_of, values_of}
+use Rattle.rtsp_text.proofs.Inside.{all-append}
 use Rattle.rtsp_client.specs.Wishes.{IsWish}
 use Rattle.rtsp_client.specs.Requests.{film_url, setup_text, play_text, teardown_text}
 use Rattle.rtsp_client.specs.Asked.{setup_parts, play_parts, teardown_parts, IsSessionId, IsAsked}
@@ -81,14 +82,11 @@ name_bytes wish film =
     (and_parts (nat_lt 0 (length name) && nat_le (length name) 64 && not (get_or name 0 0 == 46))
     (list_all is_name_byte name) film.is_wish.name).1
 
-both : (a b : List ℕ) → list_all is_url_byte a ≡ true → list_all is_url_byte b ≡ true → list_all is_url_byte (a ++ b) ≡ true
-both a b one other = list_all-append is_url_byte a b ∙ and_from (list_all is_url_byte a) (list_all is_url_byte b) one other
-
 film_bytes : (wish : Wish) → IsFilm wish → list_all is_url_byte (film_url wish) ≡ true
 film_bytes wish film =
-    both (codes "rtsp://127.0.0.1:") (decimal wish.port ++ (codes "/" ++ string_bytes wish.name)) refl
-    (both (decimal wish.port) (codes "/" ++ string_bytes wish.name) (digits wish.port (omega (arith, film.port)))
-    (both (codes "/") (string_bytes wish.name) refl (name_bytes wish film)))
+    all-append is_url_byte (codes "rtsp://127.0.0.1:") (decimal wish.port ++ (codes "/" ++ string_bytes wish.name)) refl
+    (all-append is_url_byte (decimal wish.port) (codes "/" ++ string_bytes wish.name) (digits wish.port (omega (arith, film.port)))
+    (all-append is_url_byte (codes "/") (string_bytes wish.name) refl (name_bytes wish film)))
 
 rtsp_url : (wish : Wish) (tail : List ℕ) → IsFilm wish → IsRtspUrl (film_url wish ++ tail)
 rtsp_url wish tail film = record {
@@ -114,7 +112,7 @@ film_is_url wish film = record {
 
 video_is_url : (wish : Wish) → IsFilm wish → IsUrl (film_url wish ++ codes "/video")
 video_is_url wish film = record {
-  bytes = both (film_url wish) (codes "/video") (film_bytes wish film) refl;
+  bytes = all-append is_url_byte (film_url wish) (codes "/video") (film_bytes wish film) refl;
   form = inr (rtsp_url wish (codes "/video") film);
 }
 

@@ -1,6 +1,7 @@
 -- Events, one after another, up to the answer.
 use Rattle.std.proofs.Common.{◌≡◌, ℕ, ◌+◌, ◌<◌, List, [], ◌∷◌, ◌++◌, take, Option, Some, Ok, IfSome, refl, sym, ap, subst, ◌∙◌, append_assoc, inl, inr}
 use Rattle.std.proofs.lemmas.List.{append-nil, length-append}
+use Rattle.std.proofs.lemmas.List.Concat.{flat_map-append}
 use Rattle.vod_base.specs.Links.{Doing, HeardBytes, HeardEnd, HeardSlot, sends, told_more}
 use Rattle.vod_base.proofs.Telling.{told_more-append, told_more-nil}
 use Rattle.interleave.specs.Pieces.{IsFirst}
@@ -14,7 +15,7 @@ use Rattle.rtsp_client.specs.declared.wishes.WatchEnd.TheVariants.{Fault, LinkFa
 use Rattle.rtsp_client.specs.declared.wishes.WatchFault.TheVariants.{EndedEarly, TurnsSpent}
 use Rattle.rtsp_client.specs.Requests.{setup_text}
 use Rattle.rtsp_client.specs.Moments.{History, Slot}
-use Rattle.rtsp_client.specs.Answers.{after, cut_bytes, moments_in, payloads_of, requests_after}
+use Rattle.rtsp_client.specs.Answers.{after, cut_bytes, moments_in, payload_of, payloads_of, requests_after}
 use Rattle.rtsp_client.specs.Courses.{Ends, HasWatched, Round, Runs, RunsAll, Stage, moments_of_rounds, rounds_doings, stage}
 use Rattle.rtsp_client.specs.Keeps.{Keeps, KeepsState}
 use Rattle.rtsp_client.specs.States.{after_slot, new_state}
@@ -22,7 +23,7 @@ use Rattle.rtsp_client.specs.Takings.{HasEnded, HasRound, HasRun, HasStopped, Ha
 use Rattle.rtsp_client.proofs.Keeping.{keeps-new}
 use Rattle.rtsp_client.proofs.Metering.{keeps-slot}
 use Rattle.rtsp_client.proofs.Sighting.{sight-none}
-use Rattle.rtsp_client.proofs.Taking.{after-on, payloads-on}
+use Rattle.rtsp_client.proofs.Taking.{after-on}
 
 -- ---- one event
 
@@ -106,11 +107,11 @@ runs-on {new} {round} old [] all runs idle =
 runs-on {mid} {new} {round} old (first ∷ rounds) all runs idle =
     (all.0, (all.1.0, all.1.1, runs-on {mid = mid} {new = new} {round = round} all.0 rounds all.1.2 runs idle))
 
-history-is : (old mid : Stage) (rounds : List Round) → RunsAll old rounds mid
+pub history-later : (old mid : Stage) (rounds : List Round) → RunsAll old rounds mid
     → mid.history ≡ after old.history (moments_of_rounds rounds)
-history-is old mid [] all = ap (λ (s : Stage). s.history) all
-history-is old mid (round ∷ rounds) all =
-    history-is all.0 mid rounds all.1.2
+history-later old mid [] all = ap (λ (s : Stage). s.history) all
+history-later old mid (round ∷ rounds) all =
+    history-later all.0 mid rounds all.1.2
     ∙ (ap (λ h. after h (moments_of_rounds rounds)) all.1.0.history_is
     ∙ sym (after-on old.history round.moments (moments_of_rounds rounds)))
 
@@ -161,7 +162,7 @@ run-on {wish} {event} {c} {new} {s} run heard next =
     let round = next run.history run.keeps in
     let r : Round = record { event = event; moments = round.moments } in
     let h : run.history ≡ after [] (moments_of_rounds run.rounds) =
-    history-is (stage [] []) (stage run.history c.input) run.rounds run.runs in
+    history-later (stage [] []) (stage run.history c.input) run.rounds run.runs in
     let told : told_more (told_more (told_more s.told (rounds_doings wish [] run.rounds)) (event ∷ []))
     (sends (requests_after wish run.history round.moments))
     ≡ told_more s.told (rounds_doings wish [] (run.rounds ++ r ∷ [])) =
@@ -174,7 +175,7 @@ run-on {wish} {event} {c} {new} {s} run heard next =
     ≡ told_more s.out (payloads_of (moments_of_rounds (run.rounds ++ r ∷ []))) =
     told_more-append s.out (payloads_of (moments_of_rounds run.rounds)) (payloads_of round.moments)
     ∙ ap (told_more s.out)
-    (sym (payloads-on (moments_of_rounds run.rounds) round.moments) ∙ ap payloads_of (sym (moments-of-on run.rounds r))) in
+    (sym (flat_map-append payload_of (moments_of_rounds run.rounds) round.moments) ∙ ap payloads_of (sym (moments-of-on run.rounds r))) in
     record {
       rounds = run.rounds ++ r ∷ [];
       count_is = length-append run.rounds (r ∷ []) ∙ ap (λ n. n + 1) run.count_is;

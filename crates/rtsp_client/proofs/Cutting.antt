@@ -1,22 +1,14 @@
 -- What stands in front of the same bytes.
-use Rattle.std.proofs.Common.{◌≡◌, ℕ, ◌+◌, ◌<◌, ◌≤◌, List, length, take, drop, Ok, ap, sym, subst, arith}
+use Rattle.std.proofs.Common.{◌≡◌, ℕ, ◌+◌, ◌≤◌, List, length, take, drop, Ok, ap, sym, subst, arith}
 use Rattle.std.proofs.lemmas.List.{length-drop}
 use Rattle.interleave.specs.Pieces.{IsFirst, IsRequestLength}
-use Rattle.interleave.specs.declared.pieces.Step.{Step}
 use Rattle.interleave.specs.declared.pieces.Step.TheVariants.{Request}
 use Rattle.rtsp_text.proofs.Whole.{first_taken}
 use Rattle.rtsp_client.specs.declared.clients.Client.{Client}
 use Rattle.rtsp_client.specs.Standing.{GoesOnFrom}
 
-pub first_is : {b w : List ℕ} {s t : Step} → IsFirst b (Ok s) → w ≡ b → s ≡ t → IsFirst w (Ok t)
-first_is {b} {w} {s} {t} first same is = subst (λ x. IsFirst x (Ok t)) (sym same) (subst (λ x. IsFirst b (Ok x)) is first)
-
 pub whole_request : (b w : List ℕ) (n : ℕ) → IsFirst b (Ok (Request n)) → w ≡ b → IsRequestLength (take n w) (length (take n w))
 whole_request b w n first same = subst (λ x. IsRequestLength (take n x) (length (take n x))) (sym same) (first_taken b n first)
-
--- a piece in front is dropped
-pub fewer-left : (input rest : List ℕ) (n : ℕ) → 0 < n → n ≤ length input → rest ≡ drop n input → length rest < length input
-fewer-left input rest n some within dropped = omega (arith, some, within, ap length dropped, length-drop n input)
 
 pub goes-on : {c new : Client} (n : ℕ) → new.replies ≤ 2 → new.watching.received ≤ c.watching.received + n → n ≤ length c.input →
     new.input ≡ drop n c.input → GoesOnFrom c new
@@ -24,7 +16,3 @@ goes-on {c} {new} n replies few within dropped = record {
   replies = replies;
   few = omega (arith, few, within, ap length dropped, length-drop n c.input);
 }
-
--- a request has a byte
-pub some-request : (bytes : List ℕ) (n : ℕ) → IsRequestLength bytes n → 0 < n
-some-request bytes n is = omega (arith, is.is_head.some, is.total_is)

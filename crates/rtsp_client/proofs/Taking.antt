@@ -2,6 +2,7 @@
 use Rattle.std.proofs.Common.{◌≡◌, ℕ, suc, ◌<◌, ◌≤◌, ◌==◌, true, false, cond, List, [], ◌∷◌, ◌++◌, length, take, drop, map, get_or, Ok, Err, refl, sym, ap, subst, ◌∙◌, append_assoc, arith, inl, inr}
 use Rattle.std.proofs.lemmas.Bool.{cond-true, cond-false}
 use Rattle.std.proofs.lemmas.List.{append-nil, get_or-take, length-take-le}
+use Rattle.std.proofs.lemmas.List.Concat.{flat_map-append}
 use Rattle.interleave.specs.Heads.{is_line_end}
 use Rattle.interleave.specs.Pieces.{AreLineEnds, IsFirst}
 use Rattle.interleave.specs.Streams.{AreCut, IsPieceLength, WholeBlock, WholeRequest}
@@ -36,16 +37,6 @@ requests-on wish h [] b = refl
 requests-on wish h (m ∷ a) b =
     ap (λ t. request_after wish h m ++ t) (requests-on wish (m ∷ h) a b)
     ∙ sym (append_assoc (request_after wish h m) (requests_after wish (m ∷ h) a) (requests_after wish (after (m ∷ h) a) b))
-
-pub payloads-on : (a b : List Moment) → payloads_of (a ++ b) ≡ payloads_of a ++ payloads_of b
-payloads-on [] b = refl
-payloads-on (m ∷ a) b =
-    ap (λ t. payload_of m ++ t) (payloads-on a b) ∙ sym (append_assoc (payload_of m) (payloads_of a) (payloads_of b))
-
-moments-on : (p q : List (List ℕ)) → moments_in (p ++ q) ≡ moments_in p ++ moments_in q
-moments-on [] q = refl
-moments-on (piece ∷ p) q =
-    ap (λ t. moments_of piece ++ t) (moments-on p q) ∙ sym (append_assoc (moments_of piece) (moments_in p) (moments_in q))
 
 -- bytes were cut, and then their rest
 record CutsInTurn (bytes mid end : List ℕ) (p q : List (List ℕ)) : Type 0 where
@@ -123,7 +114,7 @@ passed-on {wish} {h} {a} {b} {new} {s} first second = record {
       ∙ (ap (λ x. sight_more x (requests_after wish (after h a) b) (payloads_of b)) first.sight_is
       ∙ (sight-on s (requests_after wish h a) (requests_after wish (after h a) b) (payloads_of a) (payloads_of b)
       ∙ (ap (λ x. sight_more s x (payloads_of a ++ payloads_of b)) (sym (requests-on wish h a b))
-      ∙ ap (λ x. sight_more s (requests_after wish h (a ++ b)) x) (sym (payloads-on a b)))));
+      ∙ ap (λ x. sight_more s (requests_after wish h (a ++ b)) x) (sym (flat_map-append payload_of a b)))));
 }
 
 -- the client with another input
@@ -199,7 +190,7 @@ taken-on {wish} {h} {rest} {mid} {new} {s} {u} first next =
     record {
       pieces = first.pieces ++ second.pieces;
       cut = cut-on cuts;
-      passed = subst (λ ms. HasPassed wish h ms new s u) (sym (moments-on first.pieces second.pieces))
+      passed = subst (λ ms. HasPassed wish h ms new s u) (sym (flat_map-append moments_of first.pieces second.pieces))
           (passed-on first.passed second.passed);
     }
 
@@ -262,13 +253,13 @@ stopped-on {wish} {h} {rest} {mid} {end} {s} first next =
     ap (λ x. requests_after wish h a ++ x) st.sent_is
     ∙ (sym (append_assoc (requests_after wish h a) (requests_after wish g b) st.more_sent)
     ∙ ap (λ x. x ++ st.more_sent)
-    (sym (requests-on wish h a b) ∙ ap (requests_after wish h) (sym (moments-on first.pieces st.pieces)))) in
+    (sym (requests-on wish h a b) ∙ ap (requests_after wish h) (sym (flat_map-append moments_of first.pieces st.pieces)))) in
     let out_on : payloads_of a ++ second.out ≡ payloads_of (moments_in (first.pieces ++ st.pieces)) ++ st.more_out =
     ap (λ x. payloads_of a ++ x) st.out_is
     ∙ (sym (append_assoc (payloads_of a) (payloads_of b) st.more_out)
-    ∙ ap (λ x. x ++ st.more_out) (sym (payloads-on a b) ∙ ap payloads_of (sym (moments-on first.pieces st.pieces)))) in
+    ∙ ap (λ x. x ++ st.more_out) (sym (flat_map-append payload_of a b) ∙ ap payloads_of (sym (flat_map-append moments_of first.pieces st.pieces)))) in
     let there : after g b ≡ after h (moments_in (first.pieces ++ st.pieces)) =
-    sym (after-on h a b) ∙ ap (after h) (sym (moments-on first.pieces st.pieces)) in
+    sym (after-on h a b) ∙ ap (after h) (sym (flat_map-append moments_of first.pieces st.pieces)) in
     let cuts : CutsInTurn rest mid.input st.mid first.pieces st.pieces = record { first = first.cut; next = st.cut } in
     record {
       sent = requests_after wish h a ++ second.sent;
@@ -277,7 +268,7 @@ stopped-on {wish} {h} {rest} {mid} {end} {s} first next =
         pieces = first.pieces ++ st.pieces;
         mid = st.mid;
         cut = cut-on cuts;
-        good = subst (GoOn h) (sym (moments-on first.pieces st.pieces)) (good-on h a b first.passed.good st.good);
+        good = subst (GoOn h) (sym (flat_map-append moments_of first.pieces st.pieces)) (good-on h a b first.passed.good st.good);
         more_sent = st.more_sent;
         more_out = st.more_out;
         stops = subst (λ x. Stops wish (stage x st.mid) end st.more_sent st.more_out) there st.stops;

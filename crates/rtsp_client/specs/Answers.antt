@@ -2,7 +2,7 @@
 -- gives the answer.
 use Rattle.std.specs.Prelude.{◌≡◌, ◌≢◌, ℕ, ◌+◌, ◌<◌, ◌⊎◌, ◌==◌, ◌&&◌, ◌||◌, ⊤, Bool, true}
 use Rattle.std.specs.Prelude.{false, if◌then◌else◌, nat_lt, List, [], ◌∷◌, ◌++◌, length}
-use Rattle.std.specs.Prelude.{drop, slice_index, is_some, unwrap_or}
+use Rattle.std.specs.Prelude.{drop, flat_map, slice_index, is_some, unwrap_or}
 use Rattle.interleave.specs.Heads.{is_line_end}
 use Rattle.rtsp_client.specs.declared.wishes.Wish.{Wish}
 use Rattle.rtsp_client.specs.declared.wishes.WatchEnd.{WatchEnd}
@@ -93,8 +93,7 @@ requests_after wish h (moment ∷ moments) =
     request_after wish h moment ++ requests_after wish (moment ∷ h) moments
 
 abbrev pub payloads_of : List Moment → List ℕ
-payloads_of [] = []
-payloads_of (moment ∷ moments) = payload_of moment ++ payloads_of moments
+payloads_of moments = flat_map payload_of moments
 
 -- the moment of a block on a channel; on other channels than 0 and 1 there is none
 abbrev pub block_moments : ℕ → List ℕ → List Moment
@@ -109,8 +108,7 @@ moments_of piece =
     then block_moments (slice_index piece 1) piece else Reply piece ∷ [])
 
 abbrev pub moments_in : List (List ℕ) → List Moment
-moments_in [] = []
-moments_in (piece ∷ pieces) = moments_of piece ++ moments_in pieces
+moments_in pieces = flat_map moments_of pieces
 
 -- the bytes that wait of a block on channel 0 or 1 that isn't whole; of a block whose channel
 -- didn't come yet, one

@@ -9,11 +9,10 @@ use Rattle.rtsp_client.specs.declared.wishes.Wish.{Wish}
 use Rattle.rtsp_client.specs.declared.wishes.Watched.{Watched}
 use Rattle.rtsp_client.specs.declared.wishes.WatchEnd.TheVariants.{Done}
 use Rattle.rtsp_client.specs.Answers.{GoOn, Gives, after, cut_bytes, moments_in, moments_of, payloads_of}
-use Rattle.rtsp_client.specs.Courses.{Brings, IsNext, Round, Runs, RunsAll, Stage, moments_of_rounds, stage}
+use Rattle.rtsp_client.specs.Courses.{Brings, IsNext, Round, Runs, RunsAll, Stage, stage}
 use Rattle.rtsp_client.specs.Films.{is_complete}
 use Rattle.rtsp_client.specs.Meters.{first_slot, watched_in}
 use Rattle.rtsp_client.specs.Moments.{History, Moment, Frame, Reply, Report, Slot, replies, slot_before, start}
-use Rattle.rtsp_client.proofs.Taking.{after-on}
 use Rattle.transcript.specs.Requests.{bytes_in}
 use Rattle.transcript.proofs.Firsts.{HasGoneOn, gone-on}
 use Rattle.transcript.proofs.Sums.{Sum, replies-grow, steps, steps-on, sum-after, sum_of}
@@ -90,14 +89,6 @@ heard-all bytes old new (round ∷ rounds) heard all =
     (heard-all (bytes ++ bytes_in round.event) all.0 new rounds (heard-round bytes old all.0 round heard all.1.0) all.1.2)
 
 -- ---- what later moments leave
-
-pub history-later : (old new : Stage) (rounds : List Round) → RunsAll old rounds new
-    → new.history ≡ after old.history (moments_of_rounds rounds)
-history-later old new [] all = ap (λ (s : Stage). s.history) all
-history-later old new (round ∷ rounds) all =
-    history-later all.0 new rounds all.1.2
-    ∙ (ap (λ h. after h (moments_of_rounds rounds)) all.1.0.history_is
-    ∙ sym (after-on old.history round.moments (moments_of_rounds rounds)))
 
 pub replies-later : (h : History) (ms : List Moment) → replies h ≤ replies (after h ms)
 replies-later h ms = omega (arith, replies-grow (sum_of h) ms, ap (λ (s : Sum). s.replies) (sum-after h ms))

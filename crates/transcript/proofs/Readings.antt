@@ -19,9 +19,10 @@ use Rattle.rtsp_client.specs.Films.{units_until}
 use Rattle.rtsp_client.specs.Meters.{first_slot, is_read, place_in}
 use Rattle.rtsp_client.specs.Moments.{History, Moment, Frame, Reply, Report, Slot, is_playing, last_slot, bytes_received, replies}
 use Rattle.rtsp_client.specs.Promises.{IsBetween, IsBetweenAlways, IsHeardOf}
+use Rattle.rtsp_client.proofs.Coursing.{history-later}
 use Rattle.transcript.proofs.Film.{IsFilmIn, film_sizes, heard-of}
 use Rattle.transcript.specs.Requests.{bytes_in}
-use Rattle.transcript.proofs.ClientHearing.{Heard, heard-round, history-later, replies-later, rounds_heard, slot-stays}
+use Rattle.transcript.proofs.ClientHearing.{Heard, heard-round, replies-later, rounds_heard, slot-stays}
 use Rattle.transcript.proofs.Reading.{Stream, all_of, begun_sum, film_place, reading-of}
 
 -- ---- pieces bring no slot

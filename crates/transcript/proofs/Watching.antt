@@ -1,6 +1,7 @@
 -- A client that has watched a film over a link on which its bytes lay between the curves.
 use Rattle.std.proofs.Common.{◌≡◌, ℕ, ◌-◌, ◌<◌, ◌≤◌, List, [], ◌∷◌, ◌++◌, length, take, drop, Some, slice_get, refl, sym, ap, subst, ◌∙◌, append_assoc, arith, inl, inr}
 use Rattle.std.proofs.lemmas.List.{append-nil, length-map}
+use Rattle.std.proofs.lemmas.List.Concat.{flat_map-append}
 use Rattle.vod_base.specs.Links.{Doing, HeardBytes, HeardEnd, HeardSlot, Sent, sends}
 use Rattle.mpeg_scan.specs.declared.films.Film.{Film}
 use Rattle.mpeg_scan.specs.declared.units.Unit.{Unit as PictureUnit}
@@ -12,7 +13,7 @@ use Rattle.film_frames.specs.Tracks.{framed_bytes}
 use Rattle.rtsp_client.specs.declared.wishes.Wish.{Wish}
 use Rattle.rtsp_client.specs.declared.wishes.Watched.{Watched}
 use Rattle.rtsp_client.specs.declared.wishes.WatchEnd.TheVariants.{Done}
-use Rattle.rtsp_client.specs.Answers.{Gives, after, moments_in, payloads_of, requests_after}
+use Rattle.rtsp_client.specs.Answers.{Gives, after, moments_in, payload_of, payloads_of, requests_after}
 use Rattle.rtsp_client.specs.Courses.{Ends, HasCourse, IsNext, Round, RunsAll, Stage, Stops, StopsAt, moments_of_rounds, rounds_doings, stage}
 use Rattle.rtsp_client.specs.Meters.{first_slot}
 use Rattle.rtsp_client.specs.Moments.{History, Moment, payloads, replies}
@@ -20,12 +21,13 @@ use Rattle.rtsp_client.specs.Promises.{IsBetweenAlways}
 use Rattle.rtsp_client.specs.Requests.{setup_text}
 use Rattle.rtsp_client.specs.Wishes.{IsWish}
 use Rattle.rtsp_client.proofs.Promising.{quiet-always}
-use Rattle.rtsp_client.proofs.Taking.{after-on, payloads-on}
+use Rattle.rtsp_client.proofs.Taking.{after-on}
+use Rattle.rtsp_client.proofs.Coursing.{history-later}
 use Rattle.transcript.specs.Carried.{heard_bytes}
 use Rattle.transcript.proofs.Film.{IsFilmIn, film-back, film_sizes, whole-of}
 use Rattle.transcript.proofs.Finishing.{done-sum}
 use Rattle.transcript.specs.Requests.{bytes_in}
-use Rattle.transcript.proofs.ClientHearing.{Heard, IsDone, at-done, heard-all, heard-more, heard-none, history-later, replies-later, rounds_heard}
+use Rattle.transcript.proofs.ClientHearing.{Heard, IsDone, at-done, heard-all, heard-more, heard-none, replies-later, rounds_heard}
 use Rattle.transcript.proofs.Reading.{Stream, all_of}
 use Rattle.transcript.proofs.Readings.{AreFed, always-all, always-pieces, front-of}
 use Rattle.transcript.proofs.Sums.{Sum, steps-payloads, sum-after, sum_of}
@@ -82,7 +84,7 @@ all-watched {wish} {watched} {rounds} {mid} {last} {bytes} {out} runs stops out_
     let all_out : out ≡ payloads_of (moments ++ moments_in stops.pieces) =
     out_is ∙ (ap (λ o. payloads_of moments ++ o) (stops.out_is
     ∙ (ap (λ o. payloads_of (moments_in stops.pieces) ++ o) given.out_none ∙ append-nil (payloads_of (moments_in stops.pieces))))
-    ∙ sym (payloads-on moments (moments_in stops.pieces))) in
+    ∙ sym (flat_map-append payload_of moments (moments_in stops.pieces))) in
     let done = at-done (moments ++ moments_in stops.pieces) h given.next given.gives told all_out in
     record { done = done.0; pieces = stops.pieces; history = ap (λ (s : Stage). s.history) done.1 }
 

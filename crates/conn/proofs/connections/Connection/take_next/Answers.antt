@@ -1,7 +1,8 @@
 use Rattle.std.proofs.Common.{◌≡◌, ◌<◌, List, arith, Ok, ap, inl, inr, length, refl, rules, subst, sym, ℕ, Err}
 use Rattle.interleave.specs.Streams.{told_length}
 use Rattle.conn.proofs.Counting.{counted_none}
-use Rattle.conn.proofs.Cutting.{cuts_drop, cuts_none, cuts_same, drop_is, fewer, first_is}
+use Rattle.rtsp_text.proofs.Whole.{fewer, first_is}
+use Rattle.conn.proofs.Cutting.{cuts_drop, cuts_none, cuts_same, drop_is}
 use Rattle.conn.proofs.Keeping.{kept_moved, kept_none}
 use Rattle.interleave.specs.Pieces.{IsFirst}
 use Rattle.interleave.specs.declared.pieces.Step.TheVariants.{Block, Skip}

@@ -3,7 +3,8 @@ use Rattle.interleave.specs.declared.pieces.Step.TheVariants.{Request}
 use Rattle.conn.specs.Sights.{sight}
 use Rattle.conn.specs.Turns.{after_reply, stage}
 use Rattle.conn.proofs.Counting.{counted_fault, counted_none}
-use Rattle.conn.proofs.Cutting.{cuts_drop, cuts_none, fewer, some_request}
+use Rattle.rtsp_text.proofs.Whole.{fewer, some_request}
+use Rattle.conn.proofs.Cutting.{cuts_drop, cuts_none}
 use Rattle.conn.proofs.Keeping.{kept_none, kept_then}
 use Rattle.conn.proofs.Sighting.{lost_reply, stage_is, taken_reply}
 use Rattle.conn.proofs.connections.Connection.take_whole.Goals as goal

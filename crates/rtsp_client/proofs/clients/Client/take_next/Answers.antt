@@ -3,7 +3,8 @@ use Rattle.std.proofs.lemmas.Result.{err_from_is_err_and}
 use Rattle.rtsp_client.specs.Takings.{HasTaken, sight}
 use Rattle.interleave.specs.Pieces.{IsFirst}
 use Rattle.interleave.specs.declared.pieces.Step.TheVariants.{Block, Request, Skip}
-use Rattle.rtsp_client.proofs.Cutting.{fewer-left, first_is, goes-on, some-request}
+use Rattle.rtsp_text.proofs.Whole.{fewer, first_is, some_request}
+use Rattle.rtsp_client.proofs.Cutting.{goes-on}
 use Rattle.rtsp_client.proofs.Taking.{keeps-moved, stopped-block, stopped-framing, stopped-reply, taken-block, taken-ends, taken-none, taken-reply}
 use Rattle.rtsp_client.proofs.clients.Client.take_next.Goals as goal
 
@@ -111,7 +112,7 @@ pub returns-in-Ok-Skip-clause-shorter : goal.returns-in-Ok-Skip-clause-shorter
 returns-in-Ok-Skip-clause-shorter g c =
     let first : IsFirst c.args.self.now.input (Ok (Skip c.in-Ok-Skip.length)) =
     first_is c.in-Ok-Skip.ensures.first refl c.in-Ok-Skip.field-0-is in
-    λ _. fewer-left c.args.self.now.input c.drop_front.new.self c.in-Ok-Skip.length first.0 first.1.within
+    λ _. fewer c.args.self.now.input c.drop_front.new.self c.in-Ok-Skip.length first.0 first.1.within
     (c.drop_front.ensures ∙ ap (drop c.in-Ok-Skip.length) c.look.ensures.waiting)
 
 pub returns-in_ok-take_block-in-Ok-Block-clause-going : goal.returns-in_ok-take_block-in-Ok-Block-clause-going
@@ -134,7 +135,7 @@ pub returns-in_ok-take_block-in-Ok-Block-clause-shorter : goal.returns-in_ok-tak
 returns-in_ok-take_block-in-Ok-Block-clause-shorter g c =
     let first : IsFirst c.args.self.now.input (Ok (Block c.in-Ok-Block.channel c.in-Ok-Block.length)) =
     first_is c.in-Ok-Block.ensures.first refl c.in-Ok-Block.field-0-is in
-    λ _. fewer-left c.args.self.now.input c.drop_front-in-Ok-Block.new.self c.in-Ok-Block.length
+    λ _. fewer c.args.self.now.input c.drop_front-in-Ok-Block.new.self c.in-Ok-Block.length
     (subst (λ n. 0 < n) (sym first.3) (omega arith)) first.4
     (c.drop_front-in-Ok-Block.ensures ∙ ap (drop c.in-Ok-Block.length) (c.take_block.ensures.input ∙ c.look.ensures.waiting))
 
@@ -157,8 +158,8 @@ pub returns-in_ok-take_reply-in-Ok-Request-clause-shorter : goal.returns-in_ok-t
 returns-in_ok-take_reply-in-Ok-Request-clause-shorter g c =
     let first : IsFirst c.args.self.now.input (Ok (Request c.in-Ok-Request.length)) =
     first_is c.in-Ok-Request.ensures.first refl c.in-Ok-Request.field-0-is in
-    λ _. fewer-left c.args.self.now.input c.drop_front-in-Ok-Request.new.self c.in-Ok-Request.length
-    (some-request c.args.self.now.input c.in-Ok-Request.length first.1) first.2
+    λ _. fewer c.args.self.now.input c.drop_front-in-Ok-Request.new.self c.in-Ok-Request.length
+    (some_request c.args.self.now.input c.in-Ok-Request.length first.1) first.2
     (c.drop_front-in-Ok-Request.ensures ∙ ap (drop c.in-Ok-Request.length) (c.take_reply.ensures.input ∙ c.look.ensures.waiting))
 
 pub take_reply-requires-clause-message : goal.take_reply-requires-clause-message
