@@ -5,9 +5,9 @@ use Rattle.vod_base.specs.declared.memory_links.Event.{Event}
 use Rattle.vod_base.specs.declared.memory_links.Event.TheVariants.{Bytes, Slot, End}
 use Rattle.vod_base.specs.declared.memory_links.Front.{Front}
 use Rattle.vod_base.specs.Links.{Doing, HeardBytes, HeardSlot, HeardEnd, Sent}
-use Rattle.vod_base.specs.MemoryLinks.{heard_whole, shortened, left_from, passed_over, first_out, rest_left, handed, left_after}
+use Rattle.vod_base.specs.MemoryLinks.{heard_whole, without_first_bytes, left_from, without_empty_front, first_out, rest_left, next_doing, left_after}
 
-whole : (events : List Doing) → shortened 0 events ≡ events
+whole : (events : List Doing) → without_first_bytes 0 events ≡ events
 whole [] = refl
 whole (HeardBytes bytes ∷ events) = refl
 whole (HeardSlot slot ∷ events) = refl
@@ -25,10 +25,10 @@ pub record IsAt (events : List Event) (place : ℕ) (event : Event) : Type 0 whe
 
 -- the event in front, and the rest
 left_here : (events : List Event) (front : Front) (event : Event) → IsAt events front.event event →
-    left_from events front ≡ shortened front.offset (heard_whole event ∷ rest_from events front)
+    left_from events front ≡ without_first_bytes front.offset (heard_whole event ∷ rest_from events front)
 left_here events front event at =
     let all : List Doing = map heard_whole events in
-    ap (shortened front.offset)
+    ap (without_first_bytes front.offset)
     (drop_more all front.event (heard_whole event) (rw length-map at.inside)
     ∙ ap (λ d. d ∷ rest_from events front)
     (get_or-map heard_whole events front.event event (heard_whole event) at.inside ∙ ap heard_whole (sym at.is)))
@@ -45,30 +45,30 @@ left_passed events front new passed =
 -- an event of which no bytes are left is passed over
 pub empty_passed : (events : List Event) (front new : Front) (bytes : Vec ℕ Global) → IsAt events front.event (Bytes bytes) →
     length bytes.items ≤ front.offset → IsPassed front new
-    → passed_over (left_from events new) ≡ passed_over (left_from events front)
+    → without_empty_front (left_from events new) ≡ without_empty_front (left_from events front)
 empty_passed events front new bytes is none passed =
-    ap passed_over (left_passed events front new passed)
-    ∙ sym (ap passed_over (left_here events front (Bytes bytes) is)
-    ∙ ap (λ (bs : List ℕ). passed_over (HeardBytes bs ∷ rest_from events front)) (drop_all front.offset bytes.items none))
+    ap without_empty_front (left_passed events front new passed)
+    ∙ sym (ap without_empty_front (left_here events front (Bytes bytes) is)
+    ∙ ap (λ (bs : List ℕ). without_empty_front (HeardBytes bs ∷ rest_from events front)) (drop_all front.offset bytes.items none))
 
 -- what stands in front once events of no bytes were passed over
 pub record IsInFront (events : List Event) (first front : Front) (event : Event) : Type 0 where
-  pub passed : passed_over (left_from events front) ≡ passed_over (left_from events first)
+  pub passed : without_empty_front (left_from events front) ≡ without_empty_front (left_from events first)
   pub is : IsAt events front.event event
 
 in_front : (events : List Event) (first front : Front) (event : Event) → IsInFront events first front event →
-    passed_over (left_from events first) ≡ passed_over (shortened front.offset (heard_whole event ∷ rest_from events front))
-in_front events first front event at = sym at.passed ∙ ap passed_over (left_here events front event at.is)
+    without_empty_front (left_from events first) ≡ without_empty_front (without_first_bytes front.offset (heard_whole event ∷ rest_from events front))
+in_front events first front event at = sym at.passed ∙ ap without_empty_front (left_here events front event at.is)
 
 pub slot_out : (events : List Event) (first front new : Front) (slot room : ℕ) →
     IsInFront events first front (Slot slot) → IsPassed front new →
-    (HeardSlot slot ≡ handed room (left_from events first)) × (left_from events new ≡ left_after room (left_from events first))
+    (HeardSlot slot ≡ next_doing room (left_from events first)) × (left_from events new ≡ left_after room (left_from events first))
 slot_out events first front new slot room at passed =
     let here = in_front events first front (Slot slot) at in
     (sym (ap (first_out room) here), left_passed events front new passed ∙ sym (ap (rest_left room) here))
 
 pub end_out : (events : List Event) (first front new : Front) (room : ℕ) → IsInFront events first front End → IsPassed front new →
-    (HeardEnd ≡ handed room (left_from events first)) × (left_from events new ≡ left_after room (left_from events first))
+    (HeardEnd ≡ next_doing room (left_from events first)) × (left_from events new ≡ left_after room (left_from events first))
 end_out events first front new room at passed =
     let here = in_front events first front End at in
     (sym (ap (first_out room) here), left_passed events front new passed ∙ sym (ap (rest_left room) here))
@@ -80,18 +80,18 @@ pub record IsFrontOut (bytes into : List ℕ) (offset count : ℕ) : Type 0 wher
   pub front : take count into ≡ take count (drop offset bytes)
 
 some_passed : (bytes : List ℕ) (offset : ℕ) (rest : List Doing) → offset < length bytes →
-    passed_over (HeardBytes (drop offset bytes) ∷ rest) ≡ HeardBytes (drop offset bytes) ∷ rest
+    without_empty_front (HeardBytes (drop offset bytes) ∷ rest) ≡ HeardBytes (drop offset bytes) ∷ rest
 some_passed bytes offset rest some = rw (drop_more bytes offset 0 some) refl
 
 pub bytes_out : (events : List Event) (first front : Front) (bytes : Vec ℕ Global) (into : List ℕ) (count : ℕ) →
     IsInFront events first front (Bytes bytes) → IsFrontOut bytes.items into front.offset count →
-    (HeardBytes (take count into) ≡ handed (length into) (left_from events first))
+    (HeardBytes (take count into) ≡ next_doing (length into) (left_from events first))
     × (left_from events (record { event = front.event; offset = front.offset + count })
     ≡ left_after (length into) (left_from events first))
 bytes_out events first front bytes into count at out =
     let left : List ℕ = drop front.offset bytes.items in
     let rest : List Doing = rest_from events front in
-    let here : passed_over (left_from events first) ≡ HeardBytes left ∷ rest =
+    let here : without_empty_front (left_from events first) ≡ HeardBytes left ∷ rest =
     in_front events first front (Bytes bytes) at ∙ some_passed bytes.items front.offset rest out.some in
     let most : min (length into) (length left) ≡ count = rw (length-drop front.offset bytes.items) (sym out.most) in
     let handed_out : take count into ≡ take (length into) left =
@@ -105,11 +105,11 @@ bytes_out events first front bytes into count at out =
 
 -- after the last event
 pub none_out : (events : List Event) (first front : Front) (room : ℕ) →
-    passed_over (left_from events front) ≡ passed_over (left_from events first) →
+    without_empty_front (left_from events front) ≡ without_empty_front (left_from events first) →
     length events ≤ front.event →
-    (HeardEnd ≡ handed room (left_from events first)) × (left_from events front ≡ left_after room (left_from events first))
+    (HeardEnd ≡ next_doing room (left_from events first)) × (left_from events front ≡ left_after room (left_from events first))
 none_out events first front room passed past =
     let left : left_from events front ≡ [] =
-    ap (shortened front.offset) (drop_all front.event (map heard_whole events) (rw length-map past)) in
-    let none : passed_over (left_from events first) ≡ [] = sym passed ∙ ap passed_over left in
+    ap (without_first_bytes front.offset) (drop_all front.event (map heard_whole events) (rw length-map past)) in
+    let none : without_empty_front (left_from events first) ≡ [] = sym passed ∙ ap without_empty_front left in
     (sym (ap (first_out room) none), left ∙ sym (ap (rest_left room) none))

@@ -1,9 +1,9 @@
 pub mod Digits
-pub mod FileSearch
+mod FileSearch
 pub mod FirstBytes
-pub mod Giving
-pub mod HandingOut
-pub mod LineText
-pub mod Noting
+mod Giving
+mod HandingOut
+mod LineText
+mod Noting
 pub mod Telling
 pub mod Written

@@ -52,19 +52,19 @@ heard_whole (Bytes bytes) = HeardBytes bytes.items
 heard_whole (Slot slot) = HeardSlot slot
 heard_whole End = HeardEnd
 
--- the same events, where so many bytes of the first were handed out
-abbrev pub shortened : ℕ → List Doing → List Doing
-shortened count (HeardBytes bytes ∷ events) = HeardBytes (drop count bytes) ∷ events
-shortened count events = events
+-- the same events without so many bytes of the first, which were handed out
+abbrev pub without_first_bytes : ℕ → List Doing → List Doing
+without_first_bytes count (HeardBytes bytes ∷ events) = HeardBytes (drop count bytes) ∷ events
+without_first_bytes count events = events
 
 -- the events from a front on
 abbrev pub left_from : List Event → Front → List Doing
-left_from events front = shortened front.offset (drop front.event (map heard_whole events))
+left_from events front = without_first_bytes front.offset (drop front.event (map heard_whole events))
 
--- events of no bytes in front are passed over
-abbrev pub passed_over : List Doing → List Doing
-passed_over (HeardBytes [] ∷ events) = passed_over events
-passed_over events = events
+-- the same events without those of no bytes in front, which are passed over
+abbrev pub without_empty_front : List Doing → List Doing
+without_empty_front (HeardBytes [] ∷ events) = without_empty_front events
+without_empty_front events = events
 
 -- of bytes as many as there is room for are handed out, a slot or an end whole; after the last
 -- event the peer ends
@@ -80,15 +80,15 @@ rest_left room (HeardBytes bytes ∷ events) = HeardBytes (drop room bytes) ∷ 
 rest_left room (event ∷ events) = events
 
 -- what a call with so much room hands out of the events that are left, and which are left after it
-abbrev pub handed : ℕ → List Doing → Doing
-handed room left = first_out room (passed_over left)
+abbrev pub next_doing : ℕ → List Doing → Doing
+next_doing room left = first_out room (without_empty_front left)
 
 abbrev pub left_after : ℕ → List Doing → List Doing
-left_after room left = rest_left room (passed_over left)
+left_after room left = rest_left room (without_empty_front left)
 
 -- begun anew: all events are left, nothing was done, and no call was made
-abbrev pub begun : LinkState → LinkState
-begun s = record s {
+abbrev pub link_begun : LinkState → LinkState
+link_begun s = record s {
   told = [];
   left = s.script;
   events = 0;

@@ -3,6 +3,7 @@
 #![tactic(auto)]
 
 mod blanks;
+mod failing_calls;
 mod files;
 mod gates;
 mod laws;
@@ -16,6 +17,7 @@ mod names;
 mod numbers;
 mod output;
 mod outside;
+mod reads;
 mod shares;
 mod splits;
 

@@ -11,10 +11,10 @@ ghost use Rattle.vod_base.specs.Memory.{call_fails};
 ghost use Rattle.vod_base.specs.MemoryGates.{returned_of, part_of, back_of, script_of};
 ghost use Rattle.vod_base.specs.MemoryGates.{first_script, part_split_off, gate_called};
 ghost use Rattle.vod_base.specs.MemoryGates.{gate_failed};
-ghost use Rattle.vod_base.specs.MemoryLinks.{begun};
+ghost use Rattle.vod_base.specs.MemoryLinks.{link_begun};
 
+use crate::failing_calls::counted_call;
 use crate::gates::{Gate, Opening};
-use crate::memory_libraries::counted_call;
 use crate::memory_links::MemoryLink;
 use crate::outside::{GateFault, NoMemory};
 use crate::shares::{Last, Share};
@@ -180,7 +180,9 @@ impl Gate for MemoryGate {
         ensures fails { is_err result ≡
             (self.old.is_part || call_fails self.old.failing self.old.calls) }
         ensures open { OnOk result (self.new ≡
-            record (gate_called self.old) { content = after_open (Some how.now) self.old.content }) }
+            record (gate_called self.old) {
+              content = after_open (Some how.now) self.old.content;
+            }) }
         ensures lost { OnErr result (self.new ≡
             record (gate_failed self.old) { content = after_open None self.old.content }) }
     {
@@ -232,7 +234,7 @@ impl Gate for MemoryGate {
               waiting = drop 1 self.old.waiting;
             })) }
         ensures first { IfOk result (λ taken.
-            taken ≡ option_map begun (slice_get self.old.waiting 0)) }
+            taken ≡ option_map link_begun (slice_get self.old.waiting 0)) }
         ensures none { IfOk result (λ taken. taken ≡ None →
             self.new ≡ record
             (gate_called self.old) { content = after_empty_take NoMore self.old.content }) }

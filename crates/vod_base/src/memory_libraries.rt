@@ -5,8 +5,10 @@ ghost use Rattle.std.specs.Prelude.{min, string_bytes, if◌then◌else◌, IfOk
 ghost use Rattle.vod_base.specs.Outside.{File, HasRisen, file_named, bytes_named, IsRead, one_more};
 ghost use Rattle.vod_base.specs.Memory.{LibraryState, library_called, call_fails};
 
+use crate::failing_calls::counted_call;
 use crate::files::Library;
 use crate::outside::StoreFault;
+use crate::reads::copy_from;
 use std::marker::Model;
 
 /// A library in memory, whose calls of `find` and `read` fail at given numbers.
@@ -116,27 +118,4 @@ impl Library for MemoryLibrary {
             None => Ok(0),
         }
     }
-}
-
-/// Counts a call, and tells whether its number is among those of the calls that are to fail.
-pub(crate) fn counted_call(calls: &mut u64, failing: &[u64]) -> bool
-    ensures counted { calls.new ≡ one_more calls.old }
-    ensures fails { result ≡ call_fails failing.now calls.old }
-{
-    *calls = calls.saturating_add(1);
-    failing.contains(calls)
-}
-
-/// Copies what stands at `at` to the front of `into`, as much as fits, and answers how much.
-pub(crate) fn copy_from(bytes: &[u8], at: u64, into: &mut [u8]) -> usize
-    ensures read { IsRead bytes.now at result into.new }
-    ensures most { result ≡ min (length into.new) (length bytes.now - at) }
-{
-    if at >= bytes.len() as u64 {
-        return 0;
-    }
-    let rest = &bytes[at as usize..];
-    let count = rest.len().min(into.len());
-    into[..count].copy_from_slice(&rest[..count]);
-    count
 }

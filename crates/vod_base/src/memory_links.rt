@@ -7,11 +7,12 @@ ghost use Rattle.vod_base.specs.Memory.{call_fails};
 ghost use Rattle.vod_base.specs.Outside.{one_more};
 ghost use Rattle.vod_base.specs.declared.memory_links.Noted.TheVariants.{Gone};
 ghost use Rattle.vod_base.specs.MemoryLinks.{sent_of, doing_noted, next_fails, heard_whole};
-ghost use Rattle.vod_base.specs.MemoryLinks.{left_from, handed, left_after, begun};
+ghost use Rattle.vod_base.specs.MemoryLinks.{left_from, next_doing, left_after, link_begun};
 
+use crate::failing_calls::counted_call;
 use crate::links::{Heard, Link};
-use crate::memory_libraries::{copy_from, counted_call};
 use crate::outside::{LinkFault, NoMemory};
+use crate::reads::copy_from;
 use std::alloc::Global;
 use std::marker::Model;
 
@@ -88,6 +89,10 @@ impl MemoryLink {
     /// Makes a link that hands out these events, up to `room` of them, and keeps up to `room` sent
     /// bytes. All room is reserved here. `failing_sends` and `failing_nexts` have the numbers of
     /// the calls that are to fail.
+    ///
+    /// # Errors
+    ///
+    /// [`NoMemory`] where there is none for the room.
     pub fn new(
         alloc: Global,
         events: Vec<Event>,
@@ -138,7 +143,7 @@ impl MemoryLink {
 
     /// Begins anew: all events are still to be handed out, and nothing was done yet.
     pub(crate) fn begin(&mut self)
-        ensures { self.new ≡ begun self.old }
+        ensures { self.new ≡ link_begun self.old }
     {
         self.front = Front::FIRST;
         self.notes.clear();
@@ -163,7 +168,7 @@ impl Link for MemoryLink {
         ensures fails { is_err result ≡ next_fails self.old }
         ensures within { IfOk result (λ heard. IsWithin heard (length into.new)) }
         ensures front { IfOk result (λ heard.
-            doing_of heard into.new ≡ handed (length into.new) self.old.left) }
+            doing_of heard into.new ≡ next_doing (length into.new) self.old.left) }
         ensures heard { IfOk result (λ heard. self.new ≡
             record self.old {
               nexts = one_more self.old.nexts;
@@ -265,7 +270,7 @@ fn hand_out(events: &[Event], front: &mut Front, into: &mut [u8]) -> (Noted, Hea
     ensures within { IsWithin result.1 (length into.new) }
     ensures noted { doing_noted events.now result.0 ≡ doing_of result.1 into.new }
     ensures front { let left = left_from events.now front.old in
-        (doing_of result.1 into.new ≡ handed (length into.new) left)
+        (doing_of result.1 into.new ≡ next_doing (length into.new) left)
         × (left_from events.now front.new ≡ left_after (length into.new) left) }
 {
     while let Some(Event::Bytes(bytes)) = events.get(front.event)

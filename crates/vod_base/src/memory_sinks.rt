@@ -5,7 +5,7 @@ ghost use Rattle.std.specs.Prelude.{IfOk, is_err};
 ghost use Rattle.vod_base.specs.Memory.{SinkState, call_fails};
 ghost use Rattle.vod_base.specs.Outside.{one_more};
 
-use crate::memory_libraries::counted_call;
+use crate::failing_calls::counted_call;
 use crate::output::Sink;
 use crate::outside::{NoMemory, SinkFault};
 use std::alloc::Global;
@@ -42,6 +42,10 @@ impl Model for MemorySink {
 impl MemorySink {
     /// Makes a sink that keeps up to `room` bytes, all reserved here. `failing` has the numbers,
     /// from 1, of the calls that are to fail.
+    ///
+    /// # Errors
+    ///
+    /// [`NoMemory`] where there is none for the room.
     pub fn new(alloc: Global, room: usize, failing: Vec<u64>) -> Result<MemorySink, NoMemory>
         ensures { IfOk result (λ sink. sink ≡
             record { bytes = []; room = room; failing = failing.items; calls = 0; faults = 0 }) }

@@ -1,0 +1,18 @@
+//! A read of bytes that are held in memory.
+
+ghost use Rattle.std.specs.Prelude.{◌≡◌, ◌-◌, length, min};
+ghost use Rattle.vod_base.specs.Outside.{IsRead};
+
+/// Copies what stands at `at` to the front of `into`, as much as fits, and answers how much.
+pub(crate) fn copy_from(bytes: &[u8], at: u64, into: &mut [u8]) -> usize
+    ensures read { IsRead bytes.now at result into.new }
+    ensures most { result ≡ min (length into.new) (length bytes.now - at) }
+{
+    if at >= bytes.len() as u64 {
+        return 0;
+    }
+    let rest = &bytes[at as usize..];
+    let count = rest.len().min(into.len());
+    into[..count].copy_from_slice(&rest[..count]);
+    count
+}
