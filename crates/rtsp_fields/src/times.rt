@@ -1,12 +1,10 @@
 //! Normal play times.
 
 ghost use Rattle.std.specs.Prelude.{◌≡◌, ℕ, ◌^◌, ◌<◌, ◌≤◌, ◌↔◌, IsTrue, true, MatchOption};
-ghost use Rattle.std.specs.List.{list_all};
-ghost use Rattle.std.specs.Char.{is_ascii_digit};
 ghost use Rattle.rtsp_fields.specs.Times.{AreSeconds, IsClock, IsDigits, IsFraction, IsTime};
 
 use crate::pieces::piece_end;
-use vod_base::read_number;
+use vod_base::{are_digits, read_number};
 
 /// A time in nanoseconds.
 pub(crate) fn read_time(text: &[u8]) -> Option<u128>
@@ -65,13 +63,6 @@ fn read_seconds(text: &[u8]) -> Option<u64>
         Some(seconds) => Some(seconds),
         None => read_clock(text),
     }
-}
-
-/// Whether all bytes are digits.
-fn are_digits(text: &[u8]) -> bool
-    ensures { result ≡ list_all is_ascii_digit text.now }
-{
-    text.iter().all(|byte| byte.is_ascii_digit())
 }
 
 /// The fraction of a second that the digits after a point write, in nanoseconds.

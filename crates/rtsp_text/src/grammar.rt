@@ -3,20 +3,12 @@
 ghost use Rattle.std.specs.Prelude.{◌≡◌, ◌==◌, ◌↔◌, ℕ, List, IsTrue, true, codes, map};
 ghost use Rattle.std.specs.Prelude.{not, MatchOption};
 ghost use Rattle.std.specs.List.{list_all};
-ghost use Rattle.std.specs.Char.{is_ascii_digit, to_ascii_lowercase};
-ghost use Rattle.vod_base.specs.Numbers.{is_decimal};
+ghost use Rattle.std.specs.Char.{to_ascii_lowercase};
 ghost use Rattle.rtsp_text.specs.Grammar.{is_token_byte, is_token, is_url_byte, is_value_byte};
 ghost use Rattle.rtsp_text.specs.Grammar.{IsRtspUrl, IsUrl, IsVersion, AreVersionNumbers};
 ghost use Rattle.rtsp_text.specs.Grammar.{IsRequestLine, IsHeaderLine};
 
-use vod_base::split_at_first;
-
-/// Whether the text is one or more digits.
-pub(crate) fn is_decimal(text: &[u8]) -> bool
-    ensures { result ≡ is_decimal text.now }
-{
-    !text.is_empty() && has_digits(text)
-}
+use vod_base::{is_decimal, split_at_first};
 
 /// Whether all bytes are printable and none is the space, as in a URL.
 pub fn has_url_bytes(text: &[u8]) -> bool
@@ -94,13 +86,6 @@ fn is_token(text: &[u8]) -> bool
     ensures { result ≡ is_token text.now }
 {
     !text.is_empty() && has_token_bytes(text)
-}
-
-/// Whether all bytes are digits.
-fn has_digits(text: &[u8]) -> bool
-    ensures { result ≡ list_all is_ascii_digit text.now }
-{
-    text.iter().all(|byte| byte.is_ascii_digit())
 }
 
 /// Whether the byte is printable and not the space.

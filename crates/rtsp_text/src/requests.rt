@@ -12,10 +12,11 @@ ghost use Rattle.rtsp_text.specs.Fields.{header_value, first_sequence, IsFirstFi
 ghost use Rattle.rtsp_text.specs.Fields.{IsFirstNumber, HasNoNumber};
 
 use crate::fields;
-use crate::grammar::{is_decimal, is_header_line, is_rtsp_1_0, request_line};
+use crate::grammar::{is_header_line, is_rtsp_1_0, request_line};
 use crate::lines::{first_line, header_lines, split};
 use std::error::Error;
 use std::fmt;
+use vod_base::is_decimal;
 
 /// A request of RTSP 1.0 (RFC 2326 section 6).
 #[derive(Clone, Copy, Debug)]

@@ -6,7 +6,7 @@ ghost use Rattle.std.specs.List.{list_all};
 ghost use Rattle.std.specs.Char.{is_ascii_digit};
 ghost use Rattle.std.specs.Result.{result_ok};
 ghost use Rattle.std.specs.Str.Parse.{digits_value};
-ghost use Rattle.vod_base.specs.Numbers.{number_of, IsNumberFault};
+ghost use Rattle.vod_base.specs.Numbers.{is_decimal, number_of, IsNumberFault};
 
 use thiserror::Error;
 
@@ -36,6 +36,20 @@ pub fn read_number(text: &[u8]) -> Result<u64, NumberFault>
         return Err(NumberFault::NotDigit(place));
     }
     value_of(text).ok_or(NumberFault::TooLarge)
+}
+
+/// Whether the text is one or more digits `0` to `9`.
+pub fn is_decimal(text: &[u8]) -> bool
+    ensures { result ≡ is_decimal text.now }
+{
+    !text.is_empty() && are_digits(text)
+}
+
+/// Whether all bytes are digits `0` to `9`, as those of the empty text are.
+pub fn are_digits(text: &[u8]) -> bool
+    ensures { result ≡ list_all is_ascii_digit text.now }
+{
+    text.iter().all(|byte| byte.is_ascii_digit())
 }
 
 /// The place of the first byte that is no digit.

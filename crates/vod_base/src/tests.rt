@@ -21,6 +21,20 @@ fn reads_numbers(rt: HostRuntime) {
     }
 }
 
+#[test]
+fn knows_digits(rt: HostRuntime) {
+    for (text, all, some) in [
+        ("0", true, true),
+        ("0017", true, true),
+        ("", true, false),
+        ("1/", false, false),
+        (":1", false, false),
+    ] {
+        assert_eq!(rt; are_digits(text.as_bytes()), all, "at {text:?}");
+        assert_eq!(rt; is_decimal(text.as_bytes()), some, "at {text:?}");
+    }
+}
+
 // The ends of the line that begins at a place.
 fn ends_of(text: &[u8], at: usize) -> Option<(usize, usize)> {
     if at > text.len() {
