@@ -29,6 +29,10 @@ impl Stored {
     ghost use Rattle.film_frames.specs.Pieces.{front_pieces, wire_in, wire_size};
 
     /// A film under a name, with its table.
+    ///
+    /// # Errors
+    ///
+    /// [`NoMemory`] where there is none for the table.
     pub fn new(alloc: Global, name: String, film: Film) -> Result<Stored, NoMemory>
         ensures name { IfOk result (λ stored. string_bytes stored.name ≡ string_bytes name) }
         ensures film { IfOk result (λ stored. stored.film ≡ film) }

@@ -36,6 +36,10 @@ pub struct FrameTable {
 
 impl FrameTable {
     /// The table of a film.
+    ///
+    /// # Errors
+    ///
+    /// [`NoMemory`] alone.
     pub fn make(alloc: Global, film: &Film) -> Result<FrameTable, NoMemory>
         ensures { IfOk result (λ table. IsTableOf film.now table) }
     {

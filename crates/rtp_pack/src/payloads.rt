@@ -27,6 +27,10 @@ pub struct Packet {
 }
 
 /// The packets of a unit of the film, in order.
+///
+/// # Errors
+///
+/// [`NoMemory`] alone.
 pub fn packets(alloc: Global, film: &Film, unit: usize) -> Result<Vec<Packet>, NoMemory>
     requires { unit < length film.now.units.items }
     ensures list { OfUnit film.now.units.items unit (λ u.
