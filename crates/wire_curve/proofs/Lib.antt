@@ -1,5 +1,5 @@
 pub mod Sums
 pub mod UseLaws
-pub mod SoundLaws
+mod SoundLaws
 pub mod Exact
 pub mod PlayedLaws

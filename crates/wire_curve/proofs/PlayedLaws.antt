@@ -1,14 +1,14 @@
 -- The curves by the first pictures that a client has used.
 use Rattle.std.proofs.Common.{◌≡◌, ℕ, ◌+◌, ◌-◌, ◌*◌, ◌/◌, ◌<◌, ◌≤◌, ◌↔◌, List, length, take, get_or, sum, sum_by, ltb, cond, refl, sym, subst, ap, arith, zero, suc, inl, inr}
 use Rattle.std.specs.List.{range_with_len}
-use Rattle.std.proofs.lemmas.Nat.{le-div}
 use Rattle.std.proofs.lemmas.Bool.{cases_lt}
 use Rattle.std.proofs.lemmas.Bool.Decides.{nat_tests}
-use Rattle.std.proofs.Math.Nat.{div-eq_of_lt-le, div-mul-le_self, lt-div-mul-add, mul-le-mul_right}
+use Rattle.std.proofs.Math.Nat.{div-eq_of_lt-le, div-mul-le_self, lt-div-mul-add}
 use Rattle.wire_curve.specs.declared.film.Timing.{Timing}
 use Rattle.wire_curve.specs.FilmCurves.{due_slot, used_before}
 use Rattle.wire_curve.specs.Played.{AreUsedBy, AreUsedBefore, played_to}
 use Rattle.wire_curve.proofs.Sums.{sum_by-range-add, sum_by-range-zero, sum_by-range_more, sum_by-range-take}
+use Rattle.wire_curve.proofs.UseLaws.{cond_due, due_rises}
 
 pub due_is : (timing : Timing) (k s : ℕ) → 1 ≤ timing.slot_units → (due_slot timing k ≡ s + timing.delay)
     ↔ ((s * timing.slot_units ≤ k * timing.picture_units) × (k * timing.picture_units < (s + 1) * timing.slot_units))
@@ -23,14 +23,6 @@ due_is timing k s some =
       (λ both. let is : time / unit ≡ s =
           div-eq_of_lt-le {k = s} unit {m = time} (omega (arith, both.0)) (omega (arith, both.1)) in omega (arith, is)),
     )
-
-pub due_rises : (timing : Timing) (j k : ℕ) → 1 ≤ timing.slot_units → j ≤ k → due_slot timing j ≤ due_slot timing k
-due_rises timing j k some le =
-    let times : j * timing.picture_units ≤ k * timing.picture_units = mul-le-mul_right timing.picture_units le in
-    let floor = div-mul-le_self (j * timing.picture_units) timing.slot_units in
-    let slots = le-div (j * timing.picture_units / timing.slot_units) (k * timing.picture_units)
-    timing.slot_units (omega (arith, some)) (omega (arith, floor, times)) in
-    omega (arith, slots)
 
 -- of n + d pictures the first n count with their sizes, and the others with nothing
 record CountsFirst (sizes : List ℕ) (f : ℕ → ℕ) (n d : ℕ) : Type 0 where
@@ -59,9 +51,6 @@ first_sum sizes f n (suc d) it =
     let e : (n + d) + 1 ≡ n + suc d = omega arith in
     subst (λ m. sum_by f (range_with_len 0 m) ≡ sum (take n sizes)) e (omega (arith, before, step, last))
 
-cond_used : (a t n : ℕ) → a < t → cond (ltb a t) n 0 ≡ n
-cond_used a t n lt = grind (arith, nat_tests)
-
 cond_unused : (a t n : ℕ) → t ≤ a → cond (ltb a t) n 0 ≡ 0
 cond_unused a t n le = grind (arith, nat_tests)
 
@@ -74,7 +63,7 @@ used_of_first sizes timing n t are =
     let f : ℕ → ℕ = λ k. cond (ltb (due_slot timing k) t) (get_or sizes k 0) 0 in
     let first = first_sum sizes f n d (record {
       fits = omega (arith, e);
-      counted = λ k lt. cond_used (due_slot timing k) t (get_or sizes k 0) (are.used k lt);
+      counted = λ k lt. cond_due (due_slot timing k) t (get_or sizes k 0) (are.used k lt);
       uncounted = λ k l u. cond_unused (due_slot timing k) t (get_or sizes k 0) (are.unused k l (omega (arith, u, e)));
     }) in
     let all : sum_by f (range_with_len 0 (length sizes)) ≡ sum (take n sizes) =

@@ -1,7 +1,7 @@
 -- What pictures use in each slot: adding up one picture after another, and the running sums over the slots.
 use Rattle.std.proofs.Common.{◌≡◌, ℕ, ◌+◌, ◌*◌, ◌-◌, ◌/◌, ◌<◌, ◌≤◌, ◌≢◌, Bool, true, false, cond, eqb, ltb, List, length, take, set, get_or, sum, sum_by, refl, sym, ◌∙◌, subst, inl, inr, add-one, arith, zero, suc}
 use Rattle.std.specs.List.{range_with_len}
-use Rattle.std.proofs.Math.Nat.{mul-le-mul_right, div-mul-le_self}
+use Rattle.std.proofs.Math.Nat.{le_refl, le_trans, mul-le-mul_right, div-mul-le_self}
 use Rattle.std.proofs.lemmas.Nat.{le-div}
 use Rattle.std.proofs.lemmas.Bool.{cases_eq}
 use Rattle.std.proofs.lemmas.Bool.Decides.{nat_tests}
@@ -93,7 +93,7 @@ cond_before a t n = grind (arith, nat_tests)
 cond_none : (a n : ℕ) → cond (ltb a 0) n 0 ≡ 0
 cond_none a n = grind (arith, nat_tests)
 
-cond_due : (a t n : ℕ) → a < t → cond (ltb a t) n 0 ≡ n
+pub cond_due : (a t n : ℕ) → a < t → cond (ltb a t) n 0 ≡ n
 cond_due a t n lt = grind (arith, nat_tests)
 
 pub used_before-none : (sizes : List ℕ) (timing : Timing) → used_before sizes timing 0 ≡ timing.played
@@ -123,18 +123,11 @@ used_before-all sizes timing some pictures =
     let none = sum_by-range-zero (λ k. 0) 0 (length sizes) (λ k l u. refl) in
     omega (arith, all, none, sum_by-range-all sizes)
 
-le_through : (a b c : ℕ) → a ≤ b → b ≤ c → a ≤ c
-le_through a b c h k = omega arith
-
-le_self : (a : ℕ) → a ≤ a
-le_self a = omega arith
-
--- numbers that never fall from one to the next
-pub rises_by_steps : (f : ℕ → ℕ) → ((t : ℕ) → f t ≤ f (t + 1)) → (s d : ℕ) → f s ≤ f (s + d)
-rises_by_steps f _ s zero = let e : s ≡ s + zero = omega arith in subst (λ t. f s ≤ f t) e (le_self (f s))
-rises_by_steps f step s (suc d) =
-    let rest = rises_by_steps f step s d in
-    let le = le_through (f s) (f (s + d)) (f ((s + d) + 1)) rest (step (s + d)) in
+-- numbers that up to the n-th never fall from one to the next
+pub rises_by_steps : (f : ℕ → ℕ) (n : ℕ) → ((t : ℕ) → t + 1 ≤ n → f t ≤ f (t + 1)) → (s d : ℕ) → s + d ≤ n → f s ≤ f (s + d)
+rises_by_steps f n _ s zero fits = let e : s ≡ s + zero = omega arith in subst (λ t. f s ≤ f t) e (le_refl (f s))
+rises_by_steps f n step s (suc d) fits =
+    let le = le_trans (rises_by_steps f n step s d (omega (arith, fits))) (step (s + d) (omega (arith, fits))) in
     let e : (s + d) + 1 ≡ s + suc d = omega arith in
     subst (λ t. f s ≤ f t) e le
 
@@ -143,7 +136,8 @@ pub used_before_rises : (sizes : List ℕ) (timing : Timing) (s t : ℕ) → s �
 used_before_rises sizes timing s t le =
     let e : s + (t - s) ≡ t = omega arith in
     subst (λ u. used_before sizes timing s ≤ used_before sizes timing u) e
-    (rises_by_steps (used_before sizes timing) (λ u. let step = used_before-more sizes timing u in omega (arith, step)) s (t - s))
+    (rises_by_steps (used_before sizes timing) t
+    (λ u _. let step = used_before-more sizes timing u in omega (arith, step)) s (t - s) (omega arith))
 
 -- by the uses of the slots
 pub used_by-is : (sizes : List ℕ) (timing : Timing) (uses : List ℕ) → AreUses sizes timing uses → (t : ℕ)

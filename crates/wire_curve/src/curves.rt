@@ -1,10 +1,18 @@
-//! The type of the curves.
+//! The type of the curves, and whether they are sound.
+
+ghost use Rattle.std.specs.Prelude.{◌≡◌, ℕ, ◌+◌, ◌<◌, ◌≤◌, ◌↔◌, IsTrue, length, slice_index};
+ghost use Rattle.wire_curve.specs.Sound.{IsSound};
+
+/// The most slots that a plan may have.
+pub(crate) const MAX_SLOTS: u64 = 1_000_000;
+
+/// The most bytes of a film, and of a client's buffer.
+pub(crate) const MAX_BYTES: u64 = 1 << 42;
 
 /// Two curves over the slots of a plan, by the bytes sent in all at the end of each slot.
 ///
-/// `film_curves` gives sound ones: 1 to 1,000,000 slots, neither curve ever falls, the lower one is
-/// nowhere above the upper one, and they meet at the last slot.
-#[derive(Debug, Drop)]
+/// [`crate::film_curves`] gives sound ones, as [`Curves::is_sound`] has it.
+#[derive(Debug, PartialEq, Eq, Drop)]
 pub struct Curves {
     /// The bytes that were sent before slot 0.
     pub from: u64,
@@ -12,4 +20,49 @@ pub struct Curves {
     pub low: Vec<u64>,
     /// What may have been sent by the end of each slot.
     pub up: Vec<u64>,
+}
+
+impl Curves {
+    /// Whether the curves are sound, as those that a plan is made for must be: 1 to 1,000,000 slots
+    /// in both; neither curve ever falls; the lower one begins at `from` or above, is nowhere above
+    /// the upper one, and meets it at the last slot, at 2^42 bytes or less.
+    ///
+    /// It takes no memory, and time linear in the slots.
+    pub fn is_sound(&self) -> bool
+        ensures { IsTrue result ↔ IsSound self.now.from self.now.low.items self.now.up.items }
+    {
+        let low = self.low.as_slice();
+        let up = self.up.as_slice();
+        let slots = low.len();
+        if slots == 0 || slots as u64 > MAX_SLOTS || up.len() != slots {
+            return false;
+        }
+        let (low_end, up_end) = (low[slots - 1], up[slots - 1]);
+        if self.from > low[0] || low_end != up_end || low_end > MAX_BYTES {
+            return false;
+        }
+        never_falls(low) && never_falls(up) && is_nowhere_above(low, up)
+    }
+}
+
+/// Whether a curve never falls from one slot to the next.
+fn never_falls(curve: &[u64]) -> bool
+    ensures { IsTrue result ↔ ((t : ℕ) → t + 1 < length curve.now →
+        slice_index curve.now t ≤ slice_index curve.now (t + 1)) }
+{
+    curve.is_sorted()
+}
+
+/// Whether the lower curve is nowhere above the upper one, of equally many slots.
+fn is_nowhere_above(low: &[u64], up: &[u64]) -> bool
+    requires { length low.now ≡ length up.now }
+    ensures { IsTrue result ↔ ((t : ℕ) → t < length low.now →
+        slice_index low.now t ≤ slice_index up.now t) }
+{
+    for slot in 0..low.len() {
+        if low[slot] > up[slot] {
+            return false;
+        }
+    }
+    true
 }

@@ -1,7 +1,7 @@
 //! The curves of a film, from the sizes of its pictures and the times at which they are used.
 
 ghost use Rattle.std.specs.Prelude.{◌≡◌, ℕ, ◌+◌, ◌-◌, ◌<◌, ◌≤◌, ◌^◌, length, sum, slice_index};
-ghost use Rattle.std.specs.Prelude.{vec_len, IfOk, IfErr, IfSome, IfNone, OnOk, All, max, min};
+ghost use Rattle.std.specs.Prelude.{vec_len, IsTrue, ◌↔◌, MatchOption, IfOk, IfErr, IfSome, IfNone, OnOk, All, max, min};
 ghost use Rattle.wire_curve.specs.Sound.{IsSound};
 ghost use Rattle.wire_curve.specs.FilmCurves.{due_slot, bytes_used_in, total_of, slot_count};
 ghost use Rattle.wire_curve.specs.FilmCurves.{IsWithinLimits};
@@ -10,12 +10,18 @@ ghost use Rattle.wire_curve.specs.Uses.{AreUses, IsFaultOfUses, AreCurvesOfUses,
 ghost use Rattle.wire_curve.specs.Uses.{IsUpperOfUses};
 ghost use Rattle.wire_curve.specs.Refusal.{IsAccepted, IsOverfull, HasFault, IsRefused};
 
-use crate::curves::Curves;
+use crate::curves::{Curves, MAX_BYTES, MAX_SLOTS};
 use std::alloc::{AllocError, Global};
 use thiserror::Error;
 
-/// The most slots that a plan may have.
-const MAX_SLOTS: u64 = 1_000_000;
+/// The longest time of a picture and of a slot, in units of 1/360,000 second.
+const MAX_UNITS: u32 = 360_000;
+
+/// The most slots before the first picture is used.
+const MAX_DELAY: u64 = 10_000;
+
+/// The most pictures of a film.
+const MAX_PICTURES: usize = 4_194_304;
 
 /// When pictures are used and what the client can hold.
 ///
@@ -51,6 +57,43 @@ impl Timing {
         }
         picture * u64::from(self.picture_units) / u64::from(self.slot_units) + self.delay
     }
+
+    /// Whether [`film_curves`] may be called for pictures of these sizes: each field is in its
+    /// range; they are at most 4,194,304 pictures, and their bytes and those used before slot 0 at
+    /// most 2^42; and the bytes sent before slot 0 are at least those used by then, at most all, and
+    /// leave in the buffer no more than it holds.
+    ///
+    /// It takes no memory, and time linear in the pictures.
+    pub fn is_within_limits(&self, sizes: &[u64]) -> bool
+        ensures { IsTrue result ↔ IsWithinLimits sizes.now self.now }
+    {
+        let Some(total) = total_bytes(self.played, sizes) else {
+            return false;
+        };
+        1 <= self.picture_units
+            && self.picture_units <= MAX_UNITS
+            && 1 <= self.slot_units
+            && self.slot_units <= MAX_UNITS
+            && sizes.len() <= MAX_PICTURES
+            && self.delay <= MAX_DELAY
+            && 1 <= self.buffer
+            && self.buffer <= MAX_BYTES
+            && self.played <= self.sent
+            && self.sent <= total
+            && self.sent - self.played <= self.buffer
+    }
+}
+
+/// The bytes used before slot 0 and those of the pictures, or None where they are more than 2^42.
+fn total_bytes(played: u64, sizes: &[u64]) -> Option<u64>
+    ensures { MatchOption result (2 ^ 42 < played + sum sizes.now)
+        (λ total. (total ≡ played + sum sizes.now) × (total ≤ 2 ^ 42)) }
+{
+    let mut left = MAX_BYTES.checked_sub(played)?;
+    for size in sizes {
+        left = left.checked_sub(*size)?;
+    }
+    Some(MAX_BYTES - left)
 }
 
 /// Why pictures have no curves, in the order in which the faults are looked for.
@@ -89,10 +132,14 @@ impl From<AllocError> for CurveRefused {
     }
 }
 
-/// The curves of pictures of these sizes. They are sound, and refused exactly where a fault holds;
-/// memory may be wanting.
+/// The curves of pictures of these sizes, which are sound.
 ///
 /// It reads the sizes once and takes time linear in the pictures and the slots.
+///
+/// # Errors
+///
+/// [`CurveRefused::Fault`] exactly where a fault holds, the first in the order of [`CurveFault`];
+/// and [`CurveRefused::NoMemory`].
 pub fn film_curves(alloc: Global, sizes: &[u64], timing: &Timing) -> Result<Curves, CurveRefused>
     requires { IsWithinLimits sizes.now timing.now }
     ensures accepted { OnOk result (IsAccepted sizes.now timing.now) }

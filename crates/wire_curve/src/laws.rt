@@ -2,7 +2,8 @@
 
 ghost use Rattle.std.specs.Prelude.{◌≡◌, ℕ, ◌+◌, ◌*◌, ◌<◌, ◌≤◌, ◌↔◌, List, max, min};
 ghost use Rattle.wire_curve.specs.declared.film.Timing.{Timing};
-ghost use Rattle.wire_curve.specs.FilmCurves.{due_slot, low_at, up_at, total_of};
+ghost use Rattle.wire_curve.specs.FilmCurves.{due_slot, used_before, bytes_used_in, low_at, up_at};
+ghost use Rattle.wire_curve.specs.FilmCurves.{total_of};
 ghost use Rattle.wire_curve.specs.Played.{AreUsedBy, AreUsedBefore, played_to};
 ghost use Rattle.wire_curve.specs.declared.film.CurveFault.TheVariants.{BufferTooSmall};
 ghost use Rattle.wire_curve.specs.Refusal.{HasFault, IsAccepted};
@@ -18,7 +19,8 @@ pub fn law_due_slot()
 
 /// A law: some first pictures are those that are used by the end of a slot, and the lower curve is
 /// their bytes, or what was sent before. Some are those that are used before it begins: the upper
-/// curve is their bytes and a full buffer, or all bytes.
+/// curve is their bytes and a full buffer, or all bytes. From one slot to the next what is used
+/// grows by what the slot uses.
 pub fn law_curves()
     ensures some_by { (sizes : List ℕ) (timing : Timing) (t : ℕ) → 1 ≤ timing.slot_units →
         (n : ℕ) × AreUsedBy sizes timing n t }
@@ -29,6 +31,8 @@ pub fn law_curves()
     ensures up { (sizes : List ℕ) (timing : Timing) (n t : ℕ) → AreUsedBefore sizes timing n t →
         up_at sizes timing t
         ≡ min (total_of sizes timing) (played_to sizes timing n + timing.buffer) }
+    ensures slot { (sizes : List ℕ) (timing : Timing) (t : ℕ) → used_before sizes timing (t + 1)
+        ≡ used_before sizes timing t + bytes_used_in sizes timing t }
 {}
 
 /// A law: where a buffer is too small, the pictures have curves for the same client with another

@@ -1,10 +1,7 @@
 //! Worked films: their curves and their refusals, number by number.
 
-ghost use Rattle.std.specs.Prelude.{IsTrue};
-ghost use Rattle.wire_curve.specs.FilmCurves.{IsWithinLimits};
-
 use super::*;
-use std::alloc::Global;
+use std::alloc::{AllocError, Global};
 use std::process::Abort;
 
 /// One slot a picture.
@@ -19,33 +16,12 @@ fn timing(buffer: u64, delay: u64) -> Timing {
     }
 }
 
-/// Whether `film_curves` may be called.
-fn is_within_limits(sizes: &[u64], timing: &Timing) -> bool
-    ensures { IsTrue result → IsWithinLimits sizes.now timing.now }
-{
-    let mut total = timing.played;
-    for size in sizes {
-        if total > 1 << 42 || *size > 1 << 42 {
-            return false;
-        }
-        total += *size;
-    }
-    if 1 <= timing.picture_units
-        && timing.picture_units <= 360_000
-        && 1 <= timing.slot_units
-        && timing.slot_units <= 360_000
-        && sizes.len() <= 4_194_304
-        && timing.delay <= 10_000
-        && 1 <= timing.buffer
-        && timing.buffer <= 1 << 42
-        && total <= 1 << 42
-        && timing.played <= timing.sent
-        && timing.sent <= total
-        && timing.sent - timing.played <= timing.buffer
-    {
-        return true;
-    }
-    false
+fn curves_of(alloc: Global, from: u64, low: &[u64], up: &[u64]) -> Result<Curves, AllocError> {
+    Ok(Curves {
+        from,
+        low: Vec::from_slice(alloc, low)?,
+        up: Vec::from_slice(alloc, up)?,
+    })
 }
 
 /// A film's sizes and timing, and the numbers of its two curves.
@@ -53,11 +29,10 @@ type Row<'a> = (&'a [u64], Timing, &'a [u64], &'a [u64]);
 
 fn have_these_curves(rt: &impl Abort, alloc: Global, rows: &[Row<'_>]) -> Result<(), CurveRefused> {
     for (sizes, timing, low, up) in rows {
-        assert!(rt; is_within_limits(sizes, timing));
-        let curves = film_curves(alloc, sizes, timing)?;
-        assert_eq!(rt; curves.from, timing.sent, "from of {sizes:?}");
-        assert_eq!(rt; curves.low.as_slice(), *low, "low of {sizes:?}");
-        assert_eq!(rt; curves.up.as_slice(), *up, "up of {sizes:?}");
+        assert!(rt; timing.is_within_limits(sizes));
+        let want = curves_of(alloc, timing.sent, low, up)?;
+        assert!(rt; want.is_sound(), "{sizes:?}");
+        assert_eq!(rt; film_curves(alloc, sizes, timing)?, want, "{sizes:?}");
     }
     Ok(())
 }
@@ -116,6 +91,72 @@ fn begun_films_have_these_curves(rt: HostRuntime) -> Result<(), CurveRefused> {
     have_these_curves(&rt, rt.alloc(), &rows)
 }
 
+#[test]
+fn curves_that_are_not_sound(rt: HostRuntime) -> Result<(), AllocError> {
+    let large = 1 << 43;
+    let rows: [(u64, &[u64], &[u64]); 8] = [
+        (0, &[], &[]),
+        (0, &[1, 2], &[2]),
+        (2, &[1, 3], &[3, 3]),
+        (0, &[1, 2], &[3, 3]),
+        (0, &[large], &[large]),
+        (0, &[2, 1, 3], &[3, 3, 3]),
+        (0, &[1, 1, 3], &[3, 2, 3]),
+        (0, &[1, 2, 3], &[1, 1, 3]),
+    ];
+    for (from, low, up) in rows {
+        let curves = curves_of(rt.alloc(), from, low, up)?;
+        assert!(rt; !curves.is_sound(), "{curves:?}");
+    }
+    Ok(())
+}
+
+#[test]
+fn films_that_pass_the_limits(rt: HostRuntime) {
+    let within = timing(9, 0);
+    let rows = [
+        Timing {
+            picture_units: 0,
+            ..within
+        },
+        Timing {
+            slot_units: 360_001,
+            ..within
+        },
+        Timing {
+            buffer: 0,
+            ..within
+        },
+        Timing {
+            delay: 10_001,
+            ..within
+        },
+        Timing {
+            played: 1 << 42,
+            ..within
+        },
+        Timing {
+            played: 2,
+            sent: 1,
+            ..within
+        },
+        Timing {
+            sent: 10,
+            buffer: 10,
+            ..within
+        },
+        Timing {
+            sent: 9,
+            buffer: 8,
+            ..within
+        },
+    ];
+    assert!(rt; within.is_within_limits(&[2, 7]));
+    for timing in rows {
+        assert!(rt; !timing.is_within_limits(&[2, 7]), "{timing:?}");
+    }
+}
+
 /// What the answer says of a film is this fault, or none.
 fn names(
     rt: &impl Abort,
@@ -124,7 +165,7 @@ fn names(
     timing: &Timing,
     fault: Option<CurveFault>,
 ) {
-    assert!(rt; is_within_limits(sizes, timing));
+    assert!(rt; timing.is_within_limits(sizes));
     let answer = film_curves(alloc, sizes, timing).err();
     assert_eq!(rt; answer, fault.map(CurveRefused::Fault), "{sizes:?}");
 }

@@ -1,7 +1,11 @@
 use Rattle.std.proofs.Common.{◌+◌, ap, max, min}
 use Rattle.wire_curve.specs.FilmCurves.{total_of}
 use Rattle.wire_curve.proofs.PlayedLaws.{some_by, some_before, before_of_by, used_of_first}
+use Rattle.wire_curve.proofs.UseLaws.{used_before-more}
 use Rattle.wire_curve.proofs.laws.law_curves.Goals as goal
+
+pub returns-clause-slot : goal.returns-clause-slot
+returns-clause-slot c = used_before-more
 
 pub returns-clause-some_by : goal.returns-clause-some_by
 returns-clause-some_by c = some_by

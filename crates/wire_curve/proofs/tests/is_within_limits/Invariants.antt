@@ -1,5 +1,0 @@
-use Rattle.std.proofs.Common.{◌≡◌, ◌+◌, sum, take}
-use Rattle.wire_curve.proofs.tests.is_within_limits.Given as goal
-
-abbrev pub invariant-loop-size : goal.invariant-loop-size
-invariant-loop-size l = l.total ≡ l.timing.played + sum (take l.size-index l.sizes)
