@@ -1,12 +1,12 @@
 pub mod SumLaws
 pub mod CurveLaws
-pub mod UsedLaws
-pub mod TimeLaws
-pub mod SeekLaws
+mod UsedLaws
+mod TimeLaws
+mod SeekLaws
 pub mod NewRuns
-pub mod HaltLaws
+mod HaltLaws
 pub mod PlayLaws
 pub mod LeftLaws
-pub mod BoundaryLaws
+mod BoundaryLaws
 mod UsedPictures
 mod SeekTimes

@@ -1,18 +1,15 @@
 -- What a run's plan promises its client.
-use Rattle.std.proofs.Common.{◌≡◌, ℕ, zero, suc, ◌+◌, ◌-◌, ◌<◌, ◌≤◌, ltb, List, length, take, get_or, sum, sum_by, ap, arith}
-use Rattle.std.specs.List.{range_with_len}
+use Rattle.std.proofs.Common.{◌≡◌, ℕ, ◌+◌, ◌-◌, ◌<◌, ◌≤◌, List, take, sum, ap, arith}
 use Rattle.plan_cert.specs.declared.Segment.{Segment}
-use Rattle.wire_curve.specs.declared.film.Timing.{Timing}
-use Rattle.wire_curve.specs.FilmCurves.{IsWithinLimits, due_slot, used_before}
-use Rattle.wire_curve.proofs.Sums.{sum_by-range_more, sum_by-range-le, sum_by-range-take}
-use Rattle.wire_curve.proofs.UseLaws.{cond_le, due_in_range, due_rises}
+use Rattle.wire_curve.specs.FilmCurves.{IsWithinLimits, due_slot}
+use Rattle.wire_curve.proofs.UseLaws.{due_in_range, due_rises}
 use Rattle.film_run.specs.declared.runs.Run.{Run}
 use Rattle.film_run.specs.declared.plans.Playback.{Playback}
 use Rattle.film_run.specs.Runs.{bytes_between}
 use Rattle.film_run.specs.Plans.{IsBestPlanOf, rest_sizes, timing_of}
 use Rattle.film_run.specs.Laws.{AreInTime, DoesFit, IsOnlyPlan, IsSending}
 use Rattle.film_run.proofs.SumLaws.{bytes-first, bytes-join, length-between}
-use Rattle.film_run.proofs.UsedLaws.{IsUnusedFrom, used_of, used-part, used-rest}
+use Rattle.film_run.proofs.UsedLaws.{IsUnusedFrom, used-least, used-most}
 use Rattle.film_run.proofs.CurveLaws.{KeepsTo, best-of, keeps-to, limits}
 
 pub sending-limits : (sizes : List ℕ) (playback : Playback) (run : Run) (plan : List Segment) → IsSending sizes playback run plan
@@ -34,46 +31,6 @@ sending-best sizes playback run plan is =
 pub sending-one : (sizes : List ℕ) (playback : Playback) (run : Run) (plan : List Segment) → IsSending sizes playback run plan
     → IsOnlyPlan sizes playback run plan
 sending-one sizes playback run plan is = λ other its. (sending-best sizes playback run plan is).only other its.taut
-
--- more pictures use no less
-used-more : (sizes : List ℕ) (timing : Timing) (t n d : ℕ)
-    → sum_by (used_of sizes timing t) (range_with_len 0 n) ≤ sum_by (used_of sizes timing t) (range_with_len 0 (n + d))
-used-more sizes timing t n zero =
-    let same : n + 0 ≡ n = omega arith in
-    let sums = ap (λ m. sum_by (used_of sizes timing t) (range_with_len 0 m)) same in
-    omega (arith, sums)
-used-more sizes timing t n (suc d) =
-    let before = used-more sizes timing t n d in
-    let more = sum_by-range_more (used_of sizes timing t) (n + d) in
-    let same : n + suc d ≡ n + d + 1 = omega arith in
-    let next = ap (λ m. sum_by (used_of sizes timing t) (range_with_len 0 m)) same in
-    omega (arith, before, more, next)
-
--- the first pictures are used by a slot
-used-least : (sizes : List ℕ) (timing : Timing) (t n : ℕ) → n ≤ length sizes → ((k : ℕ) → k < n → due_slot timing k < t)
-    → timing.played + sum (take n sizes) ≤ used_before sizes timing t
-used-least sizes timing t n fits used =
-    let part = used-part sizes timing t n fits used in
-    let more = used-more sizes timing t n (length sizes - n) in
-    let same : n + (length sizes - n) ≡ length sizes = omega arith in
-    let all = ap (λ m. sum_by (used_of sizes timing t) (range_with_len 0 m)) same in
-    omega (arith, part, more, all)
-
--- only the first pictures are
-used-most : {sizes : List ℕ} {timing : Timing} {t n : ℕ} → IsUnusedFrom sizes timing t n
-    → used_before sizes timing t ≤ timing.played + sum (take n sizes)
-used-most {sizes} {timing} {t} {n} is =
-    let some = is.some in
-    let fits : n ≤ length sizes = is.fits in
-    let unused : t ≤ due_slot timing n = is.unused in
-    let later = λ (k : ℕ) (le : n ≤ k). let rises =
-    due_rises timing n k some le in let h : t ≤ due_slot timing k = omega arith in h in
-    let rest = used-rest sizes timing t n (length sizes - n) later in
-    let same : n + (length sizes - n) ≡ length sizes = omega arith in
-    let all = ap (λ m. sum_by (used_of sizes timing t) (range_with_len 0 m)) same in
-    let below = sum_by-range-le (used_of sizes timing t) (λ k. get_or sizes k 0) 0 n
-    (λ k l u. cond_le (ltb (due_slot timing k) t) (get_or sizes k 0)) in
-    omega (arith, rest, all, below, sum_by-range-take sizes n fits)
 
 -- the bytes of a run up to an unplayed unit
 front-bytes : {sizes : List ℕ} {playback : Playback} {run : Run} {plan : List Segment} (end : ℕ)
@@ -100,7 +57,7 @@ sending-in-time sizes playback run plan is = λ unit at.
     let its = λ (j : ℕ) (lt : j < k + 1). let rises =
     due_rises timing j k some (omega arith) in let h : due_slot timing j < due_slot timing k + 1 =
     omega (arith, rises) in h in
-    let least = used-least rest timing (due_slot timing k + 1) (k + 1) (omega (arith, count, at.from, at.before_end)) its in
+    let least = used-least rest timing (due_slot timing k + 1) (k + 1) some (omega (arith, count, at.from, at.before_end)) its in
     let front = front-bytes (unit + 1) is (omega (arith, at.from)) (omega (arith, at.before_end)) in
     let same : (unit + 1) - run.from_unit ≡ k + 1 = omega (arith, at.from) in
     let place = ap (λ n. sum (take n rest)) same in

@@ -40,6 +40,7 @@ pub fn run_after<U: Units>(
     ensures run { IsRun (U.sizes units.now) result }
     ensures fits { Fits playback.now.buffer result }
 {
+    // The proof takes from `count` how many the units and their bytes are at most.
     let _count = units.count();
     let stop = stop_slot(plan, last, keep);
     let first = run.from_unit;
@@ -60,6 +61,7 @@ fn slot_with(plan: &Plan, bytes: u64) -> u64
     ensures reached { ReachesAt plan.now bytes result }
     ensures inside { result < total_slots plan.now }
 {
+    // The proof takes from `segments` that they make a plan.
     let _kept = plan.segments();
     let mut low = 0;
     let mut high = plan.slots() - 1;

@@ -60,6 +60,7 @@ pub fn plan_of<U: Units>(
     ensures refused { IfErr result
         (IsRefused (rest_sizes (U.sizes units.now) run.now) (timing_of playback.now run.now)) }
 {
+    // The proof takes from `count` how many the units and their bytes are at most.
     let _count = units.count();
     let sizes = rest_sizes(alloc, units, run)?;
     let curves = film_curves(alloc, &sizes, &timing_of(playback, run))?;
