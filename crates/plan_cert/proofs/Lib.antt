@@ -4,4 +4,4 @@ pub mod SlotLaws
 pub mod Decimals
 pub mod Grammar
 pub mod OneText
-pub mod TextLaws
+mod TextLaws

@@ -5,7 +5,8 @@ ghost use Rattle.plan_cert.specs.Slots.{plan_slots, total_slots, total_bytes, su
 ghost use Rattle.plan_cert.specs.Plan.{IsPlan};
 
 use crate::Segment;
-use crate::segments::{Passed, bytes_of, slot_after, slots_of, sum_after};
+use crate::segments::{Passed, slot_after, sum_after};
+use crate::sums::{total_bytes, total_slots};
 use std::marker::Model;
 use vod_base::NoMemory;
 
@@ -66,8 +67,8 @@ impl Plan {
         requires { IsPlan segments.items }
         ensures { result ≡ segments.items }
     {
-        let slots = slots_of(segments.as_slice());
-        let bytes = bytes_of(segments.as_slice());
+        let slots = total_slots(segments.as_slice()) as u64;
+        let bytes = total_bytes(segments.as_slice()) as u64;
         Plan {
             segments,
             slots,

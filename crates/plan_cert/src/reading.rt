@@ -15,7 +15,7 @@ use thiserror::Error;
 use vod_base::{read_number, split_at_first};
 
 /// What a certificate says.
-#[derive(Debug, Drop)]
+#[derive(Debug, PartialEq, Eq, Drop)]
 pub struct CertText {
     /// The slots that its head gives, which are those of its segments.
     pub slots: u64,

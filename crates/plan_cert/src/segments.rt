@@ -112,27 +112,3 @@ pub(crate) fn slot_after(segments: &[Segment], passed: &mut Passed, slot: u64) -
         None => 0,
     }
 }
-
-/// The slots of the segments.
-pub(crate) fn slots_of(segments: &[Segment]) -> u64
-    requires { IsPlan segments.now }
-    ensures { result ≡ total_slots segments.now }
-{
-    let mut slots = 0;
-    for segment in segments {
-        slots += segment.slots;
-    }
-    slots
-}
-
-/// The bytes of the segments.
-pub(crate) fn bytes_of(segments: &[Segment]) -> u64
-    requires { IsPlan segments.now }
-    ensures { result ≡ total_bytes segments.now }
-{
-    let mut bytes = 0;
-    for segment in segments {
-        bytes += segment.bytes;
-    }
-    bytes
-}

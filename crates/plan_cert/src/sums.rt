@@ -9,26 +9,34 @@ use crate::Segment;
 pub fn has_slots(segments: &[Segment], slots: u64) -> bool
     ensures { IsTrue result ↔ (total_slots segments.now ≡ slots) }
 {
-    let mut left = slots;
-    for segment in segments {
-        if segment.slots > left {
-            return false;
-        }
-        left -= segment.slots;
-    }
-    left == 0
+    total_slots(segments) == u128::from(slots)
 }
 
 /// Whether the segments have this many bytes.
 pub fn has_bytes(segments: &[Segment], bytes: u64) -> bool
     ensures { IsTrue result ↔ (total_bytes segments.now ≡ bytes) }
 {
-    let mut left = bytes;
+    total_bytes(segments) == u128::from(bytes)
+}
+
+/// The slots of the segments, which may be more than 64 bits hold.
+pub(crate) fn total_slots(segments: &[Segment]) -> u128
+    ensures { result ≡ total_slots segments.now }
+{
+    let mut slots = 0;
     for segment in segments {
-        if segment.bytes > left {
-            return false;
-        }
-        left -= segment.bytes;
+        slots += u128::from(segment.slots);
     }
-    left == 0
+    slots
+}
+
+/// The bytes of the segments, which may be more than 64 bits hold.
+pub(crate) fn total_bytes(segments: &[Segment]) -> u128
+    ensures { result ≡ total_bytes segments.now }
+{
+    let mut bytes = 0;
+    for segment in segments {
+        bytes += u128::from(segment.bytes);
+    }
+    bytes
 }

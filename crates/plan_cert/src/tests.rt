@@ -166,14 +166,12 @@ fn reads_certificates(rt: HostRuntime) -> Result<(), Fail> {
         ),
     ];
     for (text, sums, pairs) in rows {
-        let cert = read_cert(rt.alloc(), text.as_bytes())?;
-        assert_eq!(rt; (cert.slots, cert.bytes), sums, "sums of {text}");
-        let plan = segments_of(rt.alloc(), pairs)?;
-        assert_eq!(rt;
-            cert.segments.as_slice(),
-            plan.as_slice(),
-            "segments of {text}"
-        );
+        let want = CertText {
+            slots: sums.0,
+            bytes: sums.1,
+            segments: segments_of(rt.alloc(), pairs)?,
+        };
+        assert_eq!(rt; read_cert(rt.alloc(), text.as_bytes())?, want, "{text}");
     }
     Ok(())
 }

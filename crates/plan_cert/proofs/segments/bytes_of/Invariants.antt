@@ -1,6 +1,0 @@
-use Rattle.std.proofs.Common.{◌≡◌, take}
-use Rattle.plan_cert.specs.Slots.{total_bytes}
-use Rattle.plan_cert.proofs.segments.bytes_of.Given as goal
-
-abbrev pub invariant-loop-segment : goal.invariant-loop-segment
-invariant-loop-segment l = l.bytes ≡ total_bytes (take l.segment-index l.segments)
