@@ -21,7 +21,7 @@ use Rattle.cert_check.proofs.OneList.{one_list}
 use Rattle.cert_check.proofs.TautForms.{AreClosed, bound_after, slots_are, runs_from_taut, ends_from_taut, line_from_taut}
 
 -- a segment that stays between curves has slots
-no_empties : (lo hi : ℕ → ℕ) (k v : ℕ) (segments : List Segment) → RunsTaut lo hi k v segments → All (λ s. 1 ≤ s.slots) segments
+pub no_empties : (lo hi : ℕ → ℕ) (k v : ℕ) (segments : List Segment) → RunsTaut lo hi k v segments → All (λ s. 1 ≤ s.slots) segments
 no_empties lo hi k v [] runs = All-nil (λ s. 1 ≤ s.slots)
 no_empties lo hi k v (s ∷ rest) runs =
     All-cons (λ x. 1 ≤ x.slots) s rest runs.0.some (no_empties lo hi (k + s.slots) (v + s.bytes) rest runs.2)

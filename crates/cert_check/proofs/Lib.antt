@@ -1,13 +1,13 @@
-pub mod Over
-pub mod SlotExcess
-pub mod LeastExcess
+mod Over
+mod SlotExcess
+mod LeastExcess
 pub mod Unique
-pub mod OneList
-pub mod LineKeeps
-pub mod LineAt
-pub mod Outside
+mod OneList
+mod LineKeeps
+mod LineAt
+mod Outside
 pub mod TautForms
 pub mod BestProof
-pub mod Turns
-pub mod Walking
-pub mod Naming
+mod Turns
+mod Walking
+mod Naming

@@ -3,7 +3,7 @@ use Rattle.std.proofs.Common.{◌≡◌, ◌≢◌, ◌<◌, ◌≤◌, ◌+◌,
 use Rattle.std.proofs.lemmas.Bool.{cases_lt, cases_eq}
 use Rattle.plan_cert.specs.declared.Segment.{Segment}
 use Rattle.plan_cert.specs.Slots.{total_slots, total_bytes}
-use Rattle.wire_curve.specs.Sound.{bound_at}
+use Rattle.wire_curve.specs.Sound.{IsSound, bound_at}
 use Rattle.cert_check.specs.Line.{segment_at, line_top, line_under}
 use Rattle.cert_check.specs.Taut.{RunsTaut}
 use Rattle.cert_check.specs.Fault.{IsTaut}
@@ -15,6 +15,10 @@ pub record AreClosed (low up : List ℕ) : Type 0 where
   pub some_slot : 0 < length low
   pub same_length : length up ≡ length low
   pub meet : slice_index low (length low - 1) ≡ slice_index up (length low - 1)
+
+pub closed_of_sound : (from : ℕ) (low up : List ℕ) → IsSound from low up → AreClosed low up
+closed_of_sound from low up sound =
+    record { some_slot = sound.some_slot; same_length = sound.same_length; meet = sound.meet_at_end }
 
 pub bound_after : (from : ℕ) (curve : List ℕ) (t : ℕ) → bound_at from curve (t + 1) ≡ slice_index curve t
 bound_after from curve t = ap (bound_at from curve) (add-one t)

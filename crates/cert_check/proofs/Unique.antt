@@ -28,7 +28,7 @@ pub record Bend : Type 0 where
   pub some : 1 ≤ next.slots
 
 -- where a curve stands on or above the ray of a steeper next segment, it stands so above the ray of the first one
-above_ray : (bend : Bend) (curve : ℕ → ℕ) (i : ℕ) → bend.first.bytes * bend.next.slots ≤ bend.next.bytes * bend.first.slots
+pub above_ray : (bend : Bend) (curve : ℕ → ℕ) (i : ℕ) → bend.first.bytes * bend.next.slots ≤ bend.next.bytes * bend.first.slots
     → (bend.height + bend.first.bytes) * bend.next.slots + i * bend.next.bytes
     ≤ curve (bend.place + bend.first.slots + i) * bend.next.slots
     → bend.height * bend.first.slots + (bend.first.slots + i) * bend.first.bytes
@@ -44,7 +44,7 @@ above_ray bend curve i steeper above =
     open bend use {place as k, height as v, first.{slots as n, bytes as b}, next.{slots as n', bytes as b'}}
 
 -- the mirror
-below_ray : (bend : Bend) (curve : ℕ → ℕ) (i : ℕ) → bend.next.bytes * bend.first.slots ≤ bend.first.bytes * bend.next.slots
+pub below_ray : (bend : Bend) (curve : ℕ → ℕ) (i : ℕ) → bend.next.bytes * bend.first.slots ≤ bend.first.bytes * bend.next.slots
     → curve (bend.place + bend.first.slots + i) * bend.next.slots
     ≤ (bend.height + bend.first.bytes) * bend.next.slots + i * bend.next.bytes
     → curve (bend.place + (bend.first.slots + i)) * bend.first.slots

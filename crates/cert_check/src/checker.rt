@@ -40,8 +40,8 @@ pub fn law_best(curves: &Curves, segments: &[Segment])
     requires taut { IsTaut curves.now.from curves.now.low.items curves.now.up.items segments.now }
     ensures { IsBestPlan curves.now.from curves.now.low.items curves.now.up.items segments.now }
 {
-    let _first = segments.first();
-    let _from = curves.from;
+    // The proof knows the ranges of what the body reads.
+    let _read = (curves.from, segments.len());
 }
 
 /// The law: the kinds of faults are looked for in this order.

@@ -1,40 +1,11 @@
 //! Plans worked out by hand, with the curves of their traces.
 
-ghost use Rattle.std.specs.Prelude.{IsTrue};
-ghost use Rattle.wire_curve.specs.Sound.{IsSound};
-
 use super::*;
 use plan_cert::Segment;
 use std::alloc::{AllocError, Global};
 use std::process::Abort;
 use std::test::Fail;
 use wire_curve::Curves;
-
-/// Whether `check` may be called.
-fn are_sound(curves: &Curves) -> bool
-    ensures { IsTrue result → IsSound curves.now.from curves.now.low.items curves.now.up.items }
-{
-    let low = curves.low.as_slice();
-    let up = curves.up.as_slice();
-    let slots = low.len();
-    if slots == 0 || slots > 1_000_000 || up.len() != slots {
-        return false;
-    }
-    if curves.from > low[0] || low[slots - 1] != up[slots - 1] || low[slots - 1] > 1 << 42 {
-        return false;
-    }
-    for t in 0..slots {
-        if low[t] > up[t] {
-            return false;
-        }
-    }
-    for t in 0..slots - 1 {
-        if low[t] > low[t + 1] || up[t] > up[t + 1] {
-            return false;
-        }
-    }
-    true
-}
 
 fn curves_of(alloc: Global, low: &[u64], up: &[u64]) -> Result<Curves, AllocError> {
     Ok(Curves {
@@ -76,7 +47,7 @@ fn judges(rt: &impl Abort, alloc: Global, rows: &[Row<'_>]) -> Result<(), Fail> 
     for (low, up, pairs, want) in rows {
         let curves = curves_of(alloc, low, up)?;
         let segments = segments_of(alloc, pairs)?;
-        assert!(rt; are_sound(&curves));
+        assert!(rt; curves.is_sound());
         assert_eq!(rt;
             check(&curves, segments.as_slice()),
             *want,

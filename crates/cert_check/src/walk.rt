@@ -32,7 +32,7 @@ pub(crate) fn first_outside(curves: &Curves, segments: &[Segment]) -> Outside
     };
     let mut above = None;
     for t in 0..low.len() {
-        walk = next(walk, segments);
+        walk = next_walk(walk, segments);
         let segment = segments[walk.index];
         let height = scaled_height(walk, segment);
         if height < u128::from(low[t]) * u128::from(segment.slots) {
@@ -57,7 +57,7 @@ struct Walk {
 }
 
 /// One slot further.
-fn next(walk: Walk, segments: &[Segment]) -> Walk
+fn next_walk(walk: Walk, segments: &[Segment]) -> Walk
     requires inside { walk.index < length segments.now }
     requires more { walk.passed ≡ (segment_at segments.now walk.index).slots →
         walk.index + 1 < length segments.now }

@@ -1,4 +1,5 @@
 use Rattle.cert_check.proofs.BestProof.{best_where_ok}
+use Rattle.cert_check.proofs.TautForms.{closed_of_sound}
 use Rattle.cert_check.proofs.checker.check.Goals as goal
 
 pub returns-clause-best : goal.returns-clause-best
@@ -6,5 +7,5 @@ returns-clause-best c =
     let curves = c.args.curves.now in
     let sound = c.requires in
     best_where_ok curves.from c.args.segments.now
-    (record { some_slot = sound.some_slot; same_length = sound.same_length; meet = sound.meet_at_end })
+    (closed_of_sound curves.from curves.low.items curves.up.items sound)
     c.find_fault.result c.find_fault.ensures

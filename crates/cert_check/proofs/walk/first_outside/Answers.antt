@@ -12,8 +12,8 @@ returns-then-height-from c =
     let segments = c.args.segments.now in
     let short : c.loop-t.t < length c.as_slice-low.result.now = omega arith in
     let few : c.loop-t.t < length curves.low.items = rw c.as_slice-low.ensures.value at short in
-    let goes : Goes curves.from segments (c.loop-t.t + 1) c.next-walk.result =
-    rw c.next-walk.ensures (goes_on c.requires c.loop-t.invariant.stands few) in
+    let goes : Goes curves.from segments (c.loop-t.t + 1) c.next_walk-walk.result =
+    rw c.next_walk-walk.ensures (goes_on c.requires c.loop-t.invariant.stands few) in
     record {
       here = below_there curves.low.items goes few c.scaled_height-height.ensures
           (rw (c.from.ensures, c.from-in-loop-t.ensures, c.as_slice-low.ensures.value) at c.if-height-from.true);
@@ -27,8 +27,8 @@ loop-t-preserved c =
     let short : c.loop-t.t < length c.as_slice-low.result.now = omega arith in
     let few : c.loop-t.t < length curves.low.items = rw c.as_slice-low.ensures.value at short in
     let few_up : c.loop-t.t < length curves.up.items = omega (arith, few, c.requires.slots, c.requires.slots_up) in
-    let goes : Goes curves.from segments (c.loop-t.t + 1) c.next-walk.result =
-    rw c.next-walk.ensures (goes_on c.requires c.loop-t.invariant.stands few) in
+    let goes : Goes curves.from segments (c.loop-t.t + 1) c.next_walk-walk.result =
+    rw c.next_walk-walk.ensures (goes_on c.requires c.loop-t.invariant.stands few) in
     record {
       stands = goes.stands;
       not_below = below_more _ _ c.loop-t.invariant.not_below
@@ -67,11 +67,11 @@ loop-t-preserved c =
 pub loop-t-init : goal.loop-t-init
 loop-t-init c = grind (arith, common_steps)
 
-pub next-walk-requires-clause-more : goal.next-walk-requires-clause-more
-next-walk-requires-clause-more c = grind (arith, common_steps)
+pub next_walk-walk-requires-clause-more : goal.next_walk-walk-requires-clause-more
+next_walk-walk-requires-clause-more c = grind (arith, common_steps)
 
-pub next-walk-requires-clause-fits : goal.next-walk-requires-clause-fits
-next-walk-requires-clause-fits c = grind (arith, common_steps)
+pub next_walk-walk-requires-clause-fits : goal.next_walk-walk-requires-clause-fits
+next_walk-walk-requires-clause-fits c = grind (arith, common_steps)
 
 pub bounds-segments-walk : goal.bounds-segments-walk
 bounds-segments-walk c = grind (arith, common_steps)
