@@ -1,28 +1,11 @@
 -- Sound curves, by places.
-use Rattle.std.proofs.Common.{◌≡◌, ℕ, ◌+◌, ◌-◌, ◌<◌, ◌≤◌, List, length, slice_index, arith, sym, refl, subst, ap, ◌∙◌, inl, inr, zero, suc}
+use Rattle.std.proofs.Common.{◌≡◌, ℕ, ◌+◌, ◌-◌, ◌≤◌, List, length, slice_index, arith, sym, refl, subst, ap, ◌∙◌, inl, inr}
+use Rattle.std.proofs.Math.Nat.{le_refl}
 use Rattle.std.proofs.lemmas.Bool.{cases_lt}
 use Rattle.wire_curve.specs.Sound.{IsSound, bound_at}
+use Rattle.wire_curve.proofs.UseLaws.{rises_by_steps}
 use Rattle.cert_check.proofs.TautForms.{bound_after, bound_end}
 use Rattle.taut_plan.specs.Funnel.{IsBand}
-
--- a place beyond the start is the end of a slot
-pub bound_past : (from : ℕ) (curve : List ℕ) (j : ℕ) → 0 < j → bound_at from curve j ≡ slice_index curve (j - 1)
-bound_past from curve j past = let e : j ≡ (j - 1) + 1 =
-    omega arith in ap (bound_at from curve) e ∙ bound_after from curve (j - 1)
-
-le_through : (a b c : ℕ) → a ≤ b → b ≤ c → a ≤ c
-le_through a b c h k = omega arith
-
-le_self : (a : ℕ) → a ≤ a
-le_self a = omega arith
-
-rises_by : (f : ℕ → ℕ) (n : ℕ) → ((t : ℕ) → t + 1 ≤ n → f t ≤ f (t + 1)) → (i d : ℕ) → i + d ≤ n → f i ≤ f (i + d)
-rises_by f n _ i zero fits = let e : i ≡ i + zero = omega arith in subst (λ t. f i ≤ f t) e (le_self (f i))
-rises_by f n step i (suc d) fits =
-    let le = le_through (f i) (f (i + d)) (f ((i + d) + 1)) (rises_by f n step i d (omega (arith, fits)))
-    (step (i + d) (omega (arith, fits))) in
-    let e : (i + d) + 1 ≡ i + suc d = omega arith in
-    subst (λ t. f i ≤ f t) e le
 
 pub band_of_sound : (from : ℕ) (low up : List ℕ) → IsSound from low up
     → IsBand (bound_at from low) (bound_at from up) from (length low)
@@ -36,14 +19,14 @@ band_of_sound from low up sound =
       ordered = λ j fits. elim (cases_lt 0 j) [
         | inl past ↦
             (let le = sound.low_below_up (j - 1) (omega (arith, past, fits)) in
-            omega (arith, le, bound_past from low j past, bound_past from up j past))
+            omega (arith, le, bound_end from low j past, bound_end from up j past))
         | inr none ↦
-            (let e : j ≡ 0 = omega (arith, none) in subst (λ k. bound_at from low k ≤ bound_at from up k) (sym e) (le_self from))
+            (let e : j ≡ 0 = omega (arith, none) in subst (λ k. bound_at from low k ≤ bound_at from up k) (sym e) (le_refl from))
       ];
       high_rises = λ i j le fits.
           let e : i + (j - i) ≡ j = omega (arith, le) in
           subst (λ k. bound_at from up i ≤ bound_at from up k) e
-          (rises_by (bound_at from up) (length low) (step from low up sound) i (j - i) (omega (arith, e, fits)));
+          (rises_by_steps (bound_at from up) (length low) (step from low up sound) i (j - i) (omega (arith, e, fits)));
       meet = bound_end from low (length low) some ∙ (sound.meet_at_end ∙ sym (bound_end from up (length low) some));
     }
   where
@@ -54,7 +37,7 @@ band_of_sound from low up sound =
           let le : slice_index up (t - 1) ≤ slice_index up t =
           subst (λ k. slice_index up (t - 1) ≤ slice_index up k) e
           (sound.up_never_falls (t - 1) (omega (arith, past, fits))) in
-          omega (arith, le, bound_past from up t past, bound_after from up t))
+          omega (arith, le, bound_end from up t past, bound_after from up t))
       | inr none ↦ (let e : t ≡ 0 = omega (arith, none) in
           let first : bound_at from up t ≡ from = ap (bound_at from up) e in
           let next : bound_at from up (t + 1) ≡ slice_index up 0 = bound_after from up t ∙ ap (slice_index up) e in

@@ -1,13 +1,13 @@
-pub mod SlopeLaws
-pub mod ChainLaws
-pub mod BendLaws
-pub mod PathLaws
-pub mod CornerLaws
-pub mod PointLaws
-pub mod EdgeLaws
-pub mod FunnelLaws
-pub mod BandLaws
-pub mod WholeLaws
-pub mod Existence
-pub mod FitLaws
-pub mod QueueLaws
+mod SlopeLaws
+mod ChainLaws
+mod BendLaws
+mod PathLaws
+mod CornerLaws
+mod PointLaws
+mod EdgeLaws
+mod FunnelLaws
+mod BandLaws
+mod WholeLaws
+mod Existence
+mod FitLaws
+mod QueueLaws

@@ -1,12 +1,9 @@
 -- A corner of the other chain ends a segment of the taut line.
 use Rattle.std.proofs.Common.{◌≡◌, ℕ, ◌+◌, ◌-◌, ◌*◌, ◌<◌, ◌≤◌, List, [], ◌∷◌, ◌++◌, arith, sym, subst, ap, ◌∙◌, inl, inr, append_assoc}
-use Rattle.std.proofs.Math.Nat.{mul-le-mul_right, mul-lt-mul_of_pos_right, lt_of_mul-lt-mul_left}
 use Rattle.std.proofs.lemmas.Bool.{cases_lt}
-use Rattle.slope_frac.specs.Order.{IsBelow}
 use Rattle.plan_cert.specs.declared.Segment.{Segment}
-use Rattle.cert_check.specs.Line.{slope_of}
 use Rattle.cert_check.specs.Taut.{Bends, RunsTaut}
-use Rattle.cert_check.proofs.Unique.{Bend}
+use Rattle.cert_check.proofs.Unique.{Bend, above_ray, below_ray}
 use Rattle.taut_plan.specs.Path.{HasOneSlope, GoesOn}
 
 -- The line rises at the corner, which stands on the upper curve: n slots and b bytes from place k and height v.
@@ -35,28 +32,22 @@ pub record IsFall (lo hi : ℕ → ℕ) (k v : ℕ) (s : Segment) : Type 0 where
 steeper_by : (bend : Bend) (i y : ℕ)
     → bend.height * bend.first.slots + (bend.first.slots + i) * bend.first.bytes < y * bend.first.slots
     → y * bend.next.slots ≤ (bend.height + bend.first.bytes) * bend.next.slots + i * bend.next.bytes
-    → IsBelow (slope_of bend.first) (slope_of bend.next)
+    → bend.first.bytes * bend.next.slots < bend.next.bytes * bend.first.slots
 steeper_by bend i y above below =
-    let pos : 0 < n' = omega (arith, bend.some) in
-    let one : (v * n + (n + i) * b) * n' < y * n * n' = mul-lt-mul_of_pos_right above pos in
-    let two : y * n' * n ≤ ((v + b) * n' + i * b') * n = mul-le-mul_right n below in
-    let all : i * (b * n') < i * (b' * n) = omega (arith, one, two) in
-    lt_of_mul-lt-mul_left i all
-  where
-    open bend use {height as v, first.{slots as n, bytes as b}, next.{slots as n', bytes as b'}}
+    elim (cases_lt (bend.first.bytes * bend.next.slots) (bend.next.bytes * bend.first.slots)) [
+      | inl steeper ↦ steeper
+      | inr flatter ↦ absurd (let on = below_ray bend (λ _. y) i flatter below in omega (arith, on, above))
+    ]
 
 flatter_by : (bend : Bend) (i y : ℕ)
     → y * bend.first.slots < bend.height * bend.first.slots + (bend.first.slots + i) * bend.first.bytes
     → (bend.height + bend.first.bytes) * bend.next.slots + i * bend.next.bytes ≤ y * bend.next.slots
-    → IsBelow (slope_of bend.next) (slope_of bend.first)
+    → bend.next.bytes * bend.first.slots < bend.first.bytes * bend.next.slots
 flatter_by bend i y below above =
-    let pos : 0 < n' = omega (arith, bend.some) in
-    let one : y * n * n' < (v * n + (n + i) * b) * n' = mul-lt-mul_of_pos_right below pos in
-    let two : ((v + b) * n' + i * b') * n ≤ y * n' * n = mul-le-mul_right n above in
-    let all : i * (b' * n) < i * (b * n') = omega (arith, one, two) in
-    lt_of_mul-lt-mul_left i all
-  where
-    open bend use {height as v, first.{slots as n, bytes as b}, next.{slots as n', bytes as b'}}
+    elim (cases_lt (bend.next.bytes * bend.first.slots) (bend.first.bytes * bend.next.slots)) [
+      | inl flatter ↦ flatter
+      | inr steeper ↦ absurd (let on = above_ray bend (λ _. y) i steeper above in omega (arith, on, below))
+    ]
 
 -- two offsets one after the other
 offsets : (curve : ℕ → ℕ) (k n i : ℕ) → curve (k + n + i) ≡ curve (k + (n + i))
@@ -71,7 +62,7 @@ record IsMetBy (bend : Bend) (far : ℕ) : Type 0 where
 steeper_at : {lo hi : ℕ → ℕ} (bend : Bend) (rise : IsRise lo hi bend.place bend.height bend.first) (met : IsMetBy bend rise.far)
     → hi (bend.place + bend.first.slots + met.at) * bend.next.slots
     ≤ (bend.height + bend.first.bytes) * bend.next.slots + met.at * bend.next.bytes
-    → IsBelow (slope_of bend.first) (slope_of bend.next)
+    → bend.first.bytes * bend.next.slots < bend.next.bytes * bend.first.slots
 steeper_at {hi} bend rise met touches =
     let i = met.at in
     steeper_by bend i (hi (k + (s.slots + i))) (rise.free (s.slots + i) (omega (arith, met.later)) met.within)
@@ -82,7 +73,7 @@ steeper_at {hi} bend rise met touches =
 flatter_at : {lo hi : ℕ → ℕ} (bend : Bend) (fall : IsFall lo hi bend.place bend.height bend.first) (met : IsMetBy bend fall.far)
     → (bend.height + bend.first.bytes) * bend.next.slots + met.at * bend.next.bytes
     ≤ lo (bend.place + bend.first.slots + met.at) * bend.next.slots
-    → IsBelow (slope_of bend.next) (slope_of bend.first)
+    → bend.next.bytes * bend.first.slots < bend.first.bytes * bend.next.slots
 flatter_at {lo} bend fall met touches =
     let i = met.at in
     flatter_by bend i (lo (k + (s.slots + i))) (fall.free (s.slots + i) (omega (arith, met.later)) met.within)

@@ -1,14 +1,12 @@
 -- The whole list of segments: it is a plan, and taut.
-use Rattle.std.proofs.Common.{◌≡◌, ℕ, ◌+◌, ◌<◌, ◌≤◌, List, [], ◌∷◌, ◌++◌, All, length, arith, sym, subst, ◌∙◌}
-use Rattle.std.proofs.lemmas.List.Elements.{All-nil, All-cons}
+use Rattle.std.proofs.Common.{◌≡◌, ℕ, ◌+◌, ◌<◌, ◌≤◌, List, [], ◌∷◌, ◌++◌, length, arith, sym, subst, ◌∙◌}
 use Rattle.wire_curve.specs.Sound.{IsSound, bound_at}
 use Rattle.plan_cert.specs.declared.Segment.{Segment}
 use Rattle.plan_cert.specs.Plan.{IsPlan}
-use Rattle.cert_check.specs.Taut.{RunsTaut}
 use Rattle.cert_check.specs.Fault.{IsTaut}
 use Rattle.cert_check.specs.Best.{IsBestPlan}
-use Rattle.cert_check.proofs.BestProof.{best}
-use Rattle.cert_check.proofs.TautForms.{AreClosed, bound_end, taut_from_runs}
+use Rattle.cert_check.proofs.BestProof.{best, no_empties}
+use Rattle.cert_check.proofs.TautForms.{bound_end, closed_of_sound, taut_from_runs}
 use Rattle.taut_plan.specs.declared.points.Point.{Point}
 use Rattle.taut_plan.specs.declared.points.Side.TheVariants.{Lower}
 use Rattle.taut_plan.specs.Chain.{on_curve}
@@ -37,12 +35,6 @@ ends_at {lo} {hi} {from} {n} {slot} {o} {segments} {lower} {upper} {point} band 
           (path_ends band past' path turned.keeps);
     }
 
-none_empty : (lo hi : ℕ → ℕ) (k v : ℕ) (segments : List Segment) → RunsTaut lo hi k v segments
-    → All (λ s. 1 ≤ s.slots) segments
-none_empty lo hi k v [] runs = All-nil (λ (s : Segment). 1 ≤ s.slots)
-none_empty lo hi k v (s ∷ rest) runs =
-    All-cons (λ (x : Segment). 1 ≤ x.slots) s rest runs.0.some (none_empty lo hi (k + s.slots) (v + s.bytes) rest runs.2)
-
 pub plan_of_whole : (from : ℕ) (low up : List ℕ) (segments : List Segment) → IsSound from low up
     → IsTautPath (bound_at from low) (bound_at from up) from (length low) segments → IsPlan segments
 plan_of_whole from low up segments sound whole =
@@ -53,14 +45,10 @@ plan_of_whole from low up segments sound whole =
     let meet = sound.meet_at_end in
     let last = bound_end from up (length low) sound.some_slot in
     record {
-      no_empty = none_empty (bound_at from low) (bound_at from up) 0 from segments whole.runs;
+      no_empty = no_empties (bound_at from low) (bound_at from up) 0 from segments whole.runs;
       few_slots = omega (arith, slots, few);
       few_bytes = omega (arith, bytes, last, meet, fits);
     }
-
-closed_of_sound : (from : ℕ) (low up : List ℕ) → IsSound from low up → AreClosed low up
-closed_of_sound from low up sound =
-    record { some_slot = sound.some_slot; same_length = sound.same_length; meet = sound.meet_at_end }
 
 pub taut_of_whole : (from : ℕ) (low up : List ℕ) (segments : List Segment) → IsSound from low up
     → IsTautPath (bound_at from low) (bound_at from up) from (length low) segments

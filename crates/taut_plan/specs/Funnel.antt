@@ -1,6 +1,6 @@
--- The funnel: from the last corner the chains along both curves, as far as they were read. A new
--- point of one curve can stand out so far that the chain along the other curve has to give way,
--- corner by corner.
+-- The funnel: from its apex `o`, the last corner, the chains along both curves, as far as they were
+-- read. A new point of one curve can stand out so far that the chain along the other curve has to
+-- give way, corner by corner.
 use Rattle.std.specs.Prelude.{◌≡◌, ℕ, ◌+◌, ◌<◌, ◌≤◌, List, [], ◌∷◌}
 use Rattle.taut_plan.specs.declared.points.Point.{Point}
 use Rattle.taut_plan.specs.declared.points.Side.{Side}
@@ -56,7 +56,7 @@ abbrev pub FirstIsBetween : Point → List Point → Point → Type 0
 FirstIsBetween o [] point = Unit {0}
 FirstIsBetween o (first ∷ rest) point = (o.place ≤ first.place) × (first.place ≤ point.place)
 
--- the corner, the front of the other chain and the point are of a plan
+-- the apex, the front of the other chain and the point are of a plan
 abbrev pub FirstFits : Point → List Point → Point → Type 0
 FirstFits o [] point = Unit {0}
 FirstFits o (first ∷ rest) point = AllFit o first point

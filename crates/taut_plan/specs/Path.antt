@@ -21,14 +21,14 @@ abbrev pub segment_to : Point → Point → Segment
 segment_to first last =
     record { slots = last.place - first.place; bytes = last.height - first.height }
 
--- the segments lead from place 0 and height `from` to the corner, which is between the curves
-pub record IsPath (lo hi : ℕ → ℕ) (from : ℕ) (corner : Point) (segments : List Segment)
-    : Type 0 where
-  pub slots : total_slots segments ≡ corner.place
-  pub bytes : from + total_bytes segments ≡ corner.height
-  pub above : lo corner.place ≤ corner.height
-  pub below : corner.height ≤ hi corner.place
-  pub goes_on : GoesOn lo hi from corner.place corner.height segments
+-- the segments lead from place 0 and height `from` to the apex, the last corner, which is between
+-- the curves
+pub record IsPath (lo hi : ℕ → ℕ) (from : ℕ) (apex : Point) (segments : List Segment) : Type 0 where
+  pub slots : total_slots segments ≡ apex.place
+  pub bytes : from + total_bytes segments ≡ apex.height
+  pub above : lo apex.place ≤ apex.height
+  pub below : apex.height ≤ hi apex.place
+  pub goes_on : GoesOn lo hi from apex.place apex.height segments
 
 -- The segments with the last one, to place n, where the curves meet.
 pub record IsTautPath (lo hi : ℕ → ℕ) (from n : ℕ) (segments : List Segment) : Type 0 where

@@ -7,9 +7,10 @@ use crate::points::Point;
 use plan_cert::Segment;
 use std::alloc::{AllocError, Global};
 
-/// Segments that lead from place 0 to a corner.
+/// Segments that lead from place 0 to the last corner, which is the funnel's apex.
 #[derive(Drop)]
 pub(crate) struct Path {
+    /// The last corner, or the start.
     pub(crate) apex: Point,
     pub(crate) segments: Vec<Segment>,
 }

@@ -1,4 +1,7 @@
 //! Points of the curves, and the order of the slopes at which one point sees others.
+//!
+//! A place is at most 2^20 and a height at most 2^42, so no product or sum here passes 2^62 and 64
+//! bits serve. `slope_frac` compares any two slopes, which takes 128.
 
 ghost use Rattle.std.specs.Prelude.{◌≡◌, ◌+◌, ◌-◌, ◌*◌, ◌<◌, ◌≤◌, ◌↔◌, IsTrue, MatchBool, length};
 ghost use Rattle.taut_plan.specs.Slopes.{IsWithin, IsInside, AllFit, other_side};

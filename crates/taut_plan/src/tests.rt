@@ -1,8 +1,5 @@
 //! Worked plans, and plans of generated curves against the plain planner.
 
-ghost use Rattle.std.specs.Prelude.{IsTrue};
-ghost use Rattle.wire_curve.specs.Sound.{IsSound};
-
 mod plain;
 
 use super::*;
@@ -10,33 +7,6 @@ use plain::plain_plan;
 use plan_cert::Segment;
 use std::alloc::{AllocError, Global};
 use wire_curve::Curves;
-
-/// Whether `plan` may be called.
-fn is_sound(curves: &Curves) -> bool
-    ensures { IsTrue result → IsSound curves.now.from curves.now.low.items curves.now.up.items }
-{
-    let slots = curves.low.len();
-    if slots == 0 || slots > 1_000_000 || curves.up.len() != slots {
-        return false;
-    }
-    'rising: for slot in 0..slots - 1 {
-        if curves.low[slot] > curves.low[slot + 1] || curves.up[slot] > curves.up[slot + 1] {
-            return false;
-        }
-    }
-    'ordered: for slot in 0..slots {
-        if curves.low[slot] > curves.up[slot] {
-            return false;
-        }
-    }
-    if curves.from <= curves.low[0]
-        && curves.low[slots - 1] == curves.up[slots - 1]
-        && curves.low[slots - 1] <= 1 << 42
-    {
-        return true;
-    }
-    false
-}
 
 /// One slot a picture, the first one used after `startup` slots.
 fn curves_of(
@@ -79,7 +49,7 @@ fn films_have_these_plans(rt: HostRuntime) -> Result<(), AllocError> {
     ];
     for (sizes, buffer, startup, want) in rows {
         let curves = curves_of(rt.alloc(), sizes, buffer, startup)?;
-        assert!(rt; is_sound(&curves), "{sizes:?}");
+        assert!(rt; curves.is_sound(), "{sizes:?}");
         let Ok(plan) = plan(rt.alloc(), &curves) else {
             return Err(AllocError);
         };
@@ -100,7 +70,7 @@ fn bytes_sent_before_are_not_planned(rt: HostRuntime) -> Result<(), AllocError> 
         low: vec![in rt.alloc(); 52, 52, 106, 141]?,
         up: vec![in rt.alloc(); 141, 141, 141, 141]?,
     };
-    assert!(rt; is_sound(&curves));
+    assert!(rt; curves.is_sound());
     let Ok(plan) = plan(rt.alloc(), &curves) else {
         return Err(AllocError);
     };
@@ -132,7 +102,7 @@ fn generated_curves_have_the_plain_plan(rt: HostRuntime) -> Result<(), AllocErro
         let buffer = most + next(&mut state) % 30;
         let startup = (next(&mut state) % 4) as usize;
         let curves = curves_of(rt.alloc(), sizes.as_slice(), buffer, startup)?;
-        assert!(rt; is_sound(&curves), "{round}");
+        assert!(rt; curves.is_sound(), "{round}");
         let plain = plain_plan(rt.alloc(), &curves)?;
         let Ok(plan) = plan(rt.alloc(), &curves) else {
             return Err(AllocError);
@@ -150,8 +120,8 @@ fn generated_curves_have_the_plain_plan(rt: HostRuntime) -> Result<(), AllocErro
     Ok(())
 }
 
-/// Each slot stays in the lower chain to the end, so a planner that looks through the chain again at
-/// each slot would take some 10^10 steps.
+/// Each slot stays in the lower chain to the end, so a planner that looks through the chain again
+/// at each slot would take some 10^10 steps.
 #[test]
 fn falling_sizes_have_a_segment_each(rt: HostRuntime) -> Result<(), AllocError> {
     let mut sizes = Vec::new(rt.alloc());
@@ -159,7 +129,7 @@ fn falling_sizes_have_a_segment_each(rt: HostRuntime) -> Result<(), AllocError> 
         sizes.push(100_000 - size)?;
     }
     let curves = curves_of(rt.alloc(), sizes.as_slice(), 1 << 42, 0)?;
-    assert!(rt; is_sound(&curves));
+    assert!(rt; curves.is_sound());
     let Ok(plan) = plan(rt.alloc(), &curves) else {
         return Err(AllocError);
     };
