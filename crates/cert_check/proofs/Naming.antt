@@ -1,10 +1,10 @@
 -- Which fault is the first, by what the steps of the checker found.
-use Rattle.std.proofs.Common.{◌≡◌, ◌<◌, ℕ, List, arith}
+use Rattle.std.proofs.Common.{◌≡◌, ◌<◌, ℕ, List, arith, unwrap_or}
 use Rattle.plan_cert.specs.declared.Segment.{Segment}
 use Rattle.cert_check.specs.declared.CertFault.{CertFault}
 use Rattle.cert_check.specs.declared.CertFault.TheVariants.{EmptySegment, WrongLength, WrongTotal, BelowLow, AboveUp, EqualSlopes, RiseOffUpper, FallOffLower}
 use Rattle.cert_check.specs.First.{IsFirst}
-use Rattle.cert_check.specs.Fault.{IsEmptyAt, IsEqualAt, IsRiseOffUpper, IsFallOffLower, IsThere, kind_of, number_of, IsFirstFault}
+use Rattle.cert_check.specs.Fault.{IsEmptyAt, IsEqualAt, IsRiseOffUpper, IsFallOffLower, IsThere, kind_of, fault_number, IsFirstFault}
 use Rattle.cert_check.specs.Whole.{AddsUp, StaysWithin}
 
 not_empty : {from : ℕ} {low up : List ℕ} {segments : List Segment} → AddsUp from low up segments → {i : ℕ}
@@ -30,7 +30,7 @@ first_fall {from} {low} {up} {segments} i within no_equal no_rise first = record
     earlier (RiseOffUpper j) less = no_rise j
     earlier (FallOffLower j) less = absurd (omega (arith, less))
 
-    lesser : (other : CertFault) → kind_of other ≡ 7 → number_of other < i → ¬ IsThere from low up segments other
+    lesser : (other : CertFault) → kind_of other ≡ 7 → unwrap_or (fault_number other) 0 < i → ¬ IsThere from low up segments other
     lesser (EmptySegment j) same less = absurd (omega (arith, same))
     lesser WrongLength same less = absurd (omega (arith, same))
     lesser WrongTotal same less = absurd (omega (arith, same))

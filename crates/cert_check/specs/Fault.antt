@@ -1,6 +1,7 @@
 -- What can be wrong with a list of segments that claims to be taut between two curves. The curves
 -- begin at `from` and have one number for the end of each slot.
 use Rattle.std.specs.Prelude.{ℕ, ◌+◌, ◌-◌, ◌*◌, ◌<◌, ◌≡◌, ◌≢◌, List, length, slice_index}
+use Rattle.std.specs.Prelude.{Option, Some, None, unwrap_or}
 use Rattle.slope_frac.specs.Order.{IsBelow, IsLevel}
 use Rattle.plan_cert.specs.declared.Segment.{Segment}
 use Rattle.plan_cert.specs.Slots.{total_slots, total_bytes}
@@ -77,8 +78,7 @@ IsThere from low up segments (EqualSlopes i) = IsEqualAt segments i
 IsThere from low up segments (RiseOffUpper i) = IsRiseOffUpper from up segments i
 IsThere from low up segments (FallOffLower i) = IsFallOffLower from low segments i
 
--- the place of a fault's kind in the order in which faults are named, and the fault's number within
--- its kind
+-- the place of a fault's kind in the order in which faults are named
 abbrev pub kind_of : CertFault → ℕ
 kind_of (EmptySegment i) = 0
 kind_of WrongLength = 1
@@ -89,15 +89,16 @@ kind_of (EqualSlopes i) = 5
 kind_of (RiseOffUpper i) = 6
 kind_of (FallOffLower i) = 7
 
-abbrev pub number_of : CertFault → ℕ
-number_of (EmptySegment i) = i
-number_of WrongLength = 0
-number_of WrongTotal = 0
-number_of (BelowLow t) = t
-number_of (AboveUp t) = t
-number_of (EqualSlopes i) = i
-number_of (RiseOffUpper i) = i
-number_of (FallOffLower i) = i
+-- a fault's number within its kind, where it has one
+abbrev pub fault_number : CertFault → Option ℕ
+fault_number (EmptySegment i) = Some i
+fault_number WrongLength = None
+fault_number WrongTotal = None
+fault_number (BelowLow t) = Some t
+fault_number (AboveUp t) = Some t
+fault_number (EqualSlopes i) = Some i
+fault_number (RiseOffUpper i) = Some i
+fault_number (FallOffLower i) = Some i
 
 -- The first fault: it is there, no fault of an earlier kind is, and none of its own kind with a
 -- lesser number.
@@ -107,4 +108,5 @@ pub record IsFirstFault (from : ℕ) (low up : List ℕ) (segments : List Segmen
   pub no_earlier_kind : (other : CertFault) → kind_of other < kind_of fault →
       ¬ IsThere from low up segments other
   pub no_lesser_number : (other : CertFault) → kind_of other ≡ kind_of fault →
-      number_of other < number_of fault → ¬ IsThere from low up segments other
+      unwrap_or (fault_number other) 0 < unwrap_or (fault_number fault) 0 →
+      ¬ IsThere from low up segments other

@@ -1,12 +1,12 @@
 -- A certificate of a trace or film that the library holds has one verdict, and none where one of the two is refused.
-use Rattle.std.proofs.Common.{◌≡◌, ℕ, List, [], ◌∷◌, ◌++◌, Some, inl, inr, refl, sym, ap, ◌∙◌, subst, get_or}
+use Rattle.std.proofs.Common.{◌≡◌, ℕ, List, [], ◌∷◌, ◌++◌, Some, inl, inr, refl, sym, ap, ◌∙◌, subst, get_or, unwrap_or}
 use Rattle.std.specs.Prelude.{codes}
 use Rattle.std.proofs.lemmas.Bool.{cases_order}
 use Rattle.vod_base.specs.Outside.{File, file_named}
 use Rattle.plan_cert.specs.declared.Segment.{Segment}
 use Rattle.plan_cert.specs.Reading.{IsBadLine, IsCertificate}
 use Rattle.plan_cert.proofs.OneText.{certificate_has_no_bad_line, one_certificate}
-use Rattle.cert_check.specs.Fault.{IsFirstFault, IsTaut, IsThere, kind_of, number_of}
+use Rattle.cert_check.specs.Fault.{IsFirstFault, IsTaut, IsThere, kind_of, fault_number}
 use Rattle.cert_check.specs.declared.CertFault.{CertFault}
 use Rattle.cert_check.specs.declared.CertFault.TheVariants.{EmptySegment, WrongLength, WrongTotal, BelowLow, AboveUp, EqualSlopes, RiseOffUpper, FallOffLower}
 use Rattle.inputs.proofs.ReadLemmas.{one_file}
@@ -36,7 +36,7 @@ fault_at kind n =
     get_or (EmptySegment n ∷ WrongLength ∷ WrongTotal ∷ BelowLow n ∷ AboveUp n ∷ EqualSlopes n ∷ RiseOffUpper n
     ∷ FallOffLower n ∷ []) kind WrongLength
 
-fault_is : (fault : CertFault) → fault_at (kind_of fault) (number_of fault) ≡ fault
+fault_is : (fault : CertFault) → fault_at (kind_of fault) (unwrap_or (fault_number fault) 0) ≡ fault
 fault_is (EmptySegment i) = refl
 fault_is WrongLength = refl
 fault_is WrongTotal = refl
@@ -60,12 +60,13 @@ first_once : {from : ℕ} {low up : List ℕ} {segments : List Segment} {f g : C
     → IsFirstFault from low up segments f → IsFirstFault from low up segments g → f ≡ g
 first_once {from} {low} {f} {g} p q =
     let kinds : kind_of f ≡ kind_of g = same_kind p q in
-    let numbers : number_of f ≡ number_of g = elim (cases_order (number_of f) (number_of g)) [
+    let numbers : unwrap_or (fault_number f) 0 ≡ unwrap_or (fault_number g) 0 =
+    elim (cases_order (unwrap_or (fault_number f) 0) (unwrap_or (fault_number g) 0)) [
       | inl h ↦ h
       | inr (inl h) ↦ absurd (q.no_lesser_number f kinds h p.there)
       | inr (inr h) ↦ absurd (p.no_lesser_number g (sym kinds) h q.there)
     ] in
-    sym (fault_is f) ∙ ap (λ (k : ℕ). fault_at k (number_of f)) kinds
+    sym (fault_is f) ∙ ap (λ (k : ℕ). fault_at k (unwrap_or (fault_number f) 0)) kinds
     ∙ ap (λ (n : ℕ). fault_at (kind_of g) n) numbers ∙ fault_is g
 
 verdict_once : {status status' : ℕ} {text text' : List ℕ} (from : ℕ) (low up : List ℕ)

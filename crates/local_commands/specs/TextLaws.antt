@@ -5,9 +5,9 @@ use Rattle.std.specs.List.{AllZip, list_any, slice_split}
 use Rattle.std.specs.Str.{bytes_eq}
 use Rattle.mpeg_scan.specs.declared.units.Unit.{Unit as PictureUnit}
 use Rattle.cert_check.specs.declared.CertFault.{CertFault}
+use Rattle.cert_check.specs.Fault.{fault_number}
 use Rattle.command_words.specs.Settings.{values_of}
 use Rattle.local_commands.specs.ScanText.{kind_text}
-use Rattle.local_commands.specs.Verdict.{fault_number}
 
 -- its number, if it has one, has 64 bits
 abbrev pub IsShortFault : CertFault → Type 0

@@ -4,6 +4,7 @@ use Rattle.cert_check.specs.declared.CertFault.{CertFault}
 use Rattle.cert_check.specs.declared.CertFault.TheVariants.{EmptySegment, WrongLength, WrongTotal}
 use Rattle.cert_check.specs.declared.CertFault.TheVariants.{BelowLow, AboveUp, EqualSlopes}
 use Rattle.cert_check.specs.declared.CertFault.TheVariants.{RiseOffUpper, FallOffLower}
+use Rattle.cert_check.specs.Fault.{fault_number}
 use Rattle.troubles.specs.Said.{number_text}
 
 abbrev pub fault_name : CertFault → List ℕ
@@ -15,16 +16,6 @@ fault_name (AboveUp t) = codes "AboveUp"
 fault_name (EqualSlopes i) = codes "EqualSlopes"
 fault_name (RiseOffUpper i) = codes "RiseOffUpper"
 fault_name (FallOffLower i) = codes "FallOffLower"
-
-abbrev pub fault_number : CertFault → Option ℕ
-fault_number (EmptySegment i) = Some i
-fault_number WrongLength = None
-fault_number WrongTotal = None
-fault_number (BelowLow t) = Some t
-fault_number (AboveUp t) = Some t
-fault_number (EqualSlopes i) = Some i
-fault_number (RiseOffUpper i) = Some i
-fault_number (FallOffLower i) = Some i
 
 abbrev pub AreFaultWords : CertFault → List ℕ → Option ℕ → Type 0
 AreFaultWords fault name number = (name ≡ fault_name fault) × (number ≡ fault_number fault)
