@@ -1,12 +1,10 @@
 -- The values of written orders are read back.
-use Rattle.std.proofs.Common.{◌≡◌, ℕ, ◌+◌, ◌-◌, ◌<◌, ◌≤◌, ◌^◌, ◌&&◌, not, List, [], ◌∷◌, ◌++◌, All, length, sym, ap, subst, ◌∙◌, arith, Option, Some, None, Bool, true, false, refl, codes, decimal, nat_lt, nat_le, ◌==◌, if◌then◌else◌, inl, inr, rules, length-append, true≢false}
+use Rattle.std.proofs.Common.{◌≡◌, ℕ, ◌+◌, ◌-◌, ◌<◌, ◌≤◌, ◌^◌, ◌&&◌, not, List, [], ◌∷◌, ◌++◌, All, length, sym, ap, subst, ◌∙◌, arith, Option, Some, None, Bool, true, false, refl, codes, decimal, nat_lt, nat_le, ◌==◌, if◌then◌else◌, inl, inr, length-append, true≢false}
 use Rattle.std.specs.List.{list_all, position_or_len, before_first, after_first, slice_split, fold}
 use Rattle.std.specs.Option.{option_and_then, option_map}
 use Rattle.std.specs.Char.{is_ascii_digit}
-use Rattle.std.specs.Str.Parse.{digits_value}
 use Rattle.std.proofs.lemmas.Bool.{and_parts, and_from, cases_Bool, eqb-true, eq-eqb, le-leb, lt-ltb, ne_eqb}
 use Rattle.std.proofs.lemmas.Fmt.{digits_decimal}
-use Rattle.std.proofs.lemmas.Str.Parse.{IsNumeralModel, numerals_by_value}
 use Rattle.std.proofs.lemmas.List.{append_assoc}
 use Rattle.std.proofs.lemmas.List.Elements.{All-nil, All-cons}
 use Rattle.std.proofs.lemmas.List.Splits.{slice_split_at, slice_split_none}
@@ -14,6 +12,7 @@ use Rattle.std.proofs.Math.ListN.{get_or-append}
 use Rattle.std.proofs.Math.Seq.{get_or-append_seam}
 use Rattle.vod_base.specs.Names.{is_good_name}
 use Rattle.vod_base.specs.Numbers.{number_of}
+use Rattle.vod_base.proofs.Digits.{decimal_numerals}
 use Rattle.vod_base.proofs.Written.{decimal_read}
 use Rattle.slot_calendar.specs.declared.profiles.CapStep.{CapStep}
 use Rattle.slot_calendar.specs.Profiles.{no_step, step_at}
@@ -21,9 +20,6 @@ use Rattle.command_words.specs.Settings.{one_name, in_range, one_number, number_
 use Rattle.command_words.specs.Capacities.{step_of, stands_after, may_follow, step_more, part_more, steps_of, one_capacity}
 use Rattle.command_words.specs.Spelling.{IsBetween, IsCapacity, step_text, steps_text}
 use Rattle.command_words.proofs.SettingLemmas.{has_no, inside_of, before_of, after_of}
-
-own : IsNumeralModel (λ ds. list_all is_ascii_digit ds ≡ true) (digits_value 10)
-own = numerals_by_value (λ ds. list_all is_ascii_digit ds ≡ true) (search rules)
 
 -- a number in its range
 pub number_back : (least most n : ℕ) → IsBetween least most n → n < 2 ^ 64 → in_range least most (number_of (decimal n)) ≡ Some n
@@ -58,7 +54,7 @@ no_digit c (b ∷ ds) other digits =
     and_from (not (b == c)) (has_no c ds) here (no_digit c ds other parts.1)
 
 decimal_has_no : (c n : ℕ) → is_ascii_digit c ≡ false → n < 2 ^ 64 → has_no c (decimal n) ≡ true
-decimal_has_no c n other small = no_digit c (decimal n) other (digits_decimal own n small)
+decimal_has_no c n other small = no_digit c (decimal n) other (digits_decimal decimal_numerals n small)
 
 -- a text without a byte, followed by another such
 none_joined : (c : ℕ) (front rest : List ℕ) → has_no c front ≡ true → has_no c rest ≡ true → has_no c (front ++ rest) ≡ true

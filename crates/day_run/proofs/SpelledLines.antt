@@ -8,7 +8,8 @@ use Rattle.std.proofs.lemmas.List.{get_or_past}
 use Rattle.std.proofs.lemmas.List.Elements.{All-append, All-cons, All-nil, All-get_or, All-weaker}
 use Rattle.std.proofs.lemmas.List.Splits.{slice_split_at, slice_split_none}
 use Rattle.vod_base.specs.Names.{is_good_name}
-use Rattle.vod_base.proofs.Written.{good_is_plain, own}
+use Rattle.vod_base.proofs.Digits.{decimal_numerals}
+use Rattle.vod_base.proofs.Written.{good_is_plain}
 use Rattle.day_run.specs.Lines.{is_space, lines_of_script, without_return}
 use Rattle.day_run.specs.Spelling.{is_word, kind_text, words_text}
 use Rattle.day_run.proofs.Cuts.{script-line}
@@ -30,7 +31,7 @@ digits-word (b ∷ ds) digits =
     and_from (nat_le 33 b) (is_word ds) (digit-high b parts.0) (digits-word ds parts.1)
 
 pub decimal-word : (n : ℕ) → n < 2 ^ 64 → is_word (decimal n) ≡ true
-decimal-word n small = digits-word (decimal n) (digits_decimal own n small)
+decimal-word n small = digits-word (decimal n) (digits_decimal decimal_numerals n small)
 
 word-from : (word : List ℕ) → ((k : ℕ) → k < length word → 33 ≤ get_or word k 0) → is_word word ≡ true
 word-from [] high = refl

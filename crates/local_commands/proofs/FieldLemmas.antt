@@ -4,7 +4,8 @@ use Rattle.std.specs.Int.{IsInRange}
 use Rattle.std.proofs.lemmas.Fmt.{decimal_injective}
 use Rattle.std.proofs.lemmas.List.{append_cancel_left}
 use Rattle.std.proofs.lemmas.List.Elements.{All-head, All-tail}
-use Rattle.plan_cert.proofs.Decimals.{not_in_decimal, same_cut}
+use Rattle.vod_base.proofs.FirstBytes.{split_once}
+use Rattle.plan_cert.proofs.Decimals.{not_in_decimal}
 
 -- two numbers with what stands after them
 pub record AreSame (n m : ℕ) (xs ys : List ℕ) : Type 0 where
@@ -15,7 +16,7 @@ pub record AreSame (n m : ℕ) (xs ys : List ℕ) : Type 0 where
 pub number_cut : {n m : ℕ} {xs ys : List ℕ} (c : ℕ) → ¬ (IsInRange 48 57 c) → n < 2 ^ 64 → m < 2 ^ 64
     → decimal n ++ c ∷ xs ≡ decimal m ++ c ∷ ys → AreSame n m xs ys
 number_cut {n} {m} {xs} {ys} c other small small' e =
-    let parts = same_cut {ws = xs} {bs = ys} c (decimal n) (decimal m) e (not_in_decimal c n small other)
+    let parts = split_once {after = xs} {after' = ys} c (decimal n) (decimal m) e (not_in_decimal c n small other)
     (not_in_decimal c m small' other) in
     record { number = decimal_injective n m small small' parts.0; rest = parts.1 }
 

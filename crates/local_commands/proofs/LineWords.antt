@@ -11,7 +11,8 @@ use Rattle.command_words.specs.Settings.{setting_value, values_of}
 use Rattle.command_words.specs.Spelling.{Setting, number_setting, word_of}
 use Rattle.command_words.proofs.SettingLemmas.{are_plain, picked, values_read}
 use Rattle.command_words.proofs.WordLemmas.{values_of-append}
-use Rattle.troubles.proofs.WordLemmas.{HasNo, none_by}
+use Rattle.vod_base.proofs.FirstBytes.{none_is}
+use Rattle.troubles.proofs.WordLemmas.{HasNo}
 use Rattle.local_commands.specs.TextLaws.{words_in}
 
 -- bytes of a word: no blank and no line's end
@@ -35,10 +36,10 @@ pub number-word : (key : List ℕ) (n : ℕ) → n < 2 ^ 64 → HasNo 32 key →
 number-word key n small blank end =
     is-word (key ++ (codes "=" ++ decimal n))
     (All-append (λ b. b ≢ 32) key (61 ∷ decimal n) blank
-    (All-append (λ b. b ≢ 32) (codes "=") (decimal n) (none_by 32 (codes "=") refl)
+    (All-append (λ b. b ≢ 32) (codes "=") (decimal n) (none_is 32 (codes "=") refl)
     (not_in_decimal 32 n small (λ within. omega (arith, within.0)))))
     (All-append (λ b. b ≢ 10) key (61 ∷ decimal n) end
-    (All-append (λ b. b ≢ 10) (codes "=") (decimal n) (none_by 10 (codes "=") refl)
+    (All-append (λ b. b ≢ 10) (codes "=") (decimal n) (none_is 10 (codes "=") refl)
     (not_in_decimal 10 n small (λ within. omega (arith, within.0)))))
 
 -- so are words

@@ -15,7 +15,8 @@ use Rattle.command_words.specs.Settings.{setting_value, values_of}
 use Rattle.command_words.specs.Spelling.{Setting, number_setting, word_of}
 use Rattle.command_words.proofs.SettingLemmas.{are_plain, picked, values_read}
 use Rattle.command_words.proofs.WordLemmas.{values_of-append}
-use Rattle.troubles.proofs.WordLemmas.{HasNo, none_by}
+use Rattle.vod_base.proofs.FirstBytes.{none_is}
+use Rattle.troubles.proofs.WordLemmas.{HasNo}
 use Rattle.mpeg_scan.specs.declared.units.Kind.{Kind}
 use Rattle.mpeg_scan.specs.declared.units.Kind.TheVariants.{I, P, B, D}
 use Rattle.mpeg_scan.specs.declared.units.Unit.{Unit as PictureUnit}
@@ -67,12 +68,12 @@ film-words : (bytes rate pictures : ℕ) → bytes < 2 ^ 64 → rate < 2 ^ 64 �
 unfolding film_settings AreWords
 film-words bytes rate pictures few short little =
     all-words (film_settings bytes rate pictures) (
-      number-word (codes "bytes") bytes few (none_by 32 (codes "bytes") refl) (none_by 10 (codes "bytes") refl),
+      number-word (codes "bytes") bytes few (none_is 32 (codes "bytes") refl) (none_is 10 (codes "bytes") refl),
       (
-        number-word (codes "rate") rate short (none_by 32 (codes "rate") refl) (none_by 10 (codes "rate") refl),
+        number-word (codes "rate") rate short (none_is 32 (codes "rate") refl) (none_is 10 (codes "rate") refl),
         (
-          number-word (codes "pictures") pictures little (none_by 32 (codes "pictures") refl)
-              (none_by 10 (codes "pictures") refl),
+          number-word (codes "pictures") pictures little (none_is 32 (codes "pictures") refl)
+              (none_is 10 (codes "pictures") refl),
           tt,
         ),
       ),
@@ -96,8 +97,8 @@ film-value counts key number none given plain =
     ∙ line-values {key = key} {first =
     codes "film"} (record { end = _; words = _; ends = ended }) (film_settings bytes rate pictures)
     (film-words bytes rate pictures few short little) (record {
-      word = is-word (codes "film") (none_by 32 (codes "film") refl)
-          (none_by 10 (codes "film") refl);
+      word = is-word (codes "film") (none_is 32 (codes "film") refl)
+          (none_is 10 (codes "film") refl);
       none = none;
     }) refl plain ∙ given
   where
@@ -130,17 +131,17 @@ unit-words : (u : PictureUnit) → IsShortUnit u → All (λ s. IsWord (word_of 
 unfolding unit_settings AreWords
 unit-words u short =
     all-words (unit_settings u) (
-      number-word (codes "show") u.presentation short.presentation (none_by 32 (codes "show") refl)
-          (none_by 10 (codes "show") refl),
+      number-word (codes "show") u.presentation short.presentation (none_is 32 (codes "show") refl)
+          (none_is 10 (codes "show") refl),
       (
-        number-word (codes "from") u.from short.from (none_by 32 (codes "from") refl) (none_by 10 (codes "from") refl),
+        number-word (codes "from") u.from short.from (none_is 32 (codes "from") refl) (none_is 10 (codes "from") refl),
         (
-          number-word (codes "head") u.head_end short.head_end (none_by 32 (codes "head") refl) (none_by 10 (codes "head") refl),
+          number-word (codes "head") u.head_end short.head_end (none_is 32 (codes "head") refl) (none_is 10 (codes "head") refl),
           (
-            number-word (codes "to") u.to short.to (none_by 32 (codes "to") refl) (none_by 10 (codes "to") refl),
+            number-word (codes "to") u.to short.to (none_is 32 (codes "to") refl) (none_is 10 (codes "to") refl),
             (
-              number-word (codes "slices") u.slices short.slices (none_by 32 (codes "slices") refl)
-                  (none_by 10 (codes "slices") refl),
+              number-word (codes "slices") u.slices short.slices (none_is 32 (codes "slices") refl)
+                  (none_is 10 (codes "slices") refl),
               tt,
             ),
           ),
@@ -193,16 +194,16 @@ marks-ended false true = more-ended (codes "group\n") (codes "group" ∷ [] ∷ 
 marks-ended false false = ended
 
 kind-word : (kind : Kind) → IsWord (kind_text kind)
-kind-word I = is-word (codes "I") (none_by 32 (codes "I") refl) (none_by 10 (codes "I") refl)
-kind-word P = is-word (codes "P") (none_by 32 (codes "P") refl) (none_by 10 (codes "P") refl)
-kind-word B = is-word (codes "B") (none_by 32 (codes "B") refl) (none_by 10 (codes "B") refl)
-kind-word D = is-word (codes "D") (none_by 32 (codes "D") refl) (none_by 10 (codes "D") refl)
+kind-word I = is-word (codes "I") (none_is 32 (codes "I") refl) (none_is 10 (codes "I") refl)
+kind-word P = is-word (codes "P") (none_is 32 (codes "P") refl) (none_is 10 (codes "P") refl)
+kind-word B = is-word (codes "B") (none_is 32 (codes "B") refl) (none_is 10 (codes "B") refl)
+kind-word D = is-word (codes "D") (none_is 32 (codes "D") refl) (none_is 10 (codes "D") refl)
 
 kind-none : (key : List ℕ) (kind : Kind) → setting_value key (kind_text kind) ≡ None
-kind-none key I = setting_none key (codes "I") (none_by 61 (codes "I") refl)
-kind-none key P = setting_none key (codes "P") (none_by 61 (codes "P") refl)
-kind-none key B = setting_none key (codes "B") (none_by 61 (codes "B") refl)
-kind-none key D = setting_none key (codes "D") (none_by 61 (codes "D") refl)
+kind-none key I = setting_none key (codes "I") (none_is 61 (codes "I") refl)
+kind-none key P = setting_none key (codes "P") (none_is 61 (codes "P") refl)
+kind-none key B = setting_none key (codes "B") (none_is 61 (codes "B") refl)
+kind-none key D = setting_none key (codes "D") (none_is 61 (codes "D") refl)
 
 -- all words of a unit's line
 unit-line-words : (number : ℕ) (u : PictureUnit) → number < 2 ^ 64 → IsShortUnit u →
@@ -230,16 +231,16 @@ no-values key (word ∷ words) none =
 marks-plain : (sequence group : Bool) → All (HasNo 61) (mark_words sequence group)
 unfolding mark_words
 marks-plain true true =
-    All-cons (HasNo 61) (codes "sequence") (codes "group" ∷ [] ∷ []) (none_by 61 (codes "sequence") refl)
-    (All-cons (HasNo 61) (codes "group") ([] ∷ []) (none_by 61 (codes "group") refl)
-    (All-cons (HasNo 61) [] [] (none_by 61 [] refl) (All-nil (HasNo 61))))
+    All-cons (HasNo 61) (codes "sequence") (codes "group" ∷ [] ∷ []) (none_is 61 (codes "sequence") refl)
+    (All-cons (HasNo 61) (codes "group") ([] ∷ []) (none_is 61 (codes "group") refl)
+    (All-cons (HasNo 61) [] [] (none_is 61 [] refl) (All-nil (HasNo 61))))
 marks-plain true false =
-    All-cons (HasNo 61) (codes "sequence") ([] ∷ []) (none_by 61 (codes "sequence") refl)
-    (All-cons (HasNo 61) [] [] (none_by 61 [] refl) (All-nil (HasNo 61)))
+    All-cons (HasNo 61) (codes "sequence") ([] ∷ []) (none_is 61 (codes "sequence") refl)
+    (All-cons (HasNo 61) [] [] (none_is 61 [] refl) (All-nil (HasNo 61)))
 marks-plain false true =
-    All-cons (HasNo 61) (codes "group") ([] ∷ []) (none_by 61 (codes "group") refl)
-    (All-cons (HasNo 61) [] [] (none_by 61 [] refl) (All-nil (HasNo 61)))
-marks-plain false false = All-cons (HasNo 61) [] [] (none_by 61 [] refl) (All-nil (HasNo 61))
+    All-cons (HasNo 61) (codes "group") ([] ∷ []) (none_is 61 (codes "group") refl)
+    (All-cons (HasNo 61) [] [] (none_is 61 [] refl) (All-nil (HasNo 61)))
+marks-plain false false = All-cons (HasNo 61) [] [] (none_is 61 [] refl) (All-nil (HasNo 61))
 
 -- a unit's settings, of which one has this key and value
 record PickedOnce (u : PictureUnit) (key : List ℕ) (value : ℕ) : Type 0 where

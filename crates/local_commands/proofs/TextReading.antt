@@ -12,7 +12,8 @@ use Rattle.cert_check.specs.declared.CertFault.{CertFault}
 use Rattle.cert_check.specs.declared.CertFault.TheVariants.{EmptySegment, WrongLength, WrongTotal, BelowLow, AboveUp, EqualSlopes, RiseOffUpper, FallOffLower}
 use Rattle.plan_cert.proofs.Decimals.{not_in_decimal}
 use Rattle.troubles.specs.Said.{number_text}
-use Rattle.troubles.proofs.WordLemmas.{AreShort, HasNo, none_by, numbers_back, numbers_of, split, split_words}
+use Rattle.vod_base.proofs.FirstBytes.{none_is}
+use Rattle.troubles.proofs.WordLemmas.{AreShort, HasNo, numbers_back, numbers_of, split, split_words}
 use Rattle.local_commands.specs.ScanText.{film_line, kind_text, mark, scan_text, unit_line, unit_lines, unit_marks, unit_places}
 use Rattle.local_commands.specs.TextLaws.{AreAlike, IsSameScan, IsShortFault, IsShortUnit}
 use Rattle.local_commands.specs.Verdict.{refused_line}
@@ -324,56 +325,56 @@ unfolding numbers_after fault_of
 fault_read (EmptySegment i) =
     record {
       shape = placed (codes "EmptySegment") i;
-      word = none_by 32 (codes "EmptySegment") refl;
+      word = none_is 32 (codes "EmptySegment") refl;
       short = one_short i;
       back = one_back EmptySegment i;
     }
 fault_read WrongLength =
     record {
       shape = lone (codes "WrongLength");
-      word = none_by 32 (codes "WrongLength") refl;
+      word = none_is 32 (codes "WrongLength") refl;
       short = λ _. All-nil (λ k. k < 2 ^ 64);
       back = λ _. refl;
     }
 fault_read WrongTotal =
     record {
       shape = lone (codes "WrongTotal");
-      word = none_by 32 (codes "WrongTotal") refl;
+      word = none_is 32 (codes "WrongTotal") refl;
       short = λ _. All-nil (λ k. k < 2 ^ 64);
       back = λ _. refl;
     }
 fault_read (BelowLow t) =
     record {
       shape = placed (codes "BelowLow") t;
-      word = none_by 32 (codes "BelowLow") refl;
+      word = none_is 32 (codes "BelowLow") refl;
       short = one_short t;
       back = one_back BelowLow t;
     }
 fault_read (AboveUp t) =
     record {
       shape = placed (codes "AboveUp") t;
-      word = none_by 32 (codes "AboveUp") refl;
+      word = none_is 32 (codes "AboveUp") refl;
       short = one_short t;
       back = one_back AboveUp t;
     }
 fault_read (EqualSlopes i) =
     record {
       shape = placed (codes "EqualSlopes") i;
-      word = none_by 32 (codes "EqualSlopes") refl;
+      word = none_is 32 (codes "EqualSlopes") refl;
       short = one_short i;
       back = one_back EqualSlopes i;
     }
 fault_read (RiseOffUpper i) =
     record {
       shape = placed (codes "RiseOffUpper") i;
-      word = none_by 32 (codes "RiseOffUpper") refl;
+      word = none_is 32 (codes "RiseOffUpper") refl;
       short = one_short i;
       back = one_back RiseOffUpper i;
     }
 fault_read (FallOffLower i) =
     record {
       shape = placed (codes "FallOffLower") i;
-      word = none_by 32 (codes "FallOffLower") refl;
+      word = none_is 32 (codes "FallOffLower") refl;
       short = one_short i;
       back = one_back FallOffLower i;
     }

@@ -4,12 +4,12 @@ use Rattle.std.specs.Int.{IsInRange}
 use Rattle.std.specs.Cmp.Lexicographic.{pointwise, same_text, other_text}
 use Rattle.std.proofs.lemmas.Bool.{cases_lt, both_ways}
 use Rattle.std.proofs.lemmas.List.{append_cancel_left, append_assoc, take_at, take-append-drop}
-use Rattle.std.proofs.lemmas.List.Elements.{All-from_get_or, All-head, All-tail}
+use Rattle.std.proofs.lemmas.List.Elements.{All-from_get_or}
 use Rattle.std.proofs.lemmas.Fmt.{digits_decimal, first_decimal, decimal_digit}
 use Rattle.std.proofs.lemmas.Str.Parse.{not_in_digits}
 use Rattle.vod_base.specs.Splits.{IsSplitAtFirst}
-use Rattle.vod_base.proofs.FirstBytes.{none_is}
-use Rattle.vod_base.proofs.Written.{own}
+use Rattle.vod_base.proofs.Digits.{decimal_numerals}
+use Rattle.vod_base.proofs.FirstBytes.{none_is, split_once}
 use Rattle.plan_cert.specs.declared.Segment.{Segment}
 use Rattle.plan_cert.specs.Reading.{IsNumberLine, AreNumbers}
 
@@ -30,20 +30,7 @@ no_leading_zero n small long first =
 pub not_in_decimal : (c n : ℕ) → n < 2 ^ 64 → ¬ (IsInRange 48 57 c) → All (λ b. b ≢ c) (decimal n)
 not_in_decimal c n small other =
     All-from_get_or (λ b. b ≢ c) (decimal n) 0
-    (λ i inside. not_in_digits own (decimal n) c (digits_decimal own n small) other i inside)
-
--- a text has one first place of a byte
-pub same_cut : {ws bs : List ℕ} (c : ℕ) (xs ys : List ℕ) → xs ++ c ∷ ws ≡ ys ++ c ∷ bs → All (λ b. b ≢ c) xs
-    → All (λ b. b ≢ c) ys → (xs ≡ ys) × (ws ≡ bs)
-same_cut c [] [] e none none' = (refl, cc)
-same_cut c [] (y ∷ ys) e none none' = absurd (All-head (λ b. b ≢ c) y ys none' (cc))
-same_cut c (x ∷ xs) [] e none none' = absurd (All-head (λ b. b ≢ c) x xs none (cc))
-same_cut {ws} {bs} c (x ∷ xs) (y ∷ ys) e none none' =
-    let first : x ≡ y = cc in
-    let others : xs ++ c ∷ ws ≡ ys ++ c ∷ bs = cc in
-    let rest = same_cut {ws = ws} {bs = bs} c xs ys others (All-tail (λ b. b ≢ c) x xs none) (All-tail (λ b. b ≢ c) y ys none') in
-    let same : xs ≡ ys = rest.0 in
-    (cc, rest.1)
+    (λ i inside. not_in_digits decimal_numerals (decimal n) c (digits_decimal decimal_numerals n small) other i inside)
 
 -- the two numbers of a text, by its first space
 pub numbers_cut : (text front after : List ℕ) (s : Segment) → IsSplitAtFirst 32 text front after
@@ -53,7 +40,7 @@ numbers_cut text front after s cut numbers =
     let small : s.slots < 2 ^ 64 = omega (arith, numbers.few_slots) in
     let whole : front ++ 32 ∷ after ≡ decimal s.slots ++ 32 ∷ decimal s.bytes =
     sym cut.parts ∙ numbers.words ∙ append_assoc (decimal s.slots) (codes " ") (decimal s.bytes) in
-    same_cut {ws = after} {bs = decimal s.bytes} 32 front (decimal s.slots) whole (none_is 32 front cut.first)
+    split_once {after = after} {after' = decimal s.bytes} 32 front (decimal s.slots) whole (none_is 32 front cut.first)
     (not_in_decimal 32 s.slots small not_digit)
 
 -- a first digit 0 stands alone, where no more digits stand after it

@@ -1,10 +1,9 @@
 -- A certificate is the text of one list of segments, and has no bad line.
-use Rattle.std.proofs.Common.{◌≡◌, ◌≢◌, ◌<◌, ◌≤◌, ◌+◌, ◌^◌, ℕ, zero, suc, true, not, ◌==◌, List, [], ◌∷◌, ◌++◌, All, length, get_or, drop, map, decimal, codes, flat_map, Result, Ok, Err, MatchResult, IfOk, IfErr, inl, inr, arith, refl, sym, ap, subst, ◌∙◌}
-use Rattle.std.specs.List.{list_all}
-use Rattle.std.proofs.lemmas.Bool.{cases_lt, and_parts, not-true, eqb-false}
+use Rattle.std.proofs.Common.{◌≡◌, ◌≢◌, ◌<◌, ◌≤◌, ◌+◌, ◌^◌, ℕ, zero, suc, List, [], ◌∷◌, ◌++◌, All, length, get_or, drop, map, decimal, codes, flat_map, Result, Ok, Err, MatchResult, IfOk, IfErr, inl, inr, arith, refl, sym, ap, subst, ◌∙◌}
+use Rattle.std.proofs.lemmas.Bool.{cases_lt}
 use Rattle.std.proofs.lemmas.Fmt.{decimal_injective}
 use Rattle.std.proofs.lemmas.List.{append_assoc, append_cancel_left, append_cancel_right, length-append, length-map, get_or_append_left, get_or-map, get_or_at}
-use Rattle.std.proofs.lemmas.List.Elements.{All-nil, All-cons, All-head, All-tail, All-append, All-get_or}
+use Rattle.std.proofs.lemmas.List.Elements.{All-head, All-tail, All-append, All-get_or}
 use Rattle.plan_cert.specs.declared.Segment.{Segment}
 use Rattle.plan_cert.specs.declared.reading.CertText.{CertText}
 use Rattle.plan_cert.specs.declared.reading.CertRead.{CertRead}
@@ -13,16 +12,11 @@ use Rattle.plan_cert.specs.Slots.{total_slots, total_bytes}
 use Rattle.plan_cert.specs.Text.{segment_words, segment_line, cert_head}
 use Rattle.plan_cert.specs.Reading.{Lines, lines_of, line_at, MayStand, BreaksAt, IsAfterEnd, AreSmall, IsCertificate, IsBadLine, IsRefused}
 use Rattle.plan_cert.specs.Reading.MayStand.{Title, Slots, Bytes, Piece}
-use Rattle.plan_cert.proofs.Decimals.{not_in_decimal, same_cut}
+use Rattle.vod_base.proofs.FirstBytes.{none_is, split_once}
+use Rattle.plan_cert.proofs.Decimals.{not_in_decimal}
 use Rattle.plan_cert.proofs.Grammar.{lines-cut, head_text}
 
 -- ---- lines without LF
-no_lf_by : (xs : List ℕ) → list_all (λ b. not (b == 10)) xs ≡ true → All (λ b. b ≢ 10) xs
-no_lf_by [] test = All-nil (λ b. b ≢ 10)
-no_lf_by (x ∷ xs) test =
-    let parts = and_parts (not (x == 10)) (list_all (λ b. not (b == 10)) xs) test in
-    All-cons (λ b. b ≢ 10) x xs (eqb-false x 10 (not-true (x == 10) parts.0)) (no_lf_by xs parts.1)
-
 number_clean : (n : ℕ) → n ≤ 2 ^ 42 → All (λ b. b ≢ 10) (decimal n)
 number_clean n small = not_in_decimal 10 n (omega arith) (λ within. omega (arith, within.0))
 
@@ -30,9 +24,9 @@ words_clean : (s : Segment) → s.slots ≤ 2 ^ 42 → s.bytes ≤ 2 ^ 42 → Al
 words_clean s few_slots few_bytes =
     All-append (λ b. b ≢ 10) (codes "segment " ++ decimal s.slots ++ codes " ") (decimal s.bytes)
     (All-append (λ b. b ≢ 10) (codes "segment " ++ decimal s.slots) (codes " ")
-    (All-append (λ b. b ≢ 10) (codes "segment ") (decimal s.slots) (no_lf_by (codes "segment ") refl)
+    (All-append (λ b. b ≢ 10) (codes "segment ") (decimal s.slots) (none_is 10 (codes "segment ") refl)
     (number_clean s.slots few_slots))
-    (no_lf_by (codes " ") refl))
+    (none_is 10 (codes " ") refl))
     (number_clean s.bytes few_bytes)
 
 -- ---- the lines of a certificate
@@ -81,13 +75,13 @@ lines-certificate slots bytes segments small_slots small_bytes small =
     let whole : cert_head slots bytes ++ flat_map segment_line segments ++ codes "end\n" ≡ codes "smooth 1" ++ 10 ∷ second =
     append_assoc (cert_head slots bytes) (flat_map segment_line segments) (codes "end\n") ∙ sym shape in
     let clean_slots =
-    All-append (λ b. b ≢ 10) (codes "slots ") (decimal slots) (no_lf_by (codes "slots ") refl)
+    All-append (λ b. b ≢ 10) (codes "slots ") (decimal slots) (none_is 10 (codes "slots ") refl)
     (number_clean slots small_slots) in
     let clean_bytes =
-    All-append (λ b. b ≢ 10) (codes "bytes ") (decimal bytes) (no_lf_by (codes "bytes ") refl)
+    All-append (λ b. b ≢ 10) (codes "bytes ") (decimal bytes) (none_is 10 (codes "bytes ") refl)
     (number_clean bytes small_bytes) in
     ap lines_of whole
-    ∙ lines-cut (codes "smooth 1") second (no_lf_by (codes "smooth 1") refl)
+    ∙ lines-cut (codes "smooth 1") second (none_is 10 (codes "smooth 1") refl)
     ∙ ap (λ ls. record { whole = codes "smooth 1" ∷ ls.whole; rest = ls.rest })
     (lines-cut (codes "slots " ++ decimal slots) third clean_slots
     ∙ ap (λ ls. record { whole = (codes "slots " ++ decimal slots) ∷ ls.whole; rest = ls.rest })
@@ -107,7 +101,7 @@ same_words s t few few' e =
     (decimal t.slots ++ 32 ∷ decimal t.bytes) (sym (shape s) ∙ e ∙ shape t) in
     let no_space : (n : ℕ) → n ≤ 2 ^ 42 → All (λ b. b ≢ 32) (decimal n) =
     λ (n : ℕ) small. not_in_decimal 32 n (omega arith) (λ within. omega (arith, within.0)) in
-    let parts = same_cut {ws = decimal s.bytes} {bs = decimal t.bytes} 32 (decimal s.slots) (decimal t.slots)
+    let parts = split_once {after = decimal s.bytes} {after' = decimal t.bytes} 32 (decimal s.slots) (decimal t.slots)
     rest (no_space s.slots few.0) (no_space t.slots few'.0) in
     let slots : s.slots ≡ t.slots = decimal_injective s.slots t.slots (omega (arith, few.0)) (omega (arith, few'.0)) parts.0 in
     let bytes : s.bytes ≡ t.bytes = decimal_injective s.bytes t.bytes (omega (arith, few.1)) (omega (arith, few'.1)) parts.1 in

@@ -1,12 +1,13 @@
 -- The lines of a calendar's text: which slots they tell, and what of each.
 use Rattle.std.proofs.Common.{ℕ, zero, suc, ◌+◌, ◌^◌, ◌<◌, ◌≤◌, ◌≡◌, ◌≢◌, not, ◌==◌, nat_lt, Bool, true, false, cond, List, [], ◌∷◌, ◌++◌, All, map, flat_map, get_or, codes, decimal, append_assoc, sym, ap, refl, subst, ◌∙◌, arith, inl, inr}
 use Rattle.std.specs.List.{Contains, list_all, range_with_len}
-use Rattle.std.proofs.lemmas.Bool.{and_parts, cases_lt, eqb-false, lt-ltb, ltb-true, not-true}
+use Rattle.std.proofs.lemmas.Bool.{cases_lt, lt-ltb, ltb-true}
 use Rattle.std.proofs.lemmas.Fmt.{decimal_injective}
 use Rattle.std.proofs.lemmas.List.{append_cancel_left, get_or-map, length-map}
 use Rattle.std.proofs.lemmas.List.Elements.{All-append, All-cons, All-get_or, All-head, All-nil, All-tail, Contains-append_left, Contains-append_right}
 use Rattle.plan_cert.specs.Reading.{Lines, lines_of}
-use Rattle.plan_cert.proofs.Decimals.{not_in_decimal, same_cut}
+use Rattle.vod_base.proofs.FirstBytes.{none_is, split_once}
+use Rattle.plan_cert.proofs.Decimals.{not_in_decimal}
 use Rattle.plan_cert.proofs.Grammar.{lines-cut}
 use Rattle.report.specs.Fields.{field}
 use Rattle.slot_calendar.specs.Totals.{ring_slots}
@@ -16,15 +17,9 @@ use Rattle.report.specs.CalendarTexts.{AreBookings, booked_among, booked_slots, 
 abbrev pub IsClean : List ℕ → Type 0
 IsClean xs = All (λ b. b ≢ 10) xs
 
-pub clean_by : (xs : List ℕ) → list_all (λ b. not (b == 10)) xs ≡ true → IsClean xs
-clean_by [] test = All-nil (λ b. b ≢ 10)
-clean_by (x ∷ xs) test =
-    let parts = and_parts (not (x == 10)) (list_all (λ b. not (b == 10)) xs) test in
-    All-cons (λ b. b ≢ 10) x xs (eqb-false x 10 (not-true (x == 10) parts.0)) (clean_by xs parts.1)
-
 pub clean_field : (label : List ℕ) (n : ℕ) → list_all (λ b. not (b == 10)) label ≡ true → n < 2 ^ 64 → IsClean (field label n)
 clean_field label n test small =
-    All-append (λ b. b ≢ 10) label (decimal n) (clean_by label test)
+    All-append (λ b. b ≢ 10) label (decimal n) (none_is 10 label test)
     (not_in_decimal 10 n small (λ within. omega (arith, within.0)))
 
 clean_words : (slot booked : ℕ) → slot < 2 ^ 64 → booked < 2 ^ 64 → IsClean (slot_words slot booked)
@@ -132,7 +127,7 @@ same_words {s} {b} {t} {c} small few small' few' e =
     (decimal t ++ 32 ∷ (codes "booked=" ++ decimal c)) (sym (shape s b) ∙ e ∙ shape t c) in
     let no_space : (n : ℕ) → n < 2 ^ 64 → All (λ b. b ≢ 32) (decimal n) =
     λ (n : ℕ) small. not_in_decimal 32 n small (λ within. omega (arith, within.0)) in
-    let parts = same_cut {ws = codes "booked=" ++ decimal b} {bs = codes "booked=" ++ decimal c} 32 (decimal s) (decimal t) rest
+    let parts = split_once {after = codes "booked=" ++ decimal b} {after' = codes "booked=" ++ decimal c} 32 (decimal s) (decimal t) rest
     (no_space s small) (no_space t small') in (
       decimal_injective s t small small' parts.0,
       decimal_injective b c few few' (append_cancel_left (codes "booked=") (decimal b) (decimal c) parts.1),

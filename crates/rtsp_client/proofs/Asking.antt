@@ -14,7 +14,7 @@ use Rattle.vod_base.specs.Names.{is_name_byte}
 use Rattle.rtsp_text.specs.Grammar.{is_token, is_url_byte, is_value_byte, IsUrl, IsRtspUrl}
 use Rattle.rtsp_text.specs.Replies.{Field, value_named}
 use Rattle.rtsp_text.specs.Spelled.{Parts, request_head, request_text, IsHeaderField, AreFront, AreRequest, AreShort}
-use Rattle.rtsp_text.proofs.OneLines.{decimal_numerals}
+use Rattle.vod_base.proofs.Digits.{decimal_numerals}
 use Rattle.rtsp_text.proofs.WordTexts.{word_of, value_of}
 use Rattle.rtsp_text.proofs.SpelledTexts.{request_found, request_of, values_of}
 use Rattle.rtsp_text.proofs.Inside.{all-append}

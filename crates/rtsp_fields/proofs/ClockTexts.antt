@@ -7,7 +7,7 @@ use Rattle.std.proofs.lemmas.Bool.{and_parts, and_from, lt-ltb}
 use Rattle.std.proofs.lemmas.Fmt.{digits_decimal, digits_value-decimal, decimal_nonempty, length-decimal-le}
 use Rattle.std.proofs.lemmas.List.{append_assoc, take_at, drop_at, take_all, length-append, get_or_append_left, get_or-append-add}
 use Rattle.std.proofs.lemmas.List.Folds.{list_all_at, list_all-append}
-use Rattle.rtsp_text.proofs.OneLines.{decimal_numerals}
+use Rattle.vod_base.proofs.Digits.{decimal_numerals}
 use Rattle.rtsp_fields.specs.Pieces.{IsEnd}
 use Rattle.rtsp_fields.specs.Times.{IsClock, IsDigits, IsTime}
 

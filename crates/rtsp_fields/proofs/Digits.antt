@@ -14,7 +14,7 @@ use Rattle.vod_base.specs.Numbers.{is_decimal, number_of}
 use Rattle.rtsp_fields.specs.Times.{IsDigits, IsFraction}
 use Rattle.rtsp_text.proofs.Inside.{all-take}
 use Rattle.rtsp_text.proofs.Numbers.{number_read}
-use Rattle.rtsp_text.proofs.OneLines.{decimal_numerals}
+use Rattle.vod_base.proofs.Digits.{decimal_numerals}
 
 -- at most nine digits are below 10^9
 pub below_billion : (text : List ℕ) → is_decimal text ≡ true → length text ≤ 9 → digits_value 10 text < 10 ^ 9

@@ -18,7 +18,7 @@ use Rattle.rtsp_fields.specs.declared.ranges.Origin.TheVariants.{Now, At}
 use Rattle.rtsp_fields.specs.declared.ranges.Span.{Span}
 use Rattle.std.proofs.lemmas.List.{length-take, take-take, get_or-take}
 use Rattle.std.proofs.Math.Nat.{min-le_left}
-use Rattle.rtsp_text.proofs.OneLines.{decimal_numerals}
+use Rattle.vod_base.proofs.Digits.{decimal_numerals}
 use Rattle.rtsp_text.proofs.Numbers.{number_read}
 use Rattle.rtsp_fields.proofs.Places.{end_once, first_once}
 use Rattle.rtsp_fields.proofs.Parts.{IsPairAt, pair_at, within_once}

@@ -9,7 +9,8 @@ use Rattle.std.proofs.lemmas.Fmt.{decimal_digit, digits_decimal, digits_value-de
 use Rattle.std.proofs.lemmas.List.{append_assoc, take_at, drop_at, take_all, length-append, get_or_append_left, get_or-append_right}
 use Rattle.std.proofs.lemmas.List.Folds.{list_all_at}
 use Rattle.rtsp_text.specs.Lines.{is_one_line}
-use Rattle.rtsp_text.proofs.OneLines.{one_line-append, one_line-decimal, decimal_numerals}
+use Rattle.vod_base.proofs.Digits.{decimal_numerals}
+use Rattle.rtsp_text.proofs.OneLines.{one_line-append, one_line-decimal}
 use Rattle.rtsp_fields.specs.Descriptions.{seconds_text}
 use Rattle.rtsp_fields.specs.Times.{IsDigits, IsFraction, IsTime}
 

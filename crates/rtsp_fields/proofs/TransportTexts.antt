@@ -11,7 +11,7 @@ use Rattle.std.proofs.lemmas.List.Folds.{list_all_at, list_all-append}
 use Rattle.vod_base.specs.Blanks.{is_blank, without_front_blanks, without_blanks}
 use Rattle.vod_base.proofs.Written.{written_read}
 use Rattle.vod_base.proofs.Digits.{is_digit_at}
-use Rattle.rtsp_text.proofs.OneLines.{decimal_numerals}
+use Rattle.vod_base.proofs.Digits.{decimal_numerals}
 use Rattle.rtsp_fields.specs.Pieces.{HasNone, IsStart, IsEnd, IsPiece, NoPiece, NoneBefore, Begins, lower}
 use Rattle.rtsp_fields.specs.Transports.{IsPair, AreChannels, IsOther, NamesChannels, AreNamed, IsTaken, IsTransport, word, after_name}
 use Rattle.rtsp_fields.specs.Values.{WritesNumber}

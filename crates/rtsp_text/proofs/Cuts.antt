@@ -4,6 +4,7 @@ use Rattle.std.specs.List.{list_all}
 use Rattle.std.proofs.lemmas.Bool.{and_from, and_parts, both_ways}
 use Rattle.std.proofs.lemmas.List.Folds.{list_all-append}
 use Rattle.vod_base.specs.Splits.{IsSplitAtFirst}
+use Rattle.vod_base.proofs.FirstBytes.{none_is, split_once}
 
 pub is_other : (x c : ℕ) → not (x == c) ≡ true → x ≢ c
 is_other x c h e = both_ways (not (x == c)) (ap not (eq-eqb x c e)) h
@@ -23,26 +24,13 @@ pub record AreSame (a b c d : List ℕ) : Type 0 where
   pub front : a ≡ b
   pub after : c ≡ d
 
-parts_once : {a b a' b' : List ℕ} (c : ℕ) → list_all (λ b. not (b == c)) a ≡ true
-    → list_all (λ b. not (b == c)) a' ≡ true → a ++ c ∷ b ≡ a' ++ c ∷ b' → AreSame a a' b b'
-parts_once {a = []} {b} {a' = []} {b'} c h h' e = record { front = refl; after = let s : c ∷ b ≡ c ∷ b' = e in cc }
-parts_once {a = []} {b} {a' = x ∷ a'} {b'} c h h' e =
-    absurd (is_other x c (and_parts (not (x == c)) (list_all (λ b. not (b == c)) a') h').0
-    (let s : c ∷ b ≡ x ∷ (a' ++ c ∷ b') = e in cc))
-parts_once {a = x ∷ a} {b} {a' = []} {b'} c h h' e =
-    absurd (is_other x c (and_parts (not (x == c)) (list_all (λ b. not (b == c)) a) h).0
-    (let s : x ∷ (a ++ c ∷ b) ≡ c ∷ b' = e in cc))
-parts_once {a = x ∷ a} {b} {a' = y ∷ a'} {b'} c h h' e =
-    let s : x ∷ (a ++ c ∷ b) ≡ y ∷ (a' ++ c ∷ b') = e in
-    let rest = parts_once {a = a} {b = b} {a' = a'} {b' = b'} c
-    (and_parts (not (x == c)) (list_all (λ b. not (b == c)) a) h).1
-    (and_parts (not (y == c)) (list_all (λ b. not (b == c)) a') h').1 (let t : a ++ c ∷ b ≡ a' ++ c ∷ b' = cc in t) in
-    record { front = (let f = rest.front in cc); after = rest.after }
-
 -- a text is cut in one way
 pub cut_once : {c : ℕ} {text front after a b : List ℕ} → IsSplitAtFirst c text front after → text ≡ a ++ c ∷ b
     → list_all (λ b. not (b == c)) a ≡ true → AreSame front a after b
-cut_once {c} {text} {a} cut e none = parts_once c cut.first none (sym cut.parts ∙ e)
+cut_once {c} {text} {front} {after} {a} {b} cut e none =
+    let parts = split_once {after = after} {after' = b} c front a (sym cut.parts ∙ e)
+    (none_is c front cut.first) (none_is c a none) in
+    record { front = parts.0; after = parts.1 }
 
 -- bytes of another kind
 pub all_other : (q : ℕ → Bool) (c : ℕ) → q c ≡ false → (text : List ℕ) → list_all q text ≡ true

@@ -1,12 +1,11 @@
 -- Texts without LF, which the value of a field may have: for the crates above as well.
-use Rattle.std.proofs.Common.{◌≡◌, ℕ, ◌<◌, ◌^◌, ◌&&◌, ◌==◌, true, false, not, nat_lt, nat_le, List, ◌++◌, length, get_or, decimal, rules, refl, Bool}
+use Rattle.std.proofs.Common.{◌≡◌, ℕ, ◌<◌, ◌^◌, ◌&&◌, ◌==◌, true, false, not, nat_lt, nat_le, List, ◌++◌, length, get_or, decimal, refl, Bool}
 use Rattle.std.specs.List.{list_all}
 use Rattle.std.specs.Char.{is_ascii_digit}
-use Rattle.std.specs.Str.Parse.{digits_value}
 use Rattle.std.proofs.lemmas.Bool.{and_parts}
 use Rattle.std.proofs.lemmas.Fmt.{digits_decimal}
-use Rattle.std.proofs.lemmas.Str.Parse.{IsNumeralModel, numerals_by_value}
 use Rattle.vod_base.specs.Names.{is_good_name, is_name_byte}
+use Rattle.vod_base.proofs.Digits.{decimal_numerals}
 use Rattle.rtsp_text.specs.Lines.{is_one_line}
 use Rattle.rtsp_text.specs.Grammar.{is_url_byte}
 use Rattle.rtsp_text.proofs.Cuts.{all_other}
@@ -27,10 +26,6 @@ one_line-name name good =
     one_line_from is_name_byte refl name
     (and_parts (nat_lt 0 (length name) && nat_le (length name) 64 && not (get_or name 0 0 == 46))
     (list_all is_name_byte name) good).1
-
--- digits are numerals in base 10
-pub decimal_numerals : IsNumeralModel (λ ds. list_all is_ascii_digit ds ≡ true) (digits_value 10)
-decimal_numerals = numerals_by_value (λ ds. list_all is_ascii_digit ds ≡ true) (search rules)
 
 pub one_line-decimal : (n : ℕ) → n < 2 ^ 64 → is_one_line (decimal n) ≡ true
 one_line-decimal n small = one_line_from is_ascii_digit refl (decimal n) (digits_decimal decimal_numerals n small)

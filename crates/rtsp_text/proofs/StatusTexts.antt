@@ -13,7 +13,7 @@ use Rattle.interleave.proofs.Unique.{head_once}
 use Rattle.rtsp_text.specs.StatusLines.{IsCode, IsStatusLine, IsReply}
 use Rattle.rtsp_text.proofs.Cuts.{cut_once, cut_none, all_other}
 use Rattle.rtsp_text.proofs.Numbers.{number_read}
-use Rattle.rtsp_text.proofs.OneLines.{decimal_numerals}
+use Rattle.vod_base.proofs.Digits.{decimal_numerals}
 
 code_small : (text : List ℕ) → length text ≡ 3 → is_decimal text ≡ true → digits_value 10 text < 10 ^ 3
 code_small text three decimal =

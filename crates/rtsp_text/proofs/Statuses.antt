@@ -9,7 +9,8 @@ use Rattle.std.proofs.lemmas.Fmt.{decimal_digit, decimal_step, decimal_nonempty,
 use Rattle.rtsp_text.specs.Lines.{is_one_line}
 use Rattle.rtsp_text.specs.Replies.{statuses, has_code, phrase_among, is_code, reason}
 use Rattle.rtsp_text.specs.StatusLines.{IsCode, IsStatusLine}
-use Rattle.rtsp_text.proofs.OneLines.{decimal_numerals, one_line-append, one_line-decimal}
+use Rattle.vod_base.proofs.Digits.{decimal_numerals}
+use Rattle.rtsp_text.proofs.OneLines.{one_line-append, one_line-decimal}
 use Rattle.rtsp_text.proofs.LineTexts.{IsLineText}
 
 -- what a code's status line needs

@@ -19,7 +19,7 @@ use Rattle.rtsp_fields.specs.Times.{IsTime}
 use Rattle.rtsp_fields.specs.Urls.{IsRead, IsTail, NamesFilm}
 use Rattle.rtsp_fields.specs.declared.ranges.Origin.TheVariants.{At}
 use Rattle.rtsp_fields.proofs.Described.{description_is}
-use Rattle.rtsp_text.proofs.OneLines.{decimal_numerals}
+use Rattle.vod_base.proofs.Digits.{decimal_numerals}
 use Rattle.rtsp_fields.proofs.Paths.{film_path}
 use Rattle.rtsp_fields.proofs.SecondsTexts.{seconds_read}
 use Rattle.rtsp_text.specs.Grammar.{is_url_byte}

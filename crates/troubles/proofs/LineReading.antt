@@ -14,7 +14,8 @@ use Rattle.troubles.specs.declared.faults.Fault.{Fault}
 use Rattle.troubles.specs.declared.faults.Trouble.{Trouble}
 use Rattle.troubles.specs.declared.faults.Trouble.TheVariants.{Usage, Refused, StoreFault, SinkFault, NoMemory, GateFault, LinkFault}
 use Rattle.troubles.proofs.FaultReading.{fault_from, is_plain, each_is_known}
-use Rattle.troubles.proofs.WordLemmas.{HasNo, none_by, none_in_numbers, numbers_back, numbers_of, split, split_at, split_none, split_words}
+use Rattle.vod_base.proofs.FirstBytes.{none_is}
+use Rattle.troubles.proofs.WordLemmas.{HasNo, none_in_numbers, numbers_back, numbers_of, split, split_at, split_none, split_words}
 
 -- ---- how a line is read
 abbrev first_part : List (List ℕ) → List ℕ
@@ -103,7 +104,7 @@ named_read name said good colon end =
     let after = 32 ∷ (said ++ codes "\n") in
     let clean : HasNo 58 after =
     All-cons (λ b. b ≢ 58) 32 (said ++ codes "\n") (λ e. omega (arith, e))
-    (All-append (λ b. b ≢ 58) said (codes "\n") colon (none_by 58 (codes "\n") refl)) in
+    (All-append (λ b. b ≢ 58) said (codes "\n") colon (none_is 58 (codes "\n") refl)) in
     let line : HasNo 10 (32 ∷ said) = All-cons (λ b. b ≢ 10) 32 said (λ e. omega (arith, e)) end in
     ap message_from (split_at 58 name after refl (name_has_no 58 name refl good))
     ∙ ap (λ (parts : List (List ℕ)). message_from (name ∷ parts)) (split_none 58 after clean)
@@ -127,7 +128,7 @@ line_back (Refused name fault) may =
     ∙ ap (of_input name.now) (fault_back fault may.1)
 line_back (StoreFault name) may =
     ap read_line (append_assoc (codes "vodserve: ") name.now (codes ": StoreFault\n"))
-    ∙ named_read name.now (codes "StoreFault") may (none_by 58 (codes "StoreFault") refl) (none_by 10 (codes "StoreFault") refl)
+    ∙ named_read name.now (codes "StoreFault") may (none_is 58 (codes "StoreFault") refl) (none_is 10 (codes "StoreFault") refl)
 line_back SinkFault may = refl
 line_back NoMemory may = refl
 line_back GateFault may = refl
@@ -139,7 +140,7 @@ message_told trouble trouble' may may' same = sym (line_back trouble may) ∙ ap
 
 -- ---- each is one line
 lone_line : (word : List ℕ) → list_all (λ b. not (b == 10)) word ≡ true → IsOwnLine (codes "vodserve: " ++ (word ++ codes "\n"))
-lone_line word clean = record { rest = word; text_is = refl; one_line = none_by 10 word clean }
+lone_line word clean = record { rest = word; text_is = refl; one_line = none_is 10 word clean }
 
 named_line : (name said : List ℕ) → is_good_name name ≡ true → HasNo 10 said
     → IsOwnLine (codes "vodserve: " ++ name ++ codes ": " ++ said ++ codes "\n")
@@ -147,7 +148,7 @@ named_line name said good no_end = record {
   rest = name ++ (codes ": " ++ said);
   text_is = simp append_assoc;
   one_line = All-append (λ b. b ≢ 10) name (codes ": " ++ said) (name_has_no 10 name refl good)
-      (All-append (λ b. b ≢ 10) (codes ": ") said (none_by 10 (codes ": ") refl) no_end);
+      (All-append (λ b. b ≢ 10) (codes ": ") said (none_is 10 (codes ": ") refl) no_end);
 }
 
 pub own_line : (trouble : Trouble) → MayBeSaid trouble → IsOwnLine (trouble_text trouble)
@@ -157,7 +158,7 @@ own_line (StoreFault name) may = record {
   rest = name.now ++ codes ": StoreFault";
   text_is = simp append_assoc;
   one_line = All-append (λ b. b ≢ 10) name.now (codes ": StoreFault") (name_has_no 10 name.now refl may)
-      (none_by 10 (codes ": StoreFault") refl);
+      (none_is 10 (codes ": StoreFault") refl);
 }
 own_line SinkFault may = lone_line (codes "SinkFault") refl
 own_line NoMemory may = lone_line (codes "NoMemory") refl

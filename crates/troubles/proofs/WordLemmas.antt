@@ -1,7 +1,7 @@
 -- Words and numbers with a blank between two are told apart.
-use Rattle.std.proofs.Common.{◌≡◌, ◌≢◌, ℕ, ◌<◌, ◌^◌, not, ◌==◌, true, false, List, [], ◌∷◌, ◌++◌, All, map, flat_map, Option, Some, None, decimal, refl, ap, ◌∙◌, arith}
-use Rattle.std.specs.List.{list_all, slice_split}
-use Rattle.std.proofs.lemmas.Bool.{and_parts, eqb-false, ne_eqb, not-true}
+use Rattle.std.proofs.Common.{◌≡◌, ◌≢◌, ℕ, ◌<◌, ◌^◌, ◌==◌, true, false, List, [], ◌∷◌, ◌++◌, All, map, flat_map, Option, Some, None, decimal, refl, ap, ◌∙◌, arith}
+use Rattle.std.specs.List.{slice_split}
+use Rattle.std.proofs.lemmas.Bool.{ne_eqb}
 use Rattle.std.proofs.lemmas.List.{append-nil}
 use Rattle.std.proofs.lemmas.List.Elements.{All-append, All-cons, All-head, All-nil, All-tail, All-weaker}
 use Rattle.std.proofs.lemmas.List.Splits.{slice_split_at, slice_split_none}
@@ -13,13 +13,6 @@ use Rattle.troubles.specs.Said.{number_text}
 -- a text without this byte
 abbrev pub HasNo : ℕ → List ℕ → Type 0
 HasNo c text = All (λ b. b ≢ c) text
-
--- by a test of each byte
-pub none_by : (c : ℕ) (text : List ℕ) → list_all (λ b. not (b == c)) text ≡ true → HasNo c text
-none_by c [] test = All-nil (λ b. b ≢ c)
-none_by c (b ∷ text) test =
-    let parts = and_parts (not (b == c)) (list_all (λ x. not (x == c)) text) test in
-    All-cons (λ x. x ≢ c) b text (eqb-false b c (not-true (b == c) parts.0)) (none_by c text parts.1)
 
 -- the parts of a text between bytes
 abbrev pub split : ℕ → List ℕ → List (List ℕ)

@@ -1,7 +1,7 @@
 -- What the words on numbers, names and blanks come to.
 use Rattle.std.proofs.Common.{◌≡◌, ◌≢◌, ◌<◌, ◌≤◌, ◌-◌, ◌^◌, ◌&&◌, ◌==◌, if◌then◌else◌, ℕ, zero, suc, Bool, true, false, not}
 use Rattle.std.proofs.Common.{List, [], ◌∷◌, ◌++◌, length, slice_index, decimal, replicate, reverse, get_or}
-use Rattle.std.proofs.Common.{Some, None, nat_lt, nat_le, inl, inr, arith, rules, refl, sym, ap, subst, ◌∙◌, lt-ltb, ltb-true}
+use Rattle.std.proofs.Common.{Some, None, nat_lt, nat_le, inl, inr, arith, refl, sym, ap, subst, ◌∙◌, lt-ltb, ltb-true}
 use Rattle.std.specs.List.{list_all}
 use Rattle.std.specs.Char.{is_ascii_digit}
 use Rattle.std.specs.Str.Parse.{digits_value}
@@ -10,17 +10,13 @@ use Rattle.std.proofs.lemmas.Option.{none-some, same_Some}
 use Rattle.std.proofs.lemmas.List.{append_assoc, reverse-append, reverse-reverse, length-reverse, get_or-reverse, get_or_append_left, length-append}
 use Rattle.std.proofs.lemmas.List.Folds.{list_all-append, list_all_at}
 use Rattle.std.proofs.lemmas.Fmt.{digits_decimal, digits_value-decimal, decimal_nonempty, decimal-digits_value}
-use Rattle.std.proofs.lemmas.Str.Parse.{IsNumeralModel, numerals_by_value}
 use Rattle.std.proofs.lemmas.Grind.{common_steps}
 use Rattle.vod_base.specs.Blanks.{is_blank, without_front_blanks, without_blanks, IsTrimmed}
 use Rattle.vod_base.specs.Names.{is_name_byte, is_good_name, IsPlainFileName}
 use Rattle.vod_base.specs.Numbers.{is_decimal, number_of}
+use Rattle.vod_base.proofs.Digits.{decimal_numerals}
 
 -- ---- numbers
-
--- digits are numerals by their value
-pub own : IsNumeralModel (λ ds. list_all is_ascii_digit ds ≡ true) (digits_value 10)
-own = numerals_by_value (λ ds. list_all is_ascii_digit ds ≡ true) (search rules)
 
 abbrev fits : List ℕ → Bool
 fits text = is_decimal text && nat_lt (digits_value 10 text) (2 ^ 64)
@@ -28,8 +24,8 @@ fits text = is_decimal text && nat_lt (digits_value 10 text) (2 ^ 64)
 -- the decimal text of a number is read as it
 pub decimal_read : (n : ℕ) → n < 2 ^ 64 → number_of (decimal n) ≡ Some n
 decimal_read n small =
-    let all : list_all is_ascii_digit (decimal n) ≡ true = digits_decimal own n small in
-    let value : digits_value 10 (decimal n) ≡ n = digits_value-decimal own n small in
+    let all : list_all is_ascii_digit (decimal n) ≡ true = digits_decimal decimal_numerals n small in
+    let value : digits_value 10 (decimal n) ≡ n = digits_value-decimal decimal_numerals n small in
     let some : nat_lt 0 (length (decimal n)) ≡ true = lt-ltb 0 (length (decimal n)) (decimal_nonempty n small) in
     let below : nat_lt (digits_value 10 (decimal n)) (2 ^ 64) ≡ true =
     lt-ltb (digits_value 10 (decimal n)) (2 ^ 64) (omega (arith, value, small)) in
@@ -48,7 +44,7 @@ read_decimal ds n read lead =
           let parts = and_parts (is_decimal ds) (nat_lt (digits_value 10 ds) (2 ^ 64)) good in
           let digits = and_parts (nat_lt 0 (length ds)) (list_all is_ascii_digit ds) parts.0 in
           let whole : decimal (digits_value 10 ds) ≡ ds =
-          decimal-digits_value own ds digits.1 (ltb-true 0 (length ds) digits.0) lead
+          decimal-digits_value decimal_numerals ds digits.1 (ltb-true 0 (length ds) digits.0) lead
           (ltb-true (digits_value 10 ds) (2 ^ 64) parts.1) in
           sym whole ∙ ap decimal same
           )

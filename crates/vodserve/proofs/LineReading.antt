@@ -10,7 +10,7 @@ use Rattle.rtsp_client.specs.Moments.{History}
 use Rattle.rtsp_client.specs.declared.wishes.Watched.{Watched}
 use Rattle.rtsp_client.specs.declared.wishes.Wish.{Wish}
 use Rattle.troubles.specs.Said.{with_label}
-use Rattle.troubles.proofs.WordLemmas.{none_by}
+use Rattle.vod_base.proofs.FirstBytes.{none_is}
 use Rattle.local_commands.specs.TextLaws.{GivesOnce, words_in}
 use Rattle.vodserve.specs.TextLaws.{TellsPlay, TellsServed}
 use Rattle.vodserve.specs.Served.{served_text}
@@ -48,24 +48,24 @@ watched-words : (w : Watched) → IsShortWatched w → All (λ s. IsWord (word_o
 unfolding settings_of AreWords
 watched-words w short =
     all-words (settings_of w) (
-      number-word (codes "units") w.units short.units_short (none_by 32 (codes "units") refl) (none_by 10 (codes "units") refl),
+      number-word (codes "units") w.units short.units_short (none_is 32 (codes "units") refl) (none_is 10 (codes "units") refl),
       (
-        number-word (codes "bytes") w.bytes short.bytes_short (none_by 32 (codes "bytes") refl) (none_by 10 (codes "bytes") refl),
+        number-word (codes "bytes") w.bytes short.bytes_short (none_is 32 (codes "bytes") refl) (none_is 10 (codes "bytes") refl),
         (
-          number-word (codes "frames") w.frames short.frames_short (none_by 32 (codes "frames") refl)
-              (none_by 10 (codes "frames") refl),
+          number-word (codes "frames") w.frames short.frames_short (none_is 32 (codes "frames") refl)
+              (none_is 10 (codes "frames") refl),
           (
-            number-word (codes "reports") w.reports short.reports_short (none_by 32 (codes "reports") refl)
-                (none_by 10 (codes "reports") refl),
+            number-word (codes "reports") w.reports short.reports_short (none_is 32 (codes "reports") refl)
+                (none_is 10 (codes "reports") refl),
             (
-              number-word (codes "most") w.most short.most_short (none_by 32 (codes "most") refl)
-                  (none_by 10 (codes "most") refl),
+              number-word (codes "most") w.most short.most_short (none_is 32 (codes "most") refl)
+                  (none_is 10 (codes "most") refl),
               (
-                number-word (codes "over") w.over short.over_short (none_by 32 (codes "over") refl)
-                    (none_by 10 (codes "over") refl),
+                number-word (codes "over") w.over short.over_short (none_is 32 (codes "over") refl)
+                    (none_is 10 (codes "over") refl),
                 (
-                  number-word (codes "under") w.under short.under_short (none_by 32 (codes "under") refl)
-                      (none_by 10 (codes "under") refl),
+                  number-word (codes "under") w.under short.under_short (none_is 32 (codes "under") refl)
+                      (none_is 10 (codes "under") refl),
                   tt,
                 ),
               ),
@@ -83,7 +83,7 @@ told {w} key number short none given plain =
     ∙ line-values {key = key} {first =
     codes "watched"} (record { end = _; words = _; ends = ended }) (settings_of w) (watched-words w short)
     (record {
-      word = is-word (codes "watched") (none_by 32 (codes "watched") refl) (none_by 10 (codes "watched") refl);
+      word = is-word (codes "watched") (none_is 32 (codes "watched") refl) (none_is 10 (codes "watched") refl);
       none = none;
     }) refl plain ∙ given
 
@@ -111,9 +111,9 @@ counts-words : (connections entries : ℕ) → connections < 2 ^ 64 → entries 
 unfolding counts_of AreWords
 counts-words connections entries small small' =
     all-words (counts_of connections entries) (
-      number-word (codes "connections") connections small (none_by 32 (codes "connections") refl)
-          (none_by 10 (codes "connections") refl),
-      (number-word (codes "entries") entries small' (none_by 32 (codes "entries") refl) (none_by 10 (codes "entries") refl), tt),
+      number-word (codes "connections") connections small (none_is 32 (codes "connections") refl)
+          (none_is 10 (codes "connections") refl),
+      (number-word (codes "entries") entries small' (none_is 32 (codes "entries") refl) (none_is 10 (codes "entries") refl), tt),
     )
 
 -- the two counts of a served line, in their range
@@ -136,8 +136,8 @@ counted counts key number none given plain =
     ∙ line-values {key = key} {first =
     codes "served"} (record { end = _; words = _; ends = unended }) (counts_of connections entries)
     (counts-words connections entries small small') (record {
-      word = is-word (codes "served") (none_by 32 (codes "served") refl)
-          (none_by 10 (codes "served") refl);
+      word = is-word (codes "served") (none_is 32 (codes "served") refl)
+          (none_is 10 (codes "served") refl);
       none = none;
     }) refl plain
     ∙ given

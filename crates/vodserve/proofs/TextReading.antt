@@ -8,7 +8,8 @@ use Rattle.admission.specs.Machine.{booked_in}
 use Rattle.admission.specs.Histories.{state_after}
 use Rattle.report.specs.CalendarTexts.{booked_slots, first_words, slot_line}
 use Rattle.plan_cert.proofs.Decimals.{not_in_decimal}
-use Rattle.troubles.proofs.WordLemmas.{HasNo, none_by}
+use Rattle.vod_base.proofs.FirstBytes.{none_is}
+use Rattle.troubles.proofs.WordLemmas.{HasNo}
 use Rattle.report.specs.JournalTexts.{journal_text}
 use Rattle.vodserve.specs.Served.{served_text}
 use Rattle.local_commands.proofs.FieldLemmas.{field_cut, last_cut}
@@ -37,9 +38,9 @@ last_clean connections entries small small' =
     let digits : (n : ℕ) → n < 2 ^ 64 → HasNo 10 (decimal n) =
     λ (n : ℕ) few. not_in_decimal 10 n few (λ within. omega (arith, within.0)) in
     All-append (λ b. b ≢ 10) (codes "served connections=")
-    (decimal connections ++ 32 ∷ (codes "entries=" ++ decimal entries)) (none_by 10 (codes "served connections=") refl)
+    (decimal connections ++ 32 ∷ (codes "entries=" ++ decimal entries)) (none_is 10 (codes "served connections=") refl)
     (All-append (λ b. b ≢ 10) (decimal connections) (32 ∷ (codes "entries=" ++ decimal entries)) (digits connections small)
-    (All-append (λ b. b ≢ 10) (codes " entries=") (decimal entries) (none_by 10 (codes " entries=") refl)
+    (All-append (λ b. b ≢ 10) (codes " entries=") (decimal entries) (none_is 10 (codes " entries=") refl)
     (digits entries small')))
 
 -- the counts of a served line, in their range
