@@ -1,5 +1,5 @@
 -- The bounds of an accepted film: its rate code, its bytes and its units.
-use Rattle.std.proofs.Common.{ℕ, zero, suc, Bool, true, false, cond, eqb, ltb, ◌&&◌, ◌||◌, not, ◌+◌, ◌-◌, ◌^◌, ◌≤◌, ◌≡◌, List, [], ◌∷◌, Option, Some, None, length, sym, ◌∙◌, ap, refl, subst, arith}
+use Rattle.std.proofs.Common.{ℕ, Bool, true, false, cond, eqb, ltb, ◌&&◌, ◌||◌, not, ◌+◌, ◌-◌, ◌^◌, ◌≤◌, ◌≡◌, List, [], ◌∷◌, Option, Some, None, length, sym, ◌∙◌, ap, refl, subst, arith}
 use Rattle.std.proofs.lemmas.Bool.{true≢false, or_parts, eq-eqb, ne_eqb, ltb-false}
 use Rattle.mpeg_scan.specs.declared.codes.Code.{Code}
 use Rattle.mpeg_scan.specs.declared.faults.FilmFault.{FilmFault}
@@ -11,7 +11,7 @@ use Rattle.mpeg_scan.specs.Calls.{Call, head_call, slice_call, unit_call}
 use Rattle.mpeg_scan.specs.Counts.{Count, group_of, counts_after, no_count}
 use Rattle.mpeg_scan.specs.Films.{units_in, refusal, told_of}
 use Rattle.mpeg_scan.proofs.FilmLemmas.{length-read}
-use Rattle.mpeg_scan.proofs.StepLemmas.{accepted-older, otherwise-first, otherwise-second, pictures-bound}
+use Rattle.mpeg_scan.proofs.StepLemmas.{accepted-older, otherwise-first, otherwise-second, pictures-bound, positive}
 use Rattle.mpeg_scan.proofs.TileLemmas.{accepted-whole, ended-none, first-is}
 use Rattle.mpeg_scan.proofs.CountLemmas.{film-count}
 
@@ -25,10 +25,6 @@ pub some-cond-none : (b : Bool) (f : FilmFault) (rest : Option FilmFault) → co
     → (b ≡ false) × (rest ≡ None)
 some-cond-none true f rest e = absurd (cc)
 some-cond-none false f rest e = (refl, e)
-
-positive : (n : ℕ) → eqb n 0 ≡ false → 1 ≤ n
-positive zero e = absurd (true≢false e)
-positive (suc n) e = omega arith
 
 judged-rate : (c : Code) → rate_fault 0 c ≡ None → IsRate (rate_code c)
 judged-rate c e =

@@ -11,8 +11,8 @@ use Rattle.mpeg_scan.specs.Calls.{Call, head_call, slice_call, calls_at, kind_of
 use Rattle.mpeg_scan.specs.Films.{units_in}
 use Rattle.mpeg_scan.specs.Places.{HasCode}
 use Rattle.mpeg_scan.specs.Standard.{Counts, HasPicture, IsFirstCode, IsHeadKind, IsSliceKind, NoneIn, StandsIn, StandsThere, UnitIs}
-use Rattle.mpeg_scan.proofs.StepLemmas.{accepted-older, code-accepted, otherwise-second}
-use Rattle.mpeg_scan.proofs.TileLemmas.{After, Spaced, Told, all-below, ended-none, first-is, first_slice-accepted, raw_calls, slice-apart, told-cons, told-nil, told_at}
+use Rattle.mpeg_scan.proofs.StepLemmas.{accepted-older, code-accepted, otherwise-second, told-cons}
+use Rattle.mpeg_scan.proofs.TileLemmas.{After, Spaced, Told, all-below, ended-none, first-is, first_slice-accepted, raw_calls, slice-apart, told-nil, told_at}
 use Rattle.mpeg_scan.proofs.CountLemmas.{empty-count, first-some, second-accepted, second-none}
 use Rattle.mpeg_scan.proofs.FilmLemmas.{units_in-append}
 use Rattle.mpeg_scan.proofs.OpenLemmas.{Below, Firsts, Member, Open, Pictured, first-code, kinds-of, member-has, step-open}

@@ -11,8 +11,8 @@ use Rattle.mpeg_scan.specs.Words.{is_head, is_slice, tally_of, slices_of, all_sl
 use Rattle.mpeg_scan.specs.Faults.{first_refusal, kind_fault, second_fault, first_slice_fault, count_fault, code_fault, head_fault, left_without_slices, first_fault, end_fault, last_fault, latest_fault, refusal_of}
 use Rattle.mpeg_scan.specs.Calls.{Call, head_call, slice_call, unit_call, unit_at, unit_end, calls_at, calls_of, all_calls}
 use Rattle.mpeg_scan.specs.Counts.{Count, group_of, next_count, counts_after, no_count, AreNumbered}
-use Rattle.mpeg_scan.proofs.TileLemmas.{Told, raw_calls, told_at, slice-apart, first_slice-accepted, first-is, told-cons, told-nil, ended-none, accepted-whole}
-use Rattle.mpeg_scan.proofs.StepLemmas.{accepted-older, code-accepted, otherwise-first, otherwise-second}
+use Rattle.mpeg_scan.proofs.TileLemmas.{Told, raw_calls, told_at, slice-apart, first_slice-accepted, first-is, told-nil, ended-none, accepted-whole}
+use Rattle.mpeg_scan.proofs.StepLemmas.{accepted-older, code-accepted, otherwise-first, otherwise-second, told-cons}
 
 -- what a count has to do with the pictures, slices and groups of the codes: `has` says that the latest
 -- unit has its picture, n are its slices

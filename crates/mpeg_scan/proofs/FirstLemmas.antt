@@ -13,8 +13,8 @@ use Rattle.mpeg_scan.specs.Tiles.{first_of}
 use Rattle.mpeg_scan.specs.Places.{HasCode, StandsAt}
 use Rattle.mpeg_scan.specs.Standard.{AnyKind, IsFirstCode, StandsThere}
 use Rattle.mpeg_scan.specs.Layout.{AreChained, BeginsSequence}
-use Rattle.mpeg_scan.proofs.StepLemmas.{accepted-older, otherwise-first, otherwise-second}
-use Rattle.mpeg_scan.proofs.TileLemmas.{Spaced, Told, accepted-whole, all-below, ended-none, first-is, placed-codes, raw_calls, slice-apart, told-cons, told-nil, told_at}
+use Rattle.mpeg_scan.proofs.StepLemmas.{accepted-older, otherwise-first, otherwise-second, told-cons}
+use Rattle.mpeg_scan.proofs.TileLemmas.{Spaced, Told, accepted-whole, all-below, ended-none, first-is, placed-codes, raw_calls, slice-apart, told-nil, told_at}
 use Rattle.mpeg_scan.proofs.BoundLemmas.{codes-rate, older-judged, sequence-judged, some-cond-none}
 use Rattle.mpeg_scan.proofs.FilmLemmas.{length-read, units_in-append}
 use Rattle.mpeg_scan.proofs.PlaceLemmas.{at-bytes, codes-stand}

@@ -1,7 +1,7 @@
 -- Each refusal comes exactly where the standard's words say.
-use Rattle.std.proofs.Common.{ℕ, zero, suc, Bool, true, false, cond, eqb, ltb, leb, not, ◌&&◌, ◌+◌, ◌-◌, ◌<◌, ◌≤◌, ◌≡◌, List, [], ◌∷◌, Option, Some, None, sym, ◌∙◌, ap, refl, subst, inl, inr, arith}
+use Rattle.std.proofs.Common.{ℕ, Bool, true, false, cond, eqb, ltb, leb, not, ◌&&◌, ◌+◌, ◌-◌, ◌<◌, ◌≤◌, ◌≡◌, List, [], ◌∷◌, Option, Some, None, sym, ◌∙◌, ap, refl, subst, inl, inr, arith}
 use Rattle.std.specs.Prelude.{option_map}
-use Rattle.std.proofs.lemmas.Bool.{cases_lt, eqb-true, eq-eqb, leb-true, le-leb, ltb-true, lt-ltb, and_parts, and_from, and_cases, not_from_false, false≢true, true≢false}
+use Rattle.std.proofs.lemmas.Bool.{cases_lt, eqb-true, eqb-false, eq-eqb, ne_eqb, not-true, leb-true, le-leb, ltb-true, lt-ltb, and_parts, and_from, and_cases, not_from_false, false≢true}
 use Rattle.mpeg_scan.specs.declared.codes.Code.{Code}
 use Rattle.mpeg_scan.specs.declared.faults.FilmFault.{FilmFault}
 use Rattle.mpeg_scan.specs.declared.faults.FilmFault.TheVariants.{NoSequence, PictureWithoutSlices, HeadTooLong, GroupTooLong, TooLong, HeadWithoutPicture}
@@ -11,6 +11,7 @@ use Rattle.mpeg_scan.specs.Faults.{code_fault, count_fault, fault_at, first_faul
 use Rattle.mpeg_scan.specs.Places.{HasCode}
 use Rattle.mpeg_scan.specs.Refusals.{BeginsUnit, CodeRefusal, CountRefusal, HasPictures, HeaderRefusal, IsExtension, IsItsPicture, IsLongFilm, IsLongGroup, IsLongHead, IsOpenHead, IsSystemCode, KindRefusal, LacksPicture, LacksSequence, LacksSlices, Otherwise, SecondRefusal, SliceRefusal}
 use Rattle.mpeg_scan.specs.Standard.{IsFirstCode, IsHeadKind, IsSliceKind, StandsThere}
+use Rattle.mpeg_scan.proofs.StepLemmas.{positive}
 use Rattle.mpeg_scan.proofs.TextLemmas.{Same, TextsAre}
 use Rattle.mpeg_scan.proofs.TileLemmas.{Spaced}
 use Rattle.std.proofs.lemmas.Option.{same_Some}
@@ -51,20 +52,6 @@ twice : (b : Bool) → b ≡ true → not (not b) ≡ true
 twice true e = refl
 twice false e = absurd (false≢true e)
 
-not-false : (b : Bool) → not b ≡ true → b ≡ false
-not-false true e = absurd (false≢true e)
-not-false false e = refl
-
-unequal : (m n : ℕ) → eqb m n ≡ false → m ≡ n → ⊥
-unequal m n e is = true≢false (sym (eq-eqb m n is) ∙ e)
-
-apart-by : (b : Bool) (m n : ℕ) → eqb m n ≡ b → (m ≡ n → ⊥) → b ≡ false
-apart-by true m n e other = absurd (other (eqb-true m n e))
-apart-by false m n e other = refl
-
-apart : (m n : ℕ) → (m ≡ n → ⊥) → eqb m n ≡ false
-apart m n other = apart-by (eqb m n) m n refl other
-
 kind-decides : (Has : ℕ → ℕ → Type 0) (past : List Code) (at kind : ℕ) → AtCode Has past at kind →
     Decides (KindRefusal Has at) (kind_fault (tally_of past) at kind)
 kind-decides Has past at kind c =
@@ -85,7 +72,7 @@ kind-decides Has past at kind c =
       (
         first-of-none Has past at c.knows (no-codes past (not three) e),
         λ has.
-            unequal kind 0xb3 (not-false three (and_parts first (not three) e).1)
+            eqb-false kind 0xb3 (not-true three (and_parts first (not three) e).1)
             (sym (c.one 0xb3 has)),
       ),
       refl,
@@ -93,16 +80,12 @@ kind-decides Has past at kind c =
     (λ g p. (
       and_from first (not three)
           (twice (is_none_yet past) (none-of-first Has past at c.knows p.0.0))
-          (not_from_false three (apart kind 0xb3 (λ is.
+          (not_from_false three (ne_eqb kind 0xb3 (λ is.
           p.0.1 (subst (λ k. Has at k) is c.code)))),
       p.1,
     ))))
 
 -- ---- a head's picture
-
-positive : (n : ℕ) → eqb n 0 ≡ false → 0 < n
-positive zero e = absurd (true≢false e)
-positive (suc n) e = omega arith
 
 -- the latest unit has no slice
 slices-left : {Has : ℕ → ℕ → Type 0} {past : List Code} {at unit : ℕ} → Knows Has past at →
@@ -333,7 +316,7 @@ count-decides Has past at kind c =
     (λ _. decide (IsLongFilm Has at) many TooLong (λ t.
     (film-test Has past at c.knows c.spaced t, refl)) (λ g p.
     (test-film Has past at c.knows c.spaced p.0, p.1)))))
-    (λ e f p. unequal kind 0 e (sym (c.one 0 p.0)))
+    (λ e f p. eqb-false kind 0 e (sym (c.one 0 p.0)))
 
 -- ---- a code
 

@@ -11,8 +11,8 @@ use Rattle.mpeg_scan.specs.Calls.{calls_at, calls_of, unit_end}
 use Rattle.mpeg_scan.specs.Films.{IsFilm, slices_in}
 use Rattle.mpeg_scan.specs.Places.{HasCode, StandsAt}
 use Rattle.mpeg_scan.specs.Standard.{IsAmong, IsSliceKind, StandsThere, slice_places}
-use Rattle.mpeg_scan.proofs.StepLemmas.{otherwise-second}
-use Rattle.mpeg_scan.proofs.TileLemmas.{Told, accepted-whole, ended-none, raw_calls, slice-apart, told-cons, told-nil, told_at}
+use Rattle.mpeg_scan.proofs.StepLemmas.{otherwise-second, told-cons}
+use Rattle.mpeg_scan.proofs.TileLemmas.{Told, accepted-whole, ended-none, raw_calls, slice-apart, told-nil, told_at}
 use Rattle.mpeg_scan.proofs.FilmLemmas.{slices_in-append}
 use Rattle.mpeg_scan.proofs.PlaceLemmas.{codes-stand}
 

@@ -1,7 +1,7 @@
 -- A byte more, and a code more: what the scanner keeps stays what the bytes say.
 use Rattle.std.proofs.Common.{ℕ, suc, Bool, true, false, cond, eqb, ltb, leb, ◌+◌, ◌-◌, ◌^◌, ◌<◌, ◌≤◌, ◌≡◌, List, [], ◌∷◌, ◌++◌, Option, Some, None, length, sym, ◌∙◌, ap, refl, subst, inl, inr, arith}
 use Rattle.std.specs.Option.{option_map}
-use Rattle.std.proofs.lemmas.Bool.{cases_Bool, leb-false, ne_eqb, eq-eqb, le-ltb, lt-ltb}
+use Rattle.std.proofs.lemmas.Bool.{cases_Bool, eqb-false, leb-false, ne_eqb, eq-eqb, le-ltb, lt-ltb}
 use Rattle.std.proofs.lemmas.List.{append_assoc}
 use Rattle.mpeg_scan.specs.declared.codes.Code.{Code}
 use Rattle.mpeg_scan.specs.declared.faults.FilmFault.{FilmFault}
@@ -17,6 +17,9 @@ use Rattle.mpeg_scan.specs.Scans.{HasRead, scan_with_byte, scan_with_code}
 use Rattle.mpeg_scan.proofs.CodeLemmas.{matched-more}
 
 -- ---- the codes of a byte more
+
+pub positive : (n : ℕ) → eqb n 0 ≡ false → 0 < n
+positive n e = omega (arith, eqb-false n 0 e)
 
 pub codes-plain : (x : ℕ) (r : List ℕ) → is_whole (latest_prefix r) ≡ false → codes_of (x ∷ r) ≡ note_latest (codes_of r) x
 unfolding codes_of
@@ -231,9 +234,9 @@ fed-code {s} {r} {x} kept short whole none =
       accepted = first_fault-at s r x kept short whole ∙ none;
     }
 
-told-code : (c : Code) (past : List Code) → calls_of (c ∷ past) ≡ calls_of past ++ calls_at (tally_of past) c.place c.kind
+pub told-cons : (c : Code) (past : List Code) → calls_of (c ∷ past) ≡ calls_of past ++ calls_at (tally_of past) c.place c.kind
 unfolding calls_of
-told-code c past = refl
+told-cons c past = refl
 
 -- what is told at a byte
 pub told-plain : (x : ℕ) (r : List ℕ) → is_whole (latest_prefix r) ≡ false → calls_of (codes_of (x ∷ r)) ≡ calls_of (codes_of r)
@@ -245,7 +248,7 @@ pub told-at : (s : Progress) (r : List ℕ) (x : ℕ) → HasRead s r → length
     ≡ calls_of (codes_of r) ++ calls_at (tally_with (scan_with_byte s x).latest s.tally) (s.fed - 3) x
 told-at s r x kept short whole =
     let past = note_latest (codes_of r) x in
-    ap calls_of (codes-code x r whole) ∙ told-code (record { place = length r - 3; kind = x; text = [] }) past
+    ap calls_of (codes-code x r whole) ∙ told-cons (record { place = length r - 3; kind = x; text = [] }) past
     ∙ ap (λ (l : List Call). l ++ calls_at (tally_of past) (length r - 3) x) (told-note (codes_of r) x)
     ∙ ap (λ (t : Tally). calls_of (codes_of r) ++ calls_at t (length r - 3) x) (sym (tally-noted s r x kept short))
     ∙ ap (λ n. calls_of (codes_of r) ++ calls_at (tally_with (scan_with_byte s x).latest s.tally) (n - 3) x) (sym kept.fed)

@@ -15,7 +15,7 @@ use Rattle.mpeg_scan.specs.Calls.{Call, head_call, slice_call, unit_call, unit_a
 use Rattle.mpeg_scan.specs.Places.{HasCode}
 use Rattle.mpeg_scan.specs.Tiles.{Part, between, within, next_part, parts_after, first_of, Tiles}
 use Rattle.mpeg_scan.proofs.CodeLemmas.{matched-more}
-use Rattle.mpeg_scan.proofs.StepLemmas.{codes-none, codes-plain, codes-code, accepted-older, code-accepted, otherwise-first, otherwise-second}
+use Rattle.mpeg_scan.proofs.StepLemmas.{codes-none, codes-plain, codes-code, accepted-older, code-accepted, otherwise-first, otherwise-second, told-cons}
 
 -- ---- how far codes stand apart: a kind that isn't 0 can't begin the next prefix
 
@@ -278,10 +278,6 @@ first-step place kind is =
     subst (λ k. parts_after (Some (between place)) (calls_at (tally_of []) place k)
     ≡ Some (part_by (cond (is_head k) 0 (cond (is_slice k) (0 + 1) 0)) place
     (cond (is_slice k && eqb 0 0) place 0) (cond (is_slice k) place 0))) (sym is) refl
-
-pub told-cons : (c : Code) (past : List Code) → calls_of (c ∷ past) ≡ calls_of past ++ calls_at (tally_of past) c.place c.kind
-unfolding calls_of
-told-cons c past = refl
 
 pub told-nil : calls_of [] ≡ []
 unfolding calls_of
