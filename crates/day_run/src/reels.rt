@@ -10,7 +10,6 @@ ghost use Rattle.day_run.specs.ClientStates.{trace_content};
 use crate::rolls::Rolled;
 use film_frames::{Frames, Part, Stored, TraceTrack, Track, law_piece_sizes};
 use film_run::{Trace, Units};
-use mpeg_scan::{law_film, picture_units};
 use rtp_pack::Identity;
 use std::alloc::Global;
 use vod_base::NoMemory;
@@ -71,10 +70,7 @@ impl<'s> Reel<'s> {
         ensures value { result ≡ reel_units slot_units self.now }
     {
         match self {
-            Reel::Film(stored) => {
-                law_film(&stored.film);
-                picture_units(stored.film.rate)
-            }
+            Reel::Film(stored) => stored.film.picture_units(),
             Reel::Trace(_) => slot_units,
         }
     }

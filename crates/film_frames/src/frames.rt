@@ -16,7 +16,7 @@ use crate::pieces::Piece;
 use crate::searches::ends_below;
 use crate::stores::Stored;
 use crate::tracks::{Part, Track};
-use mpeg_scan::{Unit, law_film, picture_units};
+use mpeg_scan::Unit;
 use rtp_pack::{FRAME_HEADS, Identity, Packet, REPORT_BYTES, packet_head, unit_report};
 use std::marker::Model;
 
@@ -183,9 +183,7 @@ impl<'a> Frames<'a> {
     fn picture_time(&self) -> u32
         ensures { result ≡ picture_time self.now.rate }
     {
-        let stored = self.stored;
-        law_film(&stored.film);
-        picture_units(stored.film.rate)
+        self.stored.film.picture_units()
     }
 }
 

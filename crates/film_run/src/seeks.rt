@@ -3,14 +3,13 @@
 
 ghost use Rattle.std.specs.Prelude.{◌≡◌, ◌^◌, ◌<◌, ◌≤◌, ℕ, ◌⊎◌, length, IfSome, MatchBool};
 ghost use Rattle.std.specs.Prelude.{MatchOption};
-ghost use Rattle.mpeg_scan.specs.Rates.{picture_time};
 ghost use Rattle.film_run.specs.Runs.{IsFilmRun};
 ghost use Rattle.film_run.specs.Seeks.{BeginsBy, HasNothing, IsAfter, IsAsked, IsBefore, IsEnd};
 ghost use Rattle.film_run.specs.Seeks.{IsGroupBy};
 ghost use Rattle.film_run.specs.Seeks.{IsGroupFrom, IsPlaceAfter, IsReversed, StartsGroup};
 
 use crate::runs::{Run, new_run};
-use mpeg_scan::{Film, Unit, law_film, law_units, picture_units};
+use mpeg_scan::{Film, Unit, law_film, law_units};
 
 /// Nanoseconds in 25 units of 1/360,000 second, and 9 such units: 25,000 * 10^3 ns are 9 * 10^3
 /// units.
@@ -33,7 +32,7 @@ pub fn run_between(film: &Film, from: u128, to: Option<u128>) -> Option<Run>
     if is_reversed(from, to) {
         return None;
     }
-    let time = picture_time(film);
+    let time = u64::from(film.picture_units());
     let units = film.units.as_slice();
     let first_unit = last_group_by(units, time, from)?;
     let end_unit = end_of(units, time, to, first_unit);
@@ -102,16 +101,6 @@ fn end_place(units: usize, first: usize, time: u64, picture_units: u64) -> usize
 {
     let place = time.div_ceil(picture_units);
     (place.min(units as u64) as usize).max(first + 1)
-}
-
-/// The time of a picture of a film in 1/360,000 second.
-fn picture_time(film: &Film) -> u64
-    ensures time { result ≡ picture_time film.now.rate }
-    ensures some { 1 ≤ result }
-    ensures fits { result ≤ 360000 }
-{
-    law_film(film);
-    u64::from(picture_units(film.rate))
 }
 
 /// The last group that begins at or before a time in nanoseconds. None exactly where the units have

@@ -1,16 +1,18 @@
 //! A film in memory, scanned whole.
-ghost use Rattle.std.specs.Prelude.{◌≡◌, ℕ, ◌↔◌, [], Some, Err, IfOk};
+ghost use Rattle.std.specs.Prelude.{◌≡◌, ◌≤◌, ℕ, ◌↔◌, [], Some, Err, IfOk};
 ghost use Rattle.mpeg_scan.specs.Films.{IsFilm, refusal, told_of};
 ghost use Rattle.mpeg_scan.specs.Codes.{codes_of, read};
 ghost use Rattle.mpeg_scan.specs.Places.{HasCode, StandsAt};
 ghost use Rattle.mpeg_scan.specs.Grammar.{IsGrammatical};
 ghost use Rattle.mpeg_scan.specs.Counts.{AreNumbered};
+ghost use Rattle.mpeg_scan.specs.Rates.{picture_time};
 ghost use Rattle.mpeg_scan.specs.Tiles.{Tiles};
 
 use crate::collector::Collector;
 use crate::faults::{FilmFault, ScanRefused};
+use crate::laws::law_film;
 use crate::scanner::Scanner;
-use crate::units::{MAX_FILM_BYTES, Unit};
+use crate::units::{MAX_FILM_BYTES, Unit, picture_units};
 use std::alloc::Global;
 
 /// An accepted film, with what the grammar says of its bytes.
@@ -25,6 +27,19 @@ pub struct Film {
     /// The places of its slices, in order.
     pub slice_starts: Vec<u64>,
     pub ghost grammar: { IsFilm bytes.items rate units.items slice_starts.items },
+}
+
+impl Film {
+    /// The time of a picture in 1/360,000 second, by the code of its rate (ISO/IEC 11172-2,
+    /// 2.4.3.2).
+    pub fn picture_units(&self) -> u32
+        ensures value { result ≡ picture_time self.now.rate }
+        ensures some { 1 ≤ result }
+        ensures fits { result ≤ 360000 }
+    {
+        law_film(self);
+        picture_units(self.rate)
+    }
 }
 
 /// Scans a whole film.

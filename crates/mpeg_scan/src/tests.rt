@@ -141,6 +141,7 @@ fn units_of_films(rt: HostRuntime) -> Result<(), Fail> {
     law_start_codes(&bytes);
     let film = scan(rt.alloc(), bytes)?;
     assert_eq!(rt; film.rate, 3);
+    assert_eq!(rt; film.picture_units(), 14400);
     assert_eq!(rt; film.bytes.len(), 34);
     assert_eq!(rt; film.units.as_slice(), [UNIT_A].as_slice());
     assert_eq!(rt; film.slice_starts.as_slice(), [28].as_slice());

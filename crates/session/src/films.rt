@@ -3,7 +3,6 @@
 ghost use Rattle.std.specs.Prelude.{◌≡◌, ◌+◌, ◌*◌, ◌%◌, ◌^◌, ◌<◌, ◌≤◌, ℕ, true, length};
 ghost use Rattle.std.specs.Prelude.{string_bytes};
 ghost use Rattle.vod_base.specs.Names.{is_good_name};
-ghost use Rattle.mpeg_scan.specs.Rates.{picture_time};
 ghost use Rattle.film_frames.specs.Runs.{run_pieces};
 ghost use Rattle.film_frames.specs.Tracks.{framed_bytes};
 ghost use Rattle.film_run.specs.Runs.{bytes_between};
@@ -15,7 +14,7 @@ ghost use Rattle.session.specs.Ranges.{AreFilms};
 use crate::states::{Counts, Setup, Source};
 use film_frames::{Frames, Stored, law_piece_sizes, law_wire_sizes};
 use film_run::Run;
-use mpeg_scan::{Film, law_film, picture_units};
+use mpeg_scan::{Film, law_film};
 use rtp_pack::Identity;
 
 /// The film of that number, whose name is good.
@@ -32,22 +31,12 @@ pub(crate) fn stored_at(films: &[Stored], film: usize) -> &Stored
     stored
 }
 
-/// The time of a picture in 1/360,000 second.
-pub(crate) fn picture_time(film: &Film) -> u32
-    ensures time { result ≡ picture_time film.now.rate }
-    ensures some { 1 ≤ result }
-    ensures fits { result ≤ 360000 }
-{
-    law_film(film);
-    picture_units(film.rate)
-}
-
 /// The time at which a unit begins, in whole milliseconds.
 pub(crate) fn milliseconds_at(film: &Film, unit: usize) -> u64
     requires { unit ≤ 4194304 }
     ensures { result ≡ milliseconds_at film.now unit }
 {
-    unit as u64 * u64::from(picture_time(film)) / 360
+    unit as u64 * u64::from(film.picture_units()) / 360
 }
 
 /// How long a film is, in whole milliseconds.
@@ -64,7 +53,7 @@ pub(crate) fn timestamp_at(film: &Film, source: Source, unit: usize) -> u32
     requires { unit ≤ 4194304 }
     ensures { result ≡ timestamp_at film.now source unit }
 {
-    let since = unit as u64 * u64::from(picture_time(film)) / 4;
+    let since = unit as u64 * u64::from(film.picture_units()) / 4;
     source.timestamp.wrapping_add((since % (1 << 32)) as u32)
 }
 

@@ -8,7 +8,7 @@ ghost use Rattle.session.specs.Playing.{IsAskedRun, IsPlayable, IsRunOf, counts_
 ghost use Rattle.session.specs.Playing.{playback_of, run_of};
 ghost use Rattle.session.specs.Ranges.{AreSettings, IsSetup};
 
-use crate::films::{counts_after, frames_of, picture_time, stored_at};
+use crate::films::{counts_after, frames_of, stored_at};
 use crate::refusals::Refusal;
 use crate::sessions::Session;
 use crate::settings::Settings;
@@ -38,7 +38,7 @@ pub(crate) fn playback_of(film: &Film, settings: &Settings, setup: &Setup) -> Pl
     ensures ranges { IsPlayback result }
 {
     Playback {
-        picture_units: picture_time(film),
+        picture_units: film.picture_units(),
         slot_units: settings.slot_units,
         buffer: setup.buffer,
         delay: setup.delay,
