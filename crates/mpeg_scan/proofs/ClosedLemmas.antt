@@ -5,9 +5,9 @@ use Rattle.std.proofs.lemmas.Bool.{cases_lt, eqb-true, ltb-true, true≢false, f
 use Rattle.mpeg_scan.specs.declared.codes.Code.{Code}
 use Rattle.mpeg_scan.specs.declared.tallies.Header.{Header}
 use Rattle.mpeg_scan.specs.declared.units.Unit.{Unit as PictureUnit}
-use Rattle.mpeg_scan.specs.Words.{all_slices_of, has_sequence, head_end_of, header_of, is_head, is_slice, picture_of, slices_of, starts_group, tally_of, temporal_of, type_of, unit_of, vectors_of}
+use Rattle.mpeg_scan.specs.Words.{all_slices_of, has_sequence, head_end_of, header_of, is_head, is_slice, kind_of, picture_of, slices_of, starts_group, tally_of, temporal_of, type_of, unit_of, vectors_of}
 use Rattle.mpeg_scan.specs.Faults.{end_fault, first_fault, last_fault, latest_fault}
-use Rattle.mpeg_scan.specs.Calls.{Call, head_call, slice_call, calls_at, kind_of, no_header, calls_of, unit_at, unit_end}
+use Rattle.mpeg_scan.specs.Calls.{Call, head_call, slice_call, calls_at, no_header, calls_of, unit_at, unit_end}
 use Rattle.mpeg_scan.specs.Films.{units_in}
 use Rattle.mpeg_scan.specs.Places.{HasCode}
 use Rattle.mpeg_scan.specs.Standard.{Counts, HasPicture, IsFirstCode, IsHeadKind, IsSliceKind, NoneIn, StandsIn, StandsThere, UnitIs}
@@ -75,7 +75,7 @@ pub record Closed (past : List Code) (unit : PictureUnit) : Type 0 where
 -- a unit with what this header says of its picture
 record HasHeader (unit : PictureUnit) (h : Header) : Type 0 where
   temporal : unit.temporal ≡ h.temporal
-  kind : unit.kind ≡ kind_of h.coding
+  kind : unit.kind ≡ h.kind
   vectors : unit.vectors ≡ h.vectors
 
 close-picture : {past : List Code} {unit : PictureUnit} {n : ℕ} {h : Header} → 0 < n → HasHeader unit h
@@ -93,7 +93,7 @@ close-picture {past} {h} some header is = record {
     zero_is = is.kind;
     place_is = refl;
     temporal = header.temporal ∙ ap (λ (v : Header). v.temporal) is.header;
-    kind = header.kind ∙ ap (λ (v : Header). kind_of v.coding) is.header;
+    kind = header.kind ∙ ap (λ (v : Header). v.kind) is.header;
     vectors = header.vectors ∙ ap (λ (v : Header). v.vectors) is.header;
   };
 }

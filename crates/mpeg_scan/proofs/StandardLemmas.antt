@@ -7,9 +7,8 @@ use Rattle.mpeg_scan.specs.declared.faults.FilmFault.TheVariants.{BadType, Short
 use Rattle.mpeg_scan.specs.declared.units.Kind.{Kind}
 use Rattle.mpeg_scan.specs.declared.units.Unit.{Unit as PictureUnit}
 use Rattle.mpeg_scan.specs.Codes.{read, codes_of, latest_prefix}
-use Rattle.mpeg_scan.specs.Words.{tally_of, type_of, rate_of}
+use Rattle.mpeg_scan.specs.Words.{kind_of, rate_of, tally_of, type_of, vectors_by}
 use Rattle.mpeg_scan.specs.Faults.{end_fault, first_fault, header_fault, last_fault, latest_fault, rate_fault}
-use Rattle.mpeg_scan.specs.Calls.{kind_of}
 use Rattle.mpeg_scan.specs.Films.{IsFilm}
 use Rattle.mpeg_scan.specs.Places.{HasCode, StandsAt}
 use Rattle.mpeg_scan.specs.Standard.{HasFields, IsFirstCode, IsUnitOf, NoneIn, StandsIn, type_number, vector_fields}
@@ -118,12 +117,9 @@ four-types t low high = elim (cases_lt t 2) [
   ]
 ]
 
-abbrev vectors_by : ℕ → ℕ → ℕ → ℕ
-vectors_by t forward backward = cond (eqb t 3) (backward * 16 + forward) (cond (eqb t 2) forward 0)
-
 record TypeFits (t : ℕ) (bytes : List ℕ) (place forward backward : ℕ) : Type 0 where
   number : type_number (kind_of t) ≡ t
-  vectors : vectors_by t forward backward ≡ vector_fields bytes place (kind_of t)
+  vectors : vectors_by (kind_of t) forward backward ≡ vector_fields bytes place (kind_of t)
 
 type-fits : {t : ℕ} {bytes : List ℕ} {place forward backward : ℕ} → FourTypes t
     → ((t ≡ 2) ⊎ (t ≡ 3)

@@ -5,8 +5,7 @@ use Rattle.std.specs.Prelude.{nat_lt, unwrap_or}
 use Rattle.mpeg_scan.specs.declared.codes.Code.{Code}
 use Rattle.mpeg_scan.specs.declared.tallies.Header.{Header}
 use Rattle.mpeg_scan.specs.declared.tallies.Tally.{Tally}
-use Rattle.mpeg_scan.specs.declared.units.Kind.{Kind}
-use Rattle.mpeg_scan.specs.declared.units.Kind.TheVariants.{I, P, B, D}
+use Rattle.mpeg_scan.specs.declared.units.Kind.TheVariants.{D}
 use Rattle.mpeg_scan.specs.declared.units.Unit.{Unit as PictureUnit}
 use Rattle.mpeg_scan.specs.Codes.{codes_of}
 use Rattle.mpeg_scan.specs.Words.{is_head, is_slice, tally_of}
@@ -16,13 +15,8 @@ pub data Call : Type 0 where
   slice_call : ℕ → ℕ → Call
   unit_call : PictureUnit → Call
 
--- the kind of a picture of type 1 to 4
-abbrev pub kind_of : ℕ → Kind
-kind_of coding =
-    if coding == 1 then I else (if coding == 2 then P else (if coding == 3 then B else D))
-
 abbrev pub no_header : Header
-no_header = record { place = 0; temporal = 0; coding = 0; vectors = 0 }
+no_header = record { place = 0; temporal = 0; kind = D; vectors = 0 }
 
 -- the latest unit, with its picture's header, where it ends at a place
 abbrev pub unit_with : Tally → Header → ℕ → PictureUnit
@@ -34,7 +28,7 @@ unit_with t picture to = record {
   slices = t.slices;
   temporal = picture.temporal;
   presentation = t.before_group + picture.temporal;
-  kind = kind_of picture.coding;
+  kind = picture.kind;
   vectors = picture.vectors;
   has_sequence = t.has_sequence;
   starts_group = t.starts_group;

@@ -7,6 +7,8 @@ use Rattle.std.specs.Prelude.{slice_index}
 use Rattle.mpeg_scan.specs.declared.codes.Code.{Code}
 use Rattle.mpeg_scan.specs.declared.tallies.Header.{Header}
 use Rattle.mpeg_scan.specs.declared.tallies.Tally.{Tally}
+use Rattle.mpeg_scan.specs.declared.units.Kind.{Kind}
+use Rattle.mpeg_scan.specs.declared.units.Kind.TheVariants.{I, P, B, D}
 
 abbrev pub is_none_yet : List Code → Bool
 is_none_yet [] = true
@@ -98,18 +100,27 @@ forward_of c = slice_index c.text 3 % 8 * 2 + slice_index c.text 4 / 128
 abbrev pub backward_of : Code → ℕ
 backward_of c = slice_index c.text 4 / 8 % 16
 
--- the four fields of its vectors as a byte: the backward ones in the high half, and 0 for those
--- that its type lacks
+-- the kind of a picture of type 1 to 4
+abbrev pub kind_of : ℕ → Kind
+kind_of type =
+    if type == 1 then I else (if type == 2 then P else (if type == 3 then B else D))
+
+-- the four fields of a picture's vectors as a byte: the backward ones in the high half, and 0 for
+-- those that its kind lacks
+abbrev pub vectors_by : Kind → ℕ → ℕ → ℕ
+vectors_by I forward backward = 0
+vectors_by P forward backward = forward
+vectors_by B forward backward = backward * 16 + forward
+vectors_by D forward backward = 0
+
 abbrev pub vectors_of : Code → ℕ
-vectors_of c =
-    if type_of c == 3 then backward_of c * 16 + forward_of c
-    else (if type_of c == 2 then forward_of c else 0)
+vectors_of c = vectors_by (kind_of (type_of c)) (forward_of c) (backward_of c)
 
 abbrev pub header_of : Code → Header
 header_of c = record {
   place = c.place;
   temporal = temporal_of c;
-  coding = type_of c;
+  kind = kind_of (type_of c);
   vectors = vectors_of c;
 }
 

@@ -97,7 +97,7 @@ fn unit_at(tally: &Tally, to: u64) -> Unit
     let picture = tally.picture.unwrap_or(Header {
         place: 0,
         temporal: 0,
-        coding: 0,
+        kind: Kind::D,
         vectors: 0,
     });
     Unit {
@@ -108,7 +108,7 @@ fn unit_at(tally: &Tally, to: u64) -> Unit
         slices: tally.slices,
         temporal: picture.temporal,
         presentation: u64::from(tally.before_group) + u64::from(picture.temporal),
-        kind: Kind::from_code(picture.coding),
+        kind: picture.kind,
         vectors: picture.vectors,
         has_sequence: tally.has_sequence,
         starts_group: tally.starts_group,

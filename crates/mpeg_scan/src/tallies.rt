@@ -7,6 +7,7 @@ ghost use Rattle.mpeg_scan.specs.Steps.{next_pictures, next_rate, next_slice, ne
 ghost use Rattle.mpeg_scan.specs.Steps.{next_starts_group, next_unit};
 
 use crate::codes::Code;
+use crate::units::Kind;
 
 /// The kind of a picture's start code (ISO/IEC 11172-2, table 2-D.1).
 pub(crate) const PICTURE: u8 = 0x00;
@@ -61,31 +62,29 @@ pub(crate) struct Header {
     pub(crate) place: u64,
     /// temporal_reference.
     pub(crate) temporal: u16,
-    /// picture_coding_type.
-    pub(crate) coding: u8,
+    /// What picture_coding_type says; the header is judged, so that it is of one of the four kinds.
+    pub(crate) kind: Kind,
     /// full_pel_backward, backward_f_code, full_pel_forward and forward_f_code, from the highest
     /// bit; those that the picture hasn't are 0.
     pub(crate) vectors: u8,
 }
 
 impl Header {
-    /// What the text of a picture's start code says.
-    fn read(code: &Code) -> Header
+    /// What a picture's start code and the text after it say.
+    fn of_picture(code: &Code) -> Header
         ensures { result ≡ header_of code.now }
     {
         let forward = code.text.byte(3) % 8 * 2 + code.text.byte(4) / 128;
         let backward = code.text.byte(4) / 8 % 16;
-        let coding = type_of(code);
+        let kind = Kind::from_code(type_of(code));
         Header {
             place: code.place,
             temporal: u16::from(code.text.byte(0)) * 4 + u16::from(code.text.byte(1) / 64),
-            coding,
-            vectors: if coding == 3 {
-                backward * 16 + forward
-            } else if coding == 2 {
-                forward
-            } else {
-                0
+            kind,
+            vectors: match kind {
+                Kind::I | Kind::D => 0,
+                Kind::P => forward,
+                Kind::B => backward * 16 + forward,
             },
         }
     }
@@ -197,7 +196,7 @@ impl Tally {
         ensures { result ≡ next_picture self.now code.now }
     {
         if code.kind == PICTURE {
-            Some(Header::read(code))
+            Some(Header::of_picture(code))
         } else if self.begins_unit(code.kind) {
             None
         } else {
