@@ -10,6 +10,7 @@ pub mod BoundLemmas
 pub mod LaidLemmas
 pub mod TextLemmas
 pub mod FirstLemmas
+mod NextLemmas
 pub mod RoomLemmas
 pub mod OpenLemmas
 pub mod ClosedLemmas

@@ -1,20 +1,21 @@
 -- The scanner's latest unit and slice begin well before the next code.
 use Rattle.std.proofs.Common.{Result, Ok, Err, OnOk, ℕ, Bool, true, false, not, cond, eqb, ltb, leb, ◌&&◌, ◌||◌, ◌+◌, ◌-◌, ◌<◌, ◌≤◌, ◌≡◌, [], Option, Some, None, sym, ◌∙◌, ap, refl, subst, arith}
 use Rattle.std.specs.Option.{option_map}
+use Rattle.std.proofs.lemmas.Option.{same_Some}
 use Rattle.std.proofs.lemmas.Bool.{true≢false, false≢true, ne_eqb, leb-true, and_parts}
 use Rattle.mpeg_scan.specs.declared.codes.Code.{Code}
 use Rattle.mpeg_scan.specs.declared.codes.Prefix.{Prefix}
 use Rattle.mpeg_scan.specs.declared.codes.Prefix.TheVariants.{Nothing, Zero, Zeros, Whole}
-use Rattle.mpeg_scan.specs.declared.faults.FilmFault.TheVariants.{SystemCode, Mpeg2, NoSequence}
 use Rattle.mpeg_scan.specs.declared.progress.Progress.{Progress}
 use Rattle.mpeg_scan.specs.declared.tallies.Tally.{Tally}
 use Rattle.mpeg_scan.specs.Codes.{after_one, after_zero, is_whole, next_prefix, note}
 use Rattle.mpeg_scan.specs.Words.{is_head, is_slice}
-use Rattle.mpeg_scan.specs.Faults.{last_fault, first_refusal, code_fault, count_fault, first_slice_fault, kind_fault, second_fault}
-use Rattle.mpeg_scan.specs.Room.{AwaitsSlice, AwaitsSliceAfter, HasRoom, HasRoomAhead, IsAhead, prefix_length}
+use Rattle.mpeg_scan.specs.Faults.{last_fault, code_fault}
+use Rattle.mpeg_scan.specs.Room.{AwaitsSlice, AwaitsSliceAfter, HasRoom, HasRoomWith, IsAhead, prefix_length}
 use Rattle.mpeg_scan.specs.Scans.{scan_with_code, scan_with_byte}
-use Rattle.mpeg_scan.specs.Steps.{end_judgement, code_judgement, latest_header_fault, next, one_more, tally_now, tally_with}
-use Rattle.mpeg_scan.proofs.StepLemmas.{otherwise-first, otherwise-second}
+use Rattle.mpeg_scan.specs.Steps.{end_judgement, code_judgement, latest_header_fault, next, next_begins, tally_now, tally_with}
+use Rattle.mpeg_scan.proofs.NextLemmas.{code-begun, counts-more, counts-next, picture-next, with-more, with-noted}
+use Rattle.mpeg_scan.proofs.StepLemmas.{otherwise-second}
 use Rattle.mpeg_scan.proofs.TileLemmas.{ended-none, first_slice-accepted, first_slice-head}
 
 -- ---- a byte more of a text changes none of it
@@ -52,12 +53,10 @@ length-next p x = length-by (eqb x 1) (eqb x 0) p
 -- a byte that isn't the kind of a code
 pub noted-ahead : (s n : Progress) (x : ℕ) → n ≡ scan_with_byte s x → IsAhead s → IsAhead n
 noted-ahead s n x is room =
-    let same = same-noted s.latest s.tally x in
     let more = length-next s.prefix x in
     subst (λ (v : Progress). IsAhead v) (sym is) (record {
       read = omega (arith, more, room.read);
-      unit = λ b. omega (arith, more, same.unit, room.unit (same.begun ∙ b));
-      slice = λ some. omega (arith, more, same.slice, same.slices, room.slice (omega (arith, same.slices)));
+      room = with-more (with-noted s.latest x room.room) (omega (arith, more));
     })
 
 awaits-same : (Ready : ℕ → Type 0) (t u : Tally) → SamePlaces t u → AwaitsSlice Ready t → AwaitsSlice Ready u
@@ -76,15 +75,11 @@ whole-length Zeros e = absurd (false≢true e)
 whole-length Whole e = refl
 
 -- before a code there is room
-pub room-before : {s n : Progress} {place : ℕ} (x : ℕ) → is_whole s.prefix ≡ true → n ≡ scan_with_byte s x
-    → place ≡ s.fed - 3 → IsAhead s → HasRoom (tally_now n) place
-room-before {s} {place} x whole is at room =
-    let same = same-noted s.latest s.tally x in
-    let three = whole-length s.prefix whole in
-    subst (λ (v : Progress). HasRoom (tally_now v) place) (sym is) (record {
-      unit = λ b. omega (arith, at, three, same.unit, room.unit (same.begun ∙ b));
-      slice = λ some. omega (arith, at, three, same.slice, same.slices, room.slice (omega (arith, same.slices)));
-    })
+pub room-before : {s n : Progress} (x : ℕ) → is_whole s.prefix ≡ true → n ≡ scan_with_byte s x
+    → IsAhead s → HasRoomWith n.latest n.tally (s.fed - 3)
+room-before {s} x whole is room =
+    subst (λ (v : Progress). HasRoomWith v.latest v.tally (s.fed - 3)) (sym is)
+    (with-more (with-noted s.latest x room.room) (omega (arith, whole-length s.prefix whole)))
 
 -- ---- what a code that isn't refused says
 
@@ -94,25 +89,10 @@ unfolding code_judgement
 code_judgement-code latest tally place kind e =
     otherwise-second (latest_header_fault latest tally.rate place) (code_fault (tally_with latest tally) place kind) e
 
-begun-by : {q k : Bool} (a b : Bool) (place : ℕ) → k ≡ false
-    → cond a (Some (SystemCode place))
-    (cond b (Some (Mpeg2 place)) (cond (not q && not k) (Some NoSequence) None)) ≡ None → q ≡ true
-begun-by true b place other e = absurd (cc)
-begun-by false true place other e = absurd (cc)
-begun-by {q = true} false false place other e = refl
-begun-by {q = false} {k = true} false false place other e = absurd (true≢false other)
-begun-by {q = false} {k = false} false false place other e = absurd (cc)
-
 slice-kind : (kind : ℕ) → is_slice kind ≡ true → (1 ≤ kind) × (kind ≤ 0xaf)
 slice-kind kind slice =
     let parts = and_parts (leb 1 kind) (leb kind 0xaf) slice in
     (leb-true 1 kind parts.0, leb-true kind 0xaf parts.1)
-
-code-begun : (t : Tally) (place kind : ℕ) → code_fault t place kind ≡ None → is_slice kind ≡ true → t.begun ≡ true
-code-begun t place kind e slice =
-    begun-by (leb 0xb9 kind) (eqb kind 0xb5) place (ne_eqb kind 0xb3 (λ is. absurd (omega (arith, (slice-kind kind slice).1))))
-    (otherwise-first (kind_fault t place kind)
-    (first_refusal (second_fault t kind) (first_refusal (first_slice_fault t place kind) (count_fault t place kind))) e)
 
 -- a slice's code that isn't refused, and the tally with the code before it
 pub record SliceTaken (t : Tally) (latest : Option Code) (tally : Tally) (place kind : ℕ) : Type 0 where
@@ -129,7 +109,8 @@ head-some {t} {tally} {latest} {place} {kind} taken room =
       arith,
       unit,
       room.unit (code-begun (tally_with latest tally) place kind
-          (code_judgement-code latest tally place kind taken.judged) taken.slice),
+          (code_judgement-code latest tally place kind taken.judged)
+          (ne_eqb kind 0xb3 (λ is. absurd (omega (arith, (slice-kind kind taken.slice).1))))),
     )
 
 pub head-short : {t tally : Tally} {latest : Option Code} {place kind : ℕ}
@@ -174,26 +155,41 @@ record PrefixAfter (s : Bool) (l : ℕ) : Type 0 where
 prefix-after : (kind : ℕ) → PrefixAfter (is_slice kind) (prefix_length (next_prefix Whole kind))
 prefix-after kind = record { short = length-kind kind; none = length-slice kind }
 
+from-by : {place l fed : ℕ} (b : Bool) (unit : ℕ) → l ≤ 1 → place + 3 ≤ fed → unit ≤ place
+    → cond b place unit ≤ fed + 1 - l
+from-by true unit short at before = omega (arith, short, at)
+from-by false unit short at before = omega (arith, short, at, before)
+
 unit-by : {q : Bool} {place l fed : ℕ} (h : Bool) (unit : ℕ) → l ≤ 1 → place + 3 ≤ fed
-    → (q ≡ true → unit + 3 ≤ place) → cond (not q || h) place unit + 3 + l ≤ fed + 1
+    → (q ≡ true → unit + 3 ≤ place) → cond (not q || h) place unit + 3 ≤ fed + 1 - l
 unit-by {q = true} true unit short at before = omega (arith, short, at)
 unit-by {q = true} false unit short at before = omega (arith, short, at, before refl)
 unit-by {q = false} h unit short at before = omega (arith, short, at)
 
 slice-by : {s : Bool} {place n l fed : ℕ} (h : Bool) (slice : ℕ) → PrefixAfter s l → place + 3 ≤ fed
-    → (0 < n → slice + 4 ≤ place) → 0 < cond h 0 (cond s (one_more n) n) → cond s place slice + 4 + l ≤ fed + 1
+    → (0 < n → slice + 4 ≤ place) → 0 < cond h 0 (cond s (n + 1) n) → cond s place slice + 4 ≤ fed + 1 - l
 slice-by {s = true} h slice prefix at before some = omega (arith, prefix.none refl, at)
 slice-by {s = false} true slice prefix at before some = absurd (omega (arith, some))
 slice-by {s = false} false slice prefix at before some = omega (arith, prefix.short, at, before some)
 
-code-ahead : (t : Tally) (place kind fed : ℕ) → place + 3 ≤ fed → HasRoom t place
-    → HasRoomAhead (fed + 1) (next_prefix Whole kind) (Some (record { place = place; kind = kind; text = [] })) t
+code-room : (t : Tally) (place kind fed : ℕ) → place + 3 ≤ fed → HasRoom t place → code_fault t place kind ≡ None
+    → HasRoomWith (Some (record { place = place; kind = kind; text = [] })) t
+    (fed + 1 - prefix_length (next_prefix Whole kind))
 unfolding next
-code-ahead t place kind fed at room = record {
-  read = omega (arith, length-kind kind, at);
-  unit = λ b. unit-by (is_head kind && ltb 0 t.slices) t.unit (length-kind kind) at room.unit;
-  slice = λ some. slice-by {n = t.slices} (is_head kind) t.slice (prefix-after kind) at room.slice some;
-}
+code-room t place kind fed at room e =
+    let c : Code = record { place = place; kind = kind; text = [] } in
+    let short = length-kind kind in
+    let far : place + 1 ≤ fed + 1 - prefix_length (next_prefix Whole kind) = omega (arith, short, at) in record {
+      code = λ d is. omega (arith, far, ap (λ (v : Code). v.place) (same_Some c d is));
+      older = counts-more room.counts (omega (arith, far));
+      now = record {
+        from = from-by (next_begins t kind) t.unit short at room.from;
+        unit = λ begun. unit-by (is_head kind && ltb 0 t.slices) t.unit short at room.unit;
+        slice = λ some. slice-by {n = t.slices} (is_head kind) t.slice (prefix-after kind) at room.slice some;
+        picture = λ some. picture-next t c e room.picture some;
+        counts = counts-next t c e room.counts far;
+      };
+    }
 
 whole-is : (p : Prefix) → is_whole p ≡ true → p ≡ Whole
 whole-is Nothing e = absurd (false≢true e)
@@ -201,19 +197,21 @@ whole-is Zero e = absurd (false≢true e)
 whole-is Zeros e = absurd (false≢true e)
 whole-is Whole e = refl
 
-pub coded-ahead : {s n m : Progress} {place : ℕ} (x : ℕ) → is_whole s.prefix ≡ true → n ≡ scan_with_byte s x
-    → place ≡ s.fed - 3 → m ≡ scan_with_code n place x → IsAhead s → IsAhead m
-coded-ahead {s} {n} {m} {place} x whole noted at is room =
-    let before = room-before x whole noted at room in
+pub coded-ahead : {s n m : Progress} (x : ℕ) → is_whole s.prefix ≡ true → n ≡ scan_with_byte s x
+    → code_judgement n.latest n.tally (s.fed - 3) x ≡ None → m ≡ scan_with_code n (s.fed - 3) x → IsAhead s → IsAhead m
+coded-ahead {s} {n} {m} x whole noted judged is room =
+    let place = s.fed - 3 in
     let three = whole-length s.prefix whole in
     let fed : n.fed ≡ s.fed + 1 = ap (λ (v : Progress). v.fed) noted in
     let prefix : n.prefix ≡ next_prefix Whole x =
     ap (λ (v : Progress). v.prefix) noted ∙ ap (λ p. next_prefix p x) (whole-is s.prefix whole) in
-    let code : Code = record { place = place; kind = x; text = [] } in
-    let made = code-ahead (tally_now n) place x s.fed (omega (arith, at, three, room.read)) before in
-    subst (λ (v : Progress). IsAhead v) (sym is)
-    (subst (λ f. HasRoomAhead f n.prefix (Some code) (tally_now n)) (sym fed)
-    (subst (λ (p : Prefix). HasRoomAhead (s.fed + 1) p (Some code) (tally_now n)) (sym prefix) made))
+    let length : prefix_length n.prefix ≡ prefix_length (next_prefix Whole x) = ap prefix_length prefix in
+    let made = code-room (tally_now n) place x s.fed (omega (arith, three, room.read)) (room-before x whole noted room).now
+    (code_judgement-code n.latest n.tally place x judged) in
+    subst (λ (v : Progress). IsAhead v) (sym is) (record {
+      read = omega (arith, fed, length, length-kind x);
+      room = with-more made (omega (arith, fed, length));
+    })
 
 pub coded-awaits : {m : Progress} (Ready : ℕ → Type 0) (n : Progress) (x place : ℕ)
     → m ≡ scan_with_code n place x → AwaitsSliceAfter Ready (tally_now n) place x → AwaitsSlice Ready (tally_now m)
@@ -226,14 +224,14 @@ coded-awaits Ready n x place is awaits =
 pub skipped-ahead : {s n : Progress} (count : ℕ) → n.fed ≡ s.fed + count → n.prefix ≡ s.prefix
     → n.latest ≡ s.latest → n.tally ≡ s.tally → IsAhead s → IsAhead n
 skipped-ahead {s} {n} count fed prefix latest tally room =
-    let P : Prefix → Type 0 = λ p. HasRoomAhead n.fed p n.latest n.tally in
-    let L : Option Code → Type 0 = λ o. HasRoomAhead n.fed s.prefix o n.tally in
-    let T : Tally → Type 0 = λ t. HasRoomAhead n.fed s.prefix s.latest t in
-    subst P (sym prefix) (subst L (sym latest) (subst T (sym tally) (record {
-      read = omega (arith, room.read, fed);
-      unit = λ b. omega (arith, room.unit b, fed);
-      slice = λ some. omega (arith, room.slice some, fed);
-    })))
+    let length : prefix_length n.prefix ≡ prefix_length s.prefix = ap prefix_length prefix in
+    let end = n.fed - prefix_length n.prefix in
+    let L : Option Code → Type 0 = λ o. HasRoomWith o n.tally end in
+    let T : Tally → Type 0 = λ t. HasRoomWith s.latest t end in
+    record {
+      read = omega (arith, room.read, fed, length);
+      room = subst L (sym latest) (subst T (sym tally) (with-more room.room (omega (arith, fed, length))));
+    }
 
 pub skipped-awaits : (Ready : ℕ → Type 0) (s n : Progress) → n.latest ≡ s.latest → n.tally ≡ s.tally
     → AwaitsSlice Ready (tally_now s) → AwaitsSlice Ready (tally_now n)
@@ -258,11 +256,12 @@ end_judgement-sliced latest tally t end e is =
     (otherwise-second (latest_header_fault latest tally.rate end) (last_fault (tally_with latest tally)) e) in
     omega (arith, slices, some)
 
-pub end-least : (s : Progress) (t : Tally) → t ≡ tally_now s → 0 < t.slices → IsAhead s → t.slice + 4 ≤ s.fed
-end-least s t is some room =
-    let slices : t.slices ≡ (tally_now s).slices = ap (λ (v : Tally). v.slices) is in
-    let slice : t.slice ≡ (tally_now s).slice = ap (λ (v : Tally). v.slice) is in
-    omega (arith, slice, room.slice (omega (arith, slices, some)))
+-- what was read has room before the end
+pub ahead-room : (s : Progress) → IsAhead s → HasRoomWith s.latest s.tally s.fed
+ahead-room s room = with-more room.room (omega arith)
+
+pub end-room : (s : Progress) (t : Tally) → t ≡ tally_now s → IsAhead s → HasRoom t s.fed
+end-room s t is room = subst (λ (v : Tally). HasRoom v s.fed) (sym is) (ahead-room s room).now
 
 pub end-ready : (Ready : ℕ → Type 0) (s : Progress) (t : Tally) → t ≡ tally_now s → 0 < t.slices
     → AwaitsSlice Ready (tally_now s) → Ready t.slice

@@ -1,7 +1,7 @@
 -- A byte more, and a code more: what the scanner keeps stays what the bytes say.
-use Rattle.std.proofs.Common.{ℕ, suc, Bool, true, false, cond, eqb, ltb, leb, ◌+◌, ◌-◌, ◌^◌, ◌<◌, ◌≤◌, ◌≡◌, List, [], ◌∷◌, ◌++◌, Option, Some, None, length, sym, ◌∙◌, ap, refl, subst, inl, inr, arith}
+use Rattle.std.proofs.Common.{ℕ, Bool, true, false, cond, eqb, ltb, leb, ◌+◌, ◌-◌, ◌^◌, ◌<◌, ◌≤◌, ◌≡◌, List, [], ◌∷◌, ◌++◌, Option, Some, None, length, sym, ◌∙◌, ap, refl, subst, arith}
 use Rattle.std.specs.Option.{option_map}
-use Rattle.std.proofs.lemmas.Bool.{cases_Bool, eqb-false, leb-false, ne_eqb, eq-eqb, le-ltb, lt-ltb}
+use Rattle.std.proofs.lemmas.Bool.{eqb-false, leb-false, ne_eqb, eq-eqb, le-ltb, lt-ltb}
 use Rattle.std.proofs.lemmas.List.{append_assoc}
 use Rattle.mpeg_scan.specs.declared.codes.Code.{Code}
 use Rattle.mpeg_scan.specs.declared.faults.FilmFault.{FilmFault}
@@ -9,10 +9,10 @@ use Rattle.mpeg_scan.specs.declared.faults.FilmFault.TheVariants.{Empty, GroupTo
 use Rattle.mpeg_scan.specs.declared.progress.Progress.{Progress}
 use Rattle.mpeg_scan.specs.declared.tallies.Tally.{Tally}
 use Rattle.mpeg_scan.specs.Codes.{latest_prefix, next_prefix, is_whole, note, note_latest, codes_of}
-use Rattle.mpeg_scan.specs.Words.{is_head, is_slice, tally_of, slices_of, all_slices_of, pictures_of, before_group_of}
+use Rattle.mpeg_scan.specs.Words.{tally_of, pictures_of, before_group_of}
 use Rattle.mpeg_scan.specs.Faults.{first_refusal, latest_fault, kind_fault, second_fault, first_slice_fault, count_fault, code_fault, fault_at, first_fault, end_fault, last_fault, refusal_of}
 use Rattle.mpeg_scan.specs.Calls.{Call, calls_at, calls_of}
-use Rattle.mpeg_scan.specs.Steps.{one_more, one_picture, next, next_by, tally_with, code_judgement, end_judgement, latest_of, older_of}
+use Rattle.mpeg_scan.specs.Steps.{next, tally_with, code_judgement, end_judgement, latest_of, older_of}
 use Rattle.mpeg_scan.specs.Scans.{HasRead, scan_with_byte, scan_with_code}
 use Rattle.mpeg_scan.proofs.CodeLemmas.{matched-more}
 
@@ -42,10 +42,6 @@ pub older-note : (past : List Code) (x : ℕ) → older_of (note_latest past x) 
 older-note [] x = refl
 older-note (c ∷ past) x = refl
 
-length-note : (past : List Code) (x : ℕ) → length (note_latest past x) ≡ length past
-length-note [] x = refl
-length-note (c ∷ past) x = refl
-
 pub first_fault-note : (past : List Code) (x : ℕ) → first_fault (note_latest past x) ≡ first_fault past
 unfolding first_fault
 first_fault-note [] x = refl
@@ -60,31 +56,7 @@ pub codes-none : codes_of [] ≡ []
 unfolding codes_of
 codes-none = refl
 
-pub length-codes : (r : List ℕ) → length (codes_of r) ≤ length r
-length-codes [] = omega (arith, ap (λ (l : List Code). length l) codes-none)
-length-codes (x ∷ r) = elim (cases_Bool (is_whole (latest_prefix r))) [
-  | inl e ↦ omega (arith, ap (λ (l : List Code). length l) (codes-code x r e), length-note (codes_of r) x, length-codes r)
-  | inr e ↦ omega (arith, ap (λ (l : List Code). length l) (codes-plain x r e), length-note (codes_of r) x, length-codes r)
-]
-
 -- ---- bounds
-
-cond-bound : (b : Bool) (m n k : ℕ) → m ≤ k → n ≤ k → cond b m n ≤ k
-cond-bound true m n k h i = h
-cond-bound false m n k h i = i
-
-slices-bound : (past : List Code) → slices_of past ≤ length past
-slices-bound [] = omega arith
-slices-bound (c ∷ past) =
-    cond-bound (is_head c.kind) 0 (cond (is_slice c.kind) (slices_of past + 1) (slices_of past)) (suc (length past)) (omega arith)
-    (cond-bound (is_slice c.kind) (slices_of past + 1) (slices_of past) (suc (length past))
-    (omega (arith, slices-bound past)) (omega (arith, slices-bound past)))
-
-all_slices-bound : (past : List Code) → all_slices_of past ≤ length past
-all_slices-bound [] = omega arith
-all_slices-bound (c ∷ past) =
-    cond-bound (is_slice c.kind) (all_slices_of past + 1) (all_slices_of past) (suc (length past))
-    (omega (arith, all_slices-bound past)) (omega (arith, all_slices-bound past))
 
 pub otherwise-first : (f g : Option FilmFault) → first_refusal f g ≡ None → f ≡ None
 otherwise-first None g e = refl
@@ -108,18 +80,17 @@ code-accepted c past e =
     otherwise-second (first_fault past) (first_refusal (latest_fault past c.place) (code_fault t c.place c.kind)) e in
     otherwise-second (latest_fault past c.place) (code_fault t c.place c.kind) at_code
 
-code_fault-older : (c : Code) (past : List Code) → first_fault (c ∷ past) ≡ None
-    → count_fault (tally_of past) c.place c.kind ≡ None
-code_fault-older c past e =
-    let t = tally_of past in
-    let rest = otherwise-second (kind_fault t c.place c.kind)
-    (first_refusal (second_fault t c.kind)
-    (first_refusal (first_slice_fault t c.place c.kind) (count_fault t c.place c.kind))) (code-accepted c past e) in
-    let last = otherwise-second (second_fault t c.kind)
-    (first_refusal (first_slice_fault t c.place c.kind) (count_fault t c.place c.kind)) rest in
-    otherwise-second (first_slice_fault t c.place c.kind) (count_fault t c.place c.kind) last
+pub count-accepted : (t : Tally) (place kind : ℕ) → code_fault t place kind ≡ None
+    → count_fault t place kind ≡ None
+count-accepted t place kind e =
+    let first = first_slice_fault t place kind in
+    let count = count_fault t place kind in
+    otherwise-second first count
+    (otherwise-second (second_fault t kind) (first_refusal first count)
+    (otherwise-second (kind_fault t place kind)
+    (first_refusal (second_fault t kind) (first_refusal first count)) e))
 
-counted : {q : Bool} {p : ℕ} (b g : Bool) (place : ℕ) → leb 4194304 p ≡ q
+pub counted : {q : Bool} {p : ℕ} (b g : Bool) (place : ℕ) → leb 4194304 p ≡ q
     → cond b (cond g (Some (GroupTooLong place)) (cond q (Some TooLong) None)) None ≡ None → p ≤ 4194304
     → cond b (p + 1) p ≤ 4194304
 counted false g place test none bound = bound
@@ -131,49 +102,32 @@ pub pictures-bound : (past : List Code) → first_fault past ≡ None → pictur
 pictures-bound [] e = omega arith
 pictures-bound (c ∷ past) e =
     counted {p = pictures_of past} (eqb c.kind 0) (leb 1024 (pictures_of past - before_group_of past)) c.place
-    refl (code_fault-older c past e)
+    refl (count-accepted (tally_of past) c.place c.kind (code-accepted c past e))
     (pictures-bound past (accepted-older c past e))
 
 -- ---- the tally with the latest code
 
-next-plain : (past : List Code) (c : Code)
-    → next_by (pictures_of past + 1) (slices_of past + 1) (all_slices_of past + 1) (tally_of past) c ≡ tally_of (c ∷ past)
-next-plain [] c = refl
-next-plain (d ∷ past) c = refl
-
-pub next-tally : (past : List Code) (c : Code) → first_fault past ≡ None → length past < 2 ^ 63
-    → next (tally_of past) c ≡ tally_of (c ∷ past)
+pub next-tally : (past : List Code) (c : Code) → next (tally_of past) c ≡ tally_of (c ∷ past)
 unfolding next
-next-tally past c accepted short =
-    let pictures : one_picture (pictures_of past) ≡ pictures_of past + 1 = omega (arith, pictures-bound past accepted) in
-    let slices : one_more (slices_of past) ≡ slices_of past + 1 = omega (arith, slices-bound past, short) in
-    let all : one_more (all_slices_of past) ≡ all_slices_of past + 1 = omega (arith, all_slices-bound past, short) in
-    ap (λ n. next_by n (one_more (slices_of past)) (one_more (all_slices_of past)) (tally_of past) c) pictures
-    ∙ ap (λ n. next_by (pictures_of past + 1) n (one_more (all_slices_of past)) (tally_of past) c) slices
-    ∙ ap (λ n. next_by (pictures_of past + 1) (slices_of past + 1) n (tally_of past) c) all
-    ∙ next-plain past c
+next-tally [] c = refl
+next-tally (d ∷ past) c = refl
 
-pub tally_now-is : (past : List Code) → first_fault past ≡ None → length past < 2 ^ 63
-    → tally_with (latest_of past) (tally_of (older_of past)) ≡ tally_of past
-tally_now-is [] accepted short = refl
-tally_now-is (c ∷ past) accepted short = next-tally past c (accepted-older c past accepted) (omega arith)
+pub tally_now-is : (past : List Code) → tally_with (latest_of past) (tally_of (older_of past)) ≡ tally_of past
+tally_now-is [] = refl
+tally_now-is (c ∷ past) = next-tally past c
 
-pub code_judgement-is : (past : List Code) (place kind : ℕ) → first_fault past ≡ None → length past < 2 ^ 63
+pub code_judgement-is : (past : List Code) (place kind : ℕ)
     → code_judgement (latest_of past) (tally_of (older_of past)) place kind ≡ fault_at past place kind
 unfolding code_judgement fault_at
-code_judgement-is [] place kind accepted short = refl
-code_judgement-is (c ∷ past) place kind accepted short =
-    ap (λ (t : Tally). first_refusal (latest_fault (c ∷ past) place) (code_fault t place kind))
-    (next-tally past c (accepted-older c past accepted) (omega arith))
+code_judgement-is [] place kind = refl
+code_judgement-is (c ∷ past) place kind =
+    ap (λ (t : Tally). first_refusal (latest_fault (c ∷ past) place) (code_fault t place kind)) (next-tally past c)
 
 -- ---- a byte
 
 -- the codes before the latest one are as many, and the scanner's are accepted too
 pub note-accepted : (r : List ℕ) (x : ℕ) → first_fault (codes_of r) ≡ None → first_fault (note_latest (codes_of r) x) ≡ None
 note-accepted r x accepted = first_fault-note (codes_of r) x ∙ accepted
-
-pub note-short : (r : List ℕ) (x : ℕ) → length r < 2 ^ 42 → length (note_latest (codes_of r) x) < 2 ^ 63
-note-short r x short = omega (arith, length-note (codes_of r) x, length-codes r)
 
 pub fed-plain : (s : Progress) (r : List ℕ) (x : ℕ) → HasRead s r → is_whole (latest_prefix r) ≡ false
     → HasRead (scan_with_byte s x) (x ∷ r)
@@ -187,24 +141,24 @@ fed-plain s r x kept plain =
     }
 
 -- what the scanner judges a code by, once its byte is noted
-pub code_judgement-next : {s : Progress} {r : List ℕ} (x place kind : ℕ) → HasRead s r → length r < 2 ^ 42
+pub code_judgement-next : {s : Progress} {r : List ℕ} (x place kind : ℕ) → HasRead s r
     → code_judgement (scan_with_byte s x).latest s.tally place kind ≡ fault_at (note_latest (codes_of r) x) place kind
-code_judgement-next {s} {r} x place kind kept short =
+code_judgement-next {s} {r} x place kind kept =
     let past = note_latest (codes_of r) x in
     ap (λ (l : Option Code). code_judgement l s.tally place kind)
     (ap (option_map (λ c. note c x)) kept.latest ∙ sym (latest-note (codes_of r) x))
     ∙ ap (λ (t : Tally). code_judgement (latest_of past) t place kind)
     (kept.tally ∙ ap tally_of (sym (older-note (codes_of r) x)))
-    ∙ code_judgement-is past place kind (note-accepted r x kept.accepted) (note-short r x short)
+    ∙ code_judgement-is past place kind
 
-pub tally-noted : (s : Progress) (r : List ℕ) (x : ℕ) → HasRead s r → length r < 2 ^ 42
+pub tally-noted : (s : Progress) (r : List ℕ) (x : ℕ) → HasRead s r
     → tally_with (scan_with_byte s x).latest s.tally ≡ tally_of (note_latest (codes_of r) x)
-tally-noted s r x kept short =
+tally-noted s r x kept =
     let past = note_latest (codes_of r) x in
     ap (λ (l : Option Code). tally_with l s.tally)
     (ap (option_map (λ c. note c x)) kept.latest ∙ sym (latest-note (codes_of r) x))
     ∙ ap (λ (t : Tally). tally_with (latest_of past) t) (kept.tally ∙ ap tally_of (sym (older-note (codes_of r) x)))
-    ∙ tally_now-is past (note-accepted r x kept.accepted) (note-short r x short)
+    ∙ tally_now-is past
 
 first_fault-code : (past : List Code) (place kind : ℕ) → first_fault past ≡ None
     → first_fault (record { place = place; kind = kind; text = [] } ∷ past) ≡ fault_at past place kind
@@ -212,26 +166,26 @@ unfolding first_fault
 first_fault-code past place kind accepted = ap (λ (f : Option FilmFault). first_refusal f (fault_at past place kind)) accepted
 
 -- the refusal at a code, and that there is none
-pub first_fault-at : (s : Progress) (r : List ℕ) (x : ℕ) → HasRead s r → length r < 2 ^ 42
+pub first_fault-at : (s : Progress) (r : List ℕ) (x : ℕ) → HasRead s r
     → is_whole (latest_prefix r) ≡ true
     → first_fault (codes_of (x ∷ r)) ≡ code_judgement (scan_with_byte s x).latest s.tally (s.fed - 3) x
-first_fault-at s r x kept short whole =
+first_fault-at s r x kept whole =
     let past = note_latest (codes_of r) x in
     ap first_fault (codes-code x r whole) ∙ first_fault-code past (length r - 3) x (note-accepted r x kept.accepted)
-    ∙ ap (λ n. fault_at past (n - 3) x) (sym kept.fed) ∙ sym (code_judgement-next x (s.fed - 3) x kept short)
+    ∙ ap (λ n. fault_at past (n - 3) x) (sym kept.fed) ∙ sym (code_judgement-next x (s.fed - 3) x kept)
 
-pub fed-code : {s : Progress} {r : List ℕ} {x : ℕ} → HasRead s r → length r < 2 ^ 42
+pub fed-code : {s : Progress} {r : List ℕ} {x : ℕ} → HasRead s r
     → is_whole (latest_prefix r) ≡ true
     → code_judgement (scan_with_byte s x).latest s.tally (s.fed - 3) x ≡ None
     → HasRead (scan_with_code (scan_with_byte s x) (s.fed - 3) x) (x ∷ r)
-fed-code {s} {r} {x} kept short whole none =
+fed-code {s} {r} {x} kept whole none =
     let codes = codes-code x r whole in
     let past = note_latest (codes_of r) x in record {
       fed = omega (arith, kept.fed);
       prefix = ap (λ p. next_prefix p x) kept.prefix ∙ sym (matched-more x r);
       latest = ap (λ n. latest_of (record { place = n - 3; kind = x; text = [] } ∷ past)) kept.fed ∙ ap latest_of (sym codes);
-      tally = tally-noted s r x kept short ∙ ap (λ (l : List Code). tally_of (older_of l)) (sym codes);
-      accepted = first_fault-at s r x kept short whole ∙ none;
+      tally = tally-noted s r x kept ∙ ap (λ (l : List Code). tally_of (older_of l)) (sym codes);
+      accepted = first_fault-at s r x kept whole ∙ none;
     }
 
 pub told-cons : (c : Code) (past : List Code) → calls_of (c ∷ past) ≡ calls_of past ++ calls_at (tally_of past) c.place c.kind
@@ -242,41 +196,37 @@ told-cons c past = refl
 pub told-plain : (x : ℕ) (r : List ℕ) → is_whole (latest_prefix r) ≡ false → calls_of (codes_of (x ∷ r)) ≡ calls_of (codes_of r)
 told-plain x r plain = ap calls_of (codes-plain x r plain) ∙ told-note (codes_of r) x
 
-pub told-at : (s : Progress) (r : List ℕ) (x : ℕ) → HasRead s r → length r < 2 ^ 42
+pub told-at : (s : Progress) (r : List ℕ) (x : ℕ) → HasRead s r
     → is_whole (latest_prefix r) ≡ true
     → calls_of (codes_of (x ∷ r))
     ≡ calls_of (codes_of r) ++ calls_at (tally_with (scan_with_byte s x).latest s.tally) (s.fed - 3) x
-told-at s r x kept short whole =
+told-at s r x kept whole =
     let past = note_latest (codes_of r) x in
     ap calls_of (codes-code x r whole) ∙ told-cons (record { place = length r - 3; kind = x; text = [] }) past
     ∙ ap (λ (l : List Call). l ++ calls_at (tally_of past) (length r - 3) x) (told-note (codes_of r) x)
-    ∙ ap (λ (t : Tally). calls_of (codes_of r) ++ calls_at t (length r - 3) x) (sym (tally-noted s r x kept short))
+    ∙ ap (λ (t : Tally). calls_of (codes_of r) ++ calls_at t (length r - 3) x) (sym (tally-noted s r x kept))
     ∙ ap (λ n. calls_of (codes_of r) ++ calls_at (tally_with (scan_with_byte s x).latest s.tally) (n - 3) x) (sym kept.fed)
 
 -- ---- as the code takes a byte
 
-whole-read : {s : Progress} {r : List ℕ} {b w : Bool} → HasRead s r → w ≡ b → w ≡ is_whole s.prefix
+whole-read : {s : Progress} {r : List ℕ} {b : Bool} → HasRead s r → is_whole s.prefix ≡ b
     → is_whole (latest_prefix r) ≡ b
-whole-read {s} {r} {w} kept test is = sym (is ∙ ap is_whole kept.prefix) ∙ test
+whole-read kept is = sym (ap is_whole kept.prefix) ∙ is
 
-short-read : (s : Progress) (r : List ℕ) → HasRead s r → s.fed < 2 ^ 41 → length r < 2 ^ 42
-short-read s r kept short = omega (arith, kept.fed)
-
-pub taken-plain : {s n : Progress} {r : List ℕ} {x : ℕ} {w : Bool} → w ≡ false → w ≡ is_whole s.prefix
+pub taken-plain : {s n : Progress} {r : List ℕ} {x : ℕ} → is_whole s.prefix ≡ false
     → n ≡ scan_with_byte s x → HasRead s r → HasRead n (x ∷ r)
-taken-plain {s} {r} {x} {w} test is noted kept =
-    subst (λ (v : Progress). HasRead v (x ∷ r)) (sym noted) (fed-plain s r x kept (whole-read kept test is))
+taken-plain {s} {r} {x} plain noted kept =
+    subst (λ (v : Progress). HasRead v (x ∷ r)) (sym noted) (fed-plain s r x kept (whole-read kept plain))
 
 -- the byte that ends a start code is noted
 pub record CodeNoted (s n : Progress) (r : List ℕ) (x place : ℕ) : Type 0 where
-  pub short : s.fed < 2 ^ 41
   pub whole : is_whole s.prefix ≡ true
   pub noted : n ≡ scan_with_byte s x
   pub place_is : place ≡ s.fed - 3
   pub kept : HasRead s r
 
 whole-before : {s n : Progress} {r : List ℕ} {x place : ℕ} → CodeNoted s n r x place → is_whole (latest_prefix r) ≡ true
-whole-before code = whole-read code.kept code.whole refl
+whole-before code = whole-read code.kept code.whole
 
 pub taken-code : {s n m : Progress} {r : List ℕ} {x place : ℕ} → CodeNoted s n r x place
     → (code_judgement n.latest n.tally place x ≡ None) × (m ≡ scan_with_code n place x) → HasRead m (x ∷ r)
@@ -286,18 +236,18 @@ taken-code {s} {m} {r} {x} {place} code h =
     ∙ ap (λ p. code_judgement (scan_with_byte s x).latest s.tally p x) place_is) ∙ h.0 in
     let became : m ≡ scan_with_code (scan_with_byte s x) (s.fed - 3) x =
     h.1 ∙ ap (λ (v : Progress). scan_with_code v place x) noted ∙ ap (λ p. scan_with_code (scan_with_byte s x) p x) place_is in
-    subst (λ (v : Progress). HasRead v (x ∷ r)) (sym became) (fed-code kept (short-read s r kept short) (whole-before code) none)
+    subst (λ (v : Progress). HasRead v (x ∷ r)) (sym became) (fed-code kept (whole-before code) none)
   where
-    open code use {short, noted, place_is, kept}
+    open code use {noted, place_is, kept}
 
 pub taken-fault : {s n : Progress} {r : List ℕ} {x place : ℕ} {f : FilmFault} → CodeNoted s n r x place
     → code_judgement n.latest n.tally place x ≡ Some f → first_fault (codes_of (x ∷ r)) ≡ Some f
 taken-fault {s} {r} {x} {place} code h =
-    first_fault-at s r x kept (short-read s r kept short) (whole-before code)
+    first_fault-at s r x kept (whole-before code)
     ∙ sym (ap (λ (v : Progress). code_judgement v.latest v.tally place x) noted
     ∙ ap (λ p. code_judgement (scan_with_byte s x).latest s.tally p x) place_is) ∙ h
   where
-    open code use {short, noted, place_is, kept}
+    open code use {noted, place_is, kept}
 
 pub taken-calls : {s n : Progress} {r : List ℕ} {x place : ℕ} → CodeNoted s n r x place → (calls : List Call)
     → (calls ++ calls_of (codes_of r)) ++ calls_at (tally_with n.latest n.tally) place x ≡ calls ++ calls_of (codes_of (x ∷ r))
@@ -305,35 +255,32 @@ taken-calls {s} {n} {r} {x} {place} code calls =
     append_assoc calls (calls_of (codes_of r)) (calls_at (tally_with n.latest n.tally) place x)
     ∙ ap (λ (v : Progress). calls ++ (calls_of (codes_of r) ++ calls_at (tally_with v.latest v.tally) place x)) noted
     ∙ ap (λ p. calls ++ (calls_of (codes_of r) ++ calls_at (tally_with (scan_with_byte s x).latest s.tally) p x)) place_is
-    ∙ ap (λ (l : List Call). calls ++ l) (sym (told-at s r x kept (short-read s r kept short) (whole-before code)))
+    ∙ ap (λ (l : List Call). calls ++ l) (sym (told-at s r x kept (whole-before code)))
   where
-    open code use {short, noted, place_is, kept}
+    open code use {noted, place_is, kept}
 
-pub taken-none : {s : Progress} {r : List ℕ} {w : Bool} (x : ℕ) → w ≡ false → w ≡ is_whole s.prefix
-    → HasRead s r → (calls : List Call) → calls ++ calls_of (codes_of r) ≡ calls ++ calls_of (codes_of (x ∷ r))
-taken-none {s} {r} {w} x test is kept calls =
-    ap (λ (l : List Call). calls ++ l) (sym (told-plain x r (whole-read kept test is)))
+pub taken-none : {s : Progress} {r : List ℕ} (x : ℕ) → is_whole s.prefix ≡ false → HasRead s r
+    → (calls : List Call) → calls ++ calls_of (codes_of r) ≡ calls ++ calls_of (codes_of (x ∷ r))
+taken-none {s} {r} x plain kept calls =
+    ap (λ (l : List Call). calls ++ l) (sym (told-plain x r (whole-read kept plain)))
 
 -- ---- the film's end
 
-end_fault-is : (past : List Code) (end : ℕ) → first_fault past ≡ None → length past < 2 ^ 63
+end_fault-is : (past : List Code) (end : ℕ)
     → end_judgement (latest_of past) (tally_of (older_of past)) end ≡ end_fault past end
 unfolding end_judgement end_fault
-end_fault-is [] end accepted short = refl
-end_fault-is (c ∷ past) end accepted short =
+end_fault-is [] end = refl
+end_fault-is (c ∷ past) end =
     ap (λ (t : Tally). first_refusal (latest_fault (c ∷ past) end) (last_fault t))
-    (next-tally past c (accepted-older c past accepted) (omega arith))
+    (next-tally past c)
 
-codes-short : (s : Progress) (r : List ℕ) → HasRead s r → s.fed ≤ 2 ^ 40 → length (codes_of r) < 2 ^ 63
-codes-short s r kept short = omega (arith, kept.fed, length-codes r)
-
-end_judgement-is : (s : Progress) (r : List ℕ) → HasRead s r → s.fed ≤ 2 ^ 40
+end_judgement-is : (s : Progress) (r : List ℕ) → HasRead s r
     → end_judgement s.latest s.tally s.fed ≡ end_fault (codes_of r) (length r)
-end_judgement-is s r kept short =
+end_judgement-is s r kept =
     ap (λ (l : Option Code). end_judgement l s.tally s.fed) kept.latest
     ∙ ap (λ (t : Tally). end_judgement (latest_of (codes_of r)) t s.fed) kept.tally
     ∙ ap (end_judgement (latest_of (codes_of r)) (tally_of (older_of (codes_of r)))) kept.fed
-    ∙ end_fault-is (codes_of r) (length r) kept.accepted (codes-short s r kept short)
+    ∙ end_fault-is (codes_of r) (length r)
 
 refusal-by : (r : List ℕ) → 0 < length r → length r ≤ 2 ^ 40 → first_fault (codes_of r) ≡ None
     → refusal_of r ≡ end_fault (codes_of r) (length r)
@@ -369,10 +316,10 @@ refusal-long s r long kept =
 pub refusal-is : (s : Progress) (r : List ℕ) → 0 < s.fed → s.fed ≤ 2 ^ 40 → HasRead s r
     → refusal_of r ≡ end_judgement s.latest s.tally s.fed
 refusal-is s r some short kept =
-    refusal-by r (omega (arith, kept.fed)) (omega (arith, kept.fed)) kept.accepted ∙ sym (end_judgement-is s r kept short)
+    refusal-by r (omega (arith, kept.fed)) (omega (arith, kept.fed)) kept.accepted ∙ sym (end_judgement-is s r kept)
 
-pub tally-ended : (s : Progress) (r : List ℕ) → s.fed ≤ 2 ^ 40 → HasRead s r → tally_with s.latest s.tally ≡ tally_of (codes_of r)
-tally-ended s r short kept =
+pub tally-ended : (s : Progress) (r : List ℕ) → HasRead s r → tally_with s.latest s.tally ≡ tally_of (codes_of r)
+tally-ended s r kept =
     ap (λ (l : Option Code). tally_with l s.tally) kept.latest
     ∙ ap (λ (t : Tally). tally_with (latest_of (codes_of r)) t) kept.tally
-    ∙ tally_now-is (codes_of r) kept.accepted (codes-short s r kept short)
+    ∙ tally_now-is (codes_of r)

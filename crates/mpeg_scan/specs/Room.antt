@@ -1,13 +1,15 @@
--- What a scanner knows of places: its latest unit and slice began well before the next code, so
--- that the parts of which it tells have the lengths that the grammar gives.
-use Rattle.std.specs.Prelude.{ℕ, ◌+◌, ◌<◌, ◌≤◌, ◌≡◌, true, if◌then◌else◌, Option}
+-- What a scanner knows of places and counts: its latest unit and slice began well before the next
+-- code, so that the parts of which it tells have the lengths that the grammar gives; and its counts
+-- have room for that code.
+use Rattle.std.specs.Prelude.{ℕ, ◌+◌, ◌-◌, ◌<◌, ◌≤◌, ◌≡◌, true, if◌then◌else◌, IsSome, Option}
+use Rattle.std.specs.Option.{ForSome}
 use Rattle.mpeg_scan.specs.declared.codes.Code.{Code}
 use Rattle.mpeg_scan.specs.declared.codes.Prefix.{Prefix}
 use Rattle.mpeg_scan.specs.declared.codes.Prefix.TheVariants.{Nothing, Zero, Zeros, Whole}
 use Rattle.mpeg_scan.specs.declared.progress.Progress.{Progress}
 use Rattle.mpeg_scan.specs.declared.tallies.Tally.{Tally}
 use Rattle.mpeg_scan.specs.Words.{is_head, is_slice}
-use Rattle.mpeg_scan.specs.Steps.{one_more, tally_with}
+use Rattle.mpeg_scan.specs.Steps.{tally_with}
 
 -- how many bytes of the next prefix stand at the end
 abbrev pub prefix_length : Prefix → ℕ
@@ -16,24 +18,32 @@ prefix_length Zero = 1
 prefix_length Zeros = 2
 prefix_length Whole = 3
 
--- the latest unit began at least 3 bytes before a place, and its latest slice 4
+-- the counts of codes that aren't refused, before a place
+pub record HasCounts (t : Tally) (place : ℕ) : Type 0 where
+  pub pictures : t.pictures ≤ 4194304
+  pub group : t.before_group ≤ t.pictures
+  pub slices : t.slices ≤ t.all_slices
+  pub all : t.all_slices ≤ place
+
+-- the latest unit began at least 3 bytes before a place, and its latest slice 4; a unit with slices
+-- has a picture
 pub record HasRoom (t : Tally) (place : ℕ) : Type 0 where
+  pub from : t.unit ≤ place
   pub unit : t.begun ≡ true → t.unit + 3 ≤ place
   pub slice : 0 < t.slices → t.slice + 4 ≤ place
+  pub picture : 0 < t.slices → IsSome t.picture
+  pub counts : HasCounts t place
 
--- the same of a tally without the latest code, before the next prefix, of which a part may have
--- been read
-pub record HasRoomAhead (fed : ℕ) (prefix : Prefix) (latest : Option Code) (tally : Tally)
-    : Type 0 where
-  pub read : prefix_length prefix ≤ fed
-  pub unit : (tally_with latest tally).begun ≡ true →
-      (tally_with latest tally).unit + 3 + prefix_length prefix ≤ fed
-  pub slice : 0 < (tally_with latest tally).slices →
-      (tally_with latest tally).slice + 4 + prefix_length prefix ≤ fed
+-- the same of a tally without the latest code, which stands before the place
+pub record HasRoomWith (latest : Option Code) (tally : Tally) (place : ℕ) : Type 0 where
+  pub code : ForSome latest (λ c. c.place ≤ place)
+  pub older : HasCounts tally place
+  pub now : HasRoom (tally_with latest tally) place
 
--- the same of what was read
-abbrev pub IsAhead : Progress → Type 0
-IsAhead s = HasRoomAhead s.fed s.prefix s.latest s.tally
+-- the same of what was read, before the next prefix, of which a part may have been read
+pub record IsAhead (s : Progress) : Type 0 where
+  pub read : prefix_length s.prefix ≤ s.fed
+  pub room : HasRoomWith s.latest s.tally (s.fed - prefix_length s.prefix)
 
 -- where a unit has slices, it is known of the place of the latest that the next slice may begin
 -- there
@@ -43,5 +53,5 @@ AwaitsSlice Ready t = 0 < t.slices → Ready t.slice
 -- the same after a code
 abbrev pub AwaitsSliceAfter : (ℕ → Type 0) → Tally → ℕ → ℕ → Type 0
 AwaitsSliceAfter Ready t place kind =
-    0 < (if is_head kind then 0 else (if is_slice kind then one_more t.slices else t.slices))
+    0 < (if is_head kind then 0 else (if is_slice kind then t.slices + 1 else t.slices))
     → Ready (if is_slice kind then place else t.slice)

@@ -1,6 +1,6 @@
 -- What one code more makes of each word on the codes, and what the scanner keeps.
-use Rattle.std.specs.Prelude.{ℕ, ◌+◌, ◌-◌, ◌^◌, ◌==◌, ◌&&◌, ◌||◌, Bool, true, false, not, List, []}
-use Rattle.std.specs.Prelude.{◌∷◌, Option, Some, None, if◌then◌else◌, nat_lt, min}
+use Rattle.std.specs.Prelude.{ℕ, ◌+◌, ◌==◌, ◌&&◌, ◌||◌, Bool, true, false, not, List, []}
+use Rattle.std.specs.Prelude.{◌∷◌, Option, Some, None, if◌then◌else◌, nat_lt}
 use Rattle.mpeg_scan.specs.declared.codes.Code.{Code}
 use Rattle.mpeg_scan.specs.declared.faults.FilmFault.{FilmFault}
 use Rattle.mpeg_scan.specs.declared.progress.Progress.{Progress}
@@ -8,14 +8,6 @@ use Rattle.mpeg_scan.specs.declared.tallies.Header.{Header}
 use Rattle.mpeg_scan.specs.declared.tallies.Tally.{Tally}
 use Rattle.mpeg_scan.specs.Words.{is_head, is_slice, rate_code, header_of}
 use Rattle.mpeg_scan.specs.Faults.{first_refusal, header_fault, code_fault, last_fault}
-
--- one more, as 64 bits hold it
-abbrev pub one_more : ℕ → ℕ
-one_more n = min (n + 1) (2 ^ 64 - 1)
-
--- the same of 32 bits
-abbrev pub one_picture : ℕ → ℕ
-one_picture n = min (n + 1) (2 ^ 32 - 1)
 
 abbrev pub next_begins : Tally → ℕ → Bool
 next_begins t kind = not t.begun || (is_head kind && nat_lt 0 t.slices)
@@ -31,17 +23,17 @@ next_picture t c =
     if c.kind == 0 then Some (header_of c) else (if next_begins t c.kind then None else t.picture)
 
 abbrev pub next_pictures : Tally → Code → ℕ
-next_pictures t c = if c.kind == 0 then one_picture t.pictures else t.pictures
+next_pictures t c = if c.kind == 0 then t.pictures + 1 else t.pictures
 
 abbrev pub next_before_group : Tally → Code → ℕ
 next_before_group t c = if c.kind == 0xb8 then t.pictures else t.before_group
 
 abbrev pub next_slices : Tally → Code → ℕ
 next_slices t c =
-    if is_head c.kind then 0 else (if is_slice c.kind then one_more t.slices else t.slices)
+    if is_head c.kind then 0 else (if is_slice c.kind then t.slices + 1 else t.slices)
 
 abbrev pub next_all_slices : Tally → Code → ℕ
-next_all_slices t c = if is_slice c.kind then one_more t.all_slices else t.all_slices
+next_all_slices t c = if is_slice c.kind then t.all_slices + 1 else t.all_slices
 
 abbrev pub next_head_end : Tally → Code → ℕ
 next_head_end t c = if is_slice c.kind && t.slices == 0 then c.place else t.head_end
@@ -58,27 +50,22 @@ next_starts_group t c =
     if c.kind == 0xb8 || not t.begun then true
     else (if next_begins t c.kind then false else t.starts_group)
 
--- the tally after a code, where one picture, slice of the unit and slice of the film more make
--- these
-abbrev pub next_by : ℕ → ℕ → ℕ → Tally → Code → Tally
-next_by pictures slices all_slices t c = record {
+-- the tally after a code
+unfoldable pub next : Tally → Code → Tally
+next t c = record {
   begun = true;
   rate = next_rate t c;
   unit = next_unit t c;
   picture = next_picture t c;
-  pictures = (if c.kind == 0 then pictures else t.pictures);
+  pictures = next_pictures t c;
   before_group = next_before_group t c;
-  slices = (if is_head c.kind then 0 else (if is_slice c.kind then slices else t.slices));
-  all_slices = (if is_slice c.kind then all_slices else t.all_slices);
+  slices = next_slices t c;
+  all_slices = next_all_slices t c;
   head_end = next_head_end t c;
   slice = next_slice t c;
   has_sequence = next_has_sequence t c;
   starts_group = next_starts_group t c;
 }
-
--- the tally after a code
-unfoldable pub next : Tally → Code → Tally
-next t c = next_by (one_picture t.pictures) (one_more t.slices) (one_more t.all_slices) t c
 
 -- the tally with the latest code, of which the scanner keeps the text apart
 abbrev pub tally_with : Option Code → Tally → Tally

@@ -1,8 +1,9 @@
 //! Why a film is refused, judged by its start codes one after another.
-ghost use Rattle.std.specs.Prelude.{◌≡◌};
+ghost use Rattle.std.specs.Prelude.{◌≡◌, ◌≤◌};
 ghost use Rattle.mpeg_scan.specs.Faults.{header_fault, kind_fault, second_fault, first_slice_fault};
 ghost use Rattle.mpeg_scan.specs.Faults.{count_fault, code_fault, last_fault, picture_fault};
 ghost use Rattle.mpeg_scan.specs.Faults.{rate_fault};
+ghost use Rattle.mpeg_scan.specs.Room.{HasRoom};
 
 use crate::codes::Code;
 use crate::tallies::{
@@ -100,9 +101,10 @@ const VECTORS_HEADER: u64 = 9;
 /// The refusal of the header that `code` begins, where the next code, or the film's end, stands at
 /// `end`. `rate` is the rate code of the film, or 0 before its first sequence header.
 pub(crate) fn header_fault(rate: u8, code: &Code, end: u64) -> Option<FilmFault>
+    requires { code.now.place ≤ end }
     ensures { result ≡ header_fault rate code.now end }
 {
-    let length = end.saturating_sub(code.place);
+    let length = end - code.place;
     if code.kind == SEQUENCE {
         if length < SEQUENCE_HEADER {
             Some(FilmFault::ShortHeader(code.place))
@@ -124,6 +126,7 @@ pub(crate) fn header_fault(rate: u8, code: &Code, end: u64) -> Option<FilmFault>
 
 /// The refusal of a code after those of `tally`, once the headers before it are judged.
 pub(crate) fn code_fault(tally: &Tally, place: u64, kind: u8) -> Option<FilmFault>
+    requires { HasRoom tally.now place }
     ensures { result ≡ code_fault tally.now place kind }
 {
     if let Some(fault) = kind_fault(tally, place, kind) {
@@ -169,10 +172,11 @@ fn rate_fault(rate: u8, code: &Code) -> Option<FilmFault>
 
 /// The refusal of a picture header: too short, or of no type.
 fn picture_fault(code: &Code, end: u64) -> Option<FilmFault>
+    requires { code.now.place ≤ end }
     ensures { result ≡ picture_fault code.now end }
 {
     let kind = type_of(code);
-    let length = end.saturating_sub(code.place);
+    let length = end - code.place;
     if length < PICTURE_HEADER || ((kind == 2 || kind == 3) && length < VECTORS_HEADER) {
         Some(FilmFault::ShortHeader(code.place))
     } else if 1 <= kind && kind <= 4 {
@@ -211,13 +215,14 @@ fn second_fault(tally: &Tally, kind: u8) -> Option<FilmFault>
 
 /// The refusal of the first slice of a unit by the head before it: without a picture, or too long.
 fn first_slice_fault(tally: &Tally, place: u64, kind: u8) -> Option<FilmFault>
+    requires { tally.now.unit ≤ place }
     ensures { result ≡ first_slice_fault tally.now place kind }
 {
     if is_slice(kind) && tally.slices == 0 {
         match tally.picture {
             None => Some(FilmFault::HeadWithoutPicture(tally.unit)),
             Some(_) => {
-                if MAX_HEAD_BYTES < place.saturating_sub(tally.unit) {
+                if MAX_HEAD_BYTES < place - tally.unit {
                     Some(FilmFault::HeadTooLong(tally.unit))
                 } else {
                     None
@@ -231,11 +236,12 @@ fn first_slice_fault(tally: &Tally, place: u64, kind: u8) -> Option<FilmFault>
 
 /// The refusal of one picture more in its group or film.
 fn count_fault(tally: &Tally, place: u64, kind: u8) -> Option<FilmFault>
+    requires { tally.now.before_group ≤ tally.now.pictures }
     ensures { result ≡ count_fault tally.now place kind }
 {
     if kind != PICTURE {
         None
-    } else if tally.pictures.saturating_sub(tally.before_group) >= MAX_GROUP_PICTURES {
+    } else if tally.pictures - tally.before_group >= MAX_GROUP_PICTURES {
         Some(FilmFault::GroupTooLong(place))
     } else if tally.pictures >= MAX_FILM_PICTURES {
         Some(FilmFault::TooLong)

@@ -1,12 +1,12 @@
 //! Tells of a film's heads, slices and units as they end.
-ghost use Rattle.std.specs.Prelude.{◌≡◌, ◌+◌, ◌^◌, ◌<◌, ◌≤◌, ◌++◌, ◌∷◌, ℕ, [], List, OnOk, true};
-ghost use Rattle.mpeg_scan.specs.Room.{AwaitsSlice, AwaitsSliceAfter};
+ghost use Rattle.std.specs.Prelude.{◌≡◌, ◌+◌, ◌^◌, ◌<◌, ◌≤◌, ◌++◌, ◌∷◌, ℕ, [], List, IsSome, OnOk, true};
+ghost use Rattle.mpeg_scan.specs.Room.{AwaitsSlice, AwaitsSliceAfter, HasRoom};
 ghost use Rattle.mpeg_scan.specs.Words.{is_slice};
 ghost use Rattle.mpeg_scan.specs.Calls.{Call, calls_at, head_call, slice_call, unit_at, unit_call};
 ghost use Rattle.mpeg_scan.specs.Calls.{unit_end};
 
-use crate::tallies::{Header, Tally, is_head, is_slice};
-use crate::units::{Kind, Unit};
+use crate::tallies::{Tally, is_head, is_slice};
+use crate::units::Unit;
 use vod_base::NoMemory;
 
 /// What hears of a film's parts while it is scanned: of each unit its head, its slices in order,
@@ -50,7 +50,8 @@ pub trait Found {
 /// Tells of the latest unit's last slice and of the unit, which end at `to`.
 #[tactic(auto, using(std::proofs::lemmas::List::append_assoc))]
 pub(crate) fn tell_unit<F: Found>(tally: &Tally, to: u64, found: &mut F) -> Result<(), NoMemory>
-    requires least { tally.now.slice + 4 ≤ to }
+    requires some { 0 < tally.now.slices }
+    requires room { HasRoom tally.now to }
     requires within { to ≤ 2 ^ 40 }
     requires ready { F.ready_at found.old tally.now.slice }
     ensures { OnOk result ((calls : List Call) → F.heard found.old calls →
@@ -70,7 +71,7 @@ pub(crate) fn tell<F: Found>(
 ) -> Result<(), NoMemory>
     requires head { is_slice kind ≡ true → tally.now.slices ≡ 0 → tally.now.unit < place }
     requires short { is_slice kind ≡ true → tally.now.slices ≡ 0 → place ≤ tally.now.unit + 1380 }
-    requires least { 0 < tally.now.slices → tally.now.slice + 4 ≤ place }
+    requires room { HasRoom tally.now place }
     requires within { place ≤ 2 ^ 40 }
     requires ready { AwaitsSlice (F.ready_at found.old) tally.now }
     ensures ready { OnOk result (AwaitsSliceAfter (F.ready_at found.new) tally.now place kind) }
@@ -92,19 +93,16 @@ pub(crate) fn tell<F: Found>(
 
 /// The latest unit, where it ends at `to`.
 fn unit_at(tally: &Tally, to: u64) -> Unit
+    requires picture { IsSome tally.now.picture }
+    requires slices { tally.now.slices ≤ tally.now.all_slices }
     ensures { result ≡ unit_at tally.now to }
 {
-    let picture = tally.picture.unwrap_or(Header {
-        place: 0,
-        temporal: 0,
-        kind: Kind::D,
-        vectors: 0,
-    });
+    let picture = tally.picture.unwrap();
     Unit {
         from: tally.unit,
         head_end: tally.head_end,
         to,
-        first_slice: tally.all_slices.saturating_sub(tally.slices),
+        first_slice: tally.all_slices - tally.slices,
         slices: tally.slices,
         temporal: picture.temporal,
         presentation: u64::from(tally.before_group) + u64::from(picture.temporal),

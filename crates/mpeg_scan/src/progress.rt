@@ -2,10 +2,11 @@
 ghost use Rattle.std.specs.Prelude.{◌≡◌, ℕ, ◌+◌, ◌^◌, ◌<◌, ◌≤◌, List, [], ◌∷◌, ◌++◌, Some, None};
 ghost use Rattle.std.specs.Prelude.{length, take, slice_index, IsTrue, true, IfOk, IfErr, OnOk};
 ghost use Rattle.std.specs.Prelude.{MatchResult, ◌≢◌};
+ghost use Rattle.std.specs.Option.{ForSome};
 ghost use Rattle.mpeg_scan.specs.Calls.{Call, calls_at, calls_of};
 ghost use Rattle.mpeg_scan.specs.Codes.{codes_of, read};
 ghost use Rattle.mpeg_scan.specs.Faults.{first_fault, refusal_of};
-ghost use Rattle.mpeg_scan.specs.Room.{AwaitsSlice, AwaitsSliceAfter, HasRoom, IsAhead};
+ghost use Rattle.mpeg_scan.specs.Room.{AwaitsSlice, AwaitsSliceAfter, HasCounts, HasRoomWith, IsAhead};
 ghost use Rattle.mpeg_scan.specs.Steps.{judgement, last_judgement, latest_header_fault, tally_now};
 ghost use Rattle.mpeg_scan.specs.Words.{tally_of};
 ghost use Rattle.mpeg_scan.specs.Scans.{HasRead, IsRefusedInPiece, scan_with_code, is_text_full};
@@ -62,6 +63,7 @@ impl Progress {
 
     /// The refusal of the latest code's header, where the next code, or the end, stands at `end`.
     fn header_fault(&self, end: u64) -> Option<FilmFault>
+        requires { ForSome self.now.latest (λ code. code.place ≤ end) }
         ensures { result ≡ latest_header_fault self.now.latest self.now.tally.rate end }
     {
         let code = self.latest.as_ref()?;
@@ -70,6 +72,7 @@ impl Progress {
 
     /// The tally with the latest code.
     fn tally_now(&self) -> Tally
+        requires { HasCounts self.now.tally (2 ^ 41) }
         ensures { result ≡ tally_now self.now }
     {
         match &self.latest {
@@ -81,6 +84,8 @@ impl Progress {
     /// Judges a code.
     #[tactic(auto, unfolding(crate::specs::Steps::code_judgement))]
     fn judge(&self, place: u64, kind: u8) -> Result<Tally, FilmFault>
+        requires room { HasRoomWith self.now.latest self.now.tally place }
+        requires within { place ≤ 2 ^ 40 }
         ensures { MatchResult result
             (λ t. (judgement self.now place kind ≡ None) × (t ≡ tally_now self.now))
             (λ f. judgement self.now place kind ≡ Some f) }
@@ -102,7 +107,7 @@ impl Progress {
         kind: u8,
         found: &mut F,
     ) -> Result<(), ScanRefused>
-        requires room { HasRoom (tally_now self.old) place }
+        requires room { HasRoomWith self.old.latest self.old.tally place }
         requires within { place ≤ 2 ^ 40 }
         requires ready { AwaitsSlice (F.ready_at found.old) (tally_now self.old) }
         ensures taken { OnOk result ((judgement self.old place kind ≡ None)
@@ -149,14 +154,13 @@ impl Progress {
         ensures ready { OnOk result
             (AwaitsSlice (F.ready_at found.new) (tally_now self.new)) }
     {
-        let whole = self.prefix.is_whole();
-        let place = self.fed.saturating_sub(3);
-        self.note(byte);
-        if whole {
-            self.take_code(place, byte, found)
-        } else {
-            Ok(())
+        if !self.prefix.is_whole() {
+            self.note(byte);
+            return Ok(());
         }
+        let place = self.fed - 3;
+        self.note(byte);
+        self.take_code(place, byte, found)
     }
 
     /// Whether nothing of a prefix stands at the end, and the latest text is full.
@@ -234,6 +238,8 @@ impl Progress {
     /// Judges the film's end.
     #[tactic(auto, unfolding(crate::specs::Steps::end_judgement))]
     fn judge_end(&self) -> Result<Tally, FilmFault>
+        requires room { HasRoomWith self.now.latest self.now.tally self.now.fed }
+        requires within { self.now.fed ≤ 2 ^ 40 }
         ensures { MatchResult result
             (λ t. (last_judgement self.now ≡ None) × (t ≡ tally_now self.now))
             (λ f. last_judgement self.now ≡ Some f) }
@@ -250,6 +256,7 @@ impl Progress {
 
     /// Judges the whole film.
     pub(crate) fn judge_film(&self) -> Result<Tally, FilmFault>
+        requires { IsAhead self.now }
         ensures tally { IfOk result (λ t. t ≡ tally_now self.now) }
         ensures sliced { IfOk result (λ t. 0 < t.slices) }
         ensures short { OnOk result (self.now.fed ≤ 2 ^ 40) }

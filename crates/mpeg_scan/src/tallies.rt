@@ -1,5 +1,6 @@
 //! What the start codes so far say of the latest unit: its picture header, counts and places.
-ghost use Rattle.std.specs.Prelude.{◌≡◌, ℕ, List, []};
+ghost use Rattle.std.specs.Prelude.{◌≡◌, ◌^◌, ◌≤◌, ℕ, List, []};
+ghost use Rattle.mpeg_scan.specs.Room.{HasCounts};
 ghost use Rattle.mpeg_scan.specs.Words.{header_of, is_head, is_slice, rate_code, tally_of, type_of};
 ghost use Rattle.mpeg_scan.specs.Steps.{next, next_all_slices, next_before_group, next_begins};
 ghost use Rattle.mpeg_scan.specs.Steps.{next_has_sequence, next_head_end, next_picture};
@@ -140,10 +141,10 @@ impl Tally {
         }
     }
 
-    /// The same with one code more, whose text is complete. Counts stop at the greatest numbers of
-    /// their types, which no film reaches.
+    /// The same with one code more, whose text is complete.
     #[tactic(auto, unfolding(crate::specs::Steps::next))]
     pub(crate) fn then(&self, code: &Code) -> Tally
+        requires { HasCounts self.now (2 ^ 41) }
         ensures { result ≡ next self.now code.now }
     {
         Tally {
@@ -206,10 +207,11 @@ impl Tally {
 
     /// The pictures of the film with one code more.
     fn next_pictures(&self, code: &Code) -> u32
+        requires { self.now.pictures ≤ 4194304 }
         ensures { result ≡ next_pictures self.now code.now }
     {
         if code.kind == PICTURE {
-            self.pictures.saturating_add(1)
+            self.pictures + 1
         } else {
             self.pictures
         }
@@ -228,12 +230,13 @@ impl Tally {
 
     /// The slices of the latest unit with one code more.
     fn next_slices(&self, code: &Code) -> u64
+        requires { self.now.slices ≤ 2 ^ 41 }
         ensures { result ≡ next_slices self.now code.now }
     {
         if is_head(code.kind) {
             0
         } else if is_slice(code.kind) {
-            self.slices.saturating_add(1)
+            self.slices + 1
         } else {
             self.slices
         }
@@ -241,10 +244,11 @@ impl Tally {
 
     /// The slices of the film with one code more.
     fn next_all_slices(&self, code: &Code) -> u64
+        requires { self.now.all_slices ≤ 2 ^ 41 }
         ensures { result ≡ next_all_slices self.now code.now }
     {
         if is_slice(code.kind) {
-            self.all_slices.saturating_add(1)
+            self.all_slices + 1
         } else {
             self.all_slices
         }

@@ -1,8 +1,11 @@
 use Rattle.std.proofs.Common.{◌∙◌, arith}
 use Rattle.std.proofs.lemmas.Result.{MatchResult-weaker}
-use Rattle.mpeg_scan.proofs.RoomLemmas.{end_judgement-sliced}
+use Rattle.mpeg_scan.proofs.RoomLemmas.{ahead-room, end_judgement-sliced}
 use Rattle.mpeg_scan.proofs.StepLemmas.{refusal-empty, refusal-long, refusal-is, tally-ended}
 use Rattle.mpeg_scan.proofs.progress.Progress.judge_film.Goals as goal
+
+pub judge_end-requires-clause-room : goal.judge_end-requires-clause-room
+judge_end-requires-clause-room c = ahead-room c.args.self.now c.requires
 
 pub returns-then-self-eq0-clause-fault : goal.returns-then-self-eq0-clause-fault
 returns-then-self-eq0-clause-fault c = λ r kept. refusal-empty c.args.self.now r c.if-self-eq0.true kept
@@ -16,7 +19,7 @@ returns-else-self-gt-MAX_FILM_BYTES-clause-accepted c =
     MatchResult-weaker c.judge_end.result c.judge_end.ensures
     (λ t h r kept. (
       refusal-is c.args.self.now r (omega arith) c.if-self-gt-MAX_FILM_BYTES.false kept ∙ h.0,
-      h.1 ∙ tally-ended c.args.self.now r c.if-self-gt-MAX_FILM_BYTES.false kept,
+      h.1 ∙ tally-ended c.args.self.now r kept,
     ))
     (λ f h. tt)
 

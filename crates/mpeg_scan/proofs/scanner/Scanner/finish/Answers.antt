@@ -5,7 +5,7 @@ use Rattle.mpeg_scan.specs.declared.scanner.Ending.{Ending}
 use Rattle.mpeg_scan.specs.declared.tallies.Tally.{Tally}
 use Rattle.mpeg_scan.proofs.CountLemmas.{film-numbered}
 use Rattle.mpeg_scan.proofs.GrammarLemmas.{film-grammatical}
-use Rattle.mpeg_scan.proofs.RoomLemmas.{end-least, end-ready}
+use Rattle.mpeg_scan.proofs.RoomLemmas.{end-ready, end-room}
 use Rattle.mpeg_scan.proofs.TileLemmas.{film-tiles}
 use Rattle.mpeg_scan.proofs.scanner.Scanner.finish.Goals as goal
 
@@ -21,10 +21,9 @@ pub returns-clause-grammatical : goal.returns-clause-grammatical
 returns-clause-grammatical g c =
     λ r kept. let h = c.in_ok-tally.ensures.accepted r kept.progress in film-grammatical r h.0
 
-pub tell_unit-requires-clause-least : goal.tell_unit-requires-clause-least
-tell_unit-requires-clause-least g c =
-    end-least c.args.self.progress c.in_ok-tally.tally c.in_ok-tally.ensures.tally c.in_ok-tally.ensures.sliced
-    (c.args.self.room c.in_default.is)
+pub tell_unit-requires-clause-room : goal.tell_unit-requires-clause-room
+tell_unit-requires-clause-room g c =
+    end-room c.args.self.progress c.in_ok-tally.tally c.in_ok-tally.ensures.tally (c.args.self.room c.in_default.is)
 
 pub tell_unit-requires-clause-within : goal.tell_unit-requires-clause-within
 tell_unit-requires-clause-within g c = c.in_ok-tally.ensures.short

@@ -1,0 +1,147 @@
+-- What is known of the codes so far before a place, as more bytes and a code that isn't refused come.
+use Rattle.std.proofs.Common.{ℕ, zero, suc, Bool, true, false, not, cond, eqb, ltb, leb, ◌&&◌, ◌||◌, ◌+◌, ◌-◌, ◌<◌, ◌≤◌, ◌≡◌, Option, Some, None, ap, refl, arith}
+use Rattle.std.specs.Option.{ForSome, IsSome, option_map}
+use Rattle.std.proofs.lemmas.Option.{same_Some}
+use Rattle.std.proofs.lemmas.Bool.{false≢true, or_parts, true≢false}
+use Rattle.mpeg_scan.specs.declared.codes.Code.{Code}
+use Rattle.mpeg_scan.specs.declared.faults.FilmFault.TheVariants.{Mpeg2, NoSequence, SystemCode}
+use Rattle.mpeg_scan.specs.declared.tallies.Header.{Header}
+use Rattle.mpeg_scan.specs.declared.tallies.Tally.{Tally}
+use Rattle.mpeg_scan.specs.Codes.{note}
+use Rattle.mpeg_scan.specs.Faults.{code_fault, count_fault, first_refusal, first_slice_fault, kind_fault, second_fault}
+use Rattle.mpeg_scan.specs.Room.{HasCounts, HasRoom, HasRoomWith}
+use Rattle.mpeg_scan.specs.Steps.{next, next_begins, next_picture, next_slices}
+use Rattle.mpeg_scan.specs.Words.{header_of, is_head, is_slice}
+use Rattle.mpeg_scan.proofs.CountLemmas.{first-some}
+use Rattle.mpeg_scan.proofs.StepLemmas.{count-accepted, counted, otherwise-first}
+use Rattle.mpeg_scan.proofs.TileLemmas.{first_slice-accepted}
+
+-- ---- before a later place
+
+pub counts-more : {t : Tally} {p q : ℕ} → HasCounts t p → p ≤ q → HasCounts t q
+counts-more counts far = record {
+  pictures = counts.pictures;
+  group = counts.group;
+  slices = counts.slices;
+  all = omega (arith, counts.all, far);
+}
+
+pub room-more : {t : Tally} {p q : ℕ} → HasRoom t p → p ≤ q → HasRoom t q
+room-more room far = record {
+  from = omega (arith, room.from, far);
+  unit = λ begun. omega (arith, room.unit begun, far);
+  slice = λ some. omega (arith, room.slice some, far);
+  picture = room.picture;
+  counts = counts-more room.counts far;
+}
+
+pub with-more : {latest : Option Code} {tally : Tally} {p q : ℕ} → HasRoomWith latest tally p → p ≤ q
+    → HasRoomWith latest tally q
+with-more room far = record {
+  code = λ c is. omega (arith, room.code c is, far);
+  older = counts-more room.older far;
+  now = room-more room.now far;
+}
+
+-- ---- a byte more of the latest code
+
+some-header : (z : Bool) (g h : Header) (o : Option Header) → IsSome (cond z (Some g) o) → IsSome (cond z (Some h) o)
+some-header true g h o some = refl
+some-header false g h o some = some
+
+room-noted : {p : ℕ} (c : Code) (t : Tally) (x : ℕ) → HasRoom (next t c) p → HasRoom (next t (note c x)) p
+unfolding next
+room-noted c t x room = record {
+  from = room.from;
+  unit = room.unit;
+  slice = room.slice;
+  picture = λ some. some-header (eqb c.kind 0) (header_of c) (header_of (note c x))
+      (cond (next_begins t c.kind) None t.picture) (room.picture some);
+  counts = record {
+    pictures = room.counts.pictures;
+    group = room.counts.group;
+    slices = room.counts.slices;
+    all = room.counts.all;
+  };
+}
+
+noted-place : {p : ℕ} (c : Code) (x : ℕ) → ForSome (Some c) (λ d. d.place ≤ p)
+    → ForSome (Some (note c x)) (λ d. d.place ≤ p)
+noted-place c x below d is =
+    omega (arith, below c refl, ap (λ (v : Code). v.place) (same_Some (note c x) d is))
+
+pub with-noted : {t : Tally} {p : ℕ} (latest : Option Code) (x : ℕ) → HasRoomWith latest t p
+    → HasRoomWith (option_map (λ c. note c x) latest) t p
+with-noted None x room = room
+with-noted {t} (Some c) x room =
+    record { code = noted-place c x room.code; older = room.older; now = room-noted c t x room.now }
+
+-- ---- a code that isn't refused
+
+begun-by : {q k : Bool} (a b : Bool) (place : ℕ) → k ≡ false
+    → cond a (Some (SystemCode place))
+    (cond b (Some (Mpeg2 place)) (cond (not q && not k) (Some NoSequence) None)) ≡ None → q ≡ true
+begun-by true b place other e = absurd (cc)
+begun-by false true place other e = absurd (cc)
+begun-by {q = true} false false place other e = refl
+begun-by {q = false} {k = true} false false place other e = absurd (true≢false other)
+begun-by {q = false} {k = false} false false place other e = absurd (cc)
+
+-- only a sequence header comes first
+pub code-begun : (t : Tally) (place kind : ℕ) → code_fault t place kind ≡ None → eqb kind 0xb3 ≡ false
+    → t.begun ≡ true
+code-begun t place kind e other =
+    begun-by (leb 0xb9 kind) (eqb kind 0xb5) place other
+    (otherwise-first (kind_fault t place kind)
+    (first_refusal (second_fault t kind)
+    (first_refusal (first_slice_fault t place kind) (count_fault t place kind))) e)
+
+group-by : (b z : Bool) (pictures group : ℕ) → group ≤ pictures
+    → cond b pictures group ≤ cond z (pictures + 1) pictures
+group-by true true pictures group few = omega arith
+group-by true false pictures group few = omega arith
+group-by false true pictures group few = omega (arith, few)
+group-by false false pictures group few = few
+
+slices-by : (h s : Bool) (n all : ℕ) → n ≤ all → cond h 0 (cond s (n + 1) n) ≤ cond s (all + 1) all
+slices-by true s n all few = omega arith
+slices-by false true n all few = omega (arith, few)
+slices-by false false n all few = few
+
+all-by : {all p q : ℕ} (s : Bool) → all ≤ p → p + 1 ≤ q → cond s (all + 1) all ≤ q
+all-by true few far = omega (arith, few, far)
+all-by false few far = omega (arith, few, far)
+
+pub counts-next : {q : ℕ} (t : Tally) (c : Code) → code_fault t c.place c.kind ≡ None → HasCounts t c.place
+    → c.place + 1 ≤ q → HasCounts (next t c) q
+unfolding next
+counts-next t c e counts far = record {
+  pictures = counted {p = t.pictures} (eqb c.kind 0) (leb 1024 (t.pictures - t.before_group)) c.place refl
+      (count-accepted t c.place c.kind e) counts.pictures;
+  group = group-by (eqb c.kind 0xb8) (eqb c.kind 0) t.pictures t.before_group counts.group;
+  slices = slices-by (is_head c.kind) (is_slice c.kind) t.slices t.all_slices counts.slices;
+  all = all-by (is_slice c.kind) counts.all far;
+}
+
+-- a picture, a head code, a slice: z, h, s; the film has begun: q
+picture-by : {z h s q : Bool} {n : ℕ} (header : Header) (o : Option Header) → (h ≡ false → z ≡ false)
+    → (h ≡ false → q ≡ true) → (s ≡ true → n ≡ 0 → IsSome o) → (0 < n → IsSome o)
+    → 0 < cond h 0 (cond s (n + 1) n)
+    → IsSome (cond z (Some header) (cond (not q || (h && ltb 0 n)) None o))
+picture-by {z = true} header o head begun first later some = refl
+picture-by {z = false} {h = true} header o head begun first later some = absurd (omega (arith, some))
+picture-by {z = false} {h = false} {q = false} header o head begun first later some = absurd (false≢true (begun refl))
+picture-by {z = false} {h = false} {s = true} {q = true} {n = zero} header o head begun first later some = first refl refl
+picture-by {z = false} {h = false} {s = true} {q = true} {n = suc m} header o head begun first later some =
+    later (omega arith)
+picture-by {z = false} {h = false} {s = false} {q = true} header o head begun first later some = later some
+
+pub picture-next : (t : Tally) (c : Code) → code_fault t c.place c.kind ≡ None → (0 < t.slices → IsSome t.picture)
+    → 0 < next_slices t c → IsSome (next_picture t c)
+picture-next t c e before some =
+    let rest = eqb c.kind 0xb3 || eqb c.kind 0xb8 in
+    picture-by (header_of c) t.picture (λ other. (or_parts (eqb c.kind 0) rest other).0)
+    (λ other. code-begun t c.place c.kind e
+    (or_parts (eqb c.kind 0xb3) (eqb c.kind 0xb8) (or_parts (eqb c.kind 0) rest other).1).0)
+    (λ slice none. first-some t c.place c.kind (first_slice-accepted t c.place c.kind e) slice none)
+    before some
