@@ -1,11 +1,12 @@
 -- The bounds of an accepted film: its rate code, its bytes and its units.
-use Rattle.std.proofs.Common.{ℕ, Bool, true, false, cond, eqb, ltb, ◌&&◌, ◌||◌, not, ◌+◌, ◌-◌, ◌^◌, ◌≤◌, ◌≡◌, List, [], ◌∷◌, Option, Some, None, length, sym, ◌∙◌, ap, refl, subst, arith}
-use Rattle.std.proofs.lemmas.Bool.{true≢false, or_parts, eq-eqb, ne_eqb, ltb-false}
+use Rattle.std.proofs.Common.{ℕ, Bool, true, false, cond, eqb, ltb, ◌&&◌, ◌||◌, ◌+◌, ◌-◌, ◌^◌, ◌≤◌, ◌≡◌, List, [], ◌∷◌, Option, Some, None, length, sym, ◌∙◌, ap, refl, subst, arith}
+use Rattle.std.specs.Prelude.{unwrap_or}
+use Rattle.std.proofs.lemmas.Bool.{true≢false, or_parts, eq-eqb, ltb-false}
 use Rattle.mpeg_scan.specs.declared.codes.Code.{Code}
 use Rattle.mpeg_scan.specs.declared.faults.FilmFault.{FilmFault}
 use Rattle.mpeg_scan.specs.declared.faults.FilmFault.TheVariants.{Empty, ShortHeader, BadRate, TooLong}
 use Rattle.mpeg_scan.specs.Codes.{read, codes_of}
-use Rattle.mpeg_scan.specs.Words.{pictures_of, rate_code, rate_of, tally_of}
+use Rattle.mpeg_scan.specs.Words.{first_rate, pictures_of, rate_after, rate_code, rate_of, tally_of}
 use Rattle.mpeg_scan.specs.Faults.{first_refusal, rate_fault, picture_fault, header_fault, latest_fault, last_fault, code_fault, fault_at, first_fault, end_fault, refusal_of}
 use Rattle.mpeg_scan.specs.Calls.{Call, head_call, slice_call, unit_call}
 use Rattle.mpeg_scan.specs.Counts.{Count, group_of, counts_after, no_count}
@@ -26,35 +27,32 @@ pub some-cond-none : (b : Bool) (f : FilmFault) (rest : Option FilmFault) → co
 some-cond-none true f rest e = absurd (cc)
 some-cond-none false f rest e = (refl, e)
 
-judged-rate : (c : Code) → rate_fault 0 c ≡ None → IsRate (rate_code c)
+judged-rate : (c : Code) → rate_fault None c ≡ None → IsRate (rate_code c)
 judged-rate c e =
-    let parts = or_parts (eqb (rate_code c) 0) (ltb 8 (rate_code c) || (ltb 0 0 && not (eqb (rate_code c) 0)))
-    (some-cond-none (eqb (rate_code c) 0 || (ltb 8 (rate_code c) || (ltb 0 0 && not (eqb (rate_code c) 0))))
-    (BadRate c.place (rate_code c)) None e).0 in (
-      positive (rate_code c) parts.0,
-      ltb-false 8 (rate_code c) (or_parts (ltb 8 (rate_code c)) (ltb 0 0 && not (eqb (rate_code c) 0)) parts.1).0,
-    )
+    let code = rate_code c in
+    let many = ltb 8 code || false in
+    let parts = or_parts (eqb code 0) many (some-cond-none (eqb code 0 || many) (BadRate c.place code) None e).0 in
+    (positive code parts.0, ltb-false 8 code (or_parts (ltb 8 code) false parts.1).0)
 
 pub sequence-judged : (b : Bool) (f g : Option FilmFault) → b ≡ true → cond b f g ≡ None → f ≡ None
 sequence-judged true f g is e = e
 sequence-judged false f g is e = absurd (true≢false (sym is))
 
 -- the rate of the first sequence header, once its header is judged
-first-rate : (c : Code) (end : ℕ) → c.kind ≡ 0xb3 → header_fault 0 c end ≡ None → IsRate (rate_of (c ∷ []))
-first-rate c end is e =
+judged-first : (c : Code) (end : ℕ) → c.kind ≡ 0xb3 → header_fault None c end ≡ None → IsRate (rate_of (c ∷ []))
+judged-first c end is e =
     let test : eqb c.kind 0xb3 ≡ true = eq-eqb c.kind 0xb3 is in
     let judged =
-    some-cond-none (ltb (end - c.place) 12) (ShortHeader c.place) (rate_fault 0 c)
+    some-cond-none (ltb (end - c.place) 12) (ShortHeader c.place) (rate_fault None c)
     (sequence-judged (eqb c.kind 0xb3)
-    (cond (ltb (end - c.place) 12) (Some (ShortHeader c.place)) (rate_fault 0 c))
+    (cond (ltb (end - c.place) 12) (Some (ShortHeader c.place)) (rate_fault None c))
     (cond (eqb c.kind 0xb8) (cond (ltb (end - c.place) 8) (Some (ShortHeader c.place)) None)
     (cond (eqb c.kind 0) (picture_fault c end) None)) test e) in
-    subst (λ b. IsRate (cond b (rate_code c) 0)) (sym test) (judged-rate c judged.1)
+    subst (λ b. IsRate (unwrap_or (cond b (Some (rate_code c)) None) 0)) (sym test) (judged-rate c judged.1)
 
-later-rate : (c : Code) (past : List Code) → IsRate (rate_of past) → IsRate (rate_of (c ∷ past))
-later-rate c past rate =
-    subst (λ b. IsRate (cond (b && eqb c.kind 0xb3) (rate_code c) (rate_of past)))
-    (sym (ne_eqb (rate_of past) 0 (λ none. absurd (omega (arith, rate.0))))) rate
+later-rate : (c : Code) (rate : Option ℕ) → IsRate (unwrap_or rate 0) → IsRate (unwrap_or (rate_after rate c) 0)
+later-rate c None is = absurd (omega (arith, is.0))
+later-rate c (Some rate) is = is
 
 pub older-judged : (c : Code) (past : List Code) → first_fault (c ∷ past) ≡ None → latest_fault past c.place ≡ None
 unfolding first_fault fault_at
@@ -65,9 +63,9 @@ older-judged c past e =
 
 pub codes-rate : (c : Code) (past : List Code) (end : ℕ) → first_fault (c ∷ past) ≡ None
     → latest_fault (c ∷ past) end ≡ None → IsRate (rate_of (c ∷ past))
-codes-rate c [] end accepted judged = first-rate c end (first-is c accepted) judged
+codes-rate c [] end accepted judged = judged-first c end (first-is c accepted) judged
 codes-rate c (d ∷ past) end accepted judged =
-    later-rate c (d ∷ past)
+    later-rate c (first_rate (d ∷ past))
     (codes-rate d past c.place (accepted-older c (d ∷ past) accepted) (older-judged c (d ∷ past) accepted))
 
 whole-rate : (past : List Code) (n : ℕ) → first_fault past ≡ None → end_fault past n ≡ None → IsRate (rate_of past)

@@ -1,7 +1,7 @@
 -- The units that have ended are those of the standard's words, over the codes that came.
 use Rattle.std.proofs.Common.{ℕ, zero, suc, Bool, true, false, cond, eqb, ltb, ◌&&◌, ◌||◌, ◌+◌, ◌-◌, ◌<◌, ◌≤◌, ◌≡◌, ◌⊎◌, List, [], ◌∷◌, ◌++◌, Option, Some, None, slice_get, sym, ◌∙◌, ap, refl, subst, inl, inr, arith}
 use Rattle.std.specs.Prelude.{unwrap_or}
-use Rattle.std.proofs.lemmas.Bool.{cases_lt, eqb-true, ltb-true, true≢false, false≢true}
+use Rattle.std.proofs.lemmas.Bool.{cases_lt, eqb-true, ltb-true, false≢true}
 use Rattle.mpeg_scan.specs.declared.codes.Code.{Code}
 use Rattle.mpeg_scan.specs.declared.tallies.Header.{Header}
 use Rattle.mpeg_scan.specs.declared.units.Unit.{Unit as PictureUnit}
@@ -11,7 +11,7 @@ use Rattle.mpeg_scan.specs.Calls.{Call, head_call, slice_call, calls_at, no_head
 use Rattle.mpeg_scan.specs.Films.{units_in}
 use Rattle.mpeg_scan.specs.Places.{HasCode}
 use Rattle.mpeg_scan.specs.Standard.{Counts, HasPicture, IsFirstCode, IsHeadKind, IsSliceKind, NoneIn, StandsIn, StandsThere, UnitIs}
-use Rattle.mpeg_scan.proofs.StepLemmas.{accepted-older, code-accepted, otherwise-second, told-cons}
+use Rattle.mpeg_scan.proofs.StepLemmas.{accepted-older, code-accepted, otherwise-second, positive, told-cons}
 use Rattle.mpeg_scan.proofs.TileLemmas.{After, Spaced, Told, all-below, ended-none, first-is, first_slice-accepted, raw_calls, slice-apart, told-nil, told_at}
 use Rattle.mpeg_scan.proofs.CountLemmas.{empty-count, first-some, second-accepted, second-none}
 use Rattle.mpeg_scan.proofs.FilmLemmas.{units_in-append}
@@ -24,10 +24,6 @@ use Rattle.mpeg_scan.proofs.SinceLemmas.{all-slices, counts-same, few-slices, ow
 abbrev OpenOf : List Code → Type 0
 OpenOf past =
     Open past (unit_of past) (head_end_of past) (slices_of past) (picture_of past) (has_sequence past) (starts_group past)
-
-none-some : (n : ℕ) → eqb n 0 ≡ false → 0 < n
-none-some zero e = absurd (true≢false e)
-none-some (suc n) e = omega arith
 
 open-three : (c : Code) → c.kind ≡ 0xb3 → OpenOf (c ∷ [])
 open-three c is =
@@ -47,7 +43,7 @@ open-codes c (d ∷ past) accepted spaced =
     let fault = code-accepted c older accepted in
     step-open
     (kinds-of c.kind) (all-below older spaced.1 spaced.0)
-    (record { some = ltb-true 0 n; none = empty-count n; zero_is = eqb-true n 0; more = none-some n })
+    (record { some = ltb-true 0 n; none = empty-count n; zero_is = eqb-true n 0; more = positive n })
     (λ head none. second-none t c.kind (second-accepted t c.place c.kind fault) head none)
     (λ slice none. first-some t c.place c.kind (first_slice-accepted t c.place c.kind fault) slice none)
     (open-codes d past (accepted-older c older accepted) spaced.1)

@@ -1,11 +1,12 @@
 -- The first unit of an accepted film: it starts a group, and begins with the sequence header of its rate.
-use Rattle.std.proofs.Common.{ℕ, Bool, true, false, cond, eqb, ltb, ◌&&◌, ◌||◌, ◌+◌, ◌-◌, ◌%◌, ◌<◌, ◌≤◌, ◌≡◌, List, [], ◌∷◌, ◌++◌, Some, None, length, get_or, slice_get, sym, ◌∙◌, ap, refl, subst, inl, inr, arith}
-use Rattle.std.proofs.lemmas.Bool.{true≢false, eq-eqb, ne_eqb, ltb-false}
+use Rattle.std.proofs.Common.{ℕ, Bool, true, false, cond, eqb, ltb, ◌&&◌, ◌||◌, ◌+◌, ◌-◌, ◌%◌, ◌<◌, ◌≤◌, ◌≡◌, List, [], ◌∷◌, ◌++◌, Some, None, length, get_or, slice_get, sym, ◌∙◌, ap, refl, subst, inl, inr, arith, Option}
+use Rattle.std.specs.Prelude.{unwrap_or}
+use Rattle.std.proofs.lemmas.Bool.{true≢false, eq-eqb, ltb-false}
 use Rattle.mpeg_scan.specs.declared.codes.Code.{Code}
 use Rattle.mpeg_scan.specs.declared.faults.FilmFault.TheVariants.{ShortHeader}
 use Rattle.mpeg_scan.specs.declared.units.Unit.{Unit as PictureUnit}
 use Rattle.mpeg_scan.specs.Codes.{read, codes_of}
-use Rattle.mpeg_scan.specs.Words.{is_head, is_slice, rate_code, rate_of, slices_of, starts_group, tally_of}
+use Rattle.mpeg_scan.specs.Words.{is_head, is_slice, first_rate, rate_after, rate_code, rate_of, slices_of, starts_group, tally_of}
 use Rattle.mpeg_scan.specs.Faults.{end_fault, first_fault, header_fault, last_fault, latest_fault, picture_fault, rate_fault}
 use Rattle.mpeg_scan.specs.Calls.{Call, head_call, slice_call, calls_at, calls_of, unit_at, unit_end}
 use Rattle.mpeg_scan.specs.Films.{IsFilm, units_in}
@@ -15,7 +16,7 @@ use Rattle.mpeg_scan.specs.Standard.{AnyKind, IsFirstCode, StandsThere}
 use Rattle.mpeg_scan.specs.Layout.{AreChained, BeginsSequence}
 use Rattle.mpeg_scan.proofs.StepLemmas.{accepted-older, otherwise-first, otherwise-second, told-cons}
 use Rattle.mpeg_scan.proofs.TileLemmas.{Spaced, Told, accepted-whole, all-below, ended-none, first-is, placed-codes, raw_calls, slice-apart, told-nil, told_at}
-use Rattle.mpeg_scan.proofs.BoundLemmas.{codes-rate, older-judged, sequence-judged, some-cond-none}
+use Rattle.mpeg_scan.proofs.BoundLemmas.{older-judged, sequence-judged, some-cond-none}
 use Rattle.mpeg_scan.proofs.FilmLemmas.{length-read, units_in-append}
 use Rattle.mpeg_scan.proofs.PlaceLemmas.{at-bytes, codes-stand}
 use Rattle.mpeg_scan.proofs.TextLemmas.{Same, TextIs, TextsAre, codes-texts, text-byte}
@@ -182,19 +183,15 @@ unfolding first_in
 first_in-kind c [] accepted = first-is c accepted
 first_in-kind c (d ∷ past) accepted = first_in-kind d past (accepted-older c (d ∷ past) accepted)
 
-pub first_in-rate : (c : Code) (past : List Code) (end : ℕ) → first_fault (c ∷ past) ≡ None
-    → latest_fault (c ∷ past) end ≡ None → rate_of (c ∷ past) ≡ rate_code (first_in c past)
+pub first_in-rate : (c : Code) (past : List Code) → first_fault (c ∷ past) ≡ None
+    → first_rate (c ∷ past) ≡ Some (rate_code (first_in c past))
 unfolding first_in
-first_in-rate c [] end accepted judged = ap (λ b. cond b (rate_code c) 0) (eq-eqb c.kind 0xb3 (first-is c accepted))
-first_in-rate c (d ∷ past) end accepted judged =
-    let older = accepted-older c (d ∷ past) accepted in
-    let before = older-judged c (d ∷ past) accepted in
-    let rate = codes-rate d past c.place older before in
-    ap (λ b. cond (b && eqb c.kind 0xb3) (rate_code c) (rate_of (d ∷ past)))
-    (ne_eqb (rate_of (d ∷ past)) 0 (λ none. absurd (omega (arith, rate.0))))
-    ∙ first_in-rate d past c.place older before
+first_in-rate c [] accepted =
+    ap (λ b. cond b (Some (rate_code c)) None) (eq-eqb c.kind 0xb3 (first-is c accepted))
+first_in-rate c (d ∷ past) accepted =
+    ap (λ (rate : Option ℕ). rate_after rate c) (first_in-rate d past (accepted-older c (d ∷ past) accepted))
 
-long-header : (rate : ℕ) (c : Code) (end : ℕ) → c.kind ≡ 0xb3 → header_fault rate c end ≡ None → c.place + 12 ≤ end
+long-header : (rate : Option ℕ) (c : Code) (end : ℕ) → c.kind ≡ 0xb3 → header_fault rate c end ≡ None → c.place + 12 ≤ end
 long-header rate c end is e =
     let test : eqb c.kind 0xb3 ≡ true = eq-eqb c.kind 0xb3 is in
     let judged =
@@ -264,7 +261,7 @@ first_in-text {c} {past = []} {end} {stop} are =
     record {
       stop = stop;
       is = are.texts.0;
-      long = omega (arith, are.far, long-header 0 c end (first-is c are.accepted) are.judged);
+      long = omega (arith, are.far, long-header None c end (first-is c are.accepted) are.judged);
     }
 first_in-text {past = d ∷ past} are = first_in-text {c = d} {past = past} (older-are_judged are)
 
@@ -292,7 +289,7 @@ codes-begin bytes (c ∷ past) codes accepted ended texts =
     text-byte 3 same (omega arith) (omega (arith, text.long)) text.is in
     let here : f.place + 4 + 3 ≡ f.place + 7 = omega arith in
     let rate : rate_of (c ∷ past) ≡ get_or bytes (f.place + 7) 0 % 16 =
-    first_in-rate c past n accepted judged ∙ ap (λ b. b % 16) (byte ∙ ap (λ i. get_or bytes i 0) here) in
+    ap (λ (o : Option ℕ). unwrap_or o 0) (first_in-rate c past accepted) ∙ ap (λ b. b % 16) (byte ∙ ap (λ i. get_or bytes i 0) here) in
     record {
       begins = subst (λ p. BeginsSequence bytes (rate_of (c ∷ past)) p) (sym place) (record {
         code = (codes-stand bytes f.place 0xb3).0 has;

@@ -1,14 +1,14 @@
 -- The refusals of a header, of the bits of its bytes.
 use Rattle.std.proofs.Common.{ℕ, Bool, true, false, cond, eqb, ltb, leb, not, ◌&&◌, ◌||◌, ◌+◌, ◌-◌, ◌/◌, ◌%◌, ◌<◌, ◌≤◌, ◌≡◌, ◌⊎◌, List, [], ◌∷◌, Option, Some, None, get_or, sym, ◌∙◌, ap, refl, subst, inl, inr, arith}
-use Rattle.std.proofs.lemmas.Bool.{cases_lt, eqb-true, eq-eqb, ne_eqb, ltb-true, ltb-false, lt-ltb, le-ltb, leb-true, le-leb, and_parts, and_from, or_left, or_right, or_parts, not_from_false, false≢true, true≢false}
+use Rattle.std.proofs.lemmas.Bool.{cases_lt, eqb-false, eqb-true, eq-eqb, ne_eqb, not-true, ltb-true, ltb-false, lt-ltb, le-ltb, leb-true, le-leb, and_parts, and_from, or_left, or_right, or_parts, not_from_false, false≢true, true≢false}
 use Rattle.mpeg_scan.specs.declared.codes.Code.{Code}
 use Rattle.mpeg_scan.specs.declared.faults.FilmFault.{FilmFault}
 use Rattle.mpeg_scan.specs.declared.faults.FilmFault.TheVariants.{BadRate, BadType, ShortHeader}
-use Rattle.mpeg_scan.specs.Words.{rate_code, rate_of, type_of}
-use Rattle.mpeg_scan.specs.Faults.{first_fault, header_fault, latest_fault, picture_fault, rate_fault}
+use Rattle.mpeg_scan.specs.Words.{first_rate, rate_code, type_of}
+use Rattle.mpeg_scan.specs.Faults.{differs, first_fault, header_fault, latest_fault, picture_fault, rate_fault}
 use Rattle.mpeg_scan.specs.Refusals.{HeaderRefusal, IsBadRate, IsBadType, IsLatest, IsOtherRate, IsSequence, IsShortHeader, Otherwise, has_vectors, header_bytes, picture_rate}
 use Rattle.mpeg_scan.specs.Standard.{IsHeadKind, NoneIn, picture_coding_type}
-use Rattle.mpeg_scan.proofs.BoundLemmas.{codes-rate, older-judged}
+use Rattle.mpeg_scan.proofs.BoundLemmas.{older-judged}
 use Rattle.mpeg_scan.proofs.FirstLemmas.{AreJudged, first_in, first_in-has, first_in-kind, first_in-rate, first_in-text, first-least}
 use Rattle.mpeg_scan.proofs.StepLemmas.{accepted-older}
 use Rattle.mpeg_scan.proofs.TextLemmas.{Same, TextIs, TextsAre, text-byte}
@@ -36,17 +36,16 @@ type-fits bytes to c fits far =
 
 -- ---- the film's first rate
 
-pub record FirstRate (Has : ℕ → ℕ → Type 0) (bytes : List ℕ) (place rate : ℕ) : Type 0 where
+pub record FirstRate (Has : ℕ → ℕ → Type 0) (bytes : List ℕ) (place : ℕ) (rate : Option ℕ) : Type 0 where
   pub first : ℕ
   pub code : Has first 0xb3
   pub none : NoneIn Has 0 first IsSequence
   pub before : first < place
-  pub is : rate ≡ picture_rate bytes first
-  pub some : 1 ≤ rate
+  pub is : rate ≡ Some (picture_rate bytes first)
 
 -- what is known of it at a place: there is no sequence header before, or it is the first one's
-pub data RateIs (Has : ℕ → ℕ → Type 0) (bytes : List ℕ) (place rate : ℕ) : Type 0 where
-  no_rate : rate ≡ 0 → NoneIn Has 0 place IsSequence → RateIs Has bytes place rate
+pub data RateIs (Has : ℕ → ℕ → Type 0) (bytes : List ℕ) (place : ℕ) (rate : Option ℕ) : Type 0 where
+  no_rate : rate ≡ None → NoneIn Has 0 place IsSequence → RateIs Has bytes place rate
   its_rate : FirstRate Has bytes place rate → RateIs Has bytes place rate
 
 first-sequence : {Has : ℕ → ℕ → Type 0} {p q : ℕ} → Has p 0xb3 → NoneIn Has 0 p IsSequence →
@@ -61,110 +60,99 @@ first-sequence {Has} {p} {q} one none other never = elim (cases_lt p q) [
 
 -- ---- a rate
 
-rate-parts : (a b l e : Bool) → (a || (b || (l && not e))) ≡ true → (a ≡ true)
-    ⊎ ((b ≡ true) ⊎ ((l ≡ true) × (e ≡ false)))
-rate-parts true b l e is = inl refl
-rate-parts false true l e is = inr (inl refl)
-rate-parts false false true true is = absurd (false≢true is)
-rate-parts false false true false is = inr (inr (refl, refl))
-rate-parts false false false e is = absurd (false≢true is)
+rate-parts : (a b d : Bool) → (a || (b || d)) ≡ true → (a ≡ true) ⊎ ((b ≡ true) ⊎ (d ≡ true))
+rate-parts true b d is = inl refl
+rate-parts false true d is = inr (inl refl)
+rate-parts false false d is = inr (inr is)
 
-rate-whole : (a b l e : Bool) → (a ≡ true)
-    ⊎ ((b ≡ true) ⊎ ((l ≡ true) × (e ≡ false))) → (a || (b || (l && not e))) ≡ true
-rate-whole a b l e (inl is) = or_left a (b || (l && not e)) is
-rate-whole a b l e (inr (inl is)) = or_right a (b || (l && not e)) (or_left b (l && not e) is)
-rate-whole a b l e (inr (inr is)) =
-    or_right a (b
-    || (l && not e)) (or_right b (l && not e) (and_from l (not e) is.0 (not_from_false e is.1)))
+rate-whole : (a b d : Bool) → (a ≡ true) ⊎ ((b ≡ true) ⊎ (d ≡ true)) → (a || (b || d)) ≡ true
+rate-whole a b d (inl is) = or_left a (b || d) is
+rate-whole a b d (inr (inl is)) = or_right a (b || d) (or_left b d is)
+rate-whole a b d (inr (inr is)) = or_right a (b || d) (or_right b d is)
 
-not-equal : (m n : ℕ) → eqb m n ≡ false → m ≡ n → ⊥
-not-equal m n e is = true≢false (sym (eq-eqb m n is) ∙ e)
-
-other-rate : {Has : ℕ → ℕ → Type 0} {bytes : List ℕ} {place rate : ℕ} →
-    RateIs Has bytes place rate → 0 < rate → (picture_rate bytes place ≡ rate → ⊥) →
+other-rate : {Has : ℕ → ℕ → Type 0} {bytes : List ℕ} {place : ℕ} {rate : Option ℕ} →
+    RateIs Has bytes place rate → differs rate (picture_rate bytes place) ≡ true →
     IsOtherRate Has bytes place
-other-rate {Has} {place} (no_rate none never) some other = absurd (omega (arith, none, some))
-other-rate {Has} {place} (its_rate r) some other = record {
+other-rate {bytes} {place} (no_rate none never) other =
+    absurd (false≢true (ap (λ (o : Option ℕ). differs o (picture_rate bytes place)) (sym none) ∙ other))
+other-rate {bytes} {place} (its_rate r) other = record {
   first = r.first;
   code = r.code;
   none = r.none;
   before = r.before;
-  other = λ e. other (e ∙ sym r.is);
+  other = let same = ap (λ (o : Option ℕ). differs o (picture_rate bytes place)) (sym r.is) ∙ other in
+      eqb-false (picture_rate bytes place) (picture_rate bytes r.first)
+      (not-true (eqb (picture_rate bytes place) (picture_rate bytes r.first)) same);
 }
 
-rate-other : (Has : ℕ → ℕ → Type 0) (bytes : List ℕ) (place rate : ℕ) →
-    RateIs Has bytes place rate → IsOtherRate Has bytes place → (0 < rate)
-    × (picture_rate bytes place ≡ rate → ⊥)
+rate-other : (Has : ℕ → ℕ → Type 0) (bytes : List ℕ) (place : ℕ) (rate : Option ℕ) →
+    RateIs Has bytes place rate → IsOtherRate Has bytes place →
+    differs rate (picture_rate bytes place) ≡ true
 rate-other Has bytes place rate (no_rate none never) o =
     absurd (never o.first 0xb3 o.code (omega arith) o.before refl)
 rate-other Has bytes place rate (its_rate r) o =
+    let its = picture_rate bytes place in
     let same = first-sequence r.code r.none o.code o.none in
-    (omega (arith, r.some), λ e. o.other (e ∙ r.is ∙ ap (picture_rate bytes) same))
+    ap (λ (v : Option ℕ). differs v its) r.is
+    ∙ not_from_false (eqb its (picture_rate bytes r.first))
+    (ne_eqb its (picture_rate bytes r.first) (λ e. o.other (e ∙ ap (picture_rate bytes) same)))
 
-bad-rate : {Has : ℕ → ℕ → Type 0} {bytes : List ℕ} {place rate its : ℕ} →
-    its ≡ picture_rate bytes place → RateIs Has bytes place rate → (its ≡ 0)
-    ⊎ ((8 < its) ⊎ ((0 < rate) × (its ≡ rate → ⊥)))
+bad-rate : {Has : ℕ → ℕ → Type 0} {bytes : List ℕ} {place : ℕ} {rate : Option ℕ} {its : ℕ} →
+    its ≡ picture_rate bytes place → RateIs Has bytes place rate → (eqb its 0 ≡ true)
+    ⊎ ((ltb 8 its ≡ true) ⊎ (differs rate its ≡ true))
     → (picture_rate bytes place ≡ 0)
     ⊎ ((8 < picture_rate bytes place) ⊎ IsOtherRate Has bytes place)
-bad-rate {Has} {place} is known (inl none) = inl (sym is ∙ none)
-bad-rate {Has} {place} is known (inr (inl many)) = inr (inl (subst (λ n. 8 < n) is many))
-bad-rate {Has} {place} is known (inr (inr other)) =
-    inr (inr (other-rate known other.0 (λ e. other.1 (is ∙ e))))
+bad-rate {its} is known (inl none) = inl (sym is ∙ eqb-true its 0 none)
+bad-rate {its} is known (inr (inl many)) = inr (inl (subst (λ n. 8 < n) is (ltb-true 8 its many)))
+bad-rate {rate} is known (inr (inr other)) =
+    inr (inr (other-rate known (ap (λ n. differs rate n) (sym is) ∙ other)))
 
-rate-bad : {Has : ℕ → ℕ → Type 0} {bytes : List ℕ} {place rate its : ℕ} →
+rate-bad : {Has : ℕ → ℕ → Type 0} {bytes : List ℕ} {place : ℕ} {rate : Option ℕ} {its : ℕ} →
     its ≡ picture_rate bytes place → RateIs Has bytes place rate
     → (picture_rate bytes place ≡ 0)
     ⊎ ((8 < picture_rate bytes place) ⊎ IsOtherRate Has bytes place)
-    → (eqb its 0 ≡ true) ⊎ ((ltb 8 its ≡ true) ⊎ ((ltb 0 rate ≡ true) × (eqb its rate ≡ false)))
-rate-bad {Has} {place} {its} is known (inl none) = inl (eq-eqb its 0 (is ∙ none))
-rate-bad {Has} {place} {its} is known (inr (inl many)) =
+    → (eqb its 0 ≡ true) ⊎ ((ltb 8 its ≡ true) ⊎ (differs rate its ≡ true))
+rate-bad {its} is known (inl none) = inl (eq-eqb its 0 (is ∙ none))
+rate-bad {its} is known (inr (inl many)) =
     inr (inl (lt-ltb 8 its (subst (λ n. 8 < n) (sym is) many)))
-rate-bad {Has} {bytes} {place} {rate} {its} is known (inr (inr o)) =
-    let other = rate-other Has bytes place rate known o in
-    inr (inr (lt-ltb 0 rate other.0, ne_eqb its rate (λ e. other.1 (sym is ∙ e))))
-
-rate-tests : (its rate : ℕ) → (eqb its 0 ≡ true)
-    ⊎ ((ltb 8 its ≡ true) ⊎ ((ltb 0 rate ≡ true) × (eqb its rate ≡ false)))
-    → (its ≡ 0) ⊎ ((8 < its) ⊎ ((0 < rate) × (its ≡ rate → ⊥)))
-rate-tests its rate (inl e) = inl (eqb-true its 0 e)
-rate-tests its rate (inr (inl e)) = inr (inl (ltb-true 8 its e))
-rate-tests its rate (inr (inr e)) = inr (inr (ltb-true 0 rate e.0, not-equal its rate e.1))
+rate-bad {Has} {bytes} {place} {rate} is known (inr (inr o)) =
+    inr (inr (ap (λ n. differs rate n) is ∙ rate-other Has bytes place rate known o))
 
 -- ---- a header
 
 -- the header of the code c, with the next code, or the film's end, at a place
 pub record Header (Has : ℕ → ℕ →
-    Type 0) (bytes : List ℕ) (c : Code) (past : List Code) (at rate : ℕ) : Type 0 where
+    Type 0) (bytes : List ℕ) (c : Code) (past : List Code) (at : ℕ) (rate : Option ℕ) : Type 0 where
   pub knows : Knows Has (c ∷ past) at
   pub spaced : Spaced (c ∷ past)
   pub fits : Fits bytes at c
   pub rate_is : RateIs Has bytes c.place rate
 
-kind-is : {Has : ℕ → ℕ → Type 0} {bytes : List ℕ} {c : Code} {past : List Code} {at rate place kind : ℕ} →
+kind-is : {Has : ℕ → ℕ → Type 0} {bytes : List ℕ} {c : Code} {past : List Code} {at : ℕ} {rate : Option ℕ} {place kind : ℕ} →
     Header Has bytes c past at rate → IsLatest Has place kind at → (c.place ≡ place)
     × (c.kind ≡ kind)
 kind-is {Has} {c} {at} {place} h l =
     latest-is h.knows h.spaced l
 
-latest-kind : {Has : ℕ → ℕ → Type 0} {bytes : List ℕ} {c : Code} {past : List Code} {at rate kind : ℕ} →
+latest-kind : {Has : ℕ → ℕ → Type 0} {bytes : List ℕ} {c : Code} {past : List Code} {at : ℕ} {rate : Option ℕ} {kind : ℕ} →
     Header Has bytes c past at rate → c.kind ≡ kind → IsLatest Has c.place kind at
 latest-kind {Has} {c} {past} {at} h is =
     subst (λ k. IsLatest Has c.place k at) is (latest-new Has c past at h.knows h.spaced)
 
-no-rate : {Has : ℕ → ℕ → Type 0} {bytes : List ℕ} {c : Code} {past : List Code} {at rate : ℕ} →
+no-rate : {Has : ℕ → ℕ → Type 0} {bytes : List ℕ} {c : Code} {past : List Code} {at : ℕ} {rate : Option ℕ} →
     Header Has bytes c past at rate → (c.kind ≡ 0xb3 → ⊥) → (f : FilmFault) →
     IsBadRate Has bytes at f → ⊥
 no-rate {Has} {c} {at} h other f p =
     other (kind-is h p.latest).1
 
-no-type : {Has : ℕ → ℕ → Type 0} {bytes : List ℕ} {c : Code} {past : List Code} {at rate : ℕ} →
+no-type : {Has : ℕ → ℕ → Type 0} {bytes : List ℕ} {c : Code} {past : List Code} {at : ℕ} {rate : Option ℕ} →
     Header Has bytes c past at rate → (c.kind ≡ 0 → ⊥) → (f : FilmFault) →
     IsBadType Has bytes at f → ⊥
 no-type {Has} {c} {at} h other f p =
     other (kind-is h p.latest).1
 
 -- the fewest bytes of a header
-short-new : {Has : ℕ → ℕ → Type 0} {bytes : List ℕ} {c : Code} {past : List Code} {at rate kind : ℕ} →
+short-new : {Has : ℕ → ℕ → Type 0} {bytes : List ℕ} {c : Code} {past : List Code} {at : ℕ} {rate : Option ℕ} {kind : ℕ} →
     Header Has bytes c past at rate → c.kind ≡ kind → IsHeadKind kind →
     at < c.place + header_bytes bytes c.place kind →
     IsShortHeader Has bytes at (ShortHeader c.place)
@@ -181,7 +169,7 @@ record ShortHere (bytes : List ℕ) (c : Code) (at : ℕ) (f : FilmFault) : Type
   short : at < c.place + header_bytes bytes c.place c.kind
   is : f ≡ ShortHeader c.place
 
-short-here : {Has : ℕ → ℕ → Type 0} {bytes : List ℕ} {c : Code} {past : List Code} {at rate : ℕ} →
+short-here : {Has : ℕ → ℕ → Type 0} {bytes : List ℕ} {c : Code} {past : List Code} {at : ℕ} {rate : Option ℕ} →
     Header Has bytes c past at rate → (f : FilmFault) → IsShortHeader Has bytes at f →
     ShortHere bytes c at f
 short-here {Has} {bytes} {c} {at} h f p =
@@ -201,7 +189,7 @@ short-at {bytes} {c} {at} is s =
 abbrev Refused : (ℕ → ℕ → Type 0) → List ℕ → ℕ → Option FilmFault → Type 0
 Refused Has bytes at o = Decides (HeaderRefusal Has bytes at) o
 
-sequence-decides : {Has : ℕ → ℕ → Type 0} {bytes : List ℕ} {c : Code} {past : List Code} {at rate : ℕ} →
+sequence-decides : {Has : ℕ → ℕ → Type 0} {bytes : List ℕ} {c : Code} {past : List Code} {at : ℕ} {rate : Option ℕ} →
     Header Has bytes c past at rate → c.kind ≡ 0xb3
     → Refused Has bytes at
     (cond (ltb (at - c.place) 12) (Some (ShortHeader c.place)) (rate_fault rate c))
@@ -219,21 +207,18 @@ sequence-decides {Has} {bytes} {c} {past} {at} {rate} h is =
     let its = rate-fits bytes at c h.fits (omega (arith, far)) in
     only-first (IsBadRate Has bytes at) (IsBadType Has bytes at) (rate_fault rate c)
     (decide (IsBadRate Has bytes at) (eqb (rate_code c) 0
-    || (ltb 8 (rate_code c)
-    || (ltb 0 rate && not (eqb (rate_code c) rate)))) (BadRate c.place (rate_code c))
+    || (ltb 8 (rate_code c) || differs rate (rate_code c))) (BadRate c.place (rate_code c))
     (λ t. record {
       place = c.place;
       latest = latest-kind {Has = Has} {bytes = bytes} {c = c} {past = past} {at = at} {rate = rate} {kind = 0xb3} h is;
       bad = bad-rate {Has = Has} {bytes = bytes} {place = c.place} {rate = rate} {its = rate_code c} its h.rate_is
-          (rate-tests (rate_code c) rate
-          (rate-parts (eqb (rate_code c) 0) (ltb 8 (rate_code c)) (ltb 0 rate)
-          (eqb (rate_code c) rate) t));
+          (rate-parts (eqb (rate_code c) 0) (ltb 8 (rate_code c)) (differs rate (rate_code c)) t);
       is = ap (BadRate c.place) its;
     })
     (λ g p. let same =
     kind-is {Has = Has} {bytes = bytes} {c = c} {past = past} {at = at} {rate = rate} {place = p.place}
     {kind = 0xb3} h p.latest in (
-      rate-whole (eqb (rate_code c) 0) (ltb 8 (rate_code c)) (ltb 0 rate) (eqb (rate_code c) rate)
+      rate-whole (eqb (rate_code c) 0) (ltb 8 (rate_code c)) (differs rate (rate_code c))
           (rate-bad {Has = Has} {bytes = bytes} {place = c.place} {rate = rate} {its = rate_code c} its h.rate_is
           (subst (λ v. (picture_rate bytes v ≡ 0)
           ⊎ ((8 < picture_rate bytes v) ⊎ IsOtherRate Has bytes v)) (sym same.0) p.bad)),
@@ -242,7 +227,7 @@ sequence-decides {Has} {bytes} {c} {past} {at} {rate} h is =
     )))
     (no-type h (λ e. absurd (omega (arith, e, is)))))
 
-group-decides : {Has : ℕ → ℕ → Type 0} {bytes : List ℕ} {c : Code} {past : List Code} {at rate : ℕ} →
+group-decides : {Has : ℕ → ℕ → Type 0} {bytes : List ℕ} {c : Code} {past : List Code} {at : ℕ} {rate : Option ℕ} →
     Header Has bytes c past at rate → c.kind ≡ 0xb8
     → Refused Has bytes at (cond (ltb (at - c.place) 8) (Some (ShortHeader c.place)) None)
 group-decides {Has} {bytes} {c} {past} {at} {rate} h is =
@@ -279,10 +264,6 @@ type-bad true t e (inl none) =
     absurd (omega (arith, none, leb-true 1 t (and_parts (leb 1 t) (leb t 4) e).0))
 type-bad true t e (inr many) =
     absurd (omega (arith, many, leb-true t 4 (and_parts (leb 1 t) (leb t 4) e).1))
-
-not-parts : (b : Bool) → not b ≡ true → b ≡ false
-not-parts true e = absurd (false≢true e)
-not-parts false e = refl
 
 no-kind : (kind : ℕ) → eqb kind 0xb3 ≡ false → eqb kind 0xb8 ≡ false → eqb kind 0 ≡ false →
     IsHeadKind kind → ⊥
@@ -330,7 +311,7 @@ less-room : (b : Bool) (place at : ℕ) → at < place + cond b 9 8 → at - pla
 less-room true place at e = omega (arith, e)
 less-room false place at e = omega (arith, e)
 
-picture-decides : {Has : ℕ → ℕ → Type 0} {bytes : List ℕ} {c : Code} {past : List Code} {at rate : ℕ} →
+picture-decides : {Has : ℕ → ℕ → Type 0} {bytes : List ℕ} {c : Code} {past : List Code} {at : ℕ} {rate : Option ℕ} →
     Header Has bytes c past at rate → c.kind ≡ 0 → Refused Has bytes at (picture_fault c at)
 picture-decides {Has} {bytes} {c} {at} h is =
     let short = short-here h in
@@ -360,7 +341,7 @@ picture-decides {Has} {bytes} {c} {at} h is =
     (λ n. record {
       place = c.place;
       latest = latest-kind h is;
-      bad = subst (λ v. (v ≡ 0) ⊎ (4 < v)) (same far) (type-good t (not-parts good n));
+      bad = subst (λ v. (v ≡ 0) ⊎ (4 < v)) (same far) (type-good t (not-true good n));
       is = refl;
     })
     (λ g p. let here = kind-is h p.latest in (
@@ -372,7 +353,7 @@ picture-decides {Has} {bytes} {c} {at} h is =
 
 -- ---- any header
 
-other-decides : {Has : ℕ → ℕ → Type 0} {bytes : List ℕ} {c : Code} {past : List Code} {at rate : ℕ} →
+other-decides : {Has : ℕ → ℕ → Type 0} {bytes : List ℕ} {c : Code} {past : List Code} {at : ℕ} {rate : Option ℕ} →
     Header Has bytes c past at rate → (IsHeadKind c.kind → ⊥) → (f : FilmFault) →
     HeaderRefusal Has bytes at f → ⊥
 other-decides {Has} {bytes} {c} {at} h other =
@@ -385,7 +366,7 @@ other-decides {Has} {bytes} {c} {at} h other =
     other (inr (inl e)))) (no-type h (λ e. other (inl e))))
 
 kinds-decide : {three eight zero_is : Bool} {Has : ℕ → ℕ → Type 0} {bytes : List ℕ} {c : Code} {past : List Code}
-    {at rate : ℕ} → eqb c.kind 0xb3 ≡ three →
+    {at : ℕ} {rate : Option ℕ} → eqb c.kind 0xb3 ≡ three →
     eqb c.kind 0xb8 ≡ eight → eqb c.kind 0 ≡ zero_is → Header Has bytes c past at rate
     → Refused Has bytes at
     (cond three (cond (ltb (at - c.place) 12) (Some (ShortHeader c.place)) (rate_fault rate c))
@@ -401,7 +382,7 @@ kinds-decide {three = false} {eight = false} {zero_is = false} {Has} {bytes} {c}
     none-of (HeaderRefusal Has bytes at)
     (other-decides h (no-kind c.kind a b z))
 
-pub header-decides : {Has : ℕ → ℕ → Type 0} {bytes : List ℕ} {c : Code} {past : List Code} {at rate : ℕ} →
+pub header-decides : {Has : ℕ → ℕ → Type 0} {bytes : List ℕ} {c : Code} {past : List Code} {at : ℕ} {rate : Option ℕ} →
     Header Has bytes c past at rate → Refused Has bytes at (header_fault rate c at)
 header-decides {Has} {c} {at} h =
     kinds-decide
@@ -416,7 +397,7 @@ text-fits same text far k small below =
 
 rate-known : {Has : ℕ → ℕ → Type 0} {bytes r : List ℕ} {past : List Code} {at : ℕ} → Same bytes r →
     Knows Has past at → Spaced past → TextsAre r (at + 4) past → first_fault past ≡ None →
-    latest_fault past at ≡ None → RateIs Has bytes at (rate_of past)
+    latest_fault past at ≡ None → RateIs Has bytes at (first_rate past)
 rate-known {Has} {r} {past = []} {at} same k spaced texts accepted judged =
     no_rate refl (λ place kind has after before is. absurd (k.back place kind has before))
 rate-known {Has} {bytes} {r} {past = c ∷ past} {at} same k spaced texts accepted judged =
@@ -425,7 +406,6 @@ rate-known {Has} {bytes} {r} {past = c ∷ past} {at} same k spaced texts accept
     let are : AreJudged r c past at (at + 4) =
     record { accepted = accepted; judged = judged; far = omega arith; texts = texts } in
     let text = first_in-text are in
-    let rate = codes-rate c past at accepted judged in
     its_rate (record {
       first = first.place;
       code = subst (λ m.
@@ -438,10 +418,9 @@ rate-known {Has} {bytes} {r} {past = c ∷ past} {at} same k spaced texts accept
                 (k.back place kind code (omega (arith, before, k.below first.place first.kind has))),
           );
       before = k.below first.place first.kind has;
-      is = first_in-rate c past at accepted judged ∙ rate-fits bytes text.stop first
+      is = first_in-rate c past accepted ∙ ap Some (rate-fits bytes text.stop first
           (text-fits same text.is (omega arith))
-          (omega (arith, text.long));
-      some = rate.0;
+          (omega (arith, text.long)));
     })
 
 pub latest-decides : {Has : ℕ → ℕ → Type 0} {bytes r : List ℕ} {past : List Code} {at stop : ℕ} →

@@ -1,6 +1,6 @@
 -- What is known of the codes so far before a place, as more bytes and a code that isn't refused come.
 use Rattle.std.proofs.Common.{ℕ, zero, suc, Bool, true, false, not, cond, eqb, ltb, leb, ◌&&◌, ◌||◌, ◌+◌, ◌-◌, ◌<◌, ◌≤◌, ◌≡◌, Option, Some, None, ap, refl, arith}
-use Rattle.std.specs.Option.{ForSome, IsSome, option_map}
+use Rattle.std.specs.Option.{ForSome, IsSome, is_some, option_map}
 use Rattle.std.proofs.lemmas.Option.{same_Some}
 use Rattle.std.proofs.lemmas.Bool.{false≢true, or_parts, true≢false}
 use Rattle.mpeg_scan.specs.declared.codes.Code.{Code}
@@ -10,8 +10,8 @@ use Rattle.mpeg_scan.specs.declared.tallies.Tally.{Tally}
 use Rattle.mpeg_scan.specs.Codes.{note}
 use Rattle.mpeg_scan.specs.Faults.{code_fault, count_fault, first_refusal, first_slice_fault, kind_fault, second_fault}
 use Rattle.mpeg_scan.specs.Room.{HasCounts, HasRoom, HasRoomWith}
-use Rattle.mpeg_scan.specs.Steps.{next, next_begins, next_picture, next_slices}
-use Rattle.mpeg_scan.specs.Words.{header_of, is_head, is_slice}
+use Rattle.mpeg_scan.specs.Steps.{next, next_begins, next_picture, next_rate, next_slices}
+use Rattle.mpeg_scan.specs.Words.{header_of, is_head, is_slice, rate_after, rate_code}
 use Rattle.mpeg_scan.proofs.CountLemmas.{first-some}
 use Rattle.mpeg_scan.proofs.StepLemmas.{count-accepted, counted, otherwise-first}
 use Rattle.mpeg_scan.proofs.TileLemmas.{first_slice-accepted}
@@ -32,6 +32,7 @@ room-more room far = record {
   unit = λ begun. omega (arith, room.unit begun, far);
   slice = λ some. omega (arith, room.slice some, far);
   picture = room.picture;
+  rate = room.rate;
   counts = counts-more room.counts far;
 }
 
@@ -45,6 +46,15 @@ with-more room far = record {
 
 -- ---- a byte more of the latest code
 
+-- that there is a rate, or a picture, is the same, whatever it is
+some-code : (b : Bool) (m n : ℕ) → IsSome (cond b (Some m) None) → IsSome (cond b (Some n) None)
+some-code true m n some = refl
+some-code false m n some = some
+
+some-rate : (rate : Option ℕ) (c : Code) (x : ℕ) → IsSome (rate_after rate c) → IsSome (rate_after rate (note c x))
+some-rate None c x some = some-code (eqb c.kind 0xb3) (rate_code c) (rate_code (note c x)) some
+some-rate (Some rate) c x some = refl
+
 some-header : (z : Bool) (g h : Header) (o : Option Header) → IsSome (cond z (Some g) o) → IsSome (cond z (Some h) o)
 some-header true g h o some = refl
 some-header false g h o some = some
@@ -57,6 +67,7 @@ room-noted c t x room = record {
   slice = room.slice;
   picture = λ some. some-header (eqb c.kind 0) (header_of c) (header_of (note c x))
       (cond (next_begins t c.kind) None t.picture) (room.picture some);
+  rate = λ begun. some-rate t.rate c x (room.rate begun);
   counts = record {
     pictures = room.counts.pictures;
     group = room.counts.group;
@@ -145,3 +156,13 @@ picture-next t c e before some =
     (or_parts (eqb c.kind 0xb3) (eqb c.kind 0xb8) (or_parts (eqb c.kind 0) rest other).1).0)
     (λ slice none. first-some t c.place c.kind (first_slice-accepted t c.place c.kind e) slice none)
     before some
+
+rate-by : {b begun : Bool} (rate : Option ℕ) (c : Code) → eqb c.kind 0xb3 ≡ b → (b ≡ false → begun ≡ true)
+    → (begun ≡ true → IsSome rate) → IsSome (rate_after rate c)
+rate-by {b = true} None c is begun before = ap (λ e. is_some (cond e (Some (rate_code c)) None)) is
+rate-by {b = false} None c is begun before = absurd (false≢true (before (begun refl)))
+rate-by (Some rate) c is begun before = refl
+
+pub rate-next : (t : Tally) (c : Code) → code_fault t c.place c.kind ≡ None → (t.begun ≡ true → IsSome t.rate)
+    → IsSome (next_rate t c)
+rate-next t c e before = rate-by t.rate c refl (λ other. code-begun t c.place c.kind e other) before

@@ -1,20 +1,22 @@
 -- The scanner's latest unit and slice begin well before the next code.
 use Rattle.std.proofs.Common.{Result, Ok, Err, OnOk, ℕ, Bool, true, false, not, cond, eqb, ltb, leb, ◌&&◌, ◌||◌, ◌+◌, ◌-◌, ◌<◌, ◌≤◌, ◌≡◌, [], Option, Some, None, sym, ◌∙◌, ap, refl, subst, arith}
-use Rattle.std.specs.Option.{option_map}
+use Rattle.std.specs.Option.{IsSome, option_map}
 use Rattle.std.proofs.lemmas.Option.{same_Some}
 use Rattle.std.proofs.lemmas.Bool.{true≢false, false≢true, ne_eqb, leb-true, and_parts}
 use Rattle.mpeg_scan.specs.declared.codes.Code.{Code}
 use Rattle.mpeg_scan.specs.declared.codes.Prefix.{Prefix}
 use Rattle.mpeg_scan.specs.declared.codes.Prefix.TheVariants.{Nothing, Zero, Zeros, Whole}
+use Rattle.mpeg_scan.specs.declared.faults.FilmFault.{FilmFault}
+use Rattle.mpeg_scan.specs.declared.faults.FilmFault.TheVariants.{NoSequence}
 use Rattle.mpeg_scan.specs.declared.progress.Progress.{Progress}
 use Rattle.mpeg_scan.specs.declared.tallies.Tally.{Tally}
 use Rattle.mpeg_scan.specs.Codes.{after_one, after_zero, is_whole, next_prefix, note}
 use Rattle.mpeg_scan.specs.Words.{is_head, is_slice}
-use Rattle.mpeg_scan.specs.Faults.{last_fault, code_fault}
+use Rattle.mpeg_scan.specs.Faults.{last_fault, open_fault, code_fault}
 use Rattle.mpeg_scan.specs.Room.{AwaitsSlice, AwaitsSliceAfter, HasRoom, HasRoomWith, IsAhead, prefix_length}
 use Rattle.mpeg_scan.specs.Scans.{scan_with_code, scan_with_byte}
 use Rattle.mpeg_scan.specs.Steps.{end_judgement, code_judgement, latest_header_fault, next, next_begins, tally_now, tally_with}
-use Rattle.mpeg_scan.proofs.NextLemmas.{code-begun, counts-more, counts-next, picture-next, with-more, with-noted}
+use Rattle.mpeg_scan.proofs.NextLemmas.{code-begun, counts-more, counts-next, picture-next, rate-next, with-more, with-noted}
 use Rattle.mpeg_scan.proofs.StepLemmas.{otherwise-second}
 use Rattle.mpeg_scan.proofs.TileLemmas.{ended-none, first_slice-accepted, first_slice-head}
 
@@ -187,6 +189,7 @@ code-room t place kind fed at room e =
         unit = λ begun. unit-by (is_head kind && ltb 0 t.slices) t.unit short at room.unit;
         slice = λ some. slice-by {n = t.slices} (is_head kind) t.slice (prefix-after kind) at room.slice some;
         picture = λ some. picture-next t c e room.picture some;
+        rate = λ begun. rate-next t c e room.rate;
         counts = counts-next t c e room.counts far;
       };
     }
@@ -259,6 +262,20 @@ end_judgement-sliced latest tally t end e is =
 -- what was read has room before the end
 pub ahead-room : (s : Progress) → IsAhead s → HasRoomWith s.latest s.tally s.fed
 ahead-room s room = with-more room.room (omega arith)
+
+-- an accepted film has begun
+ended-begun : (q b : Bool) (f : FilmFault) → cond (not q) (Some NoSequence) (cond b None (Some f)) ≡ None → q ≡ true
+ended-begun true b f e = refl
+ended-begun false b f e = absurd (cc)
+
+pub end-rated : (s : Progress) (t : Tally) → end_judgement s.latest s.tally s.fed ≡ None → t ≡ tally_now s → IsAhead s
+    → IsSome t.rate
+unfolding end_judgement
+end-rated s t e is room =
+    let now = tally_now s in
+    let last = otherwise-second (latest_header_fault s.latest s.tally.rate s.fed) (last_fault now) e in
+    subst (λ (v : Tally). IsSome v.rate) (sym is)
+    (room.room.now.rate (ended-begun now.begun (ltb 0 now.slices) (open_fault now now.picture) last))
 
 pub end-room : (s : Progress) (t : Tally) → t ≡ tally_now s → IsAhead s → HasRoom t s.fed
 end-room s t is room = subst (λ (v : Tally). HasRoom v s.fed) (sym is) (ahead-room s room).now

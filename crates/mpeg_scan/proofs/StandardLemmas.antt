@@ -7,7 +7,7 @@ use Rattle.mpeg_scan.specs.declared.faults.FilmFault.TheVariants.{BadType, Short
 use Rattle.mpeg_scan.specs.declared.units.Kind.{Kind}
 use Rattle.mpeg_scan.specs.declared.units.Unit.{Unit as PictureUnit}
 use Rattle.mpeg_scan.specs.Codes.{read, codes_of, latest_prefix}
-use Rattle.mpeg_scan.specs.Words.{kind_of, rate_of, tally_of, type_of, vectors_by}
+use Rattle.mpeg_scan.specs.Words.{first_rate, kind_of, tally_of, type_of, vectors_by}
 use Rattle.mpeg_scan.specs.Faults.{end_fault, first_fault, header_fault, last_fault, latest_fault, rate_fault}
 use Rattle.mpeg_scan.specs.Films.{IsFilm}
 use Rattle.mpeg_scan.specs.Places.{HasCode, StandsAt}
@@ -27,7 +27,7 @@ use Rattle.mpeg_scan.proofs.ClosedLemmas.{AllClosed, Closed, CodeFields, Has, al
 record CodeText (r : List ℕ) (c : Code) : Type 0 where
   stop : ℕ
   end : ℕ
-  rate : ℕ
+  rate : Option ℕ
   is : TextIs r stop c
   judged : header_fault rate c end ≡ None
   far : end ≤ stop
@@ -36,7 +36,7 @@ code-text : {r : List ℕ} {c its : Code} {past : List Code} {end stop : ℕ} �
     → Member its (c ∷ past) → CodeText r its
 code-text {r} {c} {past} {end} {stop} are (inl same) =
     subst (λ (v : Code). CodeText r v) same
-    (record { stop = stop; end = end; rate = rate_of past; is = are.texts.0; judged = are.judged; far = are.far })
+    (record { stop = stop; end = end; rate = first_rate past; is = are.texts.0; judged = are.judged; far = are.far })
 code-text {past = []} are (inr m) = absurd m
 code-text {past = d ∷ past} are (inr m) = code-text {c = d} {past = past} (older-are_judged are) m
 
@@ -73,7 +73,7 @@ nine-by : (a b : Bool) → (a && b) ≡ false → a ≡ true → b ≡ false
 nine-by true b none is = none
 nine-by false b none is = absurd (false≢true is)
 
-picture-long : (rate : ℕ) (c : Code) (end : ℕ) → c.kind ≡ 0 → header_fault rate c end ≡ None → PictureLong c end
+picture-long : (rate : Option ℕ) (c : Code) (end : ℕ) → c.kind ≡ 0 → header_fault rate c end ≡ None → PictureLong c end
 picture-long rate c end is e =
     let judged =
     picture-judged (cond (ltb (end - c.place) 12) (Some (ShortHeader c.place)) (rate_fault rate c))

@@ -1,6 +1,6 @@
 -- The twelve refusals of a film, in their order: each start code is judged in turn, and the end
 -- last.
-use Rattle.std.specs.Prelude.{ℕ, ◌-◌, ◌^◌, ◌==◌, ◌&&◌, ◌||◌, not, List, [], ◌∷◌, Option, Some, None}
+use Rattle.std.specs.Prelude.{ℕ, ◌-◌, ◌^◌, ◌==◌, ◌&&◌, ◌||◌, Bool, false, not, List, [], ◌∷◌, Option, Some, None}
 use Rattle.std.specs.Prelude.{if◌then◌else◌, length, nat_lt, nat_le, option_map}
 use Rattle.mpeg_scan.specs.declared.codes.Code.{Code}
 use Rattle.mpeg_scan.specs.declared.faults.FilmFault.{FilmFault}
@@ -12,17 +12,22 @@ use Rattle.mpeg_scan.specs.declared.faults.FilmFault.TheVariants.{TooLong, HeadW
 use Rattle.mpeg_scan.specs.declared.tallies.Header.{Header}
 use Rattle.mpeg_scan.specs.declared.tallies.Tally.{Tally}
 use Rattle.mpeg_scan.specs.Codes.{codes_of}
-use Rattle.mpeg_scan.specs.Words.{is_head, is_slice, rate_of, rate_code, type_of, tally_of}
+use Rattle.mpeg_scan.specs.Words.{is_head, is_slice, first_rate, rate_code, type_of, tally_of}
 
 -- the first of two refusals
 abbrev pub first_refusal : Option FilmFault → Option FilmFault → Option FilmFault
 first_refusal None g = g
 first_refusal (Some f) g = Some f
 
+-- another rate code than the first, if there was one
+abbrev pub differs : Option ℕ → ℕ → Bool
+differs None code = false
+differs (Some rate) code = not (code == rate)
+
 -- a sequence header's rate code is 1 to 8, and that of the first one, if there was one
-abbrev pub rate_fault : ℕ → Code → Option FilmFault
+abbrev pub rate_fault : Option ℕ → Code → Option FilmFault
 rate_fault rate c =
-    if rate_code c == 0 || (nat_lt 8 (rate_code c) || (nat_lt 0 rate && not (rate_code c == rate)))
+    if rate_code c == 0 || (nat_lt 8 (rate_code c) || differs rate (rate_code c))
     then Some (BadRate c.place (rate_code c))
     else None
 
@@ -34,7 +39,7 @@ picture_fault c end =
     else (if nat_le 1 (type_of c) && nat_le (type_of c) 4 then None else Some (BadType c.place))
 
 -- the header of the code c, where the next code, or the film's end, stands at `end`
-abbrev pub header_fault : ℕ → Code → ℕ → Option FilmFault
+abbrev pub header_fault : Option ℕ → Code → ℕ → Option FilmFault
 header_fault rate c end =
     if c.kind == 0xb3
     then (if nat_lt (end - c.place) 12 then Some (ShortHeader c.place) else rate_fault rate c)
@@ -45,7 +50,7 @@ header_fault rate c end =
 -- the header of the latest code
 abbrev pub latest_fault : List Code → ℕ → Option FilmFault
 latest_fault [] end = None
-latest_fault (c ∷ past) end = header_fault (rate_of past) c end
+latest_fault (c ∷ past) end = header_fault (first_rate past) c end
 
 -- a code that no film of this standard has, or that can't be the first
 abbrev pub kind_fault : Tally → ℕ → ℕ → Option FilmFault

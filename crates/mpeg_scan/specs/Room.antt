@@ -26,12 +26,13 @@ pub record HasCounts (t : Tally) (place : ℕ) : Type 0 where
   pub all : t.all_slices ≤ place
 
 -- the latest unit began at least 3 bytes before a place, and its latest slice 4; a unit with slices
--- has a picture
+-- has a picture, and a film begins with a sequence header
 pub record HasRoom (t : Tally) (place : ℕ) : Type 0 where
   pub from : t.unit ≤ place
   pub unit : t.begun ≡ true → t.unit + 3 ≤ place
   pub slice : 0 < t.slices → t.slice + 4 ≤ place
   pub picture : 0 < t.slices → IsSome t.picture
+  pub rate : t.begun ≡ true → IsSome t.rate
   pub counts : HasCounts t place
 
 -- the same of a tally without the latest code, which stands before the place

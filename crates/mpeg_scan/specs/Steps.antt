@@ -6,14 +6,14 @@ use Rattle.mpeg_scan.specs.declared.faults.FilmFault.{FilmFault}
 use Rattle.mpeg_scan.specs.declared.progress.Progress.{Progress}
 use Rattle.mpeg_scan.specs.declared.tallies.Header.{Header}
 use Rattle.mpeg_scan.specs.declared.tallies.Tally.{Tally}
-use Rattle.mpeg_scan.specs.Words.{is_head, is_slice, rate_code, header_of}
+use Rattle.mpeg_scan.specs.Words.{is_head, is_slice, rate_after, header_of}
 use Rattle.mpeg_scan.specs.Faults.{first_refusal, header_fault, code_fault, last_fault}
 
 abbrev pub next_begins : Tally → ℕ → Bool
 next_begins t kind = not t.begun || (is_head kind && nat_lt 0 t.slices)
 
-abbrev pub next_rate : Tally → Code → ℕ
-next_rate t c = if t.rate == 0 && c.kind == 0xb3 then rate_code c else t.rate
+abbrev pub next_rate : Tally → Code → Option ℕ
+next_rate t c = rate_after t.rate c
 
 abbrev pub next_unit : Tally → Code → ℕ
 next_unit t c = if next_begins t c.kind then c.place else t.unit
@@ -76,7 +76,7 @@ tally_with (Some c) t = next t c
 abbrev pub tally_now : Progress → Tally
 tally_now s = tally_with s.latest s.tally
 
-abbrev pub latest_header_fault : Option Code → ℕ → ℕ → Option FilmFault
+abbrev pub latest_header_fault : Option Code → Option ℕ → ℕ → Option FilmFault
 latest_header_fault None rate end = None
 latest_header_fault (Some c) rate end = header_fault rate c end
 

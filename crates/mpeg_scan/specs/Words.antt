@@ -3,7 +3,7 @@
 -- unit begins at the first code, and at each such code that is the first after a slice.
 use Rattle.std.specs.Prelude.{ℕ, ◌+◌, ◌*◌, ◌/◌, ◌%◌, ◌==◌, ◌&&◌, ◌||◌, Bool, true, false, not, List}
 use Rattle.std.specs.Prelude.{[], ◌∷◌, Option, Some, None, if◌then◌else◌, nat_lt, nat_le}
-use Rattle.std.specs.Prelude.{slice_index}
+use Rattle.std.specs.Prelude.{slice_index, unwrap_or}
 use Rattle.mpeg_scan.specs.declared.codes.Code.{Code}
 use Rattle.mpeg_scan.specs.declared.tallies.Header.{Header}
 use Rattle.mpeg_scan.specs.declared.tallies.Tally.{Tally}
@@ -80,10 +80,19 @@ starts_group (c ∷ past) =
 abbrev pub rate_code : Code → ℕ
 rate_code c = slice_index c.text 3 % 16
 
--- the rate code of the first sequence header, or 0 where there is none
+-- the rate code of the first sequence header, with one code more
+abbrev pub rate_after : Option ℕ → Code → Option ℕ
+rate_after None c = if c.kind == 0xb3 then Some (rate_code c) else None
+rate_after (Some rate) c = Some rate
+
+-- the rate code of the first sequence header, where there is one
+abbrev pub first_rate : List Code → Option ℕ
+first_rate [] = None
+first_rate (c ∷ past) = rate_after (first_rate past) c
+
+-- the same, or 0 where there is none
 abbrev pub rate_of : List Code → ℕ
-rate_of [] = 0
-rate_of (c ∷ past) = if rate_of past == 0 && c.kind == 0xb3 then rate_code c else rate_of past
+rate_of past = unwrap_or (first_rate past) 0
 
 -- the fields of a picture header (2.4.2.5): temporal_reference is its first 10 bits,
 -- picture_coding_type the next 3; vbv_delay has 16; then, for types 2 and 3, full_pel_forward 1 and
@@ -135,7 +144,7 @@ picture_of (c ∷ past) =
 abbrev pub tally_of : List Code → Tally
 tally_of past = record {
   begun = not (is_none_yet past);
-  rate = rate_of past;
+  rate = first_rate past;
   unit = unit_of past;
   picture = picture_of past;
   pictures = pictures_of past;

@@ -2,7 +2,7 @@
 ghost use Rattle.std.specs.Prelude.{◌≡◌, ◌≤◌};
 ghost use Rattle.mpeg_scan.specs.Faults.{header_fault, kind_fault, second_fault, first_slice_fault};
 ghost use Rattle.mpeg_scan.specs.Faults.{count_fault, code_fault, last_fault, picture_fault};
-ghost use Rattle.mpeg_scan.specs.Faults.{rate_fault};
+ghost use Rattle.mpeg_scan.specs.Faults.{differs, rate_fault};
 ghost use Rattle.mpeg_scan.specs.Room.{HasRoom};
 
 use crate::codes::Code;
@@ -99,8 +99,8 @@ const PICTURE_HEADER: u64 = 8;
 const VECTORS_HEADER: u64 = 9;
 
 /// The refusal of the header that `code` begins, where the next code, or the film's end, stands at
-/// `end`. `rate` is the rate code of the film, or 0 before its first sequence header.
-pub(crate) fn header_fault(rate: u8, code: &Code, end: u64) -> Option<FilmFault>
+/// `end`. `rate` is that of the film's first sequence header, once there is one.
+pub(crate) fn header_fault(rate: Option<u8>, code: &Code, end: u64) -> Option<FilmFault>
     requires { code.now.place ≤ end }
     ensures { result ≡ header_fault rate code.now end }
 {
@@ -159,14 +159,24 @@ pub(crate) fn last_fault(tally: &Tally) -> Option<FilmFault>
 
 /// The refusal of a sequence header by its picture rate code: none of the eight, or another than
 /// the film's first.
-fn rate_fault(rate: u8, code: &Code) -> Option<FilmFault>
+fn rate_fault(rate: Option<u8>, code: &Code) -> Option<FilmFault>
     ensures { result ≡ rate_fault rate code.now }
 {
     let own = rate_code(code);
-    if own == 0 || 8 < own || (0 < rate && own != rate) {
+    if own == 0 || 8 < own || differs(rate, own) {
         Some(FilmFault::BadRate(code.place, own))
     } else {
         None
+    }
+}
+
+/// Whether a rate code is another than the first, if there was one.
+fn differs(rate: Option<u8>, code: u8) -> bool
+    ensures { result ≡ differs rate code }
+{
+    match rate {
+        None => false,
+        Some(rate) => code != rate,
     }
 }
 

@@ -1,6 +1,6 @@
 //! How far a film was read, and what a further byte does.
 ghost use Rattle.std.specs.Prelude.{◌≡◌, ℕ, ◌+◌, ◌^◌, ◌<◌, ◌≤◌, List, [], ◌∷◌, ◌++◌, Some, None};
-ghost use Rattle.std.specs.Prelude.{length, take, slice_index, IsTrue, true, IfOk, IfErr, OnOk};
+ghost use Rattle.std.specs.Prelude.{length, take, slice_index, IsSome, IsTrue, true, IfOk, IfErr, OnOk};
 ghost use Rattle.std.specs.Prelude.{MatchResult, ◌≢◌};
 ghost use Rattle.std.specs.Option.{ForSome};
 ghost use Rattle.mpeg_scan.specs.Calls.{Call, calls_at, calls_of};
@@ -259,6 +259,7 @@ impl Progress {
         requires { IsAhead self.now }
         ensures tally { IfOk result (λ t. t ≡ tally_now self.now) }
         ensures sliced { IfOk result (λ t. 0 < t.slices) }
+        ensures rated { IfOk result (λ t. IsSome t.rate) }
         ensures short { OnOk result (self.now.fed ≤ 2 ^ 40) }
         ensures accepted { IfOk result (λ t. (r : List ℕ) → HasRead self.now r →
             (refusal_of r ≡ None) × (t ≡ tally_of (codes_of r))) }

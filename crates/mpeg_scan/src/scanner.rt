@@ -112,7 +112,7 @@ impl Scanner {
         let tally = self.progress.judge_film()?;
         tell_unit(&tally, self.progress.fed, found)?;
         Ok(Ending {
-            rate: tally.rate,
+            rate: tally.rate.unwrap(),
             bytes: self.progress.fed,
         })
     }

@@ -96,8 +96,8 @@ impl Header {
 pub(crate) struct Tally {
     /// Whether a code was read.
     pub(crate) begun: bool,
-    /// The rate code of the film's first sequence header, or 0 before it.
-    pub(crate) rate: u8,
+    /// The rate code of the film's first sequence header.
+    pub(crate) rate: Option<u8>,
     /// The place of the latest unit.
     pub(crate) unit: u64,
     /// Its picture's header.
@@ -127,7 +127,7 @@ impl Tally {
     {
         Tally {
             begun: false,
-            rate: 0,
+            rate: None,
             unit: 0,
             picture: None,
             pictures: 0,
@@ -171,13 +171,12 @@ impl Tally {
     }
 
     /// The film's rate code with one code more.
-    fn next_rate(&self, code: &Code) -> u8
+    fn next_rate(&self, code: &Code) -> Option<u8>
         ensures { result ≡ next_rate self.now code.now }
     {
-        if self.rate == 0 && code.kind == SEQUENCE {
-            rate_code(code)
-        } else {
-            self.rate
+        match self.rate {
+            None if code.kind == SEQUENCE => Some(rate_code(code)),
+            rate => rate,
         }
     }
 

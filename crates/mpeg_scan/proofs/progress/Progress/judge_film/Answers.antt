@@ -1,6 +1,6 @@
 use Rattle.std.proofs.Common.{◌∙◌, arith}
 use Rattle.std.proofs.lemmas.Result.{MatchResult-weaker}
-use Rattle.mpeg_scan.proofs.RoomLemmas.{ahead-room, end_judgement-sliced}
+use Rattle.mpeg_scan.proofs.RoomLemmas.{ahead-room, end-rated, end_judgement-sliced}
 use Rattle.mpeg_scan.proofs.StepLemmas.{refusal-empty, refusal-long, refusal-is, tally-ended}
 use Rattle.mpeg_scan.proofs.progress.Progress.judge_film.Goals as goal
 
@@ -40,3 +40,8 @@ returns-else-self-gt-MAX_FILM_BYTES-clause-sliced c =
 pub returns-else-self-gt-MAX_FILM_BYTES-clause-short : goal.returns-else-self-gt-MAX_FILM_BYTES-clause-short
 returns-else-self-gt-MAX_FILM_BYTES-clause-short c =
     MatchResult-weaker c.judge_end.result c.judge_end.ensures (λ t h. c.if-self-gt-MAX_FILM_BYTES.false) (λ f h. tt)
+
+pub returns-else-self-gt-MAX_FILM_BYTES-clause-rated : goal.returns-else-self-gt-MAX_FILM_BYTES-clause-rated
+returns-else-self-gt-MAX_FILM_BYTES-clause-rated c =
+    MatchResult-weaker c.judge_end.result c.judge_end.ensures
+    (λ t h. end-rated c.args.self.now t h.0 h.1 c.requires) (λ f h. tt)

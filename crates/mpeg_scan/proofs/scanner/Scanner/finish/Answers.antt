@@ -1,5 +1,6 @@
-use Rattle.std.proofs.Common.{Err, option_map, refl, sym, ap, ◌∙◌}
+use Rattle.std.proofs.Common.{ℕ, Err, Option, option_map, refl, sym, ap, ◌∙◌}
 use Rattle.std.proofs.lemmas.Option.{none-some, same_Some}
+use Rattle.std.specs.Option.{unwrap_or}
 use Rattle.std.specs.Result.{result_ok}
 use Rattle.mpeg_scan.specs.declared.scanner.Ending.{Ending}
 use Rattle.mpeg_scan.specs.declared.tallies.Tally.{Tally}
@@ -47,12 +48,16 @@ returns-in-Some g c = record {
 
 pub returns-clause-ended : goal.returns-clause-ended
 returns-clause-ended g c =
-    λ r kept. let h = c.in_ok-tally.ensures.accepted r kept.progress in (h.0, ap (λ (t : Tally). t.rate) h.1, kept.progress.fed)
+    λ r kept. let h = c.in_ok-tally.ensures.accepted r kept.progress in (
+      h.0,
+      ap (λ (rate : Option ℕ). unwrap_or rate 0) (sym c.unwrap.ensures) ∙ ap (λ (t : Tally). unwrap_or t.rate 0) h.1,
+      kept.progress.fed,
+    )
 
 pub returns-clause-fault : goal.returns-clause-fault
 returns-clause-fault g c =
     λ f e r kept. absurd
-    (none-some c.in_ok-tally.tally.rate (sym (ap (λ r. option_map (λ (e : Ending). e.rate) (result_ok r)) e)))
+    (none-some c.unwrap.result (sym (ap (λ r. option_map (λ (e : Ending). e.rate) (result_ok r)) e)))
 
 pub returns-clause-again : goal.returns-clause-again
 returns-clause-again g c = λ e is. absurd (none-some e (sym c.in_default.is ∙ is))
