@@ -4,23 +4,23 @@ pub mod ReadLemmas
 pub mod FilmLemmas
 pub mod TileLemmas
 pub mod CountLemmas
-pub mod PlaceLemmas
-pub mod GrammarLemmas
+mod PlaceLemmas
+mod GrammarLemmas
 pub mod BoundLemmas
 pub mod LaidLemmas
-pub mod TextLemmas
+mod TextLemmas
 pub mod FirstLemmas
 mod NextLemmas
-pub mod RoomLemmas
-pub mod OpenLemmas
-pub mod ClosedLemmas
-pub mod StandardLemmas
-pub mod OrderLemmas
-pub mod SliceLemmas
-pub mod OnlyLemmas
-pub mod DecideLemmas
-pub mod BeforeLemmas
-pub mod SinceLemmas
-pub mod HeaderLemmas
-pub mod RefusalLemmas
-pub mod RefusedLemmas
+mod RoomLemmas
+mod OpenLemmas
+mod ClosedLemmas
+mod StandardLemmas
+mod OrderLemmas
+mod SliceLemmas
+mod OnlyLemmas
+mod DecideLemmas
+mod BeforeLemmas
+mod SinceLemmas
+mod HeaderLemmas
+mod RefusalLemmas
+mod RefusedLemmas

@@ -156,7 +156,7 @@ fn units_of_films(rt: HostRuntime) -> Result<(), Fail> {
     Ok(())
 }
 
-// Units of a film with a picture of each kind, after the first two.
+/// The third unit of a film with a picture of each kind.
 const UNIT_C: Unit = Unit {
     from: 49,
     head_end: 58,
@@ -171,6 +171,7 @@ const UNIT_C: Unit = Unit {
     starts_group: false,
 };
 
+/// The fourth.
 const UNIT_D: Unit = Unit {
     from: 70,
     head_end: 86,
@@ -185,6 +186,7 @@ const UNIT_D: Unit = Unit {
     starts_group: true,
 };
 
+/// The fifth.
 const UNIT_E: Unit = Unit {
     from: 92,
     head_end: 100,
@@ -225,7 +227,7 @@ fn fields_of_headers(rt: HostRuntime) -> Result<(), Fail> {
     Ok(())
 }
 
-// What a film tells when it is fed in two pieces, or byte by byte.
+/// What a film tells when it is fed in two pieces, or byte by byte.
 fn told_in_pieces(
     alloc: Global,
     film: &[u8],
