@@ -14,7 +14,7 @@ use Rattle.mpeg_scan.specs.Words.{rate_of}
 use Rattle.mpeg_scan.specs.Films.{refusal}
 use Rattle.mpeg_scan.specs.Scans.{HasScannedBytes, bytes_fed}
 use Rattle.mpeg_scan.proofs.ReadLemmas.{read-append, fault-stays}
-use Rattle.mpeg_scan.proofs.FilmLemmas.{length-read, told-none, refusal-at_code}
+use Rattle.mpeg_scan.proofs.FilmLemmas.{length-read, calls-none, refusal-at_code}
 use Rattle.troubles.specs.declared.faults.Fault.{Fault}
 use Rattle.troubles.specs.declared.faults.Fault.TheVariants.{Film}
 use Rattle.troubles.specs.declared.faults.Trouble.{Trouble}
@@ -112,7 +112,7 @@ piece_refused {Heard} {held} {name} {size} {bytes} {fault} piece so_far opened f
 -- before the first piece
 pub none_told : (Heard : List Call → Type 0) (scanner : Scanner) → HasScannedBytes scanner [] → Heard []
     → HasTold Heard scanner []
-none_told Heard scanner fed fresh = record { fed = fed; heard = subst Heard (sym told-none) fresh }
+none_told Heard scanner fed fresh = record { fed = fed; heard = subst Heard (sym calls-none) fresh }
 
 pub first_scanned : {Heard : List Call → Type 0} {told' : Option (List File)} {name : List ℕ} {size : ℕ}
     {scanner : Scanner} (from : Option ℕ) → WasOpened told' name size from →

@@ -9,7 +9,7 @@ use Rattle.mpeg_scan.specs.declared.scanner.Scanner.{Scanner}
 use Rattle.mpeg_scan.specs.Codes.{read, codes_of}
 use Rattle.mpeg_scan.specs.Calls.{Call, calls_of}
 use Rattle.mpeg_scan.specs.Faults.{first_fault}
-use Rattle.mpeg_scan.specs.Films.{IsFilm, refusal, told_of}
+use Rattle.mpeg_scan.specs.Films.{IsFilm, refusal, film_calls}
 use Rattle.mpeg_scan.specs.Scans.{HasScannedBytes, refused_by}
 use Rattle.mpeg_scan.specs.Words.{rate_of}
 use Rattle.sys_demux.specs.States.{WasFed}
@@ -144,7 +144,7 @@ pub record HasEnded (Heard : List Call → Type 0) (video : List ℕ) (size rate
   pub accepted : refusal video ≡ None
   pub sized : size ≡ length video
   pub rate_is : rate ≡ rate_of (codes_of (read [] video))
-  pub heard : Heard (told_of video)
+  pub heard : Heard (film_calls video)
 
 abbrev pub IsRefusedAtEnd : (List Call → Type 0) → Scanner → FilmFault → Type 0
 IsRefusedAtEnd Heard scanner fault =

@@ -2,13 +2,13 @@
 use Rattle.std.specs.Prelude.{◌≡◌, ℕ, ◌+◌, ◌-◌, ◌^◌, ◌≤◌, if◌then◌else◌, List, [], ◌∷◌, ◌++◌}
 use Rattle.std.specs.Prelude.{length, map, sum}
 use Rattle.mpeg_scan.specs.Calls.{Call, head_call, slice_call, unit_call}
-use Rattle.mpeg_scan.specs.Films.{told_of, slices_in, units_in}
+use Rattle.mpeg_scan.specs.Films.{film_calls, slices_in, units_in}
 use Rattle.rtp_pack.specs.Sizes.{Measure, measure_from_head, with_slice, frames_of}
 use Rattle.film_frames.specs.Pieces.{wire_size}
 
 -- the sizes of the units of a film on the wire, in order
 abbrev pub sizes_of : List ℕ → List ℕ
-sizes_of film = map (λ unit. wire_size (slices_in (told_of film)) unit) (units_in (told_of film))
+sizes_of film = map (λ unit. wire_size (slices_in (film_calls film)) unit) (units_in (film_calls film))
 
 -- the unit that is being told, and the sizes of those that have ended
 pub record Sizing : Type 0 where

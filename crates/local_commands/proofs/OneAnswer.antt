@@ -7,7 +7,7 @@ use Rattle.std.proofs.lemmas.List.Elements.{All-take}
 use Rattle.vod_base.specs.Numbers.{number_of}
 use Rattle.vod_base.specs.Outside.{File}
 use Rattle.mpeg_scan.specs.Codes.{codes_of, read}
-use Rattle.mpeg_scan.specs.Films.{told_of, units_in}
+use Rattle.mpeg_scan.specs.Films.{film_calls, units_in}
 use Rattle.mpeg_scan.specs.Rates.{picture_time}
 use Rattle.mpeg_scan.specs.Words.{rate_of}
 use Rattle.mpeg_scan.specs.declared.units.Unit.{Unit as PictureUnit}
@@ -169,7 +169,7 @@ scanned_once held film t t' p q =
     let rates : p.rate ≡ q.rate =
     p.holds.grammar.rate ∙ ap (λ (v : List ℕ). rate_of (codes_of (read [] v))) same ∙ sym q.holds.grammar.rate in
     let units : p.units ≡ q.units =
-    p.holds.grammar.units ∙ ap (λ (v : List ℕ). units_in (told_of v)) same ∙ sym q.holds.grammar.units in
+    p.holds.grammar.units ∙ ap (λ (v : List ℕ). units_in (film_calls v)) same ∙ sym q.holds.grammar.units in
     p.printed ∙ ap (λ n. scan_text n p.rate p.units) sizes ∙ ap (λ n. scan_text q.size n p.units) rates
     ∙ ap (λ (u : List PictureUnit). scan_text q.size q.rate u) units ∙ sym q.printed
 

@@ -10,7 +10,7 @@ use Rattle.mpeg_scan.specs.Words.{first_rate, pictures_of, rate_after, rate_code
 use Rattle.mpeg_scan.specs.Faults.{first_refusal, rate_fault, picture_fault, header_fault, latest_fault, last_fault, code_fault, fault_at, first_fault, end_fault, refusal_of}
 use Rattle.mpeg_scan.specs.Calls.{Call, head_call, slice_call, unit_call}
 use Rattle.mpeg_scan.specs.Counts.{Count, group_of, counts_after, no_count}
-use Rattle.mpeg_scan.specs.Films.{units_in, refusal, told_of}
+use Rattle.mpeg_scan.specs.Films.{units_in, refusal, film_calls}
 use Rattle.mpeg_scan.proofs.FilmLemmas.{length-read}
 use Rattle.mpeg_scan.proofs.StepLemmas.{accepted-older, otherwise-first, otherwise-second, pictures-bound, positive}
 use Rattle.mpeg_scan.proofs.TileLemmas.{accepted-whole, ended-none, first-is}
@@ -113,10 +113,10 @@ units-counted (unit_call unit ∷ calls) k last e =
     omega (arith, units-counted calls next last (count-goes b next calls last e))
 
 pub film-units : (bytes : List ℕ) → refusal bytes ≡ None
-    → length (units_in (told_of bytes)) ≡ pictures_of (codes_of (read [] bytes))
+    → length (units_in (film_calls bytes)) ≡ pictures_of (codes_of (read [] bytes))
 film-units bytes e =
     let whole = film-count (read [] bytes) e in
-    omega (arith, units-counted (told_of bytes) no_count whole.last whole.counted, whole.units)
+    omega (arith, units-counted (film_calls bytes) no_count whole.last whole.counted, whole.units)
 
 pub film-pictures : (r : List ℕ) → refusal_of r ≡ None → pictures_of (codes_of r) ≤ 4194304
 film-pictures r e =

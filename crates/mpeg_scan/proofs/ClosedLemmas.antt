@@ -11,8 +11,8 @@ use Rattle.mpeg_scan.specs.Calls.{Call, head_call, slice_call, calls_at, no_head
 use Rattle.mpeg_scan.specs.Films.{units_in}
 use Rattle.mpeg_scan.specs.Places.{HasCode}
 use Rattle.mpeg_scan.specs.Standard.{Counts, HasPicture, IsFirstCode, IsHeadKind, IsSliceKind, NoneIn, StandsIn, StandsThere, UnitIs}
-use Rattle.mpeg_scan.proofs.StepLemmas.{accepted-older, code-accepted, otherwise-second, positive, told-cons}
-use Rattle.mpeg_scan.proofs.TileLemmas.{After, Spaced, Told, all-below, ended-none, first-is, first_slice-accepted, raw_calls, slice-apart, told-nil, told_at}
+use Rattle.mpeg_scan.proofs.StepLemmas.{accepted-older, code-accepted, otherwise-second, positive, calls-cons}
+use Rattle.mpeg_scan.proofs.TileLemmas.{After, Spaced, Told, all-below, ended-none, first-is, first_slice-accepted, raw_calls, slice-apart, calls-nil, told_at}
 use Rattle.mpeg_scan.proofs.CountLemmas.{empty-count, first-some, second-accepted, second-none}
 use Rattle.mpeg_scan.proofs.FilmLemmas.{units_in-append}
 use Rattle.mpeg_scan.proofs.OpenLemmas.{Below, Firsts, Member, Open, Pictured, first-code, kinds-of, member-has, step-open}
@@ -336,19 +336,19 @@ closed-first c is =
     (units_in (cond (is_slice m) (cond (eqb 0 0) (head_call 0 c.place ∷ []) (slice_call 0 c.place ∷ []))
     (cond (is_head m && ltb 0 0) (unit_end (tally_of []) c.place) [])))) (sym is) tt
 
-told-closed : (c : Code) (past : List Code) → first_fault (c ∷ past) ≡ None → Spaced (c ∷ past)
+calls-closed : (c : Code) (past : List Code) → first_fault (c ∷ past) ≡ None → Spaced (c ∷ past)
     → AllClosed (c ∷ past) c.place (units_in (calls_of (c ∷ past)))
-told-closed c [] accepted spaced =
+calls-closed c [] accepted spaced =
     subst (λ (l : List Call). AllClosed (c ∷ []) c.place (units_in l))
-    (sym (told-cons c [] ∙ ap (λ (l : List Call). l ++ calls_at (tally_of []) c.place c.kind) told-nil))
+    (sym (calls-cons c [] ∙ ap (λ (l : List Call). l ++ calls_at (tally_of []) c.place c.kind) calls-nil))
     (closed-first c (first-is c accepted))
-told-closed c (d ∷ past) accepted spaced =
+calls-closed c (d ∷ past) accepted spaced =
     let older : List Code = d ∷ past in
     let calls = calls_at (tally_of older) c.place c.kind in
     let below = all-below older spaced.1 spaced.0 in
-    let before = told-closed d past (accepted-older c older accepted) spaced.1 in
+    let before = calls-closed d past (accepted-older c older accepted) spaced.1 in
     subst (λ (l : List PictureUnit). AllClosed (c ∷ older) c.place l)
-    (sym (ap units_in (told-cons c older) ∙ units_in-append (calls_of older) calls))
+    (sym (ap units_in (calls-cons c older) ∙ units_in-append (calls_of older) calls))
     (all-append (c ∷ older) c.place (units_in (calls_of older)) (units_in calls)
     (all-grow c older d.place (units_in (calls_of older)) (omega (arith, below d.place d.kind (inl (refl, refl)))) before)
     (closed-step c d past (open-codes d past (accepted-older c older accepted) spaced.1) spaced.1 below))
@@ -366,4 +366,4 @@ whole-closed (c ∷ past) n accepted ended spaced after =
     subst (λ (l : List PictureUnit). AllClosed all n l) (sym (units_in-append (calls_of all) (unit_end (tally_of all) n)))
     (all-append all n (units_in (calls_of all)) (units_in (unit_end (tally_of all) n))
     (all-later all c.place n (units_in (calls_of all))
-    (omega (arith, below c.place c.kind (inl (refl, refl)))) (told-closed c past accepted spaced)) last)
+    (omega (arith, below c.place c.kind (inl (refl, refl)))) (calls-closed c past accepted spaced)) last)

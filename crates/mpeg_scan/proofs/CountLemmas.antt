@@ -11,8 +11,8 @@ use Rattle.mpeg_scan.specs.Words.{is_head, is_slice, tally_of, slices_of, all_sl
 use Rattle.mpeg_scan.specs.Faults.{first_refusal, kind_fault, second_fault, first_slice_fault, count_fault, code_fault, head_fault, left_without_slices, first_fault, end_fault, last_fault, latest_fault, refusal_of}
 use Rattle.mpeg_scan.specs.Calls.{Call, head_call, slice_call, unit_call, unit_at, unit_end, calls_at, calls_of, all_calls}
 use Rattle.mpeg_scan.specs.Counts.{Count, group_of, next_count, counts_after, no_count, AreNumbered}
-use Rattle.mpeg_scan.proofs.TileLemmas.{Told, raw_calls, told_at, slice-apart, first_slice-accepted, first-is, told-nil, ended-none, accepted-whole}
-use Rattle.mpeg_scan.proofs.StepLemmas.{accepted-older, code-accepted, otherwise-first, otherwise-second, told-cons}
+use Rattle.mpeg_scan.proofs.TileLemmas.{Told, raw_calls, told_at, slice-apart, first_slice-accepted, first-is, calls-nil, ended-none, accepted-whole}
+use Rattle.mpeg_scan.proofs.StepLemmas.{accepted-older, code-accepted, otherwise-first, otherwise-second, calls-cons}
 
 -- what a count has to do with the pictures, slices and groups of the codes: `has` says that the latest
 -- unit has its picture, n are its slices
@@ -351,16 +351,16 @@ counts-append None a b =
 counts-append (Some k) [] b = refl
 counts-append (Some k) (call ∷ a) b = counts-append (next_count k call) a b
 
-told-counted : (c : Code) (past : List Code) → first_fault (c ∷ past) ≡ None → CountedBy no_count (calls_of (c ∷ past)) (c ∷ past)
-told-counted c [] accepted =
+calls-counted : (c : Code) (past : List Code) → first_fault (c ∷ past) ≡ None → CountedBy no_count (calls_of (c ∷ past)) (c ∷ past)
+calls-counted c [] accepted =
     let start = first-count c (first-is c accepted) in
     subst (λ (l : List Call). CountedBy no_count l (c ∷ []))
-    (sym (told-cons c [] ∙ ap (λ (l : List Call). l ++ calls_at (tally_of []) c.place c.kind) told-nil)) start
-told-counted c (d ∷ past) accepted =
-    let before = told-counted d past (accepted-older c (d ∷ past) accepted) in
+    (sym (calls-cons c [] ∙ ap (λ (l : List Call). l ++ calls_at (tally_of []) c.place c.kind) calls-nil)) start
+calls-counted c (d ∷ past) accepted =
+    let before = calls-counted d past (accepted-older c (d ∷ past) accepted) in
     let more = code-count c d past before.count (code-accepted c (d ∷ past) accepted) before.agrees in record {
       count = more.count;
-      told = ap (counts_after (Some no_count)) (told-cons c (d ∷ past))
+      told = ap (counts_after (Some no_count)) (calls-cons c (d ∷ past))
           ∙ counts-append (Some no_count) (calls_of (d ∷ past)) (calls_at (tally_of (d ∷ past)) c.place c.kind)
           ∙ ap (λ (o : Option Count). counts_after o (calls_at (tally_of (d ∷ past)) c.place c.kind)) before.told ∙ more.told;
       agrees = more.agrees;
@@ -378,7 +378,7 @@ whole-count [] n accepted ended = absurd (omega (arith, ended-none (tally_of [])
 whole-count (c ∷ past) n accepted ended =
     let all : List Code = c ∷ past in
     let some = ended-none (tally_of all) (otherwise-second (latest_fault all n) (last_fault (tally_of all)) ended) in
-    let k = told-counted c past accepted in
+    let k = calls-counted c past accepted in
     let next : IsNext (unit_at (tally_of all) n) (all_slices_of all) (slices_of all) (before_group_of all)
     (starts_group all) = record { first = refl; slices = refl; group = refl; shown = refl } in
     let end = unit-counted (slice_of all) n k.agrees some next in record {

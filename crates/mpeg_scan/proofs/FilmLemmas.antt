@@ -33,9 +33,9 @@ slices_in-append (slice_call from to ∷ a) b = ap (λ (l : List ℕ). from ∷ 
 slices_in-append (unit_call unit ∷ a) b = slices_in-append a b
 
 -- nothing is told of no bytes
-pub told-none : calls_of (codes_of []) ≡ []
+pub calls-none : calls_of (codes_of []) ≡ []
 unfolding calls_of
-told-none = ap calls_of codes-none
+calls-none = ap calls_of codes-none
 
 first_fault-none : first_fault (codes_of []) ≡ None
 unfolding first_fault

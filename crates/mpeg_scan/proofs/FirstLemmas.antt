@@ -14,8 +14,8 @@ use Rattle.mpeg_scan.specs.Tiles.{first_of}
 use Rattle.mpeg_scan.specs.Places.{HasCode, StandsAt}
 use Rattle.mpeg_scan.specs.Standard.{AnyKind, IsFirstCode, StandsThere}
 use Rattle.mpeg_scan.specs.Layout.{AreChained, BeginsSequence}
-use Rattle.mpeg_scan.proofs.StepLemmas.{accepted-older, otherwise-first, otherwise-second, told-cons}
-use Rattle.mpeg_scan.proofs.TileLemmas.{Spaced, Told, accepted-whole, all-below, ended-none, first-is, placed-codes, raw_calls, slice-apart, told-nil, told_at}
+use Rattle.mpeg_scan.proofs.StepLemmas.{accepted-older, otherwise-first, otherwise-second, calls-cons}
+use Rattle.mpeg_scan.proofs.TileLemmas.{Spaced, Told, accepted-whole, all-below, ended-none, first-is, placed-codes, raw_calls, slice-apart, calls-nil, told_at}
 use Rattle.mpeg_scan.proofs.BoundLemmas.{older-judged, sequence-judged, some-cond-none}
 use Rattle.mpeg_scan.proofs.FilmLemmas.{length-read, units_in-append}
 use Rattle.mpeg_scan.proofs.PlaceLemmas.{at-bytes, codes-stand}
@@ -89,17 +89,17 @@ first-code c is =
     (cond (is_head m && ltb 0 0) (unit_end (tally_of []) c.place) [])))
     (cond (eqb m 0xb8 || true) true (cond (true || (is_head m && ltb 0 0)) false false))) (sym is) refl
 
-told-first : (c : Code) (past : List Code) → first_fault (c ∷ past) ≡ None
+calls-first : (c : Code) (past : List Code) → first_fault (c ∷ past) ≡ None
     → FirstStarts (units_in (calls_of (c ∷ past))) (starts_group (c ∷ past))
-told-first c [] accepted =
+calls-first c [] accepted =
     subst (λ (l : List Call). FirstStarts (units_in l) (starts_group (c ∷ [])))
-    (sym (told-cons c [] ∙ ap (λ (l : List Call). l ++ calls_at (tally_of []) c.place c.kind) told-nil))
+    (sym (calls-cons c [] ∙ ap (λ (l : List Call). l ++ calls_at (tally_of []) c.place c.kind) calls-nil))
     (first-code c (first-is c accepted))
-told-first c (d ∷ past) accepted =
+calls-first c (d ∷ past) accepted =
     let calls = calls_at (tally_of (d ∷ past)) c.place c.kind in
     subst (λ (l : List PictureUnit). FirstStarts l (starts_group (c ∷ (d ∷ past))))
-    (sym (ap units_in (told-cons c (d ∷ past)) ∙ units_in-append (calls_of (d ∷ past)) calls))
-    (first-step c d past (units_in (calls_of (d ∷ past))) (told-first d past (accepted-older c (d ∷ past) accepted)))
+    (sym (ap units_in (calls-cons c (d ∷ past)) ∙ units_in-append (calls_of (d ∷ past)) calls))
+    (first-step c d past (units_in (calls_of (d ∷ past))) (calls-first d past (accepted-older c (d ∷ past) accepted)))
 
 -- there is a first unit, and it starts a group
 abbrev pub StartsGroup : List PictureUnit → Type 0
@@ -118,7 +118,7 @@ whole-first [] n accepted ended = absurd (omega (arith, ended-none (tally_of [])
 whole-first (c ∷ past) n accepted ended =
     let all : List Code = c ∷ past in
     subst (λ (l : List PictureUnit). StartsGroup l) (sym (units_in-append (calls_of all) (unit_end (tally_of all) n)))
-    (first-last (units_in (calls_of all)) (unit_at (tally_of all) n) (starts_group all) (told-first c past accepted) refl)
+    (first-last (units_in (calls_of all)) (unit_at (tally_of all) n) (starts_group all) (calls-first c past accepted) refl)
 
 starts-some : (units : List PictureUnit) → StartsGroup units → 0 < length units
 starts-some [] starts = absurd starts

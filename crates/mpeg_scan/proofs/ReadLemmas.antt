@@ -122,11 +122,11 @@ fault-stays (x ∷ xs) r f is = fault-stays xs (x ∷ r) f (fault-stays-byte x r
 pub length-rest : (piece : List ℕ) (a : ℕ) → length (take (length piece - a) (drop a piece)) ≡ length piece - a
 length-rest piece a = ap (λ (l : List ℕ). length l) (take_rest piece a) ∙ length-drop a piece
 
-pub told-run : (r piece : List ℕ) (a n : ℕ) (calls : List Call)
+pub calls-run : (r piece : List ℕ) (a n : ℕ) (calls : List Call)
     → codes_of (read (read r (take a piece)) (take n (take (length piece - a) (drop a piece))))
     ≡ codes_of (read r (take a piece))
     → calls ++ calls_of (codes_of (read r (take a piece))) ≡ calls ++ calls_of (codes_of (read r (take (a + n) piece)))
-told-run r piece a n calls same =
+calls-run r piece a n calls same =
     ap (λ (l : List Code). calls ++ calls_of l) (sym same ∙ ap codes_of (read-run r piece a n))
 
 pub fault-rest : (r piece : List ℕ) (b : ℕ) (f : FilmFault) → b < length piece

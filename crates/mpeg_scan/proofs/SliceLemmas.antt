@@ -11,8 +11,8 @@ use Rattle.mpeg_scan.specs.Calls.{calls_at, calls_of, unit_end}
 use Rattle.mpeg_scan.specs.Films.{IsFilm, slices_in}
 use Rattle.mpeg_scan.specs.Places.{HasCode, StandsAt}
 use Rattle.mpeg_scan.specs.Standard.{IsAmong, IsSliceKind, StandsThere, slice_places}
-use Rattle.mpeg_scan.proofs.StepLemmas.{otherwise-second, told-cons}
-use Rattle.mpeg_scan.proofs.TileLemmas.{Told, accepted-whole, ended-none, raw_calls, slice-apart, told-nil, told_at}
+use Rattle.mpeg_scan.proofs.StepLemmas.{otherwise-second, calls-cons}
+use Rattle.mpeg_scan.proofs.TileLemmas.{Told, accepted-whole, ended-none, raw_calls, slice-apart, calls-nil, told_at}
 use Rattle.mpeg_scan.proofs.FilmLemmas.{slices_in-append}
 use Rattle.mpeg_scan.proofs.PlaceLemmas.{codes-stand}
 
@@ -70,12 +70,12 @@ step-slices c past is =
     let counted : IsCounted (eqb n 0) (ltb 0 n) n = record { is = refl; none = none-count n; some = some-count n } in
     raw-slices (told_at (tally_of past) c.place) (slices_in (calls_of past)) (slice-apart c.kind) counted is
 
-told-slices : (past : List Code) → slices_in (calls_of past) ++ pending (slices_of past) (slice_of past) ≡ slice_places past
-told-slices [] = ap (λ l. slices_in l ++ []) told-nil
-told-slices (c ∷ past) =
+calls-slices : (past : List Code) → slices_in (calls_of past) ++ pending (slices_of past) (slice_of past) ≡ slice_places past
+calls-slices [] = ap (λ l. slices_in l ++ []) calls-nil
+calls-slices (c ∷ past) =
     ap (λ l. l ++ pending (slices_of (c ∷ past)) (slice_of (c ∷ past)))
-    (ap slices_in (told-cons c past) ∙ slices_in-append (calls_of past) (calls_at (tally_of past) c.place c.kind))
-    ∙ step-slices c past (told-slices past)
+    (ap slices_in (calls-cons c past) ∙ slices_in-append (calls_of past) (calls_at (tally_of past) c.place c.kind))
+    ∙ step-slices c past (calls-slices past)
 
 whole-slices : (past : List Code) (n : ℕ) → end_fault past n ≡ None
     → slices_in (calls_of past ++ unit_end (tally_of past) n) ≡ slice_places past
@@ -83,7 +83,7 @@ unfolding end_fault
 whole-slices past n ended =
     let some = ended-none (tally_of past) (otherwise-second (latest_fault past n) (last_fault (tally_of past)) ended) in
     slices_in-append (calls_of past) (unit_end (tally_of past) n)
-    ∙ ap (λ l. slices_in (calls_of past) ++ l) (sym (pending-some (slices_of past) (slice_of past) some)) ∙ told-slices past
+    ∙ ap (λ l. slices_in (calls_of past) ++ l) (sym (pending-some (slices_of past) (slice_of past) some)) ∙ calls-slices past
 
 pub film-slices : (bytes : List ℕ) (rate : ℕ) (units : List PictureUnit) (starts : List ℕ)
     → IsFilm bytes rate units starts → starts ≡ slice_places (codes_of (read [] bytes))

@@ -47,10 +47,10 @@ unfolding first_fault
 first_fault-note [] x = refl
 first_fault-note (c ∷ past) x = refl
 
-pub told-note : (past : List Code) (x : ℕ) → calls_of (note_latest past x) ≡ calls_of past
+pub calls-note : (past : List Code) (x : ℕ) → calls_of (note_latest past x) ≡ calls_of past
 unfolding calls_of
-told-note [] x = refl
-told-note (c ∷ past) x = refl
+calls-note [] x = refl
+calls-note (c ∷ past) x = refl
 
 pub codes-none : codes_of [] ≡ []
 unfolding codes_of
@@ -188,22 +188,22 @@ fed-code {s} {r} {x} kept whole none =
       accepted = first_fault-at s r x kept whole ∙ none;
     }
 
-pub told-cons : (c : Code) (past : List Code) → calls_of (c ∷ past) ≡ calls_of past ++ calls_at (tally_of past) c.place c.kind
+pub calls-cons : (c : Code) (past : List Code) → calls_of (c ∷ past) ≡ calls_of past ++ calls_at (tally_of past) c.place c.kind
 unfolding calls_of
-told-cons c past = refl
+calls-cons c past = refl
 
 -- what is told at a byte
-pub told-plain : (x : ℕ) (r : List ℕ) → is_whole (latest_prefix r) ≡ false → calls_of (codes_of (x ∷ r)) ≡ calls_of (codes_of r)
-told-plain x r plain = ap calls_of (codes-plain x r plain) ∙ told-note (codes_of r) x
+pub calls-plain : (x : ℕ) (r : List ℕ) → is_whole (latest_prefix r) ≡ false → calls_of (codes_of (x ∷ r)) ≡ calls_of (codes_of r)
+calls-plain x r plain = ap calls_of (codes-plain x r plain) ∙ calls-note (codes_of r) x
 
-pub told-at : (s : Progress) (r : List ℕ) (x : ℕ) → HasRead s r
+pub calls-at_code : (s : Progress) (r : List ℕ) (x : ℕ) → HasRead s r
     → is_whole (latest_prefix r) ≡ true
     → calls_of (codes_of (x ∷ r))
     ≡ calls_of (codes_of r) ++ calls_at (tally_with (scan_with_byte s x).latest s.tally) (s.fed - 3) x
-told-at s r x kept whole =
+calls-at_code s r x kept whole =
     let past = note_latest (codes_of r) x in
-    ap calls_of (codes-code x r whole) ∙ told-cons (record { place = length r - 3; kind = x; text = [] }) past
-    ∙ ap (λ (l : List Call). l ++ calls_at (tally_of past) (length r - 3) x) (told-note (codes_of r) x)
+    ap calls_of (codes-code x r whole) ∙ calls-cons (record { place = length r - 3; kind = x; text = [] }) past
+    ∙ ap (λ (l : List Call). l ++ calls_at (tally_of past) (length r - 3) x) (calls-note (codes_of r) x)
     ∙ ap (λ (t : Tally). calls_of (codes_of r) ++ calls_at t (length r - 3) x) (sym (tally-noted s r x kept))
     ∙ ap (λ n. calls_of (codes_of r) ++ calls_at (tally_with (scan_with_byte s x).latest s.tally) (n - 3) x) (sym kept.fed)
 
@@ -255,14 +255,14 @@ taken-calls {s} {n} {r} {x} {place} code calls =
     append_assoc calls (calls_of (codes_of r)) (calls_at (tally_with n.latest n.tally) place x)
     ∙ ap (λ (v : Progress). calls ++ (calls_of (codes_of r) ++ calls_at (tally_with v.latest v.tally) place x)) noted
     ∙ ap (λ p. calls ++ (calls_of (codes_of r) ++ calls_at (tally_with (scan_with_byte s x).latest s.tally) p x)) place_is
-    ∙ ap (λ (l : List Call). calls ++ l) (sym (told-at s r x kept (whole-before code)))
+    ∙ ap (λ (l : List Call). calls ++ l) (sym (calls-at_code s r x kept (whole-before code)))
   where
     open code use {noted, place_is, kept}
 
 pub taken-none : {s : Progress} {r : List ℕ} (x : ℕ) → is_whole s.prefix ≡ false → HasRead s r
     → (calls : List Call) → calls ++ calls_of (codes_of r) ≡ calls ++ calls_of (codes_of (x ∷ r))
 taken-none {s} {r} x plain kept calls =
-    ap (λ (l : List Call). calls ++ l) (sym (told-plain x r (whole-read kept plain)))
+    ap (λ (l : List Call). calls ++ l) (sym (calls-plain x r (whole-read kept plain)))
 
 -- ---- the film's end
 

@@ -15,7 +15,7 @@ use Rattle.mpeg_scan.specs.Calls.{Call, head_call, slice_call, unit_call, unit_a
 use Rattle.mpeg_scan.specs.Places.{HasCode}
 use Rattle.mpeg_scan.specs.Tiles.{Part, between, within, next_part, parts_after, first_of, Tiles}
 use Rattle.mpeg_scan.proofs.CodeLemmas.{matched-more}
-use Rattle.mpeg_scan.proofs.StepLemmas.{codes-none, codes-plain, codes-code, accepted-older, code-accepted, otherwise-first, otherwise-second, told-cons}
+use Rattle.mpeg_scan.proofs.StepLemmas.{codes-none, codes-plain, codes-code, accepted-older, code-accepted, otherwise-first, otherwise-second, calls-cons}
 
 -- ---- how far codes stand apart: a kind that isn't 0 can't begin the next prefix
 
@@ -279,9 +279,9 @@ first-step place kind is =
     ≡ Some (part_by (cond (is_head k) 0 (cond (is_slice k) (0 + 1) 0)) place
     (cond (is_slice k && eqb 0 0) place 0) (cond (is_slice k) place 0))) (sym is) refl
 
-pub told-nil : calls_of [] ≡ []
+pub calls-nil : calls_of [] ≡ []
 unfolding calls_of
-told-nil = refl
+calls-nil = refl
 
 -- the first code is a sequence header's
 pub first-is : (c : Code) → first_fault (c ∷ []) ≡ None → c.kind ≡ 0xb3
@@ -293,18 +293,18 @@ first-is c accepted =
     (count_fault (tally_of []) c.place c.kind))) (code-accepted c [] accepted)) in
     eqb-true c.kind 0xb3 kind
 
-pub told-parts : (c : Code) (past : List Code) → first_fault (c ∷ past) ≡ None → Spaced (c ∷ past)
+pub calls-parts : (c : Code) (past : List Code) → first_fault (c ∷ past) ≡ None → Spaced (c ∷ past)
     → parts_after (Some (between (first_of (c ∷ past)))) (calls_of (c ∷ past)) ≡ Some (part_of (c ∷ past))
-told-parts c [] accepted spaced =
+calls-parts c [] accepted spaced =
     ap (parts_after (Some (between c.place)))
-    (told-cons c [] ∙ ap (λ (l : List Call). l ++ calls_at (tally_of []) c.place c.kind) told-nil)
+    (calls-cons c [] ∙ ap (λ (l : List Call). l ++ calls_at (tally_of []) c.place c.kind) calls-nil)
     ∙ first-step c.place c.kind (first-is c accepted)
-told-parts c (d ∷ past) accepted spaced =
+calls-parts c (d ∷ past) accepted spaced =
     let start : Option Part = Some (between (first_of (d ∷ past))) in
-    ap (parts_after start) (told-cons c (d ∷ past))
+    ap (parts_after start) (calls-cons c (d ∷ past))
     ∙ parts-append start (calls_of (d ∷ past)) (calls_at (tally_of (d ∷ past)) c.place c.kind)
     ∙ ap (λ (o : Option Part). parts_after o (calls_at (tally_of (d ∷ past)) c.place c.kind))
-    (told-parts d past (accepted-older c (d ∷ past) accepted) spaced.1)
+    (calls-parts d past (accepted-older c (d ∷ past) accepted) spaced.1)
     ∙ code-step c d past (code-accepted c (d ∷ past) accepted) spaced
 
 -- ---- the codes of bytes stand apart
@@ -483,7 +483,7 @@ whole-tiles (c ∷ past) n accepted ended spaced after =
     let some = ended-none (tally_of (c ∷ past))
     (otherwise-second (latest_fault (c ∷ past) n) (last_fault (tally_of (c ∷ past))) ended) in
     parts-append (Some (between (first_of (c ∷ past)))) (calls_of (c ∷ past)) (unit_end (tally_of (c ∷ past)) n)
-    ∙ ap (λ (o : Option Part). parts_after o (unit_end (tally_of (c ∷ past)) n)) (told-parts c past accepted spaced)
+    ∙ ap (λ (o : Option Part). parts_after o (unit_end (tally_of (c ∷ past)) n)) (calls-parts c past accepted spaced)
     ∙ end-step (c ∷ past) n some (slice-before (c ∷ past) n spaced after some)
 
 pub accepted-whole : (r : List ℕ) → refusal_of r ≡ None

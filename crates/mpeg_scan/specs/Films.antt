@@ -26,13 +26,13 @@ abbrev pub refusal : List ℕ → Option FilmFault
 refusal bytes = refusal_of (read [] bytes)
 
 -- all that is told of a film
-abbrev pub told_of : List ℕ → List Call
-told_of bytes = all_calls (read [] bytes)
+abbrev pub film_calls : List ℕ → List Call
+film_calls bytes = all_calls (read [] bytes)
 
 -- a film with its rate, its units and the places of its slices
 pub record IsFilm (bytes : List ℕ) (its_rate : ℕ) (its_units : List PictureUnit)
     (its_slices : List ℕ) : Type 0 where
   pub accepted : refusal bytes ≡ None
   pub rate : its_rate ≡ rate_of (codes_of (read [] bytes))
-  pub units : its_units ≡ units_in (told_of bytes)
-  pub slices : its_slices ≡ slices_in (told_of bytes)
+  pub units : its_units ≡ units_in (film_calls bytes)
+  pub slices : its_slices ≡ slices_in (film_calls bytes)

@@ -1,6 +1,6 @@
 //! A film in memory, scanned whole.
 ghost use Rattle.std.specs.Prelude.{◌≡◌, ◌≤◌, ℕ, ◌↔◌, [], Some, Err, IfOk};
-ghost use Rattle.mpeg_scan.specs.Films.{IsFilm, refusal, told_of};
+ghost use Rattle.mpeg_scan.specs.Films.{IsFilm, refusal, film_calls};
 ghost use Rattle.mpeg_scan.specs.Codes.{codes_of, read};
 ghost use Rattle.mpeg_scan.specs.Places.{HasCode, StandsAt};
 ghost use Rattle.mpeg_scan.specs.Grammar.{IsGrammatical};
@@ -51,9 +51,9 @@ impl Film {
 pub fn scan(alloc: Global, bytes: Vec<u8>) -> Result<Film, ScanRefused>
     ensures film { IfOk result (λ film. film.bytes.items ≡ bytes.items) }
     ensures grammatical { IfOk result (λ film. IsGrammatical (read [] film.bytes.items)) }
-    ensures numbered { IfOk result (λ film. AreNumbered (told_of film.bytes.items)) }
+    ensures numbered { IfOk result (λ film. AreNumbered (film_calls film.bytes.items)) }
     ensures tiled { IfOk result (λ film.
-        Tiles (read [] film.bytes.items) (told_of film.bytes.items)) }
+        Tiles (read [] film.bytes.items) (film_calls film.bytes.items)) }
     ensures fault { (f : FilmFault) → result ≡ Err (ScanRefused.Fault f) →
         refusal bytes.items ≡ Some f }
 {

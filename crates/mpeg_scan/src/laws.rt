@@ -5,7 +5,7 @@ ghost use Rattle.mpeg_scan.specs.declared.units.Unit.{Unit as PictureUnit};
 ghost use Rattle.mpeg_scan.specs.Codes.{codes_of, read};
 ghost use Rattle.mpeg_scan.specs.Counts.{AreNumbered};
 ghost use Rattle.mpeg_scan.specs.Faults.{first_fault};
-ghost use Rattle.mpeg_scan.specs.Films.{refusal, told_of};
+ghost use Rattle.mpeg_scan.specs.Films.{refusal, film_calls};
 ghost use Rattle.mpeg_scan.specs.Grammar.{IsGrammatical};
 ghost use Rattle.mpeg_scan.specs.Layout.{AreInFilm, BeginsSequence, IsLaid, OfUnit};
 ghost use Rattle.mpeg_scan.specs.Places.{StandsAt};
@@ -31,8 +31,8 @@ pub fn law_film(film: &Film)
     ensures pictures { length film.now.units.items ≡
         pictures_of (codes_of (read [] film.now.bytes.items)) }
     ensures grammatical { IsGrammatical (read [] film.now.bytes.items) }
-    ensures numbered { AreNumbered (told_of film.now.bytes.items) }
-    ensures tiled { Tiles (read [] film.now.bytes.items) (told_of film.now.bytes.items) }
+    ensures numbered { AreNumbered (film_calls film.now.bytes.items) }
+    ensures tiled { Tiles (read [] film.now.bytes.items) (film_calls film.now.bytes.items) }
 {
     let _read = film.bytes.len();
 }

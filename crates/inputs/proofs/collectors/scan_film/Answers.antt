@@ -1,5 +1,5 @@
 use Rattle.std.proofs.Common.{refl}
-use Rattle.mpeg_scan.specs.Films.{slices_in, told_of}
+use Rattle.mpeg_scan.specs.Films.{slices_in, film_calls}
 use Rattle.inputs.proofs.ScanLemmas.{handed_on}
 use Rattle.inputs.proofs.collectors.scan_film.Goals as goal
 
@@ -10,7 +10,7 @@ returns-clause-film g c = λ held told.
       video = heard.video;
       holds = heard.holds held told;
       sized = heard.ended.sized;
-      slices = slices_in (told_of heard.video);
+      slices = slices_in (film_calls heard.video);
       grammar = record { accepted = heard.ended.accepted; rate = heard.ended.rate_is; units = heard.ended.heard; slices = refl };
     }
 

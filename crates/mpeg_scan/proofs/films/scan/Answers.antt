@@ -7,7 +7,7 @@ use Rattle.mpeg_scan.specs.Calls.{calls_of}
 use Rattle.mpeg_scan.specs.Faults.{first_fault}
 use Rattle.mpeg_scan.specs.Scans.{HasScannedBytes}
 use Rattle.mpeg_scan.specs.Films.{units_in, slices_in}
-use Rattle.mpeg_scan.proofs.FilmLemmas.{same-error, told-none, refusal-at_code, refusal-too_long}
+use Rattle.mpeg_scan.proofs.FilmLemmas.{same-error, calls-none, refusal-at_code, refusal-too_long}
 use Rattle.mpeg_scan.proofs.films.scan.Goals as goal
 
 pub returns-then-len-gt-MAX_FILM_BYTES-clause-fault : goal.returns-then-len-gt-MAX_FILM_BYTES-clause-fault
@@ -30,7 +30,7 @@ invariant_of-result c =
     let kept = subst (λ (l : List ℕ). HasScannedBytes c.feed.new.self (read [] l)) c.deref.ensures.value
     (c.in_ok-feed.ensures.kept [] c.new-scanner.ensures.fed) in
     let first = c.in_ok-feed.ensures.told [] [] c.new-scanner.ensures.fed
-    (c.new-found.ensures.units ∙ sym (ap units_in told-none), c.new-found.ensures.slices ∙ sym (ap slices_in told-none)) in
+    (c.new-found.ensures.units ∙ sym (ap units_in calls-none), c.new-found.ensures.slices ∙ sym (ap slices_in calls-none)) in
     let start = subst (λ (l : List ℕ).
     (c.feed.new.found.units.items ≡ units_in (calls_of (codes_of (read [] l))))
     × (c.feed.new.found.slices.items ≡ slices_in (calls_of (codes_of (read [] l))))) c.deref.ensures.value first in

@@ -4,7 +4,7 @@ use Rattle.mpeg_scan.specs.Calls.{Call, calls_of}
 use Rattle.mpeg_scan.specs.Codes.{codes_of, read}
 use Rattle.mpeg_scan.specs.Faults.{first_fault}
 use Rattle.mpeg_scan.specs.Scans.{HasRead}
-use Rattle.mpeg_scan.proofs.ReadLemmas.{read-run, read-byte, told-run, fault-rest, length-rest}
+use Rattle.mpeg_scan.proofs.ReadLemmas.{read-run, read-byte, calls-run, fault-rest, length-rest}
 use Rattle.mpeg_scan.proofs.RoomLemmas.{skipped-ahead, skipped-awaits}
 use Rattle.mpeg_scan.proofs.progress.Progress.take_bytes.Goals as goal
 
@@ -23,7 +23,7 @@ loop-at-preserved g c =
       kept = λ r kept. subst (λ (q : List ℕ). HasRead c.skip-at.new.self q) (read-run r piece at n)
           (c.skip-at.ensures.kept (read r (take at piece)) (i.kept r kept));
       told = λ r calls kept heard. subst (λ (l : List Call). g.F.Found.heard c.loop-at.found l)
-          (told-run r piece at n calls (c.skip-at.ensures.quiet (read r (take at piece)) (i.kept r kept)))
+          (calls-run r piece at n calls (c.skip-at.ensures.quiet (read r (take at piece)) (i.kept r kept)))
           (i.told r calls kept heard);
     }
 
@@ -50,7 +50,7 @@ loop-at-preserved-then-at-piece g c =
           (subst (λ (q : List ℕ). HasRead c.skip-at.new.self q) (read-run r piece at n)
           (c.skip-at.ensures.kept (read r (take at piece)) (i.kept r kept)))
           (subst (λ (l : List Call). g.F.Found.heard c.loop-at.found l)
-          (told-run r piece at n calls (c.skip-at.ensures.quiet (read r (take at piece)) (i.kept r kept)))
+          (calls-run r piece at n calls (c.skip-at.ensures.quiet (read r (take at piece)) (i.kept r kept)))
           (i.told r calls kept heard)));
     }
 
@@ -91,7 +91,7 @@ returns-in_err-take_byte-clause-told_before g c =
     (c.skip-at.ensures.kept (read r (take at piece)) (i.kept r kept)) in
     let before =
     subst (λ (l : List Call). g.F.Found.heard c.loop-at.found l)
-    (told-run r piece at n calls (c.skip-at.ensures.quiet (read r (take at piece)) (i.kept r kept)))
+    (calls-run r piece at n calls (c.skip-at.ensures.quiet (read r (take at piece)) (i.kept r kept)))
     (i.told r calls kept heard) in
     record {
       count = b;
