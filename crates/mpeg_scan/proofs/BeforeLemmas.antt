@@ -8,7 +8,8 @@ use Rattle.mpeg_scan.specs.Words.{begins_unit, header_of, is_head, is_slice, pic
 use Rattle.mpeg_scan.specs.Places.{HasCode}
 use Rattle.mpeg_scan.specs.Refusals.{BeginsUnit, IsItsPicture, IsLatest, IsOpenHead, IsPicture}
 use Rattle.mpeg_scan.specs.Standard.{AnyKind, IsFirstCode, IsHeadKind, IsSliceKind, NoneIn, StandsThere}
-use Rattle.mpeg_scan.proofs.TileLemmas.{Spaced, all-below, slice-apart}
+use Rattle.mpeg_scan.proofs.TileLemmas.{slice-apart}
+use Rattle.mpeg_scan.proofs.SpaceLemmas.{Spaced, all-below}
 
 -- these are the codes that stand before a place
 pub record Knows (Has : ℕ → ℕ → Type 0) (past : List Code) (at : ℕ) : Type 0 where

@@ -12,7 +12,8 @@ use Rattle.mpeg_scan.specs.Films.{units_in}
 use Rattle.mpeg_scan.specs.Places.{HasCode}
 use Rattle.mpeg_scan.specs.Standard.{Counts, HasPicture, IsFirstCode, IsHeadKind, IsSliceKind, NoneIn, StandsIn, StandsThere, UnitIs}
 use Rattle.mpeg_scan.proofs.StepLemmas.{accepted-older, code-accepted, otherwise-second, positive, calls-cons}
-use Rattle.mpeg_scan.proofs.TileLemmas.{After, Spaced, Told, all-below, ended-none, first-is, first_slice-accepted, raw_calls, slice-apart, calls-nil, told_at}
+use Rattle.mpeg_scan.proofs.TileLemmas.{Told, ended-none, first-is, first_slice-accepted, raw_calls, slice-apart, calls-nil, told_at}
+use Rattle.mpeg_scan.proofs.SpaceLemmas.{After, Spaced, all-below}
 use Rattle.mpeg_scan.proofs.CountLemmas.{empty-count, first-some, second-accepted, second-none}
 use Rattle.mpeg_scan.proofs.FilmLemmas.{units_in-append}
 use Rattle.mpeg_scan.proofs.OpenLemmas.{Below, Firsts, Member, Open, Pictured, first-code, kinds-of, member-has, step-open}

@@ -15,7 +15,8 @@ use Rattle.mpeg_scan.specs.Places.{HasCode, StandsAt}
 use Rattle.mpeg_scan.specs.Standard.{AnyKind, IsFirstCode, StandsThere}
 use Rattle.mpeg_scan.specs.Layout.{AreChained, BeginsSequence}
 use Rattle.mpeg_scan.proofs.StepLemmas.{accepted-older, otherwise-first, otherwise-second, calls-cons}
-use Rattle.mpeg_scan.proofs.TileLemmas.{Spaced, Told, accepted-whole, all-below, ended-none, first-is, placed-codes, raw_calls, slice-apart, calls-nil, told_at}
+use Rattle.mpeg_scan.proofs.TileLemmas.{Told, accepted-whole, ended-none, first-is, raw_calls, slice-apart, calls-nil, told_at}
+use Rattle.mpeg_scan.proofs.SpaceLemmas.{Spaced, all-below, placed-codes}
 use Rattle.mpeg_scan.proofs.BoundLemmas.{older-judged, sequence-judged, some-cond-none}
 use Rattle.mpeg_scan.proofs.FilmLemmas.{length-read, units_in-append}
 use Rattle.mpeg_scan.proofs.PlaceLemmas.{at-bytes, codes-stand}

@@ -12,7 +12,7 @@ use Rattle.mpeg_scan.proofs.BoundLemmas.{older-judged}
 use Rattle.mpeg_scan.proofs.FirstLemmas.{AreJudged, first_in, first_in-has, first_in-kind, first_in-rate, first_in-text, first-least}
 use Rattle.mpeg_scan.proofs.StepLemmas.{accepted-older}
 use Rattle.mpeg_scan.proofs.TextLemmas.{Same, TextIs, TextsAre, text-byte}
-use Rattle.mpeg_scan.proofs.TileLemmas.{Spaced}
+use Rattle.mpeg_scan.proofs.SpaceLemmas.{Spaced}
 use Rattle.mpeg_scan.proofs.DecideLemmas.{Decides, both-cond, decide, neither, none-of, only-first, only-second}
 use Rattle.mpeg_scan.proofs.BeforeLemmas.{Knows, latest-is, latest-new, older}
 

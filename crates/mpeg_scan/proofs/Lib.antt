@@ -2,6 +2,7 @@ pub mod CodeLemmas
 pub mod StepLemmas
 pub mod ReadLemmas
 pub mod FilmLemmas
+mod SpaceLemmas
 pub mod TileLemmas
 pub mod CountLemmas
 mod PlaceLemmas

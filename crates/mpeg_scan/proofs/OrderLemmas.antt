@@ -8,7 +8,7 @@ use Rattle.mpeg_scan.specs.Calls.{Call, head_call, slice_call, unit_call, all_ca
 use Rattle.mpeg_scan.specs.Counts.{Count, counts_after, group_of, no_count}
 use Rattle.mpeg_scan.specs.Films.{IsFilm, units_in}
 use Rattle.mpeg_scan.specs.Standard.{AreFalling, ArePresented}
-use Rattle.mpeg_scan.proofs.TileLemmas.{Spaced, all-below, placed-codes}
+use Rattle.mpeg_scan.proofs.SpaceLemmas.{Spaced, all-below, placed-codes}
 use Rattle.mpeg_scan.proofs.CountLemmas.{film-numbered}
 
 codes-fall : (past : List Code) (at : ℕ) → Spaced past → AreFalling past

@@ -13,7 +13,7 @@ use Rattle.mpeg_scan.specs.Refusals.{BeginsUnit, CodeRefusal, CountRefusal, HasP
 use Rattle.mpeg_scan.specs.Standard.{IsFirstCode, IsHeadKind, IsSliceKind, StandsThere}
 use Rattle.mpeg_scan.proofs.StepLemmas.{positive}
 use Rattle.mpeg_scan.proofs.TextLemmas.{Same, TextsAre}
-use Rattle.mpeg_scan.proofs.TileLemmas.{Spaced}
+use Rattle.mpeg_scan.proofs.SpaceLemmas.{Spaced}
 use Rattle.std.proofs.lemmas.Option.{same_Some}
 use Rattle.mpeg_scan.proofs.DecideLemmas.{Decides, both, both-cond, decide, decide-if, decide-with, neither, no-more, none-of, only-second}
 use Rattle.mpeg_scan.proofs.BeforeLemmas.{Knows, PictureThere, head-kind, no-head, no-slice, not-open, one-head, one-picture, open-head, picture-there, slice-kind, slice-there, has-new, new-below}

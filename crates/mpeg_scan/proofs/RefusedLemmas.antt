@@ -16,7 +16,7 @@ use Rattle.mpeg_scan.proofs.FilmLemmas.{length-read}
 use Rattle.mpeg_scan.proofs.StepLemmas.{accepted-older, otherwise-second}
 use Rattle.mpeg_scan.proofs.PlaceLemmas.{at-bytes, codes-stand}
 use Rattle.mpeg_scan.proofs.TextLemmas.{Same, TextsAre, codes-texts}
-use Rattle.mpeg_scan.proofs.TileLemmas.{Spaced, all-below, placed-codes, room-after}
+use Rattle.mpeg_scan.proofs.SpaceLemmas.{Spaced, all-below, placed-codes, room-after}
 use Rattle.std.proofs.lemmas.Option.{same_Some}
 use Rattle.mpeg_scan.proofs.DecideLemmas.{Decides, both, both-cond, neither, no-more, none-of, only-first, only-second}
 use Rattle.mpeg_scan.proofs.BeforeLemmas.{Knows, PictureThere, earlier, has-new, here, new-below, not-open, older, one-head, open-head, picture-there, slice-there, where-is}

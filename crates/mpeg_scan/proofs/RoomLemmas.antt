@@ -1,8 +1,8 @@
 -- The scanner's latest unit and slice begin well before the next code.
-use Rattle.std.proofs.Common.{Result, Ok, Err, OnOk, ℕ, Bool, true, false, not, cond, eqb, ltb, leb, ◌&&◌, ◌||◌, ◌+◌, ◌-◌, ◌<◌, ◌≤◌, ◌≡◌, [], Option, Some, None, sym, ◌∙◌, ap, refl, subst, arith}
+use Rattle.std.proofs.Common.{Result, Ok, Err, OnOk, ℕ, Bool, true, false, not, cond, eqb, ltb, ◌&&◌, ◌||◌, ◌+◌, ◌-◌, ◌<◌, ◌≤◌, ◌≡◌, [], Option, Some, None, sym, ◌∙◌, ap, refl, subst, arith}
 use Rattle.std.specs.Option.{IsSome, option_map}
 use Rattle.std.proofs.lemmas.Option.{same_Some}
-use Rattle.std.proofs.lemmas.Bool.{true≢false, false≢true, ne_eqb, leb-true, and_parts}
+use Rattle.std.proofs.lemmas.Bool.{true≢false, false≢true, ne_eqb}
 use Rattle.mpeg_scan.specs.declared.codes.Code.{Code}
 use Rattle.mpeg_scan.specs.declared.codes.Prefix.{Prefix}
 use Rattle.mpeg_scan.specs.declared.codes.Prefix.TheVariants.{Nothing, Zero, Zeros, Whole}
@@ -17,6 +17,8 @@ use Rattle.mpeg_scan.specs.Room.{AwaitsSlice, AwaitsSliceAfter, HasRoom, HasRoom
 use Rattle.mpeg_scan.specs.Scans.{scan_with_code, scan_with_byte}
 use Rattle.mpeg_scan.specs.Steps.{end_judgement, code_judgement, latest_header_fault, next, next_begins, tally_now, tally_with}
 use Rattle.mpeg_scan.proofs.NextLemmas.{code-begun, counts-more, counts-next, picture-next, rate-next, with-more, with-noted}
+use Rattle.mpeg_scan.proofs.BeforeLemmas.{slice-kind}
+use Rattle.mpeg_scan.proofs.SpaceLemmas.{whole-is}
 use Rattle.mpeg_scan.proofs.StepLemmas.{otherwise-second}
 use Rattle.mpeg_scan.proofs.TileLemmas.{ended-none, first_slice-accepted, first_slice-head}
 
@@ -90,11 +92,6 @@ pub code_judgement-code : (latest : Option Code) (tally : Tally) (place kind : �
 unfolding code_judgement
 code_judgement-code latest tally place kind e =
     otherwise-second (latest_header_fault latest tally.rate place) (code_fault (tally_with latest tally) place kind) e
-
-slice-kind : (kind : ℕ) → is_slice kind ≡ true → (1 ≤ kind) × (kind ≤ 0xaf)
-slice-kind kind slice =
-    let parts = and_parts (leb 1 kind) (leb kind 0xaf) slice in
-    (leb-true 1 kind parts.0, leb-true kind 0xaf parts.1)
 
 -- a slice's code that isn't refused, and the tally with the code before it
 pub record SliceTaken (t : Tally) (latest : Option Code) (tally : Tally) (place kind : ℕ) : Type 0 where
@@ -193,12 +190,6 @@ code-room t place kind fed at room e =
         counts = counts-next t c e room.counts far;
       };
     }
-
-whole-is : (p : Prefix) → is_whole p ≡ true → p ≡ Whole
-whole-is Nothing e = absurd (false≢true e)
-whole-is Zero e = absurd (false≢true e)
-whole-is Zeros e = absurd (false≢true e)
-whole-is Whole e = refl
 
 pub coded-ahead : {s n m : Progress} (x : ℕ) → is_whole s.prefix ≡ true → n ≡ scan_with_byte s x
     → code_judgement n.latest n.tally (s.fed - 3) x ≡ None → m ≡ scan_with_code n (s.fed - 3) x → IsAhead s → IsAhead m

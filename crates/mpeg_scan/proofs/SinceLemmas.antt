@@ -5,7 +5,8 @@ use Rattle.mpeg_scan.specs.declared.codes.Code.{Code}
 use Rattle.mpeg_scan.specs.Words.{all_slices_of, before_group_of, is_head, is_slice, pictures_of, slices_of}
 use Rattle.mpeg_scan.specs.Refusals.{IsPicture}
 use Rattle.mpeg_scan.specs.Standard.{AreCodes, Counts, IsHeadKind, IsSliceKind, NoneIn, StandsThere}
-use Rattle.mpeg_scan.proofs.TileLemmas.{Spaced, slice-apart}
+use Rattle.mpeg_scan.proofs.TileLemmas.{slice-apart}
+use Rattle.mpeg_scan.proofs.SpaceLemmas.{Spaced}
 use Rattle.mpeg_scan.proofs.BeforeLemmas.{Knows, earlier, has-new, head-kind, here, kind-head, kind-slice, new-below, none-after, none-with, older, slice-kind, where-is}
 
 -- ---- the codes of a kind after the latest code of another

@@ -13,7 +13,8 @@ use Rattle.mpeg_scan.specs.Films.{IsFilm}
 use Rattle.mpeg_scan.specs.Places.{HasCode, StandsAt}
 use Rattle.mpeg_scan.specs.Standard.{HasFields, IsFirstCode, IsUnitOf, NoneIn, StandsIn, type_number, vector_fields}
 use Rattle.mpeg_scan.proofs.StepLemmas.{otherwise-first, otherwise-second}
-use Rattle.mpeg_scan.proofs.TileLemmas.{accepted-whole, placed-codes, room-after}
+use Rattle.mpeg_scan.proofs.TileLemmas.{accepted-whole}
+use Rattle.mpeg_scan.proofs.SpaceLemmas.{placed-codes, room-after}
 use Rattle.mpeg_scan.proofs.BoundLemmas.{some-cond-none}
 use Rattle.mpeg_scan.proofs.FilmLemmas.{length-read}
 use Rattle.mpeg_scan.proofs.FirstLemmas.{AreJudged, older-are_judged}
