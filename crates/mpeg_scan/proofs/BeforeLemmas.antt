@@ -1,13 +1,18 @@
 -- The codes before a place: its latest one, the latest unit's head and the picture in it, and the
 -- pictures of a group.
-use Rattle.std.proofs.Common.{ℕ, Bool, true, false, cond, eqb, ltb, leb, ◌&&◌, ◌||◌, ◌+◌, ◌<◌, ◌≤◌, ◌≡◌, ◌⊎◌, List, [], ◌∷◌, Option, Some, None, sym, ◌∙◌, ap, refl, subst, inl, inr, arith}
-use Rattle.std.proofs.lemmas.Bool.{cases_lt, eqb-true, eq-eqb, ltb-true, lt-ltb, leb-true, le-leb, and_parts, and_from, false≢true, true≢false}
+use Rattle.std.proofs.Common.{ℕ, Bool, true, false, cond, eqb, ltb, leb, ◌&&◌, ◌||◌, ◌+◌, ◌<◌, ◌≤◌}
+use Rattle.std.proofs.Common.{◌≡◌, ◌⊎◌, List, [], ◌∷◌, Option, Some, None, sym, ◌∙◌, ap, refl}
+use Rattle.std.proofs.Common.{subst, inl, inr, arith}
+use Rattle.std.proofs.lemmas.Bool.{cases_lt, eqb-true, eq-eqb, ltb-true, lt-ltb, leb-true, le-leb}
+use Rattle.std.proofs.lemmas.Bool.{and_parts, and_from, false≢true, true≢false}
 use Rattle.mpeg_scan.specs.declared.codes.Code.{Code}
 use Rattle.mpeg_scan.specs.declared.tallies.Header.{Header}
-use Rattle.mpeg_scan.specs.Words.{begins_unit, header_of, is_head, is_slice, picture_of, slices_of, unit_of}
+use Rattle.mpeg_scan.specs.Words.{begins_unit, header_of, is_head, is_slice, picture_of, slices_of}
+use Rattle.mpeg_scan.specs.Words.{unit_of}
 use Rattle.mpeg_scan.specs.Places.{HasCode}
 use Rattle.mpeg_scan.specs.Refusals.{BeginsUnit, IsItsPicture, IsLatest, IsOpenHead, IsPicture}
-use Rattle.mpeg_scan.specs.Standard.{AnyKind, IsFirstCode, IsHeadKind, IsSliceKind, NoneIn, StandsThere}
+use Rattle.mpeg_scan.specs.Standard.{AnyKind, IsFirstCode, IsHeadKind, IsSliceKind, NoneIn}
+use Rattle.mpeg_scan.specs.Standard.{StandsThere}
 use Rattle.mpeg_scan.proofs.TileLemmas.{slice-apart}
 use Rattle.mpeg_scan.proofs.SpaceLemmas.{Spaced, all-below}
 

@@ -1,18 +1,24 @@
 -- The bounds of an accepted film: its rate code, its bytes and its units.
-use Rattle.std.proofs.Common.{ℕ, Bool, true, false, cond, eqb, ltb, ◌&&◌, ◌||◌, ◌+◌, ◌-◌, ◌^◌, ◌≤◌, ◌≡◌, List, [], ◌∷◌, Option, Some, None, length, sym, ◌∙◌, ap, refl, subst, arith}
+use Rattle.std.proofs.Common.{ℕ, Bool, true, false, cond, eqb, ltb, ◌&&◌, ◌||◌, ◌+◌, ◌-◌, ◌^◌, ◌≤◌}
+use Rattle.std.proofs.Common.{◌≡◌, List, [], ◌∷◌, Option, Some, None, length, sym, ◌∙◌, ap, refl}
+use Rattle.std.proofs.Common.{subst, arith}
 use Rattle.std.specs.Prelude.{unwrap_or}
 use Rattle.std.proofs.lemmas.Bool.{true≢false, or_parts, eq-eqb, ltb-false}
 use Rattle.mpeg_scan.specs.declared.codes.Code.{Code}
 use Rattle.mpeg_scan.specs.declared.faults.FilmFault.{FilmFault}
-use Rattle.mpeg_scan.specs.declared.faults.FilmFault.TheVariants.{Empty, ShortHeader, BadRate, TooLong}
+use Rattle.mpeg_scan.specs.declared.faults.FilmFault.TheVariants.{Empty, ShortHeader, BadRate}
+use Rattle.mpeg_scan.specs.declared.faults.FilmFault.TheVariants.{TooLong}
 use Rattle.mpeg_scan.specs.Codes.{read, codes_of}
 use Rattle.mpeg_scan.specs.Words.{first_rate, pictures_of, rate_after, rate_code, rate_of, tally_of}
-use Rattle.mpeg_scan.specs.Faults.{first_refusal, rate_fault, picture_fault, header_fault, latest_fault, last_fault, code_fault, fault_at, first_fault, end_fault, refusal_of}
+use Rattle.mpeg_scan.specs.Faults.{first_refusal, rate_fault, picture_fault, header_fault}
+use Rattle.mpeg_scan.specs.Faults.{latest_fault, last_fault, code_fault, fault_at, first_fault}
+use Rattle.mpeg_scan.specs.Faults.{end_fault, refusal_of}
 use Rattle.mpeg_scan.specs.Calls.{Call, head_call, slice_call, unit_call}
 use Rattle.mpeg_scan.specs.Counts.{Count, group_of, counts_after, no_count}
 use Rattle.mpeg_scan.specs.Films.{units_in, refusal, film_calls}
 use Rattle.mpeg_scan.proofs.FilmLemmas.{length-read}
-use Rattle.mpeg_scan.proofs.StepLemmas.{accepted-older, otherwise-first, otherwise-second, pictures-bound, positive}
+use Rattle.mpeg_scan.proofs.StepLemmas.{accepted-older, otherwise-first, otherwise-second}
+use Rattle.mpeg_scan.proofs.StepLemmas.{pictures-bound, positive}
 use Rattle.mpeg_scan.proofs.TileLemmas.{accepted-whole, ended-none, first-is}
 use Rattle.mpeg_scan.proofs.CountLemmas.{film-count}
 

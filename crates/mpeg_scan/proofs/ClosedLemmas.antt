@@ -1,22 +1,31 @@
 -- The units that have ended are those of the standard's words, over the codes that came.
-use Rattle.std.proofs.Common.{ℕ, zero, suc, Bool, true, false, cond, eqb, ltb, ◌&&◌, ◌||◌, ◌+◌, ◌-◌, ◌<◌, ◌≤◌, ◌≡◌, ◌⊎◌, List, [], ◌∷◌, ◌++◌, Option, Some, None, slice_get, sym, ◌∙◌, ap, refl, subst, inl, inr, arith}
+use Rattle.std.proofs.Common.{ℕ, zero, suc, Bool, true, false, cond, eqb, ltb, ◌&&◌, ◌||◌, ◌+◌, ◌-◌}
+use Rattle.std.proofs.Common.{◌<◌, ◌≤◌, ◌≡◌, ◌⊎◌, List, [], ◌∷◌, ◌++◌, Option, Some, None}
+use Rattle.std.proofs.Common.{slice_get, sym, ◌∙◌, ap, refl, subst, inl, inr, arith}
 use Rattle.std.specs.Prelude.{unwrap_or}
 use Rattle.std.proofs.lemmas.Bool.{cases_lt, eqb-true, ltb-true, false≢true}
 use Rattle.mpeg_scan.specs.declared.codes.Code.{Code}
 use Rattle.mpeg_scan.specs.declared.tallies.Header.{Header}
 use Rattle.mpeg_scan.specs.declared.units.Unit.{Unit as PictureUnit}
-use Rattle.mpeg_scan.specs.Words.{all_slices_of, has_sequence, head_end_of, header_of, is_head, is_slice, kind_of, picture_of, slices_of, starts_group, tally_of, temporal_of, type_of, unit_of, vectors_of}
+use Rattle.mpeg_scan.specs.Words.{all_slices_of, has_sequence, head_end_of, header_of, is_head}
+use Rattle.mpeg_scan.specs.Words.{is_slice, kind_of, picture_of, slices_of, starts_group, tally_of}
+use Rattle.mpeg_scan.specs.Words.{temporal_of, type_of, unit_of, vectors_of}
 use Rattle.mpeg_scan.specs.Faults.{end_fault, first_fault, last_fault, latest_fault}
-use Rattle.mpeg_scan.specs.Calls.{Call, head_call, slice_call, calls_at, no_header, calls_of, unit_at, unit_end}
+use Rattle.mpeg_scan.specs.Calls.{Call, head_call, slice_call, calls_at, no_header, calls_of}
+use Rattle.mpeg_scan.specs.Calls.{unit_at, unit_end}
 use Rattle.mpeg_scan.specs.Films.{units_in}
 use Rattle.mpeg_scan.specs.Places.{HasCode}
-use Rattle.mpeg_scan.specs.Standard.{Counts, HasPicture, IsFirstCode, IsHeadKind, IsSliceKind, NoneIn, StandsIn, StandsThere, UnitIs}
-use Rattle.mpeg_scan.proofs.StepLemmas.{accepted-older, code-accepted, otherwise-second, positive, calls-cons}
-use Rattle.mpeg_scan.proofs.TileLemmas.{Told, ended-none, first-is, first_slice-accepted, raw_calls, slice-apart, calls-nil, told_at}
+use Rattle.mpeg_scan.specs.Standard.{Counts, HasPicture, IsFirstCode, IsHeadKind, IsSliceKind}
+use Rattle.mpeg_scan.specs.Standard.{NoneIn, StandsIn, StandsThere, UnitIs}
+use Rattle.mpeg_scan.proofs.StepLemmas.{accepted-older, code-accepted, otherwise-second, positive}
+use Rattle.mpeg_scan.proofs.StepLemmas.{calls-cons}
+use Rattle.mpeg_scan.proofs.TileLemmas.{Told, ended-none, first-is, first_slice-accepted, raw_calls}
+use Rattle.mpeg_scan.proofs.TileLemmas.{slice-apart, calls-nil, told_at}
 use Rattle.mpeg_scan.proofs.SpaceLemmas.{After, Spaced, all-below}
 use Rattle.mpeg_scan.proofs.CountLemmas.{empty-count, first-some, second-accepted, second-none}
 use Rattle.mpeg_scan.proofs.FilmLemmas.{units_in-append}
-use Rattle.mpeg_scan.proofs.OpenLemmas.{Below, Firsts, Member, Open, Pictured, first-code, kinds-of, member-has, step-open}
+use Rattle.mpeg_scan.proofs.OpenLemmas.{Below, Firsts, Member, Open, Pictured, first-code, kinds-of}
+use Rattle.mpeg_scan.proofs.OpenLemmas.{member-has, step-open}
 use Rattle.mpeg_scan.proofs.BeforeLemmas.{Knows}
 use Rattle.mpeg_scan.proofs.SinceLemmas.{all-slices, counts-same, few-slices, own-slices}
 

@@ -1,5 +1,6 @@
 -- What an answer decides: it is a refusal exactly where a relation holds of it.
-use Rattle.std.proofs.Common.{Bool, true, false, cond, ◌≡◌, ◌↔◌, Option, Some, None, sym, ap, refl, subst, inl, inr, ◌∙◌}
+use Rattle.std.proofs.Common.{Bool, true, false, cond, ◌≡◌, ◌↔◌, Option, Some, None, sym, ap, refl}
+use Rattle.std.proofs.Common.{subst, inl, inr, ◌∙◌}
 use Rattle.std.proofs.lemmas.Bool.{false≢true}
 use Rattle.std.proofs.lemmas.Option.{none-some, same_Some}
 use Rattle.mpeg_scan.specs.declared.faults.FilmFault.{FilmFault}

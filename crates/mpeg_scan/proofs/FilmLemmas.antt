@@ -1,5 +1,6 @@
 -- A whole film fed at once.
-use Rattle.std.proofs.Common.{ℕ, cond, ltb, ◌+◌, ◌^◌, ◌<◌, ◌≤◌, ◌≡◌, List, [], ◌∷◌, ◌++◌, Option, Some, None, Result, Err, length, ◌∙◌, ap, refl, arith}
+use Rattle.std.proofs.Common.{ℕ, cond, ltb, ◌+◌, ◌^◌, ◌<◌, ◌≤◌, ◌≡◌, List, [], ◌∷◌, ◌++◌, Option}
+use Rattle.std.proofs.Common.{Some, None, Result, Err, length, ◌∙◌, ap, refl, arith}
 use Rattle.std.proofs.lemmas.Bool.{ne_eqb, le-ltb, lt-ltb}
 use Rattle.mpeg_scan.specs.declared.faults.FilmFault.{FilmFault}
 use Rattle.mpeg_scan.specs.declared.faults.ScanRefused.{ScanRefused}

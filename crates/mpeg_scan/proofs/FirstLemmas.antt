@@ -1,21 +1,28 @@
 -- The first unit of an accepted film: it starts a group, and begins with the sequence header of its rate.
-use Rattle.std.proofs.Common.{ℕ, Bool, true, false, cond, eqb, ltb, ◌&&◌, ◌||◌, ◌+◌, ◌-◌, ◌%◌, ◌<◌, ◌≤◌, ◌≡◌, List, [], ◌∷◌, ◌++◌, Some, None, length, get_or, slice_get, sym, ◌∙◌, ap, refl, subst, inl, inr, arith, Option}
+use Rattle.std.proofs.Common.{ℕ, Bool, true, false, cond, eqb, ltb, ◌&&◌, ◌||◌, ◌+◌, ◌-◌, ◌%◌, ◌<◌}
+use Rattle.std.proofs.Common.{◌≤◌, ◌≡◌, List, [], ◌∷◌, ◌++◌, Some, None, length, get_or, slice_get}
+use Rattle.std.proofs.Common.{sym, ◌∙◌, ap, refl, subst, inl, inr, arith, Option}
 use Rattle.std.specs.Prelude.{unwrap_or}
 use Rattle.std.proofs.lemmas.Bool.{true≢false, eq-eqb, ltb-false}
 use Rattle.mpeg_scan.specs.declared.codes.Code.{Code}
 use Rattle.mpeg_scan.specs.declared.faults.FilmFault.TheVariants.{ShortHeader}
 use Rattle.mpeg_scan.specs.declared.units.Unit.{Unit as PictureUnit}
 use Rattle.mpeg_scan.specs.Codes.{read, codes_of}
-use Rattle.mpeg_scan.specs.Words.{is_head, is_slice, first_rate, rate_after, rate_code, rate_of, slices_of, starts_group, tally_of}
-use Rattle.mpeg_scan.specs.Faults.{end_fault, first_fault, header_fault, last_fault, latest_fault, picture_fault, rate_fault}
-use Rattle.mpeg_scan.specs.Calls.{Call, head_call, slice_call, calls_at, calls_of, unit_at, unit_end}
+use Rattle.mpeg_scan.specs.Words.{is_head, is_slice, first_rate, rate_after, rate_code, rate_of}
+use Rattle.mpeg_scan.specs.Words.{slices_of, starts_group, tally_of}
+use Rattle.mpeg_scan.specs.Faults.{end_fault, first_fault, header_fault, last_fault, latest_fault}
+use Rattle.mpeg_scan.specs.Faults.{picture_fault, rate_fault}
+use Rattle.mpeg_scan.specs.Calls.{Call, head_call, slice_call, calls_at, calls_of, unit_at}
+use Rattle.mpeg_scan.specs.Calls.{unit_end}
 use Rattle.mpeg_scan.specs.Films.{IsFilm, units_in}
 use Rattle.mpeg_scan.specs.Tiles.{first_of}
 use Rattle.mpeg_scan.specs.Places.{HasCode, StandsAt}
 use Rattle.mpeg_scan.specs.Standard.{AnyKind, IsFirstCode, StandsThere}
 use Rattle.mpeg_scan.specs.Layout.{AreChained, BeginsSequence}
-use Rattle.mpeg_scan.proofs.StepLemmas.{accepted-older, otherwise-first, otherwise-second, calls-cons}
-use Rattle.mpeg_scan.proofs.TileLemmas.{Told, accepted-whole, ended-none, first-is, raw_calls, slice-apart, calls-nil, told_at}
+use Rattle.mpeg_scan.proofs.StepLemmas.{accepted-older, otherwise-first, otherwise-second}
+use Rattle.mpeg_scan.proofs.StepLemmas.{calls-cons}
+use Rattle.mpeg_scan.proofs.TileLemmas.{Told, accepted-whole, ended-none, first-is, raw_calls}
+use Rattle.mpeg_scan.proofs.TileLemmas.{slice-apart, calls-nil, told_at}
 use Rattle.mpeg_scan.proofs.SpaceLemmas.{Spaced, all-below, placed-codes}
 use Rattle.mpeg_scan.proofs.BoundLemmas.{older-judged, sequence-judged, some-cond-none}
 use Rattle.mpeg_scan.proofs.FilmLemmas.{length-read, units_in-append}

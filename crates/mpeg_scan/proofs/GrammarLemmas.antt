@@ -1,13 +1,17 @@
 -- The codes of an accepted film stand in their order.
-use Rattle.std.proofs.Common.{ℕ, Bool, true, false, cond, eqb, ltb, ◌&&◌, ◌||◌, ◌+◌, ◌≡◌, List, [], ◌∷◌, Option, Some, None, length, sym, ◌∙◌, ap, refl, subst, arith}
+use Rattle.std.proofs.Common.{ℕ, Bool, true, false, cond, eqb, ltb, ◌&&◌, ◌||◌, ◌+◌, ◌≡◌, List, []}
+use Rattle.std.proofs.Common.{◌∷◌, Option, Some, None, length, sym, ◌∙◌, ap, refl, subst, arith}
 use Rattle.std.specs.Option.{is_some}
 use Rattle.std.proofs.lemmas.Bool.{lt-ltb, false≢true, true≢false}
 use Rattle.mpeg_scan.specs.declared.codes.Code.{Code}
 use Rattle.mpeg_scan.specs.Codes.{codes_of}
 use Rattle.mpeg_scan.specs.Words.{is_head, is_slice, tally_of, slices_of, picture_of, header_of}
-use Rattle.mpeg_scan.specs.Faults.{code_fault, first_fault, end_fault, last_fault, latest_fault, refusal_of}
-use Rattle.mpeg_scan.specs.Grammar.{Phase, nowhere, in_head, after_picture, in_slices, next_phase, then_phase, phase_after, IsGrammatical}
-use Rattle.mpeg_scan.proofs.StepLemmas.{accepted-older, code-accepted, otherwise-first, otherwise-second}
+use Rattle.mpeg_scan.specs.Faults.{code_fault, first_fault, end_fault, last_fault, latest_fault}
+use Rattle.mpeg_scan.specs.Faults.{refusal_of}
+use Rattle.mpeg_scan.specs.Grammar.{Phase, nowhere, in_head, after_picture, in_slices, next_phase}
+use Rattle.mpeg_scan.specs.Grammar.{then_phase, phase_after, IsGrammatical}
+use Rattle.mpeg_scan.proofs.StepLemmas.{accepted-older, code-accepted, otherwise-first}
+use Rattle.mpeg_scan.proofs.StepLemmas.{otherwise-second}
 use Rattle.mpeg_scan.proofs.TileLemmas.{first-is, ended-none, accepted-whole}
 use Rattle.mpeg_scan.proofs.CountLemmas.{CodeFits, code-fits, some-cond}
 

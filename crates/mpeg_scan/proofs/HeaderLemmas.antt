@@ -1,19 +1,29 @@
 -- The refusals of a header, of the bits of its bytes.
-use Rattle.std.proofs.Common.{ℕ, Bool, true, false, cond, eqb, ltb, leb, not, ◌&&◌, ◌||◌, ◌+◌, ◌-◌, ◌/◌, ◌%◌, ◌<◌, ◌≤◌, ◌≡◌, ◌⊎◌, List, [], ◌∷◌, Option, Some, None, get_or, sym, ◌∙◌, ap, refl, subst, inl, inr, arith}
-use Rattle.std.proofs.lemmas.Bool.{cases_lt, eqb-false, eqb-true, eq-eqb, ne_eqb, not-true, ltb-true, ltb-false, lt-ltb, le-ltb, leb-true, le-leb, and_parts, and_from, or_left, or_right, or_parts, not_from_false, false≢true, true≢false}
+use Rattle.std.proofs.Common.{ℕ, Bool, true, false, cond, eqb, ltb, leb, not, ◌&&◌, ◌||◌, ◌+◌, ◌-◌}
+use Rattle.std.proofs.Common.{◌/◌, ◌%◌, ◌<◌, ◌≤◌, ◌≡◌, ◌⊎◌, List, [], ◌∷◌, Option, Some, None}
+use Rattle.std.proofs.Common.{get_or, sym, ◌∙◌, ap, refl, subst, inl, inr, arith}
+use Rattle.std.proofs.lemmas.Bool.{cases_lt, eqb-false, eqb-true, eq-eqb, ne_eqb, not-true}
+use Rattle.std.proofs.lemmas.Bool.{ltb-true, ltb-false, lt-ltb, le-ltb, leb-true, le-leb, and_parts}
+use Rattle.std.proofs.lemmas.Bool.{and_from, or_left, or_right, or_parts, not_from_false}
+use Rattle.std.proofs.lemmas.Bool.{false≢true, true≢false}
 use Rattle.mpeg_scan.specs.declared.codes.Code.{Code}
 use Rattle.mpeg_scan.specs.declared.faults.FilmFault.{FilmFault}
 use Rattle.mpeg_scan.specs.declared.faults.FilmFault.TheVariants.{BadRate, BadType, ShortHeader}
 use Rattle.mpeg_scan.specs.Words.{first_rate, rate_code, type_of}
-use Rattle.mpeg_scan.specs.Faults.{differs, first_fault, header_fault, latest_fault, picture_fault, rate_fault}
-use Rattle.mpeg_scan.specs.Refusals.{HeaderRefusal, IsBadRate, IsBadType, IsLatest, IsOtherRate, IsSequence, IsShortHeader, Otherwise, has_vectors, header_bytes, picture_rate}
+use Rattle.mpeg_scan.specs.Faults.{differs, first_fault, header_fault, latest_fault, picture_fault}
+use Rattle.mpeg_scan.specs.Faults.{rate_fault}
+use Rattle.mpeg_scan.specs.Refusals.{HeaderRefusal, IsBadRate, IsBadType, IsLatest, IsOtherRate}
+use Rattle.mpeg_scan.specs.Refusals.{IsSequence, IsShortHeader, Otherwise, has_vectors}
+use Rattle.mpeg_scan.specs.Refusals.{header_bytes, picture_rate}
 use Rattle.mpeg_scan.specs.Standard.{IsHeadKind, NoneIn, picture_coding_type}
 use Rattle.mpeg_scan.proofs.BoundLemmas.{older-judged}
-use Rattle.mpeg_scan.proofs.FirstLemmas.{AreJudged, first_in, first_in-has, first_in-kind, first_in-rate, first_in-text, first-least}
+use Rattle.mpeg_scan.proofs.FirstLemmas.{AreJudged, first_in, first_in-has, first_in-kind}
+use Rattle.mpeg_scan.proofs.FirstLemmas.{first_in-rate, first_in-text, first-least}
 use Rattle.mpeg_scan.proofs.StepLemmas.{accepted-older}
 use Rattle.mpeg_scan.proofs.TextLemmas.{Same, TextIs, TextsAre, text-byte}
 use Rattle.mpeg_scan.proofs.SpaceLemmas.{Spaced}
-use Rattle.mpeg_scan.proofs.DecideLemmas.{Decides, both-cond, decide, neither, none-of, only-first, only-second}
+use Rattle.mpeg_scan.proofs.DecideLemmas.{Decides, both-cond, decide, neither, none-of, only-first}
+use Rattle.mpeg_scan.proofs.DecideLemmas.{only-second}
 use Rattle.mpeg_scan.proofs.BeforeLemmas.{Knows, latest-is, latest-new, older}
 
 -- the text of a code is the bytes after it, as far as a place

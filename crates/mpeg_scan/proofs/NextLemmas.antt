@@ -1,5 +1,6 @@
 -- What is known of the codes so far before a place, as more bytes and a code that isn't refused come.
-use Rattle.std.proofs.Common.{ℕ, zero, suc, Bool, true, false, not, cond, eqb, ltb, leb, ◌&&◌, ◌||◌, ◌+◌, ◌-◌, ◌<◌, ◌≤◌, ◌≡◌, Option, Some, None, ap, refl, arith}
+use Rattle.std.proofs.Common.{ℕ, zero, suc, Bool, true, false, not, cond, eqb, ltb, leb, ◌&&◌, ◌||◌}
+use Rattle.std.proofs.Common.{◌+◌, ◌-◌, ◌<◌, ◌≤◌, ◌≡◌, Option, Some, None, ap, refl, arith}
 use Rattle.std.specs.Option.{ForSome, IsSome, is_some, option_map}
 use Rattle.std.proofs.lemmas.Option.{same_Some}
 use Rattle.std.proofs.lemmas.Bool.{false≢true, or_parts, true≢false}
@@ -8,7 +9,8 @@ use Rattle.mpeg_scan.specs.declared.faults.FilmFault.TheVariants.{Mpeg2, NoSeque
 use Rattle.mpeg_scan.specs.declared.tallies.Header.{Header}
 use Rattle.mpeg_scan.specs.declared.tallies.Tally.{Tally}
 use Rattle.mpeg_scan.specs.Codes.{note}
-use Rattle.mpeg_scan.specs.Faults.{code_fault, count_fault, first_refusal, first_slice_fault, kind_fault, second_fault}
+use Rattle.mpeg_scan.specs.Faults.{code_fault, count_fault, first_refusal, first_slice_fault}
+use Rattle.mpeg_scan.specs.Faults.{kind_fault, second_fault}
 use Rattle.mpeg_scan.specs.Room.{HasCounts, HasRoom, HasRoomWith}
 use Rattle.mpeg_scan.specs.Steps.{next, next_begins, next_picture, next_rate, next_slices}
 use Rattle.mpeg_scan.specs.Words.{header_of, is_head, is_slice, rate_after, rate_code}

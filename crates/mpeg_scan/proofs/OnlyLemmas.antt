@@ -1,5 +1,7 @@
 -- The units of a film are the only ones that are as the standard says.
-use Rattle.std.proofs.Common.{ℕ, suc, Bool, true, false, cond, ◌+◌, ◌<◌, ◌≤◌, ◌≡◌, ◌⊎◌, List, [], ◌∷◌, Some, length, slice_get, sym, ◌∙◌, ap, refl, subst, inl, inr, arith}
+use Rattle.std.proofs.Common.{ℕ, suc, Bool, true, false, cond, ◌+◌, ◌<◌, ◌≤◌, ◌≡◌, ◌⊎◌, List, []}
+use Rattle.std.proofs.Common.{◌∷◌, Some, length, slice_get, sym, ◌∙◌, ap, refl, subst, inl, inr}
+use Rattle.std.proofs.Common.{arith}
 use Rattle.std.proofs.lemmas.Bool.{cases_lt}
 use Rattle.mpeg_scan.specs.declared.units.Kind.{Kind}
 use Rattle.mpeg_scan.specs.declared.units.Kind.TheVariants.{I, P, B, D}
@@ -9,7 +11,9 @@ use Rattle.mpeg_scan.specs.Codes.{codes_of, read}
 use Rattle.mpeg_scan.specs.Films.{IsFilm}
 use Rattle.mpeg_scan.specs.Layout.{AreChained}
 use Rattle.mpeg_scan.specs.Places.{StandsAt}
-use Rattle.mpeg_scan.specs.Standard.{AnyKind, ArePresented, AreUnitsOf, Counts, HasFields, IsFirstCode, IsHeadKind, IsSliceKind, IsUnitOf, StandsIn, StandsThere, type_number, vector_fields}
+use Rattle.mpeg_scan.specs.Standard.{AnyKind, ArePresented, AreUnitsOf, Counts, HasFields}
+use Rattle.mpeg_scan.specs.Standard.{IsFirstCode, IsHeadKind, IsSliceKind, IsUnitOf, StandsIn}
+use Rattle.mpeg_scan.specs.Standard.{StandsThere, type_number, vector_fields}
 use Rattle.mpeg_scan.specs.Tiles.{first_of}
 use Rattle.mpeg_scan.proofs.FirstLemmas.{film-first}
 use Rattle.mpeg_scan.proofs.LaidLemmas.{film-chained}

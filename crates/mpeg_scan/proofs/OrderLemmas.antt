@@ -1,5 +1,6 @@
 -- Codes stand in their order, and units are numbered in theirs.
-use Rattle.std.proofs.Common.{ℕ, Bool, true, false, cond, eqb, ◌&&◌, ◌+◌, ◌≡◌, List, [], ◌∷◌, Some, None, IsSome, length, sym, refl, subst}
+use Rattle.std.proofs.Common.{ℕ, Bool, true, false, cond, eqb, ◌&&◌, ◌+◌, ◌≡◌, List, [], ◌∷◌, Some}
+use Rattle.std.proofs.Common.{None, IsSome, length, sym, refl, subst}
 use Rattle.std.proofs.lemmas.Bool.{eqb-true, and_parts}
 use Rattle.mpeg_scan.specs.declared.codes.Code.{Code}
 use Rattle.mpeg_scan.specs.declared.units.Unit.{Unit as PictureUnit}

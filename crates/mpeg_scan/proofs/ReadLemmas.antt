@@ -1,7 +1,10 @@
 -- Bytes read one after another, runs that change nothing but the place, and what stays refused.
-use Rattle.std.proofs.Common.{ℕ, suc, Bool, true, false, cond, eqb, ltb, ◌+◌, ◌-◌, ◌<◌, ◌≤◌, ◌≡◌, List, [], ◌∷◌, ◌++◌, Option, Some, length, take, drop, get_or, sym, ◌∙◌, ap, refl, inl, inr, arith}
+use Rattle.std.proofs.Common.{ℕ, suc, Bool, true, false, cond, eqb, ltb, ◌+◌, ◌-◌, ◌<◌, ◌≤◌, ◌≡◌}
+use Rattle.std.proofs.Common.{List, [], ◌∷◌, ◌++◌, Option, Some, length, take, drop, get_or, sym}
+use Rattle.std.proofs.Common.{◌∙◌, ap, refl, inl, inr, arith}
 use Rattle.std.proofs.lemmas.Bool.{cases_Bool, ltb-false, not-true, ne_eqb}
-use Rattle.std.proofs.lemmas.List.{take_more, take_rest, get_or-take, length-take-le, length-drop, take-append-drop}
+use Rattle.std.proofs.lemmas.List.{take_more, take_rest, get_or-take, length-take-le, length-drop}
+use Rattle.std.proofs.lemmas.List.{take-append-drop}
 use Rattle.std.proofs.Math.Seq.{take-add}
 use Rattle.mpeg_scan.specs.declared.codes.Code.{Code}
 use Rattle.mpeg_scan.specs.declared.codes.Prefix.TheVariants.{Nothing, Zero}

@@ -1,23 +1,40 @@
 -- Each refusal comes exactly where the standard's words say.
-use Rattle.std.proofs.Common.{ℕ, Bool, true, false, cond, eqb, ltb, leb, not, ◌&&◌, ◌+◌, ◌-◌, ◌<◌, ◌≤◌, ◌≡◌, List, [], ◌∷◌, Option, Some, None, sym, ◌∙◌, ap, refl, subst, inl, inr, arith}
+use Rattle.std.proofs.Common.{ℕ, Bool, true, false, cond, eqb, ltb, leb, not, ◌&&◌, ◌+◌, ◌-◌, ◌<◌}
+use Rattle.std.proofs.Common.{◌≤◌, ◌≡◌, List, [], ◌∷◌, Option, Some, None, sym, ◌∙◌, ap, refl}
+use Rattle.std.proofs.Common.{subst, inl, inr, arith}
 use Rattle.std.specs.Prelude.{option_map}
-use Rattle.std.proofs.lemmas.Bool.{cases_lt, eqb-true, eqb-false, eq-eqb, ne_eqb, not-true, leb-true, le-leb, ltb-true, lt-ltb, and_parts, and_from, and_cases, not_from_false, false≢true}
+use Rattle.std.proofs.lemmas.Bool.{cases_lt, eqb-true, eqb-false, eq-eqb, ne_eqb, not-true}
+use Rattle.std.proofs.lemmas.Bool.{leb-true, le-leb, ltb-true, lt-ltb, and_parts, and_from}
+use Rattle.std.proofs.lemmas.Bool.{and_cases, not_from_false, false≢true}
 use Rattle.mpeg_scan.specs.declared.codes.Code.{Code}
 use Rattle.mpeg_scan.specs.declared.faults.FilmFault.{FilmFault}
-use Rattle.mpeg_scan.specs.declared.faults.FilmFault.TheVariants.{NoSequence, PictureWithoutSlices, HeadTooLong, GroupTooLong, TooLong, HeadWithoutPicture}
+use Rattle.mpeg_scan.specs.declared.faults.FilmFault.TheVariants.{NoSequence, PictureWithoutSlices}
+use Rattle.mpeg_scan.specs.declared.faults.FilmFault.TheVariants.{HeadTooLong, GroupTooLong}
+use Rattle.mpeg_scan.specs.declared.faults.FilmFault.TheVariants.{TooLong, HeadWithoutPicture}
 use Rattle.mpeg_scan.specs.declared.tallies.Header.{Header}
-use Rattle.mpeg_scan.specs.Words.{before_group_of, is_head, is_none_yet, is_slice, picture_of, pictures_of, slices_of, tally_of, unit_of}
-use Rattle.mpeg_scan.specs.Faults.{code_fault, count_fault, fault_at, first_fault, first_slice_fault, head_fault, kind_fault, latest_fault, left_without_slices, first_refusal, second_fault}
+use Rattle.mpeg_scan.specs.Words.{before_group_of, is_head, is_none_yet, is_slice, picture_of}
+use Rattle.mpeg_scan.specs.Words.{pictures_of, slices_of, tally_of, unit_of}
+use Rattle.mpeg_scan.specs.Faults.{code_fault, count_fault, fault_at, first_fault}
+use Rattle.mpeg_scan.specs.Faults.{first_slice_fault, head_fault, kind_fault, latest_fault}
+use Rattle.mpeg_scan.specs.Faults.{left_without_slices, first_refusal, second_fault}
 use Rattle.mpeg_scan.specs.Places.{HasCode}
-use Rattle.mpeg_scan.specs.Refusals.{BeginsUnit, CodeRefusal, CountRefusal, HasPictures, HeaderRefusal, IsExtension, IsItsPicture, IsLongFilm, IsLongGroup, IsLongHead, IsOpenHead, IsSystemCode, KindRefusal, LacksPicture, LacksSequence, LacksSlices, Otherwise, SecondRefusal, SliceRefusal}
+use Rattle.mpeg_scan.specs.Refusals.{BeginsUnit, CodeRefusal, CountRefusal, HasPictures}
+use Rattle.mpeg_scan.specs.Refusals.{HeaderRefusal, IsExtension, IsItsPicture, IsLongFilm}
+use Rattle.mpeg_scan.specs.Refusals.{IsLongGroup, IsLongHead, IsOpenHead, IsSystemCode, KindRefusal}
+use Rattle.mpeg_scan.specs.Refusals.{LacksPicture, LacksSequence, LacksSlices, Otherwise}
+use Rattle.mpeg_scan.specs.Refusals.{SecondRefusal, SliceRefusal}
 use Rattle.mpeg_scan.specs.Standard.{IsFirstCode, IsHeadKind, IsSliceKind, StandsThere}
 use Rattle.mpeg_scan.proofs.StepLemmas.{positive}
 use Rattle.mpeg_scan.proofs.TextLemmas.{Same, TextsAre}
 use Rattle.mpeg_scan.proofs.SpaceLemmas.{Spaced}
 use Rattle.std.proofs.lemmas.Option.{same_Some}
-use Rattle.mpeg_scan.proofs.DecideLemmas.{Decides, both, both-cond, decide, decide-if, decide-with, neither, no-more, none-of, only-second}
-use Rattle.mpeg_scan.proofs.BeforeLemmas.{Knows, PictureThere, head-kind, no-head, no-slice, not-open, one-head, one-picture, open-head, picture-there, slice-kind, slice-there, has-new, new-below}
-use Rattle.mpeg_scan.proofs.SinceLemmas.{codes-from, codes-since, group-tests, most-since, picture-tests, since-all, since-group}
+use Rattle.mpeg_scan.proofs.DecideLemmas.{Decides, both, both-cond, decide, decide-if, decide-with}
+use Rattle.mpeg_scan.proofs.DecideLemmas.{neither, no-more, none-of, only-second}
+use Rattle.mpeg_scan.proofs.BeforeLemmas.{Knows, PictureThere, head-kind, no-head, no-slice}
+use Rattle.mpeg_scan.proofs.BeforeLemmas.{not-open, one-head, one-picture, open-head, picture-there}
+use Rattle.mpeg_scan.proofs.BeforeLemmas.{slice-kind, slice-there, has-new, new-below}
+use Rattle.mpeg_scan.proofs.SinceLemmas.{codes-from, codes-since, group-tests, most-since}
+use Rattle.mpeg_scan.proofs.SinceLemmas.{picture-tests, since-all, since-group}
 use Rattle.mpeg_scan.proofs.HeaderLemmas.{latest-decides}
 
 -- a code of a kind stands at a place, and the codes before it are these

@@ -1,5 +1,6 @@
 -- A film is refused exactly where the standard's words say, and for what they say.
-use Rattle.std.proofs.Common.{ℕ, Bool, true, false, cond, ltb, ◌+◌, ◌^◌, ◌<◌, ◌≤◌, ◌≡◌, ◌↔◌, List, [], ◌∷◌, Option, Some, None, length, sym, ◌∙◌, ap, refl, subst, arith}
+use Rattle.std.proofs.Common.{ℕ, Bool, true, false, cond, ltb, ◌+◌, ◌^◌, ◌<◌, ◌≤◌, ◌≡◌, ◌↔◌, List}
+use Rattle.std.proofs.Common.{[], ◌∷◌, Option, Some, None, length, sym, ◌∙◌, ap, refl, subst, arith}
 use Rattle.std.proofs.lemmas.Bool.{eqb-true, eq-eqb, ltb-true, ltb-false, lt-ltb}
 use Rattle.mpeg_scan.specs.declared.codes.Code.{Code}
 use Rattle.mpeg_scan.specs.declared.faults.FilmFault.{FilmFault}
@@ -7,10 +8,13 @@ use Rattle.mpeg_scan.specs.declared.faults.FilmFault.TheVariants.{NoSequence, He
 use Rattle.mpeg_scan.specs.declared.tallies.Header.{Header}
 use Rattle.mpeg_scan.specs.Codes.{read, codes_of, latest_prefix}
 use Rattle.mpeg_scan.specs.Words.{picture_of, slices_of, tally_of, unit_of}
-use Rattle.mpeg_scan.specs.Faults.{end_fault, fault_at, first_fault, last_fault, latest_fault, left_without_slices, open_fault, first_refusal, refusal_of}
+use Rattle.mpeg_scan.specs.Faults.{end_fault, fault_at, first_fault, last_fault, latest_fault}
+use Rattle.mpeg_scan.specs.Faults.{left_without_slices, open_fault, first_refusal, refusal_of}
 use Rattle.mpeg_scan.specs.Films.{refusal}
 use Rattle.mpeg_scan.specs.Places.{StandsAt}
-use Rattle.mpeg_scan.specs.Refusals.{CodeRefusal, EndRefusal, FirstRefusal, HeaderRefusal, IsOpenHead, IsRefusedFor, LacksCodes, LacksPicture, LacksSlices, Otherwise}
+use Rattle.mpeg_scan.specs.Refusals.{CodeRefusal, EndRefusal, FirstRefusal, HeaderRefusal}
+use Rattle.mpeg_scan.specs.Refusals.{IsOpenHead, IsRefusedFor, LacksCodes, LacksPicture}
+use Rattle.mpeg_scan.specs.Refusals.{LacksSlices, Otherwise}
 use Rattle.mpeg_scan.specs.Standard.{AnyKind, StandsThere}
 use Rattle.mpeg_scan.proofs.FilmLemmas.{length-read}
 use Rattle.mpeg_scan.proofs.StepLemmas.{accepted-older, otherwise-second}
@@ -18,8 +22,11 @@ use Rattle.mpeg_scan.proofs.PlaceLemmas.{at-bytes, codes-stand}
 use Rattle.mpeg_scan.proofs.TextLemmas.{Same, TextsAre, codes-texts}
 use Rattle.mpeg_scan.proofs.SpaceLemmas.{Spaced, all-below, placed-codes, room-after}
 use Rattle.std.proofs.lemmas.Option.{same_Some}
-use Rattle.mpeg_scan.proofs.DecideLemmas.{Decides, both, both-cond, neither, no-more, none-of, only-first, only-second}
-use Rattle.mpeg_scan.proofs.BeforeLemmas.{Knows, PictureThere, earlier, has-new, here, new-below, not-open, older, one-head, open-head, picture-there, slice-there, where-is}
+use Rattle.mpeg_scan.proofs.DecideLemmas.{Decides, both, both-cond, neither, no-more, none-of}
+use Rattle.mpeg_scan.proofs.DecideLemmas.{only-first, only-second}
+use Rattle.mpeg_scan.proofs.BeforeLemmas.{Knows, PictureThere, earlier, has-new, here, new-below}
+use Rattle.mpeg_scan.proofs.BeforeLemmas.{not-open, older, one-head, open-head, picture-there}
+use Rattle.mpeg_scan.proofs.BeforeLemmas.{slice-there, where-is}
 use Rattle.mpeg_scan.proofs.HeaderLemmas.{latest-decides}
 use Rattle.mpeg_scan.proofs.RefusalLemmas.{AtCode, begins-after, code-decides, picture-slices}
 

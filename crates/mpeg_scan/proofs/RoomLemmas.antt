@@ -1,5 +1,7 @@
 -- The scanner's latest unit and slice begin well before the next code.
-use Rattle.std.proofs.Common.{Result, Ok, Err, OnOk, ℕ, Bool, true, false, not, cond, eqb, ltb, ◌&&◌, ◌||◌, ◌+◌, ◌-◌, ◌<◌, ◌≤◌, ◌≡◌, [], Option, Some, None, sym, ◌∙◌, ap, refl, subst, arith}
+use Rattle.std.proofs.Common.{Result, Ok, Err, OnOk, ℕ, Bool, true, false, not, cond, eqb, ltb}
+use Rattle.std.proofs.Common.{◌&&◌, ◌||◌, ◌+◌, ◌-◌, ◌<◌, ◌≤◌, ◌≡◌, [], Option, Some, None, sym, ◌∙◌}
+use Rattle.std.proofs.Common.{ap, refl, subst, arith}
 use Rattle.std.specs.Option.{IsSome, option_map}
 use Rattle.std.proofs.lemmas.Option.{same_Some}
 use Rattle.std.proofs.lemmas.Bool.{true≢false, false≢true, ne_eqb}
@@ -13,10 +15,13 @@ use Rattle.mpeg_scan.specs.declared.tallies.Tally.{Tally}
 use Rattle.mpeg_scan.specs.Codes.{after_one, after_zero, is_whole, next_prefix, note}
 use Rattle.mpeg_scan.specs.Words.{is_head, is_slice}
 use Rattle.mpeg_scan.specs.Faults.{last_fault, open_fault, code_fault}
-use Rattle.mpeg_scan.specs.Room.{AwaitsSlice, AwaitsSliceAfter, HasRoom, HasRoomWith, IsAhead, prefix_length}
+use Rattle.mpeg_scan.specs.Room.{AwaitsSlice, AwaitsSliceAfter, HasRoom, HasRoomWith, IsAhead}
+use Rattle.mpeg_scan.specs.Room.{prefix_length}
 use Rattle.mpeg_scan.specs.Scans.{scan_with_code, scan_with_byte}
-use Rattle.mpeg_scan.specs.Steps.{end_judgement, code_judgement, latest_header_fault, next, next_begins, tally_now, tally_with}
-use Rattle.mpeg_scan.proofs.NextLemmas.{code-begun, counts-more, counts-next, picture-next, rate-next, with-more, with-noted}
+use Rattle.mpeg_scan.specs.Steps.{end_judgement, code_judgement, latest_header_fault, next}
+use Rattle.mpeg_scan.specs.Steps.{next_begins, tally_now, tally_with}
+use Rattle.mpeg_scan.proofs.NextLemmas.{code-begun, counts-more, counts-next, picture-next}
+use Rattle.mpeg_scan.proofs.NextLemmas.{rate-next, with-more, with-noted}
 use Rattle.mpeg_scan.proofs.BeforeLemmas.{slice-kind}
 use Rattle.mpeg_scan.proofs.SpaceLemmas.{whole-is}
 use Rattle.mpeg_scan.proofs.StepLemmas.{otherwise-second}

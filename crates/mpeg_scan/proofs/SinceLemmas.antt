@@ -1,13 +1,17 @@
 -- How many codes of a kind stand before a place, from the latest code of another kind on.
-use Rattle.std.proofs.Common.{ℕ, suc, Bool, true, false, cond, eqb, ◌+◌, ◌<◌, ◌≤◌, ◌≡◌, List, [], ◌∷◌, length, sym, ◌∙◌, ap, refl, subst, arith}
+use Rattle.std.proofs.Common.{ℕ, suc, Bool, true, false, cond, eqb, ◌+◌, ◌<◌, ◌≤◌, ◌≡◌, List, []}
+use Rattle.std.proofs.Common.{◌∷◌, length, sym, ◌∙◌, ap, refl, subst, arith}
 use Rattle.std.proofs.lemmas.Bool.{eqb-true, eq-eqb, ne_eqb, false≢true, true≢false}
 use Rattle.mpeg_scan.specs.declared.codes.Code.{Code}
-use Rattle.mpeg_scan.specs.Words.{all_slices_of, before_group_of, is_head, is_slice, pictures_of, slices_of}
+use Rattle.mpeg_scan.specs.Words.{all_slices_of, before_group_of, is_head, is_slice, pictures_of}
+use Rattle.mpeg_scan.specs.Words.{slices_of}
 use Rattle.mpeg_scan.specs.Refusals.{IsPicture}
 use Rattle.mpeg_scan.specs.Standard.{AreCodes, Counts, IsHeadKind, IsSliceKind, NoneIn, StandsThere}
 use Rattle.mpeg_scan.proofs.TileLemmas.{slice-apart}
 use Rattle.mpeg_scan.proofs.SpaceLemmas.{Spaced}
-use Rattle.mpeg_scan.proofs.BeforeLemmas.{Knows, earlier, has-new, head-kind, here, kind-head, kind-slice, new-below, none-after, none-with, older, slice-kind, where-is}
+use Rattle.mpeg_scan.proofs.BeforeLemmas.{Knows, earlier, has-new, head-kind, here, kind-head}
+use Rattle.mpeg_scan.proofs.BeforeLemmas.{kind-slice, new-below, none-after, none-with, older}
+use Rattle.mpeg_scan.proofs.BeforeLemmas.{slice-kind, where-is}
 
 -- ---- the codes of a kind after the latest code of another
 

@@ -1,6 +1,9 @@
 -- The slices of an accepted film are those of its slice codes, in their order.
-use Rattle.std.proofs.Common.{ℕ, Bool, true, false, cond, eqb, ltb, leb, ◌+◌, ◌<◌, ◌≡◌, ◌⊎◌, ◌↔◌, List, [], ◌∷◌, ◌++◌, None, length, sym, ◌∙◌, ap, refl, subst, inl, inr, arith}
-use Rattle.std.proofs.lemmas.Bool.{cases_Bool, eqb-true, eq-eqb, ne_eqb, ltb-true, ltb-false, true≢false, false≢true, and_parts, and_from, leb-true, le-leb}
+use Rattle.std.proofs.Common.{ℕ, Bool, true, false, cond, eqb, ltb, leb, ◌+◌, ◌<◌, ◌≡◌, ◌⊎◌, ◌↔◌}
+use Rattle.std.proofs.Common.{List, [], ◌∷◌, ◌++◌, None, length, sym, ◌∙◌, ap, refl, subst, inl}
+use Rattle.std.proofs.Common.{inr, arith}
+use Rattle.std.proofs.lemmas.Bool.{cases_Bool, eqb-true, eq-eqb, ne_eqb, ltb-true, ltb-false}
+use Rattle.std.proofs.lemmas.Bool.{true≢false, false≢true, and_parts, and_from, leb-true, le-leb}
 use Rattle.std.proofs.lemmas.List.{append-nil}
 use Rattle.mpeg_scan.specs.declared.codes.Code.{Code}
 use Rattle.mpeg_scan.specs.declared.units.Unit.{Unit as PictureUnit}
@@ -12,7 +15,8 @@ use Rattle.mpeg_scan.specs.Films.{IsFilm, slices_in}
 use Rattle.mpeg_scan.specs.Places.{HasCode, StandsAt}
 use Rattle.mpeg_scan.specs.Standard.{IsAmong, IsSliceKind, StandsThere, slice_places}
 use Rattle.mpeg_scan.proofs.StepLemmas.{otherwise-second, calls-cons}
-use Rattle.mpeg_scan.proofs.TileLemmas.{Told, accepted-whole, ended-none, raw_calls, slice-apart, calls-nil, told_at}
+use Rattle.mpeg_scan.proofs.TileLemmas.{Told, accepted-whole, ended-none, raw_calls, slice-apart}
+use Rattle.mpeg_scan.proofs.TileLemmas.{calls-nil, told_at}
 use Rattle.mpeg_scan.proofs.FilmLemmas.{slices_in-append}
 use Rattle.mpeg_scan.proofs.PlaceLemmas.{codes-stand}
 

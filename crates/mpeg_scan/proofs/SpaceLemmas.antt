@@ -1,11 +1,13 @@
 -- The start codes of bytes stand apart: each has at least 4 bytes, or 3 where its kind is 0, which
 -- may begin the next prefix.
-use Rattle.std.proofs.Common.{ℕ, suc, Bool, true, false, cond, eqb, leb, ◌+◌, ◌-◌, ◌<◌, ◌≤◌, ◌≡◌, List, [], ◌∷◌, length, sym, ◌∙◌, ap, refl, subst, inl, inr, arith}
+use Rattle.std.proofs.Common.{ℕ, suc, Bool, true, false, cond, eqb, leb, ◌+◌, ◌-◌, ◌<◌, ◌≤◌, ◌≡◌}
+use Rattle.std.proofs.Common.{List, [], ◌∷◌, length, sym, ◌∙◌, ap, refl, subst, inl, inr, arith}
 use Rattle.std.proofs.lemmas.Bool.{cases_Bool, leb-true, ne_eqb, false≢true, true≢false, and_parts}
 use Rattle.mpeg_scan.specs.declared.codes.Code.{Code}
 use Rattle.mpeg_scan.specs.declared.codes.Prefix.{Prefix}
 use Rattle.mpeg_scan.specs.declared.codes.Prefix.TheVariants.{Nothing, Zero, Zeros, Whole}
-use Rattle.mpeg_scan.specs.Codes.{latest_prefix, next_prefix, after_one, after_zero, is_whole, note_latest, codes_of}
+use Rattle.mpeg_scan.specs.Codes.{latest_prefix, next_prefix, after_one, after_zero, is_whole}
+use Rattle.mpeg_scan.specs.Codes.{note_latest, codes_of}
 use Rattle.mpeg_scan.specs.Words.{is_head, is_slice, begins_unit, slices_of, unit_of, slice_of}
 use Rattle.mpeg_scan.specs.Places.{HasCode}
 use Rattle.mpeg_scan.proofs.CodeLemmas.{matched-more}

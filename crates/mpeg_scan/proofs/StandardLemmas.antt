@@ -1,6 +1,9 @@
 -- The units of an accepted film are those of the standard's words: from the codes to the bytes.
-use Rattle.std.proofs.Common.{ℕ, Bool, true, false, cond, eqb, ltb, leb, ◌&&◌, ◌||◌, ◌+◌, ◌-◌, ◌*◌, ◌/◌, ◌%◌, ◌<◌, ◌≤◌, ◌≡◌, ◌⊎◌, ◌↔◌, List, [], ◌∷◌, Option, Some, None, length, get_or, slice_get, sym, ◌∙◌, ap, refl, subst, inl, inr, arith}
-use Rattle.std.proofs.lemmas.Bool.{cases_lt, eq-eqb, ne_eqb, leb-true, ltb-false, or_parts, and_parts, true≢false, false≢true}
+use Rattle.std.proofs.Common.{ℕ, Bool, true, false, cond, eqb, ltb, leb, ◌&&◌, ◌||◌, ◌+◌, ◌-◌, ◌*◌}
+use Rattle.std.proofs.Common.{◌/◌, ◌%◌, ◌<◌, ◌≤◌, ◌≡◌, ◌⊎◌, ◌↔◌, List, [], ◌∷◌, Option, Some, None}
+use Rattle.std.proofs.Common.{length, get_or, slice_get, sym, ◌∙◌, ap, refl, subst, inl, inr, arith}
+use Rattle.std.proofs.lemmas.Bool.{cases_lt, eq-eqb, ne_eqb, leb-true, ltb-false, or_parts}
+use Rattle.std.proofs.lemmas.Bool.{and_parts, true≢false, false≢true}
 use Rattle.mpeg_scan.specs.declared.codes.Code.{Code}
 use Rattle.mpeg_scan.specs.declared.faults.FilmFault.{FilmFault}
 use Rattle.mpeg_scan.specs.declared.faults.FilmFault.TheVariants.{BadType, ShortHeader}
@@ -8,10 +11,12 @@ use Rattle.mpeg_scan.specs.declared.units.Kind.{Kind}
 use Rattle.mpeg_scan.specs.declared.units.Unit.{Unit as PictureUnit}
 use Rattle.mpeg_scan.specs.Codes.{read, codes_of, latest_prefix}
 use Rattle.mpeg_scan.specs.Words.{first_rate, kind_of, tally_of, type_of, vectors_by}
-use Rattle.mpeg_scan.specs.Faults.{end_fault, first_fault, header_fault, last_fault, latest_fault, rate_fault}
+use Rattle.mpeg_scan.specs.Faults.{end_fault, first_fault, header_fault, last_fault, latest_fault}
+use Rattle.mpeg_scan.specs.Faults.{rate_fault}
 use Rattle.mpeg_scan.specs.Films.{IsFilm}
 use Rattle.mpeg_scan.specs.Places.{HasCode, StandsAt}
-use Rattle.mpeg_scan.specs.Standard.{HasFields, IsFirstCode, IsUnitOf, NoneIn, StandsIn, type_number, vector_fields}
+use Rattle.mpeg_scan.specs.Standard.{HasFields, IsFirstCode, IsUnitOf, NoneIn, StandsIn}
+use Rattle.mpeg_scan.specs.Standard.{type_number, vector_fields}
 use Rattle.mpeg_scan.proofs.StepLemmas.{otherwise-first, otherwise-second}
 use Rattle.mpeg_scan.proofs.TileLemmas.{accepted-whole}
 use Rattle.mpeg_scan.proofs.SpaceLemmas.{placed-codes, room-after}

@@ -1,5 +1,7 @@
 -- A byte more, and a code more: what the scanner keeps stays what the bytes say.
-use Rattle.std.proofs.Common.{ℕ, Bool, true, false, cond, eqb, ltb, leb, ◌+◌, ◌-◌, ◌^◌, ◌<◌, ◌≤◌, ◌≡◌, List, [], ◌∷◌, ◌++◌, Option, Some, None, length, sym, ◌∙◌, ap, refl, subst, arith}
+use Rattle.std.proofs.Common.{ℕ, Bool, true, false, cond, eqb, ltb, leb, ◌+◌, ◌-◌, ◌^◌, ◌<◌, ◌≤◌}
+use Rattle.std.proofs.Common.{◌≡◌, List, [], ◌∷◌, ◌++◌, Option, Some, None, length, sym, ◌∙◌, ap}
+use Rattle.std.proofs.Common.{refl, subst, arith}
 use Rattle.std.specs.Option.{option_map}
 use Rattle.std.proofs.lemmas.Bool.{eqb-false, leb-false, ne_eqb, eq-eqb, le-ltb, lt-ltb}
 use Rattle.std.proofs.lemmas.List.{append_assoc}
@@ -10,16 +12,19 @@ use Rattle.mpeg_scan.specs.declared.progress.Progress.{Progress}
 use Rattle.mpeg_scan.specs.declared.tallies.Tally.{Tally}
 use Rattle.mpeg_scan.specs.Codes.{latest_prefix, next_prefix, is_whole, note, note_latest, codes_of}
 use Rattle.mpeg_scan.specs.Words.{tally_of, pictures_of, before_group_of}
-use Rattle.mpeg_scan.specs.Faults.{first_refusal, latest_fault, kind_fault, second_fault, first_slice_fault, count_fault, code_fault, fault_at, first_fault, end_fault, last_fault, refusal_of}
+use Rattle.mpeg_scan.specs.Faults.{first_refusal, latest_fault, kind_fault, second_fault}
+use Rattle.mpeg_scan.specs.Faults.{first_slice_fault, count_fault, code_fault, fault_at}
+use Rattle.mpeg_scan.specs.Faults.{first_fault, end_fault, last_fault, refusal_of}
 use Rattle.mpeg_scan.specs.Calls.{Call, calls_at, calls_of}
-use Rattle.mpeg_scan.specs.Steps.{next, tally_with, code_judgement, end_judgement, latest_of, older_of}
+use Rattle.mpeg_scan.specs.Steps.{next, tally_with, code_judgement, end_judgement, latest_of}
+use Rattle.mpeg_scan.specs.Steps.{older_of}
 use Rattle.mpeg_scan.specs.Scans.{HasRead, scan_with_byte, scan_with_code}
 use Rattle.mpeg_scan.proofs.CodeLemmas.{matched-more}
 
--- ---- the codes of a byte more
-
 pub positive : (n : ℕ) → eqb n 0 ≡ false → 0 < n
 positive n e = omega (arith, eqb-false n 0 e)
+
+-- ---- the codes of a byte more
 
 pub codes-plain : (x : ℕ) (r : List ℕ) → is_whole (latest_prefix r) ≡ false → codes_of (x ∷ r) ≡ note_latest (codes_of r) x
 unfolding codes_of

@@ -1,18 +1,28 @@
 -- The parts that are told of lie one after another.
-use Rattle.std.proofs.Common.{ℕ, suc, zero, Bool, true, false, not, cond, eqb, ltb, leb, ◌&&◌, ◌||◌, ◌+◌, ◌-◌, ◌<◌, ◌≤◌, ◌≡◌, ◌⊎◌, ◌^◌, List, [], ◌∷◌, ◌++◌, Option, Some, None, length, sym, ◌∙◌, ap, refl, subst, inl, inr, arith}
-use Rattle.std.proofs.lemmas.Bool.{cases_Bool, ltb-true, ltb-false, leb-true, eqb-true, ne_eqb, eq-eqb, lt-ltb, le-ltb, le-leb, true≢false, and_parts, and_from}
+use Rattle.std.proofs.Common.{ℕ, suc, zero, Bool, true, false, not, cond, eqb, ltb, leb, ◌&&◌, ◌||◌}
+use Rattle.std.proofs.Common.{◌+◌, ◌-◌, ◌<◌, ◌≤◌, ◌≡◌, ◌⊎◌, ◌^◌, List, [], ◌∷◌, ◌++◌, Option, Some}
+use Rattle.std.proofs.Common.{None, length, sym, ◌∙◌, ap, refl, subst, inl, inr, arith}
+use Rattle.std.proofs.lemmas.Bool.{cases_Bool, ltb-true, ltb-false, leb-true, eqb-true, ne_eqb}
+use Rattle.std.proofs.lemmas.Bool.{eq-eqb, lt-ltb, le-ltb, le-leb, true≢false, and_parts, and_from}
 use Rattle.mpeg_scan.specs.declared.codes.Code.{Code}
-use Rattle.mpeg_scan.specs.declared.faults.FilmFault.TheVariants.{Empty, TooLong, SystemCode, Mpeg2, NoSequence, HeadTooLong}
+use Rattle.mpeg_scan.specs.declared.faults.FilmFault.TheVariants.{Empty, TooLong, SystemCode, Mpeg2}
+use Rattle.mpeg_scan.specs.declared.faults.FilmFault.TheVariants.{NoSequence, HeadTooLong}
 use Rattle.mpeg_scan.specs.declared.tallies.Header.{Header}
 use Rattle.mpeg_scan.specs.declared.tallies.Tally.{Tally}
 use Rattle.mpeg_scan.specs.declared.units.Unit.{Unit as PictureUnit}
 use Rattle.mpeg_scan.specs.Codes.{latest_prefix, codes_of}
-use Rattle.mpeg_scan.specs.Words.{is_head, is_slice, tally_of, slices_of, unit_of, head_end_of, slice_of}
-use Rattle.mpeg_scan.specs.Faults.{first_refusal, latest_fault, kind_fault, second_fault, first_slice_fault, count_fault, code_fault, head_fault, open_fault, last_fault, first_fault, end_fault, refusal_of}
-use Rattle.mpeg_scan.specs.Calls.{Call, head_call, slice_call, unit_call, unit_at, unit_end, calls_at, calls_of, all_calls}
+use Rattle.mpeg_scan.specs.Words.{is_head, is_slice, tally_of, slices_of, unit_of, head_end_of}
+use Rattle.mpeg_scan.specs.Words.{slice_of}
+use Rattle.mpeg_scan.specs.Faults.{first_refusal, latest_fault, kind_fault, second_fault}
+use Rattle.mpeg_scan.specs.Faults.{first_slice_fault, count_fault, code_fault, head_fault}
+use Rattle.mpeg_scan.specs.Faults.{open_fault, last_fault, first_fault, end_fault, refusal_of}
+use Rattle.mpeg_scan.specs.Calls.{Call, head_call, slice_call, unit_call, unit_at, unit_end}
+use Rattle.mpeg_scan.specs.Calls.{calls_at, calls_of, all_calls}
 use Rattle.mpeg_scan.specs.Tiles.{Part, between, within, next_part, parts_after, first_of, Tiles}
-use Rattle.mpeg_scan.proofs.StepLemmas.{accepted-older, code-accepted, otherwise-first, otherwise-second, calls-cons}
-use Rattle.mpeg_scan.proofs.SpaceLemmas.{After, Spaced, placed-codes, room-after, slice-before, unit-before}
+use Rattle.mpeg_scan.proofs.StepLemmas.{accepted-older, code-accepted, otherwise-first}
+use Rattle.mpeg_scan.proofs.StepLemmas.{otherwise-second, calls-cons}
+use Rattle.mpeg_scan.proofs.SpaceLemmas.{After, Spaced, placed-codes, room-after, slice-before}
+use Rattle.mpeg_scan.proofs.SpaceLemmas.{unit-before}
 
 -- ---- one code
 

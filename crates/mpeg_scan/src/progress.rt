@@ -1,12 +1,14 @@
 //! How far a film was read, and what a further byte does.
 ghost use Rattle.std.specs.Prelude.{◌≡◌, ℕ, ◌+◌, ◌^◌, ◌<◌, ◌≤◌, List, [], ◌∷◌, ◌++◌, Some, None};
-ghost use Rattle.std.specs.Prelude.{length, take, slice_index, IsSome, IsTrue, true, IfOk, IfErr, OnOk};
+ghost use Rattle.std.specs.Prelude.{length, take, slice_index, IsSome, IsTrue, true, IfOk, IfErr};
+ghost use Rattle.std.specs.Prelude.{OnOk};
 ghost use Rattle.std.specs.Prelude.{MatchResult, ◌≢◌};
 ghost use Rattle.std.specs.Option.{ForSome};
 ghost use Rattle.mpeg_scan.specs.Calls.{Call, calls_at, calls_of};
 ghost use Rattle.mpeg_scan.specs.Codes.{codes_of, read};
 ghost use Rattle.mpeg_scan.specs.Faults.{first_fault, refusal_of};
-ghost use Rattle.mpeg_scan.specs.Room.{AwaitsSlice, AwaitsSliceAfter, HasCounts, HasRoomWith, IsAhead};
+ghost use Rattle.mpeg_scan.specs.Room.{AwaitsSlice, AwaitsSliceAfter, HasCounts, HasRoomWith};
+ghost use Rattle.mpeg_scan.specs.Room.{IsAhead};
 ghost use Rattle.mpeg_scan.specs.Steps.{judgement, last_judgement, latest_header_fault, tally_now};
 ghost use Rattle.mpeg_scan.specs.Words.{tally_of};
 ghost use Rattle.mpeg_scan.specs.Scans.{HasRead, IsRefusedInPiece, scan_with_code, is_text_full};

@@ -24,7 +24,8 @@ impl Scanner {
     ghost use Rattle.mpeg_scan.specs.Counts.{AreNumbered};
     ghost use Rattle.mpeg_scan.specs.Faults.{first_fault, refusal_of};
     ghost use Rattle.mpeg_scan.specs.Grammar.{IsGrammatical};
-    ghost use Rattle.mpeg_scan.specs.Scans.{HasScannedBytes, IsReady, IsRefusedInPiece, bytes_fed, open_slices};
+    ghost use Rattle.mpeg_scan.specs.Scans.{HasScannedBytes, IsReady, IsRefusedInPiece, bytes_fed};
+    ghost use Rattle.mpeg_scan.specs.Scans.{open_slices};
     ghost use Rattle.mpeg_scan.specs.Scans.{refused_by};
     ghost use Rattle.mpeg_scan.specs.Tiles.{Tiles};
     ghost use Rattle.mpeg_scan.specs.Words.{rate_of};
