@@ -129,16 +129,10 @@ pub(crate) fn code_fault(tally: &Tally, place: u64, kind: u8) -> Option<FilmFaul
     requires { HasRoom tally.now place }
     ensures { result ≡ code_fault tally.now place kind }
 {
-    if let Some(fault) = kind_fault(tally, place, kind) {
-        return Some(fault);
-    }
-    if let Some(fault) = second_fault(tally, kind) {
-        return Some(fault);
-    }
-    if let Some(fault) = first_slice_fault(tally, place, kind) {
-        return Some(fault);
-    }
-    count_fault(tally, place, kind)
+    kind_fault(tally, place, kind)
+        .or_else(|| second_fault(tally, kind))
+        .or_else(|| first_slice_fault(tally, place, kind))
+        .or_else(|| count_fault(tally, place, kind))
 }
 
 /// The refusal at a film's end, once the headers are judged.
