@@ -5,7 +5,7 @@ use Rattle.std.proofs.lemmas.List.{take_more_set, length-take-le}
 use Rattle.std.proofs.lemmas.Bool.{false≢true, eqb-true, lt-ltb, le-ltb}
 use Rattle.mpeg_scan.specs.declared.codes.Prefix.TheVariants.{Nothing, Zero, Zeros, Whole}
 use Rattle.mpeg_scan.specs.Texts.{text_with}
-use Rattle.mpeg_scan.specs.Codes.{back, latest_prefix, after_one, after_zero, next_prefix}
+use Rattle.mpeg_scan.specs.Codes.{byte_back, latest_prefix, after_one, after_zero, next_prefix}
 
 -- p1, p0: the byte is 1, 0; a1, a0: so is the one before it; z1, z2: the two before that are 0
 table : {p1 p0 a1 a0 : Bool} (z1 z2 : Bool) → (p1 ≡ true → p0 ≡ false) → (a1 ≡ true → a0 ≡ false)
@@ -35,7 +35,7 @@ apart x e = ap (λ n. eqb n 0) (eqb-true x 1 e)
 pub matched-more : (x : ℕ) (r : List ℕ) → latest_prefix (x ∷ r) ≡ next_prefix (latest_prefix r) x
 unfolding latest_prefix
 matched-more x r =
-    table (eqb (back r 1) 0) (eqb (back r 2) 0) (apart x) (apart (back r 0))
+    table (eqb (byte_back r 1) 0) (eqb (byte_back r 2) 0) (apart x) (apart (byte_back r 0))
 
 pub noted-by : (b : Bool) (text : List ℕ) (x : ℕ) → ltb (length text) 5 ≡ b → text_with text x ≡ cond b (text ++ x ∷ []) text
 unfolding text_with

@@ -7,7 +7,7 @@ use Rattle.std.proofs.lemmas.Bool.{and_from, false≢true}
 use Rattle.std.proofs.lemmas.List.{get_or_past}
 use Rattle.mpeg_scan.specs.declared.codes.Code.{Code}
 use Rattle.mpeg_scan.specs.declared.codes.Prefix.TheVariants.{Nothing, Zero, Zeros, Whole}
-use Rattle.mpeg_scan.specs.Codes.{read, back, latest_prefix, is_whole, note_latest, codes_of}
+use Rattle.mpeg_scan.specs.Codes.{read, byte_back, latest_prefix, is_whole, note_latest, codes_of}
 use Rattle.mpeg_scan.specs.Places.{StandsAt, HasCode}
 use Rattle.mpeg_scan.proofs.StepLemmas.{codes-none, codes-plain, codes-code}
 use Rattle.mpeg_scan.proofs.FilmLemmas.{length-read}
@@ -68,7 +68,7 @@ whole-test false true b e = absurd (false≢true e)
 whole-test false false true e = absurd (false≢true e)
 whole-test false false false e = absurd (false≢true e)
 
-back-there : (r : List ℕ) (k v : ℕ) → back r k ≡ v → v < 256 → k < length r
+back-there : (r : List ℕ) (k v : ℕ) → byte_back r k ≡ v → v < 256 → k < length r
 back-there r k v is small = elim (cases_lt k (length r)) [
   | inl below ↦ below
   | inr past ↦ absurd (let far = get_or_past r k 256 past in omega (arith, far, is))
@@ -77,13 +77,13 @@ back-there r k v is small = elim (cases_lt k (length r)) [
 pub whole-prefixed : (r : List ℕ) → is_whole (latest_prefix r) ≡ true → Prefixed r (length r - 3)
 unfolding latest_prefix
 whole-prefixed r e =
-    let test = whole-test (eqb (back r 0) 1 && (eqb (back r 1) 0 && eqb (back r 2) 0))
-    (eqb (back r 0) 0 && eqb (back r 1) 0) (eqb (back r 0) 0) e in
-    let parts = and_parts (eqb (back r 0) 1) (eqb (back r 1) 0 && eqb (back r 2) 0) test in
-    let zeros = and_parts (eqb (back r 1) 0) (eqb (back r 2) 0) parts.1 in
-    let one = eqb-true (back r 0) 1 parts.0 in
-    let zero1 = eqb-true (back r 1) 0 zeros.0 in
-    let zero2 = eqb-true (back r 2) 0 zeros.1 in
+    let test = whole-test (eqb (byte_back r 0) 1 && (eqb (byte_back r 1) 0 && eqb (byte_back r 2) 0))
+    (eqb (byte_back r 0) 0 && eqb (byte_back r 1) 0) (eqb (byte_back r 0) 0) e in
+    let parts = and_parts (eqb (byte_back r 0) 1) (eqb (byte_back r 1) 0 && eqb (byte_back r 2) 0) test in
+    let zeros = and_parts (eqb (byte_back r 1) 0) (eqb (byte_back r 2) 0) parts.1 in
+    let one = eqb-true (byte_back r 0) 1 parts.0 in
+    let zero1 = eqb-true (byte_back r 1) 0 zeros.0 in
+    let zero2 = eqb-true (byte_back r 2) 0 zeros.1 in
     let long : 2 < length r = back-there r 2 0 zero2 (lit< tt) in record {
       ends = omega arith;
       first = sym (at-back r (length r - 3) 2 (omega arith)) ∙ zero2;
@@ -94,12 +94,12 @@ whole-prefixed r e =
 prefixed-whole : (r : List ℕ) (i : ℕ) → Prefixed r i → is_whole (latest_prefix r) ≡ true
 unfolding latest_prefix
 prefixed-whole r i p =
-    let one : back r 0 ≡ 1 = at-back r (i + 2) 0 (omega (arith, p.ends)) ∙ p.third in
-    let zero1 : back r 1 ≡ 0 = at-back r (i + 1) 1 (omega (arith, p.ends)) ∙ p.second in
-    let zero2 : back r 2 ≡ 0 = at-back r i 2 (omega (arith, p.ends)) ∙ p.first in
-    ap (λ t. is_whole (cond t Whole (cond (eqb (back r 0) 0 && eqb (back r 1) 0) Zeros (cond (eqb (back r 0) 0) Zero Nothing))))
-    (and_from (eqb (back r 0) 1) (eqb (back r 1) 0 && eqb (back r 2) 0) (eq-eqb (back r 0) 1 one)
-    (and_from (eqb (back r 1) 0) (eqb (back r 2) 0) (eq-eqb (back r 1) 0 zero1) (eq-eqb (back r 2) 0 zero2)))
+    let one : byte_back r 0 ≡ 1 = at-back r (i + 2) 0 (omega (arith, p.ends)) ∙ p.third in
+    let zero1 : byte_back r 1 ≡ 0 = at-back r (i + 1) 1 (omega (arith, p.ends)) ∙ p.second in
+    let zero2 : byte_back r 2 ≡ 0 = at-back r i 2 (omega (arith, p.ends)) ∙ p.first in
+    ap (λ t. is_whole (cond t Whole (cond (eqb (byte_back r 0) 0 && eqb (byte_back r 1) 0) Zeros (cond (eqb (byte_back r 0) 0) Zero Nothing))))
+    (and_from (eqb (byte_back r 0) 1) (eqb (byte_back r 1) 0 && eqb (byte_back r 2) 0) (eq-eqb (byte_back r 0) 1 one)
+    (and_from (eqb (byte_back r 1) 0) (eqb (byte_back r 2) 0) (eq-eqb (byte_back r 1) 0 zero1) (eq-eqb (byte_back r 2) 0 zero2)))
 
 stands-more : (x : ℕ) (r : List ℕ) (i k : ℕ) → Stands r i k → Stands (x ∷ r) i k
 stands-more x r i k s = record {

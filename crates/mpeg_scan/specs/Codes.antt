@@ -11,16 +11,16 @@ abbrev pub read : List ℕ → List ℕ → List ℕ
 read r [] = r
 read r (x ∷ xs) = read (x ∷ r) xs
 
--- the bytes before the latest one: byte i back, or 256 where there is none
-abbrev pub back : List ℕ → ℕ → ℕ
-back r i = slice_index_or r i 256
+-- the byte i places back from the latest one, or 256 where there is none
+abbrev pub byte_back : List ℕ → ℕ → ℕ
+byte_back r i = slice_index_or r i 256
 
 -- how much of the prefix 00 00 01 stands at the end of the bytes, which are given the latest first
 unfoldable pub latest_prefix : List ℕ → Prefix
 latest_prefix r =
-    if back r 0 == 1 && (back r 1 == 0 && back r 2 == 0) then Whole
-    else (if back r 0 == 0 && back r 1 == 0 then Zeros
-    else (if back r 0 == 0 then Zero else Nothing))
+    if byte_back r 0 == 1 && (byte_back r 1 == 0 && byte_back r 2 == 0) then Whole
+    else (if byte_back r 0 == 0 && byte_back r 1 == 0 then Zeros
+    else (if byte_back r 0 == 0 then Zero else Nothing))
 
 -- the same once a byte 1, or a byte 0, or any byte is read
 abbrev pub after_one : Prefix → Prefix

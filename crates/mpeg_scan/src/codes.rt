@@ -2,7 +2,7 @@
 ghost use Rattle.std.specs.Prelude.{◌≡◌, ◌↔◌, IsTrue};
 ghost use Rattle.mpeg_scan.specs.Codes.{is_whole, next_prefix};
 
-use crate::texts::Text;
+use crate::header_bytes::HeaderBytes;
 
 /// How much of the start code prefix 00 00 01 the bytes so far end with (ISO/IEC 11172-2, 2.4.2.1).
 #[derive(Clone, Copy)]
@@ -58,5 +58,5 @@ pub(crate) struct Code {
     /// The byte after the prefix.
     pub(crate) kind: u8,
     /// The bytes after it, as far as they are kept.
-    pub(crate) text: Text,
+    pub(crate) text: HeaderBytes,
 }

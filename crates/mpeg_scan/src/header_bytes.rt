@@ -5,17 +5,17 @@ ghost use Rattle.mpeg_scan.specs.Texts.{text_with};
 
 use std::marker::Model;
 
-/// The bytes of a text that the headers of this standard's films are read from.
-pub(crate) const TEXT: u8 = 5;
+/// The most bytes that the fields of this standard's headers are read from.
+const LONGEST: u8 = 5;
 
 /// The first bytes after a start code, as far as they are read.
 #[derive(Drop)]
-pub(crate) struct Text {
+pub(crate) struct HeaderBytes {
     bytes: [u8; 5],
     len: u8,
 }
 
-impl Model for Text {
+impl Model for HeaderBytes {
     ghost Value = { List ℕ };
 
     ghost view = { λ t. take t.len t.bytes };
@@ -23,12 +23,12 @@ impl Model for Text {
     ghost invariant = { λ t. t.len ≤ 5 };
 }
 
-impl Text {
+impl HeaderBytes {
     /// No bytes.
-    pub(crate) fn new() -> Text
+    pub(crate) fn new() -> HeaderBytes
         ensures { result ≡ [] }
     {
-        Text {
+        HeaderBytes {
             bytes: [0; 5],
             len: 0,
         }
@@ -39,14 +39,14 @@ impl Text {
         ensures full { result ≡ not (nat_lt (length self.now) 5) }
         ensures bound { length self.now ≤ 5 }
     {
-        self.len == TEXT
+        self.len == LONGEST
     }
 
     /// Adds a byte, where there is room.
     pub(crate) fn note(&mut self, byte: u8)
         ensures { self.new ≡ text_with self.old byte }
     {
-        if self.len < TEXT {
+        if self.len < LONGEST {
             self.bytes[usize::from(self.len)] = byte;
             self.len += 1;
         }

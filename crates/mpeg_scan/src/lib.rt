@@ -7,11 +7,11 @@ mod collector;
 mod faults;
 mod films;
 mod found;
+mod header_bytes;
 mod laws;
 mod progress;
 mod scanner;
 mod tallies;
-mod texts;
 mod units;
 
 pub use codes::Prefix;

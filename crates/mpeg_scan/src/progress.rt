@@ -17,8 +17,8 @@ ghost use Rattle.mpeg_scan.specs.Scans.{scan_with_byte};
 use crate::codes::{Code, Prefix};
 use crate::faults::{FilmFault, ScanRefused, code_fault, header_fault, last_fault};
 use crate::found::{Found, tell};
+use crate::header_bytes::HeaderBytes;
 use crate::tallies::Tally;
-use crate::texts::Text;
 use crate::units::MAX_FILM_BYTES;
 use memchr::memchr;
 
@@ -130,7 +130,7 @@ impl Progress {
         self.latest = Some(Code {
             place,
             kind,
-            text: Text::new(),
+            text: HeaderBytes::new(),
         });
         Ok(())
     }
