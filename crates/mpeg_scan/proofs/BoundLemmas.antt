@@ -1,6 +1,6 @@
 -- The bounds of an accepted film: its rate code, its bytes and its units.
 use Rattle.std.proofs.Common.{ℕ, Bool, true, false, cond, eqb, ltb, ◌&&◌, ◌||◌, ◌+◌, ◌-◌, ◌^◌, ◌≤◌}
-use Rattle.std.proofs.Common.{◌≡◌, List, [], ◌∷◌, Option, Some, None, length, sym, ◌∙◌, ap, refl}
+use Rattle.std.proofs.Common.{◌≡◌, List, [], ◌∷◌, Option, Some, None, length, sym, ◌∙◌, ap}
 use Rattle.std.proofs.Common.{subst, arith}
 use Rattle.std.specs.Prelude.{unwrap_or}
 use Rattle.std.proofs.lemmas.Bool.{true≢false, or_parts, eq-eqb, ltb-false}
@@ -19,7 +19,9 @@ use Rattle.mpeg_scan.specs.Films.{units_in, refusal, film_calls}
 use Rattle.mpeg_scan.proofs.FilmLemmas.{length-read}
 use Rattle.mpeg_scan.proofs.StepLemmas.{accepted-older, otherwise-first, otherwise-second}
 use Rattle.mpeg_scan.proofs.StepLemmas.{pictures-bound, positive}
-use Rattle.mpeg_scan.proofs.TileLemmas.{accepted-whole, ended-none, first-is}
+use Rattle.mpeg_scan.proofs.StepLemmas.{some-cond-none}
+use Rattle.mpeg_scan.proofs.StepLemmas.{accepted-whole}
+use Rattle.mpeg_scan.proofs.TileLemmas.{ended-none, first-is}
 use Rattle.mpeg_scan.proofs.CountLemmas.{film-count}
 
 -- ---- the rate
@@ -27,11 +29,6 @@ use Rattle.mpeg_scan.proofs.CountLemmas.{film-count}
 -- a rate code of the standard
 abbrev pub IsRate : ℕ → Type 0
 IsRate rate = (1 ≤ rate) × (rate ≤ 8)
-
-pub some-cond-none : (b : Bool) (f : FilmFault) (rest : Option FilmFault) → cond b (Some f) rest ≡ None
-    → (b ≡ false) × (rest ≡ None)
-some-cond-none true f rest e = absurd (cc)
-some-cond-none false f rest e = (refl, e)
 
 judged-rate : (c : Code) → rate_fault None c ≡ None → IsRate (rate_code c)
 judged-rate c e =

@@ -5,6 +5,7 @@ use Rattle.std.proofs.Common.{sym, ◌∙◌, ap, refl, subst, arith}
 use Rattle.std.specs.Option.{is_some, option_map}
 use Rattle.std.proofs.lemmas.Bool.{ltb-true, ltb-false, lt-ltb, eqb-true, ne_eqb, eq-eqb}
 use Rattle.std.proofs.lemmas.Bool.{true≢false, and_from}
+use Rattle.std.proofs.lemmas.Bool.{cond-true}
 use Rattle.mpeg_scan.specs.declared.codes.Code.{Code}
 use Rattle.mpeg_scan.specs.declared.tallies.Header.{Header}
 use Rattle.mpeg_scan.specs.declared.tallies.Tally.{Tally}
@@ -19,9 +20,10 @@ use Rattle.mpeg_scan.specs.Calls.{Call, head_call, slice_call, unit_call, unit_a
 use Rattle.mpeg_scan.specs.Calls.{calls_at, calls_of, all_calls}
 use Rattle.mpeg_scan.specs.Counts.{Count, group_of, next_count, counts_after, no_count, AreNumbered}
 use Rattle.mpeg_scan.proofs.TileLemmas.{Told, raw_calls, told_at, slice-apart, first_slice-accepted}
-use Rattle.mpeg_scan.proofs.TileLemmas.{first-is, calls-nil, ended-none, accepted-whole}
+use Rattle.mpeg_scan.proofs.TileLemmas.{first-is, calls-nil, ended-none}
 use Rattle.mpeg_scan.proofs.StepLemmas.{accepted-older, code-accepted, otherwise-first}
 use Rattle.mpeg_scan.proofs.StepLemmas.{otherwise-second, calls-cons}
+use Rattle.mpeg_scan.proofs.StepLemmas.{accepted-whole}
 
 -- what a count has to do with the pictures, slices and groups of the codes: `has` says that the latest
 -- unit has its picture, n are its slices
@@ -251,14 +253,14 @@ pub second-none : (t : Tally) (kind : ℕ) → second_fault t kind ≡ None → 
     → is_some t.picture ≡ false
 second-none t kind e head none =
     no-picture t.picture
-    (sym (ap (λ b. cond b (option_map left_without_slices t.picture) None)
+    (sym (cond-true (is_head kind && eqb t.slices 0) (option_map left_without_slices t.picture) None
     (and_from (is_head kind) (eqb t.slices 0) head (eq-eqb t.slices 0 none))) ∙ e)
 
 pub first-some : (t : Tally) (place kind : ℕ) → first_slice_fault t place kind ≡ None → is_slice kind ≡ true
     → t.slices ≡ 0 → is_some t.picture ≡ true
 first-some t place kind e slice none =
     a-picture t place t.picture
-    (sym (ap (λ b. cond b (head_fault t place t.picture) None)
+    (sym (cond-true (is_slice kind && eqb t.slices 0) (head_fault t place t.picture) None
     (and_from (is_slice kind) (eqb t.slices 0) slice (eq-eqb t.slices 0 none))) ∙ e)
 
 pub second-accepted : (t : Tally) (place kind : ℕ) → code_fault t place kind ≡ None → second_fault t kind ≡ None

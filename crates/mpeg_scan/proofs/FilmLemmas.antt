@@ -1,16 +1,16 @@
 -- A whole film fed at once.
-use Rattle.std.proofs.Common.{ℕ, cond, ltb, ◌+◌, ◌^◌, ◌<◌, ◌≤◌, ◌≡◌, List, [], ◌∷◌, ◌++◌, Option}
+use Rattle.std.proofs.Common.{ℕ, ◌+◌, ◌^◌, ◌<◌, ◌≤◌, ◌≡◌, List, [], ◌∷◌, ◌++◌, Option}
 use Rattle.std.proofs.Common.{Some, None, Result, Err, length, ◌∙◌, ap, refl, arith}
-use Rattle.std.proofs.lemmas.Bool.{ne_eqb, le-ltb, lt-ltb}
 use Rattle.mpeg_scan.specs.declared.faults.FilmFault.{FilmFault}
 use Rattle.mpeg_scan.specs.declared.faults.ScanRefused.{ScanRefused}
-use Rattle.mpeg_scan.specs.declared.faults.FilmFault.TheVariants.{Empty, TooLong}
+use Rattle.mpeg_scan.specs.declared.faults.FilmFault.TheVariants.{TooLong}
 use Rattle.mpeg_scan.specs.declared.units.Unit.{Unit as PictureUnit}
 use Rattle.mpeg_scan.specs.Codes.{read, codes_of}
 use Rattle.mpeg_scan.specs.Faults.{first_refusal, first_fault, end_fault, refusal_of}
 use Rattle.mpeg_scan.specs.Calls.{Call, head_call, slice_call, unit_call, calls_of}
 use Rattle.mpeg_scan.specs.Films.{units_in, slices_in, refusal}
 use Rattle.mpeg_scan.proofs.StepLemmas.{codes-none}
+use Rattle.mpeg_scan.proofs.StepLemmas.{refusal-of_codes, refusal-of_many}
 
 -- an answer is one error
 pub same-error : {T : Type 0} {e f : ScanRefused} (r : Result T ScanRefused) → r ≡ Err e →
@@ -45,14 +45,8 @@ first_fault-none = ap first_fault codes-none
 -- a refusal at a code is the film's
 refusal-some : (r : List ℕ) (f : FilmFault) → 0 < length r → length r ≤ 2 ^ 40
     → first_fault (codes_of r) ≡ Some f → refusal_of r ≡ Some f
-unfolding refusal_of
 refusal-some r f some short is =
-    ap (λ b. cond b (Some Empty)
-    (cond (ltb (2 ^ 40) (length r)) (Some TooLong)
-    (first_refusal (first_fault (codes_of r)) (end_fault (codes_of r) (length r)))))
-    (ne_eqb (length r) 0 (λ none. absurd (omega arith)))
-    ∙ ap (λ b. cond b (Some TooLong)
-    (first_refusal (first_fault (codes_of r)) (end_fault (codes_of r) (length r)))) (le-ltb (2 ^ 40) (length r) short)
+    refusal-of_codes r some short
     ∙ ap (λ (o : Option FilmFault). first_refusal o (end_fault (codes_of r) (length r))) is
 
 apart : (f : FilmFault) → first_fault (codes_of []) ≡ Some f → ⊥
@@ -66,15 +60,5 @@ pub refusal-at_code : (bytes : List ℕ) (f : FilmFault) → length bytes ≤ 2 
     → first_fault (codes_of (read [] bytes)) ≡ Some f → refusal bytes ≡ Some f
 refusal-at_code bytes f short is = refusal-at (read [] bytes) f (omega (arith, length-read bytes [])) is
 
-too_long : (r : List ℕ) → 2 ^ 40 < length r → refusal_of r ≡ Some TooLong
-unfolding refusal_of
-too_long r long =
-    ap (λ b. cond b (Some Empty)
-    (cond (ltb (2 ^ 40) (length r)) (Some TooLong)
-    (first_refusal (first_fault (codes_of r)) (end_fault (codes_of r) (length r)))))
-    (ne_eqb (length r) 0 (λ none. absurd (omega arith)))
-    ∙ ap (λ b. cond b (Some TooLong)
-    (first_refusal (first_fault (codes_of r)) (end_fault (codes_of r) (length r)))) (lt-ltb (2 ^ 40) (length r) long)
-
 pub refusal-too_long : (bytes : List ℕ) → 2 ^ 40 < length bytes → refusal bytes ≡ Some TooLong
-refusal-too_long bytes long = too_long (read [] bytes) (omega (arith, length-read bytes []))
+refusal-too_long bytes long = refusal-of_many (read [] bytes) (omega (arith, length-read bytes []))

@@ -21,10 +21,12 @@ use Rattle.mpeg_scan.specs.Standard.{AnyKind, IsFirstCode, StandsThere}
 use Rattle.mpeg_scan.specs.Layout.{AreChained, BeginsSequence}
 use Rattle.mpeg_scan.proofs.StepLemmas.{accepted-older, otherwise-first, otherwise-second}
 use Rattle.mpeg_scan.proofs.StepLemmas.{calls-cons}
-use Rattle.mpeg_scan.proofs.TileLemmas.{Told, accepted-whole, ended-none, first-is, raw_calls}
+use Rattle.mpeg_scan.proofs.StepLemmas.{some-cond-none}
+use Rattle.mpeg_scan.proofs.StepLemmas.{accepted-whole}
+use Rattle.mpeg_scan.proofs.TileLemmas.{Told, ended-none, first-is, raw_calls}
 use Rattle.mpeg_scan.proofs.TileLemmas.{slice-apart, calls-nil, told_at}
 use Rattle.mpeg_scan.proofs.SpaceLemmas.{Spaced, all-below, placed-codes}
-use Rattle.mpeg_scan.proofs.BoundLemmas.{older-judged, sequence-judged, some-cond-none}
+use Rattle.mpeg_scan.proofs.BoundLemmas.{older-judged, sequence-judged}
 use Rattle.mpeg_scan.proofs.FilmLemmas.{length-read, units_in-append}
 use Rattle.mpeg_scan.proofs.PlaceLemmas.{at-bytes, codes-stand}
 use Rattle.mpeg_scan.proofs.TextLemmas.{Same, TextIs, TextsAre, codes-texts, text-byte}

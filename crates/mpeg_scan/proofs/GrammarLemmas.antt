@@ -12,7 +12,8 @@ use Rattle.mpeg_scan.specs.Grammar.{Phase, nowhere, in_head, after_picture, in_s
 use Rattle.mpeg_scan.specs.Grammar.{then_phase, phase_after, IsGrammatical}
 use Rattle.mpeg_scan.proofs.StepLemmas.{accepted-older, code-accepted, otherwise-first}
 use Rattle.mpeg_scan.proofs.StepLemmas.{otherwise-second}
-use Rattle.mpeg_scan.proofs.TileLemmas.{first-is, ended-none, accepted-whole}
+use Rattle.mpeg_scan.proofs.StepLemmas.{accepted-whole}
+use Rattle.mpeg_scan.proofs.TileLemmas.{first-is, ended-none}
 use Rattle.mpeg_scan.proofs.CountLemmas.{CodeFits, code-fits, some-cond}
 
 -- the phase that the words on codes tell: q: there are slices, has: there is a picture

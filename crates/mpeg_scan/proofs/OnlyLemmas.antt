@@ -22,22 +22,6 @@ use Rattle.mpeg_scan.proofs.StandardLemmas.{film-standard}
 
 -- ---- one unit
 
-abbrev make : ℕ → ℕ → ℕ → ℕ → ℕ → ℕ → ℕ → Kind → ℕ → Bool → Bool → PictureUnit
-make from head_end to first_slice slices temporal presentation kind vectors has_sequence
-    starts_group = record {
-      from = from;
-      head_end = head_end;
-      to = to;
-      first_slice = first_slice;
-      slices = slices;
-      temporal = temporal;
-      presentation = presentation;
-      kind = kind;
-      vectors = vectors;
-      has_sequence = has_sequence;
-      starts_group = starts_group;
-    }
-
 -- two units, field by field
 record AreSameFields (u v : PictureUnit) : Type 0 where
   from : u.from ≡ v.from
@@ -54,28 +38,27 @@ record AreSameFields (u v : PictureUnit) : Type 0 where
 
 same-unit : {u v : PictureUnit} → AreSameFields u v → u ≡ v
 same-unit {u} {v} same =
-    ap (λ (x : ℕ). make x u.head_end u.to u.first_slice u.slices u.temporal u.presentation
-    u.kind u.vectors u.has_sequence u.starts_group) same.from
-    ∙ ap (λ (x : ℕ). make v.from x u.to u.first_slice u.slices u.temporal u.presentation u.kind
-    u.vectors u.has_sequence u.starts_group) same.head_end
-    ∙ ap (λ (x : ℕ). make v.from v.head_end x u.first_slice u.slices u.temporal u.presentation
-    u.kind u.vectors u.has_sequence u.starts_group) same.to
-    ∙ ap (λ (x : ℕ). make v.from v.head_end v.to x u.slices u.temporal u.presentation u.kind
-    u.vectors u.has_sequence u.starts_group) same.first_slice
-    ∙ ap (λ (x : ℕ). make v.from v.head_end v.to v.first_slice x u.temporal u.presentation
-    u.kind u.vectors u.has_sequence u.starts_group) same.slices
-    ∙ ap (λ (x : ℕ). make v.from v.head_end v.to v.first_slice v.slices x u.presentation u.kind
-    u.vectors u.has_sequence u.starts_group) same.temporal
-    ∙ ap (λ (x : ℕ). make v.from v.head_end v.to v.first_slice v.slices v.temporal x u.kind
-    u.vectors u.has_sequence u.starts_group) same.presentation
-    ∙ ap (λ (x : Kind). make v.from v.head_end v.to v.first_slice v.slices v.temporal
-    v.presentation x u.vectors u.has_sequence u.starts_group) same.kind
-    ∙ ap (λ (x : ℕ). make v.from v.head_end v.to v.first_slice v.slices v.temporal
-    v.presentation v.kind x u.has_sequence u.starts_group) same.vectors
-    ∙ ap (λ (x : Bool). make v.from v.head_end v.to v.first_slice v.slices v.temporal
-    v.presentation v.kind v.vectors x u.starts_group) same.has_sequence
-    ∙ ap (λ (x : Bool). make v.from v.head_end v.to v.first_slice v.slices v.temporal
-    v.presentation v.kind v.vectors v.has_sequence x) same.starts_group
+    let a = record u { from = v.from } in
+    let b = record a { head_end = v.head_end } in
+    let c = record b { to = v.to } in
+    let d = record c { first_slice = v.first_slice } in
+    let e = record d { slices = v.slices } in
+    let f = record e { temporal = v.temporal } in
+    let g = record f { presentation = v.presentation } in
+    let h = record g { kind = v.kind } in
+    let i = record h { vectors = v.vectors } in
+    let j = record i { has_sequence = v.has_sequence } in
+    ap (λ (x : ℕ). record u { from = x }) same.from
+    ∙ ap (λ (x : ℕ). record a { head_end = x }) same.head_end
+    ∙ ap (λ (x : ℕ). record b { to = x }) same.to
+    ∙ ap (λ (x : ℕ). record c { first_slice = x }) same.first_slice
+    ∙ ap (λ (x : ℕ). record d { slices = x }) same.slices
+    ∙ ap (λ (x : ℕ). record e { temporal = x }) same.temporal
+    ∙ ap (λ (x : ℕ). record f { presentation = x }) same.presentation
+    ∙ ap (λ (x : Kind). record g { kind = x }) same.kind
+    ∙ ap (λ (x : ℕ). record h { vectors = x }) same.vectors
+    ∙ ap (λ (x : Bool). record i { has_sequence = x }) same.has_sequence
+    ∙ ap (λ (x : Bool). record j { starts_group = x }) same.starts_group
 
 bool-same : (a b : Bool) → (a ≡ true → b ≡ true) → (b ≡ true → a ≡ true) → a ≡ b
 bool-same true b one other = sym (one refl)

@@ -15,7 +15,8 @@ use Rattle.mpeg_scan.specs.Films.{IsFilm, slices_in}
 use Rattle.mpeg_scan.specs.Places.{HasCode, StandsAt}
 use Rattle.mpeg_scan.specs.Standard.{IsAmong, IsSliceKind, StandsThere, slice_places}
 use Rattle.mpeg_scan.proofs.StepLemmas.{otherwise-second, calls-cons}
-use Rattle.mpeg_scan.proofs.TileLemmas.{Told, accepted-whole, ended-none, raw_calls, slice-apart}
+use Rattle.mpeg_scan.proofs.StepLemmas.{accepted-whole}
+use Rattle.mpeg_scan.proofs.TileLemmas.{Told, ended-none, raw_calls, slice-apart}
 use Rattle.mpeg_scan.proofs.TileLemmas.{calls-nil, told_at}
 use Rattle.mpeg_scan.proofs.FilmLemmas.{slices_in-append}
 use Rattle.mpeg_scan.proofs.PlaceLemmas.{codes-stand}

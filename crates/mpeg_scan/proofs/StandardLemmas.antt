@@ -18,9 +18,9 @@ use Rattle.mpeg_scan.specs.Places.{HasCode, StandsAt}
 use Rattle.mpeg_scan.specs.Standard.{HasFields, IsFirstCode, IsUnitOf, NoneIn, StandsIn}
 use Rattle.mpeg_scan.specs.Standard.{type_number, vector_fields}
 use Rattle.mpeg_scan.proofs.StepLemmas.{otherwise-first, otherwise-second}
-use Rattle.mpeg_scan.proofs.TileLemmas.{accepted-whole}
+use Rattle.mpeg_scan.proofs.StepLemmas.{none-cond, some-cond-none}
+use Rattle.mpeg_scan.proofs.StepLemmas.{accepted-whole}
 use Rattle.mpeg_scan.proofs.SpaceLemmas.{placed-codes, room-after}
-use Rattle.mpeg_scan.proofs.BoundLemmas.{some-cond-none}
 use Rattle.mpeg_scan.proofs.FilmLemmas.{length-read}
 use Rattle.mpeg_scan.proofs.FirstLemmas.{AreJudged, older-are_judged}
 use Rattle.mpeg_scan.proofs.PlaceLemmas.{at-bytes, codes-stand}
@@ -57,10 +57,6 @@ picture-judged {a = false} {b = true} {h} f g na nb is e = absurd (true≢false 
 picture-judged {a = false} {b = false} {z = true} {h} f g na nb is e = e
 picture-judged {a = false} {b = false} {z = false} {h} f g na nb is e = absurd (false≢true is)
 
-type-judged : (b : Bool) (f : FilmFault) → cond b None (Some f) ≡ None → b ≡ true
-type-judged true f e = refl
-type-judged false f e = absurd (cc)
-
 record PictureLong (c : Code) (end : ℕ) : Type 0 where
   eight : c.place + 8 ≤ end
   nine : (type_of c ≡ 2) ⊎ (type_of c ≡ 3) → c.place + 9 ≤ end
@@ -91,7 +87,7 @@ picture-long rate c end is e =
     (ShortHeader c.place) (cond (leb 1 (type_of c) && leb (type_of c) 4) None (Some (BadType c.place))) judged in
     let lengths = or_parts (ltb (end - c.place) 8) ((eqb (type_of c) 2 || eqb (type_of c) 3) && ltb (end - c.place) 9) parts.0 in
     let types = and_parts (leb 1 (type_of c)) (leb (type_of c) 4)
-    (type-judged (leb 1 (type_of c) && leb (type_of c) 4) (BadType c.place) parts.1) in
+    (none-cond (leb 1 (type_of c) && leb (type_of c) 4) (BadType c.place) parts.1) in
     record {
       eight = omega (arith, ltb-false (end - c.place) 8 lengths.0);
       nine = λ two.

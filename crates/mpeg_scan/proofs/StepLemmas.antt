@@ -4,6 +4,7 @@ use Rattle.std.proofs.Common.{◌≡◌, List, [], ◌∷◌, ◌++◌, Option, 
 use Rattle.std.proofs.Common.{refl, subst, arith}
 use Rattle.std.specs.Option.{option_map}
 use Rattle.std.proofs.lemmas.Bool.{eqb-false, leb-false, ne_eqb, eq-eqb, le-ltb, lt-ltb}
+use Rattle.std.proofs.lemmas.Bool.{cond-true, cond-false}
 use Rattle.std.proofs.lemmas.List.{append_assoc}
 use Rattle.mpeg_scan.specs.declared.codes.Code.{Code}
 use Rattle.mpeg_scan.specs.declared.faults.FilmFault.{FilmFault}
@@ -24,20 +25,30 @@ use Rattle.mpeg_scan.proofs.CodeLemmas.{matched-more}
 pub positive : (n : ℕ) → eqb n 0 ≡ false → 0 < n
 positive n e = omega (arith, eqb-false n 0 e)
 
+-- a choice that came to no fault
+pub some-cond-none : (b : Bool) (f : FilmFault) (rest : Option FilmFault) → cond b (Some f) rest ≡ None
+    → (b ≡ false) × (rest ≡ None)
+some-cond-none true f rest e = absurd (cc)
+some-cond-none false f rest e = (refl, e)
+
+pub none-cond : (b : Bool) (f : FilmFault) → cond b None (Some f) ≡ None → b ≡ true
+none-cond true f e = refl
+none-cond false f e = absurd (cc)
+
 -- ---- the codes of a byte more
 
 pub codes-plain : (x : ℕ) (r : List ℕ) → is_whole (latest_prefix r) ≡ false → codes_of (x ∷ r) ≡ note_latest (codes_of r) x
 unfolding codes_of
 codes-plain x r e =
     let new : List Code = record { place = length r - 3; kind = x; text = [] } ∷ note_latest (codes_of r) x in
-    ap (λ b. cond b new (note_latest (codes_of r) x)) e
+    cond-false (is_whole (latest_prefix r)) new (note_latest (codes_of r) x) e
 
 pub codes-code : (x : ℕ) (r : List ℕ) → is_whole (latest_prefix r) ≡ true
     → codes_of (x ∷ r) ≡ record { place = length r - 3; kind = x; text = [] } ∷ note_latest (codes_of r) x
 unfolding codes_of
 codes-code x r e =
     let new : List Code = record { place = length r - 3; kind = x; text = [] } ∷ note_latest (codes_of r) x in
-    ap (λ b. cond b new (note_latest (codes_of r) x)) e
+    cond-true (is_whole (latest_prefix r)) new (note_latest (codes_of r) x) e
 
 pub latest-note : (past : List Code) (x : ℕ) → latest_of (note_latest past x) ≡ option_map (λ c. note c x) (latest_of past)
 latest-note [] x = refl
@@ -287,36 +298,52 @@ end_judgement-is s r kept =
     ∙ ap (end_judgement (latest_of (codes_of r)) (tally_of (older_of (codes_of r)))) kept.fed
     ∙ end_fault-is (codes_of r) (length r)
 
+-- the refusal of a film by its size, and else that of its codes
+abbrev codes_refusal : List ℕ → Option FilmFault
+codes_refusal r = first_refusal (first_fault (codes_of r)) (end_fault (codes_of r) (length r))
+
+abbrev sized_refusal : List ℕ → Option FilmFault
+sized_refusal r = cond (ltb (2 ^ 40) (length r)) (Some TooLong) (codes_refusal r)
+
+refusal-of_none : (r : List ℕ) → length r ≡ 0 → refusal_of r ≡ Some Empty
+unfolding refusal_of
+refusal-of_none r none = cond-true (eqb (length r) 0) (Some Empty) (sized_refusal r) (eq-eqb (length r) 0 none)
+
+refusal-of_some : (r : List ℕ) → 0 < length r → refusal_of r ≡ sized_refusal r
+unfolding refusal_of
+refusal-of_some r some =
+    cond-false (eqb (length r) 0) (Some Empty) (sized_refusal r) (ne_eqb (length r) 0 (λ none. absurd (omega arith)))
+
+pub refusal-of_many : (r : List ℕ) → 2 ^ 40 < length r → refusal_of r ≡ Some TooLong
+refusal-of_many r many =
+    refusal-of_some r (omega (arith, many))
+    ∙ cond-true (ltb (2 ^ 40) (length r)) (Some TooLong) (codes_refusal r) (lt-ltb (2 ^ 40) (length r) many)
+
+pub refusal-of_codes : (r : List ℕ) → 0 < length r → length r ≤ 2 ^ 40
+    → refusal_of r ≡ first_refusal (first_fault (codes_of r)) (end_fault (codes_of r) (length r))
+refusal-of_codes r some short =
+    refusal-of_some r some
+    ∙ cond-false (ltb (2 ^ 40) (length r)) (Some TooLong) (codes_refusal r) (le-ltb (2 ^ 40) (length r) short)
+
+-- that of an accepted film
+pub accepted-whole : (r : List ℕ) → refusal_of r ≡ None
+    → first_refusal (first_fault (codes_of r)) (end_fault (codes_of r) (length r)) ≡ None
+unfolding refusal_of
+accepted-whole r e =
+    (some-cond-none (ltb (2 ^ 40) (length r)) TooLong (codes_refusal r)
+    (some-cond-none (eqb (length r) 0) Empty (sized_refusal r) e).1).1
+
 refusal-by : (r : List ℕ) → 0 < length r → length r ≤ 2 ^ 40 → first_fault (codes_of r) ≡ None
     → refusal_of r ≡ end_fault (codes_of r) (length r)
-unfolding refusal_of
 refusal-by r some short accepted =
-    ap (λ b. cond b (Some Empty)
-    (cond (ltb (2 ^ 40) (length r)) (Some TooLong)
-    (first_refusal (first_fault (codes_of r)) (end_fault (codes_of r) (length r)))))
-    (ne_eqb (length r) 0 (λ none. absurd (omega arith)))
-    ∙ ap (λ b. cond b (Some TooLong)
-    (first_refusal (first_fault (codes_of r)) (end_fault (codes_of r) (length r)))) (le-ltb (2 ^ 40) (length r) short)
+    refusal-of_codes r some short
     ∙ ap (λ (f : Option FilmFault). first_refusal f (end_fault (codes_of r) (length r))) accepted
 
 pub refusal-empty : (s : Progress) (r : List ℕ) → s.fed ≡ 0 → HasRead s r → refusal_of r ≡ Some Empty
-unfolding refusal_of
-refusal-empty s r none kept =
-    ap (λ b. cond b (Some Empty)
-    (cond (ltb (2 ^ 40) (length r)) (Some TooLong)
-    (first_refusal (first_fault (codes_of r)) (end_fault (codes_of r) (length r)))))
-    (eq-eqb (length r) 0 (sym kept.fed ∙ none))
+refusal-empty s r none kept = refusal-of_none r (sym kept.fed ∙ none)
 
 pub refusal-long : (s : Progress) (r : List ℕ) → 2 ^ 40 < s.fed → HasRead s r → refusal_of r ≡ Some TooLong
-unfolding refusal_of
-refusal-long s r long kept =
-    let far : 2 ^ 40 < length r = omega (arith, kept.fed) in
-    ap (λ b. cond b (Some Empty)
-    (cond (ltb (2 ^ 40) (length r)) (Some TooLong)
-    (first_refusal (first_fault (codes_of r)) (end_fault (codes_of r) (length r)))))
-    (ne_eqb (length r) 0 (λ none. absurd (omega arith)))
-    ∙ ap (λ b. cond b (Some TooLong)
-    (first_refusal (first_fault (codes_of r)) (end_fault (codes_of r) (length r)))) (lt-ltb (2 ^ 40) (length r) far)
+refusal-long s r long kept = refusal-of_many r (omega (arith, kept.fed, long))
 
 pub refusal-is : (s : Progress) (r : List ℕ) → 0 < s.fed → s.fed ≤ 2 ^ 40 → HasRead s r
     → refusal_of r ≡ end_judgement s.latest s.tally s.fed

@@ -1,11 +1,12 @@
 -- The parts that are told of lie one after another.
 use Rattle.std.proofs.Common.{ℕ, suc, zero, Bool, true, false, not, cond, eqb, ltb, leb, ◌&&◌, ◌||◌}
-use Rattle.std.proofs.Common.{◌+◌, ◌-◌, ◌<◌, ◌≤◌, ◌≡◌, ◌⊎◌, ◌^◌, List, [], ◌∷◌, ◌++◌, Option, Some}
+use Rattle.std.proofs.Common.{◌+◌, ◌-◌, ◌<◌, ◌≤◌, ◌≡◌, ◌⊎◌, List, [], ◌∷◌, ◌++◌, Option, Some}
 use Rattle.std.proofs.Common.{None, length, sym, ◌∙◌, ap, refl, subst, inl, inr, arith}
-use Rattle.std.proofs.lemmas.Bool.{cases_Bool, ltb-true, ltb-false, leb-true, eqb-true, ne_eqb}
+use Rattle.std.proofs.lemmas.Bool.{ltb-true, ltb-false, leb-true, eqb-true, ne_eqb}
 use Rattle.std.proofs.lemmas.Bool.{eq-eqb, lt-ltb, le-ltb, le-leb, true≢false, and_parts, and_from}
+use Rattle.std.proofs.lemmas.Bool.{cond-true, cond-false}
 use Rattle.mpeg_scan.specs.declared.codes.Code.{Code}
-use Rattle.mpeg_scan.specs.declared.faults.FilmFault.TheVariants.{Empty, TooLong, SystemCode, Mpeg2}
+use Rattle.mpeg_scan.specs.declared.faults.FilmFault.TheVariants.{SystemCode, Mpeg2}
 use Rattle.mpeg_scan.specs.declared.faults.FilmFault.TheVariants.{NoSequence, HeadTooLong}
 use Rattle.mpeg_scan.specs.declared.tallies.Header.{Header}
 use Rattle.mpeg_scan.specs.declared.tallies.Tally.{Tally}
@@ -21,6 +22,7 @@ use Rattle.mpeg_scan.specs.Calls.{calls_at, calls_of, all_calls}
 use Rattle.mpeg_scan.specs.Tiles.{Part, between, within, next_part, parts_after, first_of, Tiles}
 use Rattle.mpeg_scan.proofs.StepLemmas.{accepted-older, code-accepted, otherwise-first}
 use Rattle.mpeg_scan.proofs.StepLemmas.{otherwise-second, calls-cons}
+use Rattle.mpeg_scan.proofs.StepLemmas.{accepted-whole, none-cond, some-cond-none}
 use Rattle.mpeg_scan.proofs.SpaceLemmas.{After, Spaced, placed-codes, room-after, slice-before}
 use Rattle.mpeg_scan.proofs.SpaceLemmas.{unit-before}
 
@@ -33,12 +35,12 @@ part_by n unit head_end slice = cond (eqb n 0) (between unit) (within unit head_
 part_by-none : (n unit head_end slice : ℕ) → n ≡ 0 → part_by n unit head_end slice ≡ between unit
 unfolding part_by
 part_by-none n unit head_end slice none =
-    ap (λ b. cond b (between unit) (within unit head_end slice (n - 1))) (eq-eqb n 0 none)
+    cond-true (eqb n 0) (between unit) (within unit head_end slice (n - 1)) (eq-eqb n 0 none)
 
 part_by-some : (n m unit head_end slice : ℕ) → n ≡ m + 1 → part_by n unit head_end slice ≡ within unit head_end slice m
 unfolding part_by
 part_by-some n m unit head_end slice some =
-    ap (λ b. cond b (between unit) (within unit head_end slice (n - 1))) (ne_eqb n 0 (λ none. absurd (omega arith)))
+    cond-false (eqb n 0) (between unit) (within unit head_end slice (n - 1)) (ne_eqb n 0 (λ none. absurd (omega arith)))
     ∙ ap (within unit head_end slice) (omega arith)
 
 takes-head : (unit place : ℕ) → unit < place → place - unit ≤ 1380
@@ -176,17 +178,14 @@ count-cases (suc m) = inr (m, omega arith)
 
 head-short : (t : Tally) (place : ℕ) (o : Option Header) → head_fault t place o ≡ None → place - t.unit ≤ 1380
 head-short t place None e = absurd (cc)
-head-short t place (Some p) e = elim (cases_Bool (ltb 1380 (place - t.unit))) [
-  | inl far ↦ (let left : Some (HeadTooLong t.unit) ≡ None =
-      sym (ap (λ b. cond b (Some (HeadTooLong t.unit)) None) far) ∙ e in absurd (cc))
-  | inr near ↦ ltb-false 1380 (place - t.unit) near
-]
+head-short t place (Some p) e =
+    ltb-false 1380 (place - t.unit) (some-cond-none (ltb 1380 (place - t.unit)) (HeadTooLong t.unit) None e).0
 
 pub first_slice-head : (t : Tally) (place kind : ℕ) → first_slice_fault t place kind ≡ None
     → is_slice kind ≡ true → t.slices ≡ 0 → place - t.unit ≤ 1380
 first_slice-head t place kind e slice none =
     head-short t place t.picture
-    (sym (ap (λ b. cond b (head_fault t place t.picture) None)
+    (sym (cond-true (is_slice kind && eqb t.slices 0) (head_fault t place t.picture) None
     (and_from (is_slice kind) (eqb t.slices 0) slice (eq-eqb t.slices 0 none))) ∙ e)
 
 -- what a code that isn't refused tells
@@ -263,17 +262,12 @@ calls-parts c (d ∷ past) accepted spaced =
 
 -- ---- the film's end
 
-unsliced : (b : Bool) (t : Tally) → ltb 0 t.slices ≡ false
-    → cond b (Some NoSequence) (cond (ltb 0 t.slices) None (Some (open_fault t t.picture))) ≡ None → ⊥
-unsliced true t none e = cc
-unsliced false t none e =
-    let left : Some (open_fault t t.picture) ≡ None = sym (ap (λ b. cond b None (Some (open_fault t t.picture))) none) ∙ e in cc
-
 pub ended-none : (t : Tally) → last_fault t ≡ None → 0 < t.slices
-ended-none t e = elim (cases_Bool (ltb 0 t.slices)) [
-  | inl some ↦ ltb-true 0 t.slices some
-  | inr none ↦ absurd (unsliced (not t.begun) t none e)
-]
+ended-none t e =
+    let open_ = open_fault t t.picture in
+    ltb-true 0 t.slices
+    (none-cond (ltb 0 t.slices) open_
+    (some-cond-none (not t.begun) NoSequence (cond (ltb 0 t.slices) None (Some open_)) e).1)
 
 end-step : (past : List Code) (n : ℕ) → 0 < slices_of past → slice_of past + 4 ≤ n
     → parts_after (Some (part_of past)) (unit_end (tally_of past) n) ≡ Some (between n)
@@ -298,30 +292,6 @@ whole-tiles (c ∷ past) n accepted ended spaced after =
     parts-append (Some (between (first_of (c ∷ past)))) (calls_of (c ∷ past)) (unit_end (tally_of (c ∷ past)) n)
     ∙ ap (λ (o : Option Part). parts_after o (unit_end (tally_of (c ∷ past)) n)) (calls-parts c past accepted spaced)
     ∙ end-step (c ∷ past) n some (slice-before (c ∷ past) n spaced after some)
-
-pub accepted-whole : (r : List ℕ) → refusal_of r ≡ None
-    → first_refusal (first_fault (codes_of r)) (end_fault (codes_of r) (length r)) ≡ None
-unfolding refusal_of
-accepted-whole r e = elim (cases_Bool (eqb (length r) 0)) [
-  | inl none ↦
-      (let left : Some Empty ≡ None =
-      sym (ap (λ b. cond b (Some Empty)
-      (cond (ltb (2 ^ 40) (length r)) (Some TooLong)
-      (first_refusal (first_fault (codes_of r)) (end_fault (codes_of r) (length r))))) none) ∙ e in absurd (cc))
-  | inr some ↦
-      (let past = sym
-      (ap (λ b. cond b (Some Empty)
-      (cond (ltb (2 ^ 40) (length r)) (Some TooLong)
-      (first_refusal (first_fault (codes_of r)) (end_fault (codes_of r) (length r))))) some) ∙ e in
-      elim (cases_Bool (ltb (2 ^ 40) (length r))) [
-        | inl far ↦ (let left : Some TooLong ≡ None =
-            sym (ap (λ b. cond b (Some TooLong)
-            (first_refusal (first_fault (codes_of r)) (end_fault (codes_of r) (length r)))) far) ∙ past in absurd (cc))
-        | inr near ↦
-            sym (ap (λ b. cond b (Some TooLong)
-            (first_refusal (first_fault (codes_of r)) (end_fault (codes_of r) (length r)))) near) ∙ past
-      ])
-]
 
 -- an accepted film is its units, one after another
 pub film-tiles : (r : List ℕ) → refusal_of r ≡ None → Tiles r (all_calls r)
