@@ -3,6 +3,7 @@ use Rattle.std.proofs.Common.{ℕ, suc, zero, Bool, true, false, not, cond, eqb,
 use Rattle.std.proofs.Common.{◌-◌, ◌<◌, ◌≤◌, ◌≡◌, List, [], ◌∷◌, ◌++◌, Option, Some, None, length}
 use Rattle.std.proofs.Common.{sym, ◌∙◌, ap, refl, subst, arith}
 use Rattle.std.specs.Option.{is_some, option_map}
+use Rattle.std.proofs.Math.Bool.{or-false}
 use Rattle.std.proofs.lemmas.Bool.{ltb-true, ltb-false, lt-ltb, eqb-true, ne_eqb, eq-eqb}
 use Rattle.std.proofs.lemmas.Bool.{true≢false, and_from}
 use Rattle.std.proofs.lemmas.Bool.{cond-true}
@@ -232,10 +233,6 @@ pub some-cond : (t b : Bool) (h : Header) (o : Option Header)
 some-cond true b h o = refl
 some-cond false true h o = refl
 some-cond false false h o = refl
-
-or-false : (b : Bool) → (b || false) ≡ b
-or-false true = refl
-or-false false = refl
 
 none-or-some : (n : ℕ) → eqb n 0 ≡ not (ltb 0 n)
 none-or-some zero = refl

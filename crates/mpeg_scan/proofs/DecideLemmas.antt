@@ -6,6 +6,7 @@ use Rattle.std.proofs.lemmas.Option.{none-some, same_Some}
 use Rattle.mpeg_scan.specs.declared.faults.FilmFault.{FilmFault}
 use Rattle.mpeg_scan.specs.Faults.{first_refusal}
 use Rattle.mpeg_scan.specs.Refusals.{Otherwise}
+use Rattle.mpeg_scan.proofs.StepLemmas.{some-cond-none}
 
 -- an answer is that of a relation
 abbrev pub Decides : (FilmFault → Type 0) → Option FilmFault → Type 0
@@ -48,17 +49,13 @@ cond-otherwise : (b : Bool) (h : FilmFault) (o : Option FilmFault) →
 cond-otherwise true h o = refl
 cond-otherwise false h o = refl
 
-cond-none : (b : Bool) (h : FilmFault) → cond b (Some h) None ≡ None → b ≡ false
-cond-none true h e = absurd (none-some h (sym e))
-cond-none false h e = refl
-
 pub both-cond : {P Q : FilmFault → Type 0} {b : Bool} {h : FilmFault} {o : Option FilmFault} →
     (b ≡ true → P h)
     → ((g : FilmFault) → P g → (b ≡ true) × (g ≡ h)) → (b ≡ false → Decides Q o)
     → Decides (Otherwise P Q) (cond b (Some h) o)
 both-cond {P} {Q} {b} {h} {o} one other rest =
     subst (λ (v : Option FilmFault). Decides (Otherwise P Q) v) (cond-otherwise b h o)
-    (both P Q (cond b (Some h) None) o (decide P b h one other) (λ none. rest (cond-none b h none)))
+    (both P Q (cond b (Some h) None) o (decide P b h one other) (λ none. rest (some-cond-none b h None none).0))
 
 otherwise-none : (o : Option FilmFault) → first_refusal o None ≡ o
 otherwise-none None = refl

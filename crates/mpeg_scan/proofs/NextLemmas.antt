@@ -49,17 +49,13 @@ with-more room far = record {
 -- ---- a byte more of the latest code
 
 -- that there is a rate, or a picture, is the same, whatever it is
-some-code : (b : Bool) (m n : ℕ) → IsSome (cond b (Some m) None) → IsSome (cond b (Some n) None)
-some-code true m n some = refl
-some-code false m n some = some
+some-cond : {A : Type 0} (b : Bool) (x y : A) (o : Option A) → IsSome (cond b (Some x) o) → IsSome (cond b (Some y) o)
+some-cond true x y o some = refl
+some-cond false x y o some = some
 
 some-rate : (rate : Option ℕ) (c : Code) (x : ℕ) → IsSome (rate_after rate c) → IsSome (rate_after rate (note c x))
-some-rate None c x some = some-code (eqb c.kind 0xb3) (rate_code c) (rate_code (note c x)) some
+some-rate None c x some = some-cond (eqb c.kind 0xb3) (rate_code c) (rate_code (note c x)) None some
 some-rate (Some rate) c x some = refl
-
-some-header : (z : Bool) (g h : Header) (o : Option Header) → IsSome (cond z (Some g) o) → IsSome (cond z (Some h) o)
-some-header true g h o some = refl
-some-header false g h o some = some
 
 room-noted : {p : ℕ} (c : Code) (t : Tally) (x : ℕ) → HasRoom (next t c) p → HasRoom (next t (note c x)) p
 unfolding next
@@ -67,7 +63,7 @@ room-noted c t x room = record {
   from = room.from;
   unit = room.unit;
   slice = room.slice;
-  picture = λ some. some-header (eqb c.kind 0) (header_of c) (header_of (note c x))
+  picture = λ some. some-cond (eqb c.kind 0) (header_of c) (header_of (note c x))
       (cond (next_begins t c.kind) None t.picture) (room.picture some);
   rate = λ begun. some-rate t.rate c x (room.rate begun);
   counts = record {

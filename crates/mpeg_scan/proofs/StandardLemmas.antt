@@ -2,7 +2,8 @@
 use Rattle.std.proofs.Common.{ℕ, Bool, true, false, cond, eqb, ltb, leb, ◌&&◌, ◌||◌, ◌+◌, ◌-◌, ◌*◌}
 use Rattle.std.proofs.Common.{◌/◌, ◌%◌, ◌<◌, ◌≤◌, ◌≡◌, ◌⊎◌, ◌↔◌, List, [], ◌∷◌, Option, Some, None}
 use Rattle.std.proofs.Common.{length, get_or, slice_get, sym, ◌∙◌, ap, refl, subst, inl, inr, arith}
-use Rattle.std.proofs.lemmas.Bool.{cases_lt, eq-eqb, ne_eqb, leb-true, ltb-false, or_parts}
+use Rattle.std.proofs.lemmas.Bool.{or_right, cases_lt, eq-eqb, ne_eqb, leb-true, ltb-false}
+use Rattle.std.proofs.lemmas.Bool.{or_parts}
 use Rattle.std.proofs.lemmas.Bool.{and_parts, true≢false, false≢true}
 use Rattle.mpeg_scan.specs.declared.codes.Code.{Code}
 use Rattle.mpeg_scan.specs.declared.faults.FilmFault.{FilmFault}
@@ -63,13 +64,9 @@ record PictureLong (c : Code) (end : ℕ) : Type 0 where
   low : 1 ≤ type_of c
   high : type_of c ≤ 4
 
-or-true : (a b : Bool) → b ≡ true → (a || b) ≡ true
-or-true true b e = refl
-or-true false b e = e
-
 or-set : (t : ℕ) → (t ≡ 2) ⊎ (t ≡ 3) → (eqb t 2 || eqb t 3) ≡ true
 or-set t (inl e) = ap (λ b. b || eqb t 3) (eq-eqb t 2 e)
-or-set t (inr e) = or-true (eqb t 2) (eqb t 3) (eq-eqb t 3 e)
+or-set t (inr e) = or_right (eqb t 2) (eqb t 3) (eq-eqb t 3 e)
 
 nine-by : (a b : Bool) → (a && b) ≡ false → a ≡ true → b ≡ false
 nine-by true b none is = none
