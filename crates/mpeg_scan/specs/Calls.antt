@@ -15,6 +15,7 @@ pub data Call : Type 0 where
   slice_call : ℕ → ℕ → Call
   unit_call : PictureUnit → Call
 
+-- stands for the header of a unit without a picture, which no accepted film has
 abbrev pub no_header : Header
 no_header = record { place = 0; temporal = 0; kind = D; vectors = 0 }
 

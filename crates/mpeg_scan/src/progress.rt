@@ -1,8 +1,7 @@
 //! How far a film was read, and what a further byte does.
 ghost use Rattle.std.specs.Prelude.{◌≡◌, ℕ, ◌+◌, ◌^◌, ◌<◌, ◌≤◌, List, [], ◌∷◌, ◌++◌, Some, None};
 ghost use Rattle.std.specs.Prelude.{length, take, slice_index, IsSome, IsTrue, true, IfOk, IfErr};
-ghost use Rattle.std.specs.Prelude.{OnOk};
-ghost use Rattle.std.specs.Prelude.{MatchResult, ◌≢◌};
+ghost use Rattle.std.specs.Prelude.{MatchResult, OnOk, ◌≢◌};
 ghost use Rattle.std.specs.Option.{ForSome};
 ghost use Rattle.mpeg_scan.specs.Calls.{Call, calls_at, calls_of};
 ghost use Rattle.mpeg_scan.specs.Codes.{codes_of, read};
