@@ -4,7 +4,7 @@ ghost use Rattle.std.specs.Prelude.{◌≡◌, ◌<◌, ◌≤◌, Ok, false, No
 ghost use Rattle.std.specs.Prelude.{length as list_length, IfOk, IsSome, OnOk, OnErr, Some};
 ghost use Rattle.vod_base.specs.Links.{IsWithin, doing_of};
 ghost use Rattle.interleave.specs.Pieces.{IsFirst, IsRequestLength};
-ghost use Rattle.interleave.specs.declared.pieces.Step.TheVariants.{More, Request};
+ghost use Rattle.interleave.specs.declared.pieces.Step.TheVariants.{Request};
 ghost use Rattle.session.specs.Standings.{AreFilms, AreSettings, CanKeep, IsAtRest, IsHalt};
 ghost use Rattle.session.specs.Standings.{IsHandedIn, IsPlay, PlayAnswer, LookAnswer, OfferAnswer};
 ghost use Rattle.session.specs.Standings.{awaited_answer, open_of};
@@ -22,7 +22,7 @@ ghost use Rattle.vod_base.specs.Outside.{HasRisen};
 use crate::reports::ConnEnd;
 use early_start::Offers;
 use film_frames::Stored;
-use interleave::{Demux, DemuxFault, Step};
+use interleave::{Demux, DemuxFault, Step, law_few_wait};
 use plan_cert::Plan;
 use session::{Ask, Notes, Session, Settings, Slotted};
 use station::{Booking, PlayRefused, Seat, Station};
@@ -414,15 +414,6 @@ pub(crate) enum Taken {
     Waits,
     /// The connection ended.
     End(ConnEnd),
-}
-
-/// Where no whole piece waits, fewer than 81,920 bytes do: a whole head and body would be a piece.
-fn law_few_wait(input: &Demux)
-    ensures { IsFirst input.now (Ok More) → list_length input.now < 81920 }
-{
-    // the contracts of these two calls bound how many bytes wait
-    let waiting = input.waiting();
-    let _count = waiting.len();
 }
 
 /// How a framing fault ends a connection.

@@ -5,6 +5,7 @@ ghost use Rattle.std.specs.Prelude.{is_err, Ok, Err};
 ghost use Rattle.interleave.specs.Pieces.{IsFirst, AreLineEnds, StartsBlock, StartsRequest};
 ghost use Rattle.interleave.specs.Pieces.{block_length};
 ghost use Rattle.interleave.specs.Heads.{is_line_end};
+ghost use Rattle.interleave.specs.declared.pieces.Step.{Step};
 
 use crate::pieces::{DemuxFault, Step, is_line_end};
 use crate::requests::{Known, learn, request_step};
@@ -83,10 +84,12 @@ impl Demux {
     /// What stands in front of the waiting bytes, which stay.
     ///
     /// The answer follows from the waiting bytes alone. What was read of a request is remembered,
-    /// so that a call reads on where the last one ended.
+    /// so that a call reads on where the last one ended. While nothing whole stands in front, fewer
+    /// than 81,920 bytes wait: a head has at most 16,384 and a body at most 65,536.
     pub fn look(&mut self) -> Result<Step, DemuxFault>
         ensures waiting { self.new ≡ self.old }
         ensures first { IsFirst self.old result }
+        ensures few { result ≡ Ok Step.More → length self.old < 81920 }
     {
         let waiting = self.waiting();
         let Some(front) = waiting.first() else {
@@ -129,7 +132,8 @@ fn line_ends(bytes: &[u8]) -> usize
 /// The block in front, where it is whole.
 fn block_step(bytes: &[u8]) -> Step
     requires { StartsBlock bytes.now }
-    ensures { IsFirst bytes.now (Ok result) }
+    ensures first { IsFirst bytes.now (Ok result) }
+    ensures few { result ≡ Step.More → length bytes.now < 81920 }
 {
     if bytes.len() < 4 {
         return Step::More;

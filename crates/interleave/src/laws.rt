@@ -8,6 +8,7 @@ ghost use Rattle.interleave.specs.declared.pieces.DemuxFault.{DemuxFault};
 ghost use Rattle.interleave.specs.declared.pieces.Step.{Step};
 ghost use Rattle.interleave.specs.Pieces.{IsFirst, IsLongerSkip, IsWholePiece};
 
+use crate::demux::Demux;
 use crate::pieces::{DemuxFault, Step};
 
 /// Where a whole piece or a fault stands in front of the waiting bytes, it stands there whatever
@@ -97,3 +98,13 @@ pub fn law_block()
         IsFirst (36 ∷ channel ∷ (length content / 256) ∷ (length content % 256) ∷
         (content ++ later)) (Ok (Step.Block channel (4 + length content))) }
 {}
+
+/// Where neither a whole piece nor a fault is in front, fewer than 81,920 bytes wait: a head has at
+/// most 16,384, and a body at most 65,536.
+pub fn law_few_wait(demux: &Demux)
+    ensures { IsFirst demux.now (Ok Step.More) → length demux.now < 81920 }
+{
+    // the contracts of these two calls bound how many bytes a block's head tells
+    let waiting = demux.waiting();
+    let _count = waiting.len();
+}

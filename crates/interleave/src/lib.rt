@@ -10,8 +10,8 @@ mod requests;
 
 pub use demux::{Demux, TooMuchInput};
 pub use laws::{
-    law_block, law_cuts_agree, law_cuts_join, law_cutting, law_line_ends, law_next_pieces,
-    law_one_answer, law_one_stream, law_skipping, law_stream_grows,
+    law_block, law_cuts_agree, law_cuts_join, law_cutting, law_few_wait, law_line_ends,
+    law_next_pieces, law_one_answer, law_one_stream, law_skipping, law_stream_grows,
 };
 pub use pieces::{DemuxFault, Step, frame_head};
 

@@ -2,6 +2,7 @@
 ghost use Rattle.std.specs.Prelude.{◌≡◌, ◌+◌, ◌<◌, ◌≤◌, true, false, ℕ, length, MatchOption};
 ghost use Rattle.std.specs.Prelude.{MatchResult, Ok, Err};
 ghost use Rattle.interleave.specs.declared.pieces.DemuxFault.{DemuxFault};
+ghost use Rattle.interleave.specs.declared.pieces.Step.{Step};
 ghost use Rattle.interleave.specs.Heads.{empty_line_ends, HasNoHead, IsHead};
 ghost use Rattle.interleave.specs.Pieces.{IsFirst, StartsRequest};
 ghost use Rattle.interleave.specs.Known.{IsKnown, IsSettled};
@@ -42,7 +43,8 @@ pub(crate) fn learn(bytes: &[u8], known: Known) -> Result<Known, DemuxFault>
 pub(crate) fn request_step(bytes: &[u8], known: Known) -> Step
     requires request { StartsRequest bytes.now }
     requires known { IsSettled bytes.now known }
-    ensures { IsFirst bytes.now (Ok result) }
+    ensures first { IsFirst bytes.now (Ok result) }
+    ensures few { result ≡ Step.More → length bytes.now < 81920 }
 {
     match known {
         Known::Length(total) => {

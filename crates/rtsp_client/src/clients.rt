@@ -185,10 +185,7 @@ impl Client {
     {
         match self.input.look() {
             Err(_) => Err(WatchEnd::Fault(WatchFault::Framing)),
-            Ok(Step::More) => {
-                waits_little(self.input.waiting());
-                Ok(false)
-            }
+            Ok(Step::More) => Ok(false),
             Ok(Step::Skip(length)) => {
                 self.input.drop_front(length);
                 Ok(true)
@@ -437,12 +434,4 @@ fn cut_bytes(waiting: &[u8]) -> usize
         return 0;
     }
     waiting.len()
-}
-
-/// While no whole piece and no fault is in front, few bytes wait.
-fn waits_little(waiting: &[u8])
-    requires { IsFirst waiting.now (Ok More) }
-    ensures { list_length waiting.now ≤ 81920 }
-{
-    let _read = waiting.len();
 }

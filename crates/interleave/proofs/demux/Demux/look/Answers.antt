@@ -1,4 +1,4 @@
-use Rattle.std.proofs.Common.{ℕ, List, Ok, drop, refl, sym, subst, ◌∙◌}
+use Rattle.std.proofs.Common.{ℕ, List, Ok, drop, sym, subst, ◌∙◌}
 use Rattle.interleave.specs.Known.{IsKnown, IsSettled}
 use Rattle.interleave.specs.Pieces.{IsFirst}
 use Rattle.interleave.proofs.More.{settled_known}
@@ -18,14 +18,13 @@ pub learn-requires-clause-known : goal.learn-requires-clause-known
 learn-requires-clause-known c =
     subst (λ (l : List ℕ). IsKnown l c.self.inside.known) (c.self.view_is ∙ sym c.waiting-waiting.ensures) c.self.invariant.known
 
-pub returns : goal.returns
-returns c = record {
-  waiting = c.self.view_is;
-  first = subst (λ (l : List ℕ). IsFirst l (Ok c.request_step-step.result)) c.waiting-waiting.ensures c.request_step-step.ensures;
-}
+pub returns-clause-waiting : goal.returns-clause-waiting
+returns-clause-waiting c = c.self.view_is
 
-pub returns-then-front-eq36 : goal.returns-then-front-eq36
-returns-then-front-eq36 c = record {
-  waiting = refl;
-  first = subst (λ (l : List ℕ). IsFirst l (Ok c.block_step.result)) c.waiting-waiting.ensures c.block_step.ensures;
-}
+pub returns-clause-first : goal.returns-clause-first
+returns-clause-first c =
+    subst (λ (l : List ℕ). IsFirst l (Ok c.request_step-step.result)) c.waiting-waiting.ensures c.request_step-step.ensures.first
+
+pub returns-then-front-eq36-clause-first : goal.returns-then-front-eq36-clause-first
+returns-then-front-eq36-clause-first c =
+    subst (λ (l : List ℕ). IsFirst l (Ok c.block_step.result)) c.waiting-waiting.ensures c.block_step.ensures.first

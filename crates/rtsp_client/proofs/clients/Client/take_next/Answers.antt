@@ -8,10 +8,6 @@ use Rattle.rtsp_client.proofs.Cutting.{goes-on}
 use Rattle.rtsp_client.proofs.Taking.{keeps-moved, stopped-block, stopped-framing, stopped-reply, taken-block, taken-ends, taken-none, taken-reply}
 use Rattle.rtsp_client.proofs.clients.Client.take_next.Goals as goal
 
-pub waits_little-requires : goal.waits_little-requires
-waits_little-requires g c =
-    first_is c.in-Ok-More.ensures.first (c.waiting.ensures ∙ c.look.ensures.waiting) c.in-Ok-More.field-0-is
-
 pub returns-in-Err-clause-stopped : goal.returns-in-Err-clause-stopped
 returns-in-Err-clause-stopped g c = λ h k.
     stopped-framing c.in-Err.field-0
