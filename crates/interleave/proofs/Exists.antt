@@ -2,7 +2,7 @@
 use Rattle.std.proofs.Common.{◌≡◌, ℕ, zero, suc, ◌+◌, ◌-◌, ◌<◌, ◌≤◌, ◌⊎◌, Bool, true, false, eqb, ltb, leb, cond, ◌&&◌, List, [], ◌∷◌, length, take, drop, map, get_or, refl, sym, ◌∙◌, ap, subst, arith, inl, inr, slice_range}
 use Rattle.std.specs.Prelude.{codes}
 use Rattle.std.specs.Char.{to_ascii_lowercase}
-use Rattle.std.proofs.lemmas.Bool.{cases_Bool, cases_lt, and_parts, and_from, eqb-true, eq-eqb, ltb-true, lt-ltb, leb-true, le-leb}
+use Rattle.std.proofs.lemmas.Bool.{both_ways, cases_Bool, cases_lt, and_parts, and_from, eqb-true, eq-eqb, ltb-true, lt-ltb, leb-true, le-leb}
 use Rattle.std.proofs.lemmas.List.{length-drop}
 use Rattle.vod_base.specs.Blanks.{without_blanks}
 use Rattle.vod_base.specs.Lines.{IsLine}
@@ -11,7 +11,7 @@ use Rattle.interleave.specs.Lengths.{IsLengthLine, IsWrittenAt, IsBodyLength, wr
 use Rattle.interleave.specs.Pieces.{StartsBlock, StartsRequest, IsRequestLength, block_length}
 use Rattle.interleave.specs.Streams.{IsPieceLength, LineEnd, WholeBlock, WholeRequest, HasStream}
 use Rattle.interleave.proofs.Found.{found_head, long_body, no_line, whole_length}
-use Rattle.interleave.proofs.Unique.{clash_block_request, clash_short, head_once, not_both, not_long, total_once}
+use Rattle.interleave.proofs.Unique.{clash_block_request, clash_end_block, clash_short, head_once, not_long, total_once}
 
 -- ---- the first number below another for which a test holds
 
@@ -72,8 +72,8 @@ feeds w at k = leb at k && eqb (get_or w k 0) 10
 no_feed : (w : List ℕ) (at k : ℕ) → at ≤ k → feeds w at k ≡ false → get_or w k 0 ≡ 10 → ⊥
 unfolding feeds
 no_feed w at k after none is =
-    not_both (leb at k && eqb (get_or w k 0) 10)
-    (and_from (leb at k) (eqb (get_or w k 0) 10) (le-leb at k after) (eq-eqb (get_or w k 0) 10 is)) none
+    both_ways (leb at k && eqb (get_or w k 0) 10)
+    none (and_from (leb at k) (eqb (get_or w k 0) 10) (le-leb at k after) (eq-eqb (get_or w k 0) 10 is))
 
 line_found : (w : List ℕ) (at : ℕ) (f : Found (feeds w at) (length w)) → (text_end : ℕ) × IsLine w at text_end (f.at + 1)
 unfolding feeds
@@ -136,7 +136,7 @@ line-named w at line =
     (map to_ascii_lowercase (codes "Content-Length:"))) (eq-eqb (get_or w (at - 1) 0) 10 line.begins) name)
 
 unnamed : (w : List ℕ) (at : ℕ) → named w at ≡ false → IsLengthLine w at → ⊥
-unnamed w at none line = not_both (named w at) (line-named w at line) none
+unnamed w at none line = both_ways (named w at) none (line-named w at line)
 
 body : (head : List ℕ) → (n : ℕ) × IsBodyLength head n
 body head = elim (first_found (named head) (length head)) [
@@ -161,7 +161,7 @@ Decides w = ((n : ℕ) × IsPieceLength w n) ⊎ ((n : ℕ) → IsPieceLength w 
 -- where a request is in front, no other piece is
 only_request : (w : List ℕ) → StartsRequest w → ((n : ℕ) → IsRequestLength w n → n ≤ length w → ⊥) → (n : ℕ)
     → IsPieceLength w n → ⊥
-only_request w starts none n (LineEnd one some end) = not_both (is_line_end (get_or w 0 0)) end starts.1
+only_request w starts none n (LineEnd one some end) = both_ways (is_line_end (get_or w 0 0)) starts.1 end
 only_request w starts none n (WholeBlock block four size inside) = clash_block_request w block starts
 only_request w starts none n (WholeRequest request size inside) = none n size inside
 
@@ -196,8 +196,7 @@ request_decided w starts = elim (head_decided w) [
 
 -- where `$` is in front, only a block can be
 only_block : (w : List ℕ) → StartsBlock w → (4 ≤ length w → block_length w ≤ length w → ⊥) → (n : ℕ) → IsPieceLength w n → ⊥
-only_block w starts none n (LineEnd one some end) =
-    let other : is_line_end (get_or w 0 0) ≡ false = rw starts.1 refl in not_both (is_line_end (get_or w 0 0)) end other
+only_block w starts none n (LineEnd one some end) = clash_end_block w end starts
 only_block w starts none n (WholeBlock block four size inside) = none four (omega (arith, size, inside))
 only_block w starts none n (WholeRequest request size inside) = clash_block_request w starts request
 

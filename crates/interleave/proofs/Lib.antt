@@ -1,8 +1,8 @@
 pub mod Cuts
 pub mod Found
 pub mod More
-pub mod Skips
+mod Skips
 pub mod Streams
 pub mod Unique
-pub mod Fronts
-pub mod Exists
+mod Fronts
+mod Exists

@@ -1,8 +1,9 @@
 -- The pieces of a stream, however its bytes come.
-use Rattle.std.proofs.Common.{◌≡◌, ℕ, zero, suc, ◌<◌, ◌≤◌, List, [], ◌∷◌, ◌++◌, Result, Ok, Err, length, take, drop, map, get_or, refl, sym, ◌∙◌, ap, subst, arith, inl, inr, true, false}
+use Rattle.std.proofs.Common.{◌≡◌, ℕ, zero, suc, ◌<◌, ◌≤◌, List, [], ◌∷◌, ◌++◌, Result, Ok, Err, length, take, drop, map, get_or, refl, sym, ◌∙◌, ap, subst, arith, inl, inr, true}
+use Rattle.std.proofs.lemmas.Bool.{both_ways}
 use Rattle.std.proofs.lemmas.List.{take-append-le, drop-append-le, get_or_append_left, length-append, append_assoc, append-nil}
 use Rattle.interleave.specs.Heads.{is_line_end}
-use Rattle.interleave.specs.Pieces.{StartsBlock, IsFirst}
+use Rattle.interleave.specs.Pieces.{IsFirst}
 use Rattle.interleave.specs.Streams.{IsPieceLength, LineEnd, WholeBlock, WholeRequest, AreCut, DoAgree, IsStream, told_pieces, told_length, TellsNone}
 use Rattle.interleave.specs.declared.pieces.Step.{Step}
 use Rattle.interleave.specs.declared.pieces.Step.TheVariants.{Request, Block, Skip, More}
@@ -10,7 +11,7 @@ use Rattle.interleave.specs.declared.pieces.DemuxFault.{DemuxFault}
 use Rattle.interleave.specs.declared.pieces.DemuxFault.TheVariants.{HeadTooLong, BodyTooLong}
 use Rattle.interleave.proofs.Cuts.{StartsBlock-append, StartsRequest-append, block_length-append}
 use Rattle.interleave.proofs.More.{IsRequestLength-append}
-use Rattle.interleave.proofs.Unique.{not_both, total_once, clash_block_request, clash_head, not_long, more_block, more_request}
+use Rattle.interleave.proofs.Unique.{total_once, clash_block_request, clash_end_block, clash_head, not_long, more_block, more_request}
 
 pub piece_within : (w : List ℕ) (n : ℕ) → IsPieceLength w n → n ≤ length w
 piece_within w n (LineEnd one some end) = omega (arith, one, some)
@@ -27,22 +28,18 @@ piece_stays w v n (WholeBlock starts four size inside) =
 piece_stays w v n (WholeRequest starts size inside) =
     WholeRequest (StartsRequest-append w v starts) (IsRequestLength-append w v n size) (omega (arith, length-append w v, inside))
 
-no_line_block : (w : List ℕ) → is_line_end (get_or w 0 0) ≡ true → StartsBlock w → ⊥
-no_line_block w end b = let other : is_line_end (get_or w 0 0) ≡ false =
-    rw b.1 refl in not_both (is_line_end (get_or w 0 0)) end other
-
 -- a whole piece has one length
 pub piece_once : (w : List ℕ) (a b : ℕ) → IsPieceLength w a → IsPieceLength w b → a ≡ b
 piece_once w a b (LineEnd one some end) (LineEnd one' some' end') = one ∙ sym one'
-piece_once w a b (LineEnd one some end) (WholeBlock starts four size inside) = absurd (no_line_block w end starts)
+piece_once w a b (LineEnd one some end) (WholeBlock starts four size inside) = absurd (clash_end_block w end starts)
 piece_once w a b (LineEnd one some end) (WholeRequest starts size inside) =
-    absurd (not_both (is_line_end (get_or w 0 0)) end starts.1)
-piece_once w a b (WholeBlock starts four size inside) (LineEnd one some end) = absurd (no_line_block w end starts)
+    absurd (both_ways (is_line_end (get_or w 0 0)) starts.1 end)
+piece_once w a b (WholeBlock starts four size inside) (LineEnd one some end) = absurd (clash_end_block w end starts)
 piece_once w a b (WholeBlock starts four size inside) (WholeBlock starts' four' size' inside') = size ∙ sym size'
 piece_once w a b (WholeBlock starts four size inside) (WholeRequest starts' size' inside') =
     absurd (clash_block_request w starts starts')
 piece_once w a b (WholeRequest starts size inside) (LineEnd one some end) =
-    absurd (not_both (is_line_end (get_or w 0 0)) end starts.1)
+    absurd (both_ways (is_line_end (get_or w 0 0)) starts.1 end)
 piece_once w a b (WholeRequest starts size inside) (WholeBlock starts' four' size' inside') =
     absurd (clash_block_request w starts' starts)
 piece_once w a b (WholeRequest starts size inside) (WholeRequest starts' size' inside') = total_once w a b size size'
@@ -170,8 +167,8 @@ next_pieces rest (Err fault) h w ps cut = no_more w ps rest cut
 
 no_line_end : (w : List ℕ) → 0 < length w → is_line_end (get_or w 0 0) ≡ true → IsFirst w (Ok More) → ⊥
 no_line_end w some end (inl e) = omega (arith, some, e)
-no_line_end w some end (inr (inl b)) = no_line_block w end b.0
-no_line_end w some end (inr (inr r)) = not_both (is_line_end (get_or w 0 0)) end r.0.1
+no_line_end w some end (inr (inl b)) = clash_end_block w end b.0
+no_line_end w some end (inr (inr r)) = both_ways (is_line_end (get_or w 0 0)) r.0.1 end
 
 none_waits : (w : List ℕ) → IsFirst w (Ok More) → (n : ℕ) → IsPieceLength w n → ⊥
 none_waits w h n (LineEnd one some end) = no_line_end w some end h
@@ -179,12 +176,12 @@ none_waits w h n (WholeBlock starts four size inside) = more_block w (get_or w 1
 none_waits w h n (WholeRequest starts size inside) = more_request w n (starts, size, inside) h
 
 none_headless : (w : List ℕ) → IsFirst w (Err HeadTooLong) → (n : ℕ) → IsPieceLength w n → ⊥
-none_headless w h n (LineEnd one some end) = not_both (is_line_end (get_or w 0 0)) end h.0.1
+none_headless w h n (LineEnd one some end) = both_ways (is_line_end (get_or w 0 0)) h.0.1 end
 none_headless w h n (WholeBlock starts four size inside) = clash_block_request w starts h.0
 none_headless w h n (WholeRequest starts size inside) = clash_head w size.head size.is_head size.fits h.2
 
 none_long : (w : List ℕ) → IsFirst w (Err BodyTooLong) → (n : ℕ) → IsPieceLength w n → ⊥
-none_long w h n (LineEnd one some end) = not_both (is_line_end (get_or w 0 0)) end h.0.1
+none_long w h n (LineEnd one some end) = both_ways (is_line_end (get_or w 0 0)) h.0.1 end
 none_long w h n (WholeBlock starts four size inside) = clash_block_request w starts h.0
 none_long w h n (WholeRequest starts size inside) = not_long w n size h.1
 

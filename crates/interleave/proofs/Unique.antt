@@ -1,6 +1,6 @@
 -- Only one answer fits the waiting bytes.
-use Rattle.std.proofs.Common.{◌≡◌, ℕ, ◌+◌, ◌-◌, ◌<◌, ◌≤◌, List, Result, Ok, Err, length, take, get_or, refl, sym, ◌∙◌, ap, subst, arith, inl, inr, true, false, Bool, ◌==◌}
-use Rattle.std.proofs.lemmas.Bool.{cases_order}
+use Rattle.std.proofs.Common.{◌≡◌, ℕ, ◌+◌, ◌-◌, ◌<◌, ◌≤◌, List, Result, Ok, Err, length, take, get_or, refl, sym, ◌∙◌, ap, subst, arith, inl, inr, true, false, ◌==◌}
+use Rattle.std.proofs.lemmas.Bool.{both_ways, cases_order}
 use Rattle.vod_base.specs.Lines.{IsLine, HasNoLine}
 use Rattle.interleave.specs.Heads.{is_line_end, empty_line_ends, HasNoHead, IsHead}
 use Rattle.interleave.specs.Lengths.{IsWrittenAt, IsBodyLength}
@@ -10,25 +10,21 @@ use Rattle.interleave.specs.declared.pieces.Step.TheVariants.{Request, Block, Sk
 use Rattle.interleave.specs.declared.pieces.DemuxFault.{DemuxFault}
 use Rattle.interleave.specs.declared.pieces.DemuxFault.TheVariants.{HeadTooLong, BodyTooLong}
 
--- a test doesn't answer both
-pub not_both : (b : Bool) → b ≡ true → b ≡ false → ⊥
-not_both b holds fails = let bad : true ≡ false = sym holds ∙ fails in cc
-
 pub line_ends_once : (w : List ℕ) (n m : ℕ) → AreLineEnds w n → AreLineEnds w m → n ≡ m
 line_ends_once w n m a b =
     elim (cases_order n m) [
       | inl same ↦ same
-      | inr (inl less) ↦ absurd (not_both (is_line_end (get_or w n 0)) (b.line_ends n less) (a.last (omega (arith, b.within))))
-      | inr (inr less) ↦ absurd (not_both (is_line_end (get_or w m 0)) (a.line_ends m less) (b.last (omega (arith, a.within))))
+      | inr (inl less) ↦ absurd (both_ways (is_line_end (get_or w n 0)) (a.last (omega (arith, b.within))) (b.line_ends n less))
+      | inr (inr less) ↦ absurd (both_ways (is_line_end (get_or w m 0)) (b.last (omega (arith, a.within))) (a.line_ends m less))
     ]
 
 -- no head lies before the first one
 pub head_after : (w : List ℕ) (head n : ℕ) → IsHead w head → HasNoHead w n → n < head
 head_after w head n h none =
     elim (cases_order n head) [
-      | inl same ↦ absurd (not_both (empty_line_ends w (head - 1)) h.ends (none (head - 1) (omega (arith, h.some, same))))
+      | inl same ↦ absurd (both_ways (empty_line_ends w (head - 1)) (none (head - 1) (omega (arith, h.some, same))) h.ends)
       | inr (inl less) ↦ less
-      | inr (inr more) ↦ absurd (not_both (empty_line_ends w (head - 1)) h.ends (none (head - 1) (omega (arith, h.some))))
+      | inr (inr more) ↦ absurd (both_ways (empty_line_ends w (head - 1)) (none (head - 1) (omega (arith, h.some))) h.ends)
     ]
 
 pub head_once : (w : List ℕ) (a b : ℕ) → IsHead w a → IsHead w b → a ≡ b
@@ -89,18 +85,21 @@ not_long w total x y =
     let body : x.body ≡ y.long.0 = body_once x.is_head y.is_head x.is_body y.long.1.1 in
     omega (arith, body, x.small, y.long.1.0)
 
+-- no block begins with CR or LF
+pub clash_end_block : (w : List ℕ) → is_line_end (get_or w 0 0) ≡ true → StartsBlock w → ⊥
+clash_end_block w end b =
+    let other : is_line_end (get_or w 0 0) ≡ false = rw b.1 refl in both_ways (is_line_end (get_or w 0 0)) other end
+
 pub clash_ends_block : (w : List ℕ) (n : ℕ) → (0 < n) × AreLineEnds w n → StartsBlock w → ⊥
-clash_ends_block w n h b =
-    let other : is_line_end (get_or w 0 0) ≡ false = rw b.1 refl in
-    not_both (is_line_end (get_or w 0 0)) (h.1.line_ends 0 h.0) other
+clash_ends_block w n h = clash_end_block w (h.1.line_ends 0 h.0)
 
 pub clash_ends_request : (w : List ℕ) (n : ℕ) → (0 < n) × AreLineEnds w n → StartsRequest w → ⊥
-clash_ends_request w n h r = not_both (is_line_end (get_or w 0 0)) (h.1.line_ends 0 h.0) r.1
+clash_ends_request w n h r = both_ways (is_line_end (get_or w 0 0)) r.1 (h.1.line_ends 0 h.0)
 
 pub clash_block_request : (w : List ℕ) → StartsBlock w → StartsRequest w → ⊥
 clash_block_request w b r =
     let dollar : (get_or w 0 0 == 36) ≡ true = rw b.1 refl in
-    not_both (get_or w 0 0 == 36) dollar r.2
+    both_ways (get_or w 0 0 == 36) r.2 dollar
 
 pub clash_head : (w : List ℕ) (head : ℕ) → IsHead w head → head ≤ 16384 → HasNoHead w 16384 → ⊥
 clash_head w head h fits none = let after = head_after w head 16384 h none in omega (arith, after)

@@ -1,6 +1,6 @@
 -- The pieces of a connection's input that are taken up, one after another: each byte CR or LF, each block, each request.
 use Rattle.std.proofs.Common.{◌≡◌, ◌⊎◌, ℕ, zero, suc, ◌<◌, ◌≤◌, ◌++◌, true, false, List, [], ◌∷◌, Ok, Err, length, take, drop, get_or, refl, ap, sym, ◌∙◌, subst, inl, inr, arith}
-use Rattle.std.proofs.lemmas.Bool.{true≢false}
+use Rattle.std.proofs.lemmas.Bool.{both_ways, true≢false}
 use Rattle.std.proofs.lemmas.List.{append-nil, append_assoc, take-append-le, drop-append-le, length-append, get_or_append_left}
 use Rattle.interleave.specs.Heads.{is_line_end}
 use Rattle.interleave.specs.Pieces.{IsFirst, StartsBlock, StartsRequest, block_length}
@@ -9,7 +9,7 @@ use Rattle.interleave.specs.declared.pieces.Step.TheVariants.{More, Request}
 use Rattle.interleave.specs.declared.pieces.DemuxFault.TheVariants.{HeadTooLong as LongHead, BodyTooLong as LongBody}
 use Rattle.interleave.proofs.Cuts.{StartsBlock-append, block_length-append, whole_stays}
 use Rattle.interleave.proofs.Streams.{piece_once, tells_none}
-use Rattle.interleave.proofs.Unique.{clash_block_request, not_both, total_once}
+use Rattle.interleave.proofs.Unique.{clash_block_request, total_once}
 use Rattle.session.specs.declared.asks.Ask.{Ask}
 use Rattle.session.specs.Hearings.{Hears}
 use Rattle.session.specs.Ranges.{AreFilms}
@@ -59,7 +59,7 @@ over_grows input more n (ABlock starts four size inside) =
     (omega (arith, length-append input more, inside))
 
 over_no_request : (input : List ℕ) (n : ℕ) → IsOver input n → StartsRequest input → ⊥
-over_no_request input n (AnEnd one some end) starts = not_both (is_line_end (get_or input 0 0)) end starts.1
+over_no_request input n (AnEnd one some end) starts = both_ways (is_line_end (get_or input 0 0)) starts.1 end
 over_no_request input n (ABlock block four size inside) starts = clash_block_request input block starts
 
 pub record IsTaken (old : Stage) (turn : Turn) (new : Stage) : Type 0 where
