@@ -6,7 +6,7 @@ ghost use Rattle.film_frames.specs.Tables.{IsFrameRow, IsRow, IsSound, row_piece
 
 use crate::pieces::Piece;
 use mpeg_scan::Unit;
-use rtp_pack::{FRAME_HEADS, Packet};
+use rtp_pack::{FRAME_HEADS, packet};
 
 /// What is kept of a report or a frame beside its place: 8 bytes.
 #[derive(Clone, Copy)]
@@ -64,17 +64,7 @@ impl Row {
             Kept::Report => Piece::Report(*unit),
             Kept::Frame { begin, end } => {
                 let to = from + (size - FRAME_HEADS);
-                Piece::Frame(
-                    *unit,
-                    Packet {
-                        from,
-                        to,
-                        marker: to == unit.to,
-                        begin,
-                        end,
-                        sequence_header: unit.has_sequence && from == unit.from,
-                    },
-                )
+                Piece::Frame(*unit, packet(unit, from, to, begin, end))
             }
         }
     }

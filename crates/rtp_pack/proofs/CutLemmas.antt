@@ -1,6 +1,7 @@
 -- The rules for cutting leave one list, and the packets of a unit meet them.
 use Rattle.std.proofs.Common.{◌≡◌, ℕ, zero, suc, ◌+◌, ◌*◌, ◌<◌, ◌≤◌, Bool, true, false, List, []}
 use Rattle.std.proofs.Common.{◌∷◌, ◌++◌, refl, sym, ap, subst, ◌∙◌, arith, inl, inr}
+use Rattle.std.proofs.lemmas.Bool.{both_ways}
 use Rattle.mpeg_scan.specs.declared.units.Unit.{Unit as PictureUnit}
 use Rattle.rtp_pack.specs.declared.filling.Filling.{Filling}
 use Rattle.rtp_pack.specs.declared.payloads.Packet.{Packet}
@@ -9,9 +10,6 @@ use Rattle.rtp_pack.specs.Cutting.{goes_in, last_start, next_filling, start_of}
 use Rattle.rtp_pack.specs.Packets.{before_slice, full_packets, packets_from}
 
 -- ---- one list
-
-pub not_both : (b : Bool) → b ≡ true → b ≡ false → ⊥
-not_both b holds fails = let bad : true ≡ false = sym holds ∙ fails in cc
 
 pub full-once : {a b : ℕ} (start end : ℕ) → start + 1380 * a < end → end ≤ start + 1380 * a + 1380
     → start + 1380 * b < end → end ≤ start + 1380 * b + 1380 → a ≡ b
@@ -29,8 +27,8 @@ pub one-cutting : (slices : List ℕ) (f : Filling) (a b : List ℕ) → Cuts f 
 one-cutting [] f a b x y = x ∙ sym y
 one-cutting (n ∷ slices) f a b (inl x) (inl y) =
     one-fill (λ last p q. one-cutting slices (filling_after f n last) p q) x.1 y.1
-one-cutting (n ∷ slices) f a b (inl x) (inr y) = absurd (not_both (goes_in f n) x.0 y.0)
-one-cutting (n ∷ slices) f a b (inr x) (inl y) = absurd (not_both (goes_in f n) y.0 x.0)
+one-cutting (n ∷ slices) f a b (inl x) (inr y) = absurd (both_ways (goes_in f n) y.0 x.0)
+one-cutting (n ∷ slices) f a b (inr x) (inl y) = absurd (both_ways (goes_in f n) x.0 y.0)
 one-cutting (n ∷ slices) f a b (inr x) (inr y) =
     let rest : x.1.0 ≡ y.1.0 = one-fill (λ last p q. one-cutting slices (filling_after f n last) p q) x.1.1.1 y.1.1.1 in
     x.1.1.0 ∙ ap (λ (r : List ℕ). f.at ∷ r) rest ∙ sym y.1.1.0

@@ -2,7 +2,7 @@
 use Rattle.std.proofs.Common.{◌≡◌, ℕ, zero, suc, ◌+◌, ◌*◌, ◌<◌, ◌≤◌, Bool, true, false, cond, eqb}
 use Rattle.std.proofs.Common.{leb, List, [], ◌∷◌, ◌++◌, sum, refl, sym, ap, subst, ◌∙◌, arith, inl}
 use Rattle.std.proofs.Common.{inr}
-use Rattle.std.proofs.lemmas.Bool.{cases_Bool, eq-eqb, le-leb, leb-true}
+use Rattle.std.proofs.lemmas.Bool.{both_ways, cases_Bool, eq-eqb, le-leb, leb-true, or_left, or_right}
 use Rattle.std.proofs.lemmas.List.Sums.{sum_by-cons}
 use Rattle.rtp_pack.specs.declared.filling.Filling.{Filling}
 use Rattle.rtp_pack.specs.declared.filling.Holds.{Holds}
@@ -11,8 +11,6 @@ use Rattle.rtp_pack.specs.Cutting.{Cuts, filling_after, full_ends, goes_in, goes
 use Rattle.rtp_pack.specs.Cutting.{goes_in_whole, holds_after, start_of}
 use Rattle.rtp_pack.specs.Laws.{ArePieces, AreShortUncut, DoLongEndPieces, IsUncut}
 use Rattle.rtp_pack.specs.Packets.{is_among}
-use Rattle.rtp_pack.proofs.CutLemmas.{not_both}
-use Rattle.std.proofs.lemmas.Bool.{or_left, or_right}
 use Rattle.rtp_pack.proofs.FlagLemmas.{FullBefore, none-full, start-room}
 
 -- ---- pieces
@@ -185,7 +183,7 @@ goes-not f n last =
 fragment-ends : (slices : List ℕ) (f : Filling) (cuts : List ℕ) → f.holds ≡ LastFragment → Cuts f slices cuts
     → is_among f.at cuts ≡ true
 fragment-ends [] f cuts last e = ap (λ (l : List ℕ). is_among f.at l) e ∙ or_left (eqb f.at f.at) false (eq-eqb f.at f.at refl)
-fragment-ends (n ∷ slices) f cuts last (inl x) = absurd (not_both (goes_in f n) x.0 (goes-not f n last))
+fragment-ends (n ∷ slices) f cuts last (inl x) = absurd (both_ways (goes_in f n) (goes-not f n last) x.0)
 fragment-ends (n ∷ slices) f cuts last (inr x) =
     ap (λ (l : List ℕ). is_among f.at l) x.1.1.0 ∙ or_left (eqb f.at f.at) (is_among f.at x.1.0) (eq-eqb f.at f.at refl)
 

@@ -1,8 +1,8 @@
-pub mod PackLemmas
-pub mod CutLemmas
+mod PackLemmas
+mod CutLemmas
 pub mod SizeLemmas
-pub mod FlagLemmas
+mod FlagLemmas
 pub mod UnitLemmas
-pub mod LawLemmas
+mod LawLemmas
 pub mod MarkLemmas
-pub mod RuleLemmas
+mod RuleLemmas

@@ -2,8 +2,8 @@
 use Rattle.std.proofs.Common.{◌≡◌, ℕ, zero, suc, ◌+◌, ◌*◌, ◌<◌, ◌≤◌, ◌⊎◌, Bool, true, false, cond}
 use Rattle.std.proofs.Common.{eqb, leb, ◌||◌, List, [], ◌∷◌, ◌++◌, sum, refl, sym, ap, subst, ◌∙◌}
 use Rattle.std.proofs.Common.{arith, inl, inr}
-use Rattle.std.proofs.lemmas.Bool.{cases_lt, cases_order, eq-eqb, ne_eqb, le-leb, lt-leb, leb-false}
-use Rattle.std.proofs.lemmas.Bool.{le-ltb, ltb-false}
+use Rattle.std.proofs.lemmas.Bool.{both_ways, cases_lt, cases_order, eq-eqb, ne_eqb, le-leb, lt-leb, leb-false}
+use Rattle.std.proofs.lemmas.Bool.{le-ltb, ltb-false, or_right}
 use Rattle.mpeg_scan.specs.declared.units.Kind.TheVariants.{I}
 use Rattle.mpeg_scan.specs.declared.units.Unit.{Unit as PictureUnit}
 use Rattle.rtp_pack.specs.declared.filling.Filling.{Filling}
@@ -14,8 +14,7 @@ use Rattle.rtp_pack.specs.Cutting.{goes_in_cut, goes_in_whole, holds_after}
 use Rattle.rtp_pack.specs.Laws.{ArePieces, AreShortUncut, DoLongEndPieces, IsUncut}
 use Rattle.rtp_pack.specs.Packets.{is_among, packets_from}
 use Rattle.rtp_pack.specs.Rules.{HaveBytes, IsCutPlace, MayAllEnd, MayEnd, MeetsRules, SliceAt}
-use Rattle.rtp_pack.proofs.CutLemmas.{AreSome, ends, not_both, packets-cut}
-use Rattle.std.proofs.lemmas.Bool.{or_right}
+use Rattle.rtp_pack.proofs.CutLemmas.{AreSome, ends, packets-cut}
 use Rattle.rtp_pack.proofs.LawLemmas.{among-full, cuts-from, head-uncut, long-ends, pieces-cover}
 use Rattle.rtp_pack.proofs.LawLemmas.{short-uncut}
 
@@ -183,7 +182,7 @@ DoLongBegin f slices cuts =
 begin-cut : (slices : List ℕ) (f : Filling) (cuts : List ℕ) → Cuts f slices cuts → DoLongBegin f slices cuts
 begin-cut [] f cuts e place length is long goes = absurd is
 begin-cut (n ∷ slices) f cuts (inl x) place length (inl here) long goes =
-    absurd (not_both (goes_in f n) x.0 (ap (λ m. goes_in f m) here.1 ∙ goes (sym here.0)))
+    absurd (both_ways (goes_in f n) (ap (λ m. goes_in f m) here.1 ∙ goes (sym here.0)) x.0)
 begin-cut (n ∷ slices) f cuts (inl x) place length (inr later) long goes =
     let g = filling_after f n (f.from + 1380 * x.1.full) in
     ap (λ (l : List ℕ). is_among place l) x.1.filled

@@ -7,7 +7,7 @@ use Rattle.rtp_pack.specs.Cutting.{IsCutting, first_piece}
 use Rattle.rtp_pack.specs.Packets.{ArePackets, AreInOrder, DoCover, IsLaid, frames_size, lengths_to}
 use Rattle.rtp_pack.specs.Packets.{next_place, piece_packets, unit_lengths, unit_packets}
 use Rattle.rtp_pack.specs.Packets.{unit_starts}
-use Rattle.rtp_pack.specs.Sizes.{measure_from_head, bytes_of, cuts_size, frames_of, measure_of, with_slice}
+use Rattle.rtp_pack.specs.Sizes.{IsPacked, measure_from_head, bytes_of, cuts_size, frames_of, measure_of, with_slice}
 use Rattle.rtp_pack.specs.Sizes.{with_slices, Measure}
 use Rattle.rtp_pack.proofs.CutLemmas.{AreSome, ends, packets-cut}
 use Rattle.rtp_pack.proofs.FlagLemmas.{first-right, flags}
@@ -94,3 +94,15 @@ packets-bound starts unit laid =
     (lengths-long (unit_starts starts unit) unit.head_end unit.to laid.in_order) in
     let bytes = lengths-bytes (unit_starts starts unit) unit.head_end unit.to (measure_from_head head) laid.in_order in
     omega (arith, packets-size starts unit laid, kept.whole, bytes, laid.head)
+
+pub packed : (starts : List ℕ) (unit : PictureUnit) (packets : List Packet) → IsLaid starts unit
+    → packets ≡ unit_packets starts unit → IsPacked starts unit packets
+packed starts unit packets laid list =
+    subst (λ (l : List Packet). IsPacked starts unit l) (sym list)
+    (record {
+      list = refl;
+      rules = packets-are starts unit laid;
+      cover = packets-cover starts unit laid;
+      size = packets-size starts unit laid;
+      bound = packets-bound starts unit laid;
+    })

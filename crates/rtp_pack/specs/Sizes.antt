@@ -5,7 +5,8 @@ use Rattle.std.specs.Prelude.{◌++◌}
 use Rattle.rtp_pack.specs.declared.filling.Filling.{Filling}
 use Rattle.rtp_pack.specs.declared.filling.Holds.TheVariants.{LastFragment}
 use Rattle.mpeg_scan.specs.declared.units.Unit.{Unit as PictureUnit}
-use Rattle.rtp_pack.specs.Packets.{unit_lengths}
+use Rattle.rtp_pack.specs.declared.payloads.Packet.{Packet}
+use Rattle.rtp_pack.specs.Packets.{ArePackets, DoCover, frames_size, unit_lengths, unit_packets}
 use Rattle.rtp_pack.specs.Cutting.{IsCutting, goes_in, start_of, full_before, next_filling}
 use Rattle.rtp_pack.specs.Cutting.{first_piece}
 
@@ -61,6 +62,17 @@ frames_of m = bytes_of m + 20 * (m.pieces + 1)
 abbrev pub unit_size : List ℕ → PictureUnit → ℕ
 unit_size slice_starts unit =
     frames_of (measure_of (unit.head_end - unit.from) (unit_lengths slice_starts unit))
+
+-- these are the packets of a unit, by the places of its film's slices: the one list that the rules
+-- for cutting leave, whose payloads cover the unit in order, and whose frames have the unit's size.
+-- With a report of 52 bytes, a unit of L bytes takes at most 2 * L + 112
+pub record IsPacked (slice_starts : List ℕ) (unit : PictureUnit) (packets : List Packet)
+    : Type 0 where
+  pub list : packets ≡ unit_packets slice_starts unit
+  pub rules : ArePackets slice_starts unit packets
+  pub cover : DoCover unit.from packets unit.to
+  pub size : frames_size packets ≡ unit_size slice_starts unit
+  pub bound : frames_size packets + 52 ≤ 2 * (unit.to - unit.from) + 112
 
 -- the frames of pieces from a place on that end at these cut points: 20 bytes of heads each, and
 -- the piece

@@ -1,5 +1,5 @@
 //! What holds of every cutting, of the headers and of the times in them.
-ghost use Rattle.std.specs.Prelude.{◌≡◌, ◌+◌, ◌*◌, ◌%◌, ◌^◌, ◌<◌, ◌≤◌, ◌++◌, ℕ, List, length, sum};
+ghost use Rattle.std.specs.Prelude.{◌≡◌, ◌+◌, ◌*◌, ◌%◌, ◌^◌, ◌<◌, ◌≤◌, ◌++◌, ℕ, List, sum};
 ghost use Rattle.std.specs.Prelude.{Ok};
 ghost use Rattle.mpeg_scan.specs.declared.units.Unit.{Unit as PictureUnit};
 ghost use Rattle.rtp_pack.specs.declared.heads.Head.{Head as RtpHead};
@@ -13,11 +13,11 @@ ghost use Rattle.rtp_pack.specs.Laws.{ArePieces, AreShortUncut, DoLongEndPieces,
 ghost use Rattle.rtp_pack.specs.Laws.{IsUncut};
 ghost use Rattle.rtp_pack.specs.Reports.{report_bytes, media_time};
 ghost use Rattle.rtp_pack.specs.Rules.{HaveBytes, MeetsRules};
-ghost use Rattle.rtp_pack.specs.Packets.{ArePackets, DoCover, IsLaid, OfUnit};
+ghost use Rattle.rtp_pack.specs.Packets.{ArePackets, DoCover};
 
 use crate::heads::Head;
 use crate::payloads::Packet;
-use mpeg_scan::{Film, Unit};
+use mpeg_scan::Unit;
 
 /// The rules for cutting leave one list: two lists of cut points that meet them for one unit are
 /// equal.
@@ -52,15 +52,6 @@ pub fn law_last_marked(unit: &Unit, slice_starts: &[u64], packets: &[Packet])
     ensures { IsLastMarked packets.now }
 {
     let _read = (unit.to, slice_starts.len(), packets.len());
-}
-
-/// The units of a film lie in its bytes. Each has a head of 1 to 1,380 bytes and at least one
-/// slice, and its slices, of at least 4 bytes each, lie one after another to its end.
-pub fn law_unit_laid(film: &Film, unit: usize)
-    ensures within { OfUnit film.now.units.items unit (λ u. u.to ≤ length film.now.bytes.items) }
-    ensures laid { OfUnit film.now.units.items unit (λ u. IsLaid film.now.slice_starts.items u) }
-{
-    let _read = (film.bytes.len(), unit);
 }
 
 /// A head is read back from what is written of it, whatever follows.

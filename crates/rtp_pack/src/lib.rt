@@ -16,8 +16,9 @@ pub use heads::{
 };
 pub use laws::{
     law_cutting, law_head_read_back, law_last_marked, law_media_times, law_one_cutting,
-    law_report_fields, law_rtp_header, law_rules, law_unit_laid, law_video_header,
+    law_report_fields, law_rtp_header, law_rules, law_video_header,
 };
+pub use packer::packet;
 pub use payloads::{Packet, packets, refill_packets};
 pub use reports::{Identity, REPORT_BYTES, Report, unit_report, write_report};
 pub use sizes::{FRAME_HEADS, UnitSize};

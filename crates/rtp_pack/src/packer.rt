@@ -2,10 +2,9 @@
 ghost use Rattle.std.specs.Prelude.{◌≡◌, ◌+◌, ◌-◌, ◌*◌, ◌<◌, ◌≤◌, ◌++◌, [], ◌∷◌, true, drop};
 ghost use Rattle.std.specs.Prelude.{length, IfOk, OnOk};
 ghost use Rattle.rtp_pack.specs.Cutting.{full_before, goes_in, last_start, next_filling, start_of};
-ghost use Rattle.rtp_pack.specs.Packets.{ArePackets, DoCover, IsLaid, before_slice, filling_packet};
-ghost use Rattle.rtp_pack.specs.Packets.{frames_size, full_packets, next_place, packet};
-ghost use Rattle.rtp_pack.specs.Packets.{slice_packets, unit_packets};
-ghost use Rattle.rtp_pack.specs.Sizes.{unit_size};
+ghost use Rattle.rtp_pack.specs.Packets.{IsLaid, before_slice, filling_packet, full_packets};
+ghost use Rattle.rtp_pack.specs.Packets.{next_place, packet, slice_packets};
+ghost use Rattle.rtp_pack.specs.Sizes.{IsPacked};
 
 use crate::filling::{Filling, Holds, PAYLOAD, full_before, goes_in, holds_after};
 use crate::payloads::Packet;
@@ -19,13 +18,7 @@ pub(crate) fn pack(
     slice_starts: &[u64],
 ) -> Result<(), NoMemory>
     requires { IsLaid slice_starts.now unit.now }
-    ensures list { OnOk result (packets.new.items ≡ unit_packets slice_starts.now unit.now) }
-    ensures rules { OnOk result (ArePackets slice_starts.now unit.now packets.new.items) }
-    ensures cover { OnOk result (DoCover unit.now.from packets.new.items unit.now.to) }
-    ensures size { OnOk result (frames_size packets.new.items ≡
-        unit_size slice_starts.now unit.now) }
-    ensures bound { OnOk result
-        (frames_size packets.new.items + 52 ≤ 2 * (unit.now.to - unit.now.from) + 112) }
+    ensures { OnOk result (IsPacked slice_starts.now unit.now packets.new.items) }
 {
     let first = unit.first_slice as usize;
     let starts = &slice_starts[first..first + unit.slices as usize];
@@ -43,8 +36,9 @@ pub(crate) fn pack(
     Ok(())
 }
 
-/// The packet of a piece, where it is known whether it begins and ends with a slice.
-fn packet(unit: &Unit, from: u64, to: u64, begin: bool, end: bool) -> Packet
+/// The packet of the unit's bytes from a place to another, where it is known whether they begin and
+/// end with a slice (RFC 2250 section 3.4).
+pub fn packet(unit: &Unit, from: u64, to: u64, begin: bool, end: bool) -> Packet
     ensures { result ≡ packet unit.now from to begin end }
 {
     Packet {

@@ -1,7 +1,7 @@
 //! A packet, and the packets of a unit of a film.
-ghost use Rattle.std.specs.Prelude.{◌≡◌, ◌+◌, ◌-◌, ◌*◌, ◌<◌, ◌≤◌, length, IfOk, OnOk};
-ghost use Rattle.rtp_pack.specs.Packets.{ArePackets, DoCover, OfUnit, frames_size, unit_packets};
-ghost use Rattle.rtp_pack.specs.Sizes.{unit_size};
+ghost use Rattle.std.specs.Prelude.{◌<◌, length, IfOk, OnOk};
+ghost use Rattle.rtp_pack.specs.Packets.{OfUnit};
+ghost use Rattle.rtp_pack.specs.Sizes.{IsPacked};
 
 use crate::packer::pack;
 use mpeg_scan::Film;
@@ -33,16 +33,8 @@ pub struct Packet {
 /// [`NoMemory`] alone.
 pub fn packets(alloc: Global, film: &Film, unit: usize) -> Result<Vec<Packet>, NoMemory>
     requires { unit < length film.now.units.items }
-    ensures list { OfUnit film.now.units.items unit (λ u.
-        IfOk result (λ p. p.items ≡ unit_packets film.now.slice_starts.items u)) }
-    ensures rules { OfUnit film.now.units.items unit (λ u.
-        IfOk result (λ p. ArePackets film.now.slice_starts.items u p.items)) }
-    ensures cover { OfUnit film.now.units.items unit (λ u.
-        IfOk result (λ p. DoCover u.from p.items u.to)) }
-    ensures size { OfUnit film.now.units.items unit (λ u.
-        IfOk result (λ p. frames_size p.items ≡ unit_size film.now.slice_starts.items u)) }
-    ensures bound { OfUnit film.now.units.items unit (λ u.
-        IfOk result (λ p. frames_size p.items + 52 ≤ 2 * (u.to - u.from) + 112)) }
+    ensures { OfUnit film.now.units.items unit (λ u.
+        IfOk result (λ p. IsPacked film.now.slice_starts.items u p.items)) }
 {
     let mut packets = Vec::new(alloc);
     pack(&mut packets, &film.units[unit], &film.slice_starts)?;
@@ -53,8 +45,8 @@ pub fn packets(alloc: Global, film: &Film, unit: usize) -> Result<Vec<Packet>, N
 /// memory only where they are more than the list had room for.
 pub fn refill_packets(packets: &mut Vec<Packet>, film: &Film, unit: usize) -> Result<(), NoMemory>
     requires { unit < length film.now.units.items }
-    ensures { OfUnit film.now.units.items unit
-        (λ u. OnOk result (packets.new.items ≡ unit_packets film.now.slice_starts.items u)) }
+    ensures { OfUnit film.now.units.items unit (λ u.
+        OnOk result (IsPacked film.now.slice_starts.items u packets.new.items)) }
 {
     pack(packets, &film.units[unit], &film.slice_starts)
 }

@@ -6,8 +6,8 @@ ghost use Rattle.std.specs.Prelude.{◌≤◌, ◌^◌};
 
 use crate::{
     Head, HeadFault, Identity, Packet, Report, UnitSize, law_cutting, law_head_read_back,
-    law_last_marked, law_one_cutting, law_unit_laid, media_timestamp, packet_head, packets,
-    read_head, refill_packets, unit_report, video_header, write_head, write_report,
+    law_last_marked, law_one_cutting, media_timestamp, packet_head, packets, read_head,
+    refill_packets, unit_report, video_header, write_head, write_report,
 };
 use mpeg_scan::{Film, Kind, Unit, scan};
 use std::alloc::Global;
@@ -163,7 +163,6 @@ fn cuts_long_slices(rt: HostRuntime) -> Result<(), Fail> {
 fn heads_of_film_b(rt: HostRuntime) -> Result<(), Fail> {
     let film = film_b(rt.alloc())?;
     assert_eq!(rt; film.units.len(), 2);
-    law_unit_laid(&film, 0);
     for (unit, from, to, set, video, bytes) in [
         (
             0,

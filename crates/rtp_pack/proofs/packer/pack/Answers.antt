@@ -1,8 +1,7 @@
-use Rattle.std.proofs.Common.{◌≡◌, ◌+◌, ◌-◌, drop, take, arith, List, ap, ◌∙◌, sym, subst}
-use Rattle.rtp_pack.specs.declared.payloads.Packet.{Packet}
-use Rattle.rtp_pack.specs.Packets.{ArePackets, DoCover, frames_size, unit_packets}
+use Rattle.std.proofs.Common.{◌+◌, ◌-◌, drop, take, arith}
+use Rattle.rtp_pack.specs.Packets.{unit_packets}
 use Rattle.rtp_pack.proofs.PackLemmas.{Remaining, SliceEnds, at-slice, put-last, put-slice}
-use Rattle.rtp_pack.proofs.UnitLemmas.{packets-are, packets-bound, packets-cover, packets-size}
+use Rattle.rtp_pack.proofs.UnitLemmas.{packed}
 use Rattle.rtp_pack.proofs.packer.pack.Goals as goal
 
 pub put_slice-requires-clause-some : goal.put_slice-requires-clause-some
@@ -25,33 +24,12 @@ loop-index-preserved c =
     let put = put-slice remaining ends c.in_ok-filling.ensures.packets in
     record { order = c.in_ok-filling.ensures.order; in_order = put.in_order; packets = put.packets }
 
-pub returns-clause-list : goal.returns-clause-list
-returns-clause-list c =
+pub returns : goal.returns
+returns c =
     let unit = c.args.unit.now in
     let starts = take (unit.first_slice + unit.slices - unit.first_slice) (drop unit.first_slice c.args.slice_starts.now) in
     let remaining : Remaining unit starts c.loop-index.index c.loop-index.filling c.loop-index.packets.items
     (unit_packets c.args.slice_starts.now unit) =
     record { in_order = c.loop-index.invariant.in_order; packets = c.loop-index.invariant.packets } in
-    put-last remaining c.loop-index-test.false c.in_ok-close.ensures
-
-pub returns-clause-rules : goal.returns-clause-rules
-returns-clause-rules c =
-    subst (λ (l : List Packet). ArePackets c.args.slice_starts.now c.args.unit.now l)
-    (sym (returns-clause-list c)) (packets-are c.args.slice_starts.now c.args.unit.now c.requires)
-
-pub returns-clause-cover : goal.returns-clause-cover
-returns-clause-cover c =
-    subst (λ (l : List Packet). DoCover c.args.unit.now.from l c.args.unit.now.to) (sym (returns-clause-list c))
-    (packets-cover c.args.slice_starts.now c.args.unit.now c.requires)
-
-pub returns-clause-size : goal.returns-clause-size
-returns-clause-size c =
-    ap (λ (l : List Packet). frames_size l) (returns-clause-list c)
-    ∙ packets-size c.args.slice_starts.now c.args.unit.now c.requires
-
-pub returns-clause-bound : goal.returns-clause-bound
-returns-clause-bound c =
-    let size : frames_size c.close.new.packets.items
-    ≡ frames_size (unit_packets c.args.slice_starts.now c.args.unit.now) =
-    ap (λ (l : List Packet). frames_size l) (returns-clause-list c) in
-    omega (arith, size, packets-bound c.args.slice_starts.now c.args.unit.now c.requires)
+    packed c.args.slice_starts.now unit c.close.new.packets.items c.requires
+    (put-last remaining c.loop-index-test.false c.in_ok-close.ensures)

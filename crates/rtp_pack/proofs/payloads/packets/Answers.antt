@@ -16,17 +16,5 @@ pack-requires c =
     subst (λ (l : List ℕ). IsLaid l unit) (sym c.deref.ensures.value)
     (laid-at (length film.bytes.items) film.slice_starts.items film.units.items c.args.unit here laid).1
 
-pub returns-clause-list : goal.returns-clause-list
-returns-clause-list c = grind (arith, elements)
-
-pub returns-clause-rules : goal.returns-clause-rules
-returns-clause-rules c = grind (arith, elements)
-
-pub returns-clause-cover : goal.returns-clause-cover
-returns-clause-cover c = grind (arith, elements)
-
-pub returns-clause-size : goal.returns-clause-size
-returns-clause-size c = grind (arith, elements)
-
-pub returns-clause-bound : goal.returns-clause-bound
-returns-clause-bound c = grind (arith, elements)
+pub returns : goal.returns
+returns c = grind (arith, elements)
