@@ -2,17 +2,17 @@ pub mod TrackLemmas
 pub mod TraceLemmas
 pub mod PieceLemmas
 pub mod FilmLemmas
-pub mod TableLemmas
-pub mod FrontLemmas
+mod TableLemmas
+mod FrontLemmas
 pub mod RunLemmas
 pub mod SentLemmas
-pub mod NextLemmas
+mod NextLemmas
 pub mod CountLemmas
 pub mod BackLemmas
-pub mod ReportLemmas
-pub mod RunFronts
-pub mod ReportNumbers
-pub mod PlaceLemmas
-pub mod StandLemmas
-pub mod FrameFacts
-pub mod HeadLemmas
+mod ReportLemmas
+mod RunFronts
+mod ReportNumbers
+mod PlaceLemmas
+mod StandLemmas
+mod FrameFacts
+mod HeadLemmas

@@ -1,6 +1,7 @@
 -- What a reader expects of the bytes of a run.
 use Rattle.std.specs.Prelude.{ℕ, ◌+◌, ◌%◌, ◌^◌, ◌<◌, ◌≤◌, ◌≡◌, List, [], ◌∷◌, length, drop}
-use Rattle.std.specs.Prelude.{false, flat_map, get_or, slice_get, slice_index, take, true, Ok, Some}
+use Rattle.std.specs.Prelude.{false, flat_map, slice_get, slice_index, slice_index_or, take, true}
+use Rattle.std.specs.Prelude.{Ok, Some}
 use Rattle.mpeg_scan.specs.declared.units.Unit.{Unit as PictureUnit}
 use Rattle.mpeg_scan.specs.Rates.{picture_time}
 use Rattle.rtp_pack.specs.declared.heads.Head.{Head}
@@ -37,7 +38,7 @@ sequence_of frame = (head_at (drop 4 frame)).sequence
 -- sequence numbers count on from a first, modulo 2^16
 abbrev pub DoCountOn : ℕ → List (List ℕ) → Type 0
 DoCountOn sequence frames = (k : ℕ) → k < length frames →
-    sequence_of (get_or frames k []) ≡ (sequence + k) % 2 ^ 16
+    sequence_of (slice_index_or frames k []) ≡ (sequence + k) % 2 ^ 16
 
 -- a report has 52 bytes; a frame has 21 to 1,400, and its octets are all but 16 of them
 abbrev pub HasPieceSize : Piece → ℕ → Type 0
@@ -49,7 +50,7 @@ HasPieceSize (Frame unit packet) size = (size ≡ octets_of (Frame unit packet) 
 pub record HaveSizes (pieces : List Piece) (all : List (List ℕ)) : Type 0 where
   pub count : length all ≡ length pieces
   pub each : (k : ℕ) (piece : Piece) → slice_get pieces k ≡ Some piece →
-      HasPieceSize piece (length (get_or all k []))
+      HasPieceSize piece (length (slice_index_or all k []))
 
 -- a whole interleaved block, as it is read from a stream: its length is that of its head of four
 -- bytes and of what this says follows (RFC 2326 section 10.12)
@@ -57,7 +58,7 @@ abbrev pub IsBlock : List ℕ → Type 0
 IsBlock bytes = StartsBlock bytes × (block_length bytes ≡ length bytes)
 
 abbrev pub AreBlocks : List (List ℕ) → Type 0
-AreBlocks pieces = (k : ℕ) → k < length pieces → IsBlock (get_or pieces k [])
+AreBlocks pieces = (k : ℕ) → k < length pieces → IsBlock (slice_index_or pieces k [])
 
 -- the interleaved channel of a piece: reports go on one, frames on the other
 abbrev pub channel_of : Run → Piece → ℕ
@@ -67,7 +68,7 @@ channel_of run (Frame unit packet) = run.identity.channel
 abbrev pub AreOnChannels : Run → Type 0
 AreOnChannels run =
     (k : ℕ) (piece : Piece) → slice_get (pieces_in run) k ≡ Some piece
-    → slice_index (get_or (run_pieces run) k []) 1 ≡ channel_of run piece
+    → slice_index (slice_index_or (run_pieces run) k []) 1 ≡ channel_of run piece
 
 -- a report stands directly before the first frame of a unit that starts a group, before each of
 -- them, and nowhere else
@@ -92,7 +93,7 @@ counted_report run unit at =
 abbrev pub DoReportsCount : Run → Type 0
 DoReportsCount run =
     (k : ℕ) (unit : PictureUnit) → slice_get (pieces_in run) k ≡ Some (Report unit)
-    → get_or (run_pieces run) k [] ≡ counted_report run unit (begin_of (run_pieces run) k)
+    → slice_index_or (run_pieces run) k [] ≡ counted_report run unit (begin_of (run_pieces run) k)
 
 -- the head of a frame as it is read: that of its packet, with a video header of 32 bits
 abbrev pub head_read : Run → PictureUnit → Packet → ℕ → Head
@@ -106,7 +107,7 @@ abbrev pub DoHeadsReadBack : Run → Type 0
 DoHeadsReadBack run =
     (k : ℕ) (unit : PictureUnit) (packet : Packet) →
     slice_get (pieces_in run) k ≡ Some (Frame unit packet)
-    → head_of (drop 4 (get_or (run_pieces run) k []))
+    → head_of (drop 4 (slice_index_or (run_pieces run) k []))
     ≡ Ok (head_read run unit packet (frames_in (take k (pieces_in run))))
 
 -- the frames before a place of a run, and their octets, are those among so many of its first pieces

@@ -1,6 +1,6 @@
 -- The table of a film's reports and frames.
 use Rattle.std.specs.Prelude.{ℕ, ◌+◌, ◌-◌, ◌^◌, ◌≤◌, ◌<◌, ◌≡◌, List, [], ◌∷◌, ◌++◌}
-use Rattle.std.specs.Prelude.{length, take, get_or, slice_get, Some}
+use Rattle.std.specs.Prelude.{length, take, slice_index, slice_index_or, slice_get, Some}
 use Rattle.mpeg_scan.specs.declared.units.Unit.{Unit as PictureUnit}
 use Rattle.mpeg_scan.specs.declared.films.Film.{Film}
 use Rattle.rtp_pack.specs.declared.payloads.Packet.{Packet}
@@ -64,10 +64,11 @@ pub record IsTable (units : List PictureUnit) (pieces : List Piece) (table : Fra
     : Type 0 where
   pub places_count : length table.places.items ≡ length pieces + 1
   pub rows_count : length table.rows.items ≡ length pieces
-  pub place : (k : ℕ) → k ≤ length pieces → get_or table.places.items k 0 ≡ wire_in (take k pieces)
+  pub place : (k : ℕ) → k ≤ length pieces
+      → slice_index table.places.items k ≡ wire_in (take k pieces)
   pub reports : table.reports.items ≡ report_numbers 0 pieces
   pub row : (k : ℕ) (some : Row) (piece : Piece) → slice_get pieces k ≡ Some piece
-      → IsRow units (get_or table.rows.items k some) piece
+      → IsRow units (slice_index_or table.rows.items k some) piece
 
 -- a table has these pieces of a film
 abbrev pub HasPieces : Film → List Piece → FrameTable → Type 0
@@ -78,7 +79,7 @@ pub record AreFirsts (slice_starts : List ℕ) (units : List PictureUnit) (numbe
     (firsts : List ℕ) : Type 0 where
   pub count : length firsts ≡ number + 1
   pub first : (k : ℕ) → k ≤ number →
-      get_or firsts k 0 ≡ length (pieces_of slice_starts (take k units))
+      slice_index firsts k ≡ length (pieces_of slice_starts (take k units))
 
 -- a table is that of a film
 pub record IsTableOf (film : Film) (table : FrameTable) : Type 0 where
@@ -95,4 +96,4 @@ pub record HasUnit (table : FrameTable) (unit : ℕ) : Type 0 where
 -- one more piece goes into a table: its bytes stay below a bound
 pub record HasRoom (table : FrameTable) : Type 0 where
   pub places_count : length table.places.items ≡ length table.rows.items + 1
-  pub places : get_or table.places.items (length table.rows.items) 0 ≤ 2 ^ 42
+  pub places : slice_index table.places.items (length table.rows.items) ≤ 2 ^ 42

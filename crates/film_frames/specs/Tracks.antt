@@ -1,7 +1,7 @@
 -- What a track is: the pieces that it is sent by, in order, and the boundaries between them. A
 -- piece is the bytes of one frame or one report.
 use Rattle.std.specs.Prelude.{ℕ, ◌+◌, ◌-◌, ◌<◌, ◌≤◌, ◌≡◌, ◌^◌, List, [], ◌∷◌, length, take, drop}
-use Rattle.std.specs.Prelude.{map, flat_map, replicate, get_or, ◌≢◌}
+use Rattle.std.specs.Prelude.{map, flat_map, replicate, slice_index, slice_index_or, ◌≢◌}
 
 -- all bytes of pieces, one piece after another
 abbrev pub framed_bytes : List (List ℕ) → List ℕ
@@ -33,15 +33,15 @@ pub record IsNext (pieces : List (List ℕ)) (at : ℕ) (bytes : List ℕ) : Typ
 -- report (packet type 200) that begins a piece of RTCP. Its heads take 20 bytes: 4 of the
 -- interleaved one, 12 of the RTP header and 4 of the video header.
 pub record HasHeads (piece : List ℕ) : Type 0 where
-  pub interleaved : get_or piece 0 0 ≡ 36
-  pub no_report : get_or piece 5 0 ≢ 200
+  pub interleaved : slice_index piece 0 ≡ 36
+  pub no_report : slice_index piece 5 ≢ 200
   pub payload : 20 < length piece
 
 -- where a frame's heads end and its payload begins
 pub record IsHeadEnd (pieces : List (List ℕ)) (place : ℕ) : Type 0 where
   pub number : ℕ
   pub among : number < length pieces
-  pub frame : HasHeads (get_or pieces number [])
+  pub frame : HasHeads (slice_index_or pieces number [])
   pub place_is : place ≡ begin_of pieces number + 20
 
 -- the next bytes from `at` on, so many of a head and then so many of a payload, are split where the
@@ -68,4 +68,4 @@ running_sums from (size ∷ sizes) = (from + size) ∷ running_sums (from + size
 -- the running sums that are kept of a trace: they don't fall, and the last is at most 2^42
 pub record AreRunningSums (ends : List ℕ) : Type 0 where
   pub rising : running_sums 0 (differences 0 ends) ≡ ends
-  pub most : (k : ℕ) → k < length ends → get_or ends k 0 ≤ 2 ^ 42
+  pub most : (k : ℕ) → k < length ends → slice_index ends k ≤ 2 ^ 42

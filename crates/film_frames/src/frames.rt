@@ -70,7 +70,7 @@ impl<'a> Frames<'a> {
     pub fn frames_before(&self, at: u64) -> u64
         ensures { result ≡ frames_before self.now at }
     {
-        self.frames(self.count_ended(at))
+        self.frames_before_piece(self.count_ended(at))
     }
 
     /// The octets of the RTP frames of the run that end at or before `at`: their video headers and
@@ -78,47 +78,44 @@ impl<'a> Frames<'a> {
     pub fn octets_before(&self, at: u64) -> u64
         ensures { result ≡ octets_before self.now at }
     {
-        self.octets(self.count_ended(at))
+        self.octets_before_piece(self.count_ended(at))
     }
 
     /// How many pieces the run has.
-    fn count(&self) -> usize
+    fn piece_count(&self) -> usize
         ensures count { result ≡ length (pieces_in self.now) }
         ensures pieces { result ≡ length (run_pieces self.now) }
     {
-        let stored = self.stored;
-        stored.first_piece(self.end_unit) - stored.first_piece(self.first_unit)
+        self.stored.first_piece(self.end_unit) - self.stored.first_piece(self.first_unit)
     }
 
     /// Where a piece of the run begins, or the last ends.
-    fn place(&self, piece: usize) -> u64
+    fn begin_of(&self, piece: usize) -> u64
         requires { piece ≤ length (pieces_in self.now) }
         ensures begin { result ≡ begin_of (run_pieces self.now) piece }
         ensures wire { result ≡ wire_in (take piece (pieces_in self.now)) }
     {
-        let stored = self.stored;
-        let first = stored.first_piece(self.first_unit);
-        stored.place(first + piece) - stored.place(first)
+        let first = self.stored.first_piece(self.first_unit);
+        self.stored.place(first + piece) - self.stored.place(first)
     }
 
     /// How many frames of the run come before a piece.
-    fn frames(&self, piece: usize) -> u64
+    fn frames_before_piece(&self, piece: usize) -> u64
         requires { piece ≤ length (pieces_in self.now) }
         ensures { result ≡ frames_in (take piece (pieces_in self.now)) }
     {
-        let stored = self.stored;
-        let first = stored.first_piece(self.first_unit);
-        stored.frames(first + piece) - stored.frames(first)
+        let first = self.stored.first_piece(self.first_unit);
+        self.stored.frames(first + piece) - self.stored.frames(first)
     }
 
     /// The octets of the frames of the run that come before a piece.
-    fn octets(&self, piece: usize) -> u64
+    fn octets_before_piece(&self, piece: usize) -> u64
         requires { piece ≤ length (pieces_in self.now) }
         ensures { result ≡ octets_in (take piece (pieces_in self.now)) }
     {
-        let frames = self.frames(piece);
+        let frames = self.frames_before_piece(piece);
         let reports = piece as u64 - frames;
-        self.place(piece) - UNCOUNTED * frames - REPORT_BYTES * reports
+        self.begin_of(piece) - UNCOUNTED * frames - REPORT_BYTES * reports
     }
 
     /// A piece of the run.
@@ -127,8 +124,8 @@ impl<'a> Frames<'a> {
         ensures piece { slice_get (pieces_in self.now) number ≡ Some result }
         ensures sound { IsSound self.now.film result }
     {
-        let stored = self.stored;
-        stored.piece(stored.first_piece(self.first_unit) + number)
+        self.stored
+            .piece(self.stored.first_piece(self.first_unit) + number)
     }
 
     /// How many pieces of the run end at or before `at`.
@@ -136,11 +133,10 @@ impl<'a> Frames<'a> {
         ensures count_ended { HaveEnded (run_pieces self.now) at result }
         ensures few { result ≤ 2 ^ 42 }
     {
-        let stored = self.stored;
-        let first = stored.first_piece(self.first_unit);
-        let end = stored.first_piece(self.end_unit);
-        let place = stored.place(first) + at.min(self.total()) + 1;
-        ends_below(stored.ends(first, end), place)
+        let first = self.stored.first_piece(self.first_unit);
+        let end = self.stored.first_piece(self.end_unit);
+        let place = self.stored.place(first) + at.min(self.total()) + 1;
+        ends_below(self.stored.ends(first, end), place)
     }
 
     /// The bytes of a report that stands after so many pieces.
@@ -149,8 +145,8 @@ impl<'a> Frames<'a> {
         ensures { result ≡ piece_bytes self.now (frames_in (take number (pieces_in self.now)))
             (octets_in (take number (pieces_in self.now))) (Report unit.now) }
     {
-        let frames = self.frames(number);
-        let octets = self.octets(number);
+        let frames = self.frames_before_piece(number);
+        let octets = self.octets_before_piece(number);
         let report = unit_report(&self.identity, self.picture_time(), unit, frames, octets);
         report_block(self.identity.control, &report)
     }
@@ -163,7 +159,7 @@ impl<'a> Frames<'a> {
             ≡ piece_bytes self.now (frames_in (take number (pieces_in self.now))) octets
             (Frame unit.now packet.now) }
     {
-        let frames = self.frames(number);
+        let frames = self.frames_before_piece(number);
         let its = packet_head(&self.identity, self.picture_time(), unit, packet, frames);
         put_frame_heads(head, self.identity.channel, &its, packet.to - packet.from);
     }
@@ -175,8 +171,7 @@ impl<'a> Frames<'a> {
         ensures { result.now ≡ take (packet.now.to - (packet.now.from + without))
             (drop (packet.now.from + without) self.now.film) }
     {
-        let stored = self.stored;
-        &stored.film.bytes[(packet.from + without) as usize..packet.to as usize]
+        &self.stored.film.bytes[(packet.from + without) as usize..packet.to as usize]
     }
 
     /// The time of a picture in 1/360,000 second.
@@ -191,14 +186,14 @@ impl Track for Frames<'_> {
     ghost pieces = { run_pieces };
 
     fn total(&self) -> u64 {
-        self.place(self.count())
+        self.begin_of(self.piece_count())
     }
 
     fn boundary_after(&self, at: u64) -> u64 {
         if at == 0 {
             return 0;
         }
-        self.place(self.count_ended(at - 1) + 1)
+        self.begin_of(self.count_ended(at - 1) + 1)
     }
 
     /// The bytes from `at` on to the end of its report or frame. The payload is lent from the
@@ -219,7 +214,7 @@ impl Track for Frames<'_> {
             → result.payload.now ≡ [] }
     {
         let number = self.count_ended(at);
-        let inside = at - self.place(number);
+        let inside = at - self.begin_of(number);
         match self.piece(number) {
             Piece::Report(unit) => {
                 *head = self.report(number, &unit);

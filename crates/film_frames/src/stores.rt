@@ -22,7 +22,7 @@ pub struct Stored {
 }
 
 impl Stored {
-    ghost use Rattle.std.specs.Prelude.{◌≡◌, ◌+◌, ◌-◌, ◌*◌, ◌<◌, ◌≤◌, ℕ, length, take, get_or};
+    ghost use Rattle.std.specs.Prelude.{◌≡◌, ◌+◌, ◌-◌, ◌*◌, ◌<◌, ◌≤◌, ℕ, length, take, slice_index};
     ghost use Rattle.std.specs.Prelude.{slice_get, string_bytes, Some, IfOk};
     ghost use Rattle.rtp_pack.specs.Packets.{OfUnit};
     ghost use Rattle.film_frames.specs.Pieces.{OfPiece, film_pieces, frames_in, from_of};
@@ -95,7 +95,7 @@ impl Stored {
         requires within { to ≤ length (film_pieces self.now.film) }
         ensures count { length result.now ≡ to - from }
         ensures each { (k : ℕ) → k < to - from
-            → get_or result.now k 0 ≡ wire_in (take (from + k + 1) (film_pieces self.now.film)) }
+            → slice_index result.now k ≡ wire_in (take (from + k + 1) (film_pieces self.now.film)) }
     {
         self.table.places(from + 1, to + 1)
     }

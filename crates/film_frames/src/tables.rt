@@ -1,6 +1,6 @@
 //! The table of the reports and frames of a film, which tells their places.
 ghost use Rattle.std.specs.Prelude.{◌≡◌, ◌+◌, ◌-◌, ◌*◌, ◌^◌, ◌<◌, ◌≤◌, ◌++◌, ℕ, List, [], ◌∷◌};
-ghost use Rattle.std.specs.Prelude.{length, take, drop, get_or};
+ghost use Rattle.std.specs.Prelude.{length, take, drop, slice_index, slice_index_or};
 ghost use Rattle.std.specs.Prelude.{slice_get, Some, IfOk, OnOk};
 ghost use Rattle.mpeg_scan.specs.declared.units.Unit.{Unit as PictureUnit};
 ghost use Rattle.mpeg_scan.specs.declared.films.Film.{Film};
@@ -169,7 +169,7 @@ impl FrameTable {
     /// How many pieces come before a unit.
     pub(crate) fn first(&self, unit: usize) -> usize
         requires { unit < length self.now.firsts.items }
-        ensures { result ≡ get_or self.now.firsts.items unit 0 }
+        ensures { result ≡ slice_index self.now.firsts.items unit }
     {
         self.firsts[unit] as usize
     }
@@ -177,7 +177,7 @@ impl FrameTable {
     /// Where a piece begins among all framed bytes of the film, or the last ends.
     pub(crate) fn place(&self, piece: usize) -> u64
         requires { piece < length self.now.places.items }
-        ensures { result ≡ get_or self.now.places.items piece 0 }
+        ensures { result ≡ slice_index self.now.places.items piece }
     {
         self.places[piece]
     }
@@ -201,7 +201,7 @@ impl FrameTable {
     /// What a piece is.
     pub(crate) fn row(&self, piece: usize) -> Row
         requires { piece < length self.now.rows.items }
-        ensures { result ≡ get_or self.now.rows.items piece result }
+        ensures { result ≡ slice_index_or self.now.rows.items piece result }
     {
         self.rows[piece]
     }

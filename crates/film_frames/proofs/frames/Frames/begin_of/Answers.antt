@@ -1,7 +1,7 @@
 use Rattle.std.proofs.Common.{arith, sym, ◌∙◌}
 use Rattle.film_frames.proofs.FrameFacts.{is-run-of, wire-from}
 use Rattle.film_frames.proofs.SentLemmas.{run-begin}
-use Rattle.film_frames.proofs.frames.Frames.place.Goals as goal
+use Rattle.film_frames.proofs.frames.Frames.begin_of.Goals as goal
 
 pub overflow_add-first : goal.overflow_add-first
 overflow_add-first c =

@@ -1,6 +1,6 @@
 use Rattle.std.proofs.Common.{arith}
 use Rattle.film_frames.proofs.FrameFacts.{frames-from, is-run-of}
-use Rattle.film_frames.proofs.frames.Frames.frames.Goals as goal
+use Rattle.film_frames.proofs.frames.Frames.frames_before_piece.Goals as goal
 
 pub overflow_add-first : goal.overflow_add-first
 overflow_add-first c =

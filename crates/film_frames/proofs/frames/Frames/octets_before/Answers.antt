@@ -4,13 +4,13 @@ use Rattle.film_frames.specs.Runs.{run_pieces, pieces_in}
 use Rattle.film_frames.proofs.RunLemmas.{count_ended-is, blocks_from-count}
 use Rattle.film_frames.proofs.frames.Frames.octets_before.Goals as goal
 
-pub octets-requires : goal.octets-requires
-octets-requires c =
+pub octets_before_piece-requires : goal.octets_before_piece-requires
+octets_before_piece-requires c =
     omega (arith, c.count_ended.ensures.count_ended.among, blocks_from-count c.args.self.now 0 0 (pieces_in c.args.self.now))
 
 pub returns : goal.returns
 returns c =
     let run = c.args.self.now in
-    c.octets.ensures
+    c.octets_before_piece.ensures
     ∙ ap (λ n. octets_in (take n (pieces_in run)))
     (sym (count_ended-is (run_pieces run) c.args.at c.count_ended.result c.count_ended.ensures.count_ended))

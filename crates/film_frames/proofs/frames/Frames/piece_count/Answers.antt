@@ -2,7 +2,7 @@ use Rattle.std.proofs.Common.{arith, sym, ◌∙◌}
 use Rattle.film_frames.specs.Runs.{pieces_in}
 use Rattle.film_frames.proofs.FrameFacts.{is-run-of}
 use Rattle.film_frames.proofs.RunLemmas.{blocks_from-count}
-use Rattle.film_frames.proofs.frames.Frames.count.Goals as goal
+use Rattle.film_frames.proofs.frames.Frames.piece_count.Goals as goal
 
 pub overflow_sub-result : goal.overflow_sub-result
 overflow_sub-result c =

@@ -7,8 +7,8 @@ use Rattle.film_frames.proofs.frames.FramesTrack.boundary_after.Goals as goal
 pub overflow_add-count_ended : goal.overflow_add-count_ended
 overflow_add-count_ended c = omega (arith, c.count_ended.ensures.few)
 
-pub place-requires : goal.place-requires
-place-requires c =
+pub begin_of-requires : goal.begin_of-requires
+begin_of-requires c =
     let run = c.args.self.now in
     omega (
       arith,
@@ -19,4 +19,4 @@ place-requires c =
 
 pub returns : goal.returns
 returns c = boundary-count_ended c.count_ended.ensures.count_ended (omega (arith, c.if-at-eq0.false)) c.requires
-    c.place.ensures.begin
+    c.begin_of.ensures.begin

@@ -1,4 +1,4 @@
-use Rattle.std.proofs.Common.{◌≡◌, ◌+◌, ◌-◌, List, [], ◌++◌, ℕ, length, take, drop, get_or, Some}
+use Rattle.std.proofs.Common.{◌≡◌, ◌+◌, ◌-◌, ◌<◌, List, [], ◌++◌, ℕ, length, take, drop, get_or, Some}
 use Rattle.std.proofs.Common.{slice_get, arith, refl, sym, ap, subst, ◌∙◌}
 use Rattle.film_frames.specs.declared.pieces.Piece.TheVariants.{Report, Frame}
 use Rattle.film_frames.specs.Pieces.{octets_in}
@@ -6,66 +6,78 @@ use Rattle.film_frames.specs.Runs.{payload, run_pieces, pieces_in}
 use Rattle.film_frames.specs.Tracks.{HasHeads, begin_of}
 use Rattle.film_frames.proofs.HeadLemmas.{IsPart, frame-heads, frame-split, report-heads, report-split}
 use Rattle.film_frames.proofs.RunLemmas.{count_ended-is}
-use Rattle.film_frames.proofs.NextLemmas.{InFrame, count-among, ends-boundary, frame-part, is-in}
+use Rattle.film_frames.proofs.NextLemmas.{InFrame, IsIn, count-among, ends-boundary, frame-part, is-in}
 use Rattle.film_frames.proofs.NextLemmas.{report-rest, rest-next}
 use Rattle.film_frames.proofs.frames.FramesTrack.part.Goals as goal
+use Rattle.film_frames.proofs.frames.FramesTrack.part.Goals.{After-count_ended-number, After-payload, After-put_heads, After-report}
 
-pub place-requires : goal.place-requires
-place-requires c =
-    omega (
-      arith,
-      count-among c.args.self.now c.args.at c.count_ended-number.result c.count_ended-number.ensures.count_ended c.requires,
-    )
+-- ---- where the place lies
+
+among : (c : After-count_ended-number) → c.count_ended-number.result < length (pieces_in c.args.self.now)
+among c =
+    count-among c.args.self.now c.args.at c.count_ended-number.result c.count_ended-number.ensures.count_ended c.requires
+
+in-report : (c : After-report) → IsIn c.args.self.now c.args.at c.count_ended-number.result (Report c.in-Report.unit)
+in-report c = is-in c.count_ended-number.ensures.count_ended c.requires c.in-Report.ensures.piece c.in-Report.ensures.sound
+
+in-frame : (c : After-put_heads)
+    → IsIn c.args.self.now c.args.at c.count_ended-number.result (Frame c.in-Frame.unit c.in-Frame.packet)
+in-frame c = is-in c.count_ended-number.ensures.count_ended c.requires c.in-Frame.ensures.piece c.in-Frame.ensures.sound
+
+-- what is taken of the frame: its bytes from the place on, and how many they are
+taken : (c : After-payload)
+    → (take (20 - c.min.result) (drop c.min.result c.put_heads.new.head) ++ c.payload.result.now
+    ≡ drop (c.args.at - c.begin_of.result) (take 20 c.put_heads.new.head ++ payload c.args.self.now.film c.in-Frame.packet))
+    × (20 - c.min.result + length c.payload.result.now + (c.args.at - c.begin_of.result)
+    ≡ 20 + (c.in-Frame.packet.to - c.in-Frame.packet.from))
+taken c =
+    let lies : IsIn c.args.self.now c.args.at c.count_ended-number.result (Frame c.in-Frame.unit c.in-Frame.packet) =
+    is-in c.count_ended-number.ensures.count_ended c.requires c.in-Frame.ensures.piece c.in-Frame.ensures.sound in
+    let cut = c.in-Frame.ensures.sound in
+    let inside : InFrame c.args.self.now.film c.put_heads.new.head c.in-Frame.packet (c.args.at - c.begin_of.result) = record {
+      long = c.payload.array_long;
+      order = omega (arith, cut.some);
+      within = cut.within;
+      inside = omega (arith, lies.inside, c.begin_of.ensures.begin);
+    } in
+    frame-part inside c.min.ensures c.max.ensures c.payload.ensures
+
+-- ---- the answers
+
+pub begin_of-requires : goal.begin_of-requires
+begin_of-requires c = omega (arith, among (goal.at.begin_of-requires c).After-count_ended-number)
 
 pub piece-requires : goal.piece-requires
-piece-requires c =
-    omega (
-      arith,
-      count-among c.args.self.now c.args.at c.count_ended-number.result c.count_ended-number.ensures.count_ended c.requires,
-    )
+piece-requires c = omega (arith, among (goal.at.piece-requires c).After-count_ended-number)
 
 pub report-requires : goal.report-requires
-report-requires c =
-    omega (
-      arith,
-      count-among c.args.self.now c.args.at c.count_ended-number.result c.count_ended-number.ensures.count_ended c.requires,
-    )
+report-requires c = omega (arith, among (goal.at.report-requires c).After-count_ended-number)
 
 pub put_heads-requires-clause-number : goal.put_heads-requires-clause-number
 put_heads-requires-clause-number c =
-    omega (
-      arith,
-      count-among c.args.self.now c.args.at c.count_ended-number.result c.count_ended-number.ensures.count_ended c.requires,
-    )
+    omega (arith, among (goal.at.put_heads-requires-clause-number c).After-count_ended-number)
 
 pub payload-requires-clause-front : goal.payload-requires-clause-front
 payload-requires-clause-front c =
-    let run = c.args.self.now in
-    let k = c.count_ended-number.result in
-    let lies = is-in {run = run} {at = c.args.at} {k = k} {piece = Frame c.in-Frame.unit c.in-Frame.packet}
-    c.count_ended-number.ensures.count_ended c.requires c.in-Frame.ensures.piece c.in-Frame.ensures.sound in
-    omega (arith, lies.inside, c.place.ensures.begin, c.max.ensures, c.in-Frame.ensures.sound.some)
+    let lies = in-frame (goal.at.payload-requires-clause-front c).After-put_heads in
+    omega (arith, lies.inside, c.begin_of.ensures.begin, c.max.ensures, c.in-Frame.ensures.sound.some)
 
 pub returns-in-Report-clause-order : goal.returns-in-Report-clause-order
 returns-in-Report-clause-order c =
-    let run = c.args.self.now in
-    let k = c.count_ended-number.result in
-    let lies = is-in {run = run} {at = c.args.at} {k = k} {piece = Report c.in-Report.unit}
-    c.count_ended-number.ensures.count_ended c.requires c.in-Report.ensures.piece c.in-Report.ensures.sound in
-    omega (arith, lies.inside, c.place.ensures.begin)
+    let lies = in-report (goal.at.returns-in-Report-clause-order c).After-report in
+    omega (arith, lies.inside, c.begin_of.ensures.begin)
 
 pub returns-in-Report-clause-bytes : goal.returns-in-Report-clause-bytes
 returns-in-Report-clause-bytes c =
     let run = c.args.self.now in
     let k = c.count_ended-number.result in
-    let lies = is-in {run = run} {at = c.args.at} {k = k} {piece = Report c.in-Report.unit}
-    c.count_ended-number.ensures.count_ended c.requires c.in-Report.ensures.piece c.in-Report.ensures.sound in
-    let o = c.args.at - c.place.result in
+    let lies = in-report (goal.at.returns-in-Report-clause-bytes c).After-report in
+    let o = c.args.at - c.begin_of.result in
     let long : length c.report.result ≡ 52 = ap (λ (l : List ℕ). length l) c.report.ensures in
-    let rest = report-rest c.report.result o long (omega (arith, lies.inside, c.place.ensures.begin)) in
+    let rest = report-rest c.report.result o long (omega (arith, lies.inside, c.begin_of.ensures.begin)) in
     let same : drop o c.report.result ≡ drop (c.args.at - begin_of (run_pieces run) k) (get_or (run_pieces run) k []) =
     ap (λ (l : List ℕ). drop o l) (c.report.ensures ∙ sym lies.bytes)
-    ∙ ap (λ n. drop (c.args.at - n) (get_or (run_pieces run) k [])) c.place.ensures.begin in
+    ∙ ap (λ n. drop (c.args.at - n) (get_or (run_pieces run) k [])) c.begin_of.ensures.begin in
     (rest-next {pieces = run_pieces run} {at = c.args.at} {k = k}
     {bytes = take (52 - o) (drop o c.report.result) ++ []} c.count_ended-number.ensures.count_ended
     c.requires (rest ∙ same)).0
@@ -74,46 +86,33 @@ pub returns-in-Report-clause-heads : goal.returns-in-Report-clause-heads
 returns-in-Report-clause-heads c =
     let run = c.args.self.now in
     let k = c.count_ended-number.result in
-    let lies = is-in {run = run} {at = c.args.at} {k = k} {piece = Report c.in-Report.unit}
-    c.count_ended-number.ensures.count_ended c.requires c.in-Report.ensures.piece c.in-Report.ensures.sound in
-    let part : IsPart (run_pieces run) k c.args.at (52 - (c.args.at - c.place.result) + 0) = record {
+    let lies = in-report (goal.at.returns-in-Report-clause-heads c).After-report in
+    let part : IsPart (run_pieces run) k c.args.at (52 - (c.args.at - c.begin_of.result) + 0) = record {
       among = lies.number;
       begins = lies.begins;
-      ends = omega (arith, lies.inside, lies.ends, lies.begins, c.place.ensures.begin);
+      ends = omega (arith, lies.inside, lies.ends, lies.begins, c.begin_of.ensures.begin);
     } in
     report-split _ 0 part (λ heads. report-heads run _ _ c.in-Report.unit (subst HasHeads lies.bytes heads)) refl
 
 pub returns-in-Report-clause-whole : goal.returns-in-Report-clause-whole
 returns-in-Report-clause-whole c =
-    let run = c.args.self.now in
-    let k = c.count_ended-number.result in
-    let lies = is-in {run = run} {at = c.args.at} {k = k} {piece = Report c.in-Report.unit}
-    c.count_ended-number.ensures.count_ended c.requires c.in-Report.ensures.piece c.in-Report.ensures.sound in
-    ends-boundary (run_pieces run) k _ lies.number (omega (arith, lies.inside, lies.ends, lies.begins, c.place.ensures.begin))
+    let lies = in-report (goal.at.returns-in-Report-clause-whole c).After-report in
+    ends-boundary (run_pieces c.args.self.now) c.count_ended-number.result _ lies.number
+    (omega (arith, lies.inside, lies.ends, lies.begins, c.begin_of.ensures.begin))
 
 pub returns-in-Frame-clause-bytes : goal.returns-in-Frame-clause-bytes
 returns-in-Frame-clause-bytes c =
     let run = c.args.self.now in
     let k = c.count_ended-number.result in
-    let lies = is-in {run = run} {at = c.args.at} {k = k} {piece = Frame c.in-Frame.unit c.in-Frame.packet}
-    c.count_ended-number.ensures.count_ended c.requires c.in-Frame.ensures.piece c.in-Frame.ensures.sound in
-    let p = c.in-Frame.packet in
-    let cut = c.in-Frame.ensures.sound in
-    let o = c.args.at - c.place.result in
+    let lies = in-frame (goal.at.returns-in-Frame-clause-bytes c).After-put_heads in
+    let part = taken (goal.at.returns-in-Frame-clause-bytes c).After-payload in
+    let o = c.args.at - c.begin_of.result in
     let block = c.put_heads.new.head in
-    let in_frame : InFrame run.film block p o = record {
-      long = c.payload.array_long;
-      order = omega (arith, cut.some);
-      within = cut.within;
-      inside = omega (arith, lies.inside, c.place.ensures.begin);
-    } in
-    let part = frame-part {bytes = c.payload.result.now} {low = c.min.result} {high = c.max.result} in_frame
-    c.min.ensures c.max.ensures c.payload.ensures in
     let whole = c.put_heads.ensures (octets_in (take k (pieces_in run))) in
-    let same : drop o (take 20 block ++ payload run.film p)
+    let same : drop o (take 20 block ++ payload run.film c.in-Frame.packet)
     ≡ drop (c.args.at - begin_of (run_pieces run) k) (get_or (run_pieces run) k []) =
     ap (λ (l : List ℕ). drop o l) (whole ∙ sym lies.bytes)
-    ∙ ap (λ n. drop (c.args.at - n) (get_or (run_pieces run) k [])) c.place.ensures.begin in
+    ∙ ap (λ n. drop (c.args.at - n) (get_or (run_pieces run) k [])) c.begin_of.ensures.begin in
     (rest-next {pieces = run_pieces run} {at = c.args.at} {k = k}
     {bytes = take (20 - c.min.result) (drop c.min.result block) ++ c.payload.result.now}
     c.count_ended-number.ensures.count_ended c.requires (part.0 ∙ same)).0
@@ -122,48 +121,22 @@ pub returns-in-Frame-clause-heads : goal.returns-in-Frame-clause-heads
 returns-in-Frame-clause-heads c =
     let run = c.args.self.now in
     let k = c.count_ended-number.result in
-    let lies = is-in {run = run} {at = c.args.at} {k = k} {piece = Frame c.in-Frame.unit c.in-Frame.packet}
-    c.count_ended-number.ensures.count_ended c.requires c.in-Frame.ensures.piece c.in-Frame.ensures.sound in
-    let p = c.in-Frame.packet in
-    let cut = c.in-Frame.ensures.sound in
-    let o = c.args.at - c.place.result in
-    let block = c.put_heads.new.head in
-    let in_frame : InFrame run.film block p o = record {
-      long = c.payload.array_long;
-      order = omega (arith, cut.some);
-      within = cut.within;
-      inside = omega (arith, lies.inside, c.place.ensures.begin);
-    } in
-    let part = frame-part {bytes = c.payload.result.now} {low = c.min.result} {high = c.max.result} in_frame
-    c.min.ensures c.max.ensures c.payload.ensures in
+    let lies = in-frame (goal.at.returns-in-Frame-clause-heads c).After-put_heads in
+    let part = taken (goal.at.returns-in-Frame-clause-heads c).After-payload in
     let its : IsPart (run_pieces run) k c.args.at (20 - c.min.result + length c.payload.result.now) = record {
       among = lies.number;
       begins = lies.begins;
-      ends = omega (arith, part.1, lies.inside, lies.ends, lies.begins, c.place.ensures.begin);
+      ends = omega (arith, part.1, lies.inside, lies.ends, lies.begins, c.begin_of.ensures.begin);
     } in
-    let heads = subst HasHeads (sym lies.bytes) (frame-heads run _ 0 cut) in
-    frame-split _ _ its heads (omega (arith, c.min.ensures, c.place.ensures.begin))
+    let heads = subst HasHeads (sym lies.bytes) (frame-heads run _ 0 c.in-Frame.ensures.sound) in
+    frame-split _ _ its heads (omega (arith, c.min.ensures, c.begin_of.ensures.begin))
 
 pub returns-in-Frame-clause-whole : goal.returns-in-Frame-clause-whole
 returns-in-Frame-clause-whole c =
-    let run = c.args.self.now in
-    let k = c.count_ended-number.result in
-    let lies = is-in {run = run} {at = c.args.at} {k = k} {piece = Frame c.in-Frame.unit c.in-Frame.packet}
-    c.count_ended-number.ensures.count_ended c.requires c.in-Frame.ensures.piece c.in-Frame.ensures.sound in
-    let p = c.in-Frame.packet in
-    let cut = c.in-Frame.ensures.sound in
-    let o = c.args.at - c.place.result in
-    let block = c.put_heads.new.head in
-    let in_frame : InFrame run.film block p o = record {
-      long = c.payload.array_long;
-      order = omega (arith, cut.some);
-      within = cut.within;
-      inside = omega (arith, lies.inside, c.place.ensures.begin);
-    } in
-    let part = frame-part {bytes = c.payload.result.now} {low = c.min.result} {high = c.max.result} in_frame
-    c.min.ensures c.max.ensures c.payload.ensures in
-    ends-boundary (run_pieces run) k _ lies.number
-    (omega (arith, part.1, lies.inside, lies.ends, lies.begins, c.place.ensures.begin))
+    let lies = in-frame (goal.at.returns-in-Frame-clause-whole c).After-put_heads in
+    let part = taken (goal.at.returns-in-Frame-clause-whole c).After-payload in
+    ends-boundary (run_pieces c.args.self.now) c.count_ended-number.result _ lies.number
+    (omega (arith, part.1, lies.inside, lies.ends, lies.begins, c.begin_of.ensures.begin))
 
 pub returns-in-Frame-clause-report : goal.returns-in-Frame-clause-report
 returns-in-Frame-clause-report c = λ other at.
