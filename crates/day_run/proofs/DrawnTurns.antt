@@ -2,7 +2,7 @@
 use Rattle.std.proofs.Common.{◌<◌, ◌+◌, ◌%◌, ℕ, List, [], inl, inr, arith}
 use Rattle.std.specs.Prelude.{◌⊎◌}
 use Rattle.std.proofs.lemmas.Nat.{mod_below}
-use Rattle.film_make.specs.Generator.{after}
+use Rattle.film_make.specs.Generator.{words_after}
 use Rattle.day_run.specs.declared.scripts.Line.{Line}
 use Rattle.day_run.specs.declared.scripts.Line.TheVariants.{Play, Pause, Resume}
 use Rattle.day_run.specs.Days.{IsLine, IsTold, Link, Moment}
@@ -35,5 +35,5 @@ drawn-turn link words turn is =
       later = words 0 % 4;
       few = omega (arith, later);
       mid_is = is.slot;
-      done = drawn-done (after 2 words) (state_in words turn) (mod_below (words 1) 256 (omega arith)) is.done;
+      done = drawn-done (words_after 2 words) (state_in words turn) (mod_below (words 1) 256 (omega arith)) is.done;
     }

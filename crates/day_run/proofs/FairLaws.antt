@@ -4,7 +4,7 @@ use Rattle.std.specs.Prelude.{sum_by}
 use Rattle.std.specs.List.{fold, range_with_len}
 use Rattle.std.proofs.lemmas.List.{append-nil, append_assoc, take_at}
 use Rattle.std.proofs.lemmas.List.Sums.{sum_by-cons}
-use Rattle.film_make.specs.Generator.{after}
+use Rattle.film_make.specs.Generator.{words_after}
 use Rattle.slot_calendar.specs.declared.profiles.CapStep.{CapStep}
 use Rattle.slot_calendar.specs.Profiles.{capacity_at}
 use Rattle.admission.specs.declared.entries.Entry.{Entry}
@@ -39,7 +39,7 @@ pub turn-ready : (link : Link) (words : ℕ → ℕ) (turn : Turn) → IsTurn li
 turn-ready link words turn is ready =
     let R : Moment → Type 0 = λ m. IsReady m in
     let mid : IsReady turn.mid = subst R (sym is.slot) (later-ready turn.old (words 0 % 4) ready) in
-    done-ready (record { link = link; old = turn.mid; new = turn.new; text = turn.text }) (after 2 words)
+    done-ready (record { link = link; old = turn.mid; new = turn.new; text = turn.text }) (words_after 2 words)
     (record { client = omega arith; at = refl }) is.done mid
 
 turn-balanced : (link : Link) (words : ℕ → ℕ) (turn : Turn) → IsTurn link words turn → IsReady turn.old
@@ -126,7 +126,7 @@ turn-grown : (link : Link) (words : ℕ → ℕ) (turn : Turn) → IsTurn link w
 turn-grown link words turn is =
     let G : Moment → Type 0 = λ m. HasGrown turn.old.entries m.entries in
     grown-on turn.old.entries turn.mid.entries turn.new.entries (subst G (sym is.slot) (later-grown turn.old (words 0 % 4)))
-    (done-grown (record { link = link; old = turn.mid; new = turn.new; text = turn.text }) (after 2 words)
+    (done-grown (record { link = link; old = turn.mid; new = turn.new; text = turn.text }) (words_after 2 words)
     (client_of words) _ is.done)
 
 turns-grown : (link : Link) (words : ℕ → ℕ) (turns : List Turn) (old new : Moment)
@@ -220,7 +220,7 @@ turns-heard link words (turn ∷ turns) old new run =
       arith,
       ap (λ (m : Moment). m.heard) run.0,
       subst M (sym is.slot) (later-most turn.old (words 0 % 4)),
-      done-heard (record { link = link; old = turn.mid; new = turn.new; text = turn.text }) (after 2 words)
+      done-heard (record { link = link; old = turn.mid; new = turn.new; text = turn.text }) (words_after 2 words)
           (client_of words) _ is.done,
       turns-heard link (after_turn words turn) turns turn.new new run.1.1,
     )

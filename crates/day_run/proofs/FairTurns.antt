@@ -4,8 +4,8 @@ use Rattle.std.specs.Prelude.{OnOk, count_by, sum_by}
 use Rattle.std.specs.List.{fold, range_with_len}
 use Rattle.std.proofs.lemmas.List.{length-append, map-append}
 use Rattle.std.proofs.lemmas.List.Sums.{sum_by_push}
-use Rattle.film_make.proofs.GeneratorLemmas.{after-after, after-at, after-zero}
-use Rattle.film_make.specs.Generator.{after, words_of}
+use Rattle.film_make.proofs.GeneratorLemmas.{words_after-twice, words_after-at, words_after-zero}
+use Rattle.film_make.specs.Generator.{words_after, words_of}
 use Rattle.slot_calendar.specs.declared.profiles.CapStep.{CapStep}
 use Rattle.admission.specs.declared.entries.Entry.{Entry}
 use Rattle.admission.specs.Histories.{state_after}
@@ -64,13 +64,13 @@ same-counts counts moment last =
 pub record TurnSteps (link here : Link) (w w1 w2 w3 : ℕ → ℕ) (later client : ℕ) (c c1 c2 : Counts) (full : Bool) (turn : Turn)
     : Type 0 where
   pub same : here ≡ link
-  pub one : w1 ≡ after 1 w
-  pub two : w2 ≡ after 1 w1
+  pub one : w1 ≡ words_after 1 w
+  pub two : w2 ≡ words_after 1 w1
   pub later_is : later ≡ w 0 % 4
   pub who : client ≡ w1 0 % 256
   pub slot : turn.mid ≡ at_later turn.old later
   pub done : IsDone here w2 client (state_at turn.mid client) turn.mid turn.new turn.text
-  pub left : w3 ≡ after (words_for (state_at turn.mid client)) w2
+  pub left : w3 ≡ words_after (words_for (state_at turn.mid client)) w2
   pub counted : c1 ≡ with_slot c turn.old turn.mid.heard
   pub told : is_full_line turn.text ≡ full
   pub counts_are : c2
@@ -87,20 +87,20 @@ pub record TurnSteps (link here : Link) (w w1 w2 w3 : ℕ → ℕ) (later client
 pub turn-of : {link here : Link} {w w1 w2 w3 : ℕ → ℕ} {later client : ℕ} {c c1 c2 : Counts} {full : Bool} (turn : Turn)
     → TurnSteps link here w w1 w2 w3 later client c c1 c2 full turn → HasTurned link w w3 c c2 turn.old turn.new
 turn-of {here} {w} {w2} {later} {client} {c} {full} turn steps =
-    let who-is : client ≡ w 1 % 256 = who ∙ ap (λ (f : ℕ → ℕ). f 0 % 256) one ∙ ap (λ k. k % 256) (after-at 1 w 0) in
-    let second : w2 ≡ after 2 w = two ∙ ap (after 1) one ∙ after-after 1 1 w in
+    let who-is : client ≡ w 1 % 256 = who ∙ ap (λ (f : ℕ → ℕ). f 0 % 256) one ∙ ap (λ k. k % 256) (words_after-at 1 w 0) in
+    let second : w2 ≡ words_after 2 w = two ∙ ap (words_after 1) one ∙ words_after-twice 1 1 w in
     let D : ℕ → Type 0 = λ k. IsDone here w2 k (state_at turn.mid k) turn.mid turn.new turn.text in
     let W : (ℕ → ℕ) → Type 0 = λ f. IsDone here f (w 1 % 256) (state_at turn.mid (w 1 % 256)) turn.mid turn.new turn.text in
-    let L : Link → Type 0 = λ x. IsDone x (after 2 w) (w 1 % 256) (state_at turn.mid (w 1 % 256)) turn.mid turn.new turn.text in
+    let L : Link → Type 0 = λ x. IsDone x (words_after 2 w) (w 1 % 256) (state_at turn.mid (w 1 % 256)) turn.mid turn.new turn.text in
     record {
       turn = turn;
       old_is = refl;
       new_is = refl;
       turn_is = record { slot = slot ∙ ap (at_later turn.old) l; done = subst L same (subst W second (subst D who-is done)) };
       left_is =
-          left ∙ ap (λ k. after (words_for (state_at turn.mid k)) w2) who-is
-          ∙ ap (after (words_for (state_at turn.mid (w 1 % 256)))) second
-          ∙ after-after (words_for (state_at turn.mid (w 1 % 256))) 2 w;
+          left ∙ ap (λ k. words_after (words_for (state_at turn.mid k)) w2) who-is
+          ∙ ap (words_after (words_for (state_at turn.mid (w 1 % 256)))) second
+          ∙ words_after-twice (words_for (state_at turn.mid (w 1 % 256))) 2 w;
       counts_are =
           m ∙ ap (λ (x : Counts).
           record {
@@ -218,14 +218,14 @@ fair-of {here} {steps} {number} {words} {left} {made} {evening} {text} same w co
     }
 
 -- ---- words that are drawn one after the other
-pub second-word : (w w1 : ℕ → ℕ) → w1 ≡ after 1 w → w1 0 ≡ w 1
-second-word w w1 one = ap (λ (f : ℕ → ℕ). f 0) one ∙ after-at 1 w 0
+pub second-word : (w w1 : ℕ → ℕ) → w1 ≡ words_after 1 w → w1 0 ≡ w 1
+second-word w w1 one = ap (λ (f : ℕ → ℕ). f 0) one ∙ words_after-at 1 w 0
 
-pub third-word : (w w1 w2 : ℕ → ℕ) → w1 ≡ after 1 w → w2 ≡ after 1 w1 → w2 0 ≡ w 2
-third-word w w1 w2 one two = ap (λ (f : ℕ → ℕ). f 0) (two ∙ ap (after 1) one ∙ after-after 1 1 w) ∙ after-at 2 w 0
+pub third-word : (w w1 w2 : ℕ → ℕ) → w1 ≡ words_after 1 w → w2 ≡ words_after 1 w1 → w2 0 ≡ w 2
+third-word w w1 w2 one two = ap (λ (f : ℕ → ℕ). f 0) (two ∙ ap (words_after 1) one ∙ words_after-twice 1 1 w) ∙ words_after-at 2 w 0
 
-pub three-left : {w1 w2 w3 : ℕ → ℕ} (w : ℕ → ℕ) → w1 ≡ after 1 w → w2 ≡ after 1 w1 → w3 ≡ after 1 w2 → w3 ≡ after 3 w
-three-left w one two three = three ∙ ap (after 1) (two ∙ ap (after 1) one ∙ after-after 1 1 w) ∙ after-after 1 2 w
+pub three-left : {w1 w2 w3 : ℕ → ℕ} (w : ℕ → ℕ) → w1 ≡ words_after 1 w → w2 ≡ words_after 1 w1 → w3 ≡ words_after 1 w2 → w3 ≡ words_after 3 w
+three-left w one two three = three ∙ ap (words_after 1) (two ∙ ap (words_after 1) one ∙ words_after-twice 1 1 w) ∙ words_after-twice 1 2 w
 
 pub ok-of : {A E : Type 0} (r : Result A E) (X : Type 0) → X → OnOk r X
 ok-of (Ok a) X x = x
@@ -253,13 +253,13 @@ line-drawn {s} {b} {d} {source} {buffer} {delay} r asks state draws is =
     open asks use {link, client, old, new, entries}
 
 -- no words are drawn
-none-left : (w : ℕ → ℕ) (n : ℕ) → n ≡ 0 → w ≡ after n w
-none-left w n none = sym (ap (λ k. after k w) none ∙ after-zero w)
+none-left : (w : ℕ → ℕ) (n : ℕ) → n ≡ 0 → w ≡ words_after n w
+none-left w n none = sym (ap (λ k. words_after k w) none ∙ words_after-zero w)
 
 -- a client for whom no word is drawn
 pub no-words : {w : ℕ → ℕ} {client : Client} (clients : List Client) (c : ℕ) → length clients ≡ 256 → c < 2 ^ 8
     → client ≡ get_or clients c client
-    → words_for (state_of client) ≡ 0 → w ≡ after (words_for (get_or (map state_of clients) c Idle)) w
+    → words_for (state_of client) ≡ 0 → w ≡ words_after (words_for (get_or (map state_of clients) c Idle)) w
 no-words {w} {client} clients c count small at none =
     let inside : c < length clients = omega (arith, count, small) in
     none-left w _ (ap words_for (state-at clients c client inside ∙ sym (ap state_of at)) ∙ none)

@@ -3,7 +3,7 @@ use Rattle.std.proofs.Common.{◌≡◌, ◌<◌, ◌≤◌, ◌+◌, ◌-◌, �
 use Rattle.std.specs.Prelude.{sum_by}
 use Rattle.std.specs.List.{fold, range_with_len}
 use Rattle.std.proofs.lemmas.List.Sums.{sum_by-cons}
-use Rattle.film_make.specs.Generator.{after}
+use Rattle.film_make.specs.Generator.{words_after}
 use Rattle.slot_calendar.specs.Plays.{booked_by}
 use Rattle.admission.specs.declared.entries.Answer.{Answer}
 use Rattle.admission.specs.declared.entries.Answer.TheVariants.{Admitted, Overflow, Halted, Looked}
@@ -174,7 +174,7 @@ turn-past {link} {words} {turn} t is ready past =
     let mid : IsReady turn.mid = subst R (sym is.slot) (later-ready turn.old (words 0 % 4) ready) in
     let P : Moment → Type 0 = λ m. t ≤ m.heard → booked_after m.entries t ≡ booked_after turn.old.entries t in
     let to-mid : P turn.mid = subst P (sym is.slot) (later-past turn.old (words 0 % 4) t ready) in
-    done-past (record { link = link; old = turn.mid; new = turn.new; text = turn.text }) (after 2 words)
+    done-past (record { link = link; old = turn.mid; new = turn.new; text = turn.text }) (words_after 2 words)
     (record { client = omega arith; at = refl }) mid is.done t past ∙ to-mid past
 
 -- ---- sums and peaks over slots that join
@@ -271,7 +271,7 @@ turns-past {turns = turn ∷ turns} {old} {booked} link words new run ready same
     run.1.1 (turn-ready link words turn is begun) same in
     let from : turn.old.heard ≡ old.heard = ap (λ (m : Moment). m.heard) run.0 in
     let mid : turn.new.heard ≡ turn.mid.heard =
-    done-heard (record { link = link; old = turn.mid; new = turn.new; text = turn.text }) (after 2 words)
+    done-heard (record { link = link; old = turn.mid; new = turn.new; text = turn.text }) (words_after 2 words)
     (client_of words) _ is.done in
     let M : Moment → Type 0 = λ m. turn.old.heard ≤ m.heard in
     let later : turn.old.heard ≤ turn.mid.heard = subst M (sym is.slot) (later-heard turn.old (words 0 % 4)) in

@@ -6,7 +6,7 @@ use Rattle.std.specs.Prelude.{if◌then◌else◌, List, [], ◌∷◌, codes, c
 use Rattle.std.specs.Prelude.{sum_by, take}
 use Rattle.std.specs.List.{range_with_len}
 use Rattle.std.specs.Str.{bytes_eq}
-use Rattle.film_make.specs.Generator.{after, words_of}
+use Rattle.film_make.specs.Generator.{words_after, words_of}
 use Rattle.film_make.specs.Trace.{sizes_of}
 use Rattle.slot_calendar.specs.declared.profiles.CapStep.{CapStep}
 use Rattle.admission.specs.declared.entries.Answer.{Answer}
@@ -28,13 +28,13 @@ abbrev pub picture_count : (ℕ → ℕ) → ℕ
 picture_count words = 100 + words 0 % 101
 
 abbrev pub trace_drawn : (ℕ → ℕ) → List ℕ
-trace_drawn words = sizes_of (after 1 words) (picture_count words)
+trace_drawn words = sizes_of (words_after 1 words) (picture_count words)
 
 -- the words that k traces leave
 unfoldable pub after_traces : ℕ → (ℕ → ℕ) → ℕ → ℕ
 after_traces zero words = words
 after_traces (suc k) words =
-    after (picture_count (after_traces k words)) (after 1 (after_traces k words))
+    words_after (picture_count (after_traces k words)) (words_after 1 (after_traces k words))
 
 -- the first k traces
 abbrev pub traces_drawn : ℕ → (ℕ → ℕ) → List (List ℕ)
@@ -89,12 +89,12 @@ state_in words turn = state_at turn.mid (client_of words)
 -- a turn by the next words: how many slots later, 0 to 3, and one of 256 clients
 pub record IsTurn (link : Link) (words : ℕ → ℕ) (turn : Turn) : Type 0 where
   pub slot : turn.mid ≡ at_later turn.old (words 0 % 4)
-  pub done : IsDone link (after 2 words) (client_of words) (state_in words turn) turn.mid turn.new
+  pub done : IsDone link (words_after 2 words) (client_of words) (state_in words turn) turn.mid turn.new
       turn.text
 
 -- the words that a turn leaves
 abbrev pub after_turn : (ℕ → ℕ) → Turn → ℕ → ℕ
-after_turn words turn = after (2 + words_for (state_in words turn)) words
+after_turn words turn = words_after (2 + words_for (state_in words turn)) words
 
 -- turns one after the other
 abbrev pub AreTurns : Link → (ℕ → ℕ) → List Turn → Moment → Moment → Type 0

@@ -2,7 +2,7 @@
 
 ghost use Rattle.std.specs.Prelude.{◌≡◌, ◌+◌, ◌*◌, ◌^◌, ◌≤◌, ◌<◌, ◌%◌, List, false, if◌then◌else◌};
 ghost use Rattle.std.specs.Prelude.{length, map, IfOk, OnOk};
-ghost use Rattle.film_make.specs.Generator.{after, words_left};
+ghost use Rattle.film_make.specs.Generator.{words_after, words_left};
 ghost use Rattle.film_run.specs.Units.{AreUnitSizes};
 ghost use Rattle.admission.specs.declared.entries.Entry.{Entry};
 ghost use Rattle.admission.specs.Histories.{IsLegal};
@@ -108,7 +108,7 @@ fn play_drawn(
         (words_left draws.old 0 % 16) (16384 + words_left draws.old 1 % 16384)
         (words_left draws.old 2 % 26)) (state_at (moment_of runner.old) client)
         (moment_of runner.old) (moment_of runner.new) (told_text runner.new.book.entries told)) }
-    ensures left { OnOk result (words_left draws.new ≡ after 3 (words_left draws.old)) }
+    ensures left { OnOk result (words_left draws.new ≡ words_after 3 (words_left draws.old)) }
 {
     let source = draws.draw(TRACES as u32) as usize;
     let buffer = 16_384 + u64::from(draws.draw(16_384));
@@ -133,7 +133,7 @@ fn turn_client(
         (state_at (moment_of runner.old) client) (moment_of runner.old) (moment_of runner.new)
         (said_text runner.new.book.entries told)) }
     ensures left { OnOk result (words_left draws.new
-        ≡ after (words_for (state_at (moment_of runner.old) client)) (words_left draws.old)) }
+        ≡ words_after (words_for (state_at (moment_of runner.old) client)) (words_left draws.old)) }
 {
     match &runner.clients[client as usize] {
         Client::Playing(_) => Ok(Some(runner.pause(client))),

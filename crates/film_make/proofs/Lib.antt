@@ -1,7 +1,7 @@
 pub mod GeneratorLemmas
-pub mod FilmLemmas
+mod FilmLemmas
 pub mod TraceLemmas
-pub mod PackLemmas
-pub mod SystemLemmas
-pub mod SizeLemmas
-pub mod SliceLemmas
+mod PackLemmas
+mod SystemLemmas
+mod SizeLemmas
+mod SliceLemmas

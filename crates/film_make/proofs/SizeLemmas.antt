@@ -11,13 +11,13 @@ use Rattle.film_make.specs.Film.{body_length, body_of, coding_type, in_bytes}
 use Rattle.film_make.specs.Film.{picture_fields, picture_header, picture_of, sequence_and_group}
 use Rattle.film_make.specs.Film.{slice_of}
 use Rattle.film_make.specs.Film.{slice_words, slices_of, temporal_reference}
-use Rattle.film_make.specs.Generator.{after, concat}
+use Rattle.film_make.specs.Generator.{words_after, end_to_end}
 
 -- a slice of a kind of picture has a length within these bounds
 slice-length : (words : ℕ → ℕ) (kind : CodingType) (code : ℕ) → length (slice_of words kind code) ≡ 4 + body_length words kind
 unfolding slice_of body_of
 slice-length words kind code =
-    let body = length-map-range_with_len (λ i. 128 + after 1 words i % 128) 0 (body_length words kind) in omega (arith, body)
+    let body = length-map-range_with_len (λ i. 128 + words_after 1 words i % 128) 0 (body_length words kind) in omega (arith, body)
 
 -- a length of a body
 record HasBounds (least most length : ℕ) : Type 0 where
@@ -40,7 +40,7 @@ bidirectional-body words = record { low = omega arith; high = omega arith }
 slices-length : (words : ℕ → ℕ) (kind : CodingType) (least most : ℕ)
     → ((w : ℕ → ℕ) → HasBounds least most (body_length w kind))
     → HasBounds (4 * (4 + least)) (4 * (4 + most)) (length (slices_of words kind 4))
-unfolding concat
+unfolding end_to_end
 slices-length words kind least most body =
     let w = slice_words kind words in
     let s : ℕ → List ℕ = λ k. slice_of (w k) kind (k + 1) in

@@ -6,7 +6,7 @@ use Rattle.std.proofs.lemmas.List.Elements.{All-map}
 use Rattle.film_make.specs.declared.pictures.CodingType.{CodingType}
 use Rattle.film_make.specs.Film.{body_length, body_of, coding_type, picture_of, sequence_and_group}
 use Rattle.film_make.specs.Film.{slice_of, slice_words, slices_of}
-use Rattle.film_make.specs.Generator.{after, concat}
+use Rattle.film_make.specs.Generator.{words_after, end_to_end}
 use Rattle.film_make.specs.Slices.{AreSlices, EndsWithSlices, IsBody}
 use Rattle.film_make.proofs.SizeLemmas.{front-first, front-other, header-length, kind-even, kind-first, kind-odd, picture-headers}
 
@@ -17,12 +17,12 @@ body-is words n =
     (λ k d lt. (omega arith, omega arith))
 
 slices-are : (words : ℕ → ℕ) (kind : CodingType) → AreSlices 4 1 (slices_of words kind 4)
-unfolding concat slice_of
+unfolding end_to_end slice_of
 slices-are words kind =
     let w = slice_words kind words in
     let s : ℕ → List ℕ = λ k. slice_of (w k) kind (k + 1) in
-    let body : ℕ → List ℕ = λ k. body_of (after 1 (w k)) (body_length (w k) kind) in
-    let is : (k : ℕ) → IsBody (body k) = λ k. body-is (after 1 (w k)) (body_length (w k) kind) in (
+    let body : ℕ → List ℕ = λ k. body_of (words_after 1 (w k)) (body_length (w k) kind) in
+    let is : (k : ℕ) → IsBody (body k) = λ k. body-is (words_after 1 (w k)) (body_length (w k) kind) in (
       body 0,
       (
         s 1 ++ (s 2 ++ (s 3 ++ [])),

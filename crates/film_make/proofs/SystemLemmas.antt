@@ -12,7 +12,7 @@ use Rattle.sys_demux.specs.Standard.Element.{PackHeader, VideoPacket}
 use Rattle.sys_demux.specs.Standard.Stamps.{NoStamp}
 use Rattle.sys_demux.specs.Streams.{IsSystem}
 use Rattle.sys_demux.proofs.StandardStreams.{stream_read}
-use Rattle.film_make.specs.Generator.{concat}
+use Rattle.film_make.specs.Generator.{end_to_end}
 use Rattle.film_make.specs.System.{pack_header, pack_of, system_of}
 
 -- the packet of some video
@@ -94,7 +94,7 @@ all-video video =
     ∙ take_all (2000 * n) video (omega arith)
 
 pub unwraps : (video : List ℕ) → IsSystem (system_of video) video
-unfolding concat
+unfolding end_to_end
 unwraps video =
     let n = (length video + 1999) / 2000 in
     let tail : List ℕ = 0 ∷ 0 ∷ 1 ∷ 0xb9 ∷ [] in

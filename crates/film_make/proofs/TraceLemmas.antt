@@ -7,10 +7,10 @@ use Rattle.std.specs.Prelude.{decimal, flat_map, map}
 use Rattle.std.specs.List.{range_with_len}
 use Rattle.std.proofs.lemmas.List.FromFn.{length-map-range_with_len, map-range_with_len_more}
 use Rattle.std.proofs.lemmas.List.FromFn.{take-map-range_with_len}
-use Rattle.film_make.specs.Generator.{after, concat}
+use Rattle.film_make.specs.Generator.{words_after, end_to_end}
 use Rattle.film_make.specs.Trace.{sizes_of, trace_of, trace_size}
-use Rattle.film_make.proofs.GeneratorLemmas.{after-at}
-use Rattle.film_make.proofs.FilmLemmas.{concat-more}
+use Rattle.film_make.proofs.GeneratorLemmas.{words_after-at}
+use Rattle.film_make.proofs.FilmLemmas.{end_to_end-more}
 
 scaled : (b : Bool) (n : ℕ) → (200 ≤ cond b 4 1 * (200 + n % 1800)) × (cond b 4 1 * (200 + n % 1800) ≤ 7996)
 scaled true n = (omega arith, omega arith)
@@ -20,27 +20,27 @@ pub trace_size-range : (words : ℕ → ℕ) (k : ℕ) → (200 ≤ trace_size w
 unfolding trace_size
 trace_size-range words k = scaled (eqb (k % 12) 0) (words k)
 
-pub trace_size-drawn : (words left : ℕ → ℕ) (k : ℕ) → left ≡ after k words
+pub trace_size-drawn : (words left : ℕ → ℕ) (k : ℕ) → left ≡ words_after k words
     → cond (eqb (k % 12) 0) 4 1 * (200 + left 0 % 1800) ≡ trace_size words k
 unfolding trace_size
 trace_size-drawn words left k rest =
     let same : k + 0 ≡ k = omega arith in
-    ap (λ n. cond (eqb (k % 12) 0) 4 1 * (200 + n % 1800)) (ap (λ (w : ℕ → ℕ). w 0) rest ∙ after-at k words 0 ∙ ap words same)
+    ap (λ n. cond (eqb (k % 12) 0) 4 1 * (200 + n % 1800)) (ap (λ (w : ℕ → ℕ). w 0) rest ∙ words_after-at k words 0 ∙ ap words same)
 
 -- a line more
 pub line-step : {was : List ℕ} {left : ℕ → ℕ} {size : ℕ} (words : ℕ → ℕ) (k : ℕ)
-    → was ≡ concat (λ n. decimal (trace_size words n) ++ 10 ∷ []) k → left ≡ after k words
+    → was ≡ end_to_end (λ n. decimal (trace_size words n) ++ 10 ∷ []) k → left ≡ words_after k words
     → size ≡ cond (eqb (k % 12) 0) 4 1 * (200 + left 0 % 1800)
-    → was ++ (decimal size ++ 10 ∷ []) ≡ concat (λ n. decimal (trace_size words n) ++ 10 ∷ []) (k + 1)
+    → was ++ (decimal size ++ 10 ∷ []) ≡ end_to_end (λ n. decimal (trace_size words n) ++ 10 ∷ []) (k + 1)
 line-step {left} {size} words k lines rest drawn =
     ap (λ (l : List ℕ). l ++ (decimal size ++ 10 ∷ [])) lines
-    ∙ ap (λ n. concat (λ n. decimal (trace_size words n) ++ 10 ∷ []) k ++ (decimal n ++ 10 ∷ []))
+    ∙ ap (λ n. end_to_end (λ n. decimal (trace_size words n) ++ 10 ∷ []) k ++ (decimal n ++ 10 ∷ []))
     (drawn ∙ trace_size-drawn words left k rest)
-    ∙ sym (concat-more (λ n. decimal (trace_size words n) ++ 10 ∷ []) k)
+    ∙ sym (end_to_end-more (λ n. decimal (trace_size words n) ++ 10 ∷ []) k)
 
 -- a size more
 pub size-step : {was : List ℕ} {left : ℕ → ℕ} {size : ℕ} (words : ℕ → ℕ) (k : ℕ)
-    → was ≡ map (trace_size words) (range_with_len 0 k) → left ≡ after k words
+    → was ≡ map (trace_size words) (range_with_len 0 k) → left ≡ words_after k words
     → size ≡ cond (eqb (k % 12) 0) 4 1 * (200 + left 0 % 1800)
     → was ++ size ∷ [] ≡ map (trace_size words) (range_with_len 0 (k + 1))
 size-step {left} {size} words k sizes rest drawn =
@@ -84,5 +84,5 @@ lines-from words a zero = refl
 lines-from words a (suc n) = ap (λ (l : List ℕ). (decimal (trace_size words a) ++ 10 ∷ []) ++ l) (lines-from words (a + 1) n)
 
 pub trace-lines : (words : ℕ → ℕ) (n : ℕ) → trace_of words n ≡ flat_map (λ size. decimal size ++ 10 ∷ []) (sizes_of words n)
-unfolding concat
+unfolding end_to_end
 trace-lines words n = lines-from words 0 n

@@ -6,7 +6,7 @@ use Rattle.std.specs.List.{range_with_len, sum_by}
 use Rattle.film_make.specs.declared.pictures.CodingType.{CodingType}
 use Rattle.film_make.specs.declared.pictures.CodingType.TheVariants.{Intra, Predicted}
 use Rattle.film_make.specs.declared.pictures.CodingType.TheVariants.{Bidirectional}
-use Rattle.film_make.specs.Generator.{after, concat}
+use Rattle.film_make.specs.Generator.{words_after, end_to_end}
 
 -- fields from the highest bit on, each a value and its number of bits, as one number
 abbrev pub in_bits : List (ℕ × ℕ) → ℕ
@@ -68,7 +68,7 @@ body_length words kind = least_body kind + words 0 % body_lengths kind
 
 -- the words after those of a slice: one for the length of the body, and one for each byte
 unfoldable pub after_slice : CodingType → (ℕ → ℕ) → ℕ → ℕ
-after_slice kind words = after (1 + body_length words kind) words
+after_slice kind words = words_after (1 + body_length words kind) words
 
 -- a body of n bytes from 128 to 255, a word each
 unfoldable pub body_of : (ℕ → ℕ) → ℕ → List ℕ
@@ -77,7 +77,7 @@ body_of words n = map (λ i. 128 + words i % 128) (range_with_len 0 n)
 -- a slice: its start code, and its body, whose length is drawn before its bytes
 unfoldable pub slice_of : (ℕ → ℕ) → CodingType → ℕ → List ℕ
 slice_of words kind code =
-    0 ∷ 0 ∷ 1 ∷ code ∷ body_of (after 1 words) (body_length words kind)
+    0 ∷ 0 ∷ 1 ∷ code ∷ body_of (words_after 1 words) (body_length words kind)
 
 -- the words from which slice s of a picture is drawn
 unfoldable pub slice_words : CodingType → (ℕ → ℕ) → ℕ → ℕ → ℕ
@@ -91,7 +91,7 @@ picture_words words (suc k) = slice_words (coding_type (k % 12)) (picture_words 
 
 -- the first n slices of a picture, with codes from 1 on
 abbrev pub slices_of : (ℕ → ℕ) → CodingType → ℕ → List ℕ
-slices_of words kind n = concat (λ s. slice_of (slice_words kind words s) kind (s + 1)) n
+slices_of words kind n = end_to_end (λ s. slice_of (slice_words kind words s) kind (s + 1)) n
 
 -- picture k: the sequence and group headers where it is the first of its group, its header, and
 -- slices 1 to 4
@@ -102,7 +102,7 @@ picture_of words k =
 
 -- the first n pictures of a film
 abbrev pub pictures_of : (ℕ → ℕ) → ℕ → List ℕ
-pictures_of words n = concat (λ k. picture_of (picture_words words k) k) n
+pictures_of words n = end_to_end (λ k. picture_of (picture_words words k) k) n
 
 -- the film of n pictures
 abbrev pub film_of : (ℕ → ℕ) → ℕ → List ℕ

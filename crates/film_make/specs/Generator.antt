@@ -17,9 +17,9 @@ unfoldable pub words_left : ChaCha → ℕ → ℕ
 words_left g = λ k. word_at 4 g.key g.stream ((g.word_pos + k) % 2 ^ 68)
 
 -- what is left of the words once n of them are drawn
-unfoldable pub after : ℕ → (ℕ → ℕ) → ℕ → ℕ
-after n words = λ k. words (n + k)
+unfoldable pub words_after : ℕ → (ℕ → ℕ) → ℕ → ℕ
+words_after n words = λ k. words (n + k)
 
 -- pieces 0 to n - 1, end to end
-unfoldable pub concat : (ℕ → List ℕ) → ℕ → List ℕ
-concat piece n = flat_map piece (range_with_len 0 n)
+unfoldable pub end_to_end : (ℕ → List ℕ) → ℕ → List ℕ
+end_to_end piece n = flat_map piece (range_with_len 0 n)

@@ -1,7 +1,7 @@
 -- A system stream (ISO/IEC 11172-1) of one video stream, in packets of at most 2,000 video bytes.
 use Rattle.std.specs.Prelude.{ℕ, ◌+◌, ◌*◌, ◌/◌, List, [], ◌∷◌, ◌++◌, length, take, drop}
 use Rattle.std.specs.Int.{w16, to_be_bytes}
-use Rattle.film_make.specs.Generator.{concat}
+use Rattle.film_make.specs.Generator.{end_to_end}
 
 -- a pack header (2.4.3.2)
 abbrev pub pack_header : List ℕ
@@ -16,7 +16,7 @@ pack_of bytes =
 
 -- the first n packs of video: pack i has the 2,000 bytes from 2000 * i on, or what is left
 abbrev pub packs_of : List ℕ → ℕ → List ℕ
-packs_of video n = concat (λ i. pack_of (take 2000 (drop (2000 * i) video))) n
+packs_of video n = end_to_end (λ i. pack_of (take 2000 (drop (2000 * i) video))) n
 
 -- video in as many packs as it needs, and the end code
 abbrev pub system_of : List ℕ → List ℕ

@@ -1,15 +1,15 @@
 //! The generator: each number has its own draws.
 ghost use Rattle.std.specs.Prelude.{◌≡◌, ◌%◌, ◌^◌, ◌<◌, ◌≤◌};
 ghost use Rattle.rand_chacha.specs.ChaCha.{ChaCha};
-ghost use Rattle.film_make.specs.Generator.{words_left, words_of, after};
+ghost use Rattle.film_make.specs.Generator.{words_left, words_of, words_after};
 
 use rand_chacha::ChaCha8Rng;
 use rand_core::SeedableRng;
 use rand_core::utils::NextWord;
 use std::marker::Model;
 
-/// The draws of a number: ChaCha with eight rounds (D. J. Bernstein, 2008), seeded with the number's
-/// eight bytes, the least first, and 24 zero bytes.
+/// The draws of a number: ChaCha with eight rounds (D. J. Bernstein, 2008), seeded with the
+/// number's eight bytes, the least first, and 24 zero bytes.
 ///
 /// Contracts see the words that are still to come as `words_left`, from the next one on.
 #[derive(Drop)]
@@ -41,7 +41,7 @@ impl Draws {
     pub fn draw(&mut self, n: u32) -> u32
         requires { 1 ≤ n }
         ensures value { result ≡ words_left self.old 0 % n }
-        ensures left { words_left self.new ≡ after 1 (words_left self.old) }
+        ensures left { words_left self.new ≡ words_after 1 (words_left self.old) }
     {
         self.rng.next_word() % n
     }

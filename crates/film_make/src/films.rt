@@ -1,11 +1,11 @@
 //! Makes a film, as an MPEG-1 video stream.
-ghost use Rattle.std.specs.Prelude.{◌≡◌, ◌++◌, ◌≤◌, IfOk, take};
+ghost use Rattle.std.specs.Prelude.{◌≡◌, ◌++◌, IfOk};
 ghost use Rattle.film_make.specs.Generator.{words_of};
-ghost use Rattle.film_make.specs.Film.{film_of, pictures_of, sequence_and_group};
+ghost use Rattle.film_make.specs.Film.{film_of, pictures_of};
 
 use crate::draws::Draws;
 use crate::pictures::write_picture;
-use std::alloc::{AllocError, Global};
+use std::alloc::Global;
 use vod_base::NoMemory;
 
 /// A sequence end code.
@@ -16,15 +16,15 @@ const SEQUENCE_END: [u8; 4] = [0, 0, 1, 0xb7];
 ///
 /// `pictures` is at most 100,000 on the command line, and any number here.
 pub fn make_film(alloc: Global, number: u64, pictures: u32) -> Result<Vec<u8>, NoMemory>
-    ensures film { IfOk result (λ film. film.items ≡ film_of (words_of number) pictures) }
-    ensures begins { 1 ≤ pictures →
-        take 20 (film_of (words_of number) pictures) ≡ sequence_and_group }
+    ensures { IfOk result (λ film. film.items ≡ film_of (words_of number) pictures) }
 {
-    Ok(whole_film(alloc, number, pictures)?)
+    let mut film = make_pictures(alloc, number, pictures)?;
+    film.extend_from_slice(&SEQUENCE_END)?;
+    Ok(film)
 }
 
 /// The pictures of a film, without the end of the sequence.
-fn make_pictures(alloc: Global, number: u64, pictures: u32) -> Result<Vec<u8>, AllocError>
+fn make_pictures(alloc: Global, number: u64, pictures: u32) -> Result<Vec<u8>, NoMemory>
     ensures { IfOk result (λ film. film.items ≡ pictures_of (words_of number) pictures) }
 {
     let mut draws = Draws::new(number);
@@ -32,14 +32,5 @@ fn make_pictures(alloc: Global, number: u64, pictures: u32) -> Result<Vec<u8>, A
     for index in 0..pictures {
         write_picture(&mut draws, index, &mut film)?;
     }
-    Ok(film)
-}
-
-/// A film, with the end of the sequence.
-fn whole_film(alloc: Global, number: u64, pictures: u32) -> Result<Vec<u8>, AllocError>
-    ensures { IfOk result (λ film. film.items ≡ film_of (words_of number) pictures) }
-{
-    let mut film = make_pictures(alloc, number, pictures)?;
-    film.extend_from_slice(&SEQUENCE_END)?;
     Ok(film)
 }

@@ -5,7 +5,7 @@ ghost use Rattle.std.specs.Prelude.{drop, flat_map, length, take};
 ghost use Rattle.mpeg_scan.specs.Standard.{backward_vector, forward_vector, picture_coding_type};
 ghost use Rattle.mpeg_scan.specs.Standard.{temporal_reference};
 ghost use Rattle.sys_demux.specs.Streams.{IsSystem};
-ghost use Rattle.film_make.specs.Film.{picture_of, pictures_of, sequence_and_group};
+ghost use Rattle.film_make.specs.Film.{film_of, picture_of, pictures_of, sequence_and_group};
 ghost use Rattle.film_make.specs.Headers.{IsGroupHeader, IsSequenceHeader, IsBetween, field_of};
 ghost use Rattle.film_make.specs.Slices.{EndsWithSlices};
 ghost use Rattle.film_make.specs.System.{system_of};
@@ -26,11 +26,14 @@ pub fn law_trace()
         trace_of words n ≡ flat_map (λ size. decimal size ++ 10 ∷ []) (sizes_of words n) }
 {}
 
-/// The headers of a film say what is meant: pictures of 352 by 288 square samples, 25 a second, in
+/// A film with a picture begins with a sequence and a group header, and the headers of a film say
+/// what is meant: pictures of 352 by 288 square samples, 25 a second, in
 /// closed groups; and of the twelve pictures of a group, in the order of the stream, the types (1
 /// is I, 2 P, 3 B), the places in the order of showing, and the vectors' fields (0 full-pel, f-code
 /// 1).
 pub fn law_film_headers()
+    ensures begins { (words : ℕ → ℕ) (n : ℕ) → 1 ≤ n →
+        take 20 (film_of words n) ≡ sequence_and_group }
     ensures sequence { IsSequenceHeader (take 12 sequence_and_group) }
     ensures group { IsGroupHeader (drop 12 sequence_and_group) }
     ensures types { field_of picture_coding_type ≡
@@ -55,8 +58,8 @@ pub fn law_picture_sizes()
 {}
 
 /// A picture is its headers and four slices, and nothing else: with those of its sequence and group
-/// 28 bytes of headers, else 9, and slices 1 to 4 in order, each with its start code and bytes among
-/// which no other start code stands.
+/// 28 bytes of headers, else 9, and slices 1 to 4 in order, each with its start code and bytes
+/// among which no other start code stands.
 pub fn law_picture_slices()
     ensures first { (words : ℕ → ℕ) (k : ℕ) → k % 12 ≡ 0 →
         EndsWithSlices 28 4 (picture_of words k) }

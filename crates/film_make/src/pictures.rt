@@ -1,14 +1,14 @@
 //! Makes a picture with its headers and slices.
 ghost use Rattle.std.specs.Prelude.{◌≡◌, ℕ, ◌+◌, ◌++◌, ◌%◌, ◌<◌, ◌≤◌, ◌==◌, [], if◌then◌else◌};
 ghost use Rattle.std.specs.Prelude.{OnOk};
-ghost use Rattle.film_make.specs.Generator.{after, words_left};
+ghost use Rattle.film_make.specs.Generator.{words_after, words_left};
 ghost use Rattle.film_make.specs.Film.{after_slice, body_lengths, body_of, coding_type, in_bytes};
 ghost use Rattle.film_make.specs.Film.{least_body, picture_fields, picture_header, picture_of};
 ghost use Rattle.film_make.specs.Film.{sequence_and_group, slice_of, slice_words, slices_of};
 ghost use Rattle.film_make.specs.Film.{temporal_reference};
 
 use crate::draws::Draws;
-use std::alloc::AllocError;
+use vod_base::NoMemory;
 
 /// Pictures of a group.
 pub(crate) const GROUP: u32 = 12;
@@ -82,7 +82,7 @@ pub(crate) fn write_picture(
     draws: &mut Draws,
     index: u32,
     out: &mut Vec<u8>,
-) -> Result<(), AllocError>
+) -> Result<(), NoMemory>
     ensures bytes { OnOk result (out.new.items ≡
         out.old.items ++ picture_of (words_left draws.old) index) }
     ensures left { OnOk result (words_left draws.new ≡
@@ -110,30 +110,31 @@ fn temporal_reference_at(place: u32) -> u32
 }
 
 /// Appends the fields of a picture header that follow its start code.
-fn write_fields(kind: CodingType, shown: u32, out: &mut Vec<u8>) -> Result<(), AllocError>
+fn write_fields(kind: CodingType, shown: u32, out: &mut Vec<u8>) -> Result<(), NoMemory>
     requires { shown < 1024 }
     ensures { OnOk result (out.new.items ≡ out.old.items ++ in_bytes (picture_fields kind shown)) }
 {
     let shown = u64::from(shown);
     match kind {
         CodingType::Intra => {
-            let bits = ((shown * 8 + 1) * 65536 + 0xffff) * 8;
-            out.extend_from_slice(&bits.to_be_bytes()[4..])
+            let bits = ((((shown << 3) + 1) << 16) + 0xffff) << 3;
+            out.extend_from_slice(&bits.to_be_bytes()[4..])?;
         }
         CodingType::Predicted => {
-            let bits = (((shown * 8 + 2) * 65536 + 0xffff) * 16 + 1) * 128;
-            out.extend_from_slice(&bits.to_be_bytes()[3..])
+            let bits = ((((((shown << 3) + 2) << 16) + 0xffff) << 4) + 1) << 7;
+            out.extend_from_slice(&bits.to_be_bytes()[3..])?;
         }
         CodingType::Bidirectional => {
-            let bits = ((((shown * 8 + 3) * 65536 + 0xffff) * 16 + 1) * 16 + 1) * 8;
-            out.extend_from_slice(&bits.to_be_bytes()[3..])
+            let bits = ((((((((shown << 3) + 3) << 16) + 0xffff) << 4) + 1) << 4) + 1) << 3;
+            out.extend_from_slice(&bits.to_be_bytes()[3..])?;
         }
     }
+    Ok(())
 }
 
 /// Appends the header of a picture of a group.
 #[tactic(auto, using(std::proofs::lemmas::List::append_assoc), unfolding(crate::specs::Film::picture_header))]
-fn write_picture_header(place: u32, out: &mut Vec<u8>) -> Result<(), AllocError>
+fn write_picture_header(place: u32, out: &mut Vec<u8>) -> Result<(), NoMemory>
     requires { place < 12 }
     ensures { OnOk result (out.new.items ≡ out.old.items ++ picture_header place) }
 {
@@ -142,10 +143,10 @@ fn write_picture_header(place: u32, out: &mut Vec<u8>) -> Result<(), AllocError>
 }
 
 /// Appends the body of a slice, each byte from 128 to 255.
-fn write_body(draws: &mut Draws, length: u32, out: &mut Vec<u8>) -> Result<(), AllocError>
+fn write_body(draws: &mut Draws, length: u32, out: &mut Vec<u8>) -> Result<(), NoMemory>
     ensures bytes { OnOk result (out.new.items ≡
         out.old.items ++ body_of (words_left draws.old) length) }
-    ensures left { OnOk result (words_left draws.new ≡ after length (words_left draws.old)) }
+    ensures left { OnOk result (words_left draws.new ≡ words_after length (words_left draws.old)) }
 {
     for i in 0..length {
         out.push(128 + draws.draw(128) as u8)?;
@@ -159,7 +160,7 @@ fn write_slice(
     kind: CodingType,
     code: u8,
     out: &mut Vec<u8>,
-) -> Result<(), AllocError>
+) -> Result<(), NoMemory>
     ensures bytes { OnOk result (out.new.items ≡
         out.old.items ++ slice_of (words_left draws.old) kind code) }
     ensures left { OnOk result (words_left draws.new ≡ after_slice kind (words_left draws.old)) }
@@ -170,7 +171,7 @@ fn write_slice(
 }
 
 /// Appends the slices of a picture.
-fn write_slices(draws: &mut Draws, kind: CodingType, out: &mut Vec<u8>) -> Result<(), AllocError>
+fn write_slices(draws: &mut Draws, kind: CodingType, out: &mut Vec<u8>) -> Result<(), NoMemory>
     ensures bytes { OnOk result (out.new.items ≡
         out.old.items ++ slices_of (words_left draws.old) kind 4) }
     ensures left { OnOk result (words_left draws.new ≡ slice_words kind (words_left draws.old) 4) }
@@ -182,7 +183,7 @@ fn write_slices(draws: &mut Draws, kind: CodingType, out: &mut Vec<u8>) -> Resul
 }
 
 /// Appends the sequence and group headers before the first picture of a group.
-fn begin_group(place: u32, out: &mut Vec<u8>) -> Result<(), AllocError>
+fn begin_group(place: u32, out: &mut Vec<u8>) -> Result<(), NoMemory>
     ensures { OnOk result (out.new.items ≡
         out.old.items ++ (if place == 0 then sequence_and_group else [])) }
 {

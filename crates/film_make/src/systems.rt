@@ -5,7 +5,7 @@ ghost use Rattle.film_make.specs.Film.{film_of};
 ghost use Rattle.film_make.specs.System.{pack_of, packs_of, system_of};
 
 use crate::films::make_film;
-use std::alloc::{AllocError, Global};
+use std::alloc::Global;
 use vod_base::NoMemory;
 
 /// Video bytes of a packet.
@@ -28,12 +28,12 @@ pub fn make_system(alloc: Global, number: u64, pictures: u32) -> Result<Vec<u8>,
         system_of (film_of (words_of number) pictures)) }
 {
     let film = make_film(alloc, number, pictures)?;
-    Ok(wrap(alloc, &film)?)
+    wrap(alloc, &film)
 }
 
 /// Appends a pack of one packet with these video bytes.
 #[tactic(auto, using(std::proofs::lemmas::List::append_assoc))]
-fn write_pack(video: &[u8], out: &mut Vec<u8>) -> Result<(), AllocError>
+fn write_pack(video: &[u8], out: &mut Vec<u8>) -> Result<(), NoMemory>
     requires { length video.now ≤ 2000 }
     ensures { OnOk result (out.new.items ≡ out.old.items ++ pack_of video.now) }
 {
@@ -41,11 +41,12 @@ fn write_pack(video: &[u8], out: &mut Vec<u8>) -> Result<(), AllocError>
     out.extend_from_slice(&PACK)?;
     out.extend_from_slice(&length.to_be_bytes())?;
     out.push(0x0f)?;
-    out.extend_from_slice(video)
+    out.extend_from_slice(video)?;
+    Ok(())
 }
 
 /// Appends video in packs, without the end code.
-fn write_packs(video: &[u8], out: &mut Vec<u8>) -> Result<(), AllocError>
+fn write_packs(video: &[u8], out: &mut Vec<u8>) -> Result<(), NoMemory>
     ensures { OnOk result (out.new.items ≡
         out.old.items ++ packs_of video.now ((length video.now + 1999) / 2000)) }
 {
@@ -57,7 +58,7 @@ fn write_packs(video: &[u8], out: &mut Vec<u8>) -> Result<(), AllocError>
 }
 
 /// Video as a system stream.
-fn wrap(alloc: Global, video: &[u8]) -> Result<Vec<u8>, AllocError>
+fn wrap(alloc: Global, video: &[u8]) -> Result<Vec<u8>, NoMemory>
     ensures { IfOk result (λ stream. stream.items ≡ system_of video.now) }
 {
     let mut stream = Vec::new(alloc);

@@ -1,19 +1,20 @@
 //! Makes a trace: the sizes of pictures, one a line.
-ghost use Rattle.std.specs.Prelude.{◌≡◌, ℕ, ◌++◌, ◌≤◌, IfOk, ◌*◌, ◌+◌, ◌%◌, ◌==◌, [], ◌∷◌};
+ghost use Rattle.std.specs.Prelude.{◌≡◌, ◌++◌, ◌≤◌, IfOk, ◌*◌, ◌+◌, ◌%◌, ◌==◌, [], ◌∷◌};
 ghost use Rattle.std.specs.Prelude.{if◌then◌else◌, decimal, OnOk};
-ghost use Rattle.film_make.specs.Generator.{after, words_left, words_of};
-ghost use Rattle.film_make.specs.Trace.{sizes_of, trace_of, trace_size};
+ghost use Rattle.film_make.specs.Generator.{words_after, words_left, words_of};
+ghost use Rattle.film_make.specs.Trace.{sizes_of, trace_of};
 
 use crate::draws::Draws;
 use crate::pictures::GROUP;
 use itoa::Buffer;
-use std::alloc::{AllocError, Global};
+use std::alloc::Global;
 use vod_base::NoMemory;
 
 /// The sizes of a trace by the next draws: one for each picture, in bytes, from 200 to 7,996.
 pub fn draw_sizes(alloc: Global, draws: &mut Draws, pictures: u32) -> Result<Vec<u64>, NoMemory>
     ensures sizes { IfOk result (λ sizes. sizes.items ≡ sizes_of (words_left draws.old) pictures) }
-    ensures left { OnOk result (words_left draws.new ≡ after pictures (words_left draws.old)) }
+    ensures left { OnOk result
+        (words_left draws.new ≡ words_after pictures (words_left draws.old)) }
 {
     let mut sizes = Vec::new(alloc);
     for index in 0..pictures {
@@ -25,7 +26,8 @@ pub fn draw_sizes(alloc: Global, draws: &mut Draws, pictures: u32) -> Result<Vec
 /// The trace by the next draws: for each picture its size in bytes, from 200 to 7,996, one a line.
 pub fn draw_trace(alloc: Global, draws: &mut Draws, pictures: u32) -> Result<Vec<u8>, NoMemory>
     ensures trace { IfOk result (λ trace. trace.items ≡ trace_of (words_left draws.old) pictures) }
-    ensures left { OnOk result (words_left draws.new ≡ after pictures (words_left draws.old)) }
+    ensures left { OnOk result
+        (words_left draws.new ≡ words_after pictures (words_left draws.old)) }
 {
     let mut trace = Vec::new(alloc);
     for index in 0..pictures {
@@ -38,9 +40,7 @@ pub fn draw_trace(alloc: Global, draws: &mut Draws, pictures: u32) -> Result<Vec
 ///
 /// `pictures` is at most 100,000 on the command line, and any number here.
 pub fn make_trace(alloc: Global, number: u64, pictures: u32) -> Result<Vec<u8>, NoMemory>
-    ensures trace { IfOk result (λ trace. trace.items ≡ trace_of (words_of number) pictures) }
-    ensures in_range { (k : ℕ) → (200 ≤ trace_size (words_of number) k)
-        × (trace_size (words_of number) k ≤ 7996) }
+    ensures { IfOk result (λ trace. trace.items ≡ trace_of (words_of number) pictures) }
 {
     let mut draws = Draws::new(number);
     draw_trace(alloc, &mut draws, pictures)
@@ -50,14 +50,14 @@ pub fn make_trace(alloc: Global, number: u64, pictures: u32) -> Result<Vec<u8>, 
 fn next_size(draws: &mut Draws, index: u32) -> u32
     ensures value { result ≡
         (if index % 12 == 0 then 4 else 1) * (200 + words_left draws.old 0 % 1800) }
-    ensures left { words_left draws.new ≡ after 1 (words_left draws.old) }
+    ensures left { words_left draws.new ≡ words_after 1 (words_left draws.old) }
 {
     let size = 200 + draws.draw(1800);
     if index % GROUP == 0 { 4 * size } else { size }
 }
 
 /// Appends a line with a number.
-fn write_line(number: u32, out: &mut Vec<u8>) -> Result<(), AllocError>
+fn write_line(number: u32, out: &mut Vec<u8>) -> Result<(), NoMemory>
     ensures { OnOk result (out.new.items ≡ out.old.items ++ (decimal number ++ 10 ∷ [])) }
 {
     let mut buffer = Buffer::new();

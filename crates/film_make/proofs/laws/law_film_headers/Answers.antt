@@ -1,10 +1,12 @@
 use Rattle.std.proofs.Common.{refl}
+use Rattle.film_make.proofs.FilmLemmas.{film-begins}
 use Rattle.film_make.proofs.laws.law_film_headers.Goals as goal
 
 pub returns : goal.returns
 unfolding Rattle.film_make.specs.Film.picture_header Rattle.film_make.specs.Film.coding_type
     Rattle.film_make.specs.Film.temporal_reference
 returns c = record {
+  begins = film-begins;
   sequence = record {
     code = refl;
     horizontal_size = refl;

@@ -1,12 +1,12 @@
 use Rattle.std.proofs.Common.{ℕ, ◌++◌, ◌+◌, sym, ap, ◌∙◌}
 use Rattle.film_make.specs.Film.{slice_of, slice_words, after_slice}
-use Rattle.film_make.proofs.FilmLemmas.{none-added, concat-none, piece-step, slice_words-none}
+use Rattle.film_make.proofs.FilmLemmas.{none-added, end_to_end-none, piece-step, slice_words-none}
 use Rattle.film_make.proofs.FilmLemmas.{slice_words-more}
 use Rattle.film_make.specs.Generator.{words_left}
 use Rattle.film_make.proofs.pictures.write_slices.Goals as goal
 
 pub loop-slice-init : goal.loop-slice-init
-loop-slice-init c = record { bytes = none-added _ _ (concat-none _); left = sym (slice_words-none _ _) }
+loop-slice-init c = record { bytes = none-added _ _ (end_to_end-none _); left = sym (slice_words-none _ _) }
 
 pub loop-slice-preserved : goal.loop-slice-preserved
 loop-slice-preserved c =

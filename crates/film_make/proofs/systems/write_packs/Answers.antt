@@ -1,11 +1,11 @@
 use Rattle.std.proofs.Common.{ℕ, List, ◌*◌, ◌++◌, take, drop, ap, ◌∙◌}
 use Rattle.film_make.specs.System.{pack_of}
-use Rattle.film_make.proofs.FilmLemmas.{none-added, concat-none, piece-step}
+use Rattle.film_make.proofs.FilmLemmas.{none-added, end_to_end-none, piece-step}
 use Rattle.film_make.proofs.PackLemmas.{piece-taken}
 use Rattle.film_make.proofs.systems.write_packs.Goals as goal
 
 pub loop-piece-init : goal.loop-piece-init
-loop-piece-init c = none-added _ _ (concat-none _)
+loop-piece-init c = none-added _ _ (end_to_end-none _)
 
 pub loop-piece-preserved : goal.loop-piece-preserved
 loop-piece-preserved c =

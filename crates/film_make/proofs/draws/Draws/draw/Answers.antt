@@ -1,6 +1,6 @@
 use Rattle.std.proofs.Common.{ℕ, ap, ◌∙◌, ◌%◌}
 use Rattle.rand_chacha.specs.ChaCha.{ChaCha}
-use Rattle.film_make.specs.Generator.{words_left, after}
+use Rattle.film_make.specs.Generator.{words_left, words_after}
 use Rattle.film_make.proofs.GeneratorLemmas.{words_left-first, words_left-rest}
 use Rattle.film_make.proofs.draws.Draws.draw.Goals as goal
 
@@ -13,4 +13,4 @@ returns-clause-value c =
 pub returns-clause-left : goal.returns-clause-left
 returns-clause-left c =
     ap (λ (p : ℕ × ChaCha). words_left p.1) c.next_word.ensures ∙ words_left-rest c.self.inside.rng
-    ∙ ap (λ (g : ChaCha). after 1 (words_left g)) c.self.view_is
+    ∙ ap (λ (g : ChaCha). words_after 1 (words_left g)) c.self.view_is
