@@ -1,8 +1,8 @@
-pub mod ContentSteps
+mod ContentSteps
 pub mod Parts
-pub mod Reached
+mod Reached
 pub mod OneReading
-pub mod VideoBegins
-pub mod PacketHeaders
+mod VideoBegins
+mod PacketHeaders
 pub mod StandardStreams
-pub mod StandardFaults
+mod StandardFaults
