@@ -1,5 +1,6 @@
 -- What stands in front of bytes that are put together from their parts.
-use Rattle.std.proofs.Common.{◌≡◌, ◌≢◌, ℕ, ◌+◌, ◌-◌, ◌*◌, ◌/◌, ◌%◌, ◌<◌, ◌∷◌, ◌++◌, List, Ok, length, get_or, All, refl, ap, ◌∙◌, arith, inl, inr, ne_eqb, true, false}
+use Rattle.std.proofs.Common.{◌≡◌, ◌≢◌, ℕ, ◌+◌, ◌-◌, ◌*◌, ◌/◌, ◌%◌, ◌<◌, ◌∷◌, ◌++◌, List, Ok, length, get_or, All, refl}
+use Rattle.std.proofs.Common.{ap, ◌∙◌, arith, inl, inr, ne_eqb, true, false}
 use Rattle.std.proofs.lemmas.List.{length-append, get_or_append_left, get_or-append_right}
 use Rattle.interleave.specs.Heads.{is_line_end}
 use Rattle.interleave.specs.Pieces.{IsFirst}

@@ -1,5 +1,6 @@
 -- Only one answer fits the waiting bytes.
-use Rattle.std.proofs.Common.{◌≡◌, ℕ, ◌+◌, ◌-◌, ◌<◌, ◌≤◌, List, Result, Ok, Err, length, take, get_or, refl, sym, ◌∙◌, ap, subst, arith, inl, inr, true, false, ◌==◌}
+use Rattle.std.proofs.Common.{◌≡◌, ℕ, ◌+◌, ◌-◌, ◌<◌, ◌≤◌, List, Result, Ok, Err, length, take, get_or, refl, sym, ◌∙◌}
+use Rattle.std.proofs.Common.{ap, subst, arith, inl, inr, true, false, ◌==◌}
 use Rattle.std.proofs.lemmas.Bool.{both_ways, cases_order}
 use Rattle.vod_base.specs.Lines.{IsLine, HasNoLine}
 use Rattle.interleave.specs.Heads.{is_line_end, empty_line_ends, HasNoHead, IsHead}

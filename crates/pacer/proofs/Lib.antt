@@ -1,4 +1,4 @@
 pub mod SendingLemmas
 pub mod PacingLemmas
 pub mod SlotLemmas
-pub mod ByteLemmas
+mod ByteLemmas
