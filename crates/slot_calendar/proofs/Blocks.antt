@@ -1,17 +1,19 @@
 -- The greatest total of each block, kept while places change.
-use Rattle.std.proofs.Common.{◌≡◌, ◌≢◌, ◌<◌, ◌≤◌, ◌+◌, ◌-◌, ◌*◌, ◌/◌, ◌%◌, ℕ, max, List, Option, Some, None, length, get_or, take, drop, set, arith, sym, ap, ◌∙◌, inl, inr}
+use Rattle.std.proofs.Common.{◌≡◌, ◌≢◌, ◌<◌, ◌≤◌, ◌+◌, ◌-◌, ◌*◌, ◌/◌, ◌%◌, ℕ, max, List, Option, Some, None, length, get_or, take, drop, set, arith, sym, ap}
+use Rattle.std.proofs.Common.{◌∙◌, inl, inr}
 use Rattle.std.proofs.lemmas.Nat.{div-mul-add, div-add-mod'}
 use Rattle.std.proofs.lemmas.Bool.{cases_lt, cases_eq}
 use Rattle.std.proofs.lemmas.List.{length-set, length-drop, length-take-le, get_or-set_same, get_or-set_other, get_or-take, get_or-drop}
 use Rattle.std.proofs.lemmas.Option.{none-some}
 use Rattle.slot_calendar.specs.Rings.{IsTopped, IsGreatest, AreZeros}
+use Rattle.slot_calendar.specs.Totals.{ring_slots}
 
-pub block_in : (p : ℕ) → p < 1048576 → p / 1024 < 1024
+pub block_in : (p : ℕ) → p < ring_slots → p / 1024 < 1024
 block_in p inside = omega (arith, inside)
 
 -- a place whose number rises
 pub topped-raise : {places tops : List ℕ} {stale : Option ℕ} (p v : ℕ) → IsTopped places tops stale →
-    p < 1048576 → get_or places p 0 ≤ v →
+    p < ring_slots → get_or places p 0 ≤ v →
     IsTopped (set places p v) (set tops (p / 1024) (max (get_or tops (p / 1024) 0) v)) stale
 topped-raise {places} {tops} p v topped inside rises = record {
   places_are = length-set places p v ∙ topped.places_are;
@@ -95,7 +97,7 @@ topped-raise {places} {tops} p v topped inside rises = record {
         (omega (arith, topped.tops_are, block_in p inside))
 
 -- a place of the stale block whose number falls
-pub topped-lower : {places tops : List ℕ} (p v : ℕ) → IsTopped places tops (Some (p / 1024)) → p < 1048576 →
+pub topped-lower : {places tops : List ℕ} (p v : ℕ) → IsTopped places tops (Some (p / 1024)) → p < ring_slots →
     v ≤ get_or places p 0 →
     IsTopped (set places p v) tops (Some (p / 1024))
 topped-lower {places} {tops} p v topped inside falls = record {
@@ -195,7 +197,7 @@ topped-settle {places} {tops} {stale} {b} {top} topped is greatest = record {
     here = get_or-set_same tops b top 0 (omega (arith, topped.tops_are, topped.stale_in b is))
 
 -- all places and all blocks hold 0
-pub topped-zeros : (places tops : List ℕ) → AreZeros places 1048576 → AreZeros tops 1024 → IsTopped places tops None
+pub topped-zeros : (places tops : List ℕ) → AreZeros places ring_slots → AreZeros tops 1024 → IsTopped places tops None
 topped-zeros places tops empty none = record {
   places_are = empty.count_is;
   tops_are = none.count_is;

@@ -1,7 +1,8 @@
-pub mod Turns
-pub mod Blocks
+mod Turns
+mod Blocks
 pub mod Sending
 pub mod Shares
 pub mod Capacities
-pub mod Rooms
+mod Rooms
 pub mod Overflows
+pub mod Everywhere

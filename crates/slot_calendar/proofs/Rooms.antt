@@ -7,6 +7,7 @@ use Rattle.slot_calendar.specs.declared.calendar.Overflow.{Overflow}
 use Rattle.slot_calendar.specs.Profiles.{capacity_at}
 use Rattle.slot_calendar.specs.Plays.{Play, asked_at, cut_at}
 use Rattle.slot_calendar.specs.Calendars.{Entries, booked_at, IsCalendar, HasRoom, FitsIn, IsOverflowIn, IsFirstOverflow}
+use Rattle.slot_calendar.specs.Totals.{ring_slots}
 use Rattle.slot_calendar.proofs.Capacities.{capacity-most}
 use Rattle.slot_calendar.proofs.Sending.{IsSegmentFrom, asked-in, asked-after, cut-before}
 
@@ -69,8 +70,8 @@ room-all {segments} {start} {until} is past fits = record {
 
 -- a play that begins after the calendar's end, where nothing is booked
 pub record IsPastEnd (calendar : Entries) (play : Play) : Type 0 where
-  pub after : calendar.first + 1048576 ≤ play.start
-  pub past : (u : ℕ) → calendar.first + 1048576 ≤ u → booked_at calendar u ≡ 0
+  pub after : calendar.first + ring_slots ≤ play.start
+  pub past : (u : ℕ) → calendar.first + ring_slots ≤ u → booked_at calendar u ≡ 0
   pub booked : (u : ℕ) → calendar.first ≤ u → cut_at play.segments play.start play.keep u ≤ booked_at calendar u
 
 -- nothing is left to give back of it

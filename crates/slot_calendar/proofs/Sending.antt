@@ -1,5 +1,6 @@
 -- What plans send slot by slot: a plan's slots are those of its segments, one after the other.
-use Rattle.std.proofs.Common.{◌≡◌, ◌≢◌, ◌<◌, ◌≤◌, ◌+◌, ◌-◌, ◌*◌, ◌/◌, ◌%◌, ℕ, min, List, [], ◌∷◌, ◌++◌, All, length, get_or, take, drop, sum, arith, refl, sym, ap, ◌∙◌, inl, inr}
+use Rattle.std.proofs.Common.{◌≡◌, ◌≢◌, ◌<◌, ◌≤◌, ◌+◌, ◌-◌, ◌*◌, ◌/◌, ◌%◌, ℕ, min, List, [], ◌∷◌, ◌++◌, All, length, get_or, take, drop, sum, arith, refl, sym}
+use Rattle.std.proofs.Common.{ap, ◌∙◌, inl, inr}
 use Rattle.std.proofs.Math.Seq.{take-append-add}
 use Rattle.std.proofs.Math.Nat.{add-mul-div_right, mod-lt}
 use Rattle.std.proofs.lemmas.Nat.{div-add-mod'}

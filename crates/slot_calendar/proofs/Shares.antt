@@ -61,7 +61,8 @@ booked-push plays segments start t plan =
     sum_by_push (share_at t) plays (whole_play start segments)
     ∙ ap (λ n. booked_by plays t + n) (share-whole segments start t plan)
 
-booked-around : (before after : List Play) (play : Play) (t : ℕ)
+-- the plays before one, that one, and the plays after it
+pub booked-around : (before after : List Play) (play : Play) (t : ℕ)
     → booked_by (before ++ play ∷ after) t ≡ booked_by before t + (share_at t play + booked_by after t)
 booked-around before after play t =
     sum_by-append (share_at t) before (play ∷ after) ∙ ap (λ n. booked_by before t + n) (sum_by-cons (share_at t) play after)

@@ -3,9 +3,10 @@ use Rattle.std.proofs.Common.{◌≡◌, ◌≢◌, ◌<◌, ◌≤◌, ◌+◌,
 use Rattle.std.proofs.Math.Nat.{lt_of_mul-lt-mul_right}
 use Rattle.std.proofs.lemmas.Nat.{div-add-mod', mod-mul-add, mod_below, field_of}
 use Rattle.std.proofs.lemmas.Bool.{cases_lt, cases_eq}
-use Rattle.std.proofs.lemmas.List.{length-set, get_or-set_same, get_or-set_other, length-drop, length-take-le, length-append, get_or_append_left, get_or-append_right, get_or-drop, get_or-take, get_or_past}
+use Rattle.std.proofs.lemmas.List.{length-set, get_or-set_same, get_or-set_other, length-drop, length-take-le, length-append, get_or_append_left}
+use Rattle.std.proofs.lemmas.List.{get_or-append_right, get_or-drop, get_or-take, get_or_past}
 use Rattle.slot_calendar.specs.Rings.{IsTopped, rotation}
-use Rattle.slot_calendar.specs.Totals.{total_at}
+use Rattle.slot_calendar.specs.Totals.{ring_slots, total_at}
 
 -- a remainder, from a quotient
 pub mod_is : (x n q r : ℕ) → x ≡ q * n + r → r < n → x % n ≡ r
@@ -73,7 +74,7 @@ places_apart {n} {s} {t} pos s_in t_in same =
     sym whole_s ∙ ap (λ q. q * n + s % n) level ∙ ap (λ r. t / n * n + r) same ∙ whole_t
 
 -- the block of a slot's place
-pub block_of : (t : ℕ) → t % 1048576 / 1024 ≡ t / 1024 % 1024
+pub block_of : (t : ℕ) → t % ring_slots / 1024 ≡ t / 1024 % 1024
 block_of t = field_of t 10 10
 
 -- the slots up to the next multiple of 1,024 are of one block
@@ -142,15 +143,15 @@ total-zero {n} {xs} first t places zeros from =
 -- no total of the slots of a block is above the bound of its places
 pub total-bounded : {xs tops : List ℕ} {stale : Option ℕ} {first slot t : ℕ} → IsTopped xs tops stale →
     first ≤ slot → slot ≤ t → t / 1024 ≡ slot / 1024 →
-    total_at first (rotation (first % 1048576) xs) t ≤ get_or tops (slot % 1048576 / 1024) 0
+    total_at first (rotation (first % ring_slots) xs) t ≤ get_or tops (slot % ring_slots / 1024) 0
 total-bounded {xs} {tops} {first} {slot} {t} topped from since same =
-    let places : HasPlaces 1048576 xs = record { some = omega arith; length_is = topped.places_are } in
-    elim (cases_lt t (first + 1048576)) [
+    let places : HasPlaces ring_slots xs = record { some = omega arith; length_is = topped.places_are } in
+    elim (cases_lt t (first + ring_slots)) [
       | inl inside ↦ (
           let here = total-in {first = first} places (record { from = omega arith; inside = inside }) in
-          let bound = topped.bounded (t % 1048576) (mod_below t 1048576 (omega arith)) in
-          let block : t % 1048576 / 1024 ≡ slot % 1048576 / 1024 = block_of t ∙ ap (λ b. b % 1024) same ∙ sym (block_of slot) in
-          let top : get_or tops (t % 1048576 / 1024) 0 ≡ get_or tops (slot % 1048576 / 1024) 0 =
+          let bound = topped.bounded (t % ring_slots) (mod_below t ring_slots (omega arith)) in
+          let block : t % ring_slots / 1024 ≡ slot % ring_slots / 1024 = block_of t ∙ ap (λ b. b % 1024) same ∙ sym (block_of slot) in
+          let top : get_or tops (t % ring_slots / 1024) 0 ≡ get_or tops (slot % ring_slots / 1024) 0 =
           ap (λ b. get_or tops b 0) block in
           omega (arith, here, bound, top)
           )

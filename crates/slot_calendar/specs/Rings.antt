@@ -2,7 +2,7 @@
 -- 1,024 places each.
 use Rattle.std.specs.Prelude.{ℕ, ◌≡◌, ◌≢◌, ◌/◌, ◌%◌, ◌<◌, ◌≤◌, ◌++◌, List, Option, Some, length}
 use Rattle.std.specs.Prelude.{take, drop, slice_index}
-use Rattle.slot_calendar.specs.Totals.{total_at}
+use Rattle.slot_calendar.specs.Totals.{ring_slots, total_at}
 use Rattle.slot_calendar.specs.declared.ring.Ring.TheInside.{Inside}
 
 -- the list that begins at place `from` and comes round to it
@@ -23,16 +23,16 @@ total_of ring t = total_at ring.first ring.totals t
 -- some place of block b holds `top`
 pub record IsReached (places : List ℕ) (b top : ℕ) : Type 0 where
   pub place : ℕ
-  pub inside : place < 1048576
+  pub inside : place < ring_slots
   pub of_block : place / 1024 ≡ b
   pub holds : slice_index places place ≡ top
 
 -- each block has its greatest total, but for the stale one, which has a number that is at least as
 -- great
 pub record IsTopped (places tops : List ℕ) (stale : Option ℕ) : Type 0 where
-  pub places_are : length places ≡ 1048576
+  pub places_are : length places ≡ ring_slots
   pub tops_are : length tops ≡ 1024
-  pub bounded : (i : ℕ) → i < 1048576 → slice_index places i ≤ slice_index tops (i / 1024)
+  pub bounded : (i : ℕ) → i < ring_slots → slice_index places i ≤ slice_index tops (i / 1024)
   pub reached : (b : ℕ) → b < 1024 → stale ≢ Some b → IsReached places b (slice_index tops b)
   pub stale_in : (b : ℕ) → stale ≡ Some b → b < 1024
 
@@ -40,7 +40,7 @@ abbrev pub slots_of_ring : Inside → Slots
 slots_of_ring ring =
     record {
       first = ring.first;
-      totals = rotation (ring.first % 1048576) ring.places.items;
+      totals = rotation (ring.first % ring_slots) ring.places.items;
       stale = ring.stale;
     }
 

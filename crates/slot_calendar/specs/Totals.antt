@@ -6,5 +6,5 @@ abbrev pub total_at : ℕ → List ℕ → ℕ → ℕ
 total_at first totals t = slice_index totals (t - first)
 
 -- how many slots a calendar knows, from its now on
-unfoldable pub ring_slots : ℕ
+abbrev pub ring_slots : ℕ
 ring_slots = 1048576

@@ -7,6 +7,7 @@ ghost use Rattle.plan_cert.specs.Plan.{IsPlan};
 ghost use Rattle.slot_calendar.specs.Profiles.{capacity_at};
 ghost use Rattle.slot_calendar.specs.Plays.{sent_before, asked_at, cut_at};
 ghost use Rattle.slot_calendar.specs.Rings.{total_of};
+ghost use Rattle.slot_calendar.specs.Totals.{ring_slots};
 ghost use Rattle.slot_calendar.specs.Calendars.{FitsIn, IsOverflowIn};
 
 use crate::calendar::Overflow;
@@ -19,7 +20,7 @@ pub(crate) fn book_segments(ring: &mut Ring, start: u64, segments: &[Segment])
     requires plan { IsPlan segments.now }
     requires small { start ≤ 2 ^ 62 + 2 ^ 20 }
     requires from_now { ring.old.first ≤ start }
-    requires within { start + total_slots segments.now ≤ ring.old.first + 1048576 }
+    requires within { start + total_slots segments.now ≤ ring.old.first + ring_slots }
     requires fits { (t : ℕ) → ring.old.first ≤ t →
         total_of ring.old t + asked_at segments.now start t ≤ 2 ^ 42 }
     ensures now { ring.new.first ≡ ring.old.first }
@@ -106,7 +107,7 @@ fn book_segment(ring: &mut Ring, from: u64, segment: Segment)
     requires plan { IsPlan (segment ∷ []) }
     requires small { from ≤ 2 ^ 63 }
     requires from_now { ring.old.first ≤ from }
-    requires within { from + segment.slots ≤ ring.old.first + 1048576 }
+    requires within { from + segment.slots ≤ ring.old.first + ring_slots }
     requires fits { (t : ℕ) → ring.old.first ≤ t →
         total_of ring.old t + asked_at (segment ∷ []) from t ≤ 2 ^ 42 }
     ensures now { ring.new.first ≡ ring.old.first }

@@ -5,6 +5,7 @@ ghost use Rattle.std.specs.Prelude.{MatchOption};
 ghost use Rattle.plan_cert.specs.Slots.{total_slots, total_bytes};
 ghost use Rattle.slot_calendar.specs.Profiles.{capacity_at};
 ghost use Rattle.slot_calendar.specs.Plays.{Play, asked_at, cut_at, whole_play, cut_play};
+ghost use Rattle.slot_calendar.specs.Totals.{ring_slots};
 
 use crate::booking::{book_segments, overflow_in, release_segments};
 use crate::profiles::Profile;
@@ -72,7 +73,7 @@ impl Calendar {
     pub fn now(&self) -> u64
         ensures value { result ≡ self.now.first }
         ensures calendar { IsCalendar self.now }
-        ensures past { (t : ℕ) → self.now.first + 1048576 ≤ t → booked_at self.now t ≡ 0 }
+        ensures past { (t : ℕ) → self.now.first + ring_slots ≤ t → booked_at self.now t ≡ 0 }
     {
         self.ring.now()
     }
@@ -82,7 +83,7 @@ impl Calendar {
         requires { self.now.first ≤ slot }
         ensures value { result ≡ booked_at self.now slot }
         ensures within { result ≤ capacity_at self.now.steps slot }
-        ensures past { self.now.first + 1048576 ≤ slot → result ≡ 0 }
+        ensures past { self.now.first + ring_slots ≤ slot → result ≡ 0 }
     {
         self.ring.total(slot)
     }
@@ -112,7 +113,7 @@ impl Calendar {
     /// Books a plan that fits, from `start` on. One pass over the plan's slots.
     pub fn book(&mut self, start: u64, plan: &Plan)
         requires after { self.old.first < start }
-        requires within { start + total_slots plan.now ≤ self.old.first + 1048576 }
+        requires within { start + total_slots plan.now ≤ self.old.first + ring_slots }
         requires room { IsRoomIn self.old start plan.now }
         ensures now { self.new.first ≡ self.old.first }
         ensures profile { self.new.steps ≡ self.old.steps }

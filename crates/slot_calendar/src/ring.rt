@@ -3,6 +3,7 @@
 ghost use Rattle.std.specs.Prelude.{◌≡◌, ◌≢◌, ◌+◌, ◌-◌, ◌*◌, ◌/◌, ◌^◌, ◌<◌, ◌≤◌, ℕ, None, Some};
 ghost use Rattle.std.specs.Prelude.{length, IfOk};
 ghost use Rattle.slot_calendar.specs.Rings.{AreZeros, IsGreatest, IsTopped, total_of};
+ghost use Rattle.slot_calendar.specs.Totals.{ring_slots};
 
 use std::alloc::Global;
 use std::marker::Model;
@@ -62,7 +63,7 @@ impl Ring {
     /// The first slot.
     pub(crate) fn now(&self) -> u64
         ensures value { result ≡ self.now.first }
-        ensures past { (t : ℕ) → self.now.first + 1048576 ≤ t → total_of self.now t ≡ 0 }
+        ensures past { (t : ℕ) → self.now.first + ring_slots ≤ t → total_of self.now t ≡ 0 }
     {
         self.first
     }
@@ -71,7 +72,7 @@ impl Ring {
     pub(crate) fn total(&self, slot: u64) -> u64
         requires { self.now.first ≤ slot }
         ensures value { result ≡ total_of self.now slot }
-        ensures past { self.now.first + 1048576 ≤ slot → result ≡ 0 }
+        ensures past { self.now.first + ring_slots ≤ slot → result ≡ 0 }
     {
         if slot - self.first >= RING_SLOTS {
             return 0;
@@ -93,7 +94,7 @@ impl Ring {
     /// Adds to the total of a slot.
     pub(crate) fn raise(&mut self, slot: u64, by: u64)
         requires from_now { self.old.first ≤ slot }
-        requires within { slot < self.old.first + 1048576 }
+        requires within { slot < self.old.first + ring_slots }
         requires fits { total_of self.old slot + by < 2 ^ 64 }
         ensures now { self.new.first ≡ self.old.first }
         ensures stale { self.new.stale ≡ self.old.stale }
@@ -120,7 +121,12 @@ impl Ring {
     {
         let place = (slot % RING_SLOTS) as usize;
         let block = place / BLOCK as usize;
-        settle_other(self.places.as_slice(), &mut self.tops, self.stale, block);
+        settle_other(
+            self.places.as_slice(),
+            self.tops.as_mut_slice(),
+            self.stale,
+            block,
+        );
         self.stale = Some(block);
         self.places[place] -= by;
     }
@@ -131,7 +137,7 @@ impl Ring {
         ensures settled { self.new.stale ≡ None }
         ensures totals { self.new.totals ≡ self.old.totals }
     {
-        settle_block(self.places.as_slice(), &mut self.tops, self.stale);
+        settle_block(self.places.as_slice(), self.tops.as_mut_slice(), self.stale);
         self.stale = None;
     }
 
@@ -203,9 +209,9 @@ fn greatest_of(numbers: &[u64]) -> u64
 }
 
 /// Reads the stale block again, if there is one.
-fn settle_block(places: &[u64], tops: &mut Vec<u64>, stale: Option<usize>)
-    requires { IsTopped places.now tops.old.items stale }
-    ensures { IsTopped places.now tops.new.items None }
+fn settle_block(places: &[u64], tops: &mut [u64], stale: Option<usize>)
+    requires { IsTopped places.now tops.old stale }
+    ensures { IsTopped places.now tops.new None }
 {
     if let Some(block) = stale {
         let from = block * BLOCK as usize;
@@ -214,10 +220,10 @@ fn settle_block(places: &[u64], tops: &mut Vec<u64>, stale: Option<usize>)
 }
 
 /// Reads the stale block again, unless it is this one, which becomes the stale one.
-fn settle_other(places: &[u64], tops: &mut Vec<u64>, stale: Option<usize>, block: usize)
-    requires topped { IsTopped places.now tops.old.items stale }
+fn settle_other(places: &[u64], tops: &mut [u64], stale: Option<usize>, block: usize)
+    requires topped { IsTopped places.now tops.old stale }
     requires within { block < 1024 }
-    ensures { IsTopped places.now tops.new.items (Some block) }
+    ensures { IsTopped places.now tops.new (Some block) }
 {
     if let Some(other) = stale
         && other != block

@@ -237,8 +237,8 @@ fn comes_round(rt: HostRuntime) -> Result<(), Fail> {
     run(&rt, rt.alloc(), &[(0, 4)], &rows)
 }
 
-/// A plan of 5 bytes a slot over 1,000,000 slots, asked 2,000 times beside one whose last slot alone
-/// has no room: only where blocks are passed over does this end in time.
+/// A plan of 5 bytes a slot over 1,000,000 slots, asked 2,000 times beside one whose last slot
+/// alone has no room: only where blocks are passed over does this end in time.
 #[test]
 fn passes_blocks(rt: HostRuntime) -> Result<(), Fail> {
     let alloc = rt.alloc();

@@ -4,7 +4,8 @@ use Rattle.slot_calendar.specs.Plays.{asked_at}
 use Rattle.slot_calendar.specs.Totals.{total_at}
 use Rattle.slot_calendar.proofs.Sending.{asked-here, sent-step}
 use Rattle.slot_calendar.proofs.booking.overflow_among.Goals as goal
-use Rattle.slot_calendar.proofs.booking.overflow_among.Goals.{then-booked-capacity-via-then-booked-capacity, then-booked-capacity-via-else-booked-capacity+then-asked-capacity}
+use Rattle.slot_calendar.proofs.booking.overflow_among.Goals.{then-booked-capacity-via-then-booked-capacity}
+use Rattle.slot_calendar.proofs.booking.overflow_among.Goals.{then-booked-capacity-via-else-booked-capacity+then-asked-capacity}
 
 pub overflow_sub-asked : goal.overflow_sub-asked
 overflow_sub-asked c =

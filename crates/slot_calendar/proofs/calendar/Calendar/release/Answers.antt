@@ -1,6 +1,6 @@
 use Rattle.std.proofs.Common.{◌≡◌, ◌≤◌, ◌+◌, ℕ, arith, refl, sym, ap, ◌∙◌}
 use Rattle.slot_calendar.specs.Plays.{Play, cut_at, cut_play}
-use Rattle.slot_calendar.specs.Totals.{total_at}
+use Rattle.slot_calendar.specs.Totals.{ring_slots, total_at}
 use Rattle.slot_calendar.specs.Calendars.{Entries, booked_at}
 use Rattle.slot_calendar.proofs.Rooms.{IsPastEnd, cut-none}
 use Rattle.slot_calendar.proofs.Shares.{HasCut, stands-cut}
@@ -31,9 +31,9 @@ pub returns-else-saturating_sub-lt-RING_SLOTS-clause-stands : goal.returns-else-
 returns-else-saturating_sub-lt-RING_SLOTS-clause-stands c = λ before after stands. (
     let old : Entries = c.args.self.now in
     let first : c.self.inside.ring.first ≡ old.first = ap (λ e. e.first) c.self.view_is in
-    let past : (u : ℕ) → old.first + 1048576 ≤ u → booked_at old u ≡ 0 =
+    let past : (u : ℕ) → old.first + ring_slots ≤ u → booked_at old u ≡ 0 =
     λ u more. sym (ap (λ e. booked_at e u) c.self.view_is) ∙ c.now.ensures.past u (omega (arith, first, more)) in
-    let past_end : old.first + 1048576 ≤ c.args.start =
+    let past_end : old.first + ring_slots ≤ c.args.start =
     omega (arith, first, c.now.ensures.value, c.saturating_sub.ensures, c.if-saturating_sub-lt-RING_SLOTS.false) in
     let play : Play = cut_play c.args.start c.args.plan.now c.args.keep in
     let past_all : IsPastEnd old play = record { after = past_end; past = past; booked = c.requires.booked } in

@@ -1,20 +1,20 @@
 use Rattle.std.proofs.lemmas.Grind.{common_steps}
-use Rattle.std.proofs.Common.{◌≡◌, ◌<◌, ◌≤◌, ◌+◌, ◌-◌, ◌/◌, ◌%◌, ℕ, List, Some, get_or, arith, ap, subst, ◌∙◌, inl, inr}
+use Rattle.std.proofs.Common.{◌≡◌, ◌<◌, ◌≤◌, ◌+◌, ◌-◌, ◌/◌, ◌%◌, ◌++◌, ℕ, List, Some, length, get_or, take, drop, set, arith, sym, ap, subst, ◌∙◌, inl, inr}
 use Rattle.std.proofs.lemmas.Bool.{cases_lt}
-use Rattle.std.proofs.lemmas.List.{get_or_read}
+use Rattle.std.proofs.lemmas.List.{get_or_read, take_at}
 use Rattle.std.proofs.lemmas.Nat.{mod_below}
 use Rattle.slot_calendar.specs.Rings.{IsTopped, rotation}
-use Rattle.slot_calendar.specs.Totals.{total_at}
+use Rattle.slot_calendar.specs.Totals.{ring_slots, total_at}
 use Rattle.slot_calendar.proofs.Turns.{HasPlaces, IsInTurn, total-in, total-past, set-here, set-there}
 use Rattle.slot_calendar.proofs.Blocks.{topped-lower}
 use Rattle.slot_calendar.proofs.ring.Ring.lower.Goals as goal
 
 -- the slot is one of the ring, since something is booked in it
-in_ring : {xs : List ℕ} (first slot : ℕ) → HasPlaces 1048576 xs → first ≤ slot
-    → 0 < total_at first (rotation (first % 1048576) xs) slot → IsInTurn 1048576 first slot
+in_ring : {xs : List ℕ} (first slot : ℕ) → HasPlaces ring_slots xs → first ≤ slot
+    → 0 < total_at first (rotation (first % ring_slots) xs) slot → IsInTurn ring_slots first slot
 in_ring first slot places from booked = record {
   from = from;
-  inside = elim (cases_lt slot (first + 1048576)) [
+  inside = elim (cases_lt slot (first + ring_slots)) [
     | inl inside ↦ inside
     | inr past ↦ (let none = total-past first slot places past in absurd (omega (arith, none, booked)))
   ];
@@ -23,25 +23,31 @@ in_ring first slot places from booked = record {
 pub invariant_of-self : goal.invariant_of-self
 invariant_of-self c =
     let d = c.self.inside in
-    let p = c.args.slot % 1048576 in
-    let inside : p < 1048576 = mod_below c.args.slot 1048576 (omega arith) in
+    let p = c.args.slot % ring_slots in
+    let inside : p < ring_slots = mod_below c.args.slot ring_slots (omega arith) in
     let value : c.index_mut.result.now ≡ get_or d.places.items p 0 =
     get_or_read d.places.items p c.index_mut.result.now (omega (arith, inside, c.self.invariant.places_are))
     c.index_mut.ensures.value 0 in
-    let P : List ℕ → Type 0 = λ xs. IsTopped xs c.settle_other.new.tops.items (Some (p / 1024)) in
-    topped-lower p (c.index_mut.result.now - c.args.by)
-    (subst P c.as_slice.ensures.value c.settle_other.ensures) inside (omega (arith, value))
+    let P : List ℕ → Type 0 = λ xs. IsTopped xs c.settle_other.new.tops (Some (p / 1024)) in
+    let settled = subst P c.as_slice.ensures.value c.settle_other.ensures in
+    let less = c.index_mut.result.now - c.args.by in
+    let tops = c.settle_other.new.tops in
+    let whole : take d.tops.len (tops ++ drop (length tops) d.tops.items) ≡ tops =
+    take_at tops (drop (length tops) d.tops.items) d.tops.len
+    (omega (arith, settled.tops_are, c.self.invariant.tops_are)) in
+    let T : List ℕ → Type 0 = λ ts. IsTopped (set d.places.items p less) ts (Some (p / 1024)) in
+    subst T (sym whole) (topped-lower p less settled inside (omega (arith, value)))
 
 pub returns-clause-at : goal.returns-clause-at
 returns-clause-at c =
     let d = c.self.inside in
-    let p = c.args.slot % 1048576 in
+    let p = c.args.slot % ring_slots in
     let first : d.first ≡ c.args.self.now.first = ap (λ s. s.first) c.self.view_is in
     let old = ap (λ s. total_at s.first s.totals c.args.slot) c.self.view_is in
-    let places : HasPlaces 1048576 d.places.items = record { some = omega arith; length_is = c.self.invariant.places_are } in
+    let places : HasPlaces ring_slots d.places.items = record { some = omega arith; length_is = c.self.invariant.places_are } in
     let from : d.first ≤ c.args.slot = omega (arith, first, c.requires.from_now) in
     let turn = in_ring d.first c.args.slot places from (omega (arith, old, c.requires.some, c.requires.booked)) in
-    let inside : p < 1048576 = mod_below c.args.slot 1048576 (omega arith) in
+    let inside : p < ring_slots = mod_below c.args.slot ring_slots (omega arith) in
     let value : c.index_mut.result.now ≡ get_or d.places.items p 0 =
     get_or_read d.places.items p c.index_mut.result.now (omega (arith, inside, c.self.invariant.places_are))
     c.index_mut.ensures.value 0 in
@@ -54,7 +60,7 @@ returns-clause-others c = λ t since other. (
     let d = c.self.inside in
     let first : d.first ≡ c.args.self.now.first = ap (λ s. s.first) c.self.view_is in
     let old = ap (λ s. total_at s.first s.totals c.args.slot) c.self.view_is in
-    let places : HasPlaces 1048576 d.places.items = record { some = omega arith; length_is = c.self.invariant.places_are } in
+    let places : HasPlaces ring_slots d.places.items = record { some = omega arith; length_is = c.self.invariant.places_are } in
     let turn = in_ring d.first c.args.slot places (omega (arith, first, c.requires.from_now))
     (omega (arith, old, c.requires.some, c.requires.booked)) in
     set-there (c.index_mut.result.now - c.args.by) places turn (omega (arith, first, since)) other

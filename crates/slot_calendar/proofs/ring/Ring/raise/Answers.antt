@@ -3,7 +3,7 @@ use Rattle.std.proofs.Common.{◌≡◌, ◌<◌, ◌+◌, ◌/◌, ◌%◌, ℕ
 use Rattle.std.proofs.lemmas.List.{get_or_read}
 use Rattle.std.proofs.lemmas.Nat.{mod_below}
 use Rattle.slot_calendar.specs.Rings.{IsTopped}
-use Rattle.slot_calendar.specs.Totals.{total_at}
+use Rattle.slot_calendar.specs.Totals.{ring_slots, total_at}
 use Rattle.slot_calendar.proofs.Turns.{HasPlaces, IsInTurn, total-in, set-here, set-there}
 use Rattle.slot_calendar.proofs.Blocks.{topped-raise, block_in}
 use Rattle.slot_calendar.proofs.ring.Ring.raise.Goals as goal
@@ -11,8 +11,8 @@ use Rattle.slot_calendar.proofs.ring.Ring.raise.Goals as goal
 pub invariant_of-self : goal.invariant_of-self
 invariant_of-self c =
     let d = c.self.inside in
-    let p = c.args.slot % 1048576 in
-    let inside : p < 1048576 = mod_below c.args.slot 1048576 (omega arith) in
+    let p = c.args.slot % ring_slots in
+    let inside : p < ring_slots = mod_below c.args.slot ring_slots (omega arith) in
     let v = c.index.result.now + c.args.by in
     let value : c.index.result.now ≡ get_or d.places.items p 0 =
     get_or_read d.places.items p c.index.result.now (omega (arith, inside, c.self.invariant.places_are)) c.index.ensures 0 in
@@ -26,13 +26,13 @@ invariant_of-self c =
 pub returns-clause-at : goal.returns-clause-at
 returns-clause-at c =
     let d = c.self.inside in
-    let p = c.args.slot % 1048576 in
+    let p = c.args.slot % ring_slots in
     let first : d.first ≡ c.args.self.now.first = ap (λ s. s.first) c.self.view_is in
-    let inside : p < 1048576 = mod_below c.args.slot 1048576 (omega arith) in
+    let inside : p < ring_slots = mod_below c.args.slot ring_slots (omega arith) in
     let value : c.index.result.now ≡ get_or d.places.items p 0 =
     get_or_read d.places.items p c.index.result.now (omega (arith, inside, c.self.invariant.places_are)) c.index.ensures 0 in
-    let places : HasPlaces 1048576 d.places.items = record { some = omega arith; length_is = c.self.invariant.places_are } in
-    let turn : IsInTurn 1048576 d.first c.args.slot =
+    let places : HasPlaces ring_slots d.places.items = record { some = omega arith; length_is = c.self.invariant.places_are } in
+    let turn : IsInTurn ring_slots d.first c.args.slot =
     record { from = omega (arith, first, c.requires.from_now); inside = omega (arith, first, c.requires.within) } in
     let now = set-here (c.index.result.now + c.args.by) places turn in
     let was = total-in places turn in
@@ -42,8 +42,8 @@ pub returns-clause-others : goal.returns-clause-others
 returns-clause-others c = λ t from other. (
     let d = c.self.inside in
     let first : d.first ≡ c.args.self.now.first = ap (λ s. s.first) c.self.view_is in
-    let places : HasPlaces 1048576 d.places.items = record { some = omega arith; length_is = c.self.invariant.places_are } in
-    let turn : IsInTurn 1048576 d.first c.args.slot =
+    let places : HasPlaces ring_slots d.places.items = record { some = omega arith; length_is = c.self.invariant.places_are } in
+    let turn : IsInTurn ring_slots d.first c.args.slot =
     record { from = omega (arith, first, c.requires.from_now); inside = omega (arith, first, c.requires.within) } in
     set-there (c.index.result.now + c.args.by) places turn (omega (arith, first, from)) other
     ∙ ap (λ s. total_at s.first s.totals t) c.self.view_is

@@ -1,7 +1,7 @@
 use Rattle.std.proofs.Common.{◌≡◌, ◌<◌, ◌≤◌, ◌/◌, ◌%◌, get_or, arith, ap}
 use Rattle.std.proofs.lemmas.List.{get_or_read}
 use Rattle.std.proofs.lemmas.Nat.{mod_below}
-use Rattle.slot_calendar.specs.Totals.{total_at}
+use Rattle.slot_calendar.specs.Totals.{ring_slots, total_at}
 use Rattle.slot_calendar.proofs.Turns.{total-bounded}
 use Rattle.slot_calendar.proofs.Blocks.{block_in}
 use Rattle.slot_calendar.proofs.ring.Ring.top.Goals as goal
@@ -9,8 +9,8 @@ use Rattle.slot_calendar.proofs.ring.Ring.top.Goals as goal
 pub returns : goal.returns
 returns c = λ t since same. (
     let d = c.self.inside in
-    let p = c.args.slot % 1048576 in
-    let inside : p < 1048576 = mod_below c.args.slot 1048576 (omega arith) in
+    let p = c.args.slot % ring_slots in
+    let inside : p < ring_slots = mod_below c.args.slot ring_slots (omega arith) in
     let first : d.first ≡ c.args.self.now.first = ap (λ s. s.first) c.self.view_is in
     let here : total_at d.first _ t ≡ total_at c.args.self.now.first c.args.self.now.totals t =
     ap (λ s. total_at s.first s.totals t) c.self.view_is in
