@@ -117,12 +117,7 @@ impl Profile {
 fn ascend(steps: &[CapStep]) -> bool
     ensures { IsTrue result ↔ AreAscending steps.now }
 {
-    for index in 0..steps.len().saturating_sub(1) {
-        if steps[index + 1].from <= steps[index].from {
-            return false;
-        }
-    }
-    true
+    steps.windows(2).all(|pair| pair[0].from < pair[1].from)
 }
 
 /// Whether no step is above the greatest capacity.
