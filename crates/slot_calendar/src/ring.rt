@@ -199,13 +199,10 @@ fn greatest_of(numbers: &[u64]) -> u64
     requires { 0 < length numbers.now }
     ensures { IsGreatest numbers.now result }
 {
-    let mut top = numbers[0];
-    for number in numbers {
-        if top < *number {
-            top = *number;
-        }
+    match numbers.iter().max() {
+        Some(top) => *top,
+        None => unreachable!(),
     }
-    top
 }
 
 /// Reads the stale block again, if there is one.
