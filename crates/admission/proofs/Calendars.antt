@@ -1,58 +1,15 @@
 -- The calendar beside the machine's state: its answers are the machine's, and it follows the next state.
-use Rattle.std.proofs.Common.{◌≡◌, ◌≤◌, ◌<◌, ℕ, max, List, [], ◌∷◌, ◌++◌, map, Some, arith, sym, ap, subst, ◌∙◌, inl, inr}
-use Rattle.std.proofs.lemmas.Bool.{cases_lt}
+use Rattle.std.proofs.Common.{◌≡◌, ◌≤◌, ℕ, max, List, [], ◌∷◌, ◌++◌, map, Some, arith, sym, ap, subst, ◌∙◌}
 use Rattle.std.proofs.lemmas.List.{map_push}
 use Rattle.plan_cert.specs.declared.Segment.{Segment}
 use Rattle.slot_calendar.specs.declared.profiles.CapStep.{CapStep}
-use Rattle.slot_calendar.specs.declared.calendar.Overflow.{Overflow}
-use Rattle.slot_calendar.specs.Profiles.{capacity_at}
 use Rattle.slot_calendar.specs.Plays.{Play as Booked, cut_at, whole_play, cut_play}
-use Rattle.slot_calendar.specs.Calendars.{Entries as Calendar, StandsFor, Fits, HasRoom, IsFirstOverflow, booked_at}
-use Rattle.slot_calendar.proofs.Sending.{asked-before}
+use Rattle.slot_calendar.specs.Calendars.{Entries as Calendar, StandsFor, booked_at}
 use Rattle.admission.specs.declared.entries.Command.TheVariants.{Look}
 use Rattle.admission.specs.declared.entries.Answer.TheVariants.{Looked}
-use Rattle.admission.specs.Machine.{State, Held, IsAnswer, IsNeverOverbooked, booked_in, halted_play, with_halted, held_as, admitted_play, plays_of}
+use Rattle.admission.specs.Machine.{State, Held, IsAnswer, halted_play, with_halted, held_as, admitted_play, plays_of}
 use Rattle.admission.specs.Kept.{Follows}
 use Rattle.admission.proofs.Halts.{play_of, plays-split, split}
-
--- before its start a plan fits, since nothing is booked above capacity
-fits-early : {steps : List CapStep} {state : State} {start u : ℕ} (segments : List Segment)
-    → IsNeverOverbooked steps state → u < start → Fits (booked_in state) (capacity_at steps) start segments u
-fits-early {steps} {start} {u} segments within early = omega (arith, within.each u, asked-before segments start u early)
-
--- what the calendar has booked from now on is what the state has booked
-fits-each : {steps : List CapStep} {calendar : Calendar} {state : State} {start u : ℕ}
-    (segments : List Segment) → IsNeverOverbooked steps state → StandsFor calendar (plays_of state) →
-    calendar.first < start
-    → (calendar.first ≤ u → Fits (booked_at calendar) (capacity_at steps) start segments u)
-    → Fits (booked_in state) (capacity_at steps) start segments u
-fits-each {steps} {calendar} {state} {start} {u} segments within stands after fits = elim (cases_lt u calendar.first) [
-  | inl early ↦ fits-early segments within (omega (arith, early, after))
-  | inr since ↦ omega (arith, stands.each u since, fits since)
-]
-
--- room from now on is room everywhere
-pub room-everywhere : {steps : List CapStep} {calendar : Calendar} {state : State} {start : ℕ}
-    {segments : List Segment} → IsNeverOverbooked steps state → StandsFor calendar (plays_of state) →
-    calendar.first < start → HasRoom calendar.first (booked_at calendar) (capacity_at steps) start segments
-    → HasRoom 0 (booked_in state) (capacity_at steps) start segments
-room-everywhere {steps} {start} {segments} within stands after room = record {
-  each = λ u _. fits-each segments within stands after (λ since. room.each u since);
-}
-
--- the first overflow from now on is the first one
-pub overflow-everywhere : {steps : List CapStep} {calendar : Calendar} {state : State} {start : ℕ}
-    {segments : List Segment} {over : Overflow} → IsNeverOverbooked steps state →
-    StandsFor calendar (plays_of state) → calendar.first < start →
-    IsFirstOverflow calendar.first (booked_at calendar) (capacity_at steps) start segments over →
-    IsFirstOverflow 0 (booked_in state) (capacity_at steps) start segments over
-overflow-everywhere {steps} {start} {segments} {over} within stands after first = record {
-  begun = omega arith;
-  overflows = omega (arith, stands.each over.slot first.begun, first.overflows);
-  least = λ u _ less. fits-each segments within stands after (λ since. first.least u since less);
-  booked_is = first.booked_is ∙ stands.each over.slot first.begun;
-  asked_is = first.asked_is;
-}
 
 -- a play more
 pub stands-opened : (calendar : Calendar) (held : List Held) (number start : ℕ) (segments : List Segment) →

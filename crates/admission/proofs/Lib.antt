@@ -1,13 +1,13 @@
 pub mod Runs
 pub mod Halts
 pub mod Within
-pub mod Admissions
-pub mod Calendars
-pub mod Journals
+mod Admissions
+mod Calendars
+mod Journals
 pub mod Finds
 pub mod Opens
-pub mod Makers
+mod Makers
 pub mod Once
-pub mod Counts
-pub mod Bookings
-pub mod Rests
+mod Counts
+mod Bookings
+mod Rests

@@ -1,14 +1,15 @@
 -- No slot is booked above its capacity: not in the beginning, and not after a step of the machine.
-use Rattle.std.proofs.Common.{◌≡◌, ◌≤◌, ◌<◌, ◌+◌, ◌-◌, ℕ, zero, suc, min, true, List, [], ◌∷◌, ◌++◌, length, get_or, map, take, All, Some, arith, refl, sym, ap, subst, ◌∙◌}
+use Rattle.std.proofs.Common.{◌≡◌, ◌≤◌, ◌<◌, ◌+◌, ◌-◌, ℕ, zero, suc, min, true, List, [], ◌∷◌, ◌++◌, length, get_or, map, take, All, Some, arith, refl, sym, ap}
+use Rattle.std.proofs.Common.{subst, ◌∙◌}
 use Rattle.std.proofs.lemmas.List.{map-append, take_all}
 use Rattle.std.proofs.lemmas.List.Elements.{All-nil, All-push}
-use Rattle.std.proofs.lemmas.List.Sums.{sum_by-append, sum_by-cons, sum_by_push}
+use Rattle.std.proofs.lemmas.List.Sums.{sum_by_push}
 use Rattle.plan_cert.specs.declared.Segment.{Segment}
 use Rattle.plan_cert.specs.Slots.{total_bytes}
 use Rattle.slot_calendar.specs.declared.profiles.CapStep.{CapStep}
 use Rattle.slot_calendar.specs.Plays.{sent_before, asked_at, whole_play, cut_play, share_at, booked_by}
 use Rattle.slot_calendar.proofs.Sending.{sent-rises}
-use Rattle.slot_calendar.proofs.Shares.{share-cut}
+use Rattle.slot_calendar.proofs.Shares.{booked-around, share-cut}
 use Rattle.admission.specs.declared.entries.Entry.{Entry}
 use Rattle.admission.specs.declared.entries.Command.{Command}
 use Rattle.admission.specs.declared.entries.Command.TheVariants.{Play, Halt, Look}
@@ -54,23 +55,19 @@ share-less segments start keep more t less =
     min_parts (sent_before segments start t) (sent_before segments start (t + 1)) keep more
     (sent-rises segments start t (t + 1) (omega arith)) less
 
-booked-around : (before after : List Held) (h : Held) (t : ℕ) →
-    booked_by (map play_of (before ++ h ∷ after)) t
-    ≡ booked_by (map play_of before) t + (share_at t h.play + booked_by (map play_of after) t)
-booked-around before after h t =
-    ap (λ l. booked_by l t) (plays-split before after h)
-    ∙ sum_by-append (share_at t) (map play_of before) (h.play ∷ map play_of after)
-    ∙ ap (λ n. booked_by (map play_of before) t + n) (sum_by-cons (share_at t) h.play (map play_of after))
-
 pub booked-halted : {h : Held} (state : State) (number keep t : ℕ) → held_as number state.held ≡ Some h → keep ≤ h.play.keep →
     booked_by (map play_of (with_halted number keep state.held)) t ≤ booked_in state t
 booked-halted {h} state number keep t is less =
     let parts = split number state.held h is in
-    let old : booked_in state t
-    ≡ booked_by (map play_of parts.before) t + (share_at t h.play + booked_by (map play_of parts.after) t) =
-    ap (λ l. booked_by (map play_of l) t) parts.was ∙ booked-around parts.before parts.after h t in
-    let new = ap (λ l. booked_by (map play_of l) t) (parts.becomes keep)
-    ∙ booked-around parts.before parts.after (halted_play keep h) t in
+    let front = map play_of parts.before in
+    let back = map play_of parts.after in
+    let around : (k : Held) →
+    booked_by (map play_of (parts.before ++ k ∷ parts.after)) t
+    ≡ booked_by front t + (share_at t k.play + booked_by back t) =
+    λ k. ap (λ l. booked_by l t) (plays-split parts.before parts.after k) ∙ booked-around front back k.play t in
+    let old : booked_in state t ≡ booked_by front t + (share_at t h.play + booked_by back t) =
+    ap (λ l. booked_by (map play_of l) t) parts.was ∙ around h in
+    let new = ap (λ l. booked_by (map play_of l) t) (parts.becomes keep) ∙ around (halted_play keep h) in
     omega (arith, old, new, share-less h.play.segments h.play.start keep h.play.keep t less)
 
 pub booked-opened : (state : State) (number start t : ℕ) (segments : List Segment) →

@@ -2,7 +2,7 @@
 
 use super::*;
 use plan_cert::Segment;
-use slot_calendar::Profile;
+use slot_calendar::{Profile, RING_SLOTS};
 use std::process::Abort;
 use std::test::Fail;
 
@@ -12,8 +12,8 @@ fn plan_of(rt: &impl Abort, alloc: Global, segments: &[Segment]) -> Result<Plan,
 }
 
 /// On a link of this capacity on which the plan is booked from slot 1 on: where it is found from
-/// `first` on within a wait, and each earlier start with its overflow's slot, bytes booked and bytes
-/// asked.
+/// `first` on within a wait, and each earlier start with its overflow's slot, bytes booked and
+/// bytes asked.
 fn run(
     rt: &impl Abort,
     alloc: Global,
@@ -24,7 +24,7 @@ fn run(
     let plan = plan_of(rt, alloc, segments)?;
     assert!(rt; capacity <= 1 << 42);
     let mut calendar = Calendar::new(alloc, Profile::flat(alloc, capacity)?)?;
-    assert!(rt; calendar.now() == 0 && plan.slots() < 1_048_576);
+    assert!(rt; calendar.now() == 0 && plan.slots() < RING_SLOTS);
     assert!(rt; calendar.first_overflow(1, &plan).is_none());
     calendar.book(1, &plan);
     for (first, wait, start, tried) in rows {

@@ -3,7 +3,8 @@ use Rattle.slot_calendar.specs.declared.profiles.CapStep.{CapStep}
 use Rattle.slot_calendar.specs.Profiles.{capacity_at}
 use Rattle.slot_calendar.specs.Calendars.{HasRoom, IsFirstOverflow, booked_at}
 use Rattle.admission.specs.Machine.{booked_in, start_after}
-use Rattle.admission.proofs.Calendars.{room-everywhere, overflow-everywhere, stands-opened}
+use Rattle.slot_calendar.proofs.Everywhere.{room_everywhere, overflow_everywhere}
+use Rattle.admission.proofs.Calendars.{stands-opened}
 use Rattle.admission.proofs.keeping.admit.Goals as goal
 
 pub returns-in-None-clause-answer : goal.returns-in-None-clause-answer
@@ -15,7 +16,7 @@ returns-in-None-clause-answer c = λ state follows within. (
     let after : calendar.first < start = omega arith in
     let at : start ≡ start_after state c.args.slot = omega (arith, follows.now) in (
       at,
-      room-everywhere within (c.advance.ensures.stands _ follows.stands) after
+      room_everywhere (record { stands = c.advance.ensures.stands _ follows.stands; within = within.each }) after
           (subst R c.advance.ensures.profile c.in-None.ensures),
     )
     )
@@ -37,7 +38,8 @@ returns-in-Some-clause-answer c = λ state follows within. (
     λ n. IsFirstOverflow 0 (booked_in state) (capacity_at c.args.calendar.now.steps) n c.args.plan.now c.in-Some.over in
     let after : calendar.first < start = omega arith in
     let at : start ≡ start_after state c.args.slot = omega (arith, follows.now) in
-    subst S at (overflow-everywhere within (c.advance.ensures.stands _ follows.stands) after
+    subst S at (overflow_everywhere
+    (record { stands = c.advance.ensures.stands _ follows.stands; within = within.each }) after
     (subst R c.advance.ensures.profile c.in-Some.ensures))
     )
 

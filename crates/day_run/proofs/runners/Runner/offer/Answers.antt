@@ -5,7 +5,8 @@ use Rattle.slot_calendar.specs.Profiles.{capacity_at}
 use Rattle.admission.specs.Histories.{state_after}
 use Rattle.admission.specs.Machine.{booked_in, plays_of}
 use Rattle.admission.proofs.Within.{sound-after}
-use Rattle.early_start.proofs.Everywhere.{StandsWithin, offer_everywhere}
+use Rattle.slot_calendar.proofs.Everywhere.{StandsWithin}
+use Rattle.early_start.proofs.Everywhere.{offer_everywhere}
 use Rattle.early_start.specs.Offered.{IsOffer}
 use Rattle.slot_calendar.specs.declared.profiles.CapStep.{CapStep}
 use Rattle.day_run.specs.Clients.{IsPlanFor, rest_of}
@@ -29,7 +30,7 @@ returns-in_ok-offers-in-Ok c =
     let planned : IsPlanFor rest plan = subst P c.in-Ok.is c.in_ok-plan.ensures.plan in
     let S : List CapStep → Type 0 = λ s. (t : ℕ) → booked_in state t ≤ capacity_at s t in
     let late : calendar.first < c.max.result + 1 = omega arith in
-    let its : StandsWithin calendar (plays_of state) =
+    let its : StandsWithin (capacity_at calendar.steps) calendar (plays_of state) =
     record { stands = c.calendar-calendar.ensures.stands; within = subst S (sym c.calendar-calendar.ensures.steps) within } in
     let offer = offer_everywhere its late c.find.ensures.offer in
     let O : List CapStep → Type 0 = λ s. IsOffer 0 (booked_in state) (capacity_at s) plan (c.max.result + 1) found in
