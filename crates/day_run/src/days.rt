@@ -18,7 +18,7 @@ use crate::sources::reels_of;
 use crate::texts::{push_fault, push_full, push_offer, push_slot, push_state};
 use admission::{Book, Entry};
 use early_start::Offers;
-use report::{calendar_text, journal_text, law_kinds, law_state_text};
+use report::{calendar_text, journal_text, law_answer_kinds, law_state_text};
 use slot_calendar::Profile;
 use std::alloc::Global;
 use vod_base::NoMemory;
@@ -77,7 +77,7 @@ fn print_entries(book: &Book, from: usize, text: &mut Vec<u8>) -> Result<(), NoM
         (text.new.items ≡ text.old.items ++ journal_text from (drop from book.now.entries)) }
 {
     let entries = book.entries();
-    law_kinds(book.calendar().profile(), entries);
+    law_answer_kinds();
     journal_text(from, entries, text)
 }
 

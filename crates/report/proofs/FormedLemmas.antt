@@ -22,11 +22,11 @@ ascending_slots booked a (suc n) =
     pick true later others = (later, others)
     pick false later others = others
 
-pub calendar_told : (from : ℕ) (booked : ℕ → ℕ) → ring_slots < 2 ^ 62 → AreBookings from booked
+pub calendar_told : (from : ℕ) (booked : ℕ → ℕ) → AreBookings from booked
     → IsCalendarTold from booked (lines_of (calendar_text from booked))
-calendar_told from booked short are =
+calendar_told from booked are =
     let small : from < 2 ^ 64 = omega (arith, are.first_small) in
-    let told = lines-text from booked small (few_slots from booked are short) in
+    let told = lines-text from booked small (few_slots from booked are) in
     record {
       slots = booked_slots from booked;
       ascend = ascending_slots booked from ring_slots;

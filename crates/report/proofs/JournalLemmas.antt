@@ -1,5 +1,6 @@
 -- The text of a journal, line by line.
-use Rattle.std.proofs.Common.{ℕ, zero, suc, ◌+◌, ◌<◌, ◌≤◌, ◌≡◌, Err, List, [], ◌∷◌, ◌++◌, drop, flat_map, get_or, length, append_assoc, append-nil, sym, ap, refl, ◌∙◌, arith}
+use Rattle.std.proofs.Common.{ℕ, zero, suc, ◌+◌, ◌<◌, ◌≤◌, ◌≡◌, Err, List, [], ◌∷◌, ◌++◌, drop, flat_map, get_or, length, append_assoc, append-nil, sym, ap}
+use Rattle.std.proofs.Common.{refl, ◌∙◌, arith}
 use Rattle.std.proofs.lemmas.List.{drop_all, drop_more}
 use Rattle.vod_base.specs.declared.outside.NoMemory.{NoMemory}
 use Rattle.admission.specs.declared.entries.Entry.{Entry}

@@ -1,8 +1,8 @@
 pub mod AppendLemmas
-pub mod SlotLemmas
-pub mod LineLemmas
-pub mod KindLemmas
-pub mod FormLemmas
-pub mod StateLemmas
-pub mod JournalLemmas
+mod SlotLemmas
+mod LineLemmas
+mod KindLemmas
+mod FormLemmas
+mod StateLemmas
+mod JournalLemmas
 mod FormedLemmas

@@ -1,5 +1,6 @@
 -- The lines of a calendar's text: which slots they tell, and what of each.
-use Rattle.std.proofs.Common.{ℕ, zero, suc, ◌+◌, ◌^◌, ◌<◌, ◌≤◌, ◌≡◌, ◌≢◌, not, ◌==◌, nat_lt, Bool, true, false, cond, List, [], ◌∷◌, ◌++◌, All, map, flat_map, get_or, codes, decimal, append_assoc, sym, ap, refl, subst, ◌∙◌, arith, inl, inr}
+use Rattle.std.proofs.Common.{ℕ, zero, suc, ◌+◌, ◌^◌, ◌<◌, ◌≤◌, ◌≡◌, ◌≢◌, not, ◌==◌, nat_lt, Bool, true, false, cond, List, [], ◌∷◌, ◌++◌, All, map, flat_map}
+use Rattle.std.proofs.Common.{get_or, codes, decimal, append_assoc, sym, ap, refl, subst, ◌∙◌, arith, inl, inr}
 use Rattle.std.specs.List.{Contains, list_all, range_with_len}
 use Rattle.std.proofs.lemmas.Bool.{cases_lt, lt-ltb, ltb-true}
 use Rattle.std.proofs.lemmas.Fmt.{decimal_injective}
@@ -137,38 +138,38 @@ same_words {s} {b} {t} {c} small few small' few' e =
 abbrev TellsOf : ℕ → (ℕ → ℕ) → ℕ → ℕ → List ℕ → Type 0
 TellsOf from bytes slot booked line = line ≡ slot_words slot booked → (booked ≡ bytes slot) × (0 < booked) × (from ≤ slot)
 
-pub few_slots : (from : ℕ) (bytes : ℕ → ℕ) → AreBookings from bytes → ring_slots < 2 ^ 62
+pub few_slots : (from : ℕ) (bytes : ℕ → ℕ) → AreBookings from bytes
     → All (IsFew bytes) (booked_slots from bytes)
-few_slots from bytes kept short =
+few_slots from bytes kept =
     all_booked bytes (IsFew bytes) from ring_slots
-    (λ t after inside some. (omega (arith, kept.first_small, inside, short), omega (arith, kept.few t after)))
+    (λ t after inside some. (omega (arith, kept.first_small, inside), omega (arith, kept.few t after)))
 
 tells_all : {from : ℕ} {bytes : ℕ → ℕ} {slot booked : ℕ} → slot < 2 ^ 64 → booked < 2 ^ 64
-    → AreBookings from bytes → ring_slots < 2 ^ 62
+    → AreBookings from bytes
     → All (TellsOf from bytes slot booked) (map (words_at bytes) (booked_slots from bytes))
-tells_all {from} {bytes} {slot} {booked} small few kept short =
+tells_all {from} {bytes} {slot} {booked} small few kept =
     all_map (TellsOf from bytes slot booked) (words_at bytes) (booked_slots from bytes)
     (all_booked bytes (λ t. TellsOf from bytes slot booked (words_at bytes t)) from ring_slots (λ t after inside some e.
-    let same = same_words small few (omega (arith, kept.first_small, inside, short)) (omega (arith, kept.few t after)) (sym e) in
+    let same = same_words small few (omega (arith, kept.first_small, inside)) (omega (arith, kept.few t after)) (sym e) in
     (same.1 ∙ ap bytes (sym same.0), omega (arith, some, same.1), omega (arith, after, same.0))))
 
-pub line_stands : {from : ℕ} {bytes : ℕ → ℕ} (slot : ℕ) → AreBookings from bytes → ring_slots < 2 ^ 62 →
+pub line_stands : {from : ℕ} {bytes : ℕ → ℕ} (slot : ℕ) → AreBookings from bytes →
     from ≤ slot → slot < from + ring_slots → 0 < bytes slot →
     Contains (calendar_lines from bytes) (words_at bytes slot)
-line_stands {from} {bytes} slot kept short after inside some =
+line_stands {from} {bytes} slot kept after inside some =
     let slots = map (words_at bytes) (booked_slots from bytes) in
     let line = words_at bytes slot in
     let stands =
     contains_map (words_at bytes) (booked_slots from bytes) slot (booked_stands bytes from ring_slots after inside some) in
     subst (λ (ls : List (List ℕ)). Contains ls line)
-    (sym (lines-calendar from bytes (omega (arith, kept.first_small)) (few_slots from bytes kept short)))
+    (sym (lines-calendar from bytes (omega (arith, kept.first_small)) (few_slots from bytes kept)))
     (Contains-append_right (first_words from ∷ []) (slots ++ codes "end" ∷ []) line
     (Contains-append_left slots (codes "end" ∷ []) line stands))
 
-pub line_tells : {from : ℕ} {bytes : ℕ → ℕ} {slot booked : ℕ} → AreBookings from bytes → ring_slots < 2 ^ 62 →
+pub line_tells : {from : ℕ} {bytes : ℕ → ℕ} {slot booked : ℕ} → AreBookings from bytes →
     slot < 2 ^ 64 → booked < 2 ^ 64 →
     Contains (calendar_lines from bytes) (slot_words slot booked) → (booked ≡ bytes slot) × (0 < booked) × (from ≤ slot)
-line_tells {from} {bytes} {slot} {booked} kept short small few stands =
+line_tells {from} {bytes} {slot} {booked} kept small few stands =
     let P = TellsOf from bytes slot booked in
     let line = slot_words slot booked in
     let slots = map (words_at bytes) (booked_slots from bytes) in
@@ -178,8 +179,8 @@ line_tells {from} {bytes} {slot} {booked} kept short small few stands =
     λ e. absurd (let first : 101 ≡ 97 = ap (λ (l : List ℕ). get_or l 0 0) e in omega (arith, first)) in
     let tells : All P (lines_told from bytes) =
     All-cons P (first_words from) (slots ++ codes "end" ∷ []) no_first
-    (All-append P slots (codes "end" ∷ []) (tells_all small few kept short) (All-cons P (codes "end") [] no_end (All-nil P))) in
+    (All-append P slots (codes "end" ∷ []) (tells_all small few kept) (All-cons P (codes "end") [] no_end (All-nil P))) in
     let among : Contains (lines_told from bytes) line =
     subst (λ (ls : List (List ℕ)). Contains ls line)
-    (lines-calendar from bytes (omega (arith, kept.first_small)) (few_slots from bytes kept short)) stands in
+    (lines-calendar from bytes (omega (arith, kept.first_small)) (few_slots from bytes kept)) stands in
     All-get_or P (lines_told from bytes) among.0 line among.1 tells among.2

@@ -1,6 +1,6 @@
 //! Laws of lines and texts, and of the answers of each command.
 
-ghost use Rattle.std.specs.Prelude.{◌≡◌, ◌^◌, ◌<◌, ◌≤◌, ℕ, List, length, slice_index_or};
+ghost use Rattle.std.specs.Prelude.{◌≡◌, ◌^◌, ◌<◌, ◌≤◌, ℕ, List};
 ghost use Rattle.std.specs.List.{Contains};
 ghost use Rattle.slot_calendar.specs.declared.profiles.CapStep.{CapStep};
 ghost use Rattle.slot_calendar.specs.Calendars.{Entries, StandsFor, booked_at};
@@ -16,24 +16,11 @@ ghost use Rattle.report.specs.EntryLines.{entry_line};
 ghost use Rattle.report.specs.JournalTexts.{IsJournalTold, journal_text};
 ghost use Rattle.report.specs.Kinds.{AreOfKind, IsOfKind};
 
-use admission::Entry;
-use slot_calendar::Profile;
-
 /// Each entry of a legal history has an answer of its command's kind, as `entry_line` asks.
 pub fn law_answer_kinds()
     ensures { (steps : List CapStep) (entries : List Entry) → IsLegal steps entries →
         AreOfKind entries }
 {}
-
-/// Each entry of this legal history has an answer of its command's kind.
-pub fn law_kinds(profile: &Profile, entries: &[Entry])
-    requires { IsLegal profile.now entries.now }
-    ensures { (place : ℕ) (none : Entry) → place < length entries.now →
-        IsOfKind (slice_index_or entries.now place none).command
-        (slice_index_or entries.now place none).answer }
-{
-    let _read = (profile.steps().len(), entries.len());
-}
 
 /// The line of an entry whose answer is of its command's kind has the form of that command and
 /// answer, from its beginning to its end.
@@ -43,8 +30,8 @@ pub fn law_entry_line()
 {}
 
 /// The text of entries, the first of them at a place, is made of their lines in a row: line i is
-/// that of entry i with its place, for every entry, in the order of entries, and nothing else stands
-/// in it.
+/// that of entry i with its place, for every entry, in the order of entries, and nothing else
+/// stands in it.
 pub fn law_journal_text()
     ensures { (place : ℕ) (entries : List Entry) →
         IsJournalTold place entries (journal_text place entries) }

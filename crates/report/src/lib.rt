@@ -12,8 +12,8 @@ pub use entries::entry_line;
 pub use fields::{push, push_field, push_number};
 pub use journals::journal_text;
 pub use laws::{
-    law_answer_kinds, law_calendar_lines, law_entry_line, law_journal_text, law_kinds,
-    law_slot_lines, law_state_text,
+    law_answer_kinds, law_calendar_lines, law_entry_line, law_journal_text, law_slot_lines,
+    law_state_text,
 };
 
 #[cfg(test)]

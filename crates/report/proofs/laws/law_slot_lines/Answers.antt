@@ -3,16 +3,12 @@ use Rattle.std.specs.List.{Contains}
 use Rattle.std.proofs.lemmas.Bool.{cases_lt}
 use Rattle.slot_calendar.specs.Totals.{ring_slots}
 use Rattle.report.specs.CalendarTexts.{AreBookings, calendar_lines, slot_words}
-use Rattle.report.proofs.SlotLemmas.{ring-is}
 use Rattle.report.proofs.LineLemmas.{line_stands, line_tells}
 use Rattle.report.proofs.laws.law_slot_lines.Goals as goal
 
-short : ring_slots < 2 ^ 62
-short = omega (arith, ring-is)
-
 tells : {from slot told : ℕ} {booked : ℕ → ℕ} → AreBookings from booked → slot < 2 ^ 64 → told < 2 ^ 64 →
     Contains (calendar_lines from booked) (slot_words slot told) → (told ≡ booked slot) × (0 < told) × (from ≤ slot)
-tells {from} {slot} are small few stands = line_tells are short small few stands
+tells {from} {slot} are small few stands = line_tells are small few stands
 
 pub returns-clause-stands : goal.returns-clause-stands
 returns-clause-stands c = λ from slot booked are begun some.
@@ -20,7 +16,7 @@ returns-clause-stands c = λ from slot booked are begun some.
       | inl inside ↦ inside
       | inr past ↦ absurd (omega (arith, are.past slot past, some))
     ] in
-    line_stands slot are short begun inside some
+    line_stands slot are begun inside some
 
 pub returns-clause-tells : goal.returns-clause-tells
 returns-clause-tells c = λ from slot told booked are small few stands. (tells are small few stands).0
