@@ -1,6 +1,6 @@
 pub mod Prefixes
-pub mod Sums
-pub mod Live
-pub mod Turning
-pub mod Parts
-pub mod Closing
+mod Sums
+mod Live
+mod Turning
+mod Parts
+mod Closing

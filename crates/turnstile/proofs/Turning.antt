@@ -1,5 +1,6 @@
 -- Each kind of step keeps the rule.
-use Rattle.std.proofs.Common.{◌≡◌, ◌≢◌, ◌⊎◌, ℕ, ◌+◌, ◌%◌, ◌^◌, ◌<◌, ◌≤◌, List, [], ◌∷◌, ◌++◌, length, set, get_or, Option, Some, false, refl, ap, sym, ◌∙◌, subst, ⊎_elim, inl, inr, arith, length-append}
+use Rattle.std.proofs.Common.{◌≡◌, ◌≢◌, ◌⊎◌, ℕ, ◌+◌, ◌%◌, ◌^◌, ◌<◌, ◌≤◌, List, [], ◌∷◌, ◌++◌, length, set, get_or, Option, Some, false, refl, ap, sym, ◌∙◌}
+use Rattle.std.proofs.Common.{subst, ⊎_elim, inl, inr, arith, length-append}
 use mathlib.Core.Logic.{dite}
 use mathlib.Core.List.{IsPrefix}
 use mathlib.Core.Option.{some, none, some-injective, some-ne-none}
@@ -17,10 +18,11 @@ use Rattle.turnstile.specs.declared.view.View.{View}
 use Rattle.admission.specs.Makers.{made_by}
 use Rattle.turnstile.specs.Turns.{total, pass_count, ticket_count, has_ticket, IsLive, IsTicket, InTurn, Fits, Apart, IsAway, IsHome, IsRuled}
 use Rattle.turnstile.specs.Sized.{IsFree}
-use Rattle.turnstile.specs.Steps.{IsTurn, Knows, Took, slot_list}
+use Rattle.turnstile.specs.Steps.{HasTaken, IsTurn, Knows, slot_list}
 use Rattle.turnstile.proofs.Prefixes.{prefix_self, prefix_trans, prefix_longer, made_other}
 use Rattle.turnstile.proofs.Sums.{total_set, tickets_total}
-use Rattle.turnstile.proofs.Live.{lives, waits_in, ticket_or, Free, idle_free, waits_free, ticket_low, turn_more, turn_next, at_inside, one_at, restage, refit, live_set, FreeChange, Waiter, Holder, EmptyWaiter, GrownHolder, longer_list}
+use Rattle.turnstile.proofs.Live.{lives, waits_in, ticket_or, Free, idle_free, waits_free, ticket_low, turn_more, turn_next, at_inside, one_at, restage, refit}
+use Rattle.turnstile.proofs.Live.{live_set, FreeChange, Waiter, Holder, EmptyWaiter, GrownHolder, longer_list}
 
 module _ {B : Type 0} (entries : B → List Entry) (terms_of : B → Terms) (terms : Terms) where
   abbrev pub St : Type 0
@@ -272,7 +274,7 @@ module _ {B : Type 0} (entries : B → List Entry) (terms_of : B → Terms) (ter
 
   pub looks : (id slots : ℕ) (me : Me (Option B) View) → EmptyWaiter me
       → Allows Rule slots id me 1 (λ n. n) (λ n next. (u : ℕ) → me.0.stage ≡ Waits u
-      → (n ≡ u % 2 ^ 64 → Took entries terms_of u me next) × (n ≢ u % 2 ^ 64 → next ≡ me))
+      → (n ≡ u % 2 ^ 64 → HasTaken entries terms_of u me next) × (n ≢ u % 2 ^ 64 → next ≡ me))
   looks id slots me it s r deep at low =
       let v = me.0 in let f = r.each id v (at, left) in
       let word : get_or s.words 1 0 ≡ r.served % 2 ^ 64 = ap (λ (ws : List ℕ). get_or ws 1 0) r.words in
@@ -291,7 +293,7 @@ module _ {B : Type 0} (entries : B → List Entry) (terms_of : B → Terms) (ter
         ap (λ (hs : Homes). get_elem? hs 0) h.home,
         took s r waiter h (sym same),
         λ u is'. let e : t ≡ u = ap ticket_or (sym is ∙ is') in (
-          (λ _. subst (λ (x : ℕ). Took entries terms_of x me (w, (0, Some h.value) ∷ me.1)) e record {
+          (λ _. subst (λ (x : ℕ). HasTaken entries terms_of x me (w, (0, Some h.value) ∷ me.1)) e record {
             value = h.value;
             view = refl;
             slot = ap (λ (cs : List (ℕ × Option B)). (0, Some h.value) ∷ cs) free;

@@ -77,7 +77,7 @@ MayLeave seen maker list = (list ≡ seen)
     ⊎ ((e : Entry) × (list ≡ seen ++ e ∷ []) × (e.maker ≡ maker))
 
 -- a turn: the pass as it was when it took it, and the value
-pub record Turning (B : Type 0) : Type 0 where
+pub record TurnState (B : Type 0) : Type 0 where
   pub pass : PassState
   pub value : B
 

@@ -72,7 +72,7 @@ pub record Knows (v : View) : Type 0 where
 module _ {B : Type 0} (entries : B → List Entry) (terms_of : B → Terms) where
   -- the pass has the turn of its ticket, and the slot with the value, which begins with all that it
   -- had seen
-  pub record Took (t : ℕ) (me next : Me (Option B) View) : Type 0 where
+  pub record HasTaken (t : ℕ) (me next : Me (Option B) View) : Type 0 where
     pub value : B
     pub view : next.0 ≡ record me.0 { stage = Holds t; seen = entries value }
     pub slot : next.1 ≡ (0, Some value) ∷ []
@@ -91,15 +91,18 @@ module _ {B : Type 0} (entries : B → List Entry) where
   slot_list (x ∷ rest) = value_list x.1
 
 module _ {B : Type 0} where
-  abbrev pub Drew : Me (Option B) View → ℕ → Me (Option B) View → Type 0
-  Drew me n next = (t : ℕ) × (n ≡ t % 2 ^ 64) × (next.0 ≡ record me.0 { stage = Waits t })
+  -- the pass has drawn a ticket, whose turn it waits for
+  abbrev pub HasDrawn : Me (Option B) View → ℕ → Me (Option B) View → Type 0
+  HasDrawn me n next = (t : ℕ) × (n ≡ t % 2 ^ 64) × (next.0 ≡ record me.0 { stage = Waits t })
       × (next.1 ≡ [])
 
-  abbrev pub Left : Me (Option B) View → ℕ → Me (Option B) View → Type 0
-  Left me n next = (next.0 ≡ record me.0 { stage = Idle }) × (next.1 ≡ [])
+  -- it has given the slot back and the turn on
+  abbrev pub HasLeft : Me (Option B) View → ℕ → Me (Option B) View → Type 0
+  HasLeft me n next = (next.0 ≡ record me.0 { stage = Idle }) × (next.1 ≡ [])
 
-  abbrev pub Told : Me (Option B) View → ℕ → Me (Option B) View → Type 0
-  Told me n next = (next ≡ me) × Knows me.0
+  -- it has read a word, which leaves it as it is, and tells what it knows
+  abbrev pub HasRead : Me (Option B) View → ℕ → Me (Option B) View → Type 0
+  HasRead me n next = (next ≡ me) × Knows me.0
 
   -- a pass that waits for the turn of its ticket
   pub record IsWaiting (me : Me (Option B) View) (ticket : ℕ) : Type 0 where
@@ -127,11 +130,14 @@ module _ {B : Type 0} (entries : B → List Entry) where
     me.1,
   )
 
-  abbrev pub Raised : Me (Option B) View → ℕ → Me (Option B) View → Type 0
-  Raised me n next = (next.0 ≡ (after_raise me).0) × (next.1 ≡ me.1)
+  -- the pass has raised the word of the entries by the one that the value in its slot has more
+  abbrev pub HasRaised : Me (Option B) View → ℕ → Me (Option B) View → Type 0
+  HasRaised me n next = (next.0 ≡ (after_raise me).0) × (next.1 ≡ me.1)
 
 module _ {B : Type 0} (entries : B → List Entry) (terms_of : B → Terms) where
-  abbrev pub Looked : Me (Option B) View → ℕ → Me (Option B) View → Type 0
-  Looked me n next =
-      (t : ℕ) → me.0.stage ≡ Waits t → (n ≡ t % 2 ^ 64 → Took entries terms_of t me next)
+  -- the pass has looked whose turn it is: where it is that of its ticket, it has the turn and the
+  -- slot, and else nothing is changed
+  abbrev pub HasLooked : Me (Option B) View → ℕ → Me (Option B) View → Type 0
+  HasLooked me n next =
+      (t : ℕ) → me.0.stage ≡ Waits t → (n ≡ t % 2 ^ 64 → HasTaken entries terms_of t me next)
       × (n ≢ t % 2 ^ 64 → next ≡ me)

@@ -17,7 +17,7 @@ pub use kept::Kept;
 pub use pass::Pass;
 pub use turn::Turn;
 pub use turnstile::Turnstile;
-pub use view::{Joined, Made, Stage, Terms, View};
+pub use view::{Joined, OwnEntry, Stage, Terms, View};
 
 #[cfg(test)]
 mod tests;

@@ -4,8 +4,8 @@ ghost use Rattle.admission.specs.declared.entries.Entry.{Entry};
 ghost use Rattle.turnstile.specs.declared.view.Stage.TheVariants.{Idle};
 ghost use Rattle.admission.specs.Makers.{made_by};
 ghost use Rattle.turnstile.specs.Sized.{IsSame, IsSeated, IsFree};
-ghost use Rattle.turnstile.specs.Steps.{Drew, IsTurn, IsWaiting, Knows, Left, Looked, Raised, Told};
-ghost use Rattle.turnstile.specs.Steps.{after_raise, slot_list};
+ghost use Rattle.turnstile.specs.Steps.{HasDrawn, HasLeft, HasLooked, HasRaised, HasRead, IsTurn};
+ghost use Rattle.turnstile.specs.Steps.{IsWaiting, Knows, after_raise, slot_list};
 
 use crate::kept::Kept;
 use crate::table::{ENTRIES, Place, SERVING, TICKETS, Top};
@@ -17,7 +17,7 @@ use std::marker::PhantomData;
 pub(crate) struct Draws;
 
 impl<B> Play<Option<B>, View> for Draws {
-    ghost then = { λ _. Drew };
+    ghost then = { λ _. HasDrawn };
 }
 
 /// What a look at the ticket whose turn it is tells.
@@ -26,7 +26,7 @@ pub(crate) struct Looks<B> {
 }
 
 impl<B: Kept> Play<Option<B>, View> for Looks<B> {
-    ghost then = { λ _. Looked B.entries B.terms };
+    ghost then = { λ _. HasLooked B.entries B.terms };
 }
 
 /// What counting an entry tells.
@@ -35,21 +35,21 @@ pub(crate) struct Raises<B> {
 }
 
 impl<B: Kept> Play<Option<B>, View> for Raises<B> {
-    ghost then = { λ _. Raised B.entries };
+    ghost then = { λ _. HasRaised B.entries };
 }
 
 /// What giving the turn on tells.
 pub(crate) struct Leaves;
 
 impl<B> Play<Option<B>, View> for Leaves {
-    ghost then = { λ _. Left };
+    ghost then = { λ _. HasLeft };
 }
 
 /// What reading a word tells of what the pass knows.
 pub(crate) struct Tells;
 
 impl<B> Play<Option<B>, View> for Tells {
-    ghost then = { λ _. Told };
+    ghost then = { λ _. HasRead };
 }
 
 /// Draws a ticket.
@@ -57,7 +57,7 @@ pub(crate) fn draw<B: Kept>(top: &Top<B>, place: &mut Place<B>) -> u64
     requires seat { IsSeated top.now.table_id place.old }
     requires free { IsFree place.old.me }
     ensures same { IsSame place.old place.new }
-    ensures drew { Drew place.old.me result place.new.me }
+    ensures drew { HasDrawn place.old.me result place.new.me }
 {
     top.fetch_add::<Draws>(place, TICKETS, 1)
 }
@@ -68,7 +68,7 @@ pub(crate) fn look<B: Kept>(top: &Top<B>, place: &mut Place<B>, ticket: u64) -> 
     requires seat { IsSeated top.now.table_id place.old }
     requires waits { IsWaiting place.old.me ticket }
     ensures same { IsSame place.old place.new }
-    ensures looked { Looked B.entries B.terms place.old.me result place.new.me }
+    ensures looked { HasLooked B.entries B.terms place.old.me result place.new.me }
 {
     top.load::<Looks<B>>(place, SERVING)
 }

@@ -1,7 +1,7 @@
 //! How a seat takes the turn, and gives it back.
 ghost use Rattle.std.specs.Prelude.{◌≡◌, ◌%◌, ◌^◌, ◌<◌, ◌++◌, [], ◌∷◌, Some, None, true, false};
 ghost use Rattle.turnstile.specs.Sized.{IsFree, IsSame, IsSeated};
-ghost use Rattle.turnstile.specs.Steps.{IsWaiting, Took, ticket_of};
+ghost use Rattle.turnstile.specs.Steps.{HasTaken, IsWaiting, ticket_of};
 ghost use Rattle.admission.specs.Makers.{made_by};
 ghost use mathlib.Core.List.{IsPrefix};
 ghost use Rattle.turnstile.specs.Taken.{stands_as};
@@ -54,7 +54,7 @@ fn wait<B: Kept, R: Wait>(
     requires seat { IsSeated top.now.table_id place.old }
     requires waits { IsWaiting place.old.me ticket }
     ensures same { IsSame place.old place.new }
-    ensures took { Took B.entries B.terms (ticket_of place.old.me.0.stage)
+    ensures took { HasTaken B.entries B.terms (ticket_of place.old.me.0.stage)
         place.old.me place.new.me }
 {
     let mut tries = 0;

@@ -26,9 +26,9 @@ pub struct Turn<B: Kept> {
 }
 
 impl<B: Kept> Model for Turn<B> {
-    ghost use Rattle.turnstile.specs.Passes.{Turning};
+    ghost use Rattle.turnstile.specs.Passes.{TurnState};
 
-    ghost Value = { Turning B };
+    ghost Value = { TurnState B };
 
     ghost use Rattle.turnstile.specs.Taken.{IsTaken, stands_as};
 

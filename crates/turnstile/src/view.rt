@@ -15,12 +15,12 @@ pub struct Terms {
 }
 
 /// An entry that a pass made, with its place. No value of it is made.
-pub struct Made {
+pub struct OwnEntry {
     place: u64,
     entry: Entry,
 }
 
-impl Model for Made {
+impl Model for OwnEntry {
     ghost use Rattle.admission.specs.Makers.{Placed};
 
     ghost Value = { Placed };
@@ -33,7 +33,7 @@ pub struct Joined {
     /// Its number.
     pub number: u32,
     /// Its own entries.
-    pub mine: LinkedList<Made>,
+    pub mine: LinkedList<OwnEntry>,
 }
 
 /// Where a pass stands: it has no ticket, or waits for the turn of its ticket, or has that turn.
@@ -63,7 +63,7 @@ pub struct View {
     /// The terms that it had.
     pub told_terms: Terms,
     /// Its own entries.
-    pub mine: LinkedList<Made>,
+    pub mine: LinkedList<OwnEntry>,
     /// How many passes were split from it.
     pub splits: u64,
     /// What those that were joined to it had made.
