@@ -35,4 +35,4 @@ pub record IsNoted (old : Journal) (maker : ℕ) (command : Command) (noted : No
 -- what is told of a journal that has no room
 pub record IsFull (journal : Journal) (full : Full) : Type 0 where
   pub entries_are : full.entries ≡ length journal.entries
-  pub live_is : full.live ≡ open_count journal.entries
+  pub open_is : full.open_plays ≡ open_count journal.entries

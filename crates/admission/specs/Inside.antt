@@ -12,5 +12,5 @@ journal_of book = record {
 }
 
 abbrev pub IsBook : Inside → Type 0
-IsBook book = IsKept book.calendar book.entries.items book.limit book.live
+IsBook book = IsKept book.calendar book.entries.items book.limit book.open_plays
     (vec_capacity book.entries)

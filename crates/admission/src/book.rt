@@ -8,7 +8,7 @@ ghost use Rattle.admission.specs.Machine.{CanHalt, plays_of};
 ghost use Rattle.admission.specs.Histories.{IsLegal, state_after};
 
 use crate::entries::{Answer, Command, Entry, Full, Noted, PlayFull};
-use crate::keeping::{admit, give_back, note, opened_by};
+use crate::keeping::{admit, give_back, note, plays_opened};
 use plan_cert::Plan;
 use slot_calendar::{Calendar, Profile};
 use std::alloc::Global;
@@ -25,7 +25,7 @@ pub struct Book {
     calendar: Calendar,
     entries: Vec<Entry>,
     limit: u64,
-    live: u64,
+    open_plays: u64,
 }
 
 impl Model for Book {
@@ -66,19 +66,19 @@ impl Book {
             calendar,
             entries: Vec::with_capacity(alloc, limit as usize)?,
             limit,
-            live: 0,
+            open_plays: 0,
         })
     }
 
     /// How many entries there are, and how many plays are open.
     fn counts(&self) -> Full
         ensures full { IsFull self.now result }
-        ensures within { result.entries + result.live ≤ self.now.limit }
+        ensures within { result.entries + result.open_plays ≤ self.now.limit }
         ensures few { self.now.limit ≤ 1048576 }
     {
         Full {
             entries: self.entries.len() as u64,
-            live: self.live,
+            open_plays: self.open_plays,
         }
     }
 
@@ -104,12 +104,12 @@ impl Book {
         ensures left { OnErr result (self.new ≡ self.old) }
     {
         let full = self.counts();
-        if full.entries + full.live + 2 > self.limit {
+        if full.entries + full.open_plays + 2 > self.limit {
             return Err(PlayFull { plan, full });
         }
         let slot = slot.min(LATEST_SLOT);
         let answer = admit(&mut self.calendar, slot, &plan);
-        self.live += opened_by(answer);
+        self.open_plays += plays_opened(answer);
         Ok(note(
             &mut self.entries,
             maker,
@@ -127,7 +127,7 @@ impl Book {
         ensures answer { result.answer ≡ Answer.Halted }
     {
         give_back(&mut self.calendar, self.entries.as_slice(), number, keep);
-        self.live -= 1;
+        self.open_plays -= 1;
         note(
             &mut self.entries,
             maker,
@@ -152,7 +152,7 @@ impl Book {
         ensures left { OnErr result (self.new ≡ self.old) }
     {
         let full = self.counts();
-        if full.entries + full.live + 1 > self.limit {
+        if full.entries + full.open_plays + 1 > self.limit {
             return Err(full);
         }
         let slot = slot.min(LATEST_SLOT);
@@ -197,7 +197,7 @@ impl Book {
             calendar: _,
             entries,
             limit: _,
-            live: _,
+            open_plays: _,
         } = self;
         entries
     }

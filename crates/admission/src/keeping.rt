@@ -40,7 +40,7 @@ pub(crate) fn admit(calendar: &mut Calendar, slot: u64, plan: &Plan) -> Answer
 }
 
 /// How many plays an answer opens: 1 where it admits one.
-pub(crate) fn opened_by(answer: Answer) -> u64
+pub(crate) fn plays_opened(answer: Answer) -> u64
     ensures { result ≡ (if is_admission answer then 1 else 0) }
 {
     match answer {

@@ -84,7 +84,7 @@ pub fn law_one_history()
 /// After a legal history as many plays are open as were admitted and not halted, and now is the
 /// latest slot in which a play was asked for, or 0.
 pub fn law_counts()
-    ensures live { (steps : List CapStep) (entries : List Entry) → IsLegal steps entries →
+    ensures open { (steps : List CapStep) (entries : List Entry) → IsLegal steps entries →
         open_count entries + count_by (λ (e : Entry). is_halt e.command) entries
         ≡ count_by (λ (e : Entry). is_admission e.answer) entries }
     ensures now { (steps : List CapStep) (entries : List Entry) → IsLegal steps entries →

@@ -100,7 +100,8 @@ enum Ask {
     Look { maker: u32, slot: u64 },
 }
 
-fn asked(
+/// The book's answer.
+fn answer_to(
     rt: &impl Abort,
     alloc: Global,
     book: &mut Book,
@@ -148,16 +149,16 @@ fn look(maker: u32, slot: u64) -> Ask {
     Ask::Look { maker, slot }
 }
 
-fn noted(place: u64, answer: Answer) -> Result<Noted, Full> {
+fn noted_answer(place: u64, answer: Answer) -> Result<Noted, Full> {
     Ok(Noted { place, answer })
 }
 
-fn admitted(place: u64, start: u64) -> Result<Noted, Full> {
-    noted(place, Answer::Admitted { start })
+fn admission(place: u64, start: u64) -> Result<Noted, Full> {
+    noted_answer(place, Answer::Admitted { start })
 }
 
 fn overflow(place: u64, slot: u64, booked: u64, asked: u64) -> Result<Noted, Full> {
-    noted(
+    noted_answer(
         place,
         Answer::Overflow {
             slot,
@@ -167,16 +168,19 @@ fn overflow(place: u64, slot: u64, booked: u64, asked: u64) -> Result<Noted, Ful
     )
 }
 
-fn halted(place: u64) -> Result<Noted, Full> {
-    noted(place, Answer::Halted)
+fn halt_answer(place: u64) -> Result<Noted, Full> {
+    noted_answer(place, Answer::Halted)
 }
 
-fn looked(place: u64, now: u64, at: u64, booked: u64) -> Result<Noted, Full> {
-    noted(place, Answer::Looked { now, at, booked })
+fn look_answer(place: u64, now: u64, at: u64, booked: u64) -> Result<Noted, Full> {
+    noted_answer(place, Answer::Looked { now, at, booked })
 }
 
-fn full(entries: u64, live: u64) -> Result<Noted, Full> {
-    Err(Full { entries, live })
+fn refusal(entries: u64, open_plays: u64) -> Result<Noted, Full> {
+    Err(Full {
+        entries,
+        open_plays,
+    })
 }
 
 /// The bytes booked so many slots from now.
@@ -196,7 +200,7 @@ fn run(
     booked: &[u64],
 ) -> Result<(), Fail> {
     for (ask, want) in rows {
-        let told = asked(rt, alloc, book, *ask)?;
+        let told = answer_to(rt, alloc, book, *ask)?;
         assert_eq!(rt; told, *want);
     }
     for (ahead, want) in booked.iter().enumerate() {
@@ -214,11 +218,11 @@ fn run(
 fn admits_and_halts(rt: HostRuntime) -> Result<(), Fail> {
     let mut book = book_of(&rt, rt.alloc(), &[(0, 5)], 64)?;
     let rows = [
-        (play(0, 0), admitted(0, 1)),
+        (play(0, 0), admission(0, 1)),
         (play(1, 0), overflow(1, 3, 3, 3)),
-        (play(1, 2), admitted(2, 3)),
-        (halt(0, 0, 7), halted(3)),
-        (halt(1, 2, 2), halted(4)),
+        (play(1, 2), admission(2, 3)),
+        (halt(0, 0, 7), halt_answer(3)),
+        (halt(1, 2, 2), halt_answer(4)),
     ];
     let booked = [2, 5, 0, 0, 0];
     run(&rt, rt.alloc(), &mut book, rows.as_slice(), &booked)?;
@@ -234,11 +238,11 @@ fn admits_and_halts(rt: HostRuntime) -> Result<(), Fail> {
 fn is_full(rt: HostRuntime) -> Result<(), Fail> {
     let mut book = book_of(&rt, rt.alloc(), &[(0, 100)], 2)?;
     let rows = [
-        (play(0, 0), admitted(0, 1)),
-        (play(1, 0), full(1, 1)),
-        (look(1, 0), full(1, 1)),
-        (halt(0, 0, 0), halted(1)),
-        (look(0, 0), full(2, 0)),
+        (play(0, 0), admission(0, 1)),
+        (play(1, 0), refusal(1, 1)),
+        (look(1, 0), refusal(1, 1)),
+        (halt(0, 0, 0), halt_answer(1)),
+        (look(0, 0), refusal(2, 0)),
     ];
     run(&rt, rt.alloc(), &mut book, rows.as_slice(), &[0, 0, 0, 0])
 }
@@ -249,11 +253,11 @@ fn looks(rt: HostRuntime) -> Result<(), Fail> {
     let mut book = book_of(&rt, rt.alloc(), &[(0, 5)], 64)?;
     let latest = 4_611_686_018_427_387_904;
     let rows = [
-        (play(0, 0), admitted(0, 1)),
-        (look(0, 3), looked(1, 0, 3, 3)),
-        (look(0, u64::MAX), looked(2, 0, latest, 0)),
-        (play(0, u64::MAX), admitted(3, latest + 1)),
-        (look(0, 3), looked(4, latest, latest, 0)),
+        (play(0, 0), admission(0, 1)),
+        (look(0, 3), look_answer(1, 0, 3, 3)),
+        (look(0, u64::MAX), look_answer(2, 0, latest, 0)),
+        (play(0, u64::MAX), admission(3, latest + 1)),
+        (look(0, 3), look_answer(4, latest, latest, 0)),
     ];
     let booked = [0, 2, 2, 3, 0];
     run(&rt, rt.alloc(), &mut book, rows.as_slice(), &booked)
@@ -264,7 +268,7 @@ fn looks(rt: HostRuntime) -> Result<(), Fail> {
 fn keeps_each_capacity(rt: HostRuntime) -> Result<(), Fail> {
     let mut book = book_of(&rt, rt.alloc(), &[(0, 5), (3, 3)], 64)?;
     let rows = [
-        (play(0, 0), admitted(0, 1)),
+        (play(0, 0), admission(0, 1)),
         (play(1, 0), overflow(1, 3, 3, 3)),
         (play(1, 1), overflow(2, 3, 3, 2)),
     ];
@@ -275,7 +279,7 @@ fn keeps_each_capacity(rt: HostRuntime) -> Result<(), Fail> {
 fn tells_refusals(rt: HostRuntime) -> Result<(), Fail> {
     let full = Full {
         entries: 2,
-        live: 1,
+        open_plays: 1,
     };
     let plan = plan_of(&rt, rt.alloc(), &[(3, 7)])?;
     let text = "the journal is full: 2 entries, 1 open plays";

@@ -12,9 +12,9 @@ use Rattle.session.specs.Hearings.{after_admission}
 use Rattle.session.specs.Standings.{IsHandedIn, Open, PlayAnswer, Standing, awaited_answer, booking_of}
 use Rattle.session.specs.Standings.{CanKeep, open_of}
 use Rattle.session.specs.Steps.{IsPlayIn}
-use Rattle.station.specs.Answers.{IsRefused, Made}
+use Rattle.station.specs.Answers.{IsRefused, HasMade}
 use Rattle.station.specs.Ledgers.{play_of}
-use Rattle.station.specs.Seats.{IsSameSeat, IsSeat, Sitting}
+use Rattle.station.specs.Seats.{IsSameSeat, IsSeat, SeatState}
 use Rattle.station.specs.declared.answers.Booking.{Booking}
 use Rattle.station.specs.declared.answers.PlayRefused.{PlayRefused}
 use Rattle.station.specs.declared.answers.PlayRefused.TheVariants.{JournalFull, Overflow}
@@ -39,7 +39,7 @@ held_closed {booking} {play} mine none closed =
     subst (λ b. IsHeld mine b play) (sym none) (subst (IsHeld mine None) (sym closed) tt)
 
 -- what is known as the station answers to a play
-pub record IsAsking (seat next : Sitting) (before : Connection) : Type 0 where
+pub record IsAsking (seat next : SeatState) (before : Connection) : Type 0 where
   pub kept : IsSeat seat
   pub also : IsSeat next
   pub same : IsSameSeat seat next
@@ -53,7 +53,7 @@ pub record HasToldRefusal (refused : PlayRefused) (before after : Connection) : 
   pub closed : open_of after.session ≡ None
   pub booking : after.booking ≡ before.booking
 
-gone_refused : {before after : Connection} (seat next : Sitting) (heard : ℕ) (plan : List Segment) (refused : PlayRefused) →
+gone_refused : {before after : Connection} (seat next : SeatState) (heard : ℕ) (plan : List Segment) (refused : PlayRefused) →
     IsRefused seat next heard plan refused → before.booking ≡ None → HasToldRefusal refused before after →
     HasGone (business seat.mine before) (business next.mine after)
 gone_refused seat next heard plan (JournalFull asked entries live) is none told =
@@ -61,7 +61,7 @@ gone_refused seat next heard plan (JournalFull asked entries live) is none told 
 gone_refused seat next heard plan (Overflow place slot booked bytes) is none told =
     gone_overflow none told.booking (record { mine = is.mine; receipts = told.handed.receipts })
 
-pub kept_refused : {seat next : Sitting} {before after : Connection} {refused : PlayRefused} (heard : ℕ) (plan : List Segment) →
+pub kept_refused : {seat next : SeatState} {before after : Connection} {refused : PlayRefused} (heard : ℕ) (plan : List Segment) →
     IsAsking seat next before → IsRefused seat next heard plan refused → HasToldRefusal refused before after →
     KeepsBusiness seat next before after
 kept_refused {seat} {next} {before} {refused} heard plan asking is told =
@@ -72,7 +72,7 @@ kept_refused {seat} {next} {before} {refused} heard plan asking is told =
       gone = gone_refused seat next heard plan refused is none told;
     }
 
-pub answered_refused : {plan : List Segment} {seat next : Sitting} {after : Standing} (before : Connection)
+pub answered_refused : {plan : List Segment} {seat next : SeatState} {after : Standing} (before : Connection)
     (refused : PlayRefused) →
     IsAsking seat next before → IsRefused seat next before.session.heard plan refused →
     after ≡ after_refusal before.session refused →
@@ -88,8 +88,8 @@ pub record HasAdmitted (plan : List Segment) (booking : Booking) (before after :
   pub opens : open_of after.session ≡ booking_of (awaited_answer before.session) booking.start
   pub booking_is : after.booking ≡ Some booking
 
-pub kept_admitted : {plan : List Segment} {seat next : Sitting} {before after : Connection} {booking : Booking} (heard : ℕ) →
-    IsAsking seat next before → Made seat next 2 (play_of heard plan) booking.number (Admitted booking.start) →
+pub kept_admitted : {plan : List Segment} {seat next : SeatState} {before after : Connection} {booking : Booking} (heard : ℕ) →
+    IsAsking seat next before → HasMade seat next 2 (play_of heard plan) booking.number (Admitted booking.start) →
     ((keep : ℕ) → keep ≤ total_bytes plan → IsOpenAmong next.mine booking.number keep) → HasAdmitted plan booking before after →
     KeepsBusiness seat next before after
 kept_admitted {plan} {seat} {next} {before} {after} {booking} heard asking made keeps admitted =
@@ -112,8 +112,8 @@ pub record HasHeardAdmission (before : Standing) (booking : Booking) (after : St
   pub exact : after ≡ after_admission before booking.number booking.start
   pub play : IsPlayIn after.state
 
-pub answered_admitted : {plan : List Segment} {seat next : Sitting} {before : Connection} {after : Standing} {booking : Booking} →
-    IsAsking seat next before → Made seat next 2 (play_of before.session.heard plan) booking.number (Admitted booking.start) →
+pub answered_admitted : {plan : List Segment} {seat next : SeatState} {before : Connection} {after : Standing} {booking : Booking} →
+    IsAsking seat next before → HasMade seat next 2 (play_of before.session.heard plan) booking.number (Admitted booking.start) →
     HasHeardAdmission before.session booking after → HasAnswered before.session (AskPlay plan) after seat next
 answered_admitted asking made heard =
     answered_entry asking.kept asking.also asking.same made refl (refl, (heard.later, heard.exact, heard.play))

@@ -9,7 +9,7 @@ use Rattle.film_frames.specs.declared.stores.Stored.{Stored}
 use Rattle.session.specs.declared.settings.Settings.{Settings}
 use Rattle.session.specs.Hearings.{new_standing}
 use Rattle.session.specs.Standings.{Standing}
-use Rattle.station.specs.Seats.{Sitting}
+use Rattle.station.specs.Seats.{SeatState}
 use Rattle.conn.specs.declared.reports.ConnReport.{ConnReport}
 use Rattle.conn.specs.declared.reports.ConnEnd.TheVariants.{LinkFault}
 use Rattle.conn.specs.Rounds.{ending_doings, rounds_doings}
@@ -20,7 +20,7 @@ use Rattle.vod_base.proofs.Telling.{told_more-nil}
 use Rattle.conn.proofs.Occasions.{TakenBack}
 
 -- what a connection told at its end is what it told before, and more
-told_after : {session : Standing} {old new : Option (List Doing)} {seat next : Sitting} {report : ConnReport} →
+told_after : {session : Standing} {old new : Option (List Doing)} {seat next : SeatState} {report : ConnReport} →
     HasServedConnection session old new seat next report →
     (doings : List Doing) × (new ≡ told_more old doings)
 told_after {new} {next} (inl from) =
@@ -33,7 +33,7 @@ fresh_is None new doings fresh is = sym (ap fresh_told is)
 fresh_is (Some told) new doings fresh is = ap Some fresh ∙ sym (ap fresh_told is)
 
 pub served_fresh : {films : List Stored} {settings : Settings} {words : List ℕ} {old new : Option (List Doing)}
-    {before after : ℕ} {seat next : Sitting} {report : ConnReport} → before ≡ 0 →
+    {before after : ℕ} {seat next : SeatState} {report : ConnReport} → before ≡ 0 →
     IfSome old (λ told. told ≡ []) → report.words ≡ words →
     HasServedConnection (new_standing films settings words) old new seat next report →
     KeepsPromise (new_standing films settings words) old new seat next report → (report.end ≡ LinkFault → HasRisen before after) →
@@ -54,8 +54,8 @@ served_fresh {films} {settings} {words} {old} {new} {after} {seat} {next} {repor
     }
 
 -- one more connection
-pub served_more : {films : List Stored} {settings : Settings} {mid new : Sitting} {returned : Returned}
-    {report : ConnReport} (old : Sitting) (back : List Returned) (reports : List ConnReport) →
+pub served_more : {films : List Stored} {settings : Settings} {mid new : SeatState} {returned : Returned}
+    {report : ConnReport} (old : SeatState) (back : List Returned) (reports : List ConnReport) →
     AreServed films settings old back reports mid → HasServedOne films settings returned report mid new
     → AreServed films settings old (back ++ returned ∷ []) (reports ++ report ∷ []) new
 served_more {films} {settings} {new} {returned} {report} old [] [] are one =
@@ -73,14 +73,14 @@ served_more {films} {settings} {mid} {new} {returned} {report} old (b ∷ back) 
 
 -- the same of what is told of the part
 pub told_first : {reports : List ConnReport} (films : List Stored) (settings : Settings) (part : Option Content)
-    (seat : Sitting) → IfSome part IsUntouched → reports ≡ [] → AreTold films settings part reports seat seat
+    (seat : SeatState) → IfSome part IsUntouched → reports ≡ [] → AreTold films settings part reports seat seat
 told_first films settings None seat untouched none = tt
 told_first {reports} films settings (Some part) seat untouched none =
     subst (λ bs. AreServed films settings seat bs reports seat) (sym untouched.back)
     (subst (λ rs. AreServed films settings seat [] rs seat) (sym none) refl)
 
-pub told_one : {films : List Stored} {settings : Settings} {taken new : Option Content} {between next : Sitting}
-    {more : List ConnReport} {returned : Returned} {report : ConnReport} {mid : Option Content} (old : Sitting)
+pub told_one : {films : List Stored} {settings : Settings} {taken new : Option Content} {between next : SeatState}
+    {more : List ConnReport} {returned : Returned} {report : ConnReport} {mid : Option Content} (old : SeatState)
     (reports : List ConnReport) → AreTold films settings mid reports old between → TakenBack mid taken new returned →
     more ≡ reports ++ report ∷ [] → HasServedOne films settings returned report between next →
     AreTold films settings new more old next
@@ -96,8 +96,8 @@ told_one {films} {settings} {taken} {new} {between} {next} {more} {returned} {mi
 pub record PartServed : Type 0 where
   pub films : List Stored
   pub settings : Settings
-  pub old : Sitting
-  pub next : Sitting
+  pub old : SeatState
+  pub next : SeatState
   pub reports : List ConnReport
 
 pub told_end : {new : Option Content} (part : PartServed) (mid : Option Content) (last : LastTake) →

@@ -4,12 +4,12 @@ use Rattle.session.specs.declared.asks.Ask.{Ask}
 use Rattle.session.specs.declared.asks.Ask.TheVariants.{Reply as AskReply}
 use Rattle.session.specs.Hearings.{Hears}
 use Rattle.session.specs.Standings.{Standing}
-use Rattle.station.specs.Seats.{Sitting}
+use Rattle.station.specs.Seats.{SeatState}
 use Rattle.conn.specs.Sights.{HasAnswered, HasAsked}
 use Rattle.conn.specs.Turns.{Unasked}
 use Rattle.conn.proofs.Sighting.{noted_unasked}
 
-pub asked_on : {old asking new : Standing} {ask arm : Ask} {message bytes : List ℕ} {seat next : Sitting} →
+pub asked_on : {old asking new : Standing} {ask arm : Ask} {message bytes : List ℕ} {seat next : SeatState} →
     Hears old message ask asking →
     message ≡ bytes → ask ≡ arm → HasAnswered asking arm new seat next → HasAsked old bytes new seat next
 asked_on {old} {asking} {ask} {arm} {bytes} hears same is answered = record {
@@ -24,5 +24,5 @@ asked_on {old} {asking} {ask} {arm} {bytes} hears same is answered = record {
 }
 
 -- the station wasn't asked
-pub answered_none : (session : Standing) (seat : Sitting) → HasAnswered session AskReply session seat seat
+pub answered_none : (session : Standing) (seat : SeatState) → HasAnswered session AskReply session seat seat
 answered_none session seat = record { outcome = Unasked; answered = refl; noted = noted_unasked seat }

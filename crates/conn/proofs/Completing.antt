@@ -84,14 +84,14 @@ full_turn : {terms : Terms} {journal : List Entry} {from : ℕ} {old asking : St
     HasTurn terms journal from old new
 full_turn {terms} {journal} {from} {asking} {more} {entries} {new} asked full two replied =
     let over : terms.limit < entries + open_count (take entries journal) + 2 =
-    omega (arith, full.full, full.live_is, two) in record {
+    omega (arith, full.full, full.open_is, two) in record {
       asking = asking;
       asked = asked;
       turn = entries;
       after = full.after;
       within = full.within;
       decided = record {
-        full = λ no. (replied.0, subst (λ n. new.text ≡ full_text replied.0 entries n) full.live_is replied.1);
+        full = λ no. (replied.0, subst (λ n. new.text ≡ full_text replied.0 entries n) full.open_is replied.1);
         over = λ has other first. absurd (omega (arith, has, over));
         admitted = λ has all. absurd (omega (arith, has, over));
       };

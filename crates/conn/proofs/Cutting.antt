@@ -7,7 +7,7 @@ use Rattle.interleave.specs.Streams.{AreCut, told_length, told_pieces}
 use Rattle.interleave.specs.Pieces.{IsFirst}
 use Rattle.interleave.specs.declared.pieces.Step.{Step}
 use Rattle.interleave.proofs.Streams.{next_pieces}
-use Rattle.station.specs.Seats.{Sitting, IsSameSeat}
+use Rattle.station.specs.Seats.{SeatState, IsSameSeat}
 use Rattle.conn.specs.Events.{CutsOn}
 
 pub cuts_none : (input : List ℕ) → CutsOn input input
@@ -39,11 +39,11 @@ prefix_on a b c p q = (p.0 ++ q.0, sym (append_assoc a p.0 q.0) ∙ (ap (λ w. w
 prefix_none : (a : List Entry) → IsPrefix a a
 prefix_none a = ([], append-nil a)
 
-pub seat_none : (seat : Sitting) → IsSameSeat seat seat
+pub seat_none : (seat : SeatState) → IsSameSeat seat seat
 seat_none seat =
     record { id = refl; steps = refl; limit = refl; number = refl; splits = refl; joined = refl; longer = prefix_none seat.seen }
 
-pub seat_on : (a b c : Sitting) → IsSameSeat a b → IsSameSeat b c → IsSameSeat a c
+pub seat_on : (a b c : SeatState) → IsSameSeat a b → IsSameSeat b c → IsSameSeat a c
 seat_on a b c first second = record {
   id = second.id ∙ first.id;
   steps = second.steps ∙ first.steps;

@@ -14,10 +14,10 @@ use Rattle.admission.specs.Histories.{booked_after, open_count, state_after}
 use Rattle.admission.specs.Machine.{start_after}
 use Rattle.admission.specs.Makers.{Placed, made_by}
 use Rattle.session.specs.declared.notes.OfferNote.{OfferNote}
-use Rattle.station.specs.Answers.{IsFull, Made}
+use Rattle.station.specs.Answers.{IsFull, HasMade}
 use Rattle.station.specs.Ledgers.{IsOffered}
 use Rattle.station.specs.declared.answers.Offered.{Offered as Told}
-use Rattle.station.specs.Seats.{IsSameSeat, IsSeat, Sitting}
+use Rattle.station.specs.Seats.{IsSameSeat, IsSeat, SeatState}
 use Rattle.station.proofs.Grown.{last-entry, last-place, prefix-at, prefix-take}
 use Rattle.conn.specs.Journals.{AgreeWith, IsFullIn, IsOfferedIn, StandsIn, Terms, entries_needed, terms_of}
 use Rattle.conn.specs.Turns.{Outcome, Unasked, Entered, WasFull, Offered}
@@ -53,7 +53,7 @@ agree_lower earlier (WasFull more entries open_count ∷ outcomes) agree = (
   record {
     after = omega (arith, earlier.below, agree.0.after);
     within = agree.0.within;
-    live_is = agree.0.live_is;
+    open_is = agree.0.open_is;
     full = agree.0.full;
   },
   agree.1,
@@ -88,7 +88,7 @@ full_longer : {limit from more entries live_plays : ℕ} {journal longer : List 
 full_longer {from} {more} {entries} {journal} {longer} prefix full = record {
   after = full.after;
   within = omega (arith, full.within, prefix_length journal longer prefix);
-  live_is = full.live_is ∙ ap (λ (xs : List Entry). open_count xs) (sym (prefix-take journal longer prefix entries full.within));
+  open_is = full.open_is ∙ ap (λ (xs : List Entry). open_count xs) (sym (prefix-take journal longer prefix entries full.within));
   full = full.full;
 }
 
@@ -160,15 +160,15 @@ agree_then grown from (Offered at_slot note ∷ first) more agree later = (
 abbrev terms_with : List CapStep → ℕ → ℕ → Terms
 terms_with steps limit maker = record { steps = steps; limit = limit; maker = maker }
 
-pub terms_same : (a b : Sitting) → IsSameSeat a b → terms_of b ≡ terms_of a
+pub terms_same : (a b : SeatState) → IsSameSeat a b → terms_of b ≡ terms_of a
 terms_same a b same =
     ap (λ s. terms_with s b.limit b.number) same.steps ∙ ap (λ l. terms_with a.steps l b.number) same.limit
     ∙ ap (λ n. terms_with a.steps a.limit n) same.number
 
 -- an entry of the seat's own comes after all that it had seen
-entry_after : {seat next : Sitting} {more : ℕ} {command : Command} {place : ℕ} {answer : Answer}
+entry_after : {seat next : SeatState} {more : ℕ} {command : Command} {place : ℕ} {answer : Answer}
     (rest : List Entry) → IsSeat seat → IsSeat next
-    → next.number ≡ seat.number → seat.seen ++ rest ≡ next.seen → Made seat next more command place answer
+    → next.number ≡ seat.number → seat.seen ++ rest ≡ next.seen → HasMade seat next more command place answer
     → length seat.seen ≤ place
 entry_after {seat} {next} {more} {command} {place} {answer} [] kept also number longer made =
     let seen : next.seen ≡ seat.seen = sym longer ∙ append-nil seat.seen in
@@ -186,9 +186,9 @@ entry_after {seat} {next} {more} {command} {place} {answer} (x ∷ xs) kept also
 take_whole : (entries : List Entry) (n : ℕ) → n ≡ length entries → take n entries ≡ entries
 take_whole entries n is = take_all n entries (omega (arith, is))
 
-pub entry_agrees : {seat next : Sitting} {more : ℕ} {command : Command} {place : ℕ} {answer : Answer}
+pub entry_agrees : {seat next : SeatState} {more : ℕ} {command : Command} {place : ℕ} {answer : Answer}
     → IsSeat seat → IsSeat next → IsSameSeat seat next
-    → Made seat next more command place answer → more ≡ entries_needed command
+    → HasMade seat next more command place answer → more ≡ entries_needed command
     → AgreeWith (terms_of seat) next.seen (length seat.seen)
     (Entered (record { place = place; entry = record { maker = seat.number; command = command; answer = answer } }) ∷ [])
 entry_agrees {seat} {next} {more} {command} {place} {answer} kept also same made needed =
@@ -196,19 +196,19 @@ entry_agrees {seat} {next} {more} {command} {place} {answer} kept also same made
     let front : take place next.seen ≡ made.before =
     prefix-take made.before next.seen (e ∷ [], sym made.seen) place (omega (arith, made.place_is))
     ∙ take_whole made.before place made.place_is in
-    let live_is : open_count (take place next.seen) ≡ open_count made.before = ap (λ (xs : List Entry). open_count xs) front in
+    let open_is : open_count (take place next.seen) ≡ open_count made.before = ap (λ (xs : List Entry). open_count xs) front in
     let last = last-place made in (
       record {
         after = entry_after same.longer.0 kept also same.number same.longer.1 made;
         within = omega (arith, last);
         entry = λ none. last-entry made none;
         maker_is = refl;
-        room = omega (arith, made.room, made.place_is, live_is, needed);
+        room = omega (arith, made.room, made.place_is, open_is, needed);
       },
       omega (arith, last),
     )
 
-pub full_agrees : {seat next : Sitting} {more entries live_plays : ℕ} → IsSameSeat seat next
+pub full_agrees : {seat next : SeatState} {more entries live_plays : ℕ} → IsSameSeat seat next
     → IsFull seat next more entries live_plays
     → AgreeWith (terms_of seat) next.seen (length seat.seen) (WasFull more entries live_plays ∷ [])
 full_agrees {seat} {next} {more} {entries} same full =
@@ -216,13 +216,13 @@ full_agrees {seat} {next} {more} {entries} same full =
       record {
         after = omega (arith, far, full.entries_are);
         within = omega (arith, full.entries_are);
-        live_is = full.live_is ∙ ap (λ (xs : List Entry). open_count xs) (sym (take_whole next.seen entries full.entries_are));
+        open_is = full.open_is ∙ ap (λ (xs : List Entry). open_count xs) (sym (take_whole next.seen entries full.entries_are));
         full = full.full;
       },
       omega (arith, full.entries_are),
     )
 
-pub offer_agrees : {seat next : Sitting} {heard : ℕ} {plan : List Segment} {told : Told} {found : Offers} → IsSameSeat seat next
+pub offer_agrees : {seat next : SeatState} {heard : ℕ} {plan : List Segment} {told : Told} {found : Offers} → IsSameSeat seat next
     → IsOffered next.steps next.seen heard plan told found
     → AgreeWith (terms_of seat) next.seen (length seat.seen)
     (Offered heard (record { seen = told.seen; first = told.first; plan = plan; offers = found }) ∷ [])

@@ -1,14 +1,14 @@
 -- Lemmas on what calls leave of a seat and of the connection for which it sits.
 use Rattle.std.proofs.Common.{◌≡◌, ℕ, List, refl, subst, sym}
 use Rattle.session.specs.Standings.{IsAtRest, IsSameBooking, open_of}
-use Rattle.station.specs.Seats.{Sitting}
+use Rattle.station.specs.Seats.{SeatState}
 use Rattle.conn.specs.Keeping.{IsHeld, IsQuiet, KeepsBusiness, business}
 use Rattle.conn.specs.declared.connections.Connection.{Connection}
 use Rattle.conn.proofs.Cutting.{seat_none, seat_on}
 use Rattle.conn.proofs.Going.{gone_on, gone_still, held_same}
 
 -- before any call
-pub kept_none : (seat : Sitting) (connection : Connection) → IsQuiet seat.mine connection
+pub kept_none : (seat : SeatState) (connection : Connection) → IsQuiet seat.mine connection
     → KeepsBusiness seat seat connection connection
 kept_none seat connection quiet = record {
   seat = seat_none seat;
@@ -17,7 +17,7 @@ kept_none seat connection quiet = record {
 }
 
 -- one call after another
-pub kept_on : {a b c : Sitting} {old mid new : Connection} → KeepsBusiness a b old mid → KeepsBusiness b c mid new →
+pub kept_on : {a b c : SeatState} {old mid new : Connection} → KeepsBusiness a b old mid → KeepsBusiness b c mid new →
     KeepsBusiness a c old new
 kept_on {a} {b} {c} {old} {mid} {new} first second = record {
   seat = seat_on a b c first.seat second.seat;
@@ -26,7 +26,7 @@ kept_on {a} {b} {c} {old} {mid} {new} first second = record {
 }
 
 -- the bytes that wait are no part of it
-pub kept_moved : (seat : Sitting) (connection : Connection) (input : List ℕ) → IsQuiet seat.mine connection →
+pub kept_moved : (seat : SeatState) (connection : Connection) (input : List ℕ) → IsQuiet seat.mine connection →
     KeepsBusiness seat seat connection (record connection { input = input })
 kept_moved seat connection input quiet = record {
   seat = seat_none seat;
@@ -35,7 +35,7 @@ kept_moved seat connection input quiet = record {
 }
 
 -- more of a play became due
-pub kept_due : {a b : Connection} (seat : Sitting) → IsQuiet seat.mine a → IsAtRest b.session → b.booking ≡ a.booking →
+pub kept_due : {a b : Connection} (seat : SeatState) → IsQuiet seat.mine a → IsAtRest b.session → b.booking ≡ a.booking →
     IsSameBooking (open_of a.session) (open_of b.session) → b.session.receipts ≡ a.session.receipts → KeepsBusiness seat seat a b
 kept_due {a} {b} seat quiet rest booking opens receipts = record {
   seat = seat_none seat;
@@ -48,7 +48,7 @@ kept_due {a} {b} seat quiet rest booking opens receipts = record {
 }
 
 -- what a call leaves, after another one that made no entry, or before it
-pub kept_after : {old next : Sitting} {a mid b : Connection} → mid.booking ≡ a.booking →
+pub kept_after : {old next : SeatState} {a mid b : Connection} → mid.booking ≡ a.booking →
     mid.session.receipts ≡ a.session.receipts →
     KeepsBusiness old next mid b → KeepsBusiness old next a b
 kept_after {old} {next} {a} {mid} {b} booking receipts kept = record {
@@ -58,7 +58,7 @@ kept_after {old} {next} {a} {mid} {b} booking receipts kept = record {
       (gone_still (business old.mine a) (business old.mine mid) refl booking receipts) kept.gone;
 }
 
-pub kept_then : {old next : Sitting} {a mid b : Connection} → KeepsBusiness old next a mid →
+pub kept_then : {old next : SeatState} {a mid b : Connection} → KeepsBusiness old next a mid →
     IsAtRest b.session → b.booking ≡ mid.booking →
     open_of b.session ≡ open_of mid.session → b.session.receipts ≡ mid.session.receipts → KeepsBusiness old next a b
 kept_then {old} {next} {a} {mid} {b} kept rest booking opens receipts = record {

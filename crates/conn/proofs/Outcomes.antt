@@ -3,10 +3,10 @@ use Rattle.std.proofs.Common.{◌≡◌, ℕ, List}
 use Rattle.std.proofs.Common.{refl}
 use Rattle.std.proofs.Common.{sym, ◌∙◌}
 use Rattle.std.proofs.lemmas.List.{append-nil}
-use Rattle.station.specs.Answers.{IsFull, Made}
+use Rattle.station.specs.Answers.{IsFull, HasMade}
 use Rattle.station.specs.Ledgers.{IsOffered}
 use Rattle.station.specs.declared.answers.Offered.{Offered as Told}
-use Rattle.station.specs.Seats.{IsSameSeat, IsSeat, Sitting}
+use Rattle.station.specs.Seats.{IsSameSeat, IsSeat, SeatState}
 use Rattle.early_start.specs.Offered.{Offers}
 use Rattle.plan_cert.specs.declared.Segment.{Segment}
 use Rattle.admission.specs.declared.entries.Answer.{Answer}
@@ -24,9 +24,9 @@ use Rattle.conn.specs.Turns.{IsAnswered}
 use Rattle.conn.specs.Sights.{HasAnswered}
 
 -- the station's answers
-pub answered_entry : {old : Standing} {ask : Ask} {new : Standing} {seat next : Sitting} {more : ℕ}
+pub answered_entry : {old : Standing} {ask : Ask} {new : Standing} {seat next : SeatState} {more : ℕ}
     {command : Command} {place : ℕ} {answer : Answer}
-    → IsSeat seat → IsSeat next → IsSameSeat seat next → Made seat next more command place answer → more ≡ entries_needed command
+    → IsSeat seat → IsSeat next → IsSameSeat seat next → HasMade seat next more command place answer → more ≡ entries_needed command
     → IsAnswered old ask
     (Entered (record { place = place; entry = record { maker = seat.number; command = command; answer = answer } })) new
     → HasAnswered old ask new seat next
@@ -36,7 +36,7 @@ answered_entry {ask} {new} {seat} {next} {more} {command} {place} {answer} kept 
   noted = record { mine = made.mine; seat = same; agree = entry_agrees kept also same made needed };
 }
 
-pub answered_full : {old : Standing} {ask : Ask} {new : Standing} {seat next : Sitting} {more entries live : ℕ}
+pub answered_full : {old : Standing} {ask : Ask} {new : Standing} {seat next : SeatState} {more entries live : ℕ}
     → IsSameSeat seat next
     → IsFull seat next more entries live → IsAnswered old ask (WasFull more entries live) new → HasAnswered old ask new seat next
 answered_full {ask} {new} {seat} {next} {more} {entries} {live} same full answered = record {
@@ -45,7 +45,7 @@ answered_full {ask} {new} {seat} {next} {more} {entries} {live} same full answer
   noted = record { mine = full.mine ∙ sym (append-nil seat.mine); seat = same; agree = full_agrees same full };
 }
 
-pub answered_offer : {old : Standing} {ask : Ask} {new : Standing} {seat next : Sitting} {heard : ℕ}
+pub answered_offer : {old : Standing} {ask : Ask} {new : Standing} {seat next : SeatState} {heard : ℕ}
     {plan : List Segment} {told : Told} {found : Offers}
     → IsSameSeat seat next → next.mine ≡ seat.mine → IsOffered next.steps next.seen heard plan told found
     → IsAnswered old ask (Offered heard (record { seen = told.seen; first = told.first; plan = plan; offers = found })) new
@@ -56,9 +56,9 @@ answered_offer {ask} {new} {seat} {next} {heard} {plan} {told} {found} same mine
   noted = record { mine = mine ∙ sym (append-nil seat.mine); seat = same; agree = offer_agrees same offered };
 }
 
-pub halted_entry : {old : Standing} {keep : ℕ} {new : Standing} {seat next : Sitting} {number place : ℕ}
+pub halted_entry : {old : Standing} {keep : ℕ} {new : Standing} {seat next : SeatState} {number place : ℕ}
     → IsSeat seat → IsSeat next → IsSameSeat seat next
-    → Made seat next 0 (Halt number keep) place Halted → Halts old place new → HasAnswered old (AskHalt keep) new seat next
+    → HasMade seat next 0 (Halt number keep) place Halted → Halts old place new → HasAnswered old (AskHalt keep) new seat next
 halted_entry {keep} {new} {seat} {next} {number} {place} kept also same made halts = record {
   outcome = Entered
       (record { place = place; entry = record { maker = seat.number; command = Halt number keep; answer = Halted } });

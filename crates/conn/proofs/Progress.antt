@@ -6,7 +6,7 @@ use Rattle.std.proofs.lemmas.List.{length-append}
 use Rattle.vod_base.specs.Gates.{Content, NoMore, Failed, Returned, after_take, after_empty_take}
 use Rattle.vod_base.specs.Gates.{after_return}
 use Rattle.vod_base.specs.Outside.{HasRisen}
-use Rattle.station.specs.Seats.{IsSameSeat, Sitting}
+use Rattle.station.specs.Seats.{IsSameSeat, SeatState}
 use Rattle.conn.specs.declared.reports.ConnReport.{ConnReport}
 use Rattle.conn.specs.declared.reports.PartReport.{PartReport}
 use Rattle.conn.specs.declared.reports.PartEnd.TheVariants.{AllTaken, GateFault, NoMemory}
@@ -21,7 +21,7 @@ use Rattle.conn.proofs.Workers.{are_more, are_none, has_none, has_one, served_la
 use Rattle.conn.proofs.Workers.{served_one, told_last}
 
 -- between two connections: each that was given came back, and has its report
-pub record HasServedSoFar (duty : Duty) (old_seat new_seat : Sitting) (old new : Outlet)
+pub record HasServedSoFar (duty : Duty) (old_seat new_seat : SeatState) (old new : Outlet)
     (reports : List ConnReport) : Type 0 where
   pub seat : IsSameSeat old_seat new_seat
   pub entries : HasServed old_seat.mine reports new_seat.mine
@@ -31,7 +31,7 @@ pub record HasServedSoFar (duty : Duty) (old_seat new_seat : Sitting) (old new :
   pub count : old.faults ≤ new.faults
 
 -- before the first one
-pub none_served : (duty : Duty) (seat : Sitting) (part : Outlet) (reports : List ConnReport) →
+pub none_served : (duty : Duty) (seat : SeatState) (part : Outlet) (reports : List ConnReport) →
     IfSome part.told IsUntouched → reports ≡ [] →
     HasServedSoFar duty seat seat part part reports
 none_served duty seat part reports untouched none = record {
@@ -45,7 +45,7 @@ none_served duty seat part reports untouched none = record {
 
 -- one connection: its report, and what it was when it came back
 pub record IsOneMore (duty : Duty) (reports : List ConnReport) (mid : Option Content) (report : ConnReport)
-    (returned : Returned) (old_seat new_seat : Sitting) : Type 0 where
+    (returned : Returned) (old_seat new_seat : SeatState) : Type 0 where
   pub seat : IsSameSeat old_seat new_seat
   pub entries : HasGone (at_rest old_seat.mine []) (at_rest new_seat.mine report.receipts.items)
   pub worker : report.worker ≡ duty.worker
@@ -53,7 +53,7 @@ pub record IsOneMore (duty : Duty) (reports : List ConnReport) (mid : Option Con
   pub one : HasServedOne duty.films duty.settings returned report old_seat new_seat
 
 -- a connection was given, served, and came back
-pub one_served : {duty : Duty} {old_seat mid_seat new_seat : Sitting} {old mid new : Outlet} {taken : Option Content}
+pub one_served : {duty : Duty} {old_seat mid_seat new_seat : SeatState} {old mid new : Outlet} {taken : Option Content}
     {reports more : List ConnReport} {report : ConnReport} {returned : Returned} →
     HasServedSoFar duty old_seat mid_seat old mid reports →
     IsOneMore duty reports mid.told report returned mid_seat new_seat →
@@ -73,7 +73,7 @@ one_served {duty} {old_seat} {mid_seat} {new_seat} {old} {mid} {new} {taken} {re
     }
 
 -- there was no memory for one more report
-pub ends_early : {duty : Duty} {old_seat new_seat : Sitting} {old new : Outlet} {result : PartReport} →
+pub ends_early : {duty : Duty} {old_seat new_seat : SeatState} {old new : Outlet} {result : PartReport} →
     HasServedSoFar duty old_seat new_seat old new result.reports.items →
     result.end ≡ NoMemory → HasServedPart duty old_seat new_seat old new result
 ends_early {new} front is = record {
@@ -89,7 +89,7 @@ ends_early {new} front is = record {
 }
 
 -- the last take gave none: there are no more
-pub ends_taken : {duty : Duty} {old_seat new_seat : Sitting} {old mid new : Outlet} {result : PartReport} →
+pub ends_taken : {duty : Duty} {old_seat new_seat : SeatState} {old mid new : Outlet} {result : PartReport} →
     HasServedSoFar duty old_seat new_seat old mid result.reports.items →
     result.end ≡ AllTaken → new.told ≡ option_map (after_empty_take NoMore) mid.told → mid.faults ≤ new.faults
     → HasServedPart duty old_seat new_seat old new result
@@ -112,7 +112,7 @@ ends_taken {duty} {old_seat} {new_seat} {old} {mid} {new} {result} front is last
 }
 
 -- or it failed
-pub ends_failed : {duty : Duty} {old_seat new_seat : Sitting} {old mid new : Outlet} {result : PartReport} →
+pub ends_failed : {duty : Duty} {old_seat new_seat : SeatState} {old mid new : Outlet} {result : PartReport} →
     HasServedSoFar duty old_seat new_seat old mid result.reports.items →
     result.end ≡ GateFault → new.told ≡ option_map (after_empty_take Failed) mid.told →
     mid.faults ≤ new.faults → HasRisen mid.faults new.faults →

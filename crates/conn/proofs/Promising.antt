@@ -42,7 +42,7 @@ use Rattle.admission.specs.Histories.{booked_after}
 use Rattle.admission.proofs.Runs.{legal-take}
 use Rattle.admission.proofs.Within.{sound-after}
 use Rattle.slot_calendar.specs.Profiles.{capacity_at}
-use Rattle.station.specs.Seats.{IsSeat, Sitting}
+use Rattle.station.specs.Seats.{IsSeat, SeatState}
 use Rattle.conn.proofs.Staying.{rounds_well, slot_play}
 use Rattle.conn.proofs.Occasions.{SlotStandings, EventCome}
 
@@ -142,13 +142,13 @@ plays_kept first rounds well = λ before round old at.
     (rounds_well (stage first []) old before [] well at.runs) refl
 
 -- no slot is booked above its capacity
-never_overbooked : (seat : Sitting) → IsSeat seat → (n slot : ℕ)
+never_overbooked : (seat : SeatState) → IsSeat seat → (n slot : ℕ)
     → booked_after (take n seat.seen) slot ≤ capacity_at seat.steps slot
 never_overbooked seat is = λ n slot.
     (sound-after seat.steps (take n seat.seen) (legal-take seat.steps seat.seen n is.legal)).within.each slot
 
 -- the whole promise
-pub keeps_promise : {session : Standing} {old_told new_told : Option (List Doing)} {old_seat new_seat : Sitting}
+pub keeps_promise : {session : Standing} {old_told new_told : Option (List Doing)} {old_seat new_seat : SeatState}
     {report : ConnReport} → IsWell session [] →
     session.text ≡ [] → IsSeat new_seat → HasServedFrom session old_told new_told old_seat new_seat report →
     KeepsPromise session old_told new_told old_seat new_seat report

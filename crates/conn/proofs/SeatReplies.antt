@@ -16,7 +16,7 @@ use Rattle.plan_cert.specs.declared.Segment.{Segment}
 use Rattle.slot_calendar.specs.Calendars.{IsFirstOverflow}
 use Rattle.slot_calendar.specs.Profiles.{capacity_at}
 use Rattle.slot_calendar.specs.declared.profiles.CapStep.{CapStep}
-use Rattle.station.specs.Seats.{IsSeat, Sitting}
+use Rattle.station.specs.Seats.{IsSeat, SeatState}
 use Rattle.station.proofs.Makers.{IsAt, all-at}
 use Rattle.std.proofs.lemmas.Option.{slice_get-get_or}
 use Rattle.std.specs.Prelude.{slice_get}
@@ -61,7 +61,7 @@ overflow_stands {command = Play heard plan} {slot} steps before is = (heard, (pl
 overflow_stands {command = Halt number keep} {slot} steps before is = absurd is
 overflow_stands {command = Look at} {slot} steps before is = absurd is
 
-overflow_seen : (seat : Sitting) (text : List ℕ) → IsSeat seat → TellsOver seat.mine text → TellsOverflowOf seat text
+overflow_seen : (seat : SeatState) (text : List ℕ) → IsSeat seat → TellsOver seat.mine text → TellsOverflowOf seat text
 overflow_seen seat text is told =
     let entry : Entry = told.placed.entry in
     let own : Contains (made_by seat.number seat.seen) told.placed = subst (λ ps. Contains ps told.placed) is.own told.made in
@@ -94,7 +94,7 @@ overflow_seen seat text is told =
       text_is = told.text_is;
     }
 
-all_seen : (seat : Sitting) (made : List Outcome) (parts : List Part) → IsSeat seat
+all_seen : (seat : SeatState) (made : List Outcome) (parts : List Part) → IsSeat seat
     → AreRepliesTold seat.mine made parts → AreRefusalsTold seat made parts
 all_seen seat made [] is told = tt
 all_seen seat made (Film bytes ∷ parts) is told = all_seen seat made parts is told
@@ -104,14 +104,14 @@ all_seen seat made (Text text ∷ parts) is told = (
 )
 
 -- a seat's own entries: those of these answers, with those before and after them
-pub record SeatEntries (seat : Sitting) (made : List Outcome) : Type 0 where
+pub record SeatEntries (seat : SeatState) (made : List Outcome) : Type 0 where
   pub before : List Placed
   pub after : List Placed
   pub seat_is : IsSeat seat
   pub mine_is : seat.mine ≡ (before ++ entries_in made) ++ after
 
 -- over a whole course, by the seat at its end
-pub refusals_told : {seat : Sitting} (made : List Outcome) (parts : List Part) → SeatEntries seat made →
+pub refusals_told : {seat : SeatState} (made : List Outcome) (parts : List Part) → SeatEntries seat made →
     AreTold made parts → AreRefusalsTold seat made parts
 refusals_told {seat} made parts own told =
     all_seen seat made parts is (subst (λ ps. AreRepliesTold ps made parts) (sym mine)

@@ -15,7 +15,7 @@ use Rattle.vod_base.specs.Links.{told_more}
 use Rattle.vod_base.proofs.Telling.{told_more-append, told_more-nil}
 use Rattle.vod_base.specs.declared.links.Heard.{Heard}
 use Rattle.vod_base.specs.declared.links.Heard.TheVariants.{Bytes, Slot, End}
-use Rattle.station.specs.Seats.{Sitting}
+use Rattle.station.specs.Seats.{SeatState}
 use Rattle.conn.specs.declared.reports.ConnEnd.{ConnEnd}
 use Rattle.conn.specs.declared.reports.ConnEnd.TheVariants.{Ended, TornDown, LinkFault, TooMuchInput}
 use Rattle.conn.specs.declared.reports.ConnEnd.TheVariants.{HeadTooLong, BodyTooLong, TurnsSpent}
@@ -59,13 +59,13 @@ entries_in-append [] ys = refl
 entries_in-append (x ∷ xs) ys =
     ap (λ es. entry_in x ++ es) (entries_in-append xs ys) ∙ sym (append_assoc (entry_in x) (entries_in xs) (entries_in ys))
 
-pub noted_none : (seat : Sitting) → AreNoted seat seat []
+pub noted_none : (seat : SeatState) → AreNoted seat seat []
 noted_none seat = record { mine = sym (append-nil seat.mine); seat = seat_none seat; agree = omega arith }
 
-pub noted_unasked : (seat : Sitting) → AreNoted seat seat (Unasked ∷ [])
+pub noted_unasked : (seat : SeatState) → AreNoted seat seat (Unasked ∷ [])
 noted_unasked seat = record { mine = sym (append-nil seat.mine); seat = seat_none seat; agree = omega arith }
 
-pub noted_on : {a b c : Sitting} {xs ys : List Outcome} → AreNoted a b xs → AreNoted b c ys → AreNoted a c (xs ++ ys)
+pub noted_on : {a b c : SeatState} {xs ys : List Outcome} → AreNoted a b xs → AreNoted b c ys → AreNoted a c (xs ++ ys)
 noted_on {a} {b} {c} {xs} {ys} first second = record {
   mine = second.mine ∙ ap (λ m. m ++ entries_in ys) first.mine ∙ append_assoc a.mine (entries_in xs) (entries_in ys)
       ∙ ap (λ es. a.mine ++ es) (sym (entries_in-append xs ys));

@@ -89,6 +89,6 @@ IsPlayCompleted old outcome new =
 abbrev pub IsPlayReplied : Standing → Outcome → Standing → Type 0
 IsPlayReplied old Unasked new = HasCode 500 new.text
 IsPlayReplied old (Entered placed) new = IsEntryReplied old placed placed.entry.answer new
-IsPlayReplied old (WasFull more entries live_plays) new = (sequence : ℕ)
-    × (new.text ≡ full_text sequence entries live_plays)
+IsPlayReplied old (WasFull more entries open_plays) new = (sequence : ℕ)
+    × (new.text ≡ full_text sequence entries open_plays)
 IsPlayReplied old (Offered at_slot note) new = ⊥

@@ -11,7 +11,7 @@ use Rattle.admission.specs.Machine.{start_after}
 use Rattle.admission.specs.Makers.{Placed}
 use Rattle.early_start.specs.Offered.{IsOffer}
 use Rattle.session.specs.declared.notes.OfferNote.{OfferNote}
-use Rattle.station.specs.Seats.{Sitting}
+use Rattle.station.specs.Seats.{SeatState}
 use Rattle.conn.specs.Turns.{Outcome, Unasked, Entered, WasFull, Offered}
 
 -- a journal's terms, and the maker of a connection's entries: the steps of the link's capacity, and
@@ -21,7 +21,7 @@ pub record Terms : Type 0 where
   pub limit : ℕ
   pub maker : ℕ
 
-abbrev pub terms_of : Sitting → Terms
+abbrev pub terms_of : SeatState → Terms
 terms_of seat = record { steps = seat.steps; limit = seat.limit; maker = seat.number }
 
 -- how many more entries a command needs room for, beside those for the halts of the open plays: a
@@ -47,12 +47,12 @@ pub record StandsIn (terms : Terms) (journal : List Entry) (from : ℕ) (placed 
 
 -- a front of the journal had no room for so many more entries, beside those for the halts of its
 -- open plays: these are its two numbers
-pub record IsFullIn (limit : ℕ) (journal : List Entry) (from more entries live_plays : ℕ)
+pub record IsFullIn (limit : ℕ) (journal : List Entry) (from more entries open_plays : ℕ)
     : Type 0 where
   pub after : from ≤ entries
   pub within : entries ≤ length journal
-  pub live_is : live_plays ≡ open_count (take entries journal)
-  pub full : limit < entries + live_plays + more
+  pub open_is : open_plays ≡ open_count (take entries journal)
+  pub full : limit < entries + open_plays + more
 
 -- an offer is the one that is made in the state after a front of the journal, from the slot after
 -- the heard one and after now on
@@ -72,8 +72,8 @@ AgreeWith terms journal from (Unasked ∷ outcomes) = AgreeWith terms journal fr
 AgreeWith terms journal from (Entered placed ∷ outcomes) =
     StandsIn terms journal from placed
     × AgreeWith terms journal (placed.place + 1) outcomes
-AgreeWith terms journal from (WasFull more entries live_plays ∷ outcomes) =
-    IsFullIn terms.limit journal from more entries live_plays
+AgreeWith terms journal from (WasFull more entries open_plays ∷ outcomes) =
+    IsFullIn terms.limit journal from more entries open_plays
     × AgreeWith terms journal entries outcomes
 AgreeWith terms journal from (Offered at_slot note ∷ outcomes) =
     IsOfferedIn terms.steps journal from at_slot note × AgreeWith terms journal note.seen outcomes

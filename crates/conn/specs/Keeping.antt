@@ -14,7 +14,7 @@ use Rattle.session.specs.declared.notes.Receipt.TheVariants.{Entry as EntryRecei
 use Rattle.session.specs.declared.notes.Receipt.TheVariants.{Full as FullReceipt}
 use Rattle.session.specs.Standings.{Open, IsAtRest, open_of}
 use Rattle.station.specs.declared.answers.Booking.{Booking}
-use Rattle.station.specs.Seats.{Sitting, IsSameSeat}
+use Rattle.station.specs.Seats.{SeatState, IsSameSeat}
 use Rattle.conn.specs.declared.connections.Connection.{Connection}
 
 -- the receipts of entries among receipts
@@ -95,7 +95,7 @@ pub record IsQuiet (mine : List Placed) (connection : Connection) : Type 0 where
 
 -- what a call leaves of a seat and of the connection for which it sits: the seat stays as it was
 -- but for the entries that it made, which the receipts tell, and the booking is held
-pub record KeepsBusiness (old new : Sitting) (before after : Connection) : Type 0 where
+pub record KeepsBusiness (old new : SeatState) (before after : Connection) : Type 0 where
   pub seat : IsSameSeat old new
   pub quiet : IsQuiet new.mine after
   pub gone : HasGone (business old.mine before) (business new.mine after)

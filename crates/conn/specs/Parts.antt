@@ -10,7 +10,7 @@ use Rattle.film_frames.specs.declared.stores.Stored.{Stored}
 use Rattle.session.specs.declared.notes.Receipt.{Receipt}
 use Rattle.session.specs.declared.settings.Settings.{Settings}
 use Rattle.session.specs.Hearings.{new_standing}
-use Rattle.station.specs.Seats.{Sitting, IsSameSeat}
+use Rattle.station.specs.Seats.{SeatState, IsSameSeat}
 use Rattle.conn.specs.declared.reports.ConnReport.{ConnReport}
 use Rattle.conn.specs.declared.reports.PartReport.{PartReport}
 use Rattle.conn.specs.declared.reports.PartEnd.TheVariants.{AllTaken, GateFault}
@@ -69,7 +69,7 @@ fresh_told (Some told) = Some []
 -- a connection that came back, and its report: what it tells is its course, in which it keeps what
 -- it promises, and it failed only where its count rose
 pub record HasServedOne (films : List Stored) (settings : Settings) (returned : Returned)
-    (report : ConnReport) (old new : Sitting) : Type 0 where
+    (report : ConnReport) (old new : SeatState) : Type 0 where
   pub served : HasServedConnection (new_standing films settings report.words)
       (fresh_told returned.told) returned.told old new report
   pub keeps : KeepsPromise (new_standing films settings report.words)
@@ -77,18 +77,18 @@ pub record HasServedOne (films : List Stored) (settings : Settings) (returned : 
   pub fault : report.end ≡ LinkFault → HasRisen 0 returned.faults
 
 -- connections that came back, and their reports, one after another: each with its own
-abbrev pub AreServed : List Stored → Settings → Sitting → List Returned → List ConnReport →
-    Sitting → Type 0
+abbrev pub AreServed : List Stored → Settings → SeatState → List Returned → List ConnReport →
+    SeatState → Type 0
 AreServed films settings old [] [] new = new ≡ old
 AreServed films settings old [] (report ∷ reports) new = ⊥
 AreServed films settings old (returned ∷ back) [] new = ⊥
 AreServed films settings old (returned ∷ back) (report ∷ reports) new =
-    (mid : Sitting) × (HasServedOne films settings returned report old mid
+    (mid : SeatState) × (HasServedOne films settings returned report old mid
     × AreServed films settings mid back reports new)
 
 -- the same of what is told of the part
-abbrev pub AreTold : List Stored → Settings → Option Content → List ConnReport → Sitting → Sitting →
-    Type 0
+abbrev pub AreTold : List Stored → Settings → Option Content → List ConnReport →
+    SeatState → SeatState → Type 0
 AreTold films settings None reports old new = ⊤
 AreTold films settings (Some content) reports old new =
     AreServed films settings old content.own.back reports new
@@ -115,7 +115,7 @@ duty films settings seed worker =
 
 -- all that a worker's part of a gate brings: what it leaves of the seat and of the part, and its
 -- report
-pub record HasServedPart (duty : Duty) (old_seat new_seat : Sitting) (old new : Outlet)
+pub record HasServedPart (duty : Duty) (old_seat new_seat : SeatState) (old new : Outlet)
     (result : PartReport) : Type 0 where
   pub seat : IsSameSeat old_seat new_seat
   pub entries : HasServed old_seat.mine result.reports.items new_seat.mine

@@ -13,7 +13,7 @@ use Rattle.slot_calendar.specs.Profiles.{capacity_at}
 use Rattle.session.specs.Changes.{HasCode}
 use Rattle.session.specs.Replies.{full_text, overflow_text}
 use Rattle.session.specs.Standings.{Standing}
-use Rattle.station.specs.Seats.{Sitting}
+use Rattle.station.specs.Seats.{SeatState}
 use Rattle.conn.specs.Turns.{Outcome, WasFull, Part, Film, Text}
 use Rattle.conn.specs.Rounds.{Ending, Round, ending_outcomes, rounds_outcomes}
 use Rattle.conn.specs.Films.{rounds_parts}
@@ -24,7 +24,7 @@ use Rattle.conn.specs.declared.reports.ConnReport.{ConnReport}
 -- One of a seat's entries is a play that the link has no room for: beside what the plays before it
 -- book, this slot is the first into which its plan doesn't fit, with the bytes booked and asked
 -- there.
-pub record IsOverflowOf (seat : Sitting) (slot booked asked : ℕ) : Type 0 where
+pub record IsOverflowOf (seat : SeatState) (slot booked asked : ℕ) : Type 0 where
   pub place : ℕ
   pub entry : Entry
   pub seen : slice_get seat.seen place ≡ Some entry
@@ -41,7 +41,7 @@ pub record IsOverflowOf (seat : Sitting) (slot booked asked : ℕ) : Type 0 wher
       })
 
 -- a reply tells it
-pub record TellsOverflowOf (seat : Sitting) (text : List ℕ) : Type 0 where
+pub record TellsOverflowOf (seat : SeatState) (text : List ℕ) : Type 0 where
   pub slot : ℕ
   pub booked : ℕ
   pub asked : ℕ
@@ -60,19 +60,19 @@ pub record TellsFullOf (outcomes : List Outcome) (text : List ℕ) : Type 0 wher
 
 -- a reply is 453 only where a slot has no room for the play that was asked for, and 503 only where
 -- the journal was full
-pub record IsRefusalTold (seat : Sitting) (outcomes : List Outcome) (text : List ℕ) : Type 0 where
+pub record IsRefusalTold (seat : SeatState) (outcomes : List Outcome) (text : List ℕ) : Type 0 where
   pub overflow : HasCode 453 text → TellsOverflowOf seat text
   pub full : HasCode 503 text → TellsFullOf outcomes text
 
 -- so it is of each reply among these
-abbrev pub AreRefusalsTold : Sitting → List Outcome → List Part → Type 0
+abbrev pub AreRefusalsTold : SeatState → List Outcome → List Part → Type 0
 AreRefusalsTold seat outcomes [] = ⊤
 AreRefusalsTold seat outcomes (Film bytes ∷ parts) = AreRefusalsTold seat outcomes parts
 AreRefusalsTold seat outcomes (Text text ∷ parts) = IsRefusalTold seat outcomes text
     × AreRefusalsTold seat outcomes parts
 
 -- in a connection's rounds, the last of them included
-pub record KeepsIn (session : Standing) (rounds : List Round) (ending : Ending) (seat : Sitting)
+pub record KeepsIn (session : Standing) (rounds : List Round) (ending : Ending) (seat : SeatState)
     : Type 0 where
   pub plays : ArePlaysKept session (rounds ++ ending_rounds ending)
   pub refusals : AreRefusalsTold seat (rounds_outcomes rounds
@@ -80,21 +80,21 @@ pub record KeepsIn (session : Standing) (rounds : List Round) (ending : Ending) 
 
 -- After each entry that a seat has seen, what the plays book in a slot, each with its plan as far
 -- as it is kept, is never above the link's capacity.
-pub record IsNeverOverbooked (seat : Sitting) : Type 0 where
+pub record IsNeverOverbooked (seat : SeatState) : Type 0 where
   pub legal : IsLegal seat.steps seat.seen
   pub within : (n slot : ℕ) → booked_after (take n seat.seen) slot ≤ capacity_at seat.steps slot
 
 -- The connection has its course, and in it each play is kept between its client's curves, with the
 -- least excess, and no play is refused but for a slot without room or a full journal.
 pub record KeepsCourse (session : Standing) (old_told new_told : Option (List Doing))
-    (old_seat new_seat : Sitting) (report : ConnReport) : Type 0 where
+    (old_seat new_seat : SeatState) (report : ConnReport) : Type 0 where
   pub served : HasServedFrom session old_told new_told old_seat new_seat report
   pub booked : IsNeverOverbooked new_seat
   pub keeps : KeepsIn session served.course.rounds served.course.ending new_seat
 
 -- or it found no memory and did nothing
-abbrev pub KeepsPromise : Standing → Option (List Doing) → Option (List Doing) → Sitting → Sitting →
-    ConnReport → Type 0
+abbrev pub KeepsPromise : Standing → Option (List Doing) → Option (List Doing) →
+    SeatState → SeatState → ConnReport → Type 0
 KeepsPromise session old_told new_told old_seat new_seat report =
     KeepsCourse session old_told new_told old_seat new_seat report
     ⊎ HasDoneNothing old_told new_told old_seat new_seat report

@@ -1,7 +1,7 @@
 -- A connection from its first event to its report.
 use Rattle.std.specs.Prelude.{◌≡◌, ◌⊎◌, List, [], ◌∷◌, Option}
 use Rattle.vod_base.specs.Links.{Doing}
-use Rattle.station.specs.Seats.{Sitting}
+use Rattle.station.specs.Seats.{SeatState}
 use Rattle.session.specs.Standings.{Standing, open_of}
 use Rattle.conn.specs.Turns.{IsClosed, Outcome, stage}
 use Rattle.conn.specs.Sights.{AreNoted, HasCourse, Sight}
@@ -16,7 +16,7 @@ pub record IsToldOf (session : Standing) (report : ConnReport) : Type 0 where
   pub offers : report.offers.items ≡ session.offers
 
 -- a booking that is open at the end was halted, and keeps what is due
-pub record HasClosed (old new : Standing) (old_seat new_seat : Sitting) : Type 0 where
+pub record HasClosed (old new : Standing) (old_seat new_seat : SeatState) : Type 0 where
   pub halt : Outcome
   pub closes : IsClosed (open_of old) old halt new
   pub noted : AreNoted old_seat new_seat (halt ∷ [])
@@ -24,7 +24,7 @@ pub record HasClosed (old new : Standing) (old_seat new_seat : Sitting) : Type 0
 -- a connection with its course, from a session that heard nothing yet, and the halt of a booking
 -- that is open at its end
 pub record HasServedFrom (session : Standing) (old_told new_told : Option (List Doing))
-    (old_seat new_seat : Sitting) (report : ConnReport) : Type 0 where
+    (old_seat new_seat : SeatState) (report : ConnReport) : Type 0 where
   pub ended : Sight
   pub course : HasCourse report.end (record {
     stage = stage session [];
@@ -37,7 +37,7 @@ pub record HasServedFrom (session : Standing) (old_told new_told : Option (List 
   pub report_is : IsToldOf closed report
 
 -- a connection that found no memory: nothing was done
-pub record HasDoneNothing (old_told new_told : Option (List Doing)) (old_seat new_seat : Sitting)
+pub record HasDoneNothing (old_told new_told : Option (List Doing)) (old_seat new_seat : SeatState)
     (report : ConnReport) : Type 0 where
   pub end : report.end ≡ NoMemory
   pub told : new_told ≡ old_told
@@ -48,8 +48,8 @@ pub record HasDoneNothing (old_told new_told : Option (List Doing)) (old_seat ne
   pub offers : report.offers.items ≡ []
 
 -- what a connection's service is, from a session on
-abbrev pub HasServedConnection : Standing → Option (List Doing) → Option (List Doing) → Sitting →
-    Sitting → ConnReport → Type 0
+abbrev pub HasServedConnection : Standing → Option (List Doing) → Option (List Doing) → SeatState →
+    SeatState → ConnReport → Type 0
 HasServedConnection session old_told new_told old_seat new_seat report =
     HasServedFrom session old_told new_told old_seat new_seat report
     ⊎ HasDoneNothing old_told new_told old_seat new_seat report

@@ -2,7 +2,7 @@
 use Rattle.std.specs.Prelude.{◌≡◌, ℕ, ◌+◌, ◌^◌, ◌≤◌, ◌⊎◌, ◌++◌, List, [], ◌∷◌, length, Option}
 use Rattle.std.specs.Prelude.{Some, None}
 use Rattle.vod_base.specs.Links.{Doing, sends, told_more}
-use Rattle.station.specs.Seats.{IsSameSeat, Sitting}
+use Rattle.station.specs.Seats.{IsSameSeat, SeatState}
 use Rattle.session.specs.declared.asks.Ask.{Ask}
 use Rattle.session.specs.Standings.{Standing}
 use Rattle.conn.specs.declared.connections.Connection.{Connection}
@@ -22,15 +22,15 @@ use Rattle.conn.specs.Rounds.{rounds_doings, rounds_outcomes, takings_bytes, tak
 pub record Sight : Type 0 where
   pub stage : Stage
   pub told : Option (List Doing)
-  pub seat : Sitting
+  pub seat : SeatState
 
-abbrev pub sight : Connection → Option (List Doing) → Sitting → Sight
+abbrev pub sight : Connection → Option (List Doing) → SeatState → Sight
 sight connection told seat =
     record { stage = stage connection.session connection.input; told = told; seat = seat }
 
 -- what the station answered is what the seat made, and agrees with the journal that it has seen
 -- then, after all that it had seen before
-pub record AreNoted (old new : Sitting) (outcomes : List Outcome) : Type 0 where
+pub record AreNoted (old new : SeatState) (outcomes : List Outcome) : Type 0 where
   pub mine : new.mine ≡ old.mine ++ entries_in outcomes
   pub seat : IsSameSeat old new
   pub agree : AgreeWith (terms_of old) new.seen (length old.seen) outcomes
@@ -40,7 +40,7 @@ abbrev pub IsSent : Option (List Doing) → List ℕ → Option (List Doing) →
 IsSent old bytes new = new ≡ told_more old (sends bytes)
 
 -- the station was asked, and answered
-pub record HasAnswered (old : Standing) (ask : Ask) (new : Standing) (old_seat new_seat : Sitting)
+pub record HasAnswered (old : Standing) (ask : Ask) (new : Standing) (old_seat new_seat : SeatState)
     : Type 0 where
   pub outcome : Outcome
   pub answered : IsAnswered old ask outcome new
@@ -48,7 +48,7 @@ pub record HasAnswered (old : Standing) (ask : Ask) (new : Standing) (old_seat n
 
 -- a request was heard, and answered as far as the station goes
 pub record HasAsked (old : Standing) (message : List ℕ) (new : Standing)
-    (old_seat new_seat : Sitting) : Type 0 where
+    (old_seat new_seat : SeatState) : Type 0 where
   pub outcome : Outcome
   pub heard : HasHeard old message outcome new
   pub noted : AreNoted old_seat new_seat (outcome ∷ [])

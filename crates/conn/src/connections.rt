@@ -339,7 +339,7 @@ impl<'a> Connection<'a> {
                 self.session
                     .hear_look(looked.place, looked.now, looked.at, looked.booked)
             }
-            Err(full) => self.session.hear_full(full.entries, full.live),
+            Err(full) => self.session.hear_full(full.entries, full.open_plays),
         }
     }
 
@@ -435,7 +435,11 @@ fn hear_refusal(session: &mut Session<'_>, refused: PlayRefused)
     ensures open { open_of session.new ≡ None }
 {
     match refused {
-        PlayRefused::JournalFull { entries, live, .. } => session.hear_full(entries, live),
+        PlayRefused::JournalFull {
+            entries,
+            open_plays,
+            ..
+        } => session.hear_full(entries, open_plays),
         PlayRefused::Overflow {
             place,
             slot,

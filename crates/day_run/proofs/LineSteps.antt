@@ -1,5 +1,6 @@
 -- What the lines of a script make of a day.
-use Rattle.std.proofs.Common.{◌≡◌, ◌<◌, ◌+◌, ℕ, false, List, [], ◌∷◌, ◌++◌, length, map, drop, set, replicate, Result, Ok, Err, IfOk, arith, refl, sym, ap, subst, ◌∙◌}
+use Rattle.std.proofs.Common.{◌≡◌, ◌<◌, ◌+◌, ℕ, false, List, [], ◌∷◌, ◌++◌, length, map, drop, set, replicate, Result, Ok, Err, IfOk, arith, refl, sym, ap}
+use Rattle.std.proofs.Common.{subst, ◌∙◌}
 use Rattle.std.proofs.lemmas.List.{append-nil, drop_at, ext_get_or, get_or-replicate, length-map}
 use Rattle.plan_cert.specs.declared.Segment.{Segment}
 use Rattle.admission.specs.declared.entries.Answer.{Answer}
@@ -41,15 +42,15 @@ told-entry place xs ys e at y =
     ∙ append-nil (entry_line (length xs) e)
 
 pub told-full : {link : Link} {places : ℕ} {old new : Moment} (full : Full) → link.limit < places_taken old.entries + places
-    → full.entries ≡ length old.entries → full.live ≡ open_count old.entries → new ≡ old
+    → full.entries ≡ length old.entries → full.open_plays ≡ open_count old.entries → new ≡ old
     → IsFull link places old new (full_text full)
 told-full {old} {new} full above entries opened kept = record {
   full = above;
   told = record {
     kept = kept;
     text_is =
-        ap (λ n. full_text (record { entries = n; live = full.live })) entries
-        ∙ ap (λ n. full_text (record { entries = length old.entries; live = n })) opened;
+        ap (λ n. full_text (record { entries = n; open_plays = full.open_plays })) entries
+        ∙ ap (λ n. full_text (record { entries = length old.entries; open_plays = n })) opened;
   };
 }
 

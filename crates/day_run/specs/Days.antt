@@ -89,7 +89,7 @@ pub record IsNoted (link : Link) (entry : Entry) (states : List ClientState) (ol
 
 -- the journal has no room for so many more entries
 abbrev pub full_of : List Entry → Full
-full_of entries = record { entries = length entries; live = open_count entries }
+full_of entries = record { entries = length entries; open_plays = open_count entries }
 
 pub record IsFull (link : Link) (places : ℕ) (old new : Moment) (text : List ℕ) : Type 0 where
   pub full : link.limit < places_taken old.entries + places

@@ -29,7 +29,7 @@ fault_text fault = fault_words fault ++ codes "\n"
 -- a journal that has no room
 abbrev pub full_text : Full → List ℕ
 full_text full = field (codes "refused journal entries=") full.entries
-    ++ field (codes " open=") full.live ++ codes "\n"
+    ++ field (codes " open=") full.open_plays ++ codes "\n"
 
 -- a slot, with the bytes sent, and those booked since the last slot that was heard
 abbrev pub slot_text : ℕ → ℕ → ℕ → List ℕ

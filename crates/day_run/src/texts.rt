@@ -35,7 +35,7 @@ pub(crate) fn push_full(out: &mut Vec<u8>, full: Full) -> Result<(), NoMemory>
     ensures { OnOk result (out.new.items ≡ out.old.items ++ (full_text full)) }
 {
     push_field(out, b"refused journal entries=", full.entries)?;
-    push_field(out, b" open=", full.live)?;
+    push_field(out, b" open=", full.open_plays)?;
     push(out, b"\n")
 }
 

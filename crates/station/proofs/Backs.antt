@@ -18,31 +18,31 @@ use Rattle.station.specs.declared.answers.Looked.{Looked as Seen}
 use Rattle.station.specs.declared.answers.PlayRefused.{PlayRefused}
 use Rattle.station.specs.declared.answers.PlayRefused.TheVariants.{JournalFull, Overflow as PlayOverflow}
 use Rattle.station.specs.Ledgers.{IsEntered, IsFullFor, IsPlayRefused, look_at, play_of}
-use Rattle.station.specs.Answers.{IsFull, IsRefused, Made}
+use Rattle.station.specs.Answers.{IsFull, IsRefused, HasMade}
 use Rattle.station.specs.Inside.{seat_of}
-use Rattle.station.specs.Seats.{IsSameSeat, Sitting}
+use Rattle.station.specs.Seats.{IsSameSeat, SeatState}
 use Rattle.station.proofs.Entered.{IsAt, entry_made, full_for, refused_for, seat_after}
 use Rattle.station.proofs.Plays.{play_open}
 
-pub back_seat : {taken back : PassState} {seat : Sitting} (p : PassState) (old new : Journal) → seat_of p ≡ seat
+pub back_seat : {taken back : PassState} {seat : SeatState} (p : PassState) (old new : Journal) → seat_of p ≡ seat
     → taken ≡ record p { seen = old.entries }
     → back ≡ record taken { seen = new.entries; mine = made_by taken.number new.entries }
     → seat_of back ≡ seat_after seat new
 back_seat {taken} {back} p old new v t n =
     ap seat_of n ∙ (ap (λ (x : PassState). seat_of (record x { seen = new.entries; mine = made_by x.number new.entries })) t
-    ∙ ap (λ (s : Sitting). seat_after s new) v)
+    ∙ ap (λ (s : SeatState). seat_after s new) v)
 
-pub back_at : {seat : Sitting} {old : Journal} (p : PassState) → seat_of p ≡ seat → IsPrefix p.seen old.entries
+pub back_at : {seat : SeatState} {old : Journal} (p : PassState) → seat_of p ≡ seat → IsPrefix p.seen old.entries
     → p.mine ≡ made_by p.number old.entries
     → (let t : Terms = record { steps = old.steps; limit = old.limit } in t) ≡ p.terms → IsAt seat old
 back_at {old} p v longer own terms = record {
-  steps = ap (λ (t : Terms). t.steps) terms ∙ ap (λ (s : Sitting). s.steps) v;
-  limit = ap (λ (t : Terms). t.limit) terms ∙ ap (λ (s : Sitting). s.limit) v;
-  longer = subst (λ (s : Sitting). IsPrefix s.seen old.entries) v longer;
-  own = subst (λ (s : Sitting). s.mine ≡ made_by s.number old.entries) v own;
+  steps = ap (λ (t : Terms). t.steps) terms ∙ ap (λ (s : SeatState). s.steps) v;
+  limit = ap (λ (t : Terms). t.limit) terms ∙ ap (λ (s : SeatState). s.limit) v;
+  longer = subst (λ (s : SeatState). IsPrefix s.seen old.entries) v longer;
+  own = subst (λ (s : SeatState). s.mine ≡ made_by s.number old.entries) v own;
 }
 
-pub same_after : (seat : Sitting) (old new : Journal) → IsAt seat old → IsPrefix old.entries new.entries
+pub same_after : (seat : SeatState) (old new : Journal) → IsAt seat old → IsPrefix old.entries new.entries
     → IsSameSeat seat (seat_after seat new)
 same_after seat old new at longer = record {
   id = refl;
@@ -85,13 +85,13 @@ play_longer (Err (PlayOverflow place slot booked asked)) call heard plan is not 
 
 pub look_longer : (r : Result Seen Full) (call : BookCall) (slot : ℕ)
     → IfOk r (λ l. IsEntered call.old call.new call.maker 1 (look_at slot) l.place (Looked l.now l.at l.booked))
-    → IfErr r (λ f. IsFullFor call.old call.new 1 f.entries f.live)
+    → IfErr r (λ f. IsFullFor call.old call.new 1 f.entries f.open_plays)
     → IsPrefix call.old.entries call.new.entries
 look_longer (Ok l) call slot is not = entered_longer is
-look_longer (Err f) call slot is not = full_longer call.old call.new 1 f.entries f.live not
+look_longer (Err f) call slot is not = full_longer call.old call.new 1 f.entries f.open_plays not
 
 -- ---- a whole call: the seat took the turn, was lent the book, and gave it back
-pub record IsVisit (seat : Sitting) (back : PassState) (lent new : Journal) (maker : ℕ) : Type 0 where
+pub record IsVisit (seat : SeatState) (back : PassState) (lent new : Journal) (maker : ℕ) : Type 0 where
   pub at : IsAt seat lent
   pub back_is : seat_of back ≡ seat_after seat new
   pub maker_is : maker ≡ seat.number
@@ -109,43 +109,43 @@ pub record HasGivenBack (taken back : PassState) (old lent last new : Journal) :
   pub last_is : last ≡ new
   pub lent_is : lent ≡ old
 
-pub visit : {taken back : PassState} {seat : Sitting} {lent old last new : Journal} {maker : ℕ} (p : PassState) → seat_of p ≡ seat
+pub visit : {taken back : PassState} {seat : SeatState} {lent old last new : Journal} {maker : ℕ} (p : PassState) → seat_of p ≡ seat
     → HasTaken p taken old → HasGivenBack taken back old lent last new → maker ≡ p.number → IsVisit seat back lent new maker
 visit {taken} {seat} {old} {new} p v turn given maker_is = record {
   at = subst (IsAt seat) (sym given.lent_is) (back_at p v turn.longer turn.own turn.terms);
   back_is = back_seat p old new v turn.pass
       (given.left ∙ ap (λ (j : Journal). let q : PassState =
       record taken { seen = j.entries; mine = made_by taken.number j.entries } in q) given.last_is);
-  maker_is = maker_is ∙ ap (λ (s : Sitting). s.number) v;
+  maker_is = maker_is ∙ ap (λ (s : SeatState). s.number) v;
 }
 
-pub visit_same : {seat : Sitting} {back : PassState} {lent new : Journal} {maker : ℕ} → IsVisit seat back lent new maker
+pub visit_same : {seat : SeatState} {back : PassState} {lent new : Journal} {maker : ℕ} → IsVisit seat back lent new maker
     → IsPrefix lent.entries new.entries → IsSameSeat seat (seat_of back)
 visit_same {seat} {back} {lent} {new} is longer = subst (IsSameSeat seat) (sym is.back_is) (same_after seat lent new is.at longer)
 
-pub visit_made : {seat : Sitting} {back : PassState} {lent new : Journal} {maker more : ℕ} {command : Command}
+pub visit_made : {seat : SeatState} {back : PassState} {lent new : Journal} {maker more : ℕ} {command : Command}
     {place : ℕ} {answer : Answer} → IsVisit seat back lent new maker
-    → IsEntered lent new maker more command place answer → Made seat (seat_of back) more command place answer
+    → IsEntered lent new maker more command place answer → HasMade seat (seat_of back) more command place answer
 visit_made {seat} {back} {lent} {new} {more} {command} {place} {answer} is e =
-    subst (λ s. Made seat s more command place answer) (sym is.back_is)
+    subst (λ s. HasMade seat s more command place answer) (sym is.back_is)
     (entry_made is.at (subst (λ k. IsEntered lent new k more command place answer) is.maker_is e))
 
-pub visit_open : {seat : Sitting} {back : PassState} {lent new : Journal} {maker number start keep : ℕ} (heard : ℕ)
+pub visit_open : {seat : SeatState} {back : PassState} {lent new : Journal} {maker number start keep : ℕ} (heard : ℕ)
     (plan : List Segment)
     → IsVisit seat back lent new maker → IsEntered lent new maker 2 (play_of heard plan) number (Admitted start)
     → keep ≤ total_bytes plan → IsOpenAmong back.mine number keep
 visit_open {back} {lent} {new} {number} {start} {keep} heard plan is e small =
-    subst (λ (s : Sitting). IsOpenAmong s.mine number keep) (sym is.back_is)
+    subst (λ (s : SeatState). IsOpenAmong s.mine number keep) (sym is.back_is)
     (play_open heard plan (subst (λ k. IsEntered lent new k 2 (play_of heard plan) number (Admitted start)) is.maker_is e) small)
 
-pub visit_refused : {seat : Sitting} {back : PassState} {lent new : Journal} {maker : ℕ} (heard : ℕ)
+pub visit_refused : {seat : SeatState} {back : PassState} {lent new : Journal} {maker : ℕ} (heard : ℕ)
     (plan : List Segment) (why : PlayRefused) → IsVisit seat back lent new maker
     → IsPlayRefused lent new maker heard plan why → IsRefused seat (seat_of back) heard plan why
 visit_refused {seat} {back} {lent} {new} heard plan why is e =
     subst (λ s. IsRefused seat s heard plan why) (sym is.back_is)
     (refused_for new heard plan why is.at (subst (λ k. IsPlayRefused lent new k heard plan why) is.maker_is e))
 
-pub visit_full : {seat : Sitting} {back : PassState} {lent new : Journal} {maker more entries live_plays : ℕ}
+pub visit_full : {seat : SeatState} {back : PassState} {lent new : Journal} {maker more entries live_plays : ℕ}
     → IsVisit seat back lent new maker → IsFullFor lent new more entries live_plays
     → IsFull seat (seat_of back) more entries live_plays
 visit_full {seat} {back} {lent} {new} {more} {entries} {live_plays} is f =

@@ -15,9 +15,9 @@ use Rattle.admission.specs.Makers.{AreHaltsOwn, Placed, made_by}
 use Rattle.turnstile.proofs.Prefixes.{made_own}
 use Rattle.station.specs.declared.answers.PlayRefused.{PlayRefused}
 use Rattle.station.specs.declared.answers.PlayRefused.TheVariants.{JournalFull, Overflow as PlayOverflow}
-use Rattle.station.specs.Answers.{IsFull, IsRefused, Made}
+use Rattle.station.specs.Answers.{IsFull, IsRefused, HasMade}
 use Rattle.station.specs.Ledgers.{IsEntered, IsFullFor, IsPlayRefused}
-use Rattle.station.specs.Seats.{Sitting}
+use Rattle.station.specs.Seats.{SeatState}
 use Rattle.station.proofs.Halts.{halts-push}
 
 -- an entry keeps each play halted by its own maker
@@ -47,18 +47,18 @@ halts-told (Ok noted) call is left own = halts-noted is own
 halts-told (Err why) call is left own = subst (λ (j : Journal). AreHaltsOwn j.entries) (sym left) own
 
 -- a seat at a book that begins with what it has seen
-pub record IsAt (seat : Sitting) (book : Journal) : Type 0 where
+pub record IsAt (seat : SeatState) (book : Journal) : Type 0 where
   pub steps : book.steps ≡ seat.steps
   pub limit : book.limit ≡ seat.limit
   pub longer : IsPrefix seat.seen book.entries
   pub own : seat.mine ≡ made_by seat.number book.entries
 
 -- the seat once it gave the book back
-abbrev pub seat_after : Sitting → Journal → Sitting
+abbrev pub seat_after : SeatState → Journal → SeatState
 seat_after seat book = record seat { seen = book.entries; mine = made_by seat.number book.entries }
 
-pub entry_made : {seat : Sitting} {old new : Journal} {more : ℕ} {command : Command} {place : ℕ} {answer : Answer} → IsAt seat old
-    → IsEntered old new seat.number more command place answer → Made seat (seat_after seat new) more command place answer
+pub entry_made : {seat : SeatState} {old new : Journal} {more : ℕ} {command : Command} {place : ℕ} {answer : Answer} → IsAt seat old
+    → IsEntered old new seat.number more command place answer → HasMade seat (seat_after seat new) more command place answer
 entry_made {seat} {old} {new} {more} {command} {place} {answer} at e =
     let last : Entry = record { maker = seat.number; command = command; answer = answer } in
     let entries : new.entries ≡ old.entries ++ last ∷ [] = ap (λ (j : Journal). j.entries) e.noted.journal_is in record {
@@ -72,18 +72,18 @@ entry_made {seat} {old} {new} {more} {command} {place} {answer} at e =
       room = (let r = e.room in let l = at.limit in omega arith);
     }
 
-pub full_for : {seat : Sitting} {old new : Journal} {more entries live_plays : ℕ} → IsAt seat old
+pub full_for : {seat : SeatState} {old new : Journal} {more entries live_plays : ℕ} → IsAt seat old
     → IsFullFor old new more entries live_plays
     → IsFull seat (seat_after seat new) more entries live_plays
 full_for {seat} {old} {new} {more} at f =
     let same : new.entries ≡ old.entries = ap (λ (j : Journal). j.entries) f.left in record {
       mine = ap (made_by seat.number) same ∙ sym at.own;
       entries_are = f.entries_are ∙ ap (λ (xs : List Entry). length xs) (sym same);
-      live_is = f.live_is ∙ ap open_count (sym same);
+      open_is = f.open_is ∙ ap open_count (sym same);
       full = (let r = f.full in let l = at.limit in omega arith);
     }
 
-pub refused_for : {seat : Sitting} {old : Journal} (new : Journal) (heard : ℕ) (plan : List Segment)
+pub refused_for : {seat : SeatState} {old : Journal} (new : Journal) (heard : ℕ) (plan : List Segment)
     (why : PlayRefused) → IsAt seat old
     → IsPlayRefused old new seat.number heard plan why → IsRefused seat (seat_after seat new) heard plan why
 refused_for new heard plan (JournalFull back entries live_plays) at f = (f.0, full_for at f.1)

@@ -7,8 +7,8 @@ use Rattle.admission.specs.declared.entries.Command.{Command}
 use Rattle.admission.specs.declared.entries.Entry.{Entry}
 use Rattle.admission.specs.Makers.{made_by, made_from}
 use Rattle.turnstile.proofs.Prefixes.{made_more}
-use Rattle.station.specs.Answers.{Made}
-use Rattle.station.specs.Seats.{Sitting}
+use Rattle.station.specs.Answers.{HasMade}
+use Rattle.station.specs.Seats.{SeatState}
 
 pub prefix-at : (seen journal : List Entry) → IsPrefix seen journal → (i : ℕ) (none : Entry) → i < length seen
     → get_or journal i none ≡ get_or seen i none
@@ -23,16 +23,16 @@ pub prefix-made : (seen journal : List Entry) → IsPrefix seen journal → (mak
 prefix-made seen journal p maker =
     (made_from (0 + length seen) maker p.0, sym (made_more maker 0 seen p.0) ∙ ap (made_by maker) p.1)
 
-pub last-entry : {old new : Sitting} {more : ℕ} {command : Command} {place : ℕ} {answer : Answer}
-    → Made old new more command place answer → (none : Entry)
+pub last-entry : {old new : SeatState} {more : ℕ} {command : Command} {place : ℕ} {answer : Answer}
+    → HasMade old new more command place answer → (none : Entry)
     → get_or new.seen place none ≡ (let e : Entry = record { maker = old.number; command = command; answer = answer } in e)
 last-entry {old} {command} {place} {answer} m none =
     ap (λ (xs : List Entry). get_or xs place none) m.seen
     ∙ get_or_push m.before (let e : Entry =
     record { maker = old.number; command = command; answer = answer } in e) none place (sym m.place_is)
 
-pub last-place : {old new : Sitting} {more : ℕ} {command : Command} {place : ℕ} {answer : Answer}
-    → Made old new more command place answer → place + 1 ≡ length new.seen
+pub last-place : {old new : SeatState} {more : ℕ} {command : Command} {place : ℕ} {answer : Answer}
+    → HasMade old new more command place answer → place + 1 ≡ length new.seen
 last-place {old} {new} {command} {place} {answer} m =
     let e : Entry = record { maker = old.number; command = command; answer = answer } in
     let long = ap (λ (xs : List Entry). length xs) m.seen in let more_ =

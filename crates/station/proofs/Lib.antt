@@ -1,8 +1,8 @@
-pub mod Halts
-pub mod Entered
+mod Halts
+mod Entered
 pub mod Makers
-pub mod Backs
-pub mod Plays
-pub mod Joins
+mod Backs
+mod Plays
+mod Joins
 pub mod Grown
-pub mod Offers
+mod Offers

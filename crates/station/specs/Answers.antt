@@ -12,13 +12,13 @@ use Rattle.station.specs.declared.answers.PlayRefused.{PlayRefused}
 use Rattle.station.specs.declared.answers.PlayRefused.TheVariants.{JournalFull}
 use Rattle.station.specs.declared.answers.PlayRefused.TheVariants.{Overflow as PlayOverflow}
 use Rattle.station.specs.Ledgers.{play_of}
-use Rattle.station.specs.Seats.{Sitting}
+use Rattle.station.specs.Seats.{SeatState}
 
 -- The seat's call made this entry: it stands at `place`, the last of what the seat has seen, and is
 -- answered as the machine answers in the state after the entries before it. The journal had room
 -- for `more` entries beside those for the halts of its open plays.
-pub record Made (old new : Sitting) (more : ℕ) (command : Command) (place : ℕ) (answer : Answer)
-    : Type 0 where
+pub record HasMade (old new : SeatState) (more : ℕ) (command : Command) (place : ℕ)
+    (answer : Answer) : Type 0 where
   pub before : List Entry
   pub place_is : place ≡ length before
   pub seen : new.seen ≡
@@ -33,15 +33,15 @@ pub record Made (old new : Sitting) (more : ℕ) (command : Command) (place : �
 
 -- The journal had no room for `more` entries beside those for the halts of its open plays; these
 -- are its two numbers.
-pub record IsFull (old new : Sitting) (more entries live_plays : ℕ) : Type 0 where
+pub record IsFull (old new : SeatState) (more entries open_plays : ℕ) : Type 0 where
   pub mine : new.mine ≡ old.mine
   pub entries_are : entries ≡ length new.seen
-  pub live_is : live_plays ≡ open_count new.seen
-  pub full : old.limit < entries + live_plays + more
+  pub open_is : open_plays ≡ open_count new.seen
+  pub full : old.limit < entries + open_plays + more
 
 -- why a play is refused
-abbrev pub IsRefused : Sitting → Sitting → ℕ → List Segment → PlayRefused → Type 0
-IsRefused old new heard asked (JournalFull plan entries live_plays) = (plan ≡ asked)
-    × IsFull old new 2 entries live_plays
+abbrev pub IsRefused : SeatState → SeatState → ℕ → List Segment → PlayRefused → Type 0
+IsRefused old new heard asked (JournalFull plan entries open_plays) = (plan ≡ asked)
+    × IsFull old new 2 entries open_plays
 IsRefused old new heard asked (PlayOverflow place slot booked bytes) =
-    Made old new 2 (play_of heard asked) place (Overflow slot booked bytes)
+    HasMade old new 2 (play_of heard asked) place (Overflow slot booked bytes)

@@ -2,10 +2,10 @@
 use Rattle.std.specs.Prelude.{◌≡◌, false}
 use Rattle.turnstile.specs.Passes.{PassState}
 use Rattle.station.specs.declared.seat.Seat.TheInside.{Inside}
-use Rattle.station.specs.Seats.{Sitting, IsSeat}
+use Rattle.station.specs.Seats.{SeatState, IsSeat}
 
 -- a pass as a seat
-abbrev pub seat_of : PassState → Sitting
+abbrev pub seat_of : PassState → SeatState
 seat_of pass = record {
   id = pass.id;
   steps = pass.terms.steps;
@@ -17,7 +17,7 @@ seat_of pass = record {
   joined = pass.joined;
 }
 
-abbrev pub sitting_of : Inside → Sitting
+abbrev pub sitting_of : Inside → SeatState
 sitting_of seat = seat_of seat.pass
 
 pub record IsKept (seat : Inside) : Type 0 where

@@ -34,16 +34,16 @@ pub record IsEntered (old new : Journal) (maker more : ℕ) (command : Command) 
 
 -- no entry was made, since the journal had no room for `more` entries beside those; these are its
 -- two numbers
-pub record IsFullFor (old new : Journal) (more entries live_plays : ℕ) : Type 0 where
+pub record IsFullFor (old new : Journal) (more entries open_plays : ℕ) : Type 0 where
   pub left : new ≡ old
   pub entries_are : entries ≡ length old.entries
-  pub live_is : live_plays ≡ open_count old.entries
-  pub full : old.limit < entries + live_plays + more
+  pub open_is : open_plays ≡ open_count old.entries
+  pub full : old.limit < entries + open_plays + more
 
 -- why a play is refused
 abbrev pub IsPlayRefused : Journal → Journal → ℕ → ℕ → List Segment → PlayRefused → Type 0
-IsPlayRefused old new maker heard asked (JournalFull plan entries live_plays) = (plan ≡ asked)
-    × IsFullFor old new 2 entries live_plays
+IsPlayRefused old new maker heard asked (JournalFull plan entries open_plays) = (plan ≡ asked)
+    × IsFullFor old new 2 entries open_plays
 IsPlayRefused old new maker heard asked (PlayOverflow place slot booked bytes) =
     IsEntered old new maker 2 (play_of heard asked) place (Overflow slot booked bytes)
 

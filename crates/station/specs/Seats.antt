@@ -10,7 +10,7 @@ use Rattle.turnstile.specs.declared.view.Joined.{Joined}
 use Rattle.turnstile.specs.Passes.{longer_list}
 
 -- a station: which one it is, the steps of the link's capacity, and the most entries
-pub record Hall : Type 0 where
+pub record StationState : Type 0 where
   pub id : TableId
   pub steps : List CapStep
   pub limit : ℕ
@@ -18,7 +18,7 @@ pub record Hall : Type 0 where
 -- a seat: its station with the terms, its number, the journal as far as it has seen it, its own
 -- entries with their places, how many seats were split from it, and what those that were joined to
 -- it had made
-pub record Sitting : Type 0 where
+pub record SeatState : Type 0 where
   pub id : TableId
   pub steps : List CapStep
   pub limit : ℕ
@@ -30,13 +30,13 @@ pub record Sitting : Type 0 where
 
 -- what holds of each seat: it has seen a legal history in which each play is halted by its own
 -- maker, and its own entries are those of its number
-pub record IsSeat (seat : Sitting) : Type 0 where
+pub record IsSeat (seat : SeatState) : Type 0 where
   pub legal : IsLegal seat.steps seat.seen
   pub halts : AreHaltsOwn seat.seen
   pub own : seat.mine ≡ made_by seat.number seat.seen
 
 -- the first seat of a station
-abbrev pub first_seat : Hall → Sitting
+abbrev pub first_seat : StationState → SeatState
 first_seat hall = record {
   id = hall.id;
   steps = hall.steps;
@@ -49,7 +49,7 @@ first_seat hall = record {
 }
 
 -- what a call at the book leaves of a seat: all but what it has seen and made
-pub record IsSameSeat (old new : Sitting) : Type 0 where
+pub record IsSameSeat (old new : SeatState) : Type 0 where
   pub id : new.id ≡ old.id
   pub steps : new.steps ≡ old.steps
   pub limit : new.limit ≡ old.limit
@@ -59,11 +59,11 @@ pub record IsSameSeat (old new : Sitting) : Type 0 where
   pub longer : IsPrefix old.seen new.seen
 
 -- a seat after one more was split from it
-abbrev pub after_split : Sitting → Sitting
+abbrev pub after_split : SeatState → SeatState
 after_split seat = record seat { splits = seat.splits + 1 }
 
 -- the seat that was split from it
-abbrev pub new_seat : Sitting → Sitting
+abbrev pub new_seat : SeatState → SeatState
 new_seat seat = record {
   id = seat.id;
   steps = seat.steps;
@@ -76,7 +76,7 @@ new_seat seat = record {
 }
 
 -- a seat after another was joined to it
-abbrev pub after_join : Sitting → Sitting → Sitting
+abbrev pub after_join : SeatState → SeatState → SeatState
 after_join seat other = record seat {
   seen = longer_list seat.seen other.seen;
   joined = seat.joined ++ record { number = other.number; mine = other.mine } ∷ other.joined;
@@ -84,7 +84,7 @@ after_join seat other = record seat {
 
 -- The entries once all seats are back in the first one: they begin with what that one has seen, are
 -- legal, and each is of the first seat or of one that was joined, as they know it.
-pub record IsJournalOf (seat : Sitting) (entries : List Entry) : Type 0 where
+pub record IsJournalOf (seat : SeatState) (entries : List Entry) : Type 0 where
   pub seen : IsPrefix seat.seen entries
   pub legal : IsLegal seat.steps entries
   pub halts : AreHaltsOwn entries

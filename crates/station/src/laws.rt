@@ -14,9 +14,9 @@ ghost use Rattle.early_start.specs.Offered.{Offers};
 ghost use Rattle.plan_cert.specs.declared.Segment.{Segment};
 ghost use Rattle.slot_calendar.specs.declared.profiles.CapStep.{CapStep};
 ghost use Rattle.station.specs.declared.answers.Offered.{Offered};
-ghost use Rattle.station.specs.Answers.{Made};
+ghost use Rattle.station.specs.Answers.{HasMade};
 ghost use Rattle.station.specs.Ledgers.{IsOffered, play_of};
-ghost use Rattle.station.specs.Seats.{Sitting};
+ghost use Rattle.station.specs.Seats.{SeatState};
 
 use early_start::law_least_start;
 
@@ -37,12 +37,13 @@ pub fn law_longer_journal()
 /// The entry that a seat's call made is the last of what the seat has seen, and has the answer that
 /// was given.
 pub fn law_last_entry()
-    ensures entry { (old new : Sitting) (more : ℕ) (command : Command) (place : ℕ)
-        (answer : Answer) → Made old new more command place answer → (none : Entry) →
+    ensures entry { (old new : SeatState) (more : ℕ) (command : Command) (place : ℕ)
+        (answer : Answer) → HasMade old new more command place answer → (none : Entry) →
         slice_index_or new.seen place none
         ≡ record { maker = old.number; command = command; answer = answer } }
-    ensures last { (old new : Sitting) (more : ℕ) (command : Command) (place : ℕ)
-        (answer : Answer) → Made old new more command place answer → place + 1 ≡ length new.seen }
+    ensures last { (old new : SeatState) (more : ℕ) (command : Command) (place : ℕ)
+        (answer : Answer) → HasMade old new more command place answer →
+        place + 1 ≡ length new.seen }
 {}
 
 /// A play that is open among its maker's entries stays open while the maker doesn't halt it.

@@ -65,7 +65,7 @@ impl Ledger {
         ensures made { IfOk result (λ noted.
             IsEntered self.old self.new maker 2 (play_of heard plan) noted.place noted.answer) }
         ensures full { IfErr result (λ refused.
-            IsFullFor self.old self.new 2 refused.full.entries refused.full.live) }
+            IsFullFor self.old self.new 2 refused.full.entries refused.full.open_plays) }
         ensures plan { IfErr result (λ refused. refused.plan ≡ plan) }
     {
         self.book.play(maker, heard, plan)
@@ -119,7 +119,8 @@ impl Ledger {
         ensures made { IfOk result (λ looked.
             IsEntered self.old self.new maker 1 (look_at slot) looked.place
             (Answer.Looked looked.now looked.at looked.booked)) }
-        ensures full { IfErr result (λ full. IsFullFor self.old self.new 1 full.entries full.live) }
+        ensures full { IfErr result (λ full.
+            IsFullFor self.old self.new 1 full.entries full.open_plays) }
     {
         let noted = self.book.look(maker, slot)?;
         let Answer::Looked { now, at, booked } = noted.answer else {

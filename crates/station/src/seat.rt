@@ -17,9 +17,9 @@ pub struct Seat {
 }
 
 impl Model for Seat {
-    ghost use Rattle.station.specs.Seats.{Sitting};
+    ghost use Rattle.station.specs.Seats.{SeatState};
 
-    ghost Value = { Sitting };
+    ghost Value = { SeatState };
 
     ghost use Rattle.station.specs.Inside.{sitting_of, IsKept};
 

@@ -6,7 +6,7 @@ ghost use Rattle.plan_cert.specs.Slots.{total_bytes};
 ghost use Rattle.admission.specs.declared.entries.Answer.{Answer};
 ghost use Rattle.admission.specs.declared.entries.Command.{Command};
 ghost use Rattle.admission.specs.Makers.{IsOpenAmong};
-ghost use Rattle.station.specs.Answers.{IsFull, IsRefused, Made};
+ghost use Rattle.station.specs.Answers.{IsFull, IsRefused, HasMade};
 ghost use Rattle.station.specs.Ledgers.{IsOffered, look_at, play_of};
 ghost use Rattle.station.specs.Seats.{IsJournalOf, IsSameSeat, IsSeat, after_join};
 ghost use Rattle.station.specs.Seats.{after_split, first_seat, new_seat};
@@ -34,9 +34,9 @@ pub struct Station {
 }
 
 impl Model for Station {
-    ghost use Rattle.station.specs.Seats.{Hall};
+    ghost use Rattle.station.specs.Seats.{StationState};
 
-    ghost Value = { Hall };
+    ghost Value = { StationState };
 
     ghost view = { λ s. record {
       id = s.turns.id;
@@ -82,7 +82,7 @@ impl Station {
         ensures same { IsSameSeat seat.old seat.new }
         ensures kept { IsSeat seat.new }
         ensures made { IfOk result (λ booking.
-            Made seat.old seat.new 2 (play_of heard plan) booking.number
+            HasMade seat.old seat.new 2 (play_of heard plan) booking.number
             (Answer.Admitted booking.start)) }
         ensures open { IfOk result (λ booking. (keep : ℕ) → keep ≤ total_bytes plan →
             IsOpenAmong seat.new.mine booking.number keep) }
@@ -103,7 +103,7 @@ impl Station {
         requires open { IsOpenAmong seat.old.mine booking.number keep }
         ensures same { IsSameSeat seat.old seat.new }
         ensures kept { IsSeat seat.new }
-        ensures made { Made seat.old seat.new 0 (Command.Halt booking.number keep) result
+        ensures made { HasMade seat.old seat.new 0 (Command.Halt booking.number keep) result
             Answer.Halted }
     {
         let Booking { number, start: _ } = booking;
@@ -126,9 +126,10 @@ impl Station {
         ensures same { IsSameSeat seat.old seat.new }
         ensures kept { IsSeat seat.new }
         ensures made { IfOk result (λ looked.
-            Made seat.old seat.new 1 (look_at slot) looked.place
+            HasMade seat.old seat.new 1 (look_at slot) looked.place
             (Answer.Looked looked.now looked.at looked.booked)) }
-        ensures full { IfErr result (λ full. IsFull seat.old seat.new 1 full.entries full.live) }
+        ensures full { IfErr result (λ full.
+            IsFull seat.old seat.new 1 full.entries full.open_plays) }
     {
         let mut turn = self.turns.enter(rt, &mut seat.pass);
         let maker = seat.pass.number();

@@ -212,7 +212,7 @@ fn tells_refusals(rt: HostRuntime) -> Result<(), Fail> {
     let full = PlayRefused::JournalFull {
         plan: plan(&rt, alloc),
         entries: 3,
-        live: 1,
+        open_plays: 1,
     };
     let overflow = PlayRefused::Overflow {
         place: 2,

@@ -5,7 +5,7 @@ use Rattle.vod_base.specs.Gates.{Returned}
 use Rattle.vod_base.specs.Links.{Doing}
 use Rattle.admission.specs.declared.entries.Entry.{Entry}
 use Rattle.admission.specs.Histories.{IsLegal}
-use Rattle.station.specs.Seats.{Sitting}
+use Rattle.station.specs.Seats.{SeatState}
 use Rattle.session.specs.Hearings.{new_standing}
 use Rattle.session.specs.Standings.{Standing}
 use Rattle.conn.specs.Parts.{HasServedOne, fresh_told}
@@ -26,7 +26,7 @@ abbrev told_in : Option (List Doing) → List Doing
 told_in None = []
 told_in (Some told) = told
 
-served_agrees : (visit : Visit) (old new : Sitting)
+served_agrees : (visit : Visit) (old new : SeatState)
     → HasServedFrom (new_standing visit.films visit.settings visit.report.words) (Some []) (Some visit.told) old
     new visit.report → IsLegal new.steps new.seen
     → Agrees visit (terms_of new) new.seen
@@ -57,7 +57,7 @@ served_agrees visit old new served legal =
       agree = agree;
     }
 
-connection_agrees : (visit : Visit) (old new : Sitting)
+connection_agrees : (visit : Visit) (old new : SeatState)
     → HasServedConnection (new_standing visit.films visit.settings visit.report.words) (Some [])
     (Some visit.told) old new visit.report
     → (visit.report.end ≡ NoMemory → ⊥) → IsLegal new.steps new.seen → Agrees visit (terms_of new) new.seen
@@ -65,13 +65,13 @@ connection_agrees visit old new (inl served) memory legal = served_agrees visit 
 connection_agrees visit old new (inr nothing) memory legal = absurd (memory nothing.end)
 
 -- a connection that did something keeps its promise: what its seat has seen is legal
-legal_seen : {session : Standing} {old_told new_told : Option (List Doing)} {old new : Sitting} {report : ConnReport}
+legal_seen : {session : Standing} {old_told new_told : Option (List Doing)} {old new : SeatState} {report : ConnReport}
     → KeepsPromise session old_told new_told old new report → (report.end ≡ NoMemory → ⊥) → IsLegal new.steps new.seen
 legal_seen {new} (inl keeps) memory = keeps.booked.legal
 legal_seen {new} (inr nothing) memory = absurd (memory nothing.end)
 
 -- what was served agrees with the seat's journal
-pub returned_agrees : {returned : Returned} {old new : Sitting} (visit : Visit) →
+pub returned_agrees : {returned : Returned} {old new : SeatState} (visit : Visit) →
     HasServedOne visit.films visit.settings returned visit.report old new → returned.told ≡ Some visit.told →
     (visit.report.end ≡ NoMemory → ⊥) → Agrees visit (terms_of new) new.seen
 returned_agrees {old} {new} visit one tells memory =

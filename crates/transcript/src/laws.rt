@@ -8,7 +8,7 @@ ghost use Rattle.vod_base.specs.Links.{Doing, HeardSlot};
 ghost use Rattle.film_frames.specs.declared.stores.Stored.{Stored};
 ghost use Rattle.admission.specs.declared.entries.Entry.{Entry};
 ghost use Rattle.admission.specs.Histories.{IsLegal};
-ghost use Rattle.station.specs.Seats.{Sitting};
+ghost use Rattle.station.specs.Seats.{SeatState};
 ghost use Rattle.session.specs.Ranges.{AreFilms};
 ghost use Rattle.session.specs.declared.settings.Settings.{Settings};
 ghost use Rattle.conn.specs.Films.{rounds_film};
@@ -168,7 +168,7 @@ pub fn law_missed_told()
 /// and with each longer one: its entries, the two numbers of each answer that the journal was full,
 /// and its offers.
 pub fn law_agrees()
-    ensures seen { (visit : Visit) (returned : Returned) (old new : Sitting)
+    ensures seen { (visit : Visit) (returned : Returned) (old new : SeatState)
         → HasServedOne visit.films visit.settings returned visit.report old new
         → returned.told ≡ Some visit.told → ¬ (visit.report.end ≡ NoMemory)
         → Agrees visit (terms_of new) new.seen }

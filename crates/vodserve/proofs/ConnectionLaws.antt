@@ -10,7 +10,7 @@ use Rattle.admission.specs.Makers.{Placed, made_by}
 use Rattle.session.specs.declared.notes.Receipt.{Receipt}
 use Rattle.session.specs.declared.notes.Receipt.TheVariants.{Entry as EntryReceipt, Full as FullReceipt}
 use Rattle.session.specs.declared.settings.Settings.{Settings}
-use Rattle.station.specs.Seats.{Sitting}
+use Rattle.station.specs.Seats.{SeatState}
 use Rattle.station.proofs.Makers.{IsAt, all-at}
 use Rattle.turnstile.proofs.Prefixes.{prefix_self, prefix_trans}
 use Rattle.conn.specs.Journals.{terms_of}
@@ -137,17 +137,17 @@ tells_its_journal before after seed serving ended (inr served) status =
 -- ---- connections
 
 -- a connection adds to what its seat made and to what it has seen, under the same terms
-pub record GoesOn (old new : Sitting) : Type 0 where
+pub record GoesOn (old new : SeatState) : Type 0 where
   pub terms : terms_of new ≡ terms_of old
   pub mine : IsPrefix old.mine new.mine
   pub seen : IsPrefix old.seen new.seen
 
-same_on : (old new : Sitting) → new ≡ old → GoesOn old new
+same_on : (old new : SeatState) → new ≡ old → GoesOn old new
 same_on old new same =
     subst (GoesOn old) (sym same) (record { terms = refl; mine = prefix_self old.mine; seen = prefix_self old.seen })
 
 one_on : {films : List Stored} {settings : Settings} {returned : Returned} {report : ConnReport}
-    {old new : Sitting} → HasServedOne films settings returned report old new →
+    {old new : SeatState} → HasServedOne films settings returned report old new →
     GoesOn old new
 one_on {returned} {old} {new} one = elim one.served [
   | inl from ↦ record {
@@ -158,7 +158,7 @@ one_on {returned} {old} {new} one = elim one.served [
   | inr nothing ↦ same_on old new nothing.seat
 ]
 
-all_on : {old new : Sitting} (films : List Stored) (settings : Settings) (back : List Returned)
+all_on : {old new : SeatState} (films : List Stored) (settings : Settings) (back : List Returned)
     (reports : List ConnReport) →
     AreServed films settings old back reports new → GoesOn old new
 all_on {old} {new} films settings [] [] served = same_on old new served
@@ -175,9 +175,9 @@ all_on {old} {new} films settings (returned ∷ back) (report ∷ reports) serve
 
 -- one of the connections that came back, with the report at its place
 record IsOne (films : List Stored) (settings : Settings) (returned : Returned) (report : ConnReport)
-    (first left : Sitting) : Type 0 where
-  old : Sitting
-  new : Sitting
+    (first left : SeatState) : Type 0 where
+  old : SeatState
+  new : SeatState
   terms : terms_of new ≡ terms_of first
   served : HasServedOne films settings returned report old new
   on : GoesOn new left
@@ -188,7 +188,7 @@ record InsideBack (back : List Returned) (k : ℕ) : Type 0 where
   no_report : ConnReport
   inside : k < length back
 
-one_at : {films : List Stored} {settings : Settings} {old new : Sitting} (back : List Returned)
+one_at : {films : List Stored} {settings : Settings} {old new : SeatState} (back : List Returned)
     (reports : List ConnReport) → AreServed films settings old back reports new → (k : ℕ) (here : InsideBack back k) →
     IsOne films settings (slice_index_or back k here.none) (slice_index_or reports k here.no_report) old new
 one_at {new} [] reports served k here = absurd (omega (arith, here.inside))

@@ -8,7 +8,7 @@ use Rattle.std.proofs.lemmas.List.Elements.{All-head, All-tail}
 use Rattle.vod_base.specs.Outside.{HasRisen}
 use Rattle.vod_base.specs.Gates.{Content, Failed, Part, IsOpen, new_part, after_empty_take, after_open, after_rejoin, split_off, told_rejoined}
 use Rattle.vod_base.specs.declared.gates.Opening.{Opening}
-use Rattle.station.specs.Seats.{Hall, Sitting}
+use Rattle.station.specs.Seats.{StationState, SeatState}
 use Rattle.conn.specs.Parts.{IsServed, IsUntouched}
 use Rattle.vodserve.specs.Worked.{HasParts, HasTooFew, IsIdle, IsOpenAs, IsOpenedOnce}
 use Rattle.vodserve.specs.Workers.{AreBack, AreJoined, AreOut, IsFresh, IsNotOpened}
@@ -187,13 +187,13 @@ idle_back {told} {faults} {from} {gate} (worker ∷ workers) fresh_back k low hi
     open fresh_back use {back, fresh}
 
 -- workers that served nothing are joined
-pub record FreshJoined (G : Type 0) (told : G → Option Content) (faults : G → ℕ) (hall : Hall)
-    (workers : List (Worker G)) (seat : Sitting) (gate : Option Content) : Type 0 where
+pub record FreshJoined (G : Type 0) (told : G → Option Content) (faults : G → ℕ) (hall : StationState)
+    (workers : List (Worker G)) (seat : SeatState) (gate : Option Content) : Type 0 where
   pub joined : AreJoined told hall (length workers) workers seat gate
   pub fresh : All (IsFresh told faults) workers
 
-pub joined_few : {G : Type 0} {told : G → Option Content} {faults : G → ℕ} {hall : Hall} {workers : List (Worker G)}
-    {seat : Sitting} (count : ℕ) (gate : Option Content) → FreshJoined G told faults hall workers seat gate →
+pub joined_few : {G : Type 0} {told : G → Option Content} {faults : G → ℕ} {hall : StationState} {workers : List (Worker G)}
+    {seat : SeatState} (count : ℕ) (gate : Option Content) → FreshJoined G told faults hall workers seat gate →
     length workers < count → IfSome gate (HasTooFew count)
 joined_few count None fresh_joined fewer = tt
 joined_few {workers} count (Some c) fresh_joined fewer = record {

@@ -29,7 +29,7 @@ use Rattle.admission.specs.declared.entries.Entry.{Entry}
 use Rattle.admission.specs.Books.{places_taken}
 use Rattle.admission.specs.Histories.{IsLegal}
 use Rattle.admission.specs.Makers.{made_by}
-use Rattle.station.specs.Seats.{Hall, Sitting, IsJournalOf}
+use Rattle.station.specs.Seats.{StationState, SeatState, IsJournalOf}
 use Rattle.command_words.specs.Words.{Serving}
 use Rattle.troubles.specs.Causes.{IsReadTrouble}
 use Rattle.troubles.specs.declared.faults.Fault.{Fault}
@@ -193,8 +193,8 @@ newly_open_as how None is = tt
 newly_open_as how (Some c) is = is.0
 
 -- the journal of a station that was closed
-pub closed_journal : {G : Type 0} {told : G → Option Content} {serving : Serving} {hall : Hall}
-    {workers : List (Worker G)} {seat : Sitting} {gate : Option Content} {entries : List Entry} →
+pub closed_journal : {G : Type 0} {told : G → Option Content} {serving : Serving} {hall : StationState}
+    {workers : List (Worker G)} {seat : SeatState} {gate : Option Content} {entries : List Entry} →
     AreJoined told hall (length workers) workers seat gate → IsJournalOf seat entries → hall.steps ≡ serving.capacity →
     places_taken entries ≤ serving.journal → length workers ≡ serving.listening.workers → IsJournal serving entries
 closed_journal {entries} back whole steps few count = record {
@@ -206,8 +206,8 @@ closed_journal {entries} back whole steps few count = record {
 }
 
 -- the workers that were made have finished, and are joined
-pub record DoneWorkers (G : Type 0) (told : G → Option Content) (faults : G → ℕ) (hall : Hall)
-    (films : List Stored) (serving : Serving) (seed : List ℕ) (workers : List (Worker G)) (seat : Sitting)
+pub record DoneWorkers (G : Type 0) (told : G → Option Content) (faults : G → ℕ) (hall : StationState)
+    (films : List Stored) (serving : Serving) (seed : List ℕ) (workers : List (Worker G)) (seat : SeatState)
     (gate gate' : Outlet) : Type 0 where
   pub all : AreWorkers told faults hall 0 workers
   pub finished : All (HasFinished told faults films (settings_of serving) seed) workers
@@ -216,7 +216,7 @@ pub record DoneWorkers (G : Type 0) (told : G → Option Content) (faults : G �
 
 -- what the workers of a closed station did
 pub have_worked : {G : Type 0} {told : G → Option Content} {faults : G → ℕ} {films : List Stored} {seed : List ℕ}
-    {serving : Serving} {hall : Hall} {workers : List (Worker G)} {seat : Sitting} {entries : List Entry}
+    {serving : Serving} {hall : StationState} {workers : List (Worker G)} {seat : SeatState} {entries : List Entry}
     {gate gate' : Outlet} {end : PartEnd} {reports : List ConnReport} →
     DoneWorkers G told faults hall films serving seed workers seat gate gate' → IsJournalOf seat entries →
     IsStationOf serving hall → length workers ≡ serving.listening.workers → IsOpenAs (opening_of serving) gate'.told →

@@ -18,7 +18,7 @@ use Rattle.turnstile.specs.Passes.{AllJoined, IsJoined}
 use Rattle.turnstile.specs.declared.view.Joined.{Joined}
 use Rattle.turnstile.proofs.Prefixes.{prefix_trans}
 use Rattle.conn.specs.Journals.{Terms, terms_of}
-use Rattle.station.specs.Seats.{Hall, IsSameSeat, Sitting, after_join}
+use Rattle.station.specs.Seats.{StationState, IsSameSeat, SeatState, after_join}
 use Rattle.conn.specs.Parts.{Outlet, duty, outlet}
 use Rattle.conn.specs.declared.reports.ConnReport.{ConnReport}
 use Rattle.conn.specs.declared.reports.PartReport.{PartReport}
@@ -30,7 +30,7 @@ use Rattle.vodserve.specs.Workers.{AreBack, AreJoined, AreOut, AreWorkers, HasFi
 use Rattle.vodserve.specs.declared.workers.Worker.{Worker}
 
 -- a worker more
-pub workers_push : {G : Type 0} {told : G → Option Content} {faults : G → ℕ} {hall : Hall} {worker : Worker G}
+pub workers_push : {G : Type 0} {told : G → Option Content} {faults : G → ℕ} {hall : StationState} {worker : Worker G}
     (from : ℕ) (workers : List (Worker G)) →
     AreWorkers told faults hall from workers → worker.number ≡ from + length workers → IsWorker told faults hall worker →
     AreWorkers told faults hall from (workers ++ worker ∷ [])
@@ -39,7 +39,7 @@ workers_push from (first ∷ workers) all number is =
     (all.0, all.1, workers_push (from + 1) workers all.2 (omega (arith, number)) is)
 
 -- the first worker, and the rest
-pub first_worker : {G : Type 0} {told : G → Option Content} {faults : G → ℕ} {hall : Hall} {from : ℕ}
+pub first_worker : {G : Type 0} {told : G → Option Content} {faults : G → ℕ} {hall : StationState} {from : ℕ}
     {worker : Worker G} (workers : List (Worker G)) →
     AreWorkers told faults hall from workers → 0 < length workers → worker ≡ slice_index_or workers 0 worker →
     (worker.number ≡ from) × IsWorker told faults hall worker
@@ -52,7 +52,7 @@ first_worker {told} {faults} {hall} {from} {worker} (first ∷ workers) all some
 pub record WorkersOf (G : Type 0) : Type 0 where
   pub told : G → Option Content
   pub faults : G → ℕ
-  pub hall : Hall
+  pub hall : StationState
 
 pub rest_workers : {G : Type 0} (of_workers : WorkersOf G) (from : ℕ) (workers : List (Worker G)) →
     AreWorkers of_workers.told of_workers.faults of_workers.hall from workers → 0 < length workers →
@@ -60,14 +60,14 @@ pub rest_workers : {G : Type 0} (of_workers : WorkersOf G) (from : ℕ) (workers
 rest_workers of_workers from [] all some = absurd (omega (arith, some))
 rest_workers of_workers from (first ∷ workers) all some = all.2
 
-worker_at : {G : Type 0} {told : G → Option Content} {faults : G → ℕ} {hall : Hall} (from : ℕ)
+worker_at : {G : Type 0} {told : G → Option Content} {faults : G → ℕ} {hall : StationState} (from : ℕ)
     (workers : List (Worker G)) → AreWorkers told faults hall from workers →
     (i : ℕ) (d : Worker G) → i < length workers → IsWorker told faults hall (slice_index_or workers i d)
 worker_at from [] all i d inside = absurd (omega (arith, inside))
 worker_at from (first ∷ workers) all zero d inside = all.1
 worker_at from (first ∷ workers) all (suc i) d inside = worker_at (from + 1) workers all.2 i d (omega (arith, inside))
 
-pub all_workers : {G : Type 0} (told : G → Option Content) (faults : G → ℕ) (hall : Hall) (from : ℕ) (workers : List (Worker G)) →
+pub all_workers : {G : Type 0} (told : G → Option Content) (faults : G → ℕ) (hall : StationState) (from : ℕ) (workers : List (Worker G)) →
     AreWorkers told faults hall from workers → All (IsWorker told faults hall) workers
 all_workers told faults hall from workers all = λ i d inside. worker_at from workers all i d inside
 
@@ -78,7 +78,7 @@ pub record SameNumbers (G : Type 0) (workers after : List (Worker G)) : Type 0 w
       → (slice_index_or after i d).number ≡ (slice_index_or workers i d).number)
 
 -- workers with the numbers of others
-pub same_workers : {G : Type 0} {told : G → Option Content} {faults : G → ℕ} {hall : Hall} (from : ℕ)
+pub same_workers : {G : Type 0} {told : G → Option Content} {faults : G → ℕ} {hall : StationState} (from : ℕ)
     (workers after : List (Worker G)) → AreWorkers told faults hall from workers → SameNumbers G workers after →
     ((i : ℕ) (d : Worker G) → i < length workers → IsWorker told faults hall (slice_index_or after i d)) →
     AreWorkers told faults hall from after
@@ -204,7 +204,7 @@ back_push parts from (first ∷ workers) worker all last = (
 )
 
 -- a worker is joined: its seat and its part of the gate go back
-pub record WorkerJoins (G : Type 0) (told : G → Option Content) (worker : Worker G) (seat seat' : Sitting)
+pub record WorkerJoins (G : Type 0) (told : G → Option Content) (worker : Worker G) (seat seat' : SeatState)
     (gate gate' : Option Content) : Type 0 where
   pub seated : seat' ≡ after_join seat worker.seat
   pub rejoins : gate' ≡ told_rejoined (told worker.part) gate
@@ -212,8 +212,8 @@ pub record WorkerJoins (G : Type 0) (told : G → Option Content) (worker : Work
   pub seen : IsPrefix worker.seat.seen seat'.seen
 
 -- a worker more is joined
-pub join_one : {G : Type 0} {told : G → Option Content} {faults : G → ℕ} {hall : Hall} {count : ℕ}
-    {workers : List (Worker G)} {worker : Worker G} {seat seat' : Sitting} {gate gate' : Option Content} →
+pub join_one : {G : Type 0} {told : G → Option Content} {faults : G → ℕ} {hall : StationState} {count : ℕ}
+    {workers : List (Worker G)} {worker : Worker G} {seat seat' : SeatState} {gate gate' : Option Content} →
     AreJoined told hall count workers seat gate → IsWorker told faults hall worker → worker.number ≡ length workers →
     length workers < count → WorkerJoins G told worker seat seat' gate gate' →
     AreJoined told hall count (workers ++ worker ∷ []) seat' gate'
@@ -222,13 +222,13 @@ join_one {told} {count} {workers} {worker} {seat} {seat'} {gate} so_far is numbe
     number_of (told worker.part) worker.number (length workers) is.part number in
     let one_more : length workers + 1 ≡ length (workers ++ worker ∷ []) = sym (length-append workers (worker ∷ [])) in
     record {
-      id = ap (λ (s : Sitting). s.id) seated ∙ so_far.id;
-      steps = ap (λ (s : Sitting). s.steps) seated ∙ so_far.steps;
-      limit = ap (λ (s : Sitting). s.limit) seated ∙ so_far.limit;
-      number = ap (λ (s : Sitting). s.number) seated ∙ so_far.number;
-      mine = ap (λ (s : Sitting). s.mine) seated ∙ so_far.mine;
-      splits = ap (λ (s : Sitting). s.splits) seated ∙ so_far.splits;
-      joined = ap (λ (s : Sitting). s.joined) seated
+      id = ap (λ (s : SeatState). s.id) seated ∙ so_far.id;
+      steps = ap (λ (s : SeatState). s.steps) seated ∙ so_far.steps;
+      limit = ap (λ (s : SeatState). s.limit) seated ∙ so_far.limit;
+      number = ap (λ (s : SeatState). s.number) seated ∙ so_far.number;
+      mine = ap (λ (s : SeatState). s.mine) seated ∙ so_far.mine;
+      splits = ap (λ (s : SeatState). s.splits) seated ∙ so_far.splits;
+      joined = ap (λ (s : SeatState). s.joined) seated
           ∙ ap (λ (js : List Joined). seat.joined ++ joined_of worker ∷ js) is.joined
           ∙ ap (λ (js : List Joined). js ++ joined_of worker ∷ []) so_far.joined
           ∙ sym (map-append joined_of workers (worker ∷ []));
@@ -258,7 +258,7 @@ joined_at {k} of_workers from (worker ∷ workers) all low high = elim (cases_lt
   | inr here ↦ inl (omega (arith, all.1.seat, all.0, here, low))
 ]
 
-pub all_joined : {G : Type 0} {told : G → Option Content} {hall : Hall} {workers : List (Worker G)} {seat : Sitting}
+pub all_joined : {G : Type 0} {told : G → Option Content} {hall : StationState} {workers : List (Worker G)} {seat : SeatState}
     {gate : Option Content} (faults : G → ℕ) →
     AreWorkers told faults hall 0 workers → AreJoined told hall (length workers) workers seat gate
     → AllJoined seat.splits seat.joined
@@ -326,7 +326,7 @@ left_more {parts} {end} {end'} part left worse = record {
 }
 
 -- a station has the capacity and the limit that the words say
-pub record IsStationOf (serving : Serving) (hall : Hall) : Type 0 where
+pub record IsStationOf (serving : Serving) (hall : StationState) : Type 0 where
   pub steps : hall.steps ≡ serving.capacity
   pub limit : hall.limit ≡ serving.journal
 
@@ -334,7 +334,7 @@ abbrev terms_with : List CapStep → ℕ → ℕ → Terms
 terms_with steps limit maker = record { steps = steps; limit = limit; maker = maker }
 
 -- so has each seat of it
-seat_terms : {serving : Serving} {hall : Hall} {seat left : Sitting} (worker : ℕ) → IsStationOf serving hall →
+seat_terms : {serving : Serving} {hall : StationState} {seat left : SeatState} (worker : ℕ) → IsStationOf serving hall →
     IsSameSeat seat left → left.steps ≡ hall.steps →
     left.limit ≡ hall.limit → left.number ≡ worker + 1 → terms_of seat ≡ terms_for serving worker
 seat_terms {serving} {seat} {left} worker is same steps limit number =
@@ -351,7 +351,7 @@ record WorkerJournal (G : Type 0) (worker : Worker G) (journal : List Entry) : T
 
 -- a worker that served, as the closed journal and the gate tell of it
 one_worked : {G : Type 0} {told : G → Option Content} {faults : G → ℕ} {films : List Stored} {serving : Serving}
-    {seed : List ℕ} {journal : List Entry} {gate gate' : Outlet} {hall : Hall} {worker : Worker G} →
+    {seed : List ℕ} {journal : List Entry} {gate gate' : Outlet} {hall : StationState} {worker : Worker G} →
     WorkerJournal G worker journal → IsStationOf serving hall → IsWorker told faults hall worker →
     HasFinished told faults films (settings_of serving) seed worker →
     IfSome gate'.told (HasBack worker.number (told worker.part)) →
@@ -388,7 +388,7 @@ pub record WorkersBack (G : Type 0) (told : G → Option Content) (faults : G �
   pub counted : All (λ worker. 0 < faults worker.part → HasRisen gate.faults gate'.faults) workers
 
 pub all_worked : {G : Type 0} {told : G → Option Content} {faults : G → ℕ} {films : List Stored} {serving : Serving}
-    {seed : List ℕ} {hall : Hall} {journal : List Entry} {gate gate' : Outlet} {from : ℕ}
+    {seed : List ℕ} {hall : StationState} {journal : List Entry} {gate gate' : Outlet} {from : ℕ}
     (workers : List (Worker G)) → IsStationOf serving hall → AreWorkers told faults hall from workers →
     All (HasFinished told faults films (settings_of serving) seed) workers →
     WorkersBack G told faults gate gate' from workers → WorkersJournal G workers journal →

@@ -11,7 +11,7 @@ use Rattle.admission.specs.Makers.{made_by}
 use Rattle.session.specs.declared.notes.Receipt.{Receipt}
 use Rattle.session.specs.declared.notes.Receipt.TheVariants.{Entry as EntryReceipt}
 use Rattle.session.specs.declared.notes.Receipt.TheVariants.{Full as FullReceipt}
-use Rattle.station.specs.Seats.{Sitting}
+use Rattle.station.specs.Seats.{SeatState}
 use Rattle.conn.specs.Journals.{terms_of}
 use Rattle.conn.specs.Keeping.{receipt_for}
 use Rattle.conn.specs.Parts.{HasServedOne, entries_told}
@@ -133,8 +133,8 @@ pub record IsServedBy (films : List Stored) (seed : List ℕ) (serving : Serving
     : Type 0 where
   pub worker_is : report.worker ≡ worker
   pub words_are : report.words ≡ words_of seed worker place
-  pub old : Sitting
-  pub new : Sitting
+  pub old : SeatState
+  pub new : SeatState
   pub served : HasServedOne films (settings_of serving) returned report old new
   pub terms : terms_of new ≡ terms_for serving worker
   pub entries : IsPrefix new.mine (made_by (worker + 1) journal)

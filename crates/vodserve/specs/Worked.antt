@@ -10,7 +10,7 @@ use Rattle.admission.specs.declared.entries.Entry.{Entry}
 use Rattle.admission.specs.Makers.{made_by}
 use Rattle.session.specs.Ranges.{names_of}
 use Rattle.session.specs.declared.settings.Settings.{Settings}
-use Rattle.station.specs.Seats.{Sitting}
+use Rattle.station.specs.Seats.{SeatState}
 use Rattle.conn.specs.Journals.{Terms, terms_of}
 use Rattle.conn.specs.Parts.{Duty, HasServedPart, IsUntouched, Outlet, duty, outlet}
 use Rattle.conn.specs.declared.reports.ConnReport.{ConnReport}
@@ -99,8 +99,8 @@ HasBack number told gate = (part : Content)
 -- is its front. The part is back in the gate, and a fault of it was counted there.
 pub record HasWorked (serving : Serving) (by : Duty) (journal : List Entry) (gate gate' : Outlet)
     (report : PartReport) : Type 0 where
-  pub seat : Sitting
-  pub left : Sitting
+  pub seat : SeatState
+  pub left : SeatState
   pub part : Option Content
   pub after : Outlet
   pub served : HasServedPart by seat left (outlet 0 part) after report

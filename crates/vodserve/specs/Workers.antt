@@ -7,7 +7,7 @@ use Rattle.vod_base.specs.Gates.{Content}
 use Rattle.film_frames.specs.declared.stores.Stored.{Stored}
 use Rattle.session.specs.declared.settings.Settings.{Settings}
 use Rattle.turnstile.specs.declared.view.Joined.{Joined}
-use Rattle.station.specs.Seats.{Hall, Sitting, first_seat}
+use Rattle.station.specs.Seats.{StationState, SeatState, first_seat}
 use Rattle.conn.specs.Parts.{HasServedPart, IsUntouched, duty, outlet}
 use Rattle.conn.specs.declared.reports.PartReport.{PartReport}
 use Rattle.conn.specs.declared.reports.PartEnd.TheVariants.{GateFault as PartFault}
@@ -19,7 +19,7 @@ use Rattle.vodserve.specs.declared.workers.Worker.{Worker}
 -- a worker has the seat of the number after its own, and the part of the gate of its own number;
 -- where it ended by a fault of the part, the part counted one
 pub record IsWorker {G : Type 0} (told : G → Option Content) (faults : G →
-    ℕ) (hall : Hall) (worker : Worker G) : Type 0 where
+    ℕ) (hall : StationState) (worker : Worker G) : Type 0 where
   pub id : worker.seat.id ≡ hall.id
   pub steps : worker.seat.steps ≡ hall.steps
   pub limit : worker.seat.limit ≡ hall.limit
@@ -40,7 +40,7 @@ pub record IsFresh {G : Type 0} (told : G → Option Content) (faults : G →
 pub record HasFinished {G : Type 0} (told : G → Option Content) (faults : G →
     ℕ) (films : List Stored) (settings : Settings) (seed : List ℕ) (worker : Worker G)
     : Type 0 where
-  pub seat : Sitting
+  pub seat : SeatState
   pub part : Option Content
   pub served : HasServedPart (duty films settings seed worker.number) seat worker.seat
       (outlet 0 part) (outlet (faults worker.part) (told worker.part)) worker.report
@@ -49,8 +49,8 @@ pub record HasFinished {G : Type 0} (told : G → Option Content) (faults : G �
   pub untouched : IfSome part IsUntouched
 
 -- workers whose numbers go on from one
-abbrev pub AreWorkers : {G : Type 0} → (G → Option Content) → (G → ℕ) → Hall → ℕ → List (Worker G) →
-    Type 0
+abbrev pub AreWorkers : {G : Type 0} → (G → Option Content) → (G → ℕ) → StationState → ℕ →
+    List (Worker G) → Type 0
 AreWorkers told faults hall from [] = ⊤
 AreWorkers told faults hall from (worker ∷ workers) =
     (worker.number ≡ from) × IsWorker told faults hall worker
@@ -76,7 +76,7 @@ AreBack told gate from (worker ∷ workers) = IfSome gate (HasBack from (told wo
     × AreBack told gate (from + 1) workers
 
 -- the first seat, after it was split so often
-abbrev pub split_seat : Hall → ℕ → Sitting
+abbrev pub split_seat : StationState → ℕ → SeatState
 split_seat hall count = record (first_seat hall) { splits = count }
 
 -- what a seat knows of a worker that was joined to it, and how the worker ended
@@ -89,7 +89,7 @@ report_of worker = worker.report
 -- the first ones of `count` workers are back: their seats are joined to the first seat, which has
 -- seen what they have seen, and their parts are in the gate
 pub record AreJoined {G : Type 0} (told : G →
-    Option Content) (hall : Hall) (count : ℕ) (workers : List (Worker G)) (seat : Sitting)
+    Option Content) (hall : StationState) (count : ℕ) (workers : List (Worker G)) (seat : SeatState)
     (gate : Option Content) : Type 0 where
   pub id : seat.id ≡ hall.id
   pub steps : seat.steps ≡ hall.steps

@@ -84,22 +84,22 @@ impl PlainBook<'_> {
     }
 
     fn full(&self) -> Full {
-        let mut live = 0_u64;
+        let mut open_plays = 0_u64;
         for played in &self.plays {
             if played.open {
-                live = live.saturating_add(1);
+                open_plays = open_plays.saturating_add(1);
             }
         }
         Full {
             entries: self.entries,
-            live,
+            open_plays,
         }
     }
 
     // The numbers, where `more` entries have no room.
     fn full_for(&self, more: u64) -> Option<Full> {
         let full = self.full();
-        let taken = full.entries.saturating_add(full.live);
+        let taken = full.entries.saturating_add(full.open_plays);
         if taken.saturating_add(more) > self.limit {
             Some(full)
         } else {

@@ -4,7 +4,7 @@ use Rattle.std.specs.List.{remove}
 use Rattle.std.proofs.lemmas.List.{append-nil, map-append}
 use Rattle.std.proofs.lemmas.List.Elements.{All-nil, All-push}
 use Rattle.vod_base.specs.Outside.{HasRisen}
-use Rattle.station.specs.Seats.{Sitting}
+use Rattle.station.specs.Seats.{SeatState}
 use Rattle.conn.specs.declared.reports.PartReport.{PartReport}
 use Rattle.vodserve.specs.Worked.{AreLeft}
 use Rattle.vodserve.specs.Workers.{AreJoined, AreWorkers, IsWorker, report_of}
@@ -20,13 +20,13 @@ loop-workers-init g c = (
     whole = refl;
     rest = c.requires.workers;
     joined = record {
-      id = ap (λ (s : Sitting). s.id) c.requires.seat;
-      steps = ap (λ (s : Sitting). s.steps) c.requires.seat;
-      limit = ap (λ (s : Sitting). s.limit) c.requires.seat;
-      number = ap (λ (s : Sitting). s.number) c.requires.seat;
-      mine = ap (λ (s : Sitting). s.mine) c.requires.seat;
-      splits = ap (λ (s : Sitting). s.splits) c.requires.seat;
-      joined = ap (λ (s : Sitting). s.joined) c.requires.seat;
+      id = ap (λ (s : SeatState). s.id) c.requires.seat;
+      steps = ap (λ (s : SeatState). s.steps) c.requires.seat;
+      limit = ap (λ (s : SeatState). s.limit) c.requires.seat;
+      number = ap (λ (s : SeatState). s.number) c.requires.seat;
+      mine = ap (λ (s : SeatState). s.mine) c.requires.seat;
+      splits = ap (λ (s : SeatState). s.splits) c.requires.seat;
+      joined = ap (λ (s : SeatState). s.joined) c.requires.seat;
       seen = All-nil (λ (w : Worker _). _);
       out = c.requires.parts;
       back = tt;

@@ -1,6 +1,6 @@
 use Rattle.std.proofs.Common.{◌≡◌, ◌∙◌, ◌+◌, ◌++◌, ◌∷◌, [], List, length, ap, sym, subst, arith, length-append}
 use Rattle.std.specs.Prelude.{All}
-use Rattle.station.specs.Seats.{Sitting, after_split}
+use Rattle.station.specs.Seats.{SeatState, after_split}
 use Rattle.conn.specs.declared.reports.PartEnd.TheVariants.{AllTaken}
 use Rattle.vodserve.specs.Workers.{AreWorkers, IsFresh, IsWorker}
 use Rattle.vodserve.specs.declared.workers.Worker.{Worker}
@@ -20,22 +20,22 @@ loop-number-preserved g c =
     let items : c.push_reserved.new.self.items ≡ c.loop-number.workers.items ++ worker ∷ [] =
     c.push_reserved.ensures.items ∙ ap (λ (ws : List (Worker _)). ws ++ worker ∷ []) c.reserve.ensures.items in
     let is : IsWorker g.G.Gate.told g.G.Gate.faults c.args.station.now worker = record {
-      id = ap (λ (s : Sitting). s.id) c.split-in-loop-number.ensures.new
-          ∙ ap (λ (s : Sitting). s.id) c.loop-number.invariant.seat;
-      steps = ap (λ (s : Sitting). s.steps) c.split-in-loop-number.ensures.new
-          ∙ ap (λ (s : Sitting). s.steps) c.loop-number.invariant.seat;
-      limit = ap (λ (s : Sitting). s.limit) c.split-in-loop-number.ensures.new
-          ∙ ap (λ (s : Sitting). s.limit) c.loop-number.invariant.seat;
-      seat = ap (λ (s : Sitting). s.number) c.split-in-loop-number.ensures.new
-          ∙ ap (λ (s : Sitting). s.splits + 1) c.loop-number.invariant.seat;
-      joined = ap (λ (s : Sitting). s.joined) c.split-in-loop-number.ensures.new;
+      id = ap (λ (s : SeatState). s.id) c.split-in-loop-number.ensures.new
+          ∙ ap (λ (s : SeatState). s.id) c.loop-number.invariant.seat;
+      steps = ap (λ (s : SeatState). s.steps) c.split-in-loop-number.ensures.new
+          ∙ ap (λ (s : SeatState). s.steps) c.loop-number.invariant.seat;
+      limit = ap (λ (s : SeatState). s.limit) c.split-in-loop-number.ensures.new
+          ∙ ap (λ (s : SeatState). s.limit) c.loop-number.invariant.seat;
+      seat = ap (λ (s : SeatState). s.number) c.split-in-loop-number.ensures.new
+          ∙ ap (λ (s : SeatState). s.splits + 1) c.loop-number.invariant.seat;
+      joined = ap (λ (s : SeatState). s.joined) c.split-in-loop-number.ensures.new;
       part = new_number c.loop-number.number (g.G.Gate.told c.loop-number.gate) (g.G.Gate.told c.in_ok-part.part)
           c.loop-number.invariant.parts
           (((c.in_ok-part.ensures {u = tt}).part).0);
       fault = λ e. cc;
     } in
     let fresh : IsFresh g.G.Gate.told g.G.Gate.faults worker = record {
-      mine = ap (λ (s : Sitting). s.mine) c.split-in-loop-number.ensures.new;
+      mine = ap (λ (s : SeatState). s.mine) c.split-in-loop-number.ensures.new;
       part = new_untouched (g.G.Gate.told c.loop-number.gate) (g.G.Gate.told c.in_ok-part.part) (((c.in_ok-part.ensures {u = tt}).part).0);
       count = ((c.in_ok-part.ensures {u = tt}).part).1;
     } in

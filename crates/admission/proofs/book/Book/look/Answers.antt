@@ -24,7 +24,7 @@ invariant_of-self c =
         arith,
         c.if-full-self.false,
         c.counts-full.ensures.full.entries_are,
-        c.counts-full.ensures.full.live_is,
+        c.counts-full.ensures.full.open_is,
         c.self.invariant.count_is,
         entries,
         count,

@@ -29,16 +29,16 @@ invariant_of-self c =
       answered = answer;
       steps_are = c.admit-answer.ensures.steps;
       follows = c.admit-answer.ensures.next state (length book.entries.items) c.self.invariant.follows;
-      more_is = omega (arith, asked, c.opened_by.ensures, c.self.invariant.count_is);
+      more_is = omega (arith, asked, c.plays_opened.ensures, c.self.invariant.count_is);
       fits = omega (
         arith,
         c.if-full-self.false,
         c.counts-full.ensures.full.entries_are,
-        c.counts-full.ensures.full.live_is,
+        c.counts-full.ensures.full.open_is,
         c.self.invariant.count_is,
         entries,
         count,
-        c.opened_by.ensures,
+        c.plays_opened.ensures,
         opens-most c.admit-answer.result,
       );
       wide_is = c.note.ensures.room;

@@ -17,7 +17,7 @@ returns-in-Err-clause-kept g c = record {
   quiet = search rules;
   gone =
       gone_full
-      c.in-Err.full.entries c.in-Err.full.live c.in-Err.ensures.full.mine refl c.hear_full.ensures.handed.receipts;
+      c.in-Err.full.entries c.in-Err.full.open_plays c.in-Err.ensures.full.mine refl c.hear_full.ensures.handed.receipts;
 }
 
 pub returns-in-Ok-clause-answered : goal.returns-in-Ok-clause-answered

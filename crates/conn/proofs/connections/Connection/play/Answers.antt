@@ -1,6 +1,6 @@
 use Rattle.std.proofs.Common.{refl, rules, subst}
 use Rattle.admission.specs.declared.entries.Answer.TheVariants.{Admitted}
-use Rattle.station.specs.Answers.{IsRefused, Made}
+use Rattle.station.specs.Answers.{IsRefused, HasMade}
 use Rattle.station.specs.Ledgers.{play_of}
 use Rattle.conn.proofs.Admitting.{answered_admitted, answered_refused, kept_admitted, kept_refused}
 use Rattle.conn.proofs.connections.Connection.play.Goals as goal
@@ -43,7 +43,7 @@ returns-in-Ok-clause-answered g c =
       same = c.play.ensures.same;
       held = c.requires.held;
       closed = c.requires.closed;
-    }) (subst (λ heard. Made c.args.seat.now c.play.new.seat 2 (play_of heard c.args.plan)
+    }) (subst (λ heard. HasMade c.args.seat.now c.play.new.seat 2 (play_of heard c.args.plan)
     c.in-Ok.booking.number (Admitted c.in-Ok.booking.start))
     c.heard_slot.ensures.slot c.in-Ok.ensures.made) (record {
       later = search rules;

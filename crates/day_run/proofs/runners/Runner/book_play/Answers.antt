@@ -129,6 +129,6 @@ returns-in-Err-clause-planned c =
       plan = c.args.plan;
       plan_is = c.requires.plan.plan_is;
       done = inl (told-full c.in-Err.refused.full c.in-Err.ensures.full
-          c.in-Err.ensures.counts.entries_are c.in-Err.ensures.counts.live_is
+          c.in-Err.ensures.counts.entries_are c.in-Err.ensures.counts.open_is
           (ap (λ j. moment_of (record old { book = j })) c.in-Err.ensures.left));
     }

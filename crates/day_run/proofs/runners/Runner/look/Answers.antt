@@ -37,5 +37,5 @@ pub returns-in-Err-clause-line : goal.returns-in-Err-clause-line
 returns-in-Err-clause-line c =
     let old = c.args.self.now in
     inl (told-full c.in-Err.full c.in-Err.ensures.full
-    c.in-Err.ensures.counts.entries_are c.in-Err.ensures.counts.live_is
+    c.in-Err.ensures.counts.entries_are c.in-Err.ensures.counts.open_is
     (ap (λ j. moment_of (record old { book = j })) c.in-Err.ensures.left))

@@ -1,7 +1,7 @@
 use Rattle.std.proofs.Common.{◌∙◌}
 use Rattle.std.proofs.lemmas.Result.{IfErr-weaker, IfOk-weaker}
 use Rattle.admission.specs.declared.entries.Answer.TheVariants.{Looked}
-use Rattle.station.specs.Answers.{IsFull, Made}
+use Rattle.station.specs.Answers.{IsFull, HasMade}
 use Rattle.station.specs.Ledgers.{IsEntered, IsFullFor, look_at}
 use Rattle.station.proofs.Backs.{BookCall, look_longer, visit, visit_full, visit_made, visit_same}
 use Rattle.station.specs.Inside.{seat_of}
@@ -28,7 +28,7 @@ returns-clause-made g c =
     IfOk-weaker c.look-told.result
     (λ l. IsEntered c.value.result.now c.look-told.new.self c.number-maker.result 1 (look_at c.args.slot)
     l.place (Looked l.now l.at l.booked))
-    (λ l. Made c.args.seat.now (seat_of c.leave.new.pass) 1 (look_at c.args.slot) l.place (Looked l.now l.at l.booked))
+    (λ l. HasMade c.args.seat.now (seat_of c.leave.new.pass) 1 (look_at c.args.slot) l.place (Looked l.now l.at l.booked))
     (λ l e. visit_made is e)
     c.look-told.ensures.made
 
@@ -39,7 +39,7 @@ returns-clause-full g c =
     (record { pass = turn.pass; longer = turn.longer; own = turn.own; terms = turn.terms })
     (record { left = c.leave.ensures; last_is = c.value-2.ensures.value; lent_is = c.value.ensures.value })
     (c.number-maker.ensures ∙ turn.number) in
-    IfErr-weaker c.look-told.result (λ f. IsFullFor c.value.result.now c.look-told.new.self 1 f.entries f.live)
-    (λ f. IsFull c.args.seat.now (seat_of c.leave.new.pass) 1 f.entries f.live)
+    IfErr-weaker c.look-told.result (λ f. IsFullFor c.value.result.now c.look-told.new.self 1 f.entries f.open_plays)
+    (λ f. IsFull c.args.seat.now (seat_of c.leave.new.pass) 1 f.entries f.open_plays)
     (λ f e. visit_full is e)
     c.look-told.ensures.full

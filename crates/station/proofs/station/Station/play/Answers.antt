@@ -3,7 +3,7 @@ use Rattle.std.proofs.lemmas.Result.{IfErr-weaker, IfOk-weaker}
 use Rattle.plan_cert.specs.Slots.{total_bytes}
 use Rattle.admission.specs.Makers.{IsOpenAmong}
 use Rattle.admission.specs.declared.entries.Answer.TheVariants.{Admitted}
-use Rattle.station.specs.Answers.{IsRefused, Made}
+use Rattle.station.specs.Answers.{IsRefused, HasMade}
 use Rattle.station.specs.Ledgers.{IsEntered, IsPlayRefused, play_of}
 use Rattle.station.proofs.Backs.{BookCall, play_longer, visit, visit_made, visit_open, visit_refused, visit_same}
 use Rattle.station.specs.Inside.{seat_of}
@@ -30,7 +30,7 @@ returns-clause-made g c =
     IfOk-weaker c.play-told.result
     (λ b. IsEntered c.value.result.now c.play-told.new.self c.number-maker.result 2
     (play_of c.args.heard c.args.plan) b.number (Admitted b.start))
-    (λ b. Made c.args.seat.now (seat_of c.leave.new.pass) 2 (play_of c.args.heard c.args.plan) b.number (Admitted b.start))
+    (λ b. HasMade c.args.seat.now (seat_of c.leave.new.pass) 2 (play_of c.args.heard c.args.plan) b.number (Admitted b.start))
     (λ b e. visit_made is e)
     c.play-told.ensures.made
 
