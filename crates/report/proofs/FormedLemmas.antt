@@ -24,6 +24,7 @@ ascending_slots booked a (suc n) =
 
 pub calendar_told : (from : ℕ) (booked : ℕ → ℕ) → AreBookings from booked
     → IsCalendarTold from booked (lines_of (calendar_text from booked))
+unfolding booked_slots
 calendar_told from booked are =
     let small : from < 2 ^ 64 = omega (arith, are.first_small) in
     let told = lines-text from booked small (few_slots from booked are) in

@@ -140,6 +140,7 @@ TellsOf from bytes slot booked line = line ≡ slot_words slot booked → (booke
 
 pub few_slots : (from : ℕ) (bytes : ℕ → ℕ) → AreBookings from bytes
     → All (IsFew bytes) (booked_slots from bytes)
+unfolding booked_slots
 few_slots from bytes kept =
     all_booked bytes (IsFew bytes) from ring_slots
     (λ t after inside some. (omega (arith, kept.first_small, inside), omega (arith, kept.few t after)))
@@ -147,6 +148,7 @@ few_slots from bytes kept =
 tells_all : {from : ℕ} {bytes : ℕ → ℕ} {slot booked : ℕ} → slot < 2 ^ 64 → booked < 2 ^ 64
     → AreBookings from bytes
     → All (TellsOf from bytes slot booked) (map (words_at bytes) (booked_slots from bytes))
+unfolding booked_slots
 tells_all {from} {bytes} {slot} {booked} small few kept =
     all_map (TellsOf from bytes slot booked) (words_at bytes) (booked_slots from bytes)
     (all_booked bytes (λ t. TellsOf from bytes slot booked (words_at bytes t)) from ring_slots (λ t after inside some e.
@@ -156,6 +158,7 @@ tells_all {from} {bytes} {slot} {booked} small few kept =
 pub line_stands : {from : ℕ} {bytes : ℕ → ℕ} (slot : ℕ) → AreBookings from bytes →
     from ≤ slot → slot < from + ring_slots → 0 < bytes slot →
     Contains (calendar_lines from bytes) (words_at bytes slot)
+unfolding booked_slots
 line_stands {from} {bytes} slot kept after inside some =
     let slots = map (words_at bytes) (booked_slots from bytes) in
     let line = words_at bytes slot in

@@ -5,7 +5,7 @@ use Rattle.std.proofs.lemmas.List.Elements.{All-cons, All-head, All-nil, All-tai
 use Rattle.slot_calendar.specs.Calendars.{Entries, StandsFor, booked_at}
 use Rattle.admission.specs.Machine.{State, booked_in, plays_of}
 use Rattle.slot_calendar.specs.Totals.{ring_slots}
-use Rattle.report.specs.CalendarTexts.{calendar_text, first_words}
+use Rattle.report.specs.CalendarTexts.{booked_slots, calendar_text, first_words}
 use Rattle.report.proofs.SlotLemmas.{line_at, lines, lines-cons}
 
 -- all slots of a range stand from its first one on
@@ -31,6 +31,7 @@ same_lines bytes others (t ∷ rest) same =
 
 pub text_of_state : (calendar : Entries) (state : State) → calendar.first ≡ state.now → StandsFor calendar (plays_of state) →
     calendar_text calendar.first (booked_at calendar) ≡ calendar_text state.now (booked_in state)
+unfolding booked_slots
 text_of_state calendar state now stands =
     let slots = range_with_len calendar.first ring_slots in
     let same : lines (booked_at calendar) slots ≡ lines (booked_in state) slots =

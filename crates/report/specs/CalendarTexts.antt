@@ -18,7 +18,7 @@ abbrev pub booked_among : (ℕ → ℕ) → List ℕ → List ℕ
 booked_among booked slots = filter (λ t. nat_lt 0 (booked t)) slots
 
 -- the slots of a ring, from slot `from` on, in which bytes are booked
-abbrev pub booked_slots : ℕ → (ℕ → ℕ) → List ℕ
+unfoldable pub booked_slots : ℕ → (ℕ → ℕ) → List ℕ
 booked_slots from booked = booked_among booked (range_with_len from ring_slots)
 
 -- a slot with its booked bytes

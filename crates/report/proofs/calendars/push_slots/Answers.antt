@@ -2,13 +2,14 @@ use Rattle.std.proofs.Common.{◌≡◌, ◌++◌, ◌+◌, ◌-◌, ◌<◌, �
 use Rattle.std.specs.List.{range_with_len}
 use Rattle.slot_calendar.specs.Calendars.{booked_at}
 use Rattle.slot_calendar.specs.Totals.{ring_slots}
-use Rattle.report.specs.CalendarTexts.{slot_words}
+use Rattle.report.specs.CalendarTexts.{booked_slots, slot_words}
 use Rattle.report.proofs.AppendLemmas.{appended_as, both, cut_before, handed_on, then_appended}
 use Rattle.report.proofs.SlotLemmas.{IsAmong, line-booked, line-free, lines, lines-around, lines-more}
 use Rattle.report.proofs.calendars.push_slots.Goals as goal
 use Rattle.report.proofs.calendars.push_slots.Goals.{then-booked-gt0+in_ok-push_slot, else-booked-gt0}
 
 pub returns-in_err-push_slot : goal.returns-in_err-push_slot
+unfolding booked_slots
 returns-in_err-push_slot c =
     let calendar = c.args.calendar.now in
     let first = calendar.first in
@@ -53,6 +54,7 @@ loop-slot-preserved c =
     ]
 
 pub returns : goal.returns
+unfolding booked_slots
 returns c =
     let calendar = c.args.calendar.now in
     let all : c.loop-slot.slot - calendar.first ≡ ring_slots =
