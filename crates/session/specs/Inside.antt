@@ -12,6 +12,7 @@ use Rattle.session.specs.Planning.{IsPausedIn}
 use Rattle.session.specs.Playing.{IsPlayable, IsRunOf}
 use Rattle.session.specs.Ranges.{AreFilms, AreSettings, IsSetup}
 use Rattle.session.specs.Standings.{Standing}
+use Rattle.session.specs.Teardowns.{is_tearing, is_torn_down}
 use Rattle.session.specs.Steps.{IsHaltIn}
 use Rattle.session.specs.declared.settings.Settings.{Settings}
 use Rattle.session.specs.declared.states.Counts.{Counts}
@@ -38,8 +39,8 @@ standing_of session = record {
   awaited = session.awaited;
   text = session.reply;
   waits = session.waits;
-  tearing = session.tearing;
-  torn = session.torn;
+  tearing = is_tearing session.teardown;
+  torn = is_torn_down session.teardown;
   lost = session.lost;
   heard = session.heard;
   late = session.late;
@@ -168,7 +169,8 @@ pub record IsKept (session : Inside) : Type 0 where
       + awaited_plays session.awaited ≤ session.log.play_room
   pub offer_room : awaited_offers session.awaited ≤ session.log.offer_room
   pub looks : session.looks_left ≤ 1024
-  pub torn : session.tearing ≡ true → session.waits ≡ false → session.torn ≡ true
+  pub torn : is_tearing session.teardown ≡ true → session.waits ≡ false
+      → is_torn_down session.teardown ≡ true
   pub late : session.late ≤ session.heard
   pub heard : session.heard ≤ 2 ^ 62
   pub front : awaited_plays session.awaited ≡ 1 → length session.reply ≤ 20000

@@ -14,6 +14,7 @@ pub mod Planning
 pub mod Inside
 pub mod Methods
 pub mod Halting
+pub mod Teardowns
 pub mod Hearings
 pub mod Laws
 pub mod Changes

@@ -19,7 +19,6 @@ ghost use Rattle.session.specs.Standings.{IsOffer, IsPlay, IsPlayOrLook};
 ghost use Rattle.session.specs.Standings.{awaited_answer, booking_of, open_of, sequence_of};
 ghost use Rattle.session.specs.Hearings.{Halts, after_admission, after_full, after_look};
 ghost use Rattle.session.specs.Hearings.{after_offer, after_overflow, counts_next, is_answered};
-ghost use Rattle.session.specs.Hearings.{is_torn};
 ghost use Rattle.session.specs.Replies.{play_text};
 ghost use Rattle.session.specs.Steps.{IsPlayIn};
 
@@ -147,7 +146,7 @@ impl<'a> Session<'a> {
         self.log.note_play(note);
         self.state.enter(state);
         self.waits |= is_answered(next);
-        self.tearing |= is_torn(next);
+        self.teardown = self.teardown.after_halt(next);
     }
 
     /// What the station saw: the slot up to which its book has come, the slot that was looked at
@@ -248,16 +247,6 @@ fn is_answered(next: Next) -> bool
     match next {
         Next::Done => false,
         Next::Paused(_) | Next::Torn => true,
-    }
-}
-
-/// Whether a halt leads to the session's end.
-fn is_torn(next: Next) -> bool
-    ensures { result ≡ is_torn next }
-{
-    match next {
-        Next::Done | Next::Paused(_) => false,
-        Next::Torn => true,
     }
 }
 

@@ -265,7 +265,7 @@ impl<'a> Session<'a> {
     {
         put_session(&mut self.reply, sequence, &self.id);
         let Some(keep) = ask_halt(&mut self.state) else {
-            self.tearing = true;
+            self.teardown = self.teardown.after_halt(Next::Torn);
             self.waits = true;
             return Ask::Reply;
         };

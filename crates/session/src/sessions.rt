@@ -8,7 +8,7 @@ ghost use Rattle.session.specs.Standings.{CanKeep, IsAtRest, IsDue, open_of};
 use crate::logs::{LOOKS, Log};
 use crate::notes::Notes;
 use crate::settings::Settings;
-use crate::states::{Awaited, Counts, NOTHING_SENT, Source, State, source_of};
+use crate::states::{Awaited, Counts, NOTHING_SENT, Source, State, Teardown, source_of};
 use crate::texts::Text;
 use film_frames::Stored;
 use rtsp_fields::session_id;
@@ -45,10 +45,8 @@ pub struct Session<'a> {
     pub(crate) body: Text,
     /// Whether the reply waits to be sent.
     pub(crate) waits: bool,
-    /// Whether a TEARDOWN was answered 200.
-    pub(crate) tearing: bool,
-    /// Whether that reply was sent.
-    pub(crate) torn: bool,
+    /// How far a TEARDOWN has come.
+    pub(crate) teardown: Teardown,
     /// Whether a call of the link failed.
     pub(crate) lost: bool,
     /// The greatest slot up to 2^62 that was heard.
@@ -119,8 +117,7 @@ impl<'a> Session<'a> {
             reply,
             body,
             waits: false,
-            tearing: false,
-            torn: false,
+            teardown: Teardown::Unanswered,
             lost: false,
             heard: 0,
             late: 0,
@@ -140,7 +137,7 @@ impl<'a> Session<'a> {
     pub fn is_torn(&self) -> bool
         ensures { result ≡ self.now.torn }
     {
-        self.torn
+        matches!(self.teardown, Teardown::Sent)
     }
 
     /// What is due of the open booking, in bytes of its plan, if there is one.

@@ -61,7 +61,7 @@ impl<'a> Session<'a> {
         };
         if replied {
             self.waits = false;
-            self.torn = self.tearing;
+            self.teardown = self.teardown.after_reply();
             settle(&mut self.state);
         }
         Ok(finish(&self.state, &mut self.awaited))
@@ -100,7 +100,7 @@ impl<'a> Session<'a> {
             return Err(LinkFault);
         };
         self.waits = false;
-        self.torn = self.tearing;
+        self.teardown = self.teardown.after_reply();
         settle(&mut self.state);
         Ok(())
     }

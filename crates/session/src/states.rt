@@ -1,7 +1,8 @@
 //! Where a session stands (RFC 2326 appendix A.2).
 
-ghost use Rattle.std.specs.Prelude.{◌≡◌};
-ghost use Rattle.session.specs.Hearings.{source_of};
+ghost use Rattle.std.specs.Prelude.{◌≡◌, true, if◌then◌else◌};
+ghost use Rattle.session.specs.Teardowns.{is_tearing, is_torn_down};
+ghost use Rattle.session.specs.Hearings.{is_torn, source_of};
 ghost use Rattle.session.specs.Standings.{has_session_in, is_playing_in};
 
 use film_frames::Frames;
@@ -117,6 +118,17 @@ pub(crate) enum Next {
     Torn,
 }
 
+/// How far a TEARDOWN has come.
+#[derive(Clone, Copy)]
+pub(crate) enum Teardown {
+    /// None was answered 200.
+    Unanswered,
+    /// One was answered 200, and its reply waits.
+    Answered,
+    /// That reply was sent.
+    Sent,
+}
+
 /// What the station was asked and hasn't answered.
 #[derive(Drop)]
 pub(crate) enum Awaited<'a> {
@@ -152,6 +164,30 @@ impl<'a> State<'a> {
         ensures { self.new ≡ state.entry }
     {
         *self = state;
+    }
+}
+
+impl Teardown {
+    /// How far it has come once a halt was answered that leads to this.
+    pub(crate) fn after_halt(self, next: Next) -> Teardown
+        ensures tearing { is_tearing result ≡ (if is_torn next then true else is_tearing self) }
+        ensures torn { is_torn_down result ≡ is_torn_down self }
+    {
+        match (self, next) {
+            (Teardown::Unanswered, Next::Torn) => Teardown::Answered,
+            _ => self,
+        }
+    }
+
+    /// How far it has come once the waiting reply was sent.
+    pub(crate) fn after_reply(self) -> Teardown
+        ensures tearing { is_tearing result ≡ is_tearing self }
+        ensures torn { is_torn_down result ≡ is_tearing self }
+    {
+        match self {
+            Teardown::Unanswered => Teardown::Unanswered,
+            Teardown::Answered | Teardown::Sent => Teardown::Sent,
+        }
     }
 }
 

@@ -1,5 +1,5 @@
 use Rattle.std.proofs.Common.{◌≡◌, ◌-◌, ◌||◌, true, if◌then◌else◌, sym, ap, subst, ◌∙◌, arith}
-use Rattle.session.specs.Hearings.{counts_next, is_answered, is_torn}
+use Rattle.session.specs.Hearings.{counts_next, is_answered}
 use Rattle.session.specs.Inside.{IsAwaitedKept, IsNextIn, IsStateKept, IsStopAnswered, awaited_offers, awaited_plays, awaited_receipts, open_receipts}
 use Rattle.session.specs.Logs.{Logged}
 use Rattle.session.specs.Sendings.{next_of, state_after}
@@ -46,8 +46,6 @@ invariant_of-self c =
     c.counts_next-self-inside.ensures in
     let waits : (inside.waits || c.is_answered.result) ≡ (if is_answered next then true else inside.waits) =
     ap (λ b. inside.waits || b) c.is_answered.ensures ∙ or_if inside.waits (is_answered next) in
-    let tearing : (inside.tearing || c.is_torn.result) ≡ (if is_torn next then true else inside.tearing) =
-    ap (λ b. inside.tearing || b) c.is_torn.ensures ∙ or_if inside.tearing (is_torn next) in
     let closed : open_receipts state ≡ 0 = ap open_receipts is ∙ halted_closed setup play next in
     let open_one : open_receipts inside.state ≡ 1 = ap open_receipts was in
     let receipts : awaited_receipts c.replace-asked.new.dest ≡ 0 = ap awaited_receipts none in
@@ -76,7 +74,9 @@ invariant_of-self c =
       offer_room = omega arith;
       looks = c.self.invariant.looks;
       torn = λ ends still.
-          halted_torn next c.self.invariant.torn (sym tearing ∙ ends) (sym waits ∙ still);
+          c.after_halt-self-inside.ensures.torn
+          ∙ halted_torn next c.self.invariant.torn
+          (sym c.after_halt-self-inside.ensures.tearing ∙ ends) (sym waits ∙ still);
       late = c.self.invariant.late;
       heard = c.self.invariant.heard;
       front = λ asks. absurd (omega (arith, asks));

@@ -83,7 +83,8 @@ invariant_of-self-2 g c =
             play_room = omega (arith, c.self.invariant.play_room);
             offer_room = omega (arith, c.self.invariant.offer_room);
             looks = c.self.invariant.looks;
-            torn = λ tearing waits. tearing;
+            torn = λ tearing waits.
+                w.after_reply-self-inside.ensures.torn ∙ sym w.after_reply-self-inside.ensures.tearing ∙ tearing;
             late = search rules;
             heard = search rules;
             front = λ asks. absurd (omega (arith, asks));
