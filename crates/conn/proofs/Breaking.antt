@@ -1,12 +1,12 @@
 -- A send that failed in a slot.
 use Rattle.std.proofs.Common.{◌≡◌, ℕ, if◌then◌else◌, take, refl, ap, ◌∙◌}
-use Rattle.session.specs.Sendings.{HasFailed, due_bytes}
+use Rattle.session.specs.Sendings.{HasSlotFailed, due_bytes}
 use Rattle.session.specs.Standings.{IsAtRest, taken_up}
 use Rattle.conn.specs.Sights.{HasBroken, Sight}
 
 -- what a slot leaves in which a send failed
 pub record FailedSlot (a b : Sight) (slot : ℕ) : Type 0 where
-  pub failed : HasFailed a.stage.session slot a.told b.told b.stage.session
+  pub failed : HasSlotFailed a.stage.session slot a.told b.told b.stage.session
   pub input : b.stage.input ≡ a.stage.input
   pub heard : b.stage.session.heard ≡ taken_up a.stage.session.heard slot
   pub rest : IsAtRest b.stage.session

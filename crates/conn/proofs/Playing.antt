@@ -30,9 +30,9 @@ use Rattle.vod_base.specs.Links.{Doing, HeardBytes, HeardEnd, HeardSlot, Sent}
 use Rattle.session.specs.Hearings.{Hears}
 use Rattle.conn.specs.Rounds.{Round, Runs, RunsAll, round_outcomes, rounds_outcomes}
 use Rattle.conn.specs.Rounds.{taking_outcomes, takings_outcomes}
-use Rattle.conn.specs.Films.{AreUnhalted, GoesOn, HasSent, HasSentOn, IsNoHalt as IsNoHaltMade}
+use Rattle.conn.specs.Films.{AreUnhalted, GoesOn, HasSent, HasSentOn, IsNoHalt}
 use Rattle.conn.specs.Films.{IsUnhalted, Stretch, rounds_film}
-use Rattle.session.specs.Laws.{IsNoHalt}
+use Rattle.session.specs.Laws.{AsksNoHalt}
 use Rattle.session.proofs.Grounds.{HeardMessage}
 use Rattle.session.proofs.HearingLaws.{hears_plays}
 use Rattle.conn.proofs.Filming.{sent_slot as sent_by, sent_through, slot_film, slot_is, slot_pacing}
@@ -42,7 +42,7 @@ use Rattle.conn.proofs.Occasions.{SlotPacings, PlayGoing, EventCome}
 no_halt : (old : Standing) (keep : ℕ) (outcome : Outcome) (new : Standing) → IsHalted old keep outcome new
     → IsUnhalted outcome → ⊥
 no_halt old keep Unasked new halted free = halted
-no_halt old keep (Entered placed) new halted free = subst IsNoHaltMade halted.command free
+no_halt old keep (Entered placed) new halted free = subst IsNoHalt halted.command free
 no_halt old keep (WasFull more entries live) new halted free = halted
 no_halt old keep (Offered at_slot note) new halted free = halted
 
@@ -277,13 +277,13 @@ answer_left {old} (AskOffer plan offers) (Offered at_slot note) is given = subst
 left_on : (a b c : Standing) → IsLeft a b → IsLeft b c → IsLeft a c
 left_on a b c first second = (second.0 ∙ first.0, second.1 ∙ first.1)
 
-hears_left : {setup : Setup} {play : Played} (heard : HeardMessage) → heard.old.state ≡ Playing setup play → IsNoHalt heard.ask →
+hears_left : {setup : Setup} {play : Played} (heard : HeardMessage) → heard.old.state ≡ Playing setup play → AsksNoHalt heard.ask →
     IsLeft heard.old heard.new
 hears_left {setup} {play} heard is free =
     let plays = hears_plays heard setup play is free in (plays.state, plays.heard)
 
 ask_free : (old : Standing) (ask : Ask) (outcome : Outcome) (new : Standing) → IsAnswered old ask outcome new
-    → IsUnhalted outcome → IsNoHalt ask
+    → IsUnhalted outcome → AsksNoHalt ask
 ask_free old AskReply outcome new answered free = tt
 ask_free old (AskPlay plan) outcome new answered free = tt
 ask_free old (AskHalt keep) outcome new answered free = no_halt old keep outcome new answered free

@@ -11,7 +11,7 @@ use Rattle.session.specs.Inside.{coming_of, open_receipts}
 use Rattle.session.specs.Planning.{IsPausedIn}
 use Rattle.session.specs.Plans.{IsPacedPlay}
 use Rattle.session.specs.Playing.{IsPlayable}
-use Rattle.session.specs.Sendings.{IsFinished, is_done_in}
+use Rattle.session.specs.Sendings.{HaltsIfDone, is_done_in}
 use Rattle.session.specs.Standings.{NoAnswer, awaited_answer_of}
 use Rattle.session.specs.Steps.{IsCarried, IsEven, IsSamePacing, after_stop}
 use Rattle.session.specs.declared.settings.Settings.{Settings}
@@ -108,7 +108,7 @@ going_kept (Stopping setup stop) (Playing s p) given undone = absurd given.carri
 going_kept old (Stopping s p) given undone = tt
 
 pub awaited_kept : {lost : Bool} {old new : State} (ground : Ground) (awaited : Awaited) → SteppedState lost old new
-    → IsFinished new awaited → IsAwaitedKept ground.films ground.source ground.settings ground.counts lost new awaited
+    → HaltsIfDone new awaited → IsAwaitedKept ground.films ground.source ground.settings ground.counts lost new awaited
 awaited_kept {old} {new} ground Nothing step is = going_kept old new step is
 awaited_kept ground (Play prepared) step is = absurd is
 awaited_kept {lost} {new} ground (Halt keep next) step is =
@@ -119,7 +119,7 @@ awaited_kept ground (Offer sequence) step is = absurd is
 
 -- the same once the reply of a PAUSE or a TEARDOWN was sent
 pub awaited_settled : {lost : Bool} {old : State} (ground : Ground) (new : State) (awaited : Awaited)
-    → SteppedState lost old new → IsFinished (after_stop new) awaited
+    → SteppedState lost old new → HaltsIfDone (after_stop new) awaited
     → IsAwaitedKept ground.films ground.source ground.settings ground.counts lost (after_stop new) awaited
 awaited_settled {lost} ground Init awaited step is =
     awaited_kept {lost = lost} {old = Init} {new = Init} ground awaited (record { going = tt; carried = tt; even = tt }) is
@@ -174,7 +174,7 @@ receipts_settled (Playing setup play) = refl
 receipts_settled (Stopping setup stop) = refl
 
 -- no receipt, note of a play or offer is to come of a halt
-pub finished_none : (state : State) (awaited : Awaited) → IsFinished state awaited → coming_of awaited ≡ coming_of Nothing
+pub finished_none : (state : State) (awaited : Awaited) → HaltsIfDone state awaited → coming_of awaited ≡ coming_of Nothing
 finished_none state Nothing is = refl
 finished_none state (Play prepared) is = absurd is
 finished_none state (Halt keep next) is = refl

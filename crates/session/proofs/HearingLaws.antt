@@ -6,7 +6,7 @@ use Rattle.session.specs.declared.states.Play.{Play as Played}
 use Rattle.session.specs.declared.states.Setup.{Setup}
 use Rattle.session.specs.declared.states.State.TheVariants.{Playing}
 use Rattle.session.specs.Hearings.{Hears}
-use Rattle.session.specs.Laws.{IsNoHalt, LeavesOr, PlaysOn}
+use Rattle.session.specs.Laws.{AsksNoHalt, LeavesOr, PlaysOn}
 use Rattle.session.specs.Methods.{IsReplied}
 use Rattle.session.specs.Standings.{Standing, with_reply}
 use Rattle.session.proofs.Grounds.{HeardMessage}
@@ -16,7 +16,7 @@ plays_on : (old new : Standing) → new.state ≡ old.state → new.heard ≡ ol
 plays_on old new state heard = record { state = state; heard = heard }
 
 comes_plays : {old new : Standing} {message : List ℕ} {ask : Ask} {setup : Setup} {play : Played} → ComesTo old message ask new
-    → old.state ≡ Playing setup play → IsNoHalt ask → PlaysOn old new
+    → old.state ≡ Playing setup play → AsksNoHalt ask → PlaysOn old new
 comes_plays {old} {new} {ask} (Lacks may is) playing free =
     plays_on old new (ap (λ (s : Standing). s.state) is.1) (ap (λ (s : Standing). s.heard) is.1)
 comes_plays {old} {new} {ask} (Refuses sequence refusal option other is) playing free =
@@ -29,7 +29,7 @@ comes_plays {new} {ask}
     (AsksForPlay stored own paused range planned sequence authority ready planned_is command is) playing free =
     absurd (let no : ⊥ = cc in no)
 comes_plays {new} {ask} (AsksForHalt sequence own going next was told by halts) playing free =
-    absurd (subst IsNoHalt halts.command free)
+    absurd (subst AsksNoHalt halts.command free)
 comes_plays {old} {new} {ask} (AsksForLook sequence look) playing free =
     plays_on old new (ap (λ (s : Standing). s.state) look.state) (ap (λ (s : Standing). s.heard) look.state)
 comes_plays {old} {new} {ask} (AsksForOffer sequence wait planned asks) playing free =
@@ -37,7 +37,7 @@ comes_plays {old} {new} {ask} (AsksForOffer sequence wait planned asks) playing 
 
 -- in Playing a request that asks for no halt leaves the play
 pub hears_plays : (heard : HeardMessage) (setup : Setup) (play : Played) → heard.old.state ≡ Playing setup play
-    → IsNoHalt heard.ask → PlaysOn heard.old heard.new
+    → AsksNoHalt heard.ask → PlaysOn heard.old heard.new
 hears_plays heard setup play is free =
     comes_plays (comes_to heard.old heard.message heard.ask heard.new heard.hears) is free
 

@@ -7,7 +7,7 @@ use Rattle.session.specs.declared.states.State.{State}
 use Rattle.session.specs.declared.states.State.TheVariants.{Playing}
 
 -- a play is halted at the first boundary that it can reach, and keeps so many bytes
-pub record IsHalted (old new : State) (keep : ℕ) : Type 0 where
+pub record KeepsToBoundary (old new : State) (keep : ℕ) : Type 0 where
   pub setup : Setup
   pub play : Played
   pub pacer : Pacing

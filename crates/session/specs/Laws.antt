@@ -57,12 +57,12 @@ abbrev pub LeavesOr : Standing → Standing → Type 0
 LeavesOr old new = IsOk new.text ⊎ (new ≡ with_reply old new.text)
 
 -- no halt is asked for
-abbrev pub IsNoHalt : Ask → Type 0
-IsNoHalt Reply = ⊤
-IsNoHalt (AskPlay plan) = ⊤
-IsNoHalt (AskHalt keep) = ⊥
-IsNoHalt (AskLook slot) = ⊤
-IsNoHalt (AskOffer plan offers) = ⊤
+abbrev pub AsksNoHalt : Ask → Type 0
+AsksNoHalt Reply = ⊤
+AsksNoHalt (AskPlay plan) = ⊤
+AsksNoHalt (AskHalt keep) = ⊥
+AsksNoHalt (AskLook slot) = ⊤
+AsksNoHalt (AskOffer plan offers) = ⊤
 
 -- the play and the slots are as they were
 pub record PlaysOn (old new : Standing) : Type 0 where

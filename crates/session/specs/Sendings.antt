@@ -170,12 +170,12 @@ abbrev pub finished_in : State → Awaited → Awaited
 finished_in state awaited = if is_done_in state then Halt (sent_in state) Done else awaited
 
 -- a halt is asked of a play that is done, and of no other
-abbrev pub IsFinished : State → Awaited → Type 0
-IsFinished state Nothing = is_done_in state ≡ false
-IsFinished state (Play prepared) = ⊥
-IsFinished state (Halt keep next) = IsHaltIn state keep × (next ≡ Done)
-IsFinished state (Look sequence) = ⊥
-IsFinished state (Offer sequence) = ⊥
+abbrev pub HaltsIfDone : State → Awaited → Type 0
+HaltsIfDone state Nothing = is_done_in state ≡ false
+HaltsIfDone state (Play prepared) = ⊥
+HaltsIfDone state (Halt keep next) = IsHaltIn state keep × (next ≡ Done)
+HaltsIfDone state (Look sequence) = ⊥
+HaltsIfDone state (Offer sequence) = ⊥
 
 abbrev pub after_play : Standing → Standing
 after_play old = record old { awaited = finished_in old.state old.awaited }
@@ -210,7 +210,7 @@ after_slot old slot =
 
 -- a send failed in a slot: a front of what is due was sent, and of the open booking as much is due
 -- as without the fault
-pub record HasFailed (old : Standing) (slot : ℕ) (told_old told_new : Option (List Doing))
+pub record HasSlotFailed (old : Standing) (slot : ℕ) (told_old told_new : Option (List Doing))
     (new : Standing) : Type 0 where
   pub taken : is_taken old slot ≡ true
   pub sending : is_sending old.state ≡ true

@@ -18,7 +18,7 @@ ghost use Rattle.session.specs.Changes.{AsksOrLacks, CanBePlayed, ChangesState, 
 ghost use Rattle.session.specs.Changes.{RefusesNone};
 ghost use Rattle.session.specs.Hearings.{Hears, after_admission, after_full, after_halt};
 ghost use Rattle.session.specs.Hearings.{after_look, after_overflow};
-ghost use Rattle.session.specs.Laws.{GoesOn, InitStage, Is500, IsDropped, IsNoHalt, IsOneHearing};
+ghost use Rattle.session.specs.Laws.{AsksNoHalt, GoesOn, InitStage, Is500, IsDropped, IsOneHearing};
 ghost use Rattle.session.specs.Laws.{IsWanting, LeavesOr, MayWantMemory, NeverLacks};
 ghost use Rattle.session.specs.Laws.{PlayingStage, PlaysOn, ReadyStage, Resumes, StaysOr};
 ghost use Rattle.session.specs.Methods.{IsSetUp, play_front};
@@ -41,7 +41,7 @@ pub fn law_refusal_leaves()
 pub fn law_play_goes_on()
     ensures { (old new : Standing) (message : List ℕ) (ask : Ask) (setup : Setup) (play : Played) →
         Hears old message ask new
-        → old.state ≡ Playing setup play → IsNoHalt ask → PlaysOn old new }
+        → old.state ≡ Playing setup play → AsksNoHalt ask → PlaysOn old new }
 {}
 
 /// What is sent after so many bytes of a run goes on from it: the next frame's sequence number

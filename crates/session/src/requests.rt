@@ -19,7 +19,7 @@ ghost use Rattle.session.specs.Replies.{refusal_text};
 ghost use Rattle.session.specs.Standings.{AsksFor, CanHear, IsAtRest, IsReadyIn, IsSameBusiness};
 ghost use Rattle.session.specs.Standings.{has_session_in, is_playing_in, with_reply};
 ghost use Rattle.session.specs.Inside.{IsGoing};
-ghost use Rattle.session.specs.Halting.{IsHalted};
+ghost use Rattle.session.specs.Halting.{KeepsToBoundary};
 
 use crate::asks::Ask;
 use crate::films::{frames_of, length_ms, stored_at};
@@ -367,7 +367,7 @@ impl<'a> Session<'a> {
 /// tells how many bytes it keeps.
 fn ask_halt(state: &mut State<'_>) -> Option<u64>
     requires { IsGoing false state.old }
-    ensures halted { IfSome result (IsHalted state.old state.new) }
+    ensures halted { IfSome result (KeepsToBoundary state.old state.new) }
     ensures none { IfNone result (is_playing_in state.old ≡ false) }
     ensures left { IfNone result (state.new ≡ state.old) }
 {

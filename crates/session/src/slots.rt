@@ -4,7 +4,7 @@ ghost use Rattle.std.specs.Prelude.{◌≡◌, ◌-◌, ◌<◌, ◌≤◌, ◌+
 ghost use Rattle.std.specs.Prelude.{OnOk, false, true, max, if◌then◌else◌};
 ghost use Rattle.vod_base.specs.Outside.{HasRisen};
 ghost use Rattle.vod_base.specs.Links.{IsFrontTold, sends, told_more};
-ghost use Rattle.session.specs.Sendings.{HasFailed, IsFinished, IsTold, can_reply, due_bytes};
+ghost use Rattle.session.specs.Sendings.{HaltsIfDone, HasSlotFailed, IsTold, can_reply, due_bytes};
 ghost use Rattle.session.specs.Sendings.{due_state, finished_in, is_between, is_done_in};
 ghost use Rattle.session.specs.Sendings.{is_sending, is_taken, sent_in, sent_reply, after_slot};
 ghost use Rattle.session.specs.Sendings.{start_in, step_bytes, stepped_in};
@@ -44,7 +44,7 @@ impl<'a> Session<'a> {
         ensures offers { self.new.offers ≡ self.old.offers }
         ensures count { K.faults link.old ≤ K.faults link.new }
         ensures failed { OnErr result
-            (HasFailed self.old slot (K.told link.old) (K.told link.new) self.new) }
+            (HasSlotFailed self.old slot (K.told link.old) (K.told link.new) self.new) }
         ensures fault { OnErr result (HasRisen (K.faults link.old) (K.faults link.new)) }
     {
         if slot <= self.heard || slot > LATEST_SLOT {
@@ -263,7 +263,7 @@ fn finish<'a>(state: &State<'a>, awaited: &mut Awaited<'a>) -> Slotted
     requires play { IsPlayIn state.now }
     requires rest { awaited_answer_of awaited.old ≡ NoAnswer }
     ensures awaited { awaited.new ≡ finished_in state.now awaited.old }
-    ensures halt { IsFinished state.now awaited.new }
+    ensures halt { HaltsIfDone state.now awaited.new }
     ensures brings { BringsIn result awaited.new state.now }
 {
     match done_bytes(state) {

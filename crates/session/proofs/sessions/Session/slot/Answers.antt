@@ -1,6 +1,6 @@
 use Rattle.std.proofs.Common.{◌≡◌, false, true, sym, ap, subst, ◌∙◌, rules, arith}
 use Rattle.session.specs.Inside.{Coming, IsAwaitedKept, IsGoing, IsKept, IsStateKept, IsStopAnswered, awaited_offers, awaited_plays, awaited_receipts, coming_of, open_receipts, standing_of}
-use Rattle.session.specs.Sendings.{IsFinished}
+use Rattle.session.specs.Sendings.{HaltsIfDone}
 use Rattle.session.specs.Standings.{IsAtRest}
 use Rattle.session.specs.Steps.{IsCarried, IsEven, after_stop}
 use Rattle.session.specs.declared.sessions.Session.TheInside.{Inside}
@@ -48,7 +48,7 @@ invariant_of-self-2 g c =
     let awaited : Awaited = c.finish.new.awaited in
     let carried : IsCarried inside.state new = c.send_due.ensures.carried in
     let even : IsEven new = c.in-Ok.ensures.even in
-    let finished : IsFinished c.if-replied.self-inside.state awaited = c.finish.ensures.halt in
+    let finished : HaltsIfDone c.if-replied.self-inside.state awaited = c.finish.ensures.halt in
     let rest : IsAtRest (standing_of inside) = subst IsAtRest (sym c.self.view_is) c.requires.rest in
     let none : inside.awaited ≡ Nothing = nothing_of inside.awaited rest in
     let going : IsGoing inside.lost inside.state =
@@ -62,8 +62,8 @@ invariant_of-self-2 g c =
       | then-replied w ↦
           let after : State = w.settle.new.state in
           let is : after ≡ after_stop new = w.settle.ensures in
-          let over : IsFinished after awaited =
-          subst (λ (x : Inside). IsFinished x.state awaited) w.self-inside-is finished in
+          let over : HaltsIfDone after awaited =
+          subst (λ (x : Inside). HaltsIfDone x.state awaited) w.self-inside-is finished in
           let same : open_receipts after ≡ open_receipts inside.state =
           ap open_receipts is ∙ receipts_settled new ∙ receipts_kept inside.state new carried in
           subst (λ (x : Inside). IsKept (record x { awaited = awaited })) (sym w.self-inside-is)
@@ -77,7 +77,7 @@ invariant_of-self-2 g c =
             awaited = subst (λ (s : State). IsAwaitedKept films inside.source inside.settings inside.counts
                 inside.lost s awaited) (sym is)
                 (awaited_settled (ground_of inside) new awaited (record { going = going; carried = carried; even = even })
-                (subst (λ (s : State). IsFinished s awaited) is over));
+                (subst (λ (s : State). HaltsIfDone s awaited) is over));
             stop = subst (λ (s : State). IsStopAnswered s false) (sym is) (stop_settled false new);
             receipt_room = omega (arith, c.self.invariant.receipt_room);
             play_room = omega (arith, c.self.invariant.play_room);
@@ -90,8 +90,8 @@ invariant_of-self-2 g c =
             front = λ asks. absurd (omega (arith, asks));
           })
       | else-replied w ↦
-          let over : IsFinished new awaited =
-          subst (λ (x : Inside). IsFinished x.state awaited) w.self-inside-is finished in
+          let over : HaltsIfDone new awaited =
+          subst (λ (x : Inside). HaltsIfDone x.state awaited) w.self-inside-is finished in
           let same : open_receipts new ≡ open_receipts inside.state = receipts_kept inside.state new carried in
           subst (λ (x : Inside). IsKept (record x { awaited = awaited })) (sym w.self-inside-is)
           (record {
