@@ -59,11 +59,11 @@ impl<'a> Session<'a> {
     {
         if self.lost {
             // what is due can't be sent any more, so no play can be stopped at the end of a piece
-            return self.refuse(sequence_of(message), Refusal::Memory, b"");
+            return self.refuse(sequence_of(message), Refusal::Memory);
         }
         match read_request(message) {
             Ok(request) => self.hear_request(&request),
-            Err(fault) => self.refuse(sequence_of(message), fault.into(), b""),
+            Err(fault) => self.refuse(sequence_of(message), fault.into()),
         }
     }
 
@@ -78,7 +78,7 @@ impl<'a> Session<'a> {
     {
         match judge(self.films, &self.id, &self.state, request) {
             Ok(task) => self.take_up(request, task),
-            Err(refusal) => self.refuse(Some(request.sequence), refusal, option_of(request)),
+            Err(refusal) => self.refuse_option(Some(request.sequence), refusal, option_of(request)),
         }
     }
 
@@ -115,8 +115,19 @@ impl<'a> Session<'a> {
         Ask::Reply
     }
 
+    /// Refuses a request that requires no option.
+    fn refuse(&mut self, sequence: Option<u64>, refusal: Refusal) -> Ask
+        requires rest { IsAtRest self.old }
+        ensures ask { result ≡ Ask.Reply }
+        ensures exact { self.new ≡ with_reply self.old (refusal_text sequence refusal []) }
+        ensures asks { AsksFor result self.new }
+        ensures same { IsSameBusiness self.old self.new }
+    {
+        self.refuse_option(sequence, refusal, b"")
+    }
+
     /// Refuses a request. The option is the one that it requires, if any.
-    fn refuse(&mut self, sequence: Option<u64>, refusal: Refusal, option: &[u8]) -> Ask
+    fn refuse_option(&mut self, sequence: Option<u64>, refusal: Refusal, option: &[u8]) -> Ask
         requires rest { IsAtRest self.old }
         requires short { length option.now ≤ 16384 }
         requires line { is_one_line option.now ≡ true }
@@ -172,7 +183,7 @@ impl<'a> Session<'a> {
                 self.state.enter(State::Ready(setup, None));
                 self.reply_waits()
             }
-            Err(refusal) => self.refuse(Some(request.sequence), refusal, b""),
+            Err(refusal) => self.refuse(Some(request.sequence), refusal),
         }
     }
 
@@ -193,7 +204,7 @@ impl<'a> Session<'a> {
         };
         match self.plan_play(&setup, paused, header(request, b"Range")) {
             Ok(planned) => self.ask_play(sequence, authority, &setup, planned),
-            Err(refusal) => self.refuse(Some(sequence), refusal, b""),
+            Err(refusal) => self.refuse(Some(sequence), refusal),
         }
     }
 
@@ -212,7 +223,7 @@ impl<'a> Session<'a> {
         ensures same { IsSameBusiness self.old self.new }
     {
         let Ok((own, paced)) = plans_with_room(&mut self.log, self.looks_left, &planned.plan) else {
-            return self.refuse(Some(sequence), Refusal::Memory, b"");
+            return self.refuse(Some(sequence), Refusal::Memory);
         };
         let films = self.films;
         let stored = stored_at(films, setup.film);
@@ -288,7 +299,7 @@ impl<'a> Session<'a> {
             }
             Topic::Booked => self.look(sequence),
             Topic::Offer => self.offer(request),
-            Topic::Unknown => self.refuse(Some(sequence), Refusal::Parameter, b""),
+            Topic::Unknown => self.refuse(Some(sequence), Refusal::Parameter),
         }
     }
 
@@ -302,7 +313,7 @@ impl<'a> Session<'a> {
         let looks_left = self.looks_left.saturating_sub(1);
         let open = usize::from(self.state.is_playing());
         if self.log.reserve_receipts(looks_left + open + 1).is_err() {
-            return self.refuse(Some(sequence), Refusal::Memory, b"");
+            return self.refuse(Some(sequence), Refusal::Memory);
         }
         self.looks_left = looks_left;
         self.awaited.set(Awaited::Look(sequence));
@@ -320,11 +331,11 @@ impl<'a> Session<'a> {
         match self.state {
             State::Ready(setup, paused) => match wait_of(request) {
                 Some(wait) => self.offer_ready(sequence, wait, &setup, paused),
-                None => self.refuse(Some(sequence), Refusal::Parameter, b""),
+                None => self.refuse(Some(sequence), Refusal::Parameter),
             },
-            State::Init => self.refuse(Some(sequence), Refusal::Session, b""),
+            State::Init => self.refuse(Some(sequence), Refusal::Session),
             State::Playing(..) | State::Stopping(..) => {
-                self.refuse(Some(sequence), Refusal::State, b"")
+                self.refuse(Some(sequence), Refusal::State)
             }
         }
     }
@@ -343,7 +354,7 @@ impl<'a> Session<'a> {
     {
         match self.plan_play(setup, paused, None) {
             Ok(planned) => self.ask_offer(sequence, wait, planned),
-            Err(refusal) => self.refuse(Some(sequence), refusal, b""),
+            Err(refusal) => self.refuse(Some(sequence), refusal),
         }
     }
 
@@ -356,7 +367,7 @@ impl<'a> Session<'a> {
         ensures same { IsSameBusiness self.old self.new }
     {
         let Ok(offers) = offers_with_room(self.alloc, &mut self.log, wait) else {
-            return self.refuse(Some(sequence), Refusal::Memory, b"");
+            return self.refuse(Some(sequence), Refusal::Memory);
         };
         self.awaited.set(Awaited::Offer(sequence));
         Ask::Offer(planned.plan, offers)
