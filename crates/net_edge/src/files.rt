@@ -15,7 +15,7 @@ use vod_base::{Library, StoreFault};
 pub struct FileLibrary<'a, R: Files> {
     rt: &'a R,
     alloc: Global,
-    open: Option<Open<R::File>>,
+    open: Option<OpenFile<R::File>>,
     faults: Faults,
 }
 
@@ -31,7 +31,7 @@ impl<'a, R: Files> FileLibrary<'a, R> {
     }
 
     /// The file of that name at a place, the one that is open if it is the same.
-    fn open_at(&mut self, name: &str, at: u64) -> io::Result<Open<R::File>>
+    fn open_at(&mut self, name: &str, at: u64) -> io::Result<OpenFile<R::File>>
         ensures { self.new.faults ≡ self.old.faults }
     {
         match self.open.take() {
@@ -41,7 +41,7 @@ impl<'a, R: Files> FileLibrary<'a, R> {
         let name_kept = String::from_str(self.alloc, name)?;
         let mut file = fs::open(self.rt, name)?;
         file.seek(SeekFrom::Start(at))?;
-        Ok(Open {
+        Ok(OpenFile {
             name: name_kept,
             file,
             place: at,
@@ -79,7 +79,7 @@ impl<R: Files> Library for FileLibrary<'_, R> {
 
 /// A file that was read, and the place of its next byte.
 #[derive(Drop)]
-struct Open<F> {
+struct OpenFile<F> {
     name: String,
     file: F,
     place: u64,

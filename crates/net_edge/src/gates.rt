@@ -17,7 +17,7 @@ use vod_base::{Gate, GateFault, Opening};
 pub struct TcpGate<'a, R: Net<Listener = TcpListener, Stream = TcpStream> + Clock> {
     rt: &'a R,
     alloc: Global,
-    door: Option<Door>,
+    open: Option<OpenPort>,
     /// The connections that were given.
     given: u64,
     faults: Faults,
@@ -29,7 +29,7 @@ impl<'a, R: Net<Listener = TcpListener, Stream = TcpStream> + Clock> TcpGate<'a,
         TcpGate {
             rt,
             alloc,
-            door: None,
+            open: None,
             given: 0,
             faults: Faults::new(),
         }
@@ -37,14 +37,14 @@ impl<'a, R: Net<Listener = TcpListener, Stream = TcpStream> + Clock> TcpGate<'a,
 
     /// The port of a gate that is open; None where it isn't, or where the system doesn't tell.
     pub fn port(&self) -> Option<u16> {
-        let door = self.door.as_ref()?;
-        Some(door.listener.local_addr().ok()?.port())
+        let open = self.open.as_ref()?;
+        Some(open.listener.local_addr().ok()?.port())
     }
 
     /// Another handle of the open port.
-    fn copied_door(&self) -> io::Result<Door> {
-        match &self.door {
-            Some(door) => door.copy(),
+    fn copied_port(&self) -> io::Result<OpenPort> {
+        match &self.open {
+            Some(port) => port.copy(),
             None => Err(io::Error::from(ErrorKind::NotConnected)),
         }
     }
@@ -55,15 +55,15 @@ impl<'a, R: Net<Listener = TcpListener, Stream = TcpStream> + Clock> TcpGate<'a,
         ensures faults { self.new.faults ≡ self.old.faults }
         ensures fresh { IfOk result (λ next. IfSome next (λ link. link.faults.count ≡ 0)) }
     {
-        let Some(door) = &self.door else {
+        let Some(port) = &self.open else {
             return Err(io::Error::from(ErrorKind::NotConnected));
         };
-        if door.most.is_some_and(|most| self.given >= most) {
+        if port.most.is_some_and(|most| self.given >= most) {
             return Ok(None);
         }
         for _ in 0..u64::MAX {
-            let stream = door.accept()?;
-            if let Ok(link) = TcpLink::new(self.rt, self.alloc, stream, door.clock) {
+            let stream = port.accept()?;
+            if let Ok(link) = TcpLink::new(self.rt, self.alloc, stream, port.clock) {
                 self.given = self.given.saturating_add(1);
                 return Ok(Some(link));
             }
@@ -80,20 +80,20 @@ impl<'a, R: Net<Listener = TcpListener, Stream = TcpStream> + Clock> Gate for Tc
     ghost told = { λ _. None };
 
     fn open(&mut self, how: &Opening) -> Result<(), GateFault> {
-        self.door = None;
+        self.open = None;
         self.given = 0;
-        let door = self.faults.pass_on(open_door(self.rt, how), GateFault)?;
-        self.door = Some(door);
+        let port = self.faults.pass_on(open_port(self.rt, how), GateFault)?;
+        self.open = Some(port);
         Ok(())
     }
 
     fn split(&mut self) -> Result<Self, GateFault> {
-        let copied = self.copied_door();
-        let door = self.faults.pass_on(copied, GateFault)?;
+        let copied = self.copied_port();
+        let copied = self.faults.pass_on(copied, GateFault)?;
         Ok(TcpGate {
             rt: self.rt,
             alloc: self.alloc,
-            door: Some(door),
+            open: Some(copied),
             given: 0,
             faults: Faults::new(),
         })
@@ -115,7 +115,7 @@ impl<'a, R: Net<Listener = TcpListener, Stream = TcpStream> + Clock> Gate for Tc
 
 /// An open port.
 #[derive(Drop)]
-struct Door {
+struct OpenPort {
     listener: TcpListener,
     clock: SlotClock,
     /// The most connections that are given, if there is an end.
@@ -123,17 +123,17 @@ struct Door {
 }
 
 /// Opens a port.
-fn open_door<R: Net<Listener = TcpListener, Stream = TcpStream> + Clock>(
+fn open_port<R: Net<Listener = TcpListener, Stream = TcpStream> + Clock>(
     rt: &R,
     how: &Opening,
-) -> io::Result<Door> {
+) -> io::Result<OpenPort> {
     let host = if how.all {
         Ipv4Addr::UNSPECIFIED
     } else {
         Ipv4Addr::LOCALHOST
     };
     let listener = TcpListener::bind(rt, SocketAddr::from((host, how.port)))?;
-    Ok(Door {
+    Ok(OpenPort {
         listener,
         clock: SlotClock::start(rt, how)?,
         most: match how.connections {
@@ -165,10 +165,10 @@ fn has_passed(error: &io::Error) -> bool {
             .is_some_and(|code| PASSING.contains(&code))
 }
 
-impl Door {
+impl OpenPort {
     /// Another handle of the same port.
-    fn copy(&self) -> io::Result<Door> {
-        Ok(Door {
+    fn copy(&self) -> io::Result<OpenPort> {
+        Ok(OpenPort {
             listener: self.listener.try_clone()?,
             clock: self.clock,
             most: self.most,

@@ -95,6 +95,7 @@ impl<'a, R: Net + Clock> TcpLink<'a, R> {
             Token(0),
             Interest::READABLE | Interest::WRITABLE,
         )?;
+        // one socket is watched, so few events come at once
         let events = Events::with_capacity(alloc, 4)?;
         let gathered = Gathered::new(alloc)?;
         Ok(TcpLink {
@@ -284,7 +285,7 @@ impl<R: Clock> TcpLink<'_, R> {
         self.linger()
     }
 
-    /// Ends the connection. A fault is no matter any more.
+    /// Ends the connection. A fault no longer matters.
     pub(crate) fn end(mut self) {
         if self.faults.count == 0 {
             let _ = self.close();
