@@ -1,34 +1,34 @@
-pub mod Admitting
-pub mod Agreeing
-pub mod Asking
-pub mod Answering
-pub mod Beginning
+mod Admitting
+mod Agreeing
+mod Asking
+mod Answering
+mod Beginning
 pub mod Between
-pub mod Breaking
-pub mod Completing
-pub mod Counting
-pub mod Cutting
+mod Breaking
+mod Completing
+mod Counting
+mod Cutting
 pub mod Filming
-pub mod Going
-pub mod Grounds
-pub mod Hearing
-pub mod Passing
+mod Going
+mod Grounds
+mod Hearing
+mod Passing
 pub mod Playing
-pub mod Promising
-pub mod Refusing
+mod Promising
+mod Refusing
 pub mod Replying
-pub mod Progress
-pub mod Steps
-pub mod Rooms
-pub mod Showing
-pub mod SeatReplies
+mod Progress
+mod Steps
+mod Rooms
+mod Showing
+mod SeatReplies
 pub mod Sighting
-pub mod Outcomes
-pub mod Staying
+mod Outcomes
+mod Staying
 pub mod Telling
-pub mod Workers
+mod Workers
 pub mod Journals
-pub mod Keeping
+mod Keeping
 pub mod Occasions
 mod Spent
 mod Drawn

@@ -9,7 +9,12 @@ use Rattle.session.specs.declared.asks.Ask.TheVariants.{Play as AskPlay}
 use Rattle.session.specs.declared.plans.Planned.{Planned}
 use Rattle.session.specs.declared.refusals.Refusal.{Refusal}
 use Rattle.session.specs.declared.refusals.Task.{Task}
-use Rattle.session.specs.declared.refusals.Task.TheVariants.{Options as ToOptions, Describe as ToDescribe, Setup as ToSetup, Play as ToPlay, Pause as ToPause, Teardown as ToTeardown, GetParameter as ToGetParameter}
+use Rattle.session.specs.declared.refusals.Task.TheVariants.{Options as ToOptions}
+use Rattle.session.specs.declared.refusals.Task.TheVariants.{Describe as ToDescribe}
+use Rattle.session.specs.declared.refusals.Task.TheVariants.{Setup as ToSetup, Play as ToPlay}
+use Rattle.session.specs.declared.refusals.Task.TheVariants.{Pause as ToPause}
+use Rattle.session.specs.declared.refusals.Task.TheVariants.{Teardown as ToTeardown}
+use Rattle.session.specs.declared.refusals.Task.TheVariants.{GetParameter as ToGetParameter}
 use Rattle.session.specs.declared.states.Awaited.TheVariants.{Play}
 use Rattle.session.specs.declared.states.Setup.{Setup}
 use Rattle.session.specs.declared.states.State.{State}

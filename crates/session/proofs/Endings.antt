@@ -9,7 +9,12 @@ use Rattle.session.specs.declared.asks.Ask.TheVariants.{Reply, Halt as AskHalt}
 use Rattle.session.specs.declared.refusals.Refusal.{Refusal}
 use Rattle.session.specs.declared.refusals.Refusal.TheVariants.{Memory}
 use Rattle.session.specs.declared.refusals.Task.{Task}
-use Rattle.session.specs.declared.refusals.Task.TheVariants.{Options as ToOptions, Describe as ToDescribe, Setup as ToSetup, Play as ToPlay, Pause as ToPause, Teardown as ToTeardown, GetParameter as ToGetParameter}
+use Rattle.session.specs.declared.refusals.Task.TheVariants.{Options as ToOptions}
+use Rattle.session.specs.declared.refusals.Task.TheVariants.{Describe as ToDescribe}
+use Rattle.session.specs.declared.refusals.Task.TheVariants.{Setup as ToSetup, Play as ToPlay}
+use Rattle.session.specs.declared.refusals.Task.TheVariants.{Pause as ToPause}
+use Rattle.session.specs.declared.refusals.Task.TheVariants.{Teardown as ToTeardown}
+use Rattle.session.specs.declared.refusals.Task.TheVariants.{GetParameter as ToGetParameter}
 use Rattle.session.specs.declared.states.Awaited.{Awaited}
 use Rattle.session.specs.declared.states.Awaited.TheVariants.{Halt as ToHalt}
 use Rattle.session.specs.declared.states.Next.TheVariants.{Done, Torn}
@@ -17,7 +22,9 @@ use Rattle.session.specs.declared.states.Play.{Play as Played}
 use Rattle.session.specs.declared.states.Setup.{Setup}
 use Rattle.session.specs.declared.states.State.{State}
 use Rattle.session.specs.declared.states.State.TheVariants.{Init, Ready, Playing, Stopping}
-use Rattle.session.specs.EndLaws.{CanBePaused, CanBeTornDown, EndsSession, HaltsPlay, HasTeardown, IsPausedPlay, IsPause, IsSessionTold, IsTeardown, IsTeardownHeard, IsTornDown}
+use Rattle.session.specs.EndLaws.{CanBePaused, CanBeTornDown, EndsSession, HaltsPlay, HasTeardown}
+use Rattle.session.specs.EndLaws.{IsPausedPlay, IsPause, IsSessionTold, IsTeardown, IsTeardownHeard}
+use Rattle.session.specs.EndLaws.{IsTornDown}
 use Rattle.session.specs.Hearings.{Hears, HearsOn, after_halt, is_torn, new_standing}
 use Rattle.session.specs.declared.methods.Method.{Method}
 use Rattle.session.specs.declared.methods.Method.TheVariants.{Pause, Teardown}

@@ -1,26 +1,27 @@
 pub mod Grounds
 pub mod Boundaries
-pub mod Halts
-pub mod SlotBytes
-pub mod Namings
-pub mod Sums
-pub mod Playables
-pub mod Pausing
+mod Halts
+mod SlotBytes
+mod Namings
+mod Sums
+mod Playables
+mod Pausing
 pub mod Carries
-pub mod TaskLaws
+mod TaskLaws
 pub mod Fronts
 pub mod HearingLaws
-pub mod Askings
-pub mod Numbers
-pub mod Moves
+mod Askings
+mod Numbers
+mod Moves
 pub mod Changing
 pub mod Refusing
 pub mod Shapes
-pub mod OneVerdict
-pub mod OnePlan
+mod OneVerdict
+mod OnePlan
+mod OneReading
 pub mod OneHearing
-pub mod Results
-pub mod Tellings
+mod Results
+mod Tellings
 mod RangeInPlaying
 pub mod SlotCounts
 mod PlayEnds

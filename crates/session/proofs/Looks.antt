@@ -1,5 +1,7 @@
 -- There is room for the first looks of a connection.
-use Rattle.std.proofs.Common.{◌≡◌, ℕ, ◌+◌, ◌-◌, ◌<◌, ◌≤◌, ◌&&◌, Bool, true, false, cond, List, [], ◌∷◌, Some, codes, Result, Ok, Err, refl, sym, ap, subst, ◌∙◌, inl, inr, arith}
+use Rattle.std.proofs.Common.{◌≡◌, ℕ, ◌+◌, ◌-◌, ◌<◌, ◌≤◌, ◌&&◌, Bool, true, false, cond, List, []}
+use Rattle.std.proofs.Common.{◌∷◌, Some, codes, Result, Ok, Err, refl, sym, ap, subst, ◌∙◌, inl}
+use Rattle.std.proofs.Common.{inr, arith}
 use Rattle.std.proofs.lemmas.List.Sums.{sum_by-cons}
 use Rattle.rtsp_text.specs.declared.requests.Request.{Request}
 use Rattle.rtsp_text.proofs.Once.{no_fault}
@@ -10,18 +12,25 @@ use Rattle.session.specs.declared.methods.Topic.TheVariants.{Nothing as NoTopic,
 use Rattle.session.specs.declared.refusals.Refusal.{Refusal}
 use Rattle.session.specs.declared.refusals.Refusal.TheVariants.{Memory}
 use Rattle.session.specs.declared.refusals.Task.{Task}
-use Rattle.session.specs.declared.refusals.Task.TheVariants.{Options as ToOptions, Describe as ToDescribe, Setup as ToSetup, Play as ToPlay, Pause as ToPause, Teardown as ToTeardown, GetParameter as ToGetParameter}
+use Rattle.session.specs.declared.refusals.Task.TheVariants.{Options as ToOptions}
+use Rattle.session.specs.declared.refusals.Task.TheVariants.{Describe as ToDescribe}
+use Rattle.session.specs.declared.refusals.Task.TheVariants.{Setup as ToSetup, Play as ToPlay}
+use Rattle.session.specs.declared.refusals.Task.TheVariants.{Pause as ToPause}
+use Rattle.session.specs.declared.refusals.Task.TheVariants.{Teardown as ToTeardown}
+use Rattle.session.specs.declared.refusals.Task.TheVariants.{GetParameter as ToGetParameter}
 use Rattle.session.specs.Hearings.{HearsOn, new_standing}
 use Rattle.session.specs.Judging.{IsJudged, IsWord, option_of}
 use Rattle.session.specs.Laws.{Is500}
-use Rattle.session.specs.LookLaws.{Happening, Message, Admission, Overflow, Full, Halt, Look, Offer, Slot, Sending, AreAfter, AsksBooked, HasLooksLeft, IsAfter, looks_asked, looks_in, looks_of}
+use Rattle.session.specs.LookLaws.{Happening, Message, Admission, Overflow, Full, Halt, Look, Offer}
+use Rattle.session.specs.LookLaws.{Slot, Sending, AreAfter, AsksBooked, HasLooksLeft, IsAfter}
+use Rattle.session.specs.LookLaws.{looks_asked, looks_in, looks_of}
 use Rattle.session.specs.Changes.{HasCode}
 use Rattle.session.specs.Methods.{Gets, IsRefused, Looks, Takes}
 use Rattle.session.specs.Replies.{refusal_text}
 use Rattle.session.specs.Sendings.{after_play, is_between, is_sending, is_taken, sent_due, sent_reply, sent_slot, stepped_in}
 use Rattle.session.specs.Standings.{Standing}
 use Rattle.session.proofs.Grounds.{Beginning, HeardMessage, TakenRequest}
-use Rattle.session.proofs.OneHearing.{topic_once}
+use Rattle.session.proofs.OneReading.{topic_once}
 use Rattle.session.proofs.RangeInPlaying.{same_request}
 use Rattle.session.proofs.Refusing.{one_code, own_code, refusal_code}
 use Rattle.session.proofs.Results.{ComesTo, Lacks, Refuses, Says, SettlesSetup, AsksForPlay, AsksForHalt, AsksForLook, AsksForOffer, comes_to}

@@ -1,6 +1,8 @@
 -- A request is judged in one way.
 use Rattle.std.specs.Prelude.{is_some}
-use Rattle.std.proofs.Common.{◌≡◌, ℕ, ◌+◌, ◌*◌, ◌<◌, ◌==◌, ◌⊎◌, if◌then◌else◌, List, get_or, length, Option, None, Result, Ok, Err, true, codes, refl, sym, ap, subst, ◌∙◌, inl, inr, arith, below_more}
+use Rattle.std.proofs.Common.{◌≡◌, ℕ, ◌+◌, ◌*◌, ◌<◌, ◌==◌, ◌⊎◌, if◌then◌else◌, List, get_or, length}
+use Rattle.std.proofs.Common.{Option, None, Result, Ok, Err, true, codes, refl, sym, ap, subst, ◌∙◌}
+use Rattle.std.proofs.Common.{inl, inr, arith, below_more}
 use Rattle.std.proofs.lemmas.Bool.{cases_order}
 use Rattle.film_frames.specs.declared.stores.Stored.{Stored}
 use Rattle.rtsp_text.specs.Fields.{header_value}
@@ -9,9 +11,18 @@ use Rattle.session.specs.declared.methods.Method.{Method}
 use Rattle.session.specs.declared.methods.Method.TheVariants.{Options, Describe, Setup, Play, Pause, Teardown, GetParameter}
 use Rattle.session.specs.declared.states.State.{State as Stage}
 use Rattle.session.specs.declared.refusals.Refusal.{Refusal}
-use Rattle.session.specs.declared.refusals.Refusal.TheVariants.{BadRequest, Version, Method as Unknown, Option as Required, Session, Film, State, Transport, Parameter, Buffer, Range, Memory}
+use Rattle.session.specs.declared.refusals.Refusal.TheVariants.{BadRequest, Version}
+use Rattle.session.specs.declared.refusals.Refusal.TheVariants.{Method as Unknown}
+use Rattle.session.specs.declared.refusals.Refusal.TheVariants.{Option as Required, Session, Film}
+use Rattle.session.specs.declared.refusals.Refusal.TheVariants.{State, Transport, Parameter, Buffer}
+use Rattle.session.specs.declared.refusals.Refusal.TheVariants.{Range, Memory}
 use Rattle.session.specs.declared.refusals.Task.{Task}
-use Rattle.session.specs.declared.refusals.Task.TheVariants.{Options as ToOptions, Describe as ToDescribe, Setup as ToSetup, Play as ToPlay, Pause as ToPause, Teardown as ToTeardown, GetParameter as ToGetParameter}
+use Rattle.session.specs.declared.refusals.Task.TheVariants.{Options as ToOptions}
+use Rattle.session.specs.declared.refusals.Task.TheVariants.{Describe as ToDescribe}
+use Rattle.session.specs.declared.refusals.Task.TheVariants.{Setup as ToSetup, Play as ToPlay}
+use Rattle.session.specs.declared.refusals.Task.TheVariants.{Pause as ToPause}
+use Rattle.session.specs.declared.refusals.Task.TheVariants.{Teardown as ToTeardown}
+use Rattle.session.specs.declared.refusals.Task.TheVariants.{GetParameter as ToGetParameter}
 use Rattle.session.specs.Standings.{has_session_in}
 use Rattle.session.specs.Judging.{FitsSession, FitsState, HasFilm, IsJudged, IsTaskOf, method_of, name_of, required_of}
 

@@ -1,5 +1,6 @@
 -- What a halt leaves of a play.
-use Rattle.std.proofs.Common.{◌≡◌, ℕ, ◌+◌, ◌<◌, ◌≤◌, min, nat_lt, ◌==◌, true, false, List, Option, Some, None, refl, sym, ap, subst, ◌∙◌, eq-eqb, inl, inr, arith}
+use Rattle.std.proofs.Common.{◌≡◌, ℕ, ◌+◌, ◌<◌, ◌≤◌, min, nat_lt, ◌==◌, true, false, List, Option}
+use Rattle.std.proofs.Common.{Some, None, refl, sym, ap, subst, ◌∙◌, eq-eqb, inl, inr, arith}
 use Rattle.std.proofs.lemmas.Bool.{cases_lt, lt-ltb}
 use Rattle.plan_cert.proofs.SlotLaws.{sum_through_rises}
 use Rattle.plan_cert.proofs.SlotSums.{sum_through-past}

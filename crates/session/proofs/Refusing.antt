@@ -6,7 +6,10 @@ use Rattle.rtsp_text.specs.Replies.{Field, reply_front, reply_text, status_line}
 use Rattle.session.specs.declared.asks.Ask.{Ask}
 use Rattle.session.specs.declared.asks.Ask.TheVariants.{Reply, Play as AskPlay, Halt as AskHalt, Look as AskLook, Offer as AskOffer}
 use Rattle.session.specs.declared.refusals.Refusal.{Refusal}
-use Rattle.session.specs.declared.refusals.Refusal.TheVariants.{BadRequest, Version, Method, Option as Required, Session, Film, State as NotNow, Transport, Parameter, Buffer, Range, Memory}
+use Rattle.session.specs.declared.refusals.Refusal.TheVariants.{BadRequest, Version, Method}
+use Rattle.session.specs.declared.refusals.Refusal.TheVariants.{Option as Required, Session, Film}
+use Rattle.session.specs.declared.refusals.Refusal.TheVariants.{State as NotNow, Transport}
+use Rattle.session.specs.declared.refusals.Refusal.TheVariants.{Parameter, Buffer, Range, Memory}
 use Rattle.session.specs.Changes.{HasCode, IsNoRefusal, RefusesNone}
 use Rattle.session.specs.Hearings.{Hears}
 use Rattle.session.specs.Laws.{Is500, IsWanting, MayWantMemory, NeverLacks}

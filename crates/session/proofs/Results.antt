@@ -1,5 +1,7 @@
 -- What a message comes to: the one analysis of it by cases, above which the laws stand.
-use Rattle.std.proofs.Common.{◌≡◌, ◌≢◌, ℕ, ◌<◌, ◌≤◌, ◌⊎◌, Bool, true, false, List, [], length, Option, Some, None, Result, Ok, Err, codes, refl, sym, subst, inl, inr, arith}
+use Rattle.std.proofs.Common.{◌≡◌, ◌≢◌, ℕ, ◌<◌, ◌≤◌, ◌⊎◌, Bool, true, false, List, [], length}
+use Rattle.std.proofs.Common.{Option, Some, None, Result, Ok, Err, codes, refl, sym, subst, inl}
+use Rattle.std.proofs.Common.{inr, arith}
 use Rattle.std.proofs.lemmas.Option.{slice_get_within}
 use Rattle.film_frames.specs.declared.stores.Stored.{Stored}
 use Rattle.film_run.specs.declared.runs.Run.{Run}
@@ -14,9 +16,17 @@ use Rattle.session.specs.declared.methods.Topic.{Topic}
 use Rattle.session.specs.declared.methods.Topic.TheVariants.{Nothing as NoTopic, Booked, Offer as OfferTopic, Unknown}
 use Rattle.session.specs.declared.plans.Planned.{Planned}
 use Rattle.session.specs.declared.refusals.Refusal.{Refusal}
-use Rattle.session.specs.declared.refusals.Refusal.TheVariants.{BadRequest, Version, Method, Option as Required, Session, Film, State as NotNow, Transport, Parameter, Buffer, Range, Memory}
+use Rattle.session.specs.declared.refusals.Refusal.TheVariants.{BadRequest, Version, Method}
+use Rattle.session.specs.declared.refusals.Refusal.TheVariants.{Option as Required, Session, Film}
+use Rattle.session.specs.declared.refusals.Refusal.TheVariants.{State as NotNow, Transport}
+use Rattle.session.specs.declared.refusals.Refusal.TheVariants.{Parameter, Buffer, Range, Memory}
 use Rattle.session.specs.declared.refusals.Task.{Task}
-use Rattle.session.specs.declared.refusals.Task.TheVariants.{Options as ToOptions, Describe as ToDescribe, Setup as ToSetup, Play as ToPlay, Pause as ToPause, Teardown as ToTeardown, GetParameter as ToGetParameter}
+use Rattle.session.specs.declared.refusals.Task.TheVariants.{Options as ToOptions}
+use Rattle.session.specs.declared.refusals.Task.TheVariants.{Describe as ToDescribe}
+use Rattle.session.specs.declared.refusals.Task.TheVariants.{Setup as ToSetup, Play as ToPlay}
+use Rattle.session.specs.declared.refusals.Task.TheVariants.{Pause as ToPause}
+use Rattle.session.specs.declared.refusals.Task.TheVariants.{Teardown as ToTeardown}
+use Rattle.session.specs.declared.refusals.Task.TheVariants.{GetParameter as ToGetParameter}
 use Rattle.session.specs.declared.settings.Settings.{Settings}
 use Rattle.session.specs.declared.states.Awaited.TheVariants.{Play}
 use Rattle.session.specs.declared.states.Next.{Next}
@@ -29,14 +39,16 @@ use Rattle.session.specs.EndLaws.{IsTeardown}
 use Rattle.session.specs.Hearings.{Hears, HearsOn, is_answered, is_torn}
 use Rattle.session.specs.Judging.{IsJudged, IsReadAs, IsTopic, IsWord, fault_refusal, option_of}
 use Rattle.session.specs.Laws.{IsOfMethod, IsWanting, MayWantMemory}
-use Rattle.session.specs.Methods.{AsksHalt, AsksLook, AsksOffer, AsksOfferOr, AsksPlayOr, Gets, GetsOffer, IsRefused, IsReplied, IsSetUp, Looks, Pauses, Plays, Takes, TearsDown, play_front, prepared_of}
+use Rattle.session.specs.Methods.{AsksHalt, AsksLook, AsksOffer, AsksOfferOr, AsksPlayOr, Gets}
+use Rattle.session.specs.Methods.{GetsOffer, IsRefused, IsReplied, IsSetUp, Looks, Pauses, Plays}
+use Rattle.session.specs.Methods.{Takes, TearsDown, play_front, prepared_of}
 use Rattle.session.specs.Planning.{IsPlanned, IsPlannedRun}
 use Rattle.session.specs.Ranges.{AreSettings, IsSetup}
 use Rattle.session.specs.Replies.{setup_text}
 use Rattle.session.specs.Setups.{AsksForSetup, IsChosen, IsSetupRead}
 use Rattle.session.specs.Standings.{IsReadyIn, Standing, has_session_in, with_reply}
 use Rattle.session.proofs.Playables.{of_film}
-use Rattle.session.proofs.OneHearing.{first_is}
+use Rattle.session.proofs.OneReading.{first_sequence_is}
 
 pub data ComesTo (old : Standing) (message : List ℕ) (ask : Ask) (new : Standing) : Type 0 where
   -- memory is wanting
@@ -292,7 +304,7 @@ module _ (old : Standing) (message : List ℕ) (ask : Ask) (new : Standing) wher
       Refuses (first_sequence message) (fault_refusal fault.fault) [] (fault_refuses fault.fault) fault.refused
   hears_on_to false linked (inr whole) =
       takes_to whole.request whole.hears.judgement linked whole.is_request
-      (first_is message whole.request.sequence whole.is_request.sequence_is)
+      (first_sequence_is message whole.request.sequence whole.is_request.sequence_is)
       whole.hears.judged whole.hears.takes
 
   pub comes_to : Hears old message ask new → Comes

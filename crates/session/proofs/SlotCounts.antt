@@ -1,5 +1,7 @@
 -- The slots that are missed, and a play that is done.
-use Rattle.std.proofs.Common.{◌≡◌, ℕ, zero, suc, ◌+◌, ◌-◌, ◌^◌, ◌<◌, ◌≤◌, ◌&&◌, Bool, true, false, cond, eqb, ltb, leb, max, sum_by, refl, ap, ◌∙◌, add-one, arith, inl, inr}
+use Rattle.std.proofs.Common.{◌≡◌, ℕ, zero, suc, ◌+◌, ◌-◌, ◌^◌, ◌<◌, ◌≤◌, ◌&&◌, Bool, true, false}
+use Rattle.std.proofs.Common.{cond, eqb, ltb, leb, max, sum_by, refl, ap, ◌∙◌, add-one, arith, inl}
+use Rattle.std.proofs.Common.{inr}
 use Rattle.std.specs.List.{range_with_len}
 use Rattle.std.proofs.lemmas.Bool.{cases_lt}
 use Rattle.std.proofs.lemmas.Bool.Decides.{nat_tests}
@@ -10,7 +12,9 @@ use Rattle.session.specs.declared.states.Play.{Play as Played}
 use Rattle.session.specs.declared.states.Setup.{Setup}
 use Rattle.session.specs.declared.states.State.TheVariants.{Playing}
 use Rattle.session.specs.PlayLaws.{slots_missed}
-use Rattle.session.specs.Sendings.{after_play, finished_in, is_between, is_sending, is_taken, missed_between, sent_due, sent_reply, sent_slot, after_slot, start_in, stepped_in}
+use Rattle.session.specs.Sendings.{after_play, finished_in, is_between, is_sending, is_taken}
+use Rattle.session.specs.Sendings.{missed_between, sent_due, sent_reply, sent_slot, after_slot}
+use Rattle.session.specs.Sendings.{start_in, stepped_in}
 use Rattle.session.specs.Standings.{HaltAnswer, Standing, awaited_answer, awaited_answer_of}
 
 abbrev is_missed : ℕ → ℕ → ℕ → ℕ

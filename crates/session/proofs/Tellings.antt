@@ -1,12 +1,18 @@
 -- What replies tell is read in their fields.
-use Rattle.std.proofs.Common.{◌≡◌, ◌≢◌, ℕ, ◌+◌, ◌-◌, ◌*◌, ◌/◌, ◌%◌, ◌^◌, ◌<◌, ◌≤◌, ◌&&◌, ◌==◌, not, nat_lt, nat_le, true, false, List, [], ◌∷◌, ◌++◌, length, take, drop, get_or, slice_range, slice_index, codes, decimal, string_bytes, Option, Some, None, Ok, add_comm, refl, sym, ap, subst, ◌∙◌, inl, inr, arith}
+use Rattle.std.proofs.Common.{◌≡◌, ◌≢◌, ℕ, ◌+◌, ◌-◌, ◌*◌, ◌/◌, ◌%◌, ◌^◌, ◌<◌, ◌≤◌, ◌&&◌, ◌==◌, not}
+use Rattle.std.proofs.Common.{nat_lt, nat_le, true, false, List, [], ◌∷◌, ◌++◌, length, take, drop}
+use Rattle.std.proofs.Common.{get_or, slice_range, slice_index, codes, decimal, string_bytes}
+use Rattle.std.proofs.Common.{Option, Some, None, Ok, add_comm, refl, sym, ap, subst, ◌∙◌, inl, inr}
+use Rattle.std.proofs.Common.{arith}
 use Rattle.std.proofs.Math.Nat.{div-mul-le_self, mul-le-mul}
 use Rattle.std.specs.List.{list_all}
 use Rattle.std.specs.Char.{is_ascii_digit}
 use Rattle.std.proofs.lemmas.Bool.{and_from, and_parts}
 use Rattle.std.proofs.lemmas.Bool.Decides.{nat_tests}
 use Rattle.std.proofs.lemmas.Fmt.{digits_decimal}
-use Rattle.std.proofs.lemmas.List.{append-nil, append_assoc, drop_at, get_or-append_right, get_or-drop, get_or-take, get_or_append_left, length-append, length-drop, length-take, take_all, take_at}
+use Rattle.std.proofs.lemmas.List.{append-nil, append_assoc, drop_at, get_or-append_right}
+use Rattle.std.proofs.lemmas.List.{get_or-drop, get_or-take, get_or_append_left, length-append}
+use Rattle.std.proofs.lemmas.List.{length-drop, length-take, take_all, take_at}
 use Rattle.std.proofs.lemmas.List.Folds.{list_all-append, list_all_at}
 use Rattle.vod_base.specs.Names.{is_good_name, is_name_byte}
 use Rattle.mpeg_scan.specs.declared.films.Film.{Film}
@@ -30,7 +36,10 @@ use Rattle.rtsp_text.proofs.Texts.{front_field, whole_reply}
 use Rattle.session.specs.declared.asks.Ask.{Ask}
 use Rattle.session.specs.declared.plans.Planned.{Planned}
 use Rattle.session.specs.declared.refusals.Refusal.{Refusal}
-use Rattle.session.specs.declared.refusals.Refusal.TheVariants.{BadRequest, Version, Method, Option as Required, Session, Film as NoFilm, State, Transport, Parameter, Buffer, Range, Memory}
+use Rattle.session.specs.declared.refusals.Refusal.TheVariants.{BadRequest, Version, Method}
+use Rattle.session.specs.declared.refusals.Refusal.TheVariants.{Option as Required, Session}
+use Rattle.session.specs.declared.refusals.Refusal.TheVariants.{Film as NoFilm, State, Transport}
+use Rattle.session.specs.declared.refusals.Refusal.TheVariants.{Parameter, Buffer, Range, Memory}
 use Rattle.session.specs.declared.states.Setup.{Setup}
 use Rattle.session.specs.Films.{begins_at, identity_of, length_ms, milliseconds_at, sending_of, timestamp_at}
 use Rattle.session.specs.Hearings.{after_admission, after_full, after_look, after_overflow}
@@ -42,7 +51,9 @@ use Rattle.session.specs.Standings.{Standing, sequence_of}
 use Rattle.std.specs.Int.{w32, to_be_bytes}
 use Rattle.hex.specs.Hex.{encode_lower}
 use Rattle.session.specs.declared.states.Counts.{Counts}
-use Rattle.session.specs.Telling.{AreTicks, IsFilmTold, IsFullTold, IsLookTold, IsOverflowTold, IsPlayTold, IsSetupTold, IsShort, IsStartTold, IsTellable, TellsInfo, TellsSpan, phrase_of}
+use Rattle.session.specs.Telling.{AreTicks, IsFilmTold, IsFullTold, IsLookTold, IsOverflowTold}
+use Rattle.session.specs.Telling.{IsPlayTold, IsSetupTold, IsShort, IsStartTold, IsTellable}
+use Rattle.session.specs.Telling.{TellsInfo, TellsSpan, phrase_of}
 use Rattle.session.proofs.Numbers.{number_goes_on}
 use Rattle.session.proofs.Sums.{sum_mod}
 

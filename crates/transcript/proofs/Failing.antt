@@ -12,10 +12,14 @@ use Rattle.session.specs.declared.states.Awaited.{Awaited}
 use Rattle.session.specs.declared.states.Awaited.TheVariants.{Nothing, Halt}
 use Rattle.session.specs.declared.states.Next.TheVariants.{Done}
 use Rattle.session.specs.Hearings.{after_halt}
-use Rattle.session.specs.Sendings.{can_reply, due_bytes, after_play, is_between, is_done_in, is_sending, is_taken, sent_due, sent_in, sent_slot, step_bytes, stepped_in}
+use Rattle.session.specs.Sendings.{can_reply, due_bytes, after_play, is_between, is_done_in}
+use Rattle.session.specs.Sendings.{is_sending, is_taken, sent_due, sent_in, sent_slot, step_bytes}
+use Rattle.session.specs.Sendings.{stepped_in}
 use Rattle.session.specs.Standings.{Standing, awaited_answer, awaited_answer_of}
 use Rattle.conn.specs.Rounds.{EndsInReply, HasFailedInSlot, IsFront, Round, Runs, round_bytes, takings_bytes}
-use Rattle.conn.specs.Turns.{Answered, Entered, Film, IsFinished, Outcome, Stage, Taking, TakesAll, Text, Unasked, after_reply, due_parts, parts_bytes, reply_parts, slot_parts, stage}
+use Rattle.conn.specs.Turns.{Answered, Entered, Film, IsFinished, Outcome, Stage, Taking, TakesAll}
+use Rattle.conn.specs.Turns.{Text, Unasked, after_reply, due_parts, parts_bytes, reply_parts}
+use Rattle.conn.specs.Turns.{slot_parts, stage}
 use Rattle.transcript.specs.Courses.{Course, Follows, first_stage, rounds_bytes}
 use Rattle.transcript.specs.Failures.{IsCutShort}
 use Rattle.transcript.proofs.Filming.{Stands, course_step, stands_by, reply_awaited}

@@ -1,5 +1,7 @@
 -- What a connection writes of films, event by event, is what is due of its plays.
-use Rattle.std.proofs.Common.{◌≡◌, ℕ, ◌^◌, ◌<◌, ◌≤◌, ◌++◌, ◌&&◌, ◌==◌, if◌then◌else◌, Bool, true, false, nat_lt, nat_le, List, [], ◌∷◌, take, refl, ap, sym, ◌∙◌, subst, arith}
+use Rattle.std.proofs.Common.{◌≡◌, ℕ, ◌^◌, ◌<◌, ◌≤◌, ◌++◌, ◌&&◌, ◌==◌, if◌then◌else◌, Bool, true}
+use Rattle.std.proofs.Common.{false, nat_lt, nat_le, List, [], ◌∷◌, take, refl, ap, sym, ◌∙◌, subst}
+use Rattle.std.proofs.Common.{arith}
 use Rattle.conn.proofs.Playing.{reply_state, reply_heard}
 use Rattle.std.proofs.lemmas.Bool.{eqb-true, ltb-true, true≢false, and_parts}
 use Rattle.std.proofs.lemmas.List.{append-nil}
@@ -15,11 +17,15 @@ use Rattle.session.specs.declared.states.Play.{Play as Played}
 use Rattle.session.specs.declared.states.Setup.{Setup}
 use Rattle.session.specs.declared.states.State.{State}
 use Rattle.session.specs.declared.states.State.TheVariants.{Init, Ready, Playing, Stopping}
-use Rattle.session.specs.Sendings.{can_reply, after_play, halted_in, is_between, is_done_in, is_sending, sent_due, sent_in, sent_reply, sent_slot, after_slot, stepped_in}
+use Rattle.session.specs.Sendings.{can_reply, after_play, halted_in, is_between, is_done_in}
+use Rattle.session.specs.Sendings.{is_sending, sent_due, sent_in, sent_reply, sent_slot, after_slot}
+use Rattle.session.specs.Sendings.{stepped_in}
 use Rattle.session.specs.Standings.{NoAnswer, Standing, awaited_answer, awaited_answer_of}
 use Rattle.conn.specs.Films.{rounds_film}
 use Rattle.conn.specs.Rounds.{Comes, Round, Runs}
-use Rattle.conn.specs.Turns.{Outcome, Unasked, Entered, WasFull, Offered, Part, Stage, Taking, Passed, Answered, IsFinished, IsHaltAnswered, IsHalted, IsReplied, Takes, TakesAll, after_reply, due_parts, film_bytes, slot_parts}
+use Rattle.conn.specs.Turns.{Outcome, Unasked, Entered, WasFull, Offered, Part, Stage, Taking}
+use Rattle.conn.specs.Turns.{Passed, Answered, IsFinished, IsHaltAnswered, IsHalted, IsReplied}
+use Rattle.conn.specs.Turns.{Takes, TakesAll, after_reply, due_parts, film_bytes, slot_parts}
 use Rattle.transcript.specs.Courses.{Follows, asked_by, askings_of, round_askings, takings_askings}
 use Rattle.transcript.specs.Plays.{Asking, Asks, plays_admitted, plays_begun, kept_by, kept_in, kept_with, plays_of}
 use Rattle.transcript.proofs.Films.{IsFilm, IsOnTime, IsRest, IsSound, film_in, film_over, play_with}

@@ -10,7 +10,9 @@ use Rattle.session.specs.Sendings.{can_reply, after_play, is_between, is_sending
 use Rattle.session.specs.Standings.{Awaits, NoAnswer, PlayAnswer, HaltAnswer, LookAnswer, OfferAnswer, Standing, awaited_answer}
 use Rattle.conn.specs.Films.{rounds_film}
 use Rattle.conn.specs.Rounds.{Comes, Round}
-use Rattle.conn.specs.Turns.{Outcome, Unasked, Entered, WasFull, Offered, Part, Stage, Taking, Passed, Answered, IsFinished, IsHalted, TakesAll, after_reply, film_bytes}
+use Rattle.conn.specs.Turns.{Outcome, Unasked, Entered, WasFull, Offered, Part, Stage, Taking}
+use Rattle.conn.specs.Turns.{Passed, Answered, IsFinished, IsHalted, TakesAll, after_reply}
+use Rattle.conn.specs.Turns.{film_bytes}
 use Rattle.transcript.specs.Courses.{Follows, askings_of, first_stage, greatest_slot, round_askings, slot_in}
 use Rattle.transcript.specs.Plays.{AreOver, Asking, film_written, plays_of}
 use Rattle.transcript.proofs.Films.{IsFilm, film_is, film_over_all, rest_none}

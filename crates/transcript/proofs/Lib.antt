@@ -1,43 +1,45 @@
-pub mod Occasions
-pub mod Turning
-pub mod Films
-pub mod Steps
-pub mod Slots
-pub mod Filming
-pub mod Hearing
-pub mod Agreeing
-pub mod Following
-pub mod Booking
-pub mod Weaving
-pub mod Replying
-pub mod Once
-pub mod Paths
-pub mod TwoCuttings
-pub mod Places
-pub mod Waits
-pub mod Placed
-pub mod Replied
-pub mod Requests
-pub mod Streaming
-pub mod Counting
-pub mod Sums
-pub mod Blocks
-pub mod Units
-pub mod Firsts
-pub mod ClientHearing
-pub mod Reading
-pub mod Film
-pub mod Finishing
-pub mod Readings
-pub mod Watching
-pub mod Serving
-pub mod Curves
-pub mod Woven
-pub mod Promised
-pub mod Told
-pub mod Asked
-pub mod Noting
-pub mod NotedCourses
-pub mod Receipting
-pub mod Missing
-pub mod Failing
+mod Occasions
+mod Turning
+mod Films
+mod Steps
+mod Slots
+mod Filming
+mod Hearing
+mod Agreeing
+mod Following
+mod Booking
+mod Weaving
+mod Replying
+mod Once
+mod Paths
+mod TwoCuttings
+mod Places
+mod Waits
+mod Placed
+mod Moves
+mod SlotMoves
+mod Replied
+mod Requests
+mod Streaming
+mod Counting
+mod Sums
+mod Blocks
+mod Units
+mod Firsts
+mod ClientHearing
+mod Reading
+mod Film
+mod Finishing
+mod Readings
+mod Watching
+mod Serving
+mod Curves
+mod Woven
+mod Promised
+mod Told
+mod Asked
+mod Noting
+mod NotedCourses
+mod Receipting
+mod Missing
+mod Failing

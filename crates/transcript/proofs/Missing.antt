@@ -10,12 +10,16 @@ use Rattle.session.specs.declared.asks.Ask.{Ask}
 use Rattle.session.specs.declared.asks.Ask.TheVariants.{Reply as AskReply, Play as AskPlay, Halt as AskHalt, Look as AskLook, Offer as AskOffer}
 use Rattle.session.specs.declared.settings.Settings.{Settings}
 use Rattle.session.specs.PlayLaws.{slots_missed}
-use Rattle.session.specs.Sendings.{can_reply, after_play, is_between, is_sending, is_taken, missed_between, sent_due, sent_reply, sent_slot, after_slot, start_in, stepped_in}
+use Rattle.session.specs.Sendings.{can_reply, after_play, is_between, is_sending, is_taken}
+use Rattle.session.specs.Sendings.{missed_between, sent_due, sent_reply, sent_slot, after_slot}
+use Rattle.session.specs.Sendings.{start_in, stepped_in}
 use Rattle.session.specs.Standings.{Awaits, HaltAnswer, LookAnswer, NoAnswer, OfferAnswer, Open, PlayAnswer, Standing, awaited_answer, open_of}
 use Rattle.session.proofs.SlotCounts.{missed_is}
 use Rattle.session.proofs.Shapes.{HearsAs, Replies, SetsUp, AsksPlay, Stops, AsksLook, AsksOffer, hears_as}
 use Rattle.conn.specs.Rounds.{Comes, Ending, Unheard, PeerEnded, Overfull, AtPiece, InSlot, InReply, Ends, Round, Runs, RunsAll}
-use Rattle.conn.specs.Turns.{HasHeard, IsAnswered, IsClosed, IsFinished, IsHalted, IsLookAnswered, IsPlayAnswered, Outcome, Unasked, Entered, WasFull, Offered, Part, Stage, Taking, Passed, Answered, TakesAll}
+use Rattle.conn.specs.Turns.{HasHeard, IsAnswered, IsClosed, IsFinished, IsHalted, IsLookAnswered}
+use Rattle.conn.specs.Turns.{IsPlayAnswered, Outcome, Unasked, Entered, WasFull, Offered, Part}
+use Rattle.conn.specs.Turns.{Stage, Taking, Passed, Answered, TakesAll}
 use Rattle.conn.specs.declared.reports.ConnEnd.{ConnEnd}
 use Rattle.conn.specs.declared.reports.ConnReport.{ConnReport}
 use Rattle.transcript.specs.Agreement.{Doings, HasDone}

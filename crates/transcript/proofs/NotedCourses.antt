@@ -9,21 +9,31 @@ use Rattle.session.specs.declared.states.Awaited.TheVariants.{Nothing, Play, Hal
 use Rattle.session.specs.declared.states.Next.{Next}
 use Rattle.session.specs.declared.states.State.{State}
 use Rattle.session.specs.declared.states.State.TheVariants.{Init, Ready, Playing, Stopping}
-use Rattle.session.specs.Sendings.{can_reply, due_state, after_play, is_between, is_sending, is_taken, kept_of, sent_due, sent_reply, sent_slot, after_slot, stepped_in}
+use Rattle.session.specs.Sendings.{can_reply, due_state, after_play, is_between, is_sending}
+use Rattle.session.specs.Sendings.{is_taken, kept_of, sent_due, sent_reply, sent_slot, after_slot}
+use Rattle.session.specs.Sendings.{stepped_in}
 use Rattle.session.specs.Standings.{NoAnswer, Standing, awaited_answer_of, open_in}
 use Rattle.session.specs.Steps.{IsCarried, after_stop}
-use Rattle.conn.specs.Rounds.{Comes, Ending, Unheard, PeerEnded, Overfull, AtPiece, InSlot, InReply, Ends, Round, Runs, RunsAll, ending_outcomes, round_outcomes, rounds_outcomes, takings_outcomes}
-use Rattle.conn.specs.Turns.{IsClosed, IsFinished, IsHalted, Outcome, Unasked, Entered, WasFull, Offered, Part, Stage, Taking, Passed, Answered, TakesAll, after_reply, film_bytes}
+use Rattle.conn.specs.Rounds.{Comes, Ending, Unheard, PeerEnded, Overfull, AtPiece, InSlot, InReply}
+use Rattle.conn.specs.Rounds.{Ends, Round, Runs, RunsAll, ending_outcomes, round_outcomes}
+use Rattle.conn.specs.Rounds.{rounds_outcomes, takings_outcomes}
+use Rattle.conn.specs.Turns.{IsClosed, IsFinished, IsHalted, Outcome, Unasked, Entered, WasFull}
+use Rattle.conn.specs.Turns.{Offered, Part, Stage, Taking, Passed, Answered, TakesAll, after_reply}
+use Rattle.conn.specs.Turns.{film_bytes}
 use Rattle.conn.specs.declared.reports.ConnEnd.{ConnEnd}
 use Rattle.conn.specs.declared.reports.ConnReport.{ConnReport}
 use Rattle.transcript.specs.Agreement.{Doings, HasDone, doings_outcomes}
 use Rattle.conn.specs.Films.{rounds_film}
 use Rattle.transcript.specs.Courses.{askings_of, first_stage, round_askings}
-use Rattle.transcript.specs.Notes.{Turn, asking_at, ending_turns, notes_of_turns, notes_of, outcome_of, round_turns, rounds_turns, takings_turns, turn_of, turns_of}
+use Rattle.transcript.specs.Notes.{Turn, asking_at, ending_turns, notes_of_turns, notes_of}
+use Rattle.transcript.specs.Notes.{outcome_of, round_turns, rounds_turns, takings_turns, turn_of}
+use Rattle.transcript.specs.Notes.{turns_of}
 use Rattle.transcript.proofs.Filming.{Stands, course_step, round_step, stands_by, turn_after}
 use Rattle.transcript.proofs.Turning.{turns_as}
 use Rattle.transcript.proofs.Following.{follows_all}
-use Rattle.transcript.proofs.Noting.{Carries, IsKept, carries-as, carries-none, carries-then, halt-turn, halted-open, heard-on, no-halt-note, no-note, notes_until, open_note, unasked-turn}
+use Rattle.transcript.proofs.Noting.{Carries, IsKept, carries-as, carries-none, carries-then}
+use Rattle.transcript.proofs.Noting.{halt-turn, halted-open, heard-on, no-halt-note, no-note}
+use Rattle.transcript.proofs.Noting.{notes_until, open_note, unasked-turn}
 use Rattle.session.proofs.Carries.{nothing_of}
 use Rattle.conn.proofs.Telling.{CourseEnd}
 

@@ -12,7 +12,9 @@ use Rattle.session.specs.Ranges.{AreFilms}
 use Rattle.session.proofs.OneHearing.{hears_once}
 use Rattle.session.specs.Sendings.{can_reply, after_play, is_between, is_sending, is_taken, sent_due, sent_reply, sent_slot, after_slot, stepped_in}
 use Rattle.session.specs.Standings.{Awaits, NoAnswer, PlayAnswer, HaltAnswer, LookAnswer, OfferAnswer, Standing, awaited_answer}
-use Rattle.conn.specs.Turns.{Outcome, Unasked, Entered, WasFull, Offered, Part, HasStepped, IsAnswered, IsFinished, IsHalted, IsLookAnswered, IsPlayAnswered, after_reply}
+use Rattle.conn.specs.Turns.{Outcome, Unasked, Entered, WasFull, Offered, Part, HasStepped}
+use Rattle.conn.specs.Turns.{IsAnswered, IsFinished, IsHalted, IsLookAnswered, IsPlayAnswered}
+use Rattle.conn.specs.Turns.{after_reply}
 use Rattle.transcript.specs.Cuttings.{AreSameAnswers, Hearing, LackAlike, LacksMemory, answer_in}
 
 -- ---- a request is heard

@@ -1,5 +1,7 @@
 -- The pieces of a connection's input that are taken up, one after another: each byte CR or LF, each block, each request.
-use Rattle.std.proofs.Common.{◌≡◌, ◌⊎◌, ℕ, zero, suc, ◌<◌, ◌≤◌, ◌++◌, true, false, List, [], ◌∷◌, Ok, Err, length, take, drop, get_or, refl, ap, sym, ◌∙◌, subst, inl, inr, arith}
+use Rattle.std.proofs.Common.{◌≡◌, ◌⊎◌, ℕ, zero, suc, ◌<◌, ◌≤◌, ◌++◌, true, false, List, [], ◌∷◌}
+use Rattle.std.proofs.Common.{Ok, Err, length, take, drop, get_or, refl, ap, sym, ◌∙◌, subst, inl}
+use Rattle.std.proofs.Common.{inr, arith}
 use Rattle.std.proofs.lemmas.Bool.{both_ways, true≢false}
 use Rattle.std.proofs.lemmas.List.{append-nil, append_assoc, take-append-le, drop-append-le, length-append, get_or_append_left}
 use Rattle.interleave.specs.Heads.{is_line_end}
@@ -17,7 +19,9 @@ use Rattle.session.specs.Standings.{Standing}
 use Rattle.session.proofs.Changing.{hears_ground}
 use Rattle.conn.proofs.Sighting.{stage_is}
 use Rattle.conn.specs.Rounds.{IsStopped, takings_bytes, takings_outcomes}
-use Rattle.conn.specs.Turns.{Answered, IsAnswered, IsNext, IsPassed, IsReplied, Outcome, Part, Passed, Stage, Taking, TakesAll, after_reply, parts_bytes, reply_parts, stage}
+use Rattle.conn.specs.Turns.{Answered, IsAnswered, IsNext, IsPassed, IsReplied, Outcome, Part}
+use Rattle.conn.specs.Turns.{Passed, Stage, Taking, TakesAll, after_reply, parts_bytes, reply_parts}
+use Rattle.conn.specs.Turns.{stage}
 use Rattle.conn.specs.declared.reports.ConnEnd.{ConnEnd}
 use Rattle.conn.specs.declared.reports.ConnEnd.TheVariants.{Ended, TornDown, LinkFault, TooMuchInput, HeadTooLong, BodyTooLong, TurnsSpent, NoMemory}
 use Rattle.transcript.specs.Cuttings.{AllLackAlike, AreSameAnswers, Hearing, IsDone, LackAlike, answer_in, answers_in, takings_hearings}

@@ -1,5 +1,7 @@
 -- Each reply of a connection stands at the first boundary from what was due when its request was taken up.
-use Rattle.std.proofs.Common.{◌≡◌, ℕ, ◌+◌, ◌-◌, ◌<◌, ◌≤◌, ◌++◌, ◌&&◌, if◌then◌else◌, Bool, true, false, min, List, [], ◌∷◌, Option, Some, None, length, refl, ap, sym, ◌∙◌, subst, inl, arith}
+use Rattle.std.proofs.Common.{◌≡◌, ℕ, ◌+◌, ◌-◌, ◌<◌, ◌≤◌, ◌++◌, ◌&&◌, if◌then◌else◌, Bool, true}
+use Rattle.std.proofs.Common.{false, min, List, [], ◌∷◌, Option, Some, None, length, refl, ap, sym}
+use Rattle.std.proofs.Common.{◌∙◌, subst, inl, arith}
 use Rattle.conn.proofs.Replying.{boundary_here}
 use Rattle.std.proofs.lemmas.Bool.{true≢false}
 use Rattle.film_frames.specs.Runs.{run_pieces}
@@ -25,7 +27,9 @@ use Rattle.transcript.proofs.Films.{IsOnTime, IsSound, play_with, through_time}
 use Rattle.transcript.proofs.Places.{AreLater, StandAt, from_lower, later_lower, none_due, over_at, text_at}
 use Rattle.transcript.proofs.Slots.{ended_at, ending_cases, going_cases, parts_of, state_after, waits_after}
 use Rattle.transcript.proofs.Turning.{Begins, Ends, Ending, Going, Halts, Idle, IsStill, Sends, Starts, Stays, TurnsAs, pacing_for, sends_in}
-use Rattle.transcript.proofs.Waits.{Fits, GoesTo, IsHeld, Stand, after_slot, at_here, due_far, due_going, due_here, goes_same, held_here, parts_in, slot_at, still_held}
+use Rattle.transcript.proofs.Waits.{Fits, GoesTo, IsHeld, Stand, after_slot, at_here, due_far}
+use Rattle.transcript.proofs.Waits.{due_going, due_here, goes_same, held_here, parts_in, slot_at}
+use Rattle.transcript.proofs.Waits.{still_held}
 
 -- ---- a request is answered
 

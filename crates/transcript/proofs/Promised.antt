@@ -1,5 +1,6 @@
 -- The promise from a server to its client's meter.
-use Rattle.std.proofs.Common.{◌≡◌, ℕ, suc, ◌+◌, ◌-◌, ◌<◌, ◌≤◌, min, List, [], ◌∷◌, ◌++◌, length, take, drop, map, sum, refl, sym, ap, subst, ◌∙◌, arith, inl, inr}
+use Rattle.std.proofs.Common.{◌≡◌, ℕ, suc, ◌+◌, ◌-◌, ◌<◌, ◌≤◌, min, List, [], ◌∷◌, ◌++◌, length}
+use Rattle.std.proofs.Common.{take, drop, map, sum, refl, sym, ap, subst, ◌∙◌, arith, inl, inr}
 use Rattle.conn.proofs.Telling.{parts-more}
 use Rattle.std.proofs.lemmas.Bool.{cases_lt}
 use Rattle.std.proofs.lemmas.List.{length-map, length-take, take_all, take-take}
@@ -45,7 +46,10 @@ use Rattle.transcript.proofs.Serving.{askings-parts, course-late, late-play, one
 use Rattle.transcript.proofs.Following.{parts_of}
 use Rattle.transcript.proofs.Streaming.{AreAlone, alone-append}
 use Rattle.transcript.proofs.Units.{blocks-one}
-use Rattle.transcript.proofs.Woven.{AreEvents, IsCounted, IsEvent, IsFromTo, IsFrontOf, all-woven, counted-by, framed-append, parts-length, rounds-latest, rounds-sent, texts-parts, texts-within, texts_length, whole-rounds}
+use Rattle.transcript.proofs.Woven.{AreEvents, IsCounted, IsEvent, IsFromTo, IsFrontOf, all-woven}
+use Rattle.transcript.proofs.Woven.{counted-by, framed-append, parts-length, rounds-latest}
+use Rattle.transcript.proofs.Woven.{rounds-sent, texts-parts, texts-within, texts_length}
+use Rattle.transcript.proofs.Woven.{whole-rounds}
 
 -- ---- the stream
 

@@ -1,6 +1,8 @@
 -- What a client reads its meter by, where what came is a front of two replies, a film's blocks and
 -- later replies.
-use Rattle.std.proofs.Common.{◌≡◌, ℕ, zero, suc, ◌+◌, ◌-◌, ◌<◌, ◌≤◌, ◌==◌, ◌&&◌, ◌||◌, Bool, true, false, nat_lt, cond, min, List, [], ◌∷◌, ◌++◌, length, take, get_or, refl, sym, ap, subst, ◌∙◌, arith, inl, inr}
+use Rattle.std.proofs.Common.{◌≡◌, ℕ, zero, suc, ◌+◌, ◌-◌, ◌<◌, ◌≤◌, ◌==◌, ◌&&◌, ◌||◌, Bool, true}
+use Rattle.std.proofs.Common.{false, nat_lt, cond, min, List, [], ◌∷◌, ◌++◌, length, take, get_or}
+use Rattle.std.proofs.Common.{refl, sym, ap, subst, ◌∙◌, arith, inl, inr}
 use Rattle.std.proofs.lemmas.Bool.{cases_lt, cond-true, cond-false, eq-eqb, lt-ltb, or_left, or_right}
 use Rattle.std.proofs.lemmas.List.{get_or-take, length-take-le, take-append-le, take_all}
 use Rattle.std.proofs.Math.Seq.{take-append-add}
@@ -13,7 +15,9 @@ use Rattle.film_frames.specs.Tracks.{framed_bytes}
 use Rattle.rtsp_client.specs.Answers.{block_moments, cut_bytes, moments_in, moments_of}
 use Rattle.rtsp_client.specs.Courses.{Stage}
 use Rattle.rtsp_client.specs.Moments.{Moment, Reply, replies}
-use Rattle.transcript.proofs.Counting.{count-bytes, count-less, count-more, count-most, count-past, count-whole, count-within, rest-less, rest-more, rest-past, rest-within}
+use Rattle.transcript.proofs.Counting.{count-bytes, count-less, count-more, count-most, count-past}
+use Rattle.transcript.proofs.Counting.{count-whole, count-within, rest-less, rest-more, rest-past}
+use Rattle.transcript.proofs.Counting.{rest-within}
 use Rattle.transcript.proofs.ClientHearing.{Heard, no_sum}
 use Rattle.transcript.proofs.Streaming.{AreAlone, IsAlone, cut-at, rest_at}
 use Rattle.transcript.proofs.Sums.{AreOneBlocks, Sum, blocks-same, step, steps, steps-on, sum_of}

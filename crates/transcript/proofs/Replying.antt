@@ -8,11 +8,15 @@ use Rattle.session.specs.declared.states.Awaited.{Awaited}
 use Rattle.session.specs.declared.states.Awaited.TheVariants.{Nothing, Halt}
 use Rattle.session.specs.declared.states.Next.TheVariants.{Done}
 use Rattle.session.specs.Hearings.{is_answered}
-use Rattle.session.specs.Sendings.{can_reply, after_play, is_between, is_done_in, is_sending, is_taken, next_of, sent_due, sent_in, sent_reply, sent_slot, after_slot, step_bytes, stepped_in}
+use Rattle.session.specs.Sendings.{can_reply, after_play, is_between, is_done_in, is_sending}
+use Rattle.session.specs.Sendings.{is_taken, next_of, sent_due, sent_in, sent_reply, sent_slot}
+use Rattle.session.specs.Sendings.{after_slot, step_bytes, stepped_in}
 use Rattle.session.specs.Standings.{Awaits, NoAnswer, PlayAnswer, HaltAnswer, LookAnswer, OfferAnswer, Standing, awaited_answer}
 use Rattle.conn.specs.Films.{round_parts, rounds_parts, takings_parts}
 use Rattle.conn.specs.Rounds.{Round}
-use Rattle.conn.specs.Turns.{Answered, Entered, Film, IsFinished, IsHalted, IsReplied, Offered, Outcome, Part, Passed, Stage, Taking, TakesAll, Text, Unasked, WasFull, due_parts, film_bytes, slot_parts}
+use Rattle.conn.specs.Turns.{Answered, Entered, Film, IsFinished, IsHalted, IsReplied, Offered}
+use Rattle.conn.specs.Turns.{Outcome, Part, Passed, Stage, Taking, TakesAll, Text, Unasked, WasFull}
+use Rattle.conn.specs.Turns.{due_parts, film_bytes, slot_parts}
 use Rattle.transcript.specs.Courses.{Follows, askings_of, first_stage, greatest_slot, rounds_bytes, round_askings}
 use Rattle.transcript.specs.Plays.{film_written, plays_of}
 use Rattle.transcript.specs.Replies.{placed_texts, replies_of, takings_replies, text_of, waiting_reply, with_texts}

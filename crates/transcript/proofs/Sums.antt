@@ -1,10 +1,15 @@
 -- What a client's history comes to, but for its slots: a sum that each moment adds to.
-use Rattle.std.proofs.Common.{◌≡◌, ℕ, zero, suc, ◌+◌, ◌<◌, ◌≤◌, ◌⊎◌, ◌==◌, ◌&&◌, Bool, true, false, not, nat_lt, if◌then◌else◌, List, [], ◌∷◌, ◌++◌, length, take, drop, get_or, unwrap_or, refl, sym, subst, ◌∙◌, append_assoc, arith, inl, inr}
+use Rattle.std.proofs.Common.{◌≡◌, ℕ, zero, suc, ◌+◌, ◌<◌, ◌≤◌, ◌⊎◌, ◌==◌, ◌&&◌, Bool, true, false}
+use Rattle.std.proofs.Common.{not, nat_lt, if◌then◌else◌, List, [], ◌∷◌, ◌++◌, length, take, drop}
+use Rattle.std.proofs.Common.{get_or, unwrap_or, refl, sym, subst, ◌∙◌, append_assoc, arith, inl}
+use Rattle.std.proofs.Common.{inr}
 use Rattle.std.proofs.lemmas.Bool.{cond-true, cond-false, ne_eqb}
 use Rattle.std.proofs.lemmas.List.{append-nil, length-append}
 use Rattle.film_frames.specs.Tracks.{framed_bytes}
 use Rattle.rtsp_client.specs.Replies.{play_range}
-use Rattle.rtsp_client.specs.Moments.{History, Moment, Frame, Reply, Report, Slot, end_ms, first_frame, frames, is_inside, is_last, payloads, bytes_pending, bytes_received, replies, sizes}
+use Rattle.rtsp_client.specs.Moments.{History, Moment, Frame, Reply, Report, Slot, end_ms}
+use Rattle.rtsp_client.specs.Moments.{first_frame, frames, is_inside, is_last, payloads}
+use Rattle.rtsp_client.specs.Moments.{bytes_pending, bytes_received, replies, sizes}
 use Rattle.rtsp_client.specs.Answers.{after, moments_in, moments_of, payloads_of}
 
 pub record Sum : Type 0 where

@@ -8,9 +8,13 @@ use Rattle.conn.specs.Rounds.{Round, Runs, RunsAll, IsStopped, rounds_outcomes, 
 use Rattle.conn.specs.Turns.{HasStepped, Outcome, Part, Stage, parts_bytes, stage}
 use Rattle.conn.specs.declared.reports.ConnEnd.{ConnEnd}
 use Rattle.transcript.specs.Courses.{first_stage, rounds_bytes}
-use Rattle.transcript.specs.Cuttings.{AllLackAlike, HearAlike, SendAlike, AreSameAnswers, Beginning, Cutting, Hearing, IsDone, TakesUp, all_heard, answer_in, answers_in, heard_in, hearings_in, takings_hearings}
+use Rattle.transcript.specs.Cuttings.{AllLackAlike, HearAlike, SendAlike, AreSameAnswers, Beginning}
+use Rattle.transcript.specs.Cuttings.{Cutting, Hearing, IsDone, TakesUp, all_heard, answer_in}
+use Rattle.transcript.specs.Cuttings.{answers_in, heard_in, hearings_in, takings_hearings}
 use Rattle.transcript.proofs.Once.{stepped_films, steps_same}
-use Rattle.transcript.proofs.Paths.{GoesAll, Path, Piece, ends_same, goes_films, goes_grow, join_answers, join_bytes, join_goes, join_hearings, longer, path_of, pieces_answers, pieces_bytes, pieces_hearings}
+use Rattle.transcript.proofs.Paths.{GoesAll, Path, Piece, ends_same, goes_films, goes_grow}
+use Rattle.transcript.proofs.Paths.{join_answers, join_bytes, join_goes, join_hearings, longer}
+use Rattle.transcript.proofs.Paths.{path_of, pieces_answers, pieces_bytes, pieces_hearings}
 use Rattle.conn.proofs.Occasions.{EventCome}
 
 -- a slot, and the bytes that came after it

@@ -1,5 +1,7 @@
 -- The sizes of units, as a client reads them from the frames and reports of a run.
-use Rattle.std.proofs.Common.{◌≡◌, ℕ, zero, suc, ◌+◌, ◌-◌, ◌<◌, ◌≤◌, ◌&&◌, Bool, true, false, not, nat_lt, List, [], ◌∷◌, ◌++◌, length, take, map, sum, refl, sym, ap, subst, ◌∙◌, append_assoc, arith, inl, inr}
+use Rattle.std.proofs.Common.{◌≡◌, ℕ, zero, suc, ◌+◌, ◌-◌, ◌<◌, ◌≤◌, ◌&&◌, Bool, true, false, not}
+use Rattle.std.proofs.Common.{nat_lt, List, [], ◌∷◌, ◌++◌, length, take, map, sum, refl, sym, ap}
+use Rattle.std.proofs.Common.{subst, ◌∙◌, append_assoc, arith, inl, inr}
 use Rattle.std.proofs.lemmas.Bool.{cases_lt, cond-true, cond-false, and_from}
 use Rattle.std.proofs.lemmas.List.{append-nil, length-append, take-append-le, take_all}
 use Rattle.std.proofs.lemmas.List.Sums.{sum_by-cons}
@@ -23,7 +25,9 @@ use Rattle.film_frames.proofs.TrackLemmas.{begin-all}
 use Rattle.rtsp_client.specs.Answers.{moments_in, moments_of}
 use Rattle.rtsp_client.specs.Moments.{Frame, Moment, Reply, Report, Slot, is_last}
 use Rattle.rtsp_client.specs.Promises.{frames_of}
-use Rattle.transcript.proofs.Blocks.{blocks-append, frame_block, frame_blocks, frame-moment, frames_after, last-is, octets_after, report_block, report_if, report-moment, unit-among, unit_blocks, unit-made, unit-one}
+use Rattle.transcript.proofs.Blocks.{blocks-append, frame_block, frame_blocks, frame-moment}
+use Rattle.transcript.proofs.Blocks.{frames_after, last-is, octets_after, report_block, report_if}
+use Rattle.transcript.proofs.Blocks.{report-moment, unit-among, unit_blocks, unit-made, unit-one}
 use Rattle.transcript.proofs.Counting.{count-past, count-within}
 use Rattle.transcript.proofs.Sums.{AreOneBlocks, Sum, blocks-one-append, blocks-same, plays, step, steps, steps-on}
 use Rattle.transcript.proofs.Blocks.{RunFrom}

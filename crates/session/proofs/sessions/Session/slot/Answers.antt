@@ -1,5 +1,7 @@
 use Rattle.std.proofs.Common.{◌≡◌, false, true, sym, ap, subst, ◌∙◌, rules, arith}
-use Rattle.session.specs.Inside.{Coming, IsAwaitedKept, IsGoing, IsKept, IsStateKept, IsStopAnswered, awaited_offers, awaited_plays, awaited_receipts, coming_of, open_receipts, standing_of}
+use Rattle.session.specs.Inside.{Coming, IsAwaitedKept, IsGoing, IsKept, IsStateKept}
+use Rattle.session.specs.Inside.{IsStopAnswered, awaited_offers, awaited_plays, awaited_receipts}
+use Rattle.session.specs.Inside.{coming_of, open_receipts, standing_of}
 use Rattle.session.specs.Sendings.{HaltsIfDone}
 use Rattle.session.specs.Standings.{IsAtRest}
 use Rattle.session.specs.Steps.{IsCarried, IsEven, after_stop}
