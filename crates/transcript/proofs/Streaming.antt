@@ -2,7 +2,7 @@
 use Rattle.std.proofs.Common.{◌≡◌, ℕ, suc, ◌+◌, ◌-◌, ◌<◌, nat_le, cond, List, [], ◌∷◌, ◌++◌, length, take, drop, refl, sym, ap, subst, ◌∙◌, arith, inl, inr}
 use Rattle.std.proofs.lemmas.Bool.{cases_lt, le-leb, lt-leb}
 use Rattle.std.proofs.lemmas.List.{append-nil, length-take-le, take-append-le, take-append-drop, take_all}
-use Rattle.std.proofs.Math.Seq.{drop-append-add, take-append-add}
+use Rattle.std.proofs.Math.Seq.{drop-append-add, take-append-add, take-nil}
 use Rattle.film_frames.specs.Runs.{count_ended}
 use Rattle.film_frames.specs.Tracks.{framed_bytes}
 use Rattle.interleave.specs.Streams.{AreCut, IsPieceLength, IsStream, LineEnd, WholeBlock, WholeRequest}
@@ -30,9 +30,6 @@ no-piece : (n : ℕ) → IsPieceLength [] n → ⊥
 no-piece n (LineEnd one some end) = omega (arith, some)
 no-piece n (WholeBlock starts four size inside) = omega (arith, four)
 no-piece n (WholeRequest starts size inside) = omega (arith, starts.0)
-
-take-none : (c : ℕ) (xs : List ℕ) → xs ≡ [] → take c xs ≡ []
-take-none c xs is = ap (λ l. take c l) is ∙ take_all c [] (omega arith)
 
 stream-cons : (p t : List ℕ) (ps : List (List ℕ)) (r : List ℕ) → IsAlone p → IsStream t ps r → IsStream (p ++ t) (p ∷ ps) r
 stream-cons p t ps r alone stream =
@@ -62,7 +59,7 @@ stream-short p t c alone less =
 -- a front of a stream is its whole pieces in front, and the front of the next one
 pub cut-at : (ps : List (List ℕ)) (c : ℕ) → AreAlone ps
     → IsStream (take c (framed_bytes ps)) (take (count_ended c ps) ps) (rest_at c ps)
-cut-at [] c alone = let P : List ℕ → Type 0 = λ xs. IsStream xs [] [] in subst P (sym (take-none c [] refl)) (refl, no-piece)
+cut-at [] c alone = let P : List ℕ → Type 0 = λ xs. IsStream xs [] [] in subst P (sym (take-nil c)) (refl, no-piece)
 cut-at (p ∷ ps) c alone =
     elim (cases_lt c (length p)) [
       | inl less ↦

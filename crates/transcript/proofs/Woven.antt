@@ -5,7 +5,7 @@ use Rattle.std.proofs.Common.{take, drop, map, refl, sym, ap, subst, ◌∙◌, 
 use Rattle.std.proofs.Common.{inr}
 use Rattle.std.proofs.lemmas.Bool.{cases_lt}
 use Rattle.std.proofs.lemmas.List.{append-nil, drop_all, length-append, length-take, take_all}
-use Rattle.std.proofs.Math.Seq.{take-append-add}
+use Rattle.std.proofs.Math.Seq.{drop-nil, take-append-add, take-nil}
 use Rattle.vod_base.specs.Links.{Doing, HeardBytes, HeardEnd, HeardSlot, Sent, sends}
 use Rattle.film_frames.specs.Tracks.{framed_bytes}
 use Rattle.conn.specs.Rounds.{Round, round_bytes, rounds_doings}
@@ -120,19 +120,13 @@ pub framed-append : (xs ys : List (List ℕ)) → framed_bytes (xs ++ ys) ≡ fr
 framed-append [] ys = refl
 framed-append (x ∷ xs) ys = ap (λ l. x ++ l) (framed-append xs ys) ∙ sym (append_assoc x (framed_bytes xs) (framed_bytes ys))
 
-take-nil : (n : ℕ) (l : List ℕ) → l ≡ [] → take n l ≡ []
-take-nil n l is = ap (λ x. take n x) is ∙ take_all n [] (omega arith)
-
-drop-nil : (n : ℕ) (l : List ℕ) → l ≡ [] → drop n l ≡ []
-drop-nil n l is = ap (λ x. drop n x) is ∙ drop_all n [] (omega arith)
-
 woven-texts : (from : ℕ) (film : List ℕ) (texts : List PlacedText) → film ≡ []
     → with_texts from film texts ≡ framed_bytes (map text_of texts)
 woven-texts from film [] none = none
 woven-texts from film (placed ∷ texts) none =
     let n = placed.place - from in
-    ap (λ l. l ++ (placed.text ++ with_texts placed.place (drop n film) texts)) (take-nil n film none)
-    ∙ ap (λ l. placed.text ++ l) (woven-texts placed.place (drop n film) texts (drop-nil n film none))
+    ap (λ l. l ++ (placed.text ++ with_texts placed.place (drop n film) texts)) (ap (take n) none ∙ take-nil n)
+    ∙ ap (λ l. placed.text ++ l) (woven-texts placed.place (drop n film) texts (ap (drop n) none ∙ drop-nil n))
 
 pub record IsFrontOf (bytes all : List ℕ) : Type 0 where
   pub count : ℕ
