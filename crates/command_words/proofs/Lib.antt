@@ -1,11 +1,11 @@
 pub mod WordLemmas
-pub mod CapacityLemmas
+mod CapacityLemmas
 pub mod SettingLemmas
-pub mod SpellingLemmas
+mod SpellingLemmas
 pub mod FilmLemmas
-pub mod ReadBack
-pub mod MeaningLemmas
-pub mod OrderLemmas
-pub mod DefaultLemmas
-pub mod FormLemmas
-pub mod AskedLemmas
+mod ReadBack
+mod MeaningLemmas
+mod OrderLemmas
+mod DefaultLemmas
+mod FormLemmas
+mod AskedLemmas

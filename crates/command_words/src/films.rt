@@ -11,7 +11,7 @@ use crate::settings::setting;
 use vod_base::good_name;
 
 /// The most films.
-const MOST_FILMS: usize = 64;
+const MAX_FILMS: usize = 64;
 
 /// The film that a word names, if it is a word of the key `film`.
 pub fn film_named<'a>(word: &'a str) -> Option<&'a str>
@@ -33,7 +33,7 @@ pub(crate) fn are_films(words: &[String]) -> bool
             count += 1;
         }
     }
-    1 <= count && count <= MOST_FILMS
+    1 <= count && count <= MAX_FILMS
 }
 
 /// Whether one of the words names that film.
