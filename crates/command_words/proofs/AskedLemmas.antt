@@ -1,5 +1,6 @@
 -- What words mean may be asked.
 use Rattle.std.proofs.Common.{◌≡◌, ℕ, ◌+◌, ◌-◌, ◌^◌, ◌≤◌, ◌&&◌, ◌==◌, All, List, [], ◌∷◌, ◌++◌, length, subst, arith, Option, Some, None, Bool, true, false, refl, codes, if◌then◌else◌, nat_le, nat_lt, length-append}
+use Rattle.std.specs.Int.{IsInRange}
 use Rattle.std.specs.List.{fold, list_all, position_or_len, slice_split}
 use Rattle.std.specs.Option.{option_and_then}
 use Rattle.std.specs.Prelude.{option_map}
@@ -17,28 +18,31 @@ use Rattle.command_words.specs.Keys.{film_given, cert_given, script_given, buffe
 use Rattle.command_words.specs.Commands.{command_named, is_word_of}
 use Rattle.command_words.specs.declared.commands.Command.{Command}
 use Rattle.command_words.specs.declared.commands.Command.TheVariants.{Plan, Check, Scan, Make, Day, Fair, Serve, Watch}
-use Rattle.command_words.specs.Words.{Source, trace_source, film_source, Viewer, Pace, Listening, Serving, ScriptRun, FairRun, Watching, Order, help, version, plan_of, check_of, scan_of, make_of, day_of, fair_of, serve_of, watch_of, are_films, command_order, lone_order, source_of, source_given, viewer_given, script_run_given, fair_run_given, listening_given, pace_given, serving_given, watching_given, order_given, meaning}
-use Rattle.command_words.specs.Spelling.{IsBetween, IsCapacity, MayBeSlot, MayBeJournal, MayBeSource, MayBeViewer, MayBePace, MayListen, MayServe, MayRun, MayDraw, MayWatch, MayBeAsked}
+use Rattle.command_words.specs.Words.{Source, trace_source, film_source, Viewer, Serving, ScriptRun, Watching, Order, help, version, plan_of, check_of, scan_of, make_of, day_of, fair_of, serve_of, watch_of, are_films, command_order, lone_order, source_of, source_given, viewer_given, script_run_given, fair_run_given, listening_given, pace_given, serving_given, watching_given, order_given, meaning}
+use Rattle.command_words.specs.Spelling.{IsCapacity, MayBeBuffer, MayBeStartup, MayBePort, MayBeSlot, MayBeJournal, MayBeSource, MayBeViewer, MayBePace, MayListen, MayServe, MayRun, MayDraw, MayWatch, MayBeAsked}
+use Rattle.command_words.specs.declared.orders.Listening.{Listening}
+use Rattle.command_words.specs.declared.orders.Pace.{Pace}
+use Rattle.command_words.specs.declared.orders.FairRun.{FairRun}
 use Rattle.command_words.proofs.CapacityLemmas.{front_more, profile_of}
 use Rattle.command_words.proofs.FilmLemmas.{films_asked}
 use Rattle.command_words.proofs.FormLemmas.{last_step_found, step_found, test_passes}
 
 -- ---- one value
-between_found : (least most n : ℕ) (o : Option ℕ) → in_range least most o ≡ Some n → IsBetween least most n
+between_found : (least most n : ℕ) (o : Option ℕ) → in_range least most o ≡ Some n → IsInRange least most n
 between_found least most n None e = absurd (none-some _ e)
 between_found least most n (Some m) e =
     let found = test_passes (nat_le least m && nat_le m most) (Some m) n e in
     let parts = and_parts (nat_le least m) (nat_le m most) found.0 in
-    subst (IsBetween least most) (same_Some m n found.1) (leb-true least m parts.0, leb-true m most parts.1)
+    subst (IsInRange least most) (same_Some m n found.1) (leb-true least m parts.0, leb-true m most parts.1)
 
-one_between : (least most n : ℕ) (values : List (List ℕ)) → one_number least most values ≡ Some n → IsBetween least most n
+one_between : (least most n : ℕ) (values : List (List ℕ)) → one_number least most values ≡ Some n → IsInRange least most n
 one_between least most n [] e = absurd (none-some _ e)
 one_between least most n (value ∷ []) e = between_found least most n (number_of value) e
 one_between least most n (value ∷ other ∷ others) e = absurd (none-some _ e)
 
-or_between : {default least most n : ℕ} (values : List (List ℕ)) → IsBetween least most default
-    → number_or default least most values ≡ Some n → IsBetween least most n
-or_between {default} {least} {most} {n} [] inside e = subst (IsBetween least most) (same_Some default n e) inside
+or_between : {default least most n : ℕ} (values : List (List ℕ)) → IsInRange least most default
+    → number_or default least most values ≡ Some n → IsInRange least most n
+or_between {default} {least} {most} {n} [] inside e = subst (IsInRange least most) (same_Some default n e) inside
 or_between {default} {least} {most} {n} (value ∷ values) inside e = one_between least most n (value ∷ values) e
 
 name_found : (name : List ℕ) (values : List (List ℕ)) → one_name values ≡ Some name → is_good_name name ≡ true
@@ -146,10 +150,10 @@ source_asked (trace ∷ traces) [] [] source e =
 source_asked (trace ∷ traces) [] (slot ∷ slots) source e = absurd (none-some _ e)
 source_asked (trace ∷ traces) (film ∷ films) slots source e = absurd (none-some _ e)
 
-buffer_asked : (words : List (List ℕ)) (buffer : ℕ) → buffer_given words ≡ Some buffer → IsBetween 1 (2 ^ 42) buffer
+buffer_asked : (words : List (List ℕ)) (buffer : ℕ) → buffer_given words ≡ Some buffer → MayBeBuffer buffer
 buffer_asked words buffer e = or_between (values_of (codes "buffer") words) (omega arith, omega arith) e
 
-startup_asked : (words : List (List ℕ)) (startup : ℕ) → startup_given words ≡ Some startup → IsBetween 0 10000 startup
+startup_asked : (words : List (List ℕ)) (startup : ℕ) → startup_given words ≡ Some startup → MayBeStartup startup
 startup_asked words startup e = or_between (values_of (codes "startup") words) (omega arith, omega arith) e
 
 slot_asked : (words : List (List ℕ)) (slot : ℕ) → slot_given words ≡ Some slot → MayBeSlot slot
@@ -158,7 +162,7 @@ slot_asked words slot e = or_between (values_of (codes "slot") words) (omega ari
 journal_asked : (words : List (List ℕ)) (journal : ℕ) → journal_given words ≡ Some journal → MayBeJournal journal
 journal_asked words journal e = or_between (values_of (codes "journal") words) (omega arith, omega arith) e
 
-port_asked : (words : List (List ℕ)) (port : ℕ) → port_given words ≡ Some port → IsBetween 1 65535 port
+port_asked : (words : List (List ℕ)) (port : ℕ) → port_given words ≡ Some port → MayBePort port
 port_asked words port e = or_between (values_of (codes "port") words) (omega arith, omega arith) e
 
 viewer_asked : (words : List (List ℕ)) (viewer : Viewer) → viewer_given words ≡ Some viewer → MayBeViewer viewer

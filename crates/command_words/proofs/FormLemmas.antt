@@ -13,13 +13,16 @@ use Rattle.std.proofs.lemmas.Option.{none-some, same_Some}
 use Rattle.slot_calendar.specs.declared.profiles.CapStep.{CapStep}
 use Rattle.command_words.specs.Settings.{number_or, one_name, one_number, setting_value, values_of}
 use Rattle.command_words.specs.Capacities.{one_capacity}
-use Rattle.command_words.specs.Keys.{Made, film_given, cert_given, script_given, buffer_given, startup_given, slot_given, capacity_given, journal_given, port_given, workers_given, connections_given, seed_given, pictures_given, plays_given, one_kind, one_bind}
+use Rattle.command_words.specs.Keys.{film_given, cert_given, script_given, buffer_given, startup_given, slot_given, capacity_given, journal_given, port_given, workers_given, connections_given, seed_given, pictures_given, plays_given, one_kind, one_bind}
 use Rattle.command_words.specs.Commands.{command_named, is_word_of, keys_of}
 use Rattle.command_words.specs.declared.commands.Command.{Command}
 use Rattle.command_words.specs.declared.commands.Command.TheVariants.{Plan, Check, Scan, Make, Day, Fair, Serve, Watch}
 use Rattle.command_words.specs.Forms.{HasFilms, HasSource, HaveForm, HaveMeaning, IsOneSource, IsSettingOf, most_times, needed_keys, times}
 use Rattle.command_words.specs.Spelling.{AreApart, word_of}
-use Rattle.command_words.specs.Words.{Source, Viewer, Pace, Listening, Order, help, version, plan_of, check_of, scan_of, day_of, fair_of, serve_of, watch_of, are_films, command_order, lone_order, source_of, source_given, viewer_given, script_run_given, fair_run_given, listening_given, pace_given, serving_given, watching_given, order_given, meaning}
+use Rattle.command_words.specs.Words.{Source, Viewer, Order, help, version, plan_of, check_of, scan_of, day_of, fair_of, serve_of, watch_of, are_films, command_order, lone_order, source_of, source_given, viewer_given, script_run_given, fair_run_given, listening_given, pace_given, serving_given, watching_given, order_given, meaning}
+use Rattle.command_words.specs.declared.orders.Made.{Made}
+use Rattle.command_words.specs.declared.orders.Listening.{Listening}
+use Rattle.command_words.specs.declared.orders.Pace.{Pace}
 use Rattle.command_words.proofs.FilmLemmas.{films_asked}
 use Rattle.command_words.proofs.MeaningLemmas.{meaning_of}
 

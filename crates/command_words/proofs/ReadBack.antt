@@ -7,12 +7,17 @@ use Rattle.std.proofs.lemmas.List.{append-nil}
 use Rattle.vod_base.specs.Names.{is_good_name}
 use Rattle.slot_calendar.specs.declared.profiles.CapStep.{CapStep}
 use Rattle.command_words.specs.Settings.{values_of, one_name, number_or}
-use Rattle.command_words.specs.Keys.{Made, made_film, made_trace, made_system, film_given, cert_given, script_given, buffer_given, startup_given, slot_given, capacity_given, journal_given, port_given, workers_given, connections_given, seed_given, pictures_given, plays_given, one_kind, one_bind}
+use Rattle.command_words.specs.Keys.{film_given, cert_given, script_given, buffer_given, startup_given, slot_given, capacity_given, journal_given, port_given, workers_given, connections_given, seed_given, pictures_given, plays_given, one_kind, one_bind}
 use Rattle.command_words.specs.Commands.{keys_of}
 use Rattle.command_words.specs.declared.commands.Command.{Command}
 use Rattle.command_words.specs.declared.commands.Command.TheVariants.{Plan, Check, Scan, Make, Day, Fair, Serve, Watch}
-use Rattle.command_words.specs.Words.{Source, trace_source, film_source, Viewer, Listening, Pace, Serving, ScriptRun, FairRun, Watching, Order, help, version, plan_of, check_of, scan_of, make_of, day_of, fair_of, serve_of, watch_of, source_of, source_given, viewer_given, check_given, make_given, script_run_given, fair_run_given, listening_given, pace_given, serving_given, watching_given, order_given, command_order, meaning}
-use Rattle.command_words.specs.Spelling.{Setting, word_of, settings_of, words_of, film_setting, server_settings, viewer_settings, made_text, bind_text, steps_text, IsBetween, IsCapacity, MayBeSlot, MayBeJournal, MayBeSource, MayBeViewer, MayBePace, MayListen, MayServe, MayRun, MayDraw, MayWatch, MayBeAsked}
+use Rattle.command_words.specs.Words.{Source, trace_source, film_source, Viewer, Serving, ScriptRun, Watching, Order, help, version, plan_of, check_of, scan_of, make_of, day_of, fair_of, serve_of, watch_of, source_of, source_given, viewer_given, check_given, make_given, script_run_given, fair_run_given, listening_given, pace_given, serving_given, watching_given, order_given, command_order, meaning}
+use Rattle.command_words.specs.Spelling.{Setting, word_of, settings_of, words_of, film_setting, server_settings, viewer_settings, kind_text, bind_text, steps_text, IsCapacity, MayBeBuffer, MayBeStartup, MayBePort, MayBePictures, MayBeSlot, MayBeJournal, MayBeSource, MayBeViewer, MayBePace, MayListen, MayServe, MayRun, MayDraw, MayWatch, MayBeAsked}
+use Rattle.command_words.specs.declared.orders.Made.{Made}
+use Rattle.command_words.specs.declared.orders.Made.TheVariants.{Film, Trace, System}
+use Rattle.command_words.specs.declared.orders.Listening.{Listening}
+use Rattle.command_words.specs.declared.orders.Pace.{Pace}
+use Rattle.command_words.specs.declared.orders.FairRun.{FairRun}
 use Rattle.command_words.proofs.FilmLemmas.{films_back}
 use Rattle.command_words.proofs.SettingLemmas.{picked, are_plain, are_among, values_read, words_read, films_plain, films_among, picked_films, picked_past}
 use Rattle.command_words.proofs.SpellingLemmas.{key_or, key_one, name_back, capacity_back}
@@ -32,8 +37,8 @@ pub record GivesPace (words : List (List ℕ)) (bytes slots : ℕ) : Type 0 wher
 
 pace_read : {buffer startup : ℕ} (settings : List Setting) → are_plain settings ≡ true →
     picked (codes "buffer") settings ≡ decimal buffer ∷ [] →
-    picked (codes "startup") settings ≡ decimal startup ∷ [] → IsBetween 1 (2 ^ 42) buffer
-    → IsBetween 0 10000 startup → GivesPace (given settings) buffer startup
+    picked (codes "startup") settings ≡ decimal startup ∷ [] → MayBeBuffer buffer
+    → MayBeStartup startup → GivesPace (given settings) buffer startup
 pace_read {buffer} {startup} settings plain b s some few =
     record {
       buffer = key_or 1048576 (values_read (codes "buffer") settings plain ∙ b) some (omega (arith, some.1));
@@ -61,7 +66,7 @@ capacity_read settings steps plain c capacity =
 
 port_read : (settings : List Setting) (port : ℕ) → are_plain settings ≡ true →
     picked (codes "port") settings ≡ decimal port ∷ [] →
-    IsBetween 1 65535 port → port_given (given settings) ≡ Some port
+    MayBePort port → port_given (given settings) ≡ Some port
 port_read settings port plain p within =
     key_or 8554 (values_read (codes "port") settings plain ∙ p) within (omega (arith, within.1))
 
@@ -104,7 +109,7 @@ viewer_is words source buffer startup from pace = rw from (rw pace.buffer (rw pa
 viewer_read : (viewer : Viewer) → MayBeViewer viewer → viewer_given (given (viewer_settings viewer)) ≡ Some viewer
 viewer_read viewer may = by viewer.source viewer.buffer viewer.startup may.source may.buffer may.startup
   where
-    by : (source : Source) (buffer startup : ℕ) → MayBeSource source → IsBetween 1 (2 ^ 42) buffer → IsBetween 0 10000 startup →
+    by : (source : Source) (buffer startup : ℕ) → MayBeSource source → MayBeBuffer buffer → MayBeStartup startup →
         viewer_given (given (viewer_settings (record { source = source; buffer = buffer; startup = startup })))
         ≡ Some (record { source = source; buffer = buffer; startup = startup })
     by (trace_source name) buffer startup good some few =
@@ -121,7 +126,7 @@ check_read : (viewer : Viewer) (cert : List ℕ) → MayBeViewer viewer → is_g
     check_given (given (settings_of (check_of viewer cert))) ≡ Some (check_of viewer cert)
 check_read viewer cert may good = by viewer.source viewer.buffer viewer.startup may.source may.buffer may.startup
   where
-    by : (source : Source) (buffer startup : ℕ) → MayBeSource source → IsBetween 1 (2 ^ 42) buffer → IsBetween 0 10000 startup →
+    by : (source : Source) (buffer startup : ℕ) → MayBeSource source → MayBeBuffer buffer → MayBeStartup startup →
         check_given (given
         (settings_of (check_of (record { source = source; buffer = buffer; startup = startup }) cert)))
         ≡ Some (check_of (record { source = source; buffer = buffer; startup = startup }) cert)
@@ -145,7 +150,7 @@ check_read viewer cert may good = by viewer.source viewer.buffer viewer.startup 
         (ap (option_map (λ (c : List ℕ). check_of viewer c))
         (name_back cert (values_of (codes "cert") (given settings)) (values_read (codes "cert") settings refl) good))
 
-make_read : (kind : Made) (seed pictures : ℕ) → seed < 2 ^ 64 → IsBetween 1 100000 pictures →
+make_read : (kind : Made) (seed pictures : ℕ) → seed < 2 ^ 64 → MayBePictures pictures →
     make_given (given (settings_of (make_of kind seed pictures))) ≡ Some (make_of kind seed pictures)
 make_read kind seed pictures small within =
     let settings = settings_of (make_of kind seed pictures) in
@@ -157,10 +162,10 @@ make_read kind seed pictures small within =
     key_one (values_read (codes "pictures") settings refl) within (omega (arith, within.1)) in
     rw kinds (rw seeds (rw all refl))
   where
-    kind_back : (kind : Made) → one_kind (made_text kind ∷ []) ≡ Some kind
-    kind_back made_film = refl
-    kind_back made_trace = refl
-    kind_back made_system = refl
+    kind_back : (kind : Made) → one_kind (kind_text kind ∷ []) ≡ Some kind
+    kind_back Film = refl
+    kind_back Trace = refl
+    kind_back System = refl
 
 run_read : (run : ScriptRun) → MayRun run → script_run_given (given (settings_of (day_of run))) ≡ Some run
 run_read run may =

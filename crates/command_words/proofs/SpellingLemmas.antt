@@ -1,5 +1,6 @@
 -- The values of written orders are read back.
 use Rattle.std.proofs.Common.{◌≡◌, ℕ, ◌+◌, ◌-◌, ◌<◌, ◌≤◌, ◌^◌, ◌&&◌, not, List, [], ◌∷◌, ◌++◌, All, length, sym, ap, subst, ◌∙◌, arith, Option, Some, None, Bool, true, false, refl, codes, decimal, nat_lt, nat_le, ◌==◌, if◌then◌else◌, inl, inr, length-append, true≢false}
+use Rattle.std.specs.Int.{IsInRange}
 use Rattle.std.specs.List.{list_all, position_or_len, before_first, after_first, slice_split, fold}
 use Rattle.std.specs.Option.{option_and_then, option_map}
 use Rattle.std.specs.Char.{is_ascii_digit}
@@ -18,23 +19,23 @@ use Rattle.slot_calendar.specs.declared.profiles.CapStep.{CapStep}
 use Rattle.slot_calendar.specs.Profiles.{no_step, step_at}
 use Rattle.command_words.specs.Settings.{one_name, in_range, one_number, number_or}
 use Rattle.command_words.specs.Capacities.{step_of, stands_after, may_follow, step_more, part_more, steps_of, one_capacity}
-use Rattle.command_words.specs.Spelling.{IsBetween, IsCapacity, step_text, steps_text}
+use Rattle.command_words.specs.Spelling.{IsCapacity, step_text, steps_text}
 use Rattle.command_words.proofs.SettingLemmas.{has_no, inside_of, before_of, after_of}
 
 -- a number in its range
-pub number_back : (least most n : ℕ) → IsBetween least most n → n < 2 ^ 64 → in_range least most (number_of (decimal n)) ≡ Some n
+pub number_back : (least most n : ℕ) → IsInRange least most n → n < 2 ^ 64 → in_range least most (number_of (decimal n)) ≡ Some n
 number_back least most n within small =
     ap (in_range least most) (decimal_read n small)
     ∙ ap (λ (b : Bool). if b && nat_le n most then Some n else None) (le-leb least n within.0)
     ∙ ap (λ (b : Bool). if b then Some n else None) (le-leb n most within.1)
 
 pub key_or : {least most n : ℕ} {values : List (List ℕ)} (default : ℕ) → values ≡ decimal n ∷ [] →
-    IsBetween least most n → n < 2 ^ 64 →
+    IsInRange least most n → n < 2 ^ 64 →
     number_or default least most values ≡ Some n
 key_or {least} {most} {n} default given within small =
     ap (number_or default least most) given ∙ number_back least most n within small
 
-pub key_one : {least most n : ℕ} {values : List (List ℕ)} → values ≡ decimal n ∷ [] → IsBetween least most n → n < 2 ^ 64 →
+pub key_one : {least most n : ℕ} {values : List (List ℕ)} → values ≡ decimal n ∷ [] → IsInRange least most n → n < 2 ^ 64 →
     one_number least most values ≡ Some n
 key_one {least} {most} {n} given within small = ap (one_number least most) given ∙ number_back least most n within small
 

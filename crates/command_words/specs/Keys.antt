@@ -5,12 +5,8 @@ use Rattle.std.specs.Str.{bytes_eq}
 use Rattle.slot_calendar.specs.declared.profiles.CapStep.{CapStep}
 use Rattle.command_words.specs.Settings.{values_of, one_name, one_number, number_or}
 use Rattle.command_words.specs.Capacities.{one_capacity}
-
--- what `make` makes: the trace, film or system stream of a number
-pub data Made : Type 0 where
-  made_film : Made
-  made_trace : Made
-  made_system : Made
+use Rattle.command_words.specs.declared.orders.Made.{Made}
+use Rattle.command_words.specs.declared.orders.Made.TheVariants.{Film, Trace, System}
 
 -- names of files, once each
 abbrev pub film_given : List (List ℕ) → Option (List ℕ)
@@ -70,9 +66,9 @@ plays_given words = one_number 1 100000 (values_of (codes "plays") words)
 abbrev pub one_kind : List (List ℕ) → Option Made
 one_kind [] = None
 one_kind (value ∷ []) =
-    if bytes_eq value (codes "film") then Some made_film
-    else if bytes_eq value (codes "trace") then Some made_trace
-    else if bytes_eq value (codes "system") then Some made_system else None
+    if bytes_eq value (codes "film") then Some Film
+    else if bytes_eq value (codes "trace") then Some Trace
+    else if bytes_eq value (codes "system") then Some System else None
 one_kind (value ∷ other ∷ others) = None
 
 -- `local`, the default, or `all`

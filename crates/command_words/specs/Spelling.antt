@@ -1,14 +1,19 @@
 -- How an order is written: a command, and each of its settings with its key; and what may be asked.
 use Rattle.std.specs.Prelude.{ℕ, ◌≡◌, ◌≢◌, ◌^◌, ◌<◌, ◌≤◌, Bool, true, false, List, [], ◌∷◌, ◌++◌}
 use Rattle.std.specs.Prelude.{All, length, slice_index_or, map, codes, decimal}
+use Rattle.std.specs.Int.{IsInRange}
 use Rattle.vod_base.specs.Names.{is_good_name}
 use Rattle.slot_calendar.specs.declared.profiles.CapStep.{CapStep}
 use Rattle.slot_calendar.specs.Profiles.{IsProfile}
-use Rattle.command_words.specs.Keys.{Made, made_film, made_trace, made_system}
-use Rattle.command_words.specs.Words.{Source, trace_source, film_source, Viewer, Listening, Pace}
-use Rattle.command_words.specs.Words.{Serving, ScriptRun, FairRun, Watching, Order, help, version}
+use Rattle.command_words.specs.Words.{Source, trace_source, film_source, Viewer, Serving}
+use Rattle.command_words.specs.Words.{ScriptRun, Watching, Order, help, version}
 use Rattle.command_words.specs.Words.{plan_of, check_of, scan_of, make_of, day_of, fair_of}
 use Rattle.command_words.specs.Words.{serve_of, watch_of}
+use Rattle.command_words.specs.declared.orders.Made.{Made}
+use Rattle.command_words.specs.declared.orders.Made.TheVariants.{Film, Trace, System}
+use Rattle.command_words.specs.declared.orders.Listening.{Listening}
+use Rattle.command_words.specs.declared.orders.Pace.{Pace}
+use Rattle.command_words.specs.declared.orders.FairRun.{FairRun}
 
 -- a key and the value that it is given
 pub record Setting : Type 0 where
@@ -34,10 +39,10 @@ steps_text [] = []
 steps_text (step ∷ []) = step_text step
 steps_text (step ∷ next ∷ steps) = step_text step ++ codes "," ++ steps_text (next ∷ steps)
 
-abbrev pub made_text : Made → List ℕ
-made_text made_film = codes "film"
-made_text made_trace = codes "trace"
-made_text made_system = codes "system"
+abbrev pub kind_text : Made → List ℕ
+kind_text Film = codes "film"
+kind_text Trace = codes "trace"
+kind_text System = codes "system"
 
 abbrev pub bind_text : Bool → List ℕ
 bind_text true = codes "all"
@@ -82,7 +87,7 @@ settings_of (plan_of viewer) = viewer_settings viewer
 settings_of (check_of viewer cert) = text_setting (codes "cert") cert ∷ viewer_settings viewer
 settings_of (scan_of film) = film_setting film ∷ []
 settings_of (make_of kind seed pictures) =
-    text_setting (codes "kind") (made_text kind) ∷ number_setting (codes "seed") seed
+    text_setting (codes "kind") (kind_text kind) ∷ number_setting (codes "seed") seed
     ∷ number_setting (codes "pictures") pictures ∷ []
 settings_of (day_of run) =
     text_setting (codes "script") run.script
@@ -114,9 +119,6 @@ words_of order = name_of order ∷ map word_of (settings_of order)
 
 -- ---- what may be asked: each file by a good name, and each number in its range
 
-abbrev pub IsBetween : ℕ → ℕ → ℕ → Type 0
-IsBetween least most number = (least ≤ number) × (number ≤ most)
-
 -- no two of these are alike
 abbrev pub AreApart : List (List ℕ) → Type 0
 AreApart names = (i j : ℕ) → i < j → j < length names →
@@ -133,34 +135,55 @@ pub record MayBeFilms (names : List (List ℕ)) : Type 0 where
 abbrev pub IsCapacity : List CapStep → Type 0
 IsCapacity steps = IsProfile steps × All (λ step. step.from ≤ 2 ^ 62) steps
 
+-- a client's buffer, in bytes
+abbrev pub MayBeBuffer : ℕ → Type 0
+MayBeBuffer buffer = IsInRange 1 (2 ^ 42) buffer
+
+-- a start delay, in slots
+abbrev pub MayBeStartup : ℕ → Type 0
+MayBeStartup startup = IsInRange 0 10000 startup
+
 -- the length of a slot, in 1/360,000 second
 abbrev pub MayBeSlot : ℕ → Type 0
-MayBeSlot slot = IsBetween 360 360000 slot
+MayBeSlot slot = IsInRange 360 360000 slot
+
+-- a journal, by the most entries that it has
+abbrev pub MayBeJournal : ℕ → Type 0
+MayBeJournal entries = IsInRange 2 1048576 entries
+
+abbrev pub MayBePort : ℕ → Type 0
+MayBePort port = IsInRange 1 65535 port
+
+abbrev pub MayBeWorkers : ℕ → Type 0
+MayBeWorkers workers = IsInRange 1 256 workers
+
+-- how many pictures are made
+abbrev pub MayBePictures : ℕ → Type 0
+MayBePictures pictures = IsInRange 1 100000 pictures
+
+-- how many turns are drawn
+abbrev pub MayBePlays : ℕ → Type 0
+MayBePlays plays = IsInRange 1 100000 plays
 
 abbrev pub MayBeSource : Source → Type 0
 MayBeSource (trace_source name) = is_good_name name ≡ true
 MayBeSource (film_source name slot) = (is_good_name name ≡ true) × MayBeSlot slot
 
--- a buffer in bytes, and a start delay in slots
 pub record MayBeViewer (viewer : Viewer) : Type 0 where
   pub source : MayBeSource viewer.source
-  pub buffer : IsBetween 1 (2 ^ 42) viewer.buffer
-  pub startup : IsBetween 0 10000 viewer.startup
+  pub buffer : MayBeBuffer viewer.buffer
+  pub startup : MayBeStartup viewer.startup
 
 pub record MayBePace (pace : Pace) : Type 0 where
-  pub buffer : IsBetween 1 (2 ^ 42) pace.buffer
-  pub startup : IsBetween 0 10000 pace.startup
+  pub buffer : MayBeBuffer pace.buffer
+  pub startup : MayBeStartup pace.startup
   pub slot : MayBeSlot pace.slot
 
 -- a port, how many workers there are, and how many connections each of them takes
 pub record MayListen (listening : Listening) : Type 0 where
-  pub port : IsBetween 1 65535 listening.port
-  pub workers : IsBetween 1 256 listening.workers
+  pub port : MayBePort listening.port
+  pub workers : MayBeWorkers listening.workers
   pub connections : listening.connections < 2 ^ 64
-
--- a journal, by the most entries that it has
-abbrev pub MayBeJournal : ℕ → Type 0
-MayBeJournal entries = IsBetween 2 1048576 entries
 
 pub record MayServe (serving : Serving) : Type 0 where
   pub films : MayBeFilms serving.films
@@ -175,15 +198,15 @@ pub record MayRun (run : ScriptRun) : Type 0 where
   pub journal : MayBeJournal run.journal
   pub slot : MayBeSlot run.slot
 
--- the number that a generator begins with, and how many turns are drawn
+-- the number that a generator begins with, the turns that are drawn, and their link
 pub record MayDraw (run : FairRun) : Type 0 where
   pub seed : run.seed < 2 ^ 64
-  pub plays : IsBetween 1 100000 run.plays
+  pub plays : MayBePlays run.plays
   pub capacity : IsCapacity run.capacity
 
 pub record MayWatch (watching : Watching) : Type 0 where
   pub film : is_good_name watching.film ≡ true
-  pub port : IsBetween 1 65535 watching.port
+  pub port : MayBePort watching.port
   pub pace : MayBePace watching.pace
 
 abbrev pub MayBeAsked : Order → Type 0
@@ -192,7 +215,7 @@ MayBeAsked version = Unit {0}
 MayBeAsked (plan_of viewer) = MayBeViewer viewer
 MayBeAsked (check_of viewer cert) = MayBeViewer viewer × (is_good_name cert ≡ true)
 MayBeAsked (scan_of film) = is_good_name film ≡ true
-MayBeAsked (make_of kind seed pictures) = (seed < 2 ^ 64) × IsBetween 1 100000 pictures
+MayBeAsked (make_of kind seed pictures) = (seed < 2 ^ 64) × MayBePictures pictures
 MayBeAsked (day_of run) = MayRun run
 MayBeAsked (fair_of run) = MayDraw run
 MayBeAsked (serve_of serving) = MayServe serving

@@ -7,7 +7,7 @@ use Rattle.std.specs.Str.{bytes_eq}
 use Rattle.vod_base.specs.Names.{is_good_name}
 use Rattle.slot_calendar.specs.declared.profiles.CapStep.{CapStep}
 use Rattle.command_words.specs.Settings.{values_of, one_name, number_or}
-use Rattle.command_words.specs.Keys.{Made, film_given, cert_given, script_given, buffer_given}
+use Rattle.command_words.specs.Keys.{film_given, cert_given, script_given, buffer_given}
 use Rattle.command_words.specs.Keys.{startup_given, slot_given, capacity_given, journal_given}
 use Rattle.command_words.specs.Keys.{port_given, workers_given, connections_given, seed_given}
 use Rattle.command_words.specs.Keys.{pictures_given, plays_given, one_kind, one_bind}
@@ -15,6 +15,10 @@ use Rattle.command_words.specs.Commands.{command_named, is_word_of}
 use Rattle.command_words.specs.declared.commands.Command.{Command}
 use Rattle.command_words.specs.declared.commands.Command.TheVariants.{Plan, Check, Scan, Make, Day}
 use Rattle.command_words.specs.declared.commands.Command.TheVariants.{Fair, Serve, Watch}
+use Rattle.command_words.specs.declared.orders.Made.{Made}
+use Rattle.command_words.specs.declared.orders.Listening.{Listening}
+use Rattle.command_words.specs.declared.orders.Pace.{Pace}
+use Rattle.command_words.specs.declared.orders.FairRun.{FairRun}
 
 -- what is planned: a trace, or a film in slots of a length in 1/360,000 second
 pub data Source : Type 0 where
@@ -26,21 +30,6 @@ pub record Viewer : Type 0 where
   pub source : Source
   pub buffer : ℕ
   pub startup : ℕ
-
--- where a server listens: at 127.0.0.1 or at all addresses, at a port; how many workers it has, and
--- how many connections each of them takes, where 0 is no end
-pub record Listening : Type 0 where
-  pub port : ℕ
-  pub all : Bool
-  pub workers : ℕ
-  pub connections : ℕ
-
--- the client that a play is planned for where its request says nothing else, and the slot length in
--- 1/360,000 second
-pub record Pace : Type 0 where
-  pub buffer : ℕ
-  pub startup : ℕ
-  pub slot : ℕ
 
 -- a server: the names of its films, the capacity of its link, the most entries of its journal
 pub record Serving : Type 0 where
@@ -56,12 +45,6 @@ pub record ScriptRun : Type 0 where
   pub capacity : List CapStep
   pub journal : ℕ
   pub slot : ℕ
-
--- drawn plays that are run over one link
-pub record FairRun : Type 0 where
-  pub seed : ℕ
-  pub plays : ℕ
-  pub capacity : List CapStep
 
 -- a film that a server at 127.0.0.1 is asked for
 pub record Watching : Type 0 where

@@ -1,6 +1,6 @@
 //! The value of each key.
 
-ghost use Rattle.std.specs.Prelude.{◌≡◌, ◌≤◌, ◌^◌, ◌∷◌, [], true, option_map, IfSome};
+ghost use Rattle.std.specs.Prelude.{◌≡◌, ◌∷◌, [], true, IfSome};
 ghost use Rattle.std.specs.Option.{option_copied};
 ghost use Rattle.vod_base.specs.Names.{is_good_name};
 ghost use Rattle.slot_calendar.specs.Profiles.{IsProfile};
@@ -10,7 +10,9 @@ ghost use Rattle.command_words.specs.Keys.{startup_given, slot_given, capacity_g
 ghost use Rattle.command_words.specs.Keys.{journal_given, port_given, workers_given};
 ghost use Rattle.command_words.specs.Keys.{connections_given, seed_given, pictures_given};
 ghost use Rattle.command_words.specs.Keys.{plays_given, one_kind, one_bind};
-ghost use Rattle.command_words.specs.Orders.{made_of};
+ghost use Rattle.command_words.specs.Spelling.{MayBeBuffer, MayBeJournal, MayBePictures};
+ghost use Rattle.command_words.specs.Spelling.{MayBePlays, MayBePort, MayBeSlot, MayBeStartup};
+ghost use Rattle.command_words.specs.Spelling.{MayBeWorkers};
 
 use crate::capacities::one_capacity;
 use crate::orders::Made;
@@ -44,7 +46,7 @@ pub(crate) fn script_given<'a>(words: &'a [String]) -> Option<&'a str>
 /// A client's buffer, in bytes.
 pub(crate) fn buffer_given(words: &[String]) -> Option<u64>
     ensures buffer { result ≡ buffer_given (texts words.now) }
-    ensures range { IfSome result (λ buffer. (1 ≤ buffer) × (buffer ≤ 2 ^ 42)) }
+    ensures range { IfSome result MayBeBuffer }
 {
     number_or(words, "buffer", 1_048_576, 1, 1 << 42)
 }
@@ -52,7 +54,7 @@ pub(crate) fn buffer_given(words: &[String]) -> Option<u64>
 /// A start delay, in slots.
 pub(crate) fn startup_given(words: &[String]) -> Option<u64>
     ensures startup { result ≡ startup_given (texts words.now) }
-    ensures range { IfSome result (λ startup. startup ≤ 10000) }
+    ensures range { IfSome result MayBeStartup }
 {
     number_or(words, "startup", 25, 0, 10_000)
 }
@@ -60,7 +62,7 @@ pub(crate) fn startup_given(words: &[String]) -> Option<u64>
 /// The length of a slot, in 1/360,000 second.
 pub(crate) fn slot_given(words: &[String]) -> Option<u32>
     ensures slot { result ≡ slot_given (texts words.now) }
-    ensures range { IfSome result (λ slot. (360 ≤ slot) × (slot ≤ 360000)) }
+    ensures range { IfSome result MayBeSlot }
 {
     let slot = number_or(words, "slot", 14_400, 360, 360_000)?;
     Some(slot as u32)
@@ -77,7 +79,7 @@ pub(crate) fn capacity_given(words: &[String]) -> Option<Steps>
 /// The most entries of a journal.
 pub(crate) fn journal_given(words: &[String]) -> Option<u64>
     ensures journal { result ≡ journal_given (texts words.now) }
-    ensures range { IfSome result (λ journal. (2 ≤ journal) × (journal ≤ 1048576)) }
+    ensures range { IfSome result MayBeJournal }
 {
     number_or(words, "journal", 65_536, 2, 1_048_576)
 }
@@ -85,7 +87,7 @@ pub(crate) fn journal_given(words: &[String]) -> Option<u64>
 /// The port.
 pub(crate) fn port_given(words: &[String]) -> Option<u16>
     ensures port { result ≡ port_given (texts words.now) }
-    ensures range { IfSome result (λ port. (1 ≤ port) × (port ≤ 65535)) }
+    ensures range { IfSome result MayBePort }
 {
     let port = number_or(words, "port", 8554, 1, 65_535)?;
     Some(port as u16)
@@ -94,7 +96,7 @@ pub(crate) fn port_given(words: &[String]) -> Option<u16>
 /// The number of workers.
 pub(crate) fn workers_given(words: &[String]) -> Option<u32>
     ensures workers { result ≡ workers_given (texts words.now) }
-    ensures range { IfSome result (λ workers. (1 ≤ workers) × (workers ≤ 256)) }
+    ensures range { IfSome result MayBeWorkers }
 {
     let workers = number_or(words, "workers", 32, 1, 256)?;
     Some(workers as u32)
@@ -117,7 +119,7 @@ pub(crate) fn seed_given(words: &[String]) -> Option<u64>
 /// The number of pictures that are made.
 pub(crate) fn pictures_given(words: &[String]) -> Option<u32>
     ensures pictures { result ≡ pictures_given (texts words.now) }
-    ensures range { IfSome result (λ pictures. (1 ≤ pictures) × (pictures ≤ 100000)) }
+    ensures range { IfSome result MayBePictures }
 {
     let pictures = one_number(words, "pictures", 1, 100_000)?;
     Some(pictures as u32)
@@ -126,7 +128,7 @@ pub(crate) fn pictures_given(words: &[String]) -> Option<u32>
 /// The number of turns that are run.
 pub(crate) fn plays_given(words: &[String]) -> Option<u32>
     ensures plays { result ≡ plays_given (texts words.now) }
-    ensures range { IfSome result (λ plays. (1 ≤ plays) × (plays ≤ 100000)) }
+    ensures range { IfSome result MayBePlays }
 {
     let plays = one_number(words, "plays", 1, 100_000)?;
     Some(plays as u32)
@@ -134,7 +136,7 @@ pub(crate) fn plays_given(words: &[String]) -> Option<u32>
 
 /// The kind that is given once.
 pub(crate) fn one_kind(words: &[String], key: &str) -> Option<Made>
-    ensures { option_map made_of result ≡ one_kind (values_of key.now (texts words.now)) }
+    ensures { result ≡ one_kind (values_of key.now (texts words.now)) }
 {
     match find_given(words, key) {
         Given::Once(text) => kind_named(text),
@@ -159,7 +161,7 @@ pub(crate) fn one_bind(words: &[String], key: &str) -> Option<bool>
 
 /// The kind of that name.
 fn kind_named(text: &str) -> Option<Made>
-    ensures { option_map made_of result ≡ one_kind (text.now ∷ []) }
+    ensures { result ≡ one_kind (text.now ∷ []) }
 {
     match text {
         "film" => Some(Made::Film),

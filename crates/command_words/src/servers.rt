@@ -4,9 +4,9 @@ ghost use Rattle.std.specs.Prelude.{◌≡◌, option_map, IfSome};
 ghost use Rattle.command_words.specs.Settings.{texts};
 ghost use Rattle.command_words.specs.Words.{listening_given, pace_given, serving_given};
 ghost use Rattle.command_words.specs.Words.{watching_given};
-ghost use Rattle.command_words.specs.Orders.{listening_of, pace_of, serving_of, watching_of};
-ghost use Rattle.command_words.specs.Ranges.{IsListeningInRange, IsPaceInRange, IsServingInRange};
-ghost use Rattle.command_words.specs.Ranges.{IsWatchingInRange};
+ghost use Rattle.command_words.specs.Orders.{serving_of, watching_of};
+ghost use Rattle.command_words.specs.Ranges.{IsServingInRange, IsWatchingInRange};
+ghost use Rattle.command_words.specs.Spelling.{MayBePace, MayListen};
 
 use crate::films::are_films;
 use crate::keys::{
@@ -49,8 +49,8 @@ pub(crate) fn watching_given<'a>(words: &'a [String]) -> Option<Watching<'a>>
 
 /// Where the words have a server listen.
 fn listening_given(words: &[String]) -> Option<Listening>
-    ensures listening { option_map listening_of result ≡ listening_given (texts words.now) }
-    ensures range { IfSome result IsListeningInRange }
+    ensures listening { result ≡ listening_given (texts words.now) }
+    ensures range { IfSome result MayListen }
 {
     let port = port_given(words)?;
     let all = one_bind(words, "bind")?;
@@ -66,8 +66,8 @@ fn listening_given(words: &[String]) -> Option<Listening>
 
 /// The words' client, and their slot length.
 fn pace_given(words: &[String]) -> Option<Pace>
-    ensures pace { option_map pace_of result ≡ pace_given (texts words.now) }
-    ensures range { IfSome result IsPaceInRange }
+    ensures pace { result ≡ pace_given (texts words.now) }
+    ensures range { IfSome result MayBePace }
 {
     let buffer = buffer_given(words)?;
     let startup = startup_given(words)?;

@@ -4,7 +4,7 @@ ghost use Rattle.std.specs.Prelude.{◌≡◌, ◌∷◌, [], option_map, codes,
 ghost use Rattle.command_words.specs.Settings.{is_absent, texts, values_of};
 ghost use Rattle.command_words.specs.Words.{source_given, source_of, viewer_given};
 ghost use Rattle.command_words.specs.Words.{script_run_given, fair_run_given};
-ghost use Rattle.command_words.specs.Orders.{source_read, viewer_of, script_run_of, fair_run_of};
+ghost use Rattle.command_words.specs.Orders.{source_read, viewer_of, script_run_of};
 ghost use Rattle.command_words.specs.Ranges.{IsSourceInRange, IsViewerInRange, IsScriptRunInRange};
 ghost use Rattle.command_words.specs.Ranges.{IsFairRunInRange};
 
@@ -50,7 +50,7 @@ pub(crate) fn script_run_given<'a>(words: &'a [String]) -> Option<ScriptRun<'a>>
 
 /// The drawn plays that are run, and their link.
 pub(crate) fn fair_run_given(words: &[String]) -> Option<FairRun>
-    ensures run { option_map fair_run_of result ≡ fair_run_given (texts words.now) }
+    ensures run { result ≡ fair_run_given (texts words.now) }
     ensures range { IfSome result IsFairRunInRange }
 {
     let seed = seed_given(words)?;

@@ -9,10 +9,11 @@ use Rattle.film_make.specs.Generator.{words_of}
 use Rattle.film_make.specs.Trace.{trace_of}
 use Rattle.film_make.specs.Film.{film_of}
 use Rattle.film_make.specs.System.{system_of}
-use Rattle.command_words.specs.Keys.{Made, made_film, made_trace, made_system}
 use Rattle.command_words.specs.Words.{Order, help, version, plan_of, check_of, scan_of, make_of}
 use Rattle.command_words.specs.Words.{day_of, fair_of, serve_of, watch_of}
 use Rattle.command_words.specs.Orders.{source_name}
+use Rattle.command_words.specs.declared.orders.Made.{Made}
+use Rattle.command_words.specs.declared.orders.Made.TheVariants.{Film, Trace, System}
 use Rattle.inputs.specs.Films.{IsHeldRefused}
 use Rattle.inputs.specs.Scans.{HoldsFilm, IsFilmRefused}
 use Rattle.mpeg_scan.specs.declared.units.Unit.{Unit as PictureUnit}
@@ -32,9 +33,9 @@ pub record IsScanned (held : List File) (film text : List ℕ) : Type 0 where
 
 -- the text of a number
 abbrev pub made_text : Made → ℕ → ℕ → List ℕ
-made_text made_film seed pictures = film_of (words_of seed) pictures
-made_text made_trace seed pictures = trace_of (words_of seed) pictures
-made_text made_system seed pictures = system_of (film_of (words_of seed) pictures)
+made_text Film seed pictures = film_of (words_of seed) pictures
+made_text Trace seed pictures = trace_of (words_of seed) pictures
+made_text System seed pictures = system_of (film_of (words_of seed) pictures)
 
 -- what holds of the files that a library tells, if it tells them
 abbrev pub IfTold : Option (List File) → (List File → Type 0) → Type 0

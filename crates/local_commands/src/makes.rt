@@ -1,7 +1,6 @@
 //! The command `make`: the trace, film or system stream of a number.
 
 ghost use Rattle.std.specs.Prelude.{◌≡◌, IfOk};
-ghost use Rattle.command_words.specs.Orders.{made_of};
 ghost use Rattle.local_commands.specs.Carrying.{made_text};
 
 use command_words::Made;
@@ -15,7 +14,7 @@ use vod_base::NoMemory;
 ///
 /// [`NoMemory`] alone.
 pub fn make(alloc: Global, kind: Made, seed: u64, pictures: u32) -> Result<Vec<u8>, NoMemory>
-    ensures { IfOk result (λ text. text.items ≡ made_text (made_of kind) seed pictures) }
+    ensures { IfOk result (λ text. text.items ≡ made_text kind seed pictures) }
 {
     match kind {
         Made::Film => make_film(alloc, seed, pictures),

@@ -1,8 +1,8 @@
 -- What was printed of what was done.
 use Rattle.std.proofs.Common.{◌≡◌, ◌∙◌, ◌≤◌, ℕ, ap, List, Option, Some, None, Result, Ok, Err, Vec, Global, inl, inr, sym, subst}
 use Rattle.std.specs.Prelude.{IfOk, IfErr}
-use Rattle.command_words.specs.Keys.{Made}
 use Rattle.command_words.specs.Orders.{order_of}
+use Rattle.command_words.specs.declared.orders.Made.{Made}
 use Rattle.command_words.specs.declared.orders.Order.{Order as OrderRead}
 use Rattle.command_words.specs.Words.{Order, help, make_of, version}
 use Rattle.plan_cert.specs.declared.Segment.{Segment}

@@ -23,9 +23,10 @@ use Rattle.rtsp_client.specs.declared.wishes.WatchEnd.TheVariants.{LinkFault as 
 use Rattle.rtsp_client.specs.declared.wishes.WatchEnd.TheVariants.{SinkFault as WatchSinkFault}
 use Rattle.rtsp_client.specs.declared.wishes.WatchEnd.TheVariants.{NoMemory as WatchNoMemory}
 use Rattle.rtsp_client.specs.declared.wishes.WatchFault.{WatchFault}
-use Rattle.command_words.specs.Words.{FairRun, ScriptRun, Serving, Watching, Order, help, version}
+use Rattle.command_words.specs.Words.{ScriptRun, Serving, Watching, Order, help, version}
 use Rattle.command_words.specs.Words.{plan_of, check_of, scan_of, make_of, day_of, fair_of}
 use Rattle.command_words.specs.Words.{serve_of, watch_of}
+use Rattle.command_words.specs.declared.orders.FairRun.{FairRun}
 use Rattle.troubles.specs.Said.{IsSaid}
 use Rattle.troubles.specs.Lines.{trouble_text}
 use Rattle.troubles.specs.Statuses.{status_of}

@@ -1,7 +1,7 @@
 //! The commands `day` and `fair`.
 
 ghost use Rattle.std.specs.Prelude.{◌≡◌, ◌≤◌, [], List, ℕ};
-ghost use Rattle.command_words.specs.Orders.{fair_run_of, script_run_of};
+ghost use Rattle.command_words.specs.Orders.{script_run_of};
 ghost use Rattle.command_words.specs.Ranges.{IsFairRunInRange, IsScriptRunInRange};
 ghost use Rattle.troubles.specs.Causes.{IsReadOnly};
 ghost use Rattle.vodserve.specs.Run.{IsTextWritten, RunsDay, RunsFair, sight_of};
@@ -58,7 +58,7 @@ pub(crate) fn fair<O: Sink, E: Sink>(
     ensures runs { RunsFair
         (sight_of O.faults O.written out.old) (sight_of O.faults O.written out.new)
         (sight_of E.faults E.written err.old) (sight_of E.faults E.written err.new)
-        (fair_run_of run.now) result }
+        run.now result }
 {
     match run_fair(alloc, run) {
         Ok(day) => end_day(alloc, out, err, day),

@@ -1,6 +1,5 @@
 use Rattle.std.proofs.Common.{None, refl, arith}
 use Rattle.command_words.specs.Words.{help, version, make_of}
-use Rattle.command_words.specs.Orders.{made_of}
 use Rattle.vodserve.proofs.RunLemmas.{help_done, made_done, no_memory, printed, ran_as, version_done}
 use Rattle.vodserve.proofs.run.run.Goals as goal
 
@@ -27,9 +26,9 @@ returns-in-Make g c = record {
         refl,
         printed c.done_with_text-in-Make.result refl
             c.print-in-Make.ensures.nothing
-            (made_done None (record { kind = made_of c.in-Make.kind; seed = c.in-Make.seed; pictures = c.in-Make.pictures })
+            (made_done None (record { kind = c.in-Make.kind; seed = c.in-Make.seed; pictures = c.in-Make.pictures })
             c.make.result c.make.ensures c.done_with_text-in-Make.result c.done_with_text-in-Make.ensures.done)
-            (no_memory _ _ _ (make_of (made_of c.in-Make.kind) c.in-Make.seed c.in-Make.pictures)
+            (no_memory _ _ _ (make_of c.in-Make.kind c.in-Make.seed c.in-Make.pictures)
             c.done_with_text-in-Make.result c.done_with_text-in-Make.ensures.trouble)
             c.print-in-Make.ensures.printed,
       );

@@ -30,7 +30,7 @@ returns-in_err-open-clause-trouble g c =
           (opened_once None (g.G.Gate.told c.args.gate.now) (g.G.Gate.told c.open.new.self) lost)
           (opened_few c.args.serving.now.listening.workers None (g.G.Gate.told c.args.gate.now)
           (g.G.Gate.told c.open.new.self) lost
-          c.requires.listening.some_workers),
+          c.requires.listening.workers.0),
     )
 
 pub returns-in_err-station-clause-trouble : goal.returns-in_err-station-clause-trouble
@@ -43,4 +43,4 @@ returns-in_err-station-clause-trouble g c =
     (opened_once (Some (opening_of (serving_of c.args.serving.now))) (g.G.Gate.told c.args.gate.now)
     (g.G.Gate.told c.open.new.self) opens) (opened_few c.args.serving.now.listening.workers
     (Some (opening_of (serving_of c.args.serving.now))) (g.G.Gate.told c.args.gate.now) (g.G.Gate.told c.open.new.self) opens
-    c.requires.listening.some_workers)))
+    c.requires.listening.workers.0)))
