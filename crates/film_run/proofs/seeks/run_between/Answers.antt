@@ -1,9 +1,10 @@
+use Rattle.std.proofs.Common.{◌∙◌}
 use Rattle.film_run.proofs.NewRuns.{asks_for_run, none-at-boundary}
 use Rattle.film_run.proofs.seeks.run_between.Goals as goal
 
 pub returns-clause-asked : goal.returns-clause-asked
 returns-clause-asked c =
-    asks_for_run c.as_slice-units.ensures.value c.picture_units.ensures.value
+    asks_for_run c.as_slice-units.ensures.value (c.from-time.ensures ∙ c.picture_units.ensures.value)
     (record {
       order = c.if-is_reversed.ensures;
       rest = c.in_ok-first_unit.ensures.rest;
