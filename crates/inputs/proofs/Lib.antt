@@ -1,15 +1,15 @@
 pub mod ReadLemmas
-pub mod OpeningLemmas
+mod OpeningLemmas
 pub mod ScanLemmas
-pub mod StreamLemmas
-pub mod SizeLemmas
+mod StreamLemmas
+mod SizeLemmas
 pub mod VideoLemmas
-pub mod Tokens
-pub mod TokenLaws
-pub mod LoadLemmas
-pub mod SmallNumbers
-pub mod Words
-pub mod TraceWords
-pub mod TraceLines
-pub mod FaultLemmas
-pub mod LibraryLemmas
+mod Tokens
+mod TokenLaws
+mod LoadLemmas
+mod SmallNumbers
+mod Words
+mod TraceWords
+mod TraceLines
+mod FaultLemmas
+mod LibraryLemmas

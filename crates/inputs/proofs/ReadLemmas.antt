@@ -1,18 +1,18 @@
 -- What was read of a file so far.
-use Rattle.std.proofs.Common.{◌≡◌, ℕ, ◌+◌, ◌-◌, ◌<◌, ◌≤◌, Bool, true, false, List, [], ◌++◌, length, take, drop, Some, None, Option, refl, sym, ap, ◌∙◌, arith, if◌then◌else◌, unwrap_or, length-append}
+use Rattle.std.proofs.Common.{◌≡◌, ℕ, ◌+◌, ◌-◌, ◌<◌, ◌≤◌, List, [], ◌++◌, length, take, drop, Some, None, Option, refl, sym, ap, ◌∙◌, arith, unwrap_or, length-append}
 use Rattle.std.specs.Prelude.{option_map}
 use Rattle.std.proofs.Math.Seq.{take-add}
 use Rattle.std.proofs.lemmas.List.{take_all, length-take-le, take-append-drop, take-take}
 use Rattle.vod_base.specs.Outside.{File, file_named, bytes_named, IsRead}
 use Rattle.inputs.specs.Files.{IsFront}
 
--- the library holds and counts as before, and where it tells what it holds, the bytes are a front of it; the reads end with the file
+-- the library holds and counts as before, and where it tells what it holds, the bytes are a front of it
 pub record HasFront (files now : Option (List File)) (faults faults' : ℕ) (name : List ℕ) (size : ℕ)
-    (bytes : List ℕ) (more : Bool) : Type 0 where
+    (bytes : List ℕ) : Type 0 where
   pub kept : now ≡ files
   pub count : faults ≤ faults'
   pub told : (held : List File) → files ≡ Some held → Some size ≡ option_map length (file_named held name)
-      → IsFront held name size bytes × (more ≡ true)
+      → IsFront held name size bytes
 
 -- a size that was found is that of a file
 found_size : (o : Option (List ℕ)) (n : ℕ) → Some n ≡ option_map length o → (b : List ℕ) × ((o ≡ Some b) × (n ≡ length b))
@@ -64,14 +64,6 @@ pub read_some : {held : List File} {name : List ℕ} {size : ℕ} {bytes piece :
 read_some {held} {name} {piece} so_far read some before =
     let whole : bytes_named held name ≡ so_far.whole = named held name so_far.whole so_far.found in
     read.some some (omega (arith, so_far.sized, before, ap length whole))
-
--- each read comes nearer the size, or is the last
-pub measure_falls : {more more' : Bool} {len len' : ℕ} (size : ℕ) → more ≡ true → len < size → len ≤ len' →
-    (more' ≡ true → len < len') →
-    size - len' + (if more' then 1 else 0) < size - len + (if more then 1 else 0)
-measure_falls {more = false} {len} {len'} size h before longer grows = let e : size ≡ len = cc in omega (arith, e, before)
-measure_falls {more = true} {more' = false} {len} {len'} size h before longer grows = omega (arith, before, longer)
-measure_falls {more = true} {more' = true} {len} {len'} size h before longer grows = omega (arith, before, grows refl)
 
 pub one_file : (held : List File) (name a b : List ℕ) → file_named held name ≡ Some a → file_named held name ≡ Some b → a ≡ b
 one_file held name a b p q = let e : Some a ≡ Some b = sym p ∙ q in cc

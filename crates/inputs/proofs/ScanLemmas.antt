@@ -1,5 +1,5 @@
 -- A film that is scanned piece by piece.
-use Rattle.std.proofs.Common.{◌≡◌, ℕ, ◌+◌, ◌<◌, ◌≤◌, ◌^◌, Bool, true, List, [], ◌++◌, length, take, drop, Some, None, Option, Result, Ok, Err, inl, inr, refl, sym, ap, ◌∙◌, arith, subst, length-append}
+use Rattle.std.proofs.Common.{◌≡◌, ℕ, ◌+◌, ◌<◌, ◌≤◌, ◌^◌, List, [], ◌++◌, length, take, drop, Some, None, Option, Result, Ok, Err, inl, inr, refl, sym, ap, ◌∙◌, arith, subst, length-append}
 use Rattle.std.specs.Prelude.{option_map, IfErr, IfOk, IsErrAnd}
 use Rattle.std.proofs.lemmas.List.{length-take-le}
 use Rattle.vod_base.specs.Outside.{File, file_named}
@@ -27,15 +27,13 @@ use Rattle.inputs.specs.Scans.{HasEnded, HasHeard, HasRefused, HasScanned, HasSc
 use Rattle.inputs.specs.Videos.{IsVideo, IsVideoFrom, pack_in}
 use Rattle.inputs.proofs.ReadLemmas.{first_front, front_rest, one_file, whole_front}
 
--- the library holds and counts as before; the film before the place was scanned; and where the library tells what it holds, the
--- reads end with the film
+-- the library holds and counts as before, and the film before the place was scanned
 pub record HasFed (Heard : List Call → Type 0) (files now : Option (List File)) (faults faults' : ℕ)
-    (name : List ℕ) (size place : ℕ) (scanner : Scanner) (more : Bool) : Type 0 where
+    (name : List ℕ) (size place : ℕ) (scanner : Scanner) : Type 0 where
   pub kept : now ≡ files
   pub count : faults ≤ faults'
   pub within : place ≤ size
   pub scanned : HasScanned Heard files name size place scanner
-  pub more_is : (held : List File) → files ≡ Some held → more ≡ true
 
 -- a video that a file is
 pub plain_video : (held : List File) (name : List ℕ) (size : ℕ) (whole : List ℕ) → IsOpened held name size None
@@ -236,6 +234,37 @@ film_trouble_map name NoMemory refuses h = tt
 film_trouble_map name GateFault refuses h = absurd h
 film_trouble_map name LinkFault refuses h = absurd h
 
+-- the trouble of a read, where each cause follows from another
+pub read_trouble_map : {Reads Reads' : List ℕ → Type 0} {Refuses Refuses' : List File → List ℕ → Fault → Type 0}
+    {told : Option (List File)} (before after : ℕ) (t : Trouble) → ((name : List ℕ) → Reads name → Reads' name) →
+    ((held : List File) (name : List ℕ) (fault : Fault) → told ≡ Some held → Reads name → Refuses held name fault →
+    Refuses' held name fault) →
+    IsReadTrouble Reads Refuses told before after t → IsReadTrouble Reads' Refuses' told before after t
+read_trouble_map {Reads} {Reads'} {Refuses} {Refuses'} {told} before after t reads refuses h =
+    trouble_map (record {
+      Reads = Reads;
+      Refuses = Refuses;
+      told = told;
+      before = before;
+      after = after;
+    })
+    (record {
+      Reads = Reads';
+      Refuses = Refuses';
+      told = told;
+      before = before;
+      after = after;
+    })
+    t
+    (record {
+      reads = reads;
+      refuses = refuses;
+      keeps = λ held is. is;
+      low = omega arith;
+      high = omega arith;
+    })
+    h
+
 -- more of the library was read: it holds what it held, and counts no fewer faults
 pub record ReadOn (told told' : Option (List File)) (a b : ℕ) : Type 0 where
   pub kept : told' ≡ told
@@ -274,30 +303,8 @@ trouble_on {told} {told'} {a} {b} name Refuses c t on h =
 pub never_refused : {told told' : Option (List File)} {a b : ℕ} (name : List ℕ) (Refuses : List File → List ℕ → Fault → Type 0)
     (c : ℕ) (t : Trouble) → ReadOn told told' a b →
     IsReadTrouble (IsNamed name) IsNever told' b c t → IsReadTrouble (IsNamed name) Refuses told a c t
-never_refused {told} {told'} {a} {b} name Refuses c t on h =
-    trouble_map (record {
-      Reads = IsNamed name;
-      Refuses = IsNever;
-      told = told';
-      before = b;
-      after = c;
-    })
-    (record {
-      Reads = IsNamed name;
-      Refuses = Refuses;
-      told = told;
-      before = a;
-      after = c;
-    })
-    t
-    (record {
-      reads = λ n is. is;
-      refuses = λ held n fault is named never. absurd never;
-      keeps = λ held is. on.kept ∙ is;
-      low = omega (arith, on.count);
-      high = omega arith;
-    })
-    h
+never_refused {a} name Refuses c t on h =
+    read_trouble_map a c t (λ n is. is) (λ held n fault told_is named never. absurd never) (trouble_on name IsNever c t on h)
 
 -- and of a call's answer
 pub troubles_on : {told told' : Option (List File)} {a b : ℕ} (name : List ℕ) (c : ℕ)

@@ -1,5 +1,5 @@
 -- A system stream that is unwrapped and scanned piece by piece.
-use Rattle.std.proofs.Common.{◌≡◌, ℕ, ◌+◌, ◌-◌, ◌≤◌, ◌^◌, Bool, true, List, [], ◌∷◌, ◌++◌, append_assoc, length, take, drop, replicate, Some, Option, inl, inr, sym, ap, ◌∙◌, arith, subst, length-append}
+use Rattle.std.proofs.Common.{◌≡◌, ℕ, ◌+◌, ◌-◌, ◌≤◌, ◌^◌, List, [], ◌∷◌, ◌++◌, append_assoc, length, take, drop, replicate, Some, Option, inl, inr, sym, ap, ◌∙◌, arith, subst, length-append}
 use Rattle.std.proofs.lemmas.List.{length-take-le, length-drop, length-replicate, append-nil, take_all, take-append-drop}
 use Rattle.std.proofs.Math.Seq.{drop-append_seam, take-add}
 use Rattle.vod_base.specs.Outside.{File, file_named}
@@ -271,14 +271,13 @@ video_refused {Heard} {held} {name} {from} short opened so_far is system refused
 -- the reads end with the stream
 pub record HasFedStream (Heard : List Call → Type 0) (Ready : ℕ → Type 0) (files now : Option (List File))
     (faults faults' : ℕ) (name : List ℕ) (size from place : ℕ)
-    (unwrapper : Unwrapper) (scanner : Scanner) (more : Bool) : Type 0 where
+    (unwrapper : Unwrapper) (scanner : Scanner) : Type 0 where
   pub kept : now ≡ files
   pub count : faults ≤ faults'
   pub within : place ≤ size
   pub few : bytes_fed scanner ≤ unwrapper.fed
   pub ready : IsReady Ready scanner
   pub streamed : HasStreamed Heard files name size from place unwrapper scanner
-  pub more_is : (held : List File) → files ≡ Some held → more ≡ true
 
 -- the parts of a piece, one after another
 pub parts_joined : (seen piece : List ℕ) (at taken : ℕ)

@@ -7,7 +7,7 @@ use Rattle.std.proofs.lemmas.List.{append_assoc}
 use Rattle.std.proofs.lemmas.List.Elements.{All-head, All-tail}
 use Rattle.vod_base.specs.Numbers.{number_of}
 use Rattle.vod_base.proofs.Written.{written_read}
-use Rattle.inputs.specs.Laws.{AreWithinLimits, lines_of}
+use Rattle.inputs.specs.Laws.{AreWithinLimits, trace_text}
 use Rattle.inputs.specs.Traces.{IsTraceText, Token, is_white_space, tokens_from}
 use Rattle.inputs.proofs.SmallNumbers.{number_read}
 use Rattle.inputs.proofs.Tokens.{word_list}
@@ -27,13 +27,13 @@ line_tokens at [] = []
 line_tokens at (size ∷ sizes) = (record { from = at; bytes = decimal size }) ∷ line_tokens (at + length (decimal size) + 1) sizes
 
 tokens_are : (at : ℕ) (sizes : List ℕ) → All (λ size. size < 2 ^ 64) sizes
-    → tokens_from at (lines_of sizes) ≡ line_tokens at sizes
+    → tokens_from at (trace_text sizes) ≡ line_tokens at sizes
 unfolding line_tokens
 tokens_are at [] small = refl
 tokens_are at (size ∷ sizes) small =
     let digits = number_read (decimal size) size (written_read 0 size (All-head (λ n. n < 2 ^ 64) size sizes small)) in
-    ap (tokens_from at) (append_assoc (decimal size) (10 ∷ []) (lines_of sizes))
-    ∙ word_list at (decimal size) (10 ∷ lines_of sizes) digits.0 (digits_word (decimal size) digits.1) refl
+    ap (tokens_from at) (append_assoc (decimal size) (10 ∷ []) (trace_text sizes))
+    ∙ word_list at (decimal size) (10 ∷ trace_text sizes) digits.0 (digits_word (decimal size) digits.1) refl
     ∙ ap (λ (ts : List Token). (record { from = at; bytes = decimal size }) ∷ ts)
     (tokens_are (at + length (decimal size) + 1) sizes (All-tail (λ n. n < 2 ^ 64) size sizes small))
 
@@ -49,7 +49,7 @@ numbers_are at (size ∷ sizes) small =
 
 -- the numbers of the lines
 numbers_read : (sizes : List ℕ) → All (λ size. size < 2 ^ 64) sizes →
-    map (λ (token : Token). number_of token.bytes) (tokens_from 0 (lines_of sizes)) ≡ map (λ (size : ℕ). Some size) sizes
+    map (λ (token : Token). number_of token.bytes) (tokens_from 0 (trace_text sizes)) ≡ map (λ (size : ℕ). Some size) sizes
 numbers_read sizes small =
     ap (λ (ts : List Token). map (λ (token : Token). number_of token.bytes) ts) (tokens_are 0 sizes small)
     ∙ numbers_are 0 sizes small
@@ -67,7 +67,7 @@ same_somes (n ∷ one) (m ∷ other) e =
 all_small : (sizes : List ℕ) → All (λ size. size ≤ 4294967296) sizes → All (λ size. size < 2 ^ 64) sizes
 all_small sizes each = λ k d inside. omega (arith, each k d inside)
 
-pub lines_read : (sizes : List ℕ) → AreWithinLimits sizes → IsTraceText (lines_of sizes) sizes
+pub lines_read : (sizes : List ℕ) → AreWithinLimits sizes → IsTraceText (trace_text sizes) sizes
 lines_read sizes are = record {
   numbers = numbers_read sizes (all_small sizes are.each);
   small = are.each;
@@ -75,16 +75,16 @@ lines_read sizes are = record {
   few = are.pictures;
 }
 
-pub lines_same : (sizes read : List ℕ) → All (λ size. size < 2 ^ 64) sizes → IsTraceText (lines_of sizes) read → read ≡ sizes
+pub lines_same : (sizes read : List ℕ) → All (λ size. size < 2 ^ 64) sizes → IsTraceText (trace_text sizes) read → read ≡ sizes
 lines_same sizes read small is = same_somes read sizes (sym is.numbers ∙ numbers_read sizes small)
 
-limits_of : (sizes : List ℕ) → IsTraceText (lines_of sizes) sizes → AreWithinLimits sizes
+limits_of : (sizes : List ℕ) → IsTraceText (trace_text sizes) sizes → AreWithinLimits sizes
 limits_of sizes is = record {
   pictures = is.few;
   each = is.small;
   together = is.few_bytes;
 }
 
-pub lines_within : (sizes read : List ℕ) → All (λ size. size < 2 ^ 64) sizes → IsTraceText (lines_of sizes) read
+pub lines_within : (sizes read : List ℕ) → All (λ size. size < 2 ^ 64) sizes → IsTraceText (trace_text sizes) read
     → AreWithinLimits sizes
-lines_within sizes read small is = limits_of sizes (subst (IsTraceText (lines_of sizes)) (lines_same sizes read small is) is)
+lines_within sizes read small is = limits_of sizes (subst (IsTraceText (trace_text sizes)) (lines_same sizes read small is) is)

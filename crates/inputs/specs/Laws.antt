@@ -9,8 +9,8 @@ use Rattle.sys_demux.specs.declared.faults.SystemFault.TheVariants.{Truncated}
 use Rattle.inputs.specs.Videos.{pack_in, place_of}
 
 -- sizes as a text, line by line, each as a decimal number
-abbrev pub lines_of : List ℕ → List ℕ
-lines_of sizes = flat_map (λ size. decimal size ++ 10 ∷ []) sizes
+abbrev pub trace_text : List ℕ → List ℕ
+trace_text sizes = flat_map (λ size. decimal size ++ 10 ∷ []) sizes
 
 -- a million pictures, each of up to 4 GiB, and up to 1 TiB together
 pub record AreWithinLimits (sizes : List ℕ) : Type 0 where

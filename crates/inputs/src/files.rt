@@ -1,6 +1,6 @@
 //! Reads a file of the library.
 ghost use Rattle.std.specs.Prelude.{◌≡◌, ◌<◌, ◌≤◌, ◌+◌, ◌++◌, Some, ℕ, List, length, take};
-ghost use Rattle.std.specs.Prelude.{option_map, vec_len, true, IfErr, IfOk};
+ghost use Rattle.std.specs.Prelude.{option_map, vec_len, IfErr, IfOk};
 ghost use Rattle.vod_base.specs.Outside.{File, file_named};
 ghost use Rattle.troubles.specs.Causes.{IsReadOnly, IsReadTrouble};
 ghost use Rattle.inputs.specs.Files.{IsFront, IsMissing, IsNamed, IsNever};
@@ -105,39 +105,38 @@ pub(crate) fn read_bytes<'a, L: Library>(
 {
     let mut bytes = Vec::new(alloc);
     let mut piece = zeros(alloc, PIECE)?;
-    let mut more = true;
-    while more && (bytes.len() as u64) < size {
-        more = read_piece(library, name, size, &mut piece, &mut bytes)?;
+    while (bytes.len() as u64) < size {
+        let count = read_piece(library, name, size, &mut piece, &mut bytes)?;
+        if count == 0 {
+            return Ok(bytes);
+        }
     }
     Ok(bytes)
 }
 
-/// Reads one piece after the bytes read so far, and tells whether there was more to read.
+/// Reads one piece after the bytes read so far, and answers how many bytes it had: 0 at the end.
 fn read_piece<'a, L: Library>(
     library: &mut L,
     name: &'a str,
     size: u64,
     piece: &mut [u8],
     bytes: &mut Vec<u8>,
-) -> Result<bool, Trouble<'a>>
+) -> Result<usize, Trouble<'a>>
     requires some { 0 < length piece.old }
     requires before { vec_len bytes.old < size }
     ensures library { IsReadOnly (L.files library.old) (L.files library.new) (L.faults library.old)
         (L.faults library.new) }
     ensures longer { vec_len bytes.old ≤ vec_len bytes.new }
     ensures within { vec_len bytes.new ≤ size }
-    ensures grows { IfOk result (λ more. more ≡ true → vec_len bytes.old < vec_len bytes.new) }
+    ensures grows { IfOk result (λ count. vec_len bytes.new ≡ vec_len bytes.old + count) }
     ensures told { (held : List File) → L.files library.old ≡ Some held →
         IsFront held name.entry.now size bytes.old.items
-        → IfOk result (λ more. IsFront held name.entry.now size bytes.new.items × (more ≡ true)) }
+        → IfOk result (λ count. IsFront held name.entry.now size bytes.new.items × (0 < count)) }
     ensures trouble { IfErr result (IsReadTrouble (IsNamed name.entry.now) IsNever
         (L.files library.old) (L.faults library.old) (L.faults library.new)) }
 {
     let at = bytes.len() as u64;
     let count = read_at(library, name, size, at, piece)?;
-    if count == 0 {
-        return Ok(false);
-    }
     bytes.extend_from_slice(&piece[..count])?;
-    Ok(true)
+    Ok(count)
 }

@@ -1,7 +1,7 @@
 //! What the words of a trace are, and where the fault of a system stream stands in its file.
 ghost use Rattle.std.specs.Prelude.{◌≡◌, ◌<◌, ◌^◌, ℕ, List, All};
 ghost use Rattle.sys_demux.specs.declared.faults.SystemFault.{SystemFault};
-ghost use Rattle.inputs.specs.Laws.{AreWithinLimits, IsFaultInFile, lines_of};
+ghost use Rattle.inputs.specs.Laws.{AreWithinLimits, IsFaultInFile, trace_text};
 ghost use Rattle.inputs.specs.Traces.{AreSeparated, IsTraceText, Token, tokens_from};
 ghost use Rattle.inputs.specs.Videos.{IsStreamFault};
 
@@ -16,11 +16,11 @@ pub fn law_tokens()
 /// Sizes that are written line by line are read as these sizes, and as a trace exactly where they
 /// are at most 1,000,000, each at most 4,294,967,296 and all together at most 1,099,511,627,776.
 pub fn law_trace_lines()
-    ensures read { (sizes : List ℕ) → AreWithinLimits sizes → IsTraceText (lines_of sizes) sizes }
+    ensures read { (sizes : List ℕ) → AreWithinLimits sizes → IsTraceText (trace_text sizes) sizes }
     ensures within { (sizes read : List ℕ) → All (λ size. size < 2 ^ 64) sizes →
-        IsTraceText (lines_of sizes) read → AreWithinLimits sizes }
+        IsTraceText (trace_text sizes) read → AreWithinLimits sizes }
     ensures same { (sizes read : List ℕ) → All (λ size. size < 2 ^ 64) sizes →
-        IsTraceText (lines_of sizes) read → read ≡ sizes }
+        IsTraceText (trace_text sizes) read → read ≡ sizes }
 {}
 
 /// The fault of a file is that of the system stream in it, at the same bytes: its place counts from

@@ -137,11 +137,12 @@ fn feed_film<'a, L: Library, F: Found>(
         (L.faults library.old) (L.faults library.new)) }
 {
     let mut at = 0;
-    let mut more = true;
-    while more && at < size {
+    while at < size {
         let count = feed_piece(library, name, size, at, piece, scanner, found)?;
+        if count == 0 {
+            return Ok(());
+        }
         at += count;
-        more = 0 < count;
     }
     Ok(())
 }

@@ -254,11 +254,12 @@ fn feed_stream<'a, L: Library, F: Found>(
         (L.faults library.old) (L.faults library.new)) }
 {
     let mut at = file.from;
-    let mut more = true;
-    while more && at < file.size {
+    while at < file.size {
         let count = feed_stream_piece(library, file, at, piece, unwrapper, scanner, found)?;
+        if count == 0 {
+            return Ok(());
+        }
         at += count;
-        more = 0 < count;
     }
     Ok(())
 }

@@ -1,12 +1,12 @@
-use Rattle.std.proofs.Common.{◌-◌, ◌+◌, ◌<◌, ◌≤◌, vec_len, if◌then◌else◌}
+use Rattle.std.proofs.Common.{◌-◌, ◌<◌, ◌≤◌, vec_len}
 use Rattle.inputs.proofs.ReadLemmas.{HasFront}
 use Rattle.inputs.proofs.files.read_bytes.Given as goal
 
-abbrev pub invariant-loop-more : goal.invariant-loop-more
-invariant-loop-more g l =
+abbrev pub invariant-loop-library : goal.invariant-loop-library
+invariant-loop-library g l =
     HasFront (g.L.Library.files l.fn.library) (g.L.Library.files l.library) (g.L.Library.faults l.fn.library)
-    (g.L.Library.faults l.library) l.name l.size l.bytes.items l.more
+    (g.L.Library.faults l.library) l.name l.size l.bytes.items
     × (0 < vec_len l.piece) × (vec_len l.bytes ≤ l.size)
 
-abbrev pub decreases-loop-more : goal.decreases-loop-more
-decreases-loop-more g l = l.size - vec_len l.bytes + (if l.more then 1 else 0)
+abbrev pub decreases-loop-library : goal.decreases-loop-library
+decreases-loop-library g l = l.size - vec_len l.bytes

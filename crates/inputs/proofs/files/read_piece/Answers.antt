@@ -1,19 +1,16 @@
-use Rattle.std.proofs.Common.{◌≡◌, ◌++◌, length, take, arith, rules, refl}
+use Rattle.std.proofs.Common.{◌≡◌, ◌++◌, length, take, arith, rules}
 use Rattle.std.proofs.lemmas.List.{length-take-le}
 use Rattle.inputs.proofs.ScanLemmas.{handed_on}
 use Rattle.inputs.proofs.files.read_piece.Goals as goal
-
-pub returns-then-count-eq0-clause-told : goal.returns-then-count-eq0-clause-told
-returns-then-count-eq0-clause-told g c = λ held told front.
-    let at : length c.args.bytes.now.items ≡ c.len-at.result = omega (arith, c.len-at.ensures, c.args.bytes.now.ok) in
-    absurd (omega (arith, (c.in_ok-count.ensures {u = tt}).more held c.args.bytes.now.items told front at, c.if-count-eq0.true))
 
 pub returns-clause-told : goal.returns-clause-told
 returns-clause-told g c = λ held told front.
     let at : length c.args.bytes.now.items ≡ c.len-at.result = omega (arith, c.len-at.ensures, c.args.bytes.now.ok) in
     let pushed : c.extend_from_slice.new.self.items
-    ≡ c.args.bytes.now.items ++ take c.in_ok-count.count c.read_at.new.piece = search rules in
-    (rw pushed ((c.in_ok-count.ensures {u = tt}).told held c.args.bytes.now.items told front at), refl)
+    ≡ c.args.bytes.now.items ++ take c.in_ok-count.count c.read_at.new.piece = search rules in (
+      rw pushed ((c.in_ok-count.ensures {u = tt}).told held c.args.bytes.now.items told front at),
+      (c.in_ok-count.ensures {u = tt}).more held c.args.bytes.now.items told front at,
+    )
 
 pub returns-in_err-count-clause-trouble : goal.returns-in_err-count-clause-trouble
 returns-in_err-count-clause-trouble g c =
@@ -36,9 +33,8 @@ returns-clause-within g c = omega (
 )
 
 pub returns-clause-grows : goal.returns-clause-grows
-returns-clause-grows g c = λ more. omega (
+returns-clause-grows g c = omega (
   arith,
   c.in_ok-extend_from_slice.ensures.len,
-  c.if-count-eq0.false,
   length-take-le c.in_ok-count.count c.read_at.new.piece ((c.in_ok-count.ensures {u = tt}).within),
 )

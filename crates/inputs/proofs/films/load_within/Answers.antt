@@ -1,10 +1,8 @@
 use Rattle.std.proofs.Common.{◌≡◌, ◌∙◌, arith, inl, refl, subst, sym}
 use Rattle.mpeg_scan.specs.declared.films.Film.{Film}
-use Rattle.troubles.proofs.CauseLemmas.{trouble_map}
-use Rattle.inputs.specs.Files.{IsMissing, IsNamed}
 use Rattle.inputs.specs.Videos.{IsRefusedAbove, IsVideo}
 use Rattle.inputs.proofs.LoadLemmas.{WasRead, bytes_trouble, film_loaded, size_above}
-use Rattle.inputs.proofs.ScanLemmas.{ReadOn, handed_on, never_refused}
+use Rattle.inputs.proofs.ScanLemmas.{ReadOn, handed_on, never_refused, read_trouble_map}
 use Rattle.inputs.proofs.VideoLemmas.{HoldsAccepted, file_not_refused}
 use Rattle.inputs.proofs.LibraryLemmas.{then_read}
 use Rattle.inputs.proofs.films.load_within.Goals as goal
@@ -12,28 +10,8 @@ use Rattle.inputs.proofs.films.load_within.Goals as goal
 pub returns-in_err-size-clause-trouble : goal.returns-in_err-size-clause-trouble
 returns-in_err-size-clause-trouble g c =
     handed_on _ c.from_residual.result c.from_residual.ensures.1
-    (trouble_map (record {
-      Reads = IsNamed c.args.name.now;
-      Refuses = IsMissing;
-      told = g.L.Library.files c.args.library.now;
-      before = g.L.Library.faults c.args.library.now;
-      after = g.L.Library.faults c.find_file.new.library;
-    })
-    (record {
-      Reads = IsNamed c.args.name.now;
-      Refuses = IsRefusedAbove c.args.most c.args.over;
-      told = g.L.Library.files c.args.library.now;
-      before = g.L.Library.faults c.args.library.now;
-      after = g.L.Library.faults c.find_file.new.library;
-    })
-    c.in_err-size.field-0.0
-    (record {
-      reads = λ name is. is;
-      refuses = λ held name fault told is missing. inl missing;
-      keeps = λ held told. told;
-      low = omega arith;
-      high = omega arith;
-    })
+    (read_trouble_map _ _ c.in_err-size.field-0.0 (λ name is. is)
+    (λ held name fault told is missing. inl missing)
     ((c.in_err-size.ensures {u = tt}).trouble))
 
 pub returns-in_err-file-clause-trouble : goal.returns-in_err-file-clause-trouble

@@ -1,8 +1,6 @@
 use Rattle.std.proofs.Common.{◌∙◌, refl, sym, subst, arith}
-use Rattle.troubles.proofs.CauseLemmas.{trouble_map}
-use Rattle.inputs.specs.Files.{IsNamed, IsMissing}
 use Rattle.inputs.specs.Scans.{IsFilmRefused, IsOpened}
-use Rattle.inputs.proofs.ScanLemmas.{ReadOn, handed_on, heard_on, missing_refused, never_refused, size_refused}
+use Rattle.inputs.proofs.ScanLemmas.{ReadOn, handed_on, heard_on, missing_refused, never_refused, read_trouble_map, size_refused}
 use Rattle.inputs.proofs.ScanLemmas.{troubles_on}
 use Rattle.inputs.proofs.LibraryLemmas.{then_read}
 use Rattle.inputs.proofs.scans.hear_film.Goals as goal
@@ -10,28 +8,8 @@ use Rattle.inputs.proofs.scans.hear_film.Goals as goal
 pub returns-in_err-size-clause-trouble : goal.returns-in_err-size-clause-trouble
 returns-in_err-size-clause-trouble g c =
     handed_on _ c.from_residual.result c.from_residual.ensures.1
-    (trouble_map (record {
-      Reads = IsNamed c.args.name.now;
-      Refuses = IsMissing;
-      told = g.L.Library.files c.args.library.now;
-      before = g.L.Library.faults c.args.library.now;
-      after = g.L.Library.faults c.find_file.new.library;
-    })
-    (record {
-      Reads = IsNamed c.args.name.now;
-      Refuses = IsFilmRefused;
-      told = g.L.Library.files c.args.library.now;
-      before = g.L.Library.faults c.args.library.now;
-      after = g.L.Library.faults c.find_file.new.library;
-    })
-    c.in_err-size.field-0.0
-    (record {
-      reads = λ name is. is;
-      refuses = λ held name fault told is missing. missing_refused held name fault missing;
-      keeps = λ held told. told;
-      low = omega arith;
-      high = omega arith;
-    })
+    (read_trouble_map _ _ c.in_err-size.field-0.0 (λ name is. is)
+    (λ held name fault told is missing. missing_refused held name fault missing)
     ((c.in_err-size.ensures {u = tt}).trouble))
 
 pub returns-in_err-piece-clause-trouble : goal.returns-in_err-piece-clause-trouble
