@@ -12,7 +12,7 @@ use Rattle.slot_calendar.specs.Profiles.{IsProfile, no_step, step_at}
 use Rattle.command_words.specs.Capacities.{IsFront, may_follow, part_more, stands_after, step_more, step_of}
 
 -- what a step that may follow is known for
-pub record Follows (steps : List CapStep) (step : CapStep) : Type 0 where
+pub record MayFollow (steps : List CapStep) (step : CapStep) : Type 0 where
   pub short : length steps < 64
   pub first : length steps ≡ 0 → step.from ≡ 0
   pub later : 0 < length steps → (step_at steps (length steps - 1)).from < step.from
@@ -27,7 +27,7 @@ after_last steps slot e some =
     let apart : (length steps == 0) ≡ false = ne_eqb (length steps) 0 (λ none. omega (arith, some, none)) in
     ltb-true (step_at steps (length steps - 1)).from slot (rw apart at e)
 
-follows : (steps : List CapStep) (step : CapStep) → may_follow steps step ≡ true → Follows steps step
+follows : (steps : List CapStep) (step : CapStep) → may_follow steps step ≡ true → MayFollow steps step
 follows steps step e =
     let all = and_parts (nat_lt (length steps) 64)
     (stands_after steps step.from && (nat_le step.from (2 ^ 62) && nat_le step.bytes (2 ^ 42))) e in
@@ -47,14 +47,14 @@ old_step steps step i inside = get_or-append steps (step ∷ []) no_step i insid
 new_step : (steps : List CapStep) (step : CapStep) (i : ℕ) → i ≡ length steps → step_at (steps ++ step ∷ []) i ≡ step
 new_step steps step i last = ap (step_at (steps ++ step ∷ [])) last ∙ get_or-append_seam steps step [] no_step
 
-first_more : (steps : List CapStep) (step : CapStep) → IsFront steps → Follows steps step
+first_more : (steps : List CapStep) (step : CapStep) → IsFront steps → MayFollow steps step
     → (step_at (steps ++ step ∷ []) 0).from ≡ 0
 first_more steps step front more = elim (cases_lt 0 (length steps)) [
   | inl some ↦ ap (λ (s : CapStep). s.from) (old_step steps step 0 some) ∙ front.first some
   | inr none ↦ ap (λ (s : CapStep). s.from) (new_step steps step 0 (omega (arith, none))) ∙ more.first (omega (arith, none))
 ]
 
-ascend_more : (steps : List CapStep) (step : CapStep) → IsFront steps → Follows steps step → (i : ℕ) →
+ascend_more : (steps : List CapStep) (step : CapStep) → IsFront steps → MayFollow steps step → (i : ℕ) →
     i + 1 < length (steps ++ step ∷ []) →
     (step_at (steps ++ step ∷ []) i).from < (step_at (steps ++ step ∷ []) (i + 1)).from
 ascend_more steps step front more i inside = elim (cases_lt (i + 1) (length steps)) [
@@ -72,7 +72,7 @@ ascend_more steps step front more i inside = elim (cases_lt (i + 1) (length step
       rw here (rw next below)
 ]
 
-small_more : (steps : List CapStep) (step : CapStep) → IsFront steps → Follows steps step → (i : ℕ) →
+small_more : (steps : List CapStep) (step : CapStep) → IsFront steps → MayFollow steps step → (i : ℕ) →
     i < length (steps ++ step ∷ []) →
     (step_at (steps ++ step ∷ []) i).bytes ≤ 2 ^ 42
 small_more steps step front more i inside = elim (cases_lt i (length steps)) [
@@ -85,7 +85,7 @@ small_more steps step front more i inside = elim (cases_lt i (length steps)) [
 pub front_more : (steps : List CapStep) (step : CapStep) → IsFront steps → may_follow steps step ≡ true
     → IsFront (steps ++ step ∷ [])
 front_more steps step front may =
-    let more : Follows steps step = follows steps step may in
+    let more : MayFollow steps step = follows steps step may in
     let long : length (steps ++ step ∷ []) ≡ length steps + 1 = length-append steps (step ∷ []) in
     record {
       few = omega (arith, more.short, long);

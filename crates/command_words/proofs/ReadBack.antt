@@ -12,7 +12,7 @@ use Rattle.command_words.specs.Commands.{keys_of}
 use Rattle.command_words.specs.declared.commands.Command.{Command}
 use Rattle.command_words.specs.declared.commands.Command.TheVariants.{Plan, Check, Scan, Make, Day, Fair, Serve, Watch}
 use Rattle.command_words.specs.Words.{Source, trace_source, film_source, Viewer, Serving, ScriptRun, Watching, Order, help, version, plan_of, check_of, scan_of, make_of, day_of, fair_of, serve_of, watch_of, source_of, source_given, viewer_given, check_given, make_given, script_run_given, fair_run_given, listening_given, pace_given, serving_given, watching_given, order_given, command_order, meaning}
-use Rattle.command_words.specs.Spelling.{Setting, word_of, settings_of, words_of, film_setting, server_settings, viewer_settings, kind_text, bind_text, steps_text, IsCapacity, MayBeBuffer, MayBeStartup, MayBePort, MayBePictures, MayBeSlot, MayBeJournal, MayBeSource, MayBeViewer, MayBePace, MayListen, MayServe, MayRun, MayDraw, MayWatch, MayBeAsked}
+use Rattle.command_words.specs.Spelling.{Setting, word_of, settings_of, words_of, film_setting, server_settings, viewer_settings, made_name, bind_text, steps_text, IsCapacity, MayBeBuffer, MayBeStartup, MayBePort, MayBePictures, MayBeSlot, MayBeJournal, MayBeSource, MayBeViewer, MayBePace, MayListen, MayServe, MayRun, MayDraw, MayWatch, MayBeAsked}
 use Rattle.command_words.specs.declared.orders.Made.{Made}
 use Rattle.command_words.specs.declared.orders.Made.TheVariants.{Film, Trace, System}
 use Rattle.command_words.specs.declared.orders.Listening.{Listening}
@@ -162,7 +162,7 @@ make_read kind seed pictures small within =
     key_one (values_read (codes "pictures") settings refl) within (omega (arith, within.1)) in
     rw kinds (rw seeds (rw all refl))
   where
-    kind_back : (kind : Made) → one_kind (kind_text kind ∷ []) ≡ Some kind
+    kind_back : (kind : Made) → one_kind (made_name kind ∷ []) ≡ Some kind
     kind_back Film = refl
     kind_back Trace = refl
     kind_back System = refl

@@ -39,10 +39,10 @@ steps_text [] = []
 steps_text (step ∷ []) = step_text step
 steps_text (step ∷ next ∷ steps) = step_text step ++ codes "," ++ steps_text (next ∷ steps)
 
-abbrev pub kind_text : Made → List ℕ
-kind_text Film = codes "film"
-kind_text Trace = codes "trace"
-kind_text System = codes "system"
+abbrev pub made_name : Made → List ℕ
+made_name Film = codes "film"
+made_name Trace = codes "trace"
+made_name System = codes "system"
 
 abbrev pub bind_text : Bool → List ℕ
 bind_text true = codes "all"
@@ -87,7 +87,7 @@ settings_of (plan_of viewer) = viewer_settings viewer
 settings_of (check_of viewer cert) = text_setting (codes "cert") cert ∷ viewer_settings viewer
 settings_of (scan_of film) = film_setting film ∷ []
 settings_of (make_of kind seed pictures) =
-    text_setting (codes "kind") (kind_text kind) ∷ number_setting (codes "seed") seed
+    text_setting (codes "kind") (made_name kind) ∷ number_setting (codes "seed") seed
     ∷ number_setting (codes "pictures") pictures ∷ []
 settings_of (day_of run) =
     text_setting (codes "script") run.script

@@ -1,5 +1,5 @@
-//! What words mean, in laws: which words have a meaning, what they may ask for, what holds where one
-//! is left out, and that their order is free. With
+//! What words mean, in laws: which words have a meaning, what they may ask for, what holds where
+//! one is left out, and that their order is free. With
 //! [`law_words_read_back`](crate::law_words_read_back) they leave one meaning.
 
 ghost use Rattle.std.specs.Prelude.{◌≡◌, ◌∷◌, ◌++◌, ℕ, List, Some};
