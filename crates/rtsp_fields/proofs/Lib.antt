@@ -11,6 +11,7 @@ pub mod HexTexts
 pub mod Names
 pub mod Described
 pub mod ClockTexts
+pub mod SeparatedTexts
 pub mod TransportTexts
 pub mod TransportDefaults
 pub mod SessionTexts

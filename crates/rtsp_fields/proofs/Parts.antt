@@ -7,7 +7,8 @@ use Rattle.rtsp_fields.specs.Pieces.{IsEnd, IsPiece, NoneBefore, NoPiece, Begins
 use Rattle.rtsp_fields.specs.Values.{WritesNumber}
 use Rattle.rtsp_fields.specs.Transports.{IsPair, IsSingle, AreChannels, word, IsOther, NamesChannels, HasChannels, IsTaken, CanBeTaken, IsTransport, after_name}
 use Rattle.rtsp_fields.specs.declared.transports.Channels.{Channels}
-use Rattle.rtsp_fields.proofs.Places.{end_once, first_once}
+use Rattle.rtsp_fields.specs.declared.pieces.Pieces.{Pieces}
+use Rattle.rtsp_fields.proofs.Places.{GivesNext, HasPassed, end_once, first_once, found_piece}
 
 -- a pair, cut at its dash
 pub record IsPairAt (text : List ℕ) (dash : ℕ) (channels : Channels) : Type 0 where
@@ -66,6 +67,19 @@ named_channels {text} {from} {to} None piece names first h = λ channels has. el
 named_channels {text} {from} {to} (Some channels) piece names first h =
     inl (record { from = from; to = to; piece = piece; names = names; first = first; are = h })
 
+pub channels_found : {text piece : List ℕ} {old : Pieces} (o : Option Channels) (new : Pieces) → HasPassed NamesChannels 59 text old →
+    GivesNext old piece new → NamesChannels piece →
+    MatchOption o
+    ((channels : Channels) →
+    ¬ AreChannels (after_name (without_blanks piece)) channels)
+    (AreChannels (after_name (without_blanks piece))) →
+    MatchOption o ((channels : Channels) → ¬ HasChannels text channels) (HasChannels text)
+channels_found o new passed gives names are =
+    let found = found_piece new passed gives names in
+    named_channels o found.1.0.piece found.1.0.holds found.1.0.first
+    (subst (λ (t : List ℕ). MatchOption o ((channels : Channels) → ¬ AreChannels (after_name (without_blanks t)) channels)
+    (AreChannels (after_name (without_blanks t)))) found.1.1 are)
+
 -- no alternative with another first part can be taken
 pub other_protocol : (text : List ℕ) (end : ℕ) (channels : Channels) → IsEnd 59 text 0 end
     → (word (take end text) ≢ codes "rtp/avp/tcp") → IsTaken text channels → ⊥
@@ -88,3 +102,15 @@ not_taken text none = λ t. none t.0 t.1
 
 pub no_transport : (value : List ℕ) (channels : Channels) → NoPiece 44 value CanBeTaken → IsTransport value channels → ⊥
 no_transport value channels none t = none t.from t.to t.piece (channels, t.taken)
+
+pub transport_found : {value piece : List ℕ} {old : Pieces} {channels : Channels} (new : Pieces) → HasPassed CanBeTaken 44 value old →
+    GivesNext old piece new → IsTaken piece channels → IsTransport value channels
+transport_found {old = old} {channels = channels} new passed gives taken =
+    let found = found_piece new passed gives (channels, taken) in
+    record {
+      from = old.from;
+      to = found.0;
+      piece = found.1.0.piece;
+      taken = subst (λ (t : List ℕ). IsTaken t channels) found.1.1 taken;
+      first = found.1.0.first;
+    }

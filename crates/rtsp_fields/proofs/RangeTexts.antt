@@ -1,10 +1,8 @@
 -- A Range value, put together, is read back.
 use Rattle.std.proofs.Common.{◌≡◌, ℕ, suc, ◌+◌, ◌-◌, ◌*◌, ◌/◌, ◌%◌, ◌^◌, ◌<◌, ◌≤◌, true, List, [], ◌∷◌, ◌++◌, codes, decimal, length, take, drop, get_or, slice_range, Some, None, refl, sym, ap, subst, ◌∙◌, arith}
 use Rattle.std.specs.List.{list_all}
-use Rattle.std.proofs.lemmas.Bool.{and_from}
 use Rattle.std.proofs.lemmas.Fmt.{digits_decimal}
 use Rattle.std.proofs.lemmas.List.{append_assoc, take_at, drop_at, take_all, length-append, get_or_append_left, get_or-append-add}
-use Rattle.std.proofs.lemmas.List.Folds.{list_all-append}
 use Rattle.vod_base.proofs.Digits.{decimal_numerals}
 use Rattle.rtsp_text.proofs.Inside.{all-append}
 use Rattle.rtsp_fields.specs.Descriptions.{seconds_text}
@@ -13,7 +11,7 @@ use Rattle.rtsp_fields.specs.Ranges.{IsLimit, IsOrigin, IsSpan}
 use Rattle.rtsp_fields.specs.declared.ranges.Span.{Span}
 use Rattle.rtsp_fields.specs.declared.ranges.Origin.TheVariants.{Now, At}
 use Rattle.rtsp_fields.proofs.SecondsTexts.{seconds_read}
-use Rattle.rtsp_fields.proofs.TransportTexts.{digits_other, none_from, other_than}
+use Rattle.rtsp_fields.proofs.SeparatedTexts.{digits_other, none_from, other_than}
 
 -- `npt=`, where the span begins, `-`, and where it ends
 range_text : List ℕ → List ℕ → List ℕ

@@ -9,7 +9,8 @@ use Rattle.std.proofs.lemmas.Grind.{common_steps}
 use Rattle.vod_base.specs.Blanks.{is_blank, without_blanks}
 use Rattle.rtsp_fields.specs.Pieces.{lower}
 use Rattle.rtsp_fields.specs.Sessions.{IsSession}
-use Rattle.rtsp_fields.proofs.TransportTexts.{text_of, piece_first, piece_whole, other_than, none_from, bare}
+use Rattle.rtsp_fields.proofs.SeparatedTexts.{text_of, piece_first, piece_whole, other_than, none_from}
+use Rattle.rtsp_fields.proofs.TransportTexts.{bare}
 
 letter_other : (b : ℕ) → is_ascii_alphanumeric b ≡ true → other_than 59 b ≡ true
 unfolding other_than

@@ -9,7 +9,8 @@ use Rattle.rtsp_fields.specs.Laws.{IsOtherParameter}
 use Rattle.rtsp_fields.specs.Pieces.{HasNone, IsPiece, NoPiece}
 use Rattle.rtsp_fields.specs.Transports.{IsOther, NamesChannels, IsTaken, IsTransport, word}
 use Rattle.rtsp_fields.specs.declared.transports.Channels.{Channels}
-use Rattle.rtsp_fields.proofs.TransportTexts.{text_of, other_than, none_from, piece_first, piece_whole, none_more, none_whole, first_letter, names_none, slice_first, protocol_none}
+use Rattle.rtsp_fields.proofs.SeparatedTexts.{text_of, other_than, none_from, piece_first, piece_whole, none_more, none_whole, slice_first}
+use Rattle.rtsp_fields.proofs.TransportTexts.{first_letter, names_none, protocol_none}
 
 -- a part and those after it
 joined : List ℕ → List (List ℕ) → List ℕ

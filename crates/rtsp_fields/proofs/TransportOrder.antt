@@ -6,7 +6,8 @@ use Rattle.rtsp_fields.specs.Laws.{HasNoComma}
 use Rattle.rtsp_fields.specs.Pieces.{HasNone}
 use Rattle.rtsp_fields.specs.Transports.{CanBeTaken, IsOther, IsTaken, IsTransport, word}
 use Rattle.rtsp_fields.specs.declared.transports.Channels.{Channels}
-use Rattle.rtsp_fields.proofs.TransportTexts.{alone, none_before, none_from, other_than, piece_first, piece_later, piece_whole, slice_first, slice_later, text_of, whole_slice}
+use Rattle.rtsp_fields.proofs.SeparatedTexts.{none_before, none_from, other_than, piece_first, piece_later, piece_whole, slice_first, slice_later, text_of, whole_slice}
+use Rattle.rtsp_fields.proofs.TransportTexts.{alone}
 
 comma_free : (text : List ℕ) → HasNoComma text → HasNone 44 text 0 (length text)
 unfolding other_than

@@ -1,6 +1,6 @@
 -- Texts that a separator cuts into pieces, and words in any case.
-use Rattle.std.specs.Prelude.{◌≡◌, ◌≢◌, ℕ, ◌-◌, ◌<◌, ◌≤◌, ◌⊎◌, List, length, take, map, slice_index}
-use Rattle.std.specs.Prelude.{slice_range}
+use Rattle.std.specs.Prelude.{◌≡◌, ◌≢◌, ℕ, ◌+◌, ◌-◌, ◌<◌, ◌≤◌, ◌⊎◌, List, length, take, map}
+use Rattle.std.specs.Prelude.{slice_index, slice_range}
 use Rattle.std.specs.Char.{to_ascii_lowercase}
 
 -- none of the bytes from `from` up to `to` is `c`
@@ -22,6 +22,14 @@ pub record IsEnd (c : ℕ) (text : List ℕ) (from to : ℕ) : Type 0 where
 pub record IsPiece (c : ℕ) (text : List ℕ) (from to : ℕ) : Type 0 where
   pub start : IsStart c text from
   pub end : IsEnd c text from to
+
+-- `piece` begins at `from`, and ends before the next separator or with the text; `next` is the place
+-- after that
+pub record IsNextPiece (c : ℕ) (text : List ℕ) (from next : ℕ) (piece : List ℕ) : Type 0 where
+  pub end : ℕ
+  pub is_end : IsEnd c text from end
+  pub next_is : next ≡ end + 1
+  pub piece_is : piece ≡ slice_range text from end
 
 -- no piece that begins before `at` is such a text
 abbrev pub NoneBefore : ℕ → List ℕ → ℕ → (List ℕ → Type 0) → Type 0

@@ -1,7 +1,8 @@
 //! Texts that a separator cuts into pieces.
 
-ghost use Rattle.std.specs.Prelude.{◌≡◌, ◌≤◌, ◌↔◌, IsTrue, length};
-ghost use Rattle.rtsp_fields.specs.Pieces.{IsEnd, Begins, lower};
+ghost use Rattle.std.specs.Prelude.{◌≡◌, ◌+◌, ◌-◌, ◌<◌, ◌≤◌, ◌↔◌, IsTrue, MatchOption, length};
+ghost use Rattle.std.specs.Iterator.{at_most};
+ghost use Rattle.rtsp_fields.specs.Pieces.{IsEnd, IsNextPiece, Begins, lower};
 
 /// Where the piece that begins at `from` ends: at the first separator from there on, or at the
 /// text's end.
@@ -15,6 +16,48 @@ pub(crate) fn piece_end(text: &[u8], from: usize, separator: u8) -> usize
         }
     }
     text.len()
+}
+
+/// The pieces of a text between separators, in order.
+#[derive(Drop)]
+pub(crate) struct Pieces<'a> {
+    text: &'a [u8],
+    separator: u8,
+    /// Where the next piece begins; past the text's end where none is left.
+    from: usize,
+}
+
+impl<'a> Iterator for Pieces<'a> {
+    type Item = &'a [u8];
+
+    ghost next_gives = { λ old piece new. MatchOption piece (length old.text.now < old.from)
+        (λ piece. IsNextPiece old.separator old.text.now old.from new.from piece.now
+        × (new.text.now ≡ old.text.now) × (new.separator ≡ old.separator)) };
+
+    ghost remaining = { λ pieces. at_most (length pieces.text.now + 1 - pieces.from) };
+
+    fn next(&mut self) -> Option<&'a [u8]> {
+        if self.from > self.text.len() {
+            return None;
+        }
+        let end = piece_end(self.text, self.from, self.separator);
+        let piece = &self.text[self.from..end];
+        self.from = end + 1;
+        Some(piece)
+    }
+}
+
+/// The pieces of a text between separators.
+pub(crate) fn pieces_of(text: &[u8], separator: u8) -> Pieces<'_>
+    ensures text { result.text.now ≡ text.now }
+    ensures separator { result.separator ≡ separator }
+    ensures from { result.from ≡ 0 }
+{
+    Pieces {
+        text,
+        separator,
+        from: 0,
+    }
 }
 
 /// Whether the text begins with `start`, which is in lower case, in any case.

@@ -8,6 +8,9 @@ ghost use Rattle.rtsp_fields.specs.Ranges.{IsLimit, IsOrigin, IsSpan};
 use crate::pieces::{piece_end, starts_with};
 use crate::times::read_time;
 
+/// What a range in normal play time begins with.
+const UNIT: &[u8; 4] = b"npt=";
+
 /// Where play begins.
 #[derive(Clone, Copy, Debug, PartialEq, Eq)]
 pub enum Origin {
@@ -36,14 +39,14 @@ pub struct Span {
 pub fn read_range(value: &[u8]) -> Option<Span>
     ensures { MatchOption result ((span : Span) → ¬ IsSpan value.now span) (IsSpan value.now) }
 {
-    if !starts_with(value, b"npt=") {
+    if !starts_with(value, UNIT) {
         return None;
     }
-    let dash = piece_end(value, 4, b'-');
+    let dash = piece_end(value, UNIT.len(), b'-');
     if dash == value.len() {
         return None;
     }
-    let from = read_origin(&value[4..dash])?;
+    let from = read_origin(&value[UNIT.len()..dash])?;
     let to = read_limit(&value[dash + 1..])?;
     Some(Span { from, to })
 }

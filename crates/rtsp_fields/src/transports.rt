@@ -6,9 +6,12 @@ ghost use Rattle.rtsp_fields.specs.declared.transports.Channels.{Channels};
 ghost use Rattle.rtsp_fields.specs.Transports.{AreChannels, HasChannels, IsOther, IsPair, IsSingle};
 ghost use Rattle.rtsp_fields.specs.Transports.{IsTaken, IsTransport, NamesChannels};
 
-use crate::pieces::{piece_end, starts_with};
+use crate::pieces::{piece_end, pieces_of, starts_with};
 use crate::values::number_within;
 use vod_base::trim;
+
+/// What the part with the channels begins with.
+const NAME: &[u8; 12] = b"interleaved=";
 
 /// The channels of interleaved delivery (RFC 2326 section 10.12).
 #[derive(Clone, Copy, Debug, PartialEq, Eq)]
@@ -27,18 +30,14 @@ pub struct Channels {
 /// begins `interleaved=`, if any, is two different channels, or one channel up to 254, which means
 /// itself and the next. Without one the channels are 0 and 1. Letters are in any case, and blanks
 /// may stand around each part. None exactly where no alternative can be taken.
-#[tactic(auto, using(crate::proofs::Places::steps))]
 pub fn read_transport(value: &[u8]) -> Option<Channels>
     ensures { MatchOption result ((channels : Channels) →
         ¬ IsTransport value.now channels) (IsTransport value.now) }
 {
-    let mut from = 0;
-    while from <= value.len() {
-        let end = piece_end(value, from, b',');
-        if let Some(channels) = read_alternative(&value[from..end]) {
+    for alternative in pieces_of(value, b',') {
+        if let Some(channels) = read_alternative(alternative) {
             return Some(channels);
         }
-        from = end + 1;
     }
     None
 }
@@ -98,35 +97,28 @@ fn is_other(part: &[u8]) -> bool
 }
 
 /// Whether no part of an alternative asks for another thing.
-#[tactic(auto, using(crate::proofs::Places::steps))]
 fn is_plain(text: &[u8]) -> bool
     ensures { IsTrue result ↔ NoPiece 59 text.now IsOther }
 {
-    let mut from = 0;
-    while from <= text.len() {
-        let end = piece_end(text, from, b';');
-        if is_other(&text[from..end]) {
+    for part in pieces_of(text, b';') {
+        if is_other(part) {
             return false;
         }
-        from = end + 1;
     }
     true
 }
 
 /// The channels that an alternative names, or 0 and 1.
-#[tactic(auto, using(crate::proofs::Places::steps, crate::proofs::Parts::name_within))]
+#[tactic(auto, using(crate::proofs::Parts::name_within))]
 fn channels_of(text: &[u8]) -> Option<Channels>
     ensures { MatchOption result ((channels : Channels) →
         ¬ HasChannels text.now channels) (HasChannels text.now) }
 {
-    let mut from = 0;
-    while from <= text.len() {
-        let end = piece_end(text, from, b';');
-        let part = trim(&text[from..end]);
-        if starts_with(part, b"interleaved=") {
-            return read_channels(&part[12..]);
+    for part in pieces_of(text, b';') {
+        let part = trim(part);
+        if starts_with(part, NAME) {
+            return read_channels(&part[NAME.len()..]);
         }
-        from = end + 1;
     }
     Some(Channels {
         media: 0,

@@ -10,6 +10,9 @@ ghost use Rattle.rtsp_fields.specs.Urls.{IsAbsoluteUrl, IsStream, IsTail, IsRead
 use crate::pieces::{piece_end, starts_with};
 use vod_base::good_name;
 
+/// What an RTSP URL begins with.
+const SCHEME: &[u8; 7] = b"rtsp://";
+
 /// What an RTSP URL says (RFC 2326 section 3.2).
 #[derive(Clone, Copy, Debug)]
 pub struct Url<'a> {
@@ -35,15 +38,15 @@ pub fn read_url(url: &[u8]) -> Option<Url<'_>>
     ensures name_line { IfSome result (λ read.
         IfSome read.name (λ name. is_one_line name.now ≡ true)) }
 {
-    if !rtsp_text::has_url_bytes(url) || !starts_with(url, b"rtsp://") {
+    if !rtsp_text::has_url_bytes(url) || !starts_with(url, SCHEME) {
         return None;
     }
-    let path = piece_end(url, 7, b'/');
-    if path == 7 {
+    let path = piece_end(url, SCHEME.len(), b'/');
+    if path == SCHEME.len() {
         return None;
     }
     Some(Url {
-        authority: &url[7..path],
+        authority: &url[SCHEME.len()..path],
         name: film_name(&url[path..]),
     })
 }

@@ -1,11 +1,25 @@
-use Rattle.std.proofs.Common.{refl}
-use Rattle.rtsp_fields.proofs.Parts.{named_channels}
+use Rattle.std.proofs.Common.{◌≡◌, true, false, refl, inr, subst, sym}
+use Rattle.rtsp_fields.specs.Transports.{NamesChannels}
+use Rattle.rtsp_fields.proofs.Parts.{channels_found}
+use Rattle.rtsp_fields.proofs.Places.{HasPassed, passed_every, passed_more, passed_none}
 use Rattle.rtsp_fields.proofs.transports.channels_of.Goals as goal
+
+pub loop-part-init : goal.loop-part-init
+loop-part-init c =
+    let started = c.pieces_of-part-items.ensures in
+    subst (HasPassed NamesChannels 59 c.args.text.now) (sym c.into_iter-part-iterator.ensures.into_iter_gives)
+    (passed_none NamesChannels started.text started.separator started.from)
 
 pub returns-then-starts_with : goal.returns-then-starts_with
 returns-then-starts_with c =
-    named_channels c.read_channels.result
-    (record { start = c.loop-from.invariant.0 c.loop-from-test.true; end = c.piece_end-end.ensures })
+    channels_found c.read_channels.result c.next.new.self c.loop-part.invariant c.in-Some.ensures.steps
     (rw (← c.trim-part.ensures) (c.if-starts_with.ensures.0 refl))
-    c.loop-from.invariant.1
     (rw (← c.trim-part.ensures) c.read_channels.ensures)
+
+pub loop-part-preserved : goal.loop-part-preserved
+loop-part-preserved c =
+    passed_more c.loop-part.invariant c.in-Some.ensures.steps
+    (λ names. let wrong : false ≡ true = c.if-starts_with.ensures.1 (rw c.trim-part.ensures names) in cc)
+
+pub returns : goal.returns
+returns c = inr (record { none = passed_every c.loop-part.invariant c.in-None.ensures.steps; media = refl; control = refl })

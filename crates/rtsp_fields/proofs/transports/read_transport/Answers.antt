@@ -1,16 +1,23 @@
+use Rattle.std.proofs.Common.{subst, sym}
 use Rattle.rtsp_fields.specs.Transports.{CanBeTaken}
-use Rattle.rtsp_fields.proofs.Parts.{no_transport, not_taken}
-use Rattle.rtsp_fields.proofs.Places.{next_start, none_before_next, passed_all}
+use Rattle.rtsp_fields.proofs.Parts.{no_transport, not_taken, transport_found}
+use Rattle.rtsp_fields.proofs.Places.{HasPassed, passed_every, passed_more, passed_none}
 use Rattle.rtsp_fields.proofs.transports.read_transport.Goals as goal
 
-pub loop-from-preserved : goal.loop-from-preserved
-loop-from-preserved c = (
-  next_start 44 c.args.value.now c.loop-from.from c.piece_end-end.result c.piece_end-end.ensures,
-  none_before_next CanBeTaken c.piece_end-end.ensures c.loop-from.invariant.1
-      (not_taken _ c.in_default.ensures),
-)
+pub loop-alternative-init : goal.loop-alternative-init
+loop-alternative-init c =
+    let started = c.pieces_of-alternative-items.ensures in
+    subst (HasPassed CanBeTaken 44 c.args.value.now) (sym c.into_iter-alternative-iterator.ensures.into_iter_gives)
+    (passed_none CanBeTaken started.text started.separator started.from)
+
+pub returns-in-Some-read_alternative : goal.returns-in-Some-read_alternative
+returns-in-Some-read_alternative c =
+    transport_found c.next.new.self c.loop-alternative.invariant c.in-Some.ensures.steps c.in-Some-read_alternative.ensures
+
+pub loop-alternative-preserved : goal.loop-alternative-preserved
+loop-alternative-preserved c =
+    passed_more c.loop-alternative.invariant c.in-Some.ensures.steps (not_taken _ c.in_default.ensures)
 
 pub returns : goal.returns
 returns c = λ channels t.
-    no_transport c.args.value.now channels
-    (passed_all 44 c.args.value.now CanBeTaken c.loop-from.from c.loop-from-test.false c.loop-from.invariant.1) t
+    no_transport c.args.value.now channels (passed_every c.loop-alternative.invariant c.in-None.ensures.steps) t
