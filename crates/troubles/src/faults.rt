@@ -4,7 +4,7 @@ use mpeg_scan::FilmFault;
 use std::alloc::{AllocError, AllocFailed};
 use sys_demux::SystemFault;
 use thiserror::Error;
-use vod_base::{GateFault, NoMemory, SinkFault};
+use vod_base::{GateFault, NoMemory};
 use wire_curve::CurveFault;
 
 /// Why an input is refused.
@@ -125,16 +125,5 @@ impl From<GateFault> for Trouble<'_> {
 
     fn from(_fault: GateFault) -> Self {
         Trouble::GateFault
-    }
-}
-
-impl From<SinkFault> for Trouble<'_> {
-    ghost use Rattle.std.specs.Prelude.{◌≡◌};
-    ghost use Rattle.troubles.specs.declared.faults.Trouble.TheVariants.{SinkFault as TroubleSinkFault};
-
-    ghost from_gives = { λ _ trouble. trouble ≡ TroubleSinkFault };
-
-    fn from(_fault: SinkFault) -> Self {
-        Trouble::SinkFault
     }
 }
