@@ -28,6 +28,7 @@ fn skips_and_takes_a_block(rt: HostRuntime) -> Result<(), Fail> {
     assert_eq!(rt; demux.waiting().len(), 6);
     demux.drop_front(6);
     assert_eq!(rt; demux.look(), Ok(Step::More));
+    law_few_wait(&demux);
     Ok(())
 }
 
