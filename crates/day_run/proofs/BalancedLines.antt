@@ -1,5 +1,6 @@
 -- What the lines of a script leave of the balance between what is sent and what is booked.
-use Rattle.std.proofs.Common.{◌≡◌, ◌<◌, ◌≤◌, ℕ, zero, suc, true, false, Bool, cond, ◌==◌, List, [], ◌∷◌, ◌++◌, length, map, get_or, replicate, arith, refl, sym, ap, subst, ◌∙◌, inl, inr}
+use Rattle.std.proofs.Common.{◌≡◌, ◌<◌, ◌≤◌, ℕ, zero, suc, true, false, Bool, cond, ◌==◌, List, [], ◌∷◌, ◌++◌, length, map, get_or, replicate, arith, refl, sym}
+use Rattle.std.proofs.Common.{ap, subst, ◌∙◌, inl, inr}
 use Rattle.std.specs.Prelude.{sum_by}
 use Rattle.std.proofs.lemmas.List.{get_or-replicate, length-map, length-set, length-replicate}
 use Rattle.std.proofs.lemmas.List.Elements.{All-nil}
@@ -13,7 +14,8 @@ use Rattle.admission.specs.Machine.{Held, State}
 use Rattle.admission.proofs.Runs.{state-push}
 use Rattle.day_run.specs.declared.scripts.Line.{Line}
 use Rattle.day_run.specs.declared.scripts.Line.TheVariants as lines
-use Rattle.day_run.specs.Days.{AreRun, IsAsked, IsHaltedPlay, IsLine, IsLookLine, IsOfferLine, IsPauseLine, IsPlayLine, IsResumeLine, Link, Moment, at_slot, booked_up_to, entry_by, first_moment, rest_at, state_at, sent_up_to, with_play}
+use Rattle.day_run.specs.Days.{AreRun, IsAsked, IsHaltedPlay, IsLine, IsLookLine, IsOfferLine, IsPauseLine, IsPlayLine, IsResumeLine, Link, Moment, at_slot}
+use Rattle.day_run.specs.Days.{booked_up_to, entry_by, first_moment, rest_at, state_at, sent_up_to, with_play}
 use Rattle.day_run.specs.Scripts.{slot_after}
 use Rattle.day_run.specs.ClientStates.{Idle, Playing, Pausing, Paused, Play, Rest, ClientState, after_play, after_sending, sent_by}
 use Rattle.day_run.specs.Balanced.{AreHeldOf, IsBalanced, IsReady, share_of}

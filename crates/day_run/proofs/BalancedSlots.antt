@@ -1,6 +1,7 @@
 -- The clients book what the machine has booked once a slot has come, and at the end of a day; and what
 -- is booked in past slots stays.
-use Rattle.std.proofs.Common.{◌≡◌, ◌<◌, ◌≤◌, ◌+◌, ◌-◌, ◌==◌, ℕ, zero, suc, true, false, Bool, cond, nat_le, List, [], ◌∷◌, ◌++◌, length, map, take, set, get_or, sum, Some, arith, refl, sym, ap, subst, ◌∙◌}
+use Rattle.std.proofs.Common.{◌≡◌, ◌<◌, ◌≤◌, ◌+◌, ◌-◌, ◌==◌, ℕ, zero, suc, true, false, Bool, cond, nat_le, List, [], ◌∷◌, ◌++◌, length, map, take, set, get_or}
+use Rattle.std.proofs.Common.{sum, Some, arith, refl, sym, ap, subst, ◌∙◌}
 use Rattle.slot_calendar.proofs.Sending.{sent-rises}
 use Rattle.std.specs.Prelude.{sum_by}
 use Rattle.std.proofs.lemmas.Bool.{eqb-true, and_parts}
@@ -15,7 +16,8 @@ use Rattle.admission.specs.Machine.{Held, admitted_play, booked_in, held_as}
 use Rattle.day_run.specs.Balanced.{AreHeldOf, IsBalanced, IsHeld, share_of}
 use Rattle.day_run.specs.Days.{Moment, at_slot, done_halt, halt_by, halt_entries, last_journal, open_halt}
 use Rattle.day_run.specs.Clients.{after_open}
-use Rattle.day_run.specs.ClientStates.{Idle, Playing, Pausing, Paused, Play, Rest, ClientState, after_play, after_sending, booking_of, is_done, pausing_state, sent_by}
+use Rattle.day_run.specs.ClientStates.{Idle, Playing, Pausing, Paused, Play, Rest, ClientState, after_play, after_sending, booking_of, is_done, pausing_state}
+use Rattle.day_run.specs.ClientStates.{sent_by}
 use Rattle.day_run.proofs.LineSteps.{halt_entries-sent}
 use Rattle.day_run.proofs.Sweeps.{IsSwept, entries-more, swept-all, swept-none, swept-set}
 use Rattle.day_run.proofs.Balances.{BalancedClient, balanced-halt, booked-halted, share-done}

@@ -15,7 +15,8 @@ use Rattle.day_run.specs.declared.scripts.Line.{Line}
 use Rattle.day_run.specs.declared.scripts.Line.TheVariants.{Play, Pause, Resume, Look, Slot, Offer}
 use Rattle.day_run.specs.ClientStates.{ClientState, Idle, Playing, Pausing, Paused, Rest}
 use Rattle.day_run.specs.DayLaws.{AreClients, IsClient, KeepsAfter}
-use Rattle.day_run.specs.Days.{AreRun, IsAsked, IsDay, IsLine, IsLookLine, IsNoted, IsOfferLine, IsPauseLine, IsPlayLine, IsResumeLine, IsTold, Link, Moment, halts_at, last_halts, rest_at, sent_up_to, state_at}
+use Rattle.day_run.specs.Days.{AreRun, IsAsked, IsDay, IsLine, IsLookLine, IsNoted, IsOfferLine, IsPauseLine, IsPlayLine, IsResumeLine, IsTold, Link, Moment}
+use Rattle.day_run.specs.Days.{halts_at, last_halts, rest_at, sent_up_to, state_at}
 use Rattle.day_run.specs.Scripts.{AreLines, StandsAfter, latest_slot}
 use Rattle.day_run.proofs.BalancedLines.{day-sent}
 use Rattle.day_run.proofs.Takings.{LinesTaken}

@@ -1,5 +1,6 @@
 -- Turns of a large day, one after the other.
-use Rattle.std.proofs.Common.{◌≡◌, ◌<◌, ◌+◌, ◌-◌, ◌^◌, ◌%◌, ℕ, max, Bool, cond, List, [], ◌∷◌, ◌++◌, length, map, get_or, arith, Result, Ok, Err, IfOk, refl, sym, ap, subst, ◌∙◌}
+use Rattle.std.proofs.Common.{◌≡◌, ◌<◌, ◌+◌, ◌-◌, ◌^◌, ◌%◌, ℕ, max, Bool, cond, List, [], ◌∷◌, ◌++◌, length, map, get_or, arith, Result, Ok, Err, IfOk, refl}
+use Rattle.std.proofs.Common.{sym, ap, subst, ◌∙◌}
 use Rattle.std.specs.Prelude.{OnOk, count_by, sum_by}
 use Rattle.std.specs.List.{fold, range_with_len}
 use Rattle.std.proofs.lemmas.List.{length-append, map-append}
@@ -16,7 +17,8 @@ use Rattle.day_run.specs.declared.clients.Client.{Client}
 use Rattle.day_run.specs.Clients.{state_of}
 use Rattle.day_run.specs.Balanced.{IsReady}
 use Rattle.day_run.specs.Days.{Link, Moment, last_journal, IsPlayLine, first_moment, rest_at, state_at}
-use Rattle.day_run.specs.FairDays.{AreTurns, IsDone, IsTurn, Turn, after_traces, after_turn, at_later, counts_of, fair_link, IsFair, is_full_line, is_refused, made_of, turn_booked, turn_peak, turn_sent, words_for}
+use Rattle.day_run.specs.FairDays.{AreTurns, IsDone, IsTurn, Turn, after_traces, after_turn, at_later, counts_of, fair_link, IsFair, is_full_line, is_refused}
+use Rattle.day_run.specs.FairDays.{made_of, turn_booked, turn_peak, turn_sent, words_for}
 use Rattle.day_run.specs.Fairs.{HasCome, HasTurned, after_turns, with_slot, with_turn}
 use Rattle.day_run.specs.Prints.{fair_text}
 use Rattle.day_run.specs.declared.runners.Told.{Told}

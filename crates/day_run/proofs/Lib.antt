@@ -1,37 +1,39 @@
-pub mod Takings
-pub mod Cuts
-pub mod Quiet
-pub mod ReadLines
-pub mod ScriptLines
-pub mod Bookings
-pub mod Pausing
-pub mod DaySteps
-pub mod Sweeps
-pub mod Timings
-pub mod LineSteps
-pub mod DayRuns
-pub mod Peaks
-pub mod FullLines
-pub mod FairDraws
-pub mod FairTurns
-pub mod FairLaws
-pub mod SoundClients
+mod Takings
+mod Cuts
+mod Quiet
+mod ReadLines
+mod ScriptLines
+mod Bookings
+mod Pausing
+mod DaySteps
+mod Sweeps
+mod Timings
+mod LineSteps
+mod DayRuns
+mod Peaks
+mod FullLines
+mod FairDraws
+mod FairTurns
+mod FairLaws
+mod SoundClients
 pub mod OneDay
-pub mod PastSlots
-pub mod FairLines
-pub mod Balances
-pub mod BalancedSlots
-pub mod BalancedLines
+mod PastSlots
+mod FairLines
+mod Balances
+mod BalancedSlots
+mod BalancedLines
 pub mod DayFronts
-pub mod SourceReels
-pub mod PlayableReels
-pub mod TraceReels
-pub mod SlotSums
-pub mod Drawn
-pub mod TriedTexts
-pub mod TextSteps
-pub mod OfferLaws
-pub mod SpelledLines
-pub mod SpelledScripts
-pub mod ScriptEnds
-pub mod DrawnTurns
+mod SourceReels
+mod PlayableReels
+mod TraceReels
+mod SlotSums
+mod Drawn
+mod TriedTexts
+mod TextSteps
+mod OfferLaws
+mod SpelledLines
+mod SpelledWords
+mod SpelledScripts
+mod RefusedLines
+mod ScriptEnds
+mod DrawnTurns

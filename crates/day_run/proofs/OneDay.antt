@@ -24,7 +24,8 @@ use Rattle.admission.proofs.Once.{answer-once}
 use Rattle.day_run.specs.declared.scripts.Line.{Line}
 use Rattle.day_run.specs.declared.scripts.Line.TheVariants as lines
 use Rattle.day_run.specs.DayLaws.{AreClients, IsLink, IsSoundRest, IsSoundClient}
-use Rattle.day_run.specs.Days.{AreRun, IsAnsweredPlay, IsAsked, IsDay, IsFaulty, IsFull, IsHaltedPlay, IsLine, IsLookLine, IsNoted, IsOfferLine, IsPauseLine, IsPlayLine, IsResumeLine, IsTold, Link, Moment, entry_by, last_journal, last_lines, state_at, with_play}
+use Rattle.day_run.specs.Days.{AreRun, IsAnsweredPlay, IsAsked, IsDay, IsFaulty, IsFull, IsHaltedPlay, IsLine, IsLookLine, IsNoted, IsOfferLine, IsPauseLine}
+use Rattle.day_run.specs.Days.{IsPlayLine, IsResumeLine, IsTold, Link, Moment, entry_by, last_journal, last_lines, state_at, with_play}
 use Rattle.day_run.specs.Prints.{fault_text, offer_text}
 use Rattle.report.specs.EntryLines.{entry_line}
 use Rattle.day_run.specs.Scripts.{AreLines}

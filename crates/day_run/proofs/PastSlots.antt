@@ -1,5 +1,6 @@
 -- What is booked in the slots that were heard stays.
-use Rattle.std.proofs.Common.{◌≡◌, ◌<◌, ◌≤◌, ◌+◌, ◌-◌, ◌%◌, ◌==◌, ℕ, zero, suc, max, true, false, Bool, cond, List, [], ◌∷◌, ◌++◌, length, map, get_or, arith, refl, sym, ap, subst, ◌∙◌, inl, inr}
+use Rattle.std.proofs.Common.{◌≡◌, ◌<◌, ◌≤◌, ◌+◌, ◌-◌, ◌%◌, ◌==◌, ℕ, zero, suc, max, true, false, Bool, cond, List, [], ◌∷◌, ◌++◌, length, map, get_or, arith}
+use Rattle.std.proofs.Common.{refl, sym, ap, subst, ◌∙◌, inl, inr}
 use Rattle.std.specs.Prelude.{sum_by}
 use Rattle.std.specs.List.{fold, range_with_len}
 use Rattle.std.proofs.lemmas.List.Sums.{sum_by-cons}
@@ -16,7 +17,8 @@ use Rattle.day_run.specs.declared.scripts.Line.{Line}
 use Rattle.day_run.specs.declared.scripts.Line.TheVariants as lines
 use Rattle.day_run.specs.Balanced.{IsReady, share_of}
 use Rattle.day_run.specs.Clients.{after_open}
-use Rattle.day_run.specs.Days.{IsAsked, IsHaltedPlay, IsLine, IsLookLine, IsOfferLine, IsPauseLine, IsPlayLine, IsResumeLine, Link, Moment, at_slot, entry_by, last_journal, first_moment, rest_at, state_at, with_play}
+use Rattle.day_run.specs.Days.{IsAsked, IsHaltedPlay, IsLine, IsLookLine, IsOfferLine, IsPauseLine, IsPlayLine, IsResumeLine, Link, Moment, at_slot, entry_by}
+use Rattle.day_run.specs.Days.{last_journal, first_moment, rest_at, state_at, with_play}
 use Rattle.day_run.specs.FairDays.{AreTurns, IsDone, IsTurn, Turn, after_turn, at_later, client_of, turn_booked, turn_peak}
 use Rattle.day_run.specs.ClientStates.{Idle, Playing, Pausing, Paused, Play, Rest, ClientState, booking_of, sent_by}
 use Rattle.day_run.proofs.BalancedSlots.{BegunPlay, its-held, last-later, last-stays, play-stays, slot-stays, stays-halt}

@@ -1,5 +1,6 @@
 -- What holds of the clients after each line.
-use Rattle.std.proofs.Common.{◌≡◌, ◌<◌, ◌≤◌, ◌+◌, ◌-◌, ◌==◌, ◌&&◌, ℕ, true, false, Bool, cond, nat_le, nat_lt, List, [], ◌∷◌, All, length, map, take, drop, set, get_or, sum, replicate, Option, Some, None, arith, refl, sym, ap, subst, ◌∙◌, inl, inr}
+use Rattle.std.proofs.Common.{◌≡◌, ◌<◌, ◌≤◌, ◌+◌, ◌-◌, ◌==◌, ◌&&◌, ℕ, true, false, Bool, cond, nat_le, nat_lt, List, [], ◌∷◌, All, length, map, take, drop, set}
+use Rattle.std.proofs.Common.{get_or, sum, replicate, Option, Some, None, arith, refl, sym, ap, subst, ◌∙◌, inl, inr}
 use Rattle.std.specs.Prelude.{IsSomeAnd, IsTrue}
 use Rattle.std.proofs.lemmas.Bool.{cases_eq, cases_lt, eqb-false, le-leb, ltb-false, ltb-true}
 use Rattle.std.proofs.lemmas.List.{get_or-map, get_or-replicate, get_or-set_other, get_or-set_same, length-map, length-take, take_all}
@@ -26,9 +27,11 @@ use Rattle.day_run.specs.declared.scripts.Line.{Line}
 use Rattle.day_run.specs.declared.scripts.Line.TheVariants as lines
 use Rattle.day_run.specs.Balanced.{AreHeldOf, IsHeld, IsReady}
 use Rattle.day_run.specs.DayLaws.{IsLink, IsSoundPlay, IsSoundRest, IsSoundClient}
-use Rattle.day_run.specs.Days.{AreRun, IsAsked, IsHaltedPlay, IsLine, IsLookLine, IsOfferLine, IsPauseLine, IsPlayLine, IsResumeLine, Link, Moment, at_slot, entry_by, first_moment, rest_at, state_at, with_play}
+use Rattle.day_run.specs.Days.{AreRun, IsAsked, IsHaltedPlay, IsLine, IsLookLine, IsOfferLine, IsPauseLine, IsPlayLine, IsResumeLine, Link, Moment, at_slot}
+use Rattle.day_run.specs.Days.{entry_by, first_moment, rest_at, state_at, with_play}
 use Rattle.day_run.specs.Scripts.{IsWish}
-use Rattle.day_run.specs.ClientStates.{Idle, Playing, Pausing, Paused, IsPause, Play, Rest, ClientState, after_play, after_sending, booking_of, is_done, no_reel, sent_by, slot_sent}
+use Rattle.day_run.specs.ClientStates.{Idle, Playing, Pausing, Paused, IsPause, Play, Rest, ClientState, after_play, after_sending, booking_of, is_done}
+use Rattle.day_run.specs.ClientStates.{no_reel, sent_by, slot_sent}
 use Rattle.day_run.proofs.BalancedLines.{heard-after, line-ready, morning-ready}
 use Rattle.day_run.proofs.Takings.{ClientOf, LineStep, LinesTaken, StandingLine, StandingLines, first-standing, rest-standing, standing_of}
 

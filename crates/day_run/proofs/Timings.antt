@@ -1,5 +1,6 @@
 -- What a client's pacer has sent, in the words of a day.
-use Rattle.std.proofs.Common.{◌≡◌, ◌<◌, ◌≤◌, ◌+◌, ◌-◌, ◌==◌, ℕ, min, nat_lt, nat_le, true, false, Bool, cond, List, [], Option, Some, None, arith, refl, sym, ap, subst, ◌∙◌, inl, inr}
+use Rattle.std.proofs.Common.{◌≡◌, ◌<◌, ◌≤◌, ◌+◌, ◌-◌, ◌==◌, ℕ, min, nat_lt, nat_le, true, false, Bool, cond, List, [], Option, Some, None, arith, refl, sym}
+use Rattle.std.proofs.Common.{ap, subst, ◌∙◌, inl, inr}
 use Rattle.std.proofs.lemmas.Bool.{cases_lt, cond-true, cond-false, lt-ltb}
 use Rattle.pacer.specs.Pacings.{IsPacing, Pacing, first_slots, slots_through}
 use Rattle.film_frames.specs.Tracks.{IsBoundaryAfter}

@@ -77,8 +77,8 @@ IsSoundClient heard (Pausing stop rest) = IsSoundRest rest
 IsSoundClient heard (Paused rest) = IsSoundRest rest
 
 -- A day's moment after so many of its lines: what the clients are sent in the slots up to any later
--- one, after the slot that was heard last, is what is booked there, and within the capacity of those
--- slots.
+-- one, after the slot that was heard last, is what is booked there, and within the capacity of
+-- those slots.
 pub record KeepsAfter (link : Link) (lines : List Line) (count : ℕ) : Type 0 where
   pub texts : List (List ℕ)
   pub moment : Moment

@@ -122,8 +122,8 @@ abbrev pub IsTaken : Bool → Reading → Option Reading → Type 0
 IsTaken true new read = read ≡ Some new
 IsTaken false new read = read ≡ None
 
--- its lines are those of a script with its names and 256 clients, and the slot is that of their last
--- `slot` line
+-- its lines are those of a script with its names and 256 clients, and the slot is that of their
+-- last `slot` line
 pub record IsDraft (draft : Draft) : Type 0 where
   pub lines : AreLines (length draft.named.items) draft.lines.items
   pub clients : AreClients draft.lines.items

@@ -162,7 +162,8 @@ impl<'r> Client<'r> {
         ensures none { IfNone result (IsUndone self.now) }
         ensures halt { (heard client : ℕ) → IsGoing self.now → IsTimed heard self.now →
             open_halt heard client (state_of self.now) ≡ halts_of client result }
-        ensures state { after_open (state_of self.now) ≡ state_after_halt result (state_of self.now) }
+        ensures state { after_open (state_of self.now)
+            ≡ state_after_halt result (state_of self.now) }
     {
         match self {
             Client::Playing(play) => Some(Halt {

@@ -19,7 +19,7 @@ use std::alloc::Global;
 use vod_base::{NoMemory, good_name};
 
 /// The most lines of a script.
-const MOST_LINES: u64 = 1_000_000;
+const MAX_LINES: u64 = 1_000_000;
 
 /// Reads a script. Lines end with LF or CR LF, the last one also with the text. An empty line is
 /// counted and passed over; each other one is a line of [`Line`]'s forms, its words one space apart
@@ -42,7 +42,7 @@ pub fn read_script(alloc: Global, text: &[u8]) -> Result<Script, ScriptRefused>
     let mut rest = text;
     let mut number = 0;
     while let Some((line, next)) = first_line(rest) {
-        if number == MOST_LINES {
+        if number == MAX_LINES {
             return Err(ScriptRefused::BadScript { line: number + 1 });
         }
         let stands = draft.read(line, &mut words)?;

@@ -17,7 +17,8 @@ pub(crate) fn reels_of<'s>(alloc: Global, sources: &'s [Source]) -> Result<Vec<R
     requires { AreSources sources.now }
     ensures count { IfOk result (λ reels. length reels.items ≡ length sources.entry.now) }
     ensures contents { IfOk result (λ reels. (slot_units : ℕ) →
-        map (reel_content slot_units) reels.items ≡ map (source_content slot_units) sources.entry.now) }
+        map (reel_content slot_units) reels.items
+        ≡ map (source_content slot_units) sources.entry.now) }
     ensures playable { OnOk result (All IsPlayable sources.entry.now) }
 {
     let mut reels = Vec::with_capacity(alloc, sources.len())?;

@@ -1,4 +1,5 @@
-use Rattle.day_run.proofs.SpelledScripts.{range-bad, script-back, verb-bad}
+use Rattle.day_run.proofs.RefusedLines.{range-bad, verb-bad}
+use Rattle.day_run.proofs.SpelledScripts.{script-back}
 use Rattle.day_run.proofs.laws.law_script_read_back.Goals as goal
 
 pub returns-clause-read : goal.returns-clause-read

@@ -5,8 +5,8 @@ use Rattle.day_run.specs.Readings.{lines_read, nothing_read}
 use Rattle.day_run.proofs.ReadLines.{NextLine, next-line, read-next, bad-next}
 use Rattle.day_run.proofs.reading.read_script.Goals as goal
 
-pub returns-then-number-eq-MOST_LINES-clause-refused : goal.returns-then-number-eq-MOST_LINES-clause-refused
-returns-then-number-eq-MOST_LINES-clause-refused c =
+pub returns-then-number-eq-MAX_LINES-clause-refused : goal.returns-then-number-eq-MAX_LINES-clause-refused
+returns-then-number-eq-MAX_LINES-clause-refused c =
     let inv = c.loop-line.invariant in
     let at : NextLine (lines_of_script c.args.text.now) c.loop-line.number c.in-Some.line.now
     (lines_of_script c.in-Some.next.now) =
