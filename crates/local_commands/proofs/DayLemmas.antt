@@ -7,6 +7,7 @@ use Rattle.day_run.specs.Lines.{lines_of_script}
 use Rattle.std.specs.List.{Contains}
 use Rattle.std.proofs.Math.ListN.{get_or-map}
 use Rattle.std.proofs.lemmas.Bool.{cases_lt, true≢false}
+use Rattle.std.proofs.lemmas.Option.{none-some}
 use Rattle.std.proofs.lemmas.List.{length-append, length-map, length-take, take-append-drop, get_or-take, get_or_append_left, get_or-append_right, get_or_push, get_or_read_under}
 use Rattle.day_run.specs.declared.scripts.Named.{Named}
 use Rattle.day_run.specs.declared.reels.Source.{Source}
@@ -15,7 +16,6 @@ use Rattle.vod_base.specs.Outside.{File}
 use Rattle.troubles.specs.Causes.{IsReadTrouble}
 use Rattle.troubles.specs.declared.faults.Fault.{Fault}
 use Rattle.troubles.specs.declared.faults.Trouble.{Trouble}
-use Rattle.troubles.proofs.CauseLemmas.{trouble_map}
 use Rattle.inputs.specs.Files.{IsNamed}
 use Rattle.day_run.specs.declared.reels.Source.TheVariants.{Film, Trace}
 use Rattle.day_run.specs.declared.scripts.Script.{Script}
@@ -23,8 +23,9 @@ use Rattle.day_run.specs.declared.scripts.Line.{Line}
 use Rattle.day_run.specs.Readings.{IsBadLine, IsScript, Name, Reading, line_read, lines_read, name_of, names_of, nothing_read}
 use Rattle.inputs.proofs.ReadLemmas.{one_file}
 use Rattle.inputs.proofs.VideoLemmas.{held_not_refused}
+use Rattle.inputs.proofs.ScanLemmas.{read_trouble_map}
 use Rattle.local_commands.specs.Days.{AreHeldAs, HoldsScript, IsDayRefused, IsFirstNamedRefused, IsHeldAs, IsHeldUnder, IsNameOf, IsNamedRefused, IsNotRefusedAs, IsRefusedAs, IsScriptRefused, names_in}
-use Rattle.local_commands.proofs.OneAnswer.{no_file, trace_not_refused}
+use Rattle.local_commands.proofs.OneAnswer.{trace_not_refused}
 
 abbrev bytes_of : Named → List ℕ
 bytes_of n = string_bytes n.name
@@ -35,28 +36,8 @@ pub named_trouble : {film : Bool} {name : List ℕ} (named : Named) (told : Opti
     IsReadTrouble (IsNamed name) (IsRefusedAs film) told before after t →
     IsReadTrouble (IsNameOf named) (IsNamedRefused named) told before after t
 named_trouble {film} {name} named told before after t kind is h =
-    trouble_map (record {
-      Reads = IsNamed name;
-      Refuses = IsRefusedAs film;
-      told = told;
-      before = before;
-      after = after;
-    })
-    (record {
-      Reads = IsNameOf named;
-      Refuses = IsNamedRefused named;
-      told = told;
-      before = before;
-      after = after;
-    })
-    t
-    (record {
-      reads = λ other same. same ∙ is;
-      refuses = λ held other fault told_is same refused. subst (λ (b : Bool). IsRefusedAs b held other fault) (sym kind) refused;
-      keeps = λ held told_is. told_is;
-      low = omega arith;
-      high = omega arith;
-    })
+    read_trouble_map before after t (λ other same. same ∙ is)
+    (λ held other fault told_is same refused. subst (λ (b : Bool). IsRefusedAs b held other fault) (sym kind) refused)
     h
 
 -- a name of the script
@@ -222,7 +203,7 @@ script_not_bad text script line is bad = elim bad.here [
 
 script_not_refused : (held : List File) (name : List ℕ) (script : Script) (fault : Fault)
     → HoldsScript held name script → IsScriptRefused held name fault → ⊥
-script_not_refused held name script fault holds (inl missing) = no_file holds.text (sym holds.found ∙ missing.1)
+script_not_refused held name script fault holds (inl missing) = none-some holds.text (sym missing.1 ∙ holds.found)
 script_not_refused held name script fault holds (inr bad) =
     script_not_bad holds.text script bad.line holds.script_is
     (subst (λ (t : List ℕ). IsBadLine t bad.line) (one_file held name bad.text holds.text bad.found holds.found) bad.bad)

@@ -1,11 +1,11 @@
 pub mod CommandLemmas
-pub mod PictureLemmas
+mod PictureLemmas
 pub mod OneAnswer
 pub mod OneVerdict
-pub mod ScanTextLemmas
+mod ScanTextLemmas
 pub mod DayLemmas
 pub mod FieldLemmas
-pub mod TextReading
+mod TextReading
 pub mod LineWords
-pub mod ScanLines
-pub mod HelpReading
+mod ScanLines
+mod HelpReading

@@ -58,20 +58,20 @@ line_rest end [] = end
 line_rest end (s ∷ settings) = 32 ∷ (word_of s ++ line_rest end settings)
 
 -- how a line ends, and what stands after its last word
-abbrev pub IsEnd : List ℕ → List (List ℕ) → Type 0
-IsEnd end back = (word : List ℕ) → IsWord word → words_in (word ++ end) ≡ word ∷ back
+abbrev pub IsLineEnd : List ℕ → List (List ℕ) → Type 0
+IsLineEnd end back = (word : List ℕ) → IsWord word → words_in (word ++ end) ≡ word ∷ back
 
-pub ended : IsEnd (10 ∷ []) ([] ∷ [])
+pub ended : IsLineEnd (10 ∷ []) ([] ∷ [])
 ended word is = slice_split_at gap word 10 [] is refl
 
-pub unended : IsEnd [] []
+pub unended : IsLineEnd [] []
 unended word is = ap words_in (append-nil word) ∙ slice_split_none gap word is
 
 -- the end of a line, with the words that it has
 pub record LineEnd : Type 0 where
   pub end : List ℕ
   pub words : List (List ℕ)
-  pub ends : IsEnd end words
+  pub ends : IsLineEnd end words
 
 pub line-words : (first : List ℕ) (settings : List Setting) (line_end : LineEnd) → IsWord first →
     All (λ s. IsWord (word_of s)) settings →

@@ -1,9 +1,10 @@
 -- A trace or film that the library holds has one plan, one verdict and one scan, and none where it is refused.
-use Rattle.std.proofs.Common.{◌≡◌, ℕ, ◌≤◌, ◌^◌, List, [], ◌∷◌, ◌++◌, length, take, map, Option, Some, None, inl, inr, refl, sym, ap, ◌∙◌, subst, arith}
+use Rattle.std.proofs.Common.{◌≡◌, ℕ, ◌≤◌, ◌^◌, List, [], ◌∷◌, ◌++◌, length, take, map, Option, Some, inl, inr, refl, sym, ap, ◌∙◌, subst, arith}
 use Rattle.std.proofs.lemmas.Grind.{same_number_lists}
 use Rattle.std.proofs.lemmas.List.{append_assoc, take_at, length-map, map-append, take-map, length-take}
 use Rattle.std.proofs.lemmas.List.Sums.{sum_by-take-le}
 use Rattle.std.proofs.lemmas.List.Elements.{All-take}
+use Rattle.std.proofs.lemmas.Option.{none-some}
 use Rattle.vod_base.specs.Numbers.{number_of}
 use Rattle.vod_base.specs.Outside.{File}
 use Rattle.mpeg_scan.specs.Codes.{codes_of, read}
@@ -60,21 +61,21 @@ film_once {held} {name} p q =
       same = p.sizes_are ∙ ap sizes_of same ∙ sym q.sizes_are;
     }
 
-pictures_are : (a b : Pictures) → a.sizes ≡ b.sizes → a.picture ≡ b.picture → a.slot ≡ b.slot → a ≡ b
-pictures_are a b sizes picture slot =
-    ap (λ (s : List ℕ). record { sizes = s; picture = a.picture; slot = a.slot }) sizes
-    ∙ ap (λ (n : ℕ). record { sizes = b.sizes; picture = n; slot = a.slot }) picture
-    ∙ ap (λ (n : ℕ). record { sizes = b.sizes; picture = b.picture; slot = n }) slot
+pictures_are : (a b : Pictures) → a.sizes ≡ b.sizes → a.picture_units ≡ b.picture_units → a.slot_units ≡ b.slot_units → a ≡ b
+pictures_are a b sizes picture_units slot_units =
+    ap (λ (s : List ℕ). record { sizes = s; picture_units = a.picture_units; slot_units = a.slot_units }) sizes
+    ∙ ap (λ (n : ℕ). record { sizes = b.sizes; picture_units = n; slot_units = a.slot_units }) picture_units
+    ∙ ap (λ (n : ℕ). record { sizes = b.sizes; picture_units = b.picture_units; slot_units = n }) slot_units
 
 -- so are the pictures of a source
 pictures_once : (held : List File) (source : Source) (a b : Pictures) → ArePictures held source a
     → ArePictures held source b → a ≡ b
 pictures_once held (trace_source name) a b p q =
-    pictures_are a b (trace_once held name a.sizes b.sizes p.holds q.holds) (p.picture_is ∙ sym q.picture_is)
-    (p.slot_is ∙ sym q.slot_is)
+    pictures_are a b (trace_once held name a.sizes b.sizes p.holds q.holds) (p.picture_units_are ∙ sym q.picture_units_are)
+    (p.slot_units_are ∙ sym q.slot_units_are)
 pictures_once held (film_source name slot) a b p q =
     let same : IsSameFilm p.rate q.rate a.sizes b.sizes = film_once p.holds q.holds in
-    pictures_are a b same.same (p.picture_is ∙ ap picture_time same.rates ∙ sym q.picture_is) (p.slot_is ∙ sym q.slot_is)
+    pictures_are a b same.same (p.picture_units_are ∙ ap picture_time same.rates ∙ sym q.picture_units_are) (p.slot_units_are ∙ sym q.slot_units_are)
 
 -- the numbers of a film's curves
 pub record AreSame (a b : CurvePair) : Type 0 where
@@ -131,12 +132,9 @@ bad_no_trace text sizes place trace bad =
     bad.ends (take (length (bad.good ++ bad.bad ∷ [])) sizes)
     (front_trace (bad.good ++ bad.bad ∷ []) bad.rest sizes (subst (λ (ts : List Token). WriteSizes ts sizes) split trace))
 
-pub no_file : (text : List ℕ) → Some text ≡ None → ⊥
-no_file text e = cc
-
 pub trace_not_refused : (held : List File) (name sizes : List ℕ) (fault : Fault) → HoldsTrace held name sizes
     → IsTraceRefused held name fault → ⊥
-trace_not_refused held name sizes fault holds (inl missing) = no_file holds.text (sym holds.found ∙ missing.1)
+trace_not_refused held name sizes fault holds (inl missing) = none-some holds.text (sym missing.1 ∙ holds.found)
 trace_not_refused held name sizes (BadTrace place) holds (inr refused) =
     bad_no_trace refused.0 sizes place
     (subst (λ (t : List ℕ). IsTraceText t sizes)

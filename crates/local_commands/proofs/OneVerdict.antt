@@ -2,6 +2,7 @@
 use Rattle.std.proofs.Common.{◌≡◌, ℕ, List, [], ◌∷◌, ◌++◌, Some, inl, inr, refl, sym, ap, ◌∙◌, subst, get_or, unwrap_or}
 use Rattle.std.specs.Prelude.{codes}
 use Rattle.std.proofs.lemmas.Bool.{cases_order}
+use Rattle.std.proofs.lemmas.Option.{none-some}
 use Rattle.vod_base.specs.Outside.{File, file_named}
 use Rattle.plan_cert.specs.declared.Segment.{Segment}
 use Rattle.plan_cert.specs.Reading.{IsBadLine, IsCertificate}
@@ -16,7 +17,7 @@ use Rattle.troubles.specs.declared.faults.Fault.TheVariants.{BadCert}
 use Rattle.local_commands.specs.Carrying.{IsInputRefused}
 use Rattle.local_commands.specs.Plans.{IsChecked, IsNoCert, IsVerdict}
 use Rattle.local_commands.specs.Verdict.{cert_fault_text}
-use Rattle.local_commands.proofs.OneAnswer.{AreSame, curves_not_refused, curves_once, no_file}
+use Rattle.local_commands.proofs.OneAnswer.{AreSame, curves_not_refused, curves_once}
 
 -- what is taut has no fault
 no_fault : {from : ℕ} {low up : List ℕ} {segments : List Segment} (fault : CertFault)
@@ -107,6 +108,6 @@ pub checked_not_refused : {held : List File} {viewer : Viewer} {cert : List ℕ}
     IsInputRefused (check_of viewer cert) held name fault → ⊥
 checked_not_refused {held} {viewer} name fault p (inl refused) = curves_not_refused held viewer p.curves fault p.has refused.1
 checked_not_refused {held} {cert} name fault p (inr refused) = elim refused.1.1 [
-  | inl missing ↦ no_file p.written (sym p.found ∙ missing.1)
+  | inl missing ↦ none-some p.written (sym missing.1 ∙ p.found)
   | inr bad ↦ cert_not_refused held cert fault p.found p.certificate bad
 ]

@@ -1,10 +1,11 @@
 -- Pictures that were read are within the limits of their curves.
-use Rattle.std.proofs.Common.{◌≡◌, ℕ, zero, suc, ◌≤◌, ◌^◌, List, sym, subst, arith}
+use Rattle.std.proofs.Common.{◌≡◌, ℕ, zero, suc, ◌≤◌, List, sym, subst, arith}
 use Rattle.mpeg_scan.specs.Rates.{picture_time}
 use Rattle.wire_curve.specs.FilmCurves.{IsWithinLimits}
 use Rattle.inputs.specs.Sizes.{AreSizesWithin}
 use Rattle.command_words.specs.Words.{Viewer}
-use Rattle.local_commands.specs.Pictures.{AreWithinLimits}
+use Rattle.command_words.specs.Spelling.{MayBeBuffer, MayBeSlot, MayBeStartup}
+use Rattle.local_commands.specs.Pictures.{MayHaveCurves}
 use Rattle.local_commands.specs.Plans.{Pictures, timing_of}
 
 record HasBounds (time : ℕ) : Type 0 where
@@ -40,31 +41,31 @@ time_bounds (suc (suc (suc (suc (suc (suc (suc (suc zero)))))))) low high =
     omega arith in subst (λ n. HasBounds (picture_time n)) (sym e) (record { some = omega arith; fits = omega arith })
 time_bounds (suc (suc (suc (suc (suc (suc (suc (suc (suc n))))))))) low high = absurd (omega (arith, high))
 
-pub film_limits : (rate slot : ℕ) (sizes : List ℕ) → AreSizesWithin rate sizes → 360 ≤ slot → slot ≤ 360000 →
-    AreWithinLimits (record { sizes = sizes; picture = picture_time rate; slot = slot })
-film_limits rate slot sizes within some fits =
+pub film_limits : (rate slot : ℕ) (sizes : List ℕ) → AreSizesWithin rate sizes → MayBeSlot slot →
+    MayHaveCurves (record { sizes = sizes; picture_units = picture_time rate; slot_units = slot })
+film_limits rate slot sizes within slot_fits =
     let time : HasBounds (picture_time rate) = time_bounds rate within.slowest within.fastest in
     record {
       few = within.few;
       few_bytes = within.few_bytes;
-      some_picture = time.some;
-      picture_fits = time.fits;
-      some_slot = omega (arith, some);
-      slot_fits = fits;
+      some_picture_units = time.some;
+      picture_units_fit = time.fits;
+      some_slot_units = omega (arith, slot_fits.0);
+      slot_units_fit = slot_fits.1;
     }
 
-pub limits_of : (viewer : Viewer) (pictures : Pictures) → AreWithinLimits pictures → 1 ≤ viewer.buffer →
-    viewer.buffer ≤ 2 ^ 42 → viewer.startup ≤ 10000 →
+pub limits_of : (viewer : Viewer) (pictures : Pictures) → MayHaveCurves pictures → MayBeBuffer viewer.buffer →
+    MayBeStartup viewer.startup →
     IsWithinLimits pictures.sizes (timing_of viewer pictures)
-limits_of viewer pictures within some fits delay = record {
-  some_picture_units = within.some_picture;
-  picture_units_fit = within.picture_fits;
-  some_slot_units = within.some_slot;
-  slot_units_fit = within.slot_fits;
+limits_of viewer pictures within buffer startup = record {
+  some_picture_units = within.some_picture_units;
+  picture_units_fit = within.picture_units_fit;
+  some_slot_units = within.some_slot_units;
+  slot_units_fit = within.slot_units_fit;
   few_pictures = within.few;
-  delay_fits = delay;
-  some_buffer = some;
-  buffer_fits = fits;
+  delay_fits = startup.1;
+  some_buffer = buffer.0;
+  buffer_fits = buffer.1;
   total_fits = omega (arith, within.few_bytes);
   played_was_sent = omega arith;
   sent_of_total = omega arith;

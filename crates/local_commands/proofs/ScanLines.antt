@@ -23,7 +23,7 @@ use Rattle.mpeg_scan.specs.declared.units.Unit.{Unit as PictureUnit}
 use Rattle.local_commands.specs.ScanText.{film_line, kind_text, unit_line, unit_marks, unit_name, unit_places}
 use Rattle.local_commands.specs.TextLaws.{GivesOnce, IsShortUnit, TellsFilm, TellsUnit, words_in}
 use Rattle.local_commands.proofs.ScanTextLemmas.{marks}
-use Rattle.local_commands.proofs.LineWords.{gap, IsWord, is-word, number-word, AreWords, all-words, line_rest, IsEnd, ended, line-words, line-values}
+use Rattle.local_commands.proofs.LineWords.{gap, IsWord, is-word, number-word, AreWords, all-words, line_rest, IsLineEnd, ended, line-words, line-values}
 
 -- a word without `=` gives no key a value
 setting_none : (key word : List ℕ) → HasNo 61 word → setting_value key word ≡ None
@@ -41,7 +41,7 @@ number-plain : (n c : ℕ) → n < 2 ^ 64 → (48 ≤ c → c ≤ 57 → ⊥) �
 number-plain n c small other = not_in_decimal c n small (λ within. other within.0 within.1)
 
 -- a line's end after more words
-more-ended : (tail : List ℕ) (back : List (List ℕ)) → words_in tail ≡ back → IsEnd (32 ∷ tail) back
+more-ended : (tail : List ℕ) (back : List (List ℕ)) → words_in tail ≡ back → IsLineEnd (32 ∷ tail) back
 more-ended tail back is word plain = slice_split_at gap word 32 tail plain refl ∙ ap (λ (l : List (List ℕ)). word ∷ l) is
 
 film_settings : ℕ → ℕ → ℕ → List Setting
@@ -186,7 +186,7 @@ mark_words true false = codes "sequence" ∷ [] ∷ []
 mark_words false true = codes "group" ∷ [] ∷ []
 mark_words false false = [] ∷ []
 
-marks-ended : (sequence group : Bool) → IsEnd (marks sequence group) (mark_words sequence group)
+marks-ended : (sequence group : Bool) → IsLineEnd (marks sequence group) (mark_words sequence group)
 unfolding mark_words
 marks-ended true true = more-ended (codes "sequence group\n") (codes "sequence" ∷ codes "group" ∷ [] ∷ []) refl
 marks-ended true false = more-ended (codes "sequence\n") (codes "sequence" ∷ [] ∷ []) refl

@@ -2,11 +2,11 @@
 use Rattle.std.proofs.Common.{◌≡◌, ℕ, ◌+◌, ◌<◌, Bool, List, [], ◌∷◌, ◌++◌, codes, length, take, get_or, sym, ap, ◌∙◌, arith, add-zero, zero-add}
 use Rattle.std.proofs.lemmas.List.{append_assoc, append-nil, take_more, length-take-le}
 use Rattle.mpeg_scan.specs.declared.units.Unit.{Unit as PictureUnit}
-use Rattle.local_commands.specs.ScanText.{mark, unit_line, unit_lines}
+use Rattle.local_commands.specs.ScanText.{word_if, unit_line, unit_lines}
 
 -- the words at the end of a unit's line
 abbrev pub marks : Bool → Bool → List ℕ
-marks sequence group = mark sequence (codes " sequence") ++ mark group (codes " group") ++ codes "\n"
+marks sequence group = word_if sequence (codes " sequence") ++ word_if group (codes " group") ++ codes "\n"
 
 unit_lines-more : (number : ℕ) (units : List PictureUnit) (unit : PictureUnit) →
     unit_lines number (units ++ unit ∷ []) ≡ unit_lines number units ++ unit_line (number + length units) unit

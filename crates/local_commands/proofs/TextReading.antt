@@ -14,7 +14,7 @@ use Rattle.plan_cert.proofs.Decimals.{not_in_decimal}
 use Rattle.troubles.specs.Said.{number_text}
 use Rattle.vod_base.proofs.FirstBytes.{none_is}
 use Rattle.troubles.proofs.WordLemmas.{AreShort, HasNo, numbers_back, numbers_of, split, split_words}
-use Rattle.local_commands.specs.ScanText.{film_line, kind_text, mark, scan_text, unit_line, unit_lines, unit_marks, unit_places}
+use Rattle.local_commands.specs.ScanText.{film_line, kind_text, word_if, scan_text, unit_line, unit_lines, unit_marks, unit_places}
 use Rattle.local_commands.specs.TextLaws.{AreAlike, IsSameScan, IsShortFault, IsShortUnit}
 use Rattle.local_commands.specs.Verdict.{refused_line}
 use Rattle.local_commands.specs.Verdict.{cert_fault_text, fault_name}
@@ -75,7 +75,7 @@ mark_first false true = 32
 mark_first false false = 10
 
 mark_rest : Bool → Bool → List ℕ → List ℕ
-mark_rest true group rest = codes "sequence" ++ (mark group (codes " group") ++ codes "\n" ++ rest)
+mark_rest true group rest = codes "sequence" ++ (word_if group (codes " group") ++ codes "\n" ++ rest)
 mark_rest false true rest = codes "group\n" ++ rest
 mark_rest false false rest = rest
 

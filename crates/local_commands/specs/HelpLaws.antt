@@ -30,12 +30,12 @@ is_row_of default line =
     begins_with (codes "  " ++ default.key ++ codes " ") line
     && begins_with (reverse (codes " " ++ default.value)) (reverse line)
 
-abbrev pub lines_of : List ℕ → List (List ℕ)
-lines_of text = slice_split (λ b. b == 10) text
+abbrev pub split_lines : List ℕ → List (List ℕ)
+split_lines text = slice_split (λ b. b == 10) text
 
 abbrev pub shows_default : List ℕ → Setting → Bool
-shows_default text default = list_any (is_row_of default) (lines_of text)
+shows_default text default = list_any (is_row_of default) (split_lines text)
 
 -- each line fits into so many columns
 abbrev pub fits_into : ℕ → List ℕ → Bool
-fits_into columns text = list_all (λ line. nat_le (length line) columns) (lines_of text)
+fits_into columns text = list_all (λ line. nat_le (length line) columns) (split_lines text)

@@ -27,8 +27,8 @@ use Rattle.local_commands.specs.Verdict.{refused_line}
 -- the sizes of pictures in bytes, and the time of a picture and of a slot in one unit
 pub record Pictures : Type 0 where
   pub sizes : List ℕ
-  pub picture : ℕ
-  pub slot : ℕ
+  pub picture_units : ℕ
+  pub slot_units : ℕ
 
 -- the library holds a trace of these sizes
 pub record HoldsTrace (held : List File) (name sizes : List ℕ) : Type 0 where
@@ -39,16 +39,16 @@ pub record HoldsTrace (held : List File) (name sizes : List ℕ) : Type 0 where
 -- a trace has one picture a slot
 pub record AreOfTrace (held : List File) (name : List ℕ) (pictures : Pictures) : Type 0 where
   pub holds : HoldsTrace held name pictures.sizes
-  pub picture_is : pictures.picture ≡ 1
-  pub slot_is : pictures.slot ≡ 1
+  pub picture_units_are : pictures.picture_units ≡ 1
+  pub slot_units_are : pictures.slot_units ≡ 1
 
 -- a film has the wire sizes of its units, each for the time of its rate
 pub record AreOfFilm (held : List File) (name : List ℕ) (slot : ℕ) (pictures : Pictures)
     : Type 0 where
   pub rate : ℕ
   pub holds : HoldsSizes held name rate pictures.sizes
-  pub picture_is : pictures.picture ≡ picture_time rate
-  pub slot_is : pictures.slot ≡ slot
+  pub picture_units_are : pictures.picture_units ≡ picture_time rate
+  pub slot_units_are : pictures.slot_units ≡ slot
 
 abbrev pub ArePictures : List File → Source → Pictures → Type 0
 ArePictures held (trace_source name) pictures = AreOfTrace held name pictures
@@ -57,8 +57,8 @@ ArePictures held (film_source name slot) pictures = AreOfFilm held name slot pic
 -- nothing of them was sent or played before
 abbrev pub timing_of : Viewer → Pictures → Timing
 timing_of viewer pictures = record {
-  picture_units = pictures.picture;
-  slot_units = pictures.slot;
+  picture_units = pictures.picture_units;
+  slot_units = pictures.slot_units;
   buffer = viewer.buffer;
   delay = viewer.startup;
   played = 0;

@@ -12,8 +12,8 @@ kind_text B = codes "B"
 kind_text D = codes "D"
 
 -- a word where something is so
-abbrev pub mark : Bool → List ℕ → List ℕ
-mark is word = if is then word else []
+abbrev pub word_if : Bool → List ℕ → List ℕ
+word_if is word = if is then word else []
 
 -- a unit's number, from 0 on, its kind, and its place in presentation order
 abbrev pub unit_name : ℕ → PictureUnit → List ℕ
@@ -30,8 +30,8 @@ unit_places unit =
 
 -- whether a sequence header stands in its head, and whether it starts a group
 abbrev pub unit_marks : PictureUnit → List ℕ
-unit_marks unit = mark unit.has_sequence (codes " sequence")
-    ++ mark unit.starts_group (codes " group") ++ codes "\n"
+unit_marks unit = word_if unit.has_sequence (codes " sequence")
+    ++ word_if unit.starts_group (codes " group") ++ codes "\n"
 
 abbrev pub unit_line : ℕ → PictureUnit → List ℕ
 unit_line number unit = unit_name number unit ++ unit_places unit ++ unit_marks unit

@@ -5,12 +5,13 @@ ghost use Rattle.vod_base.specs.Outside.{File};
 ghost use Rattle.wire_curve.specs.Sound.{IsSound};
 ghost use Rattle.command_words.specs.Orders.{source_name, source_read, viewer_of};
 ghost use Rattle.command_words.specs.Ranges.{IsSourceInRange, IsViewerInRange};
+ghost use Rattle.command_words.specs.Spelling.{MayBeSlot};
 ghost use Rattle.troubles.specs.Causes.{IsReadOnly, IsReadTrouble};
 ghost use Rattle.inputs.specs.Files.{IsNamed};
 ghost use Rattle.inputs.specs.Scans.{IsFilmRefused};
 ghost use Rattle.local_commands.specs.Plans.{AreOfFilm, AreOfTrace, ArePictures, HasCurves};
 ghost use Rattle.local_commands.specs.Plans.{IsSourceTrouble, IsTraceRefused, IsViewerTrouble};
-ghost use Rattle.local_commands.specs.Pictures.{AreWithinLimits, pictures_of};
+ghost use Rattle.local_commands.specs.Pictures.{MayHaveCurves, pictures_of};
 
 use crate::traces::load_trace;
 use command_words::{Source, Viewer};
@@ -40,8 +41,8 @@ pub(crate) fn viewer_curves<'a, L: Library>(
 {
     let pictures = source_pictures(alloc, library, viewer.source)?;
     let timing = Timing {
-        picture_units: pictures.picture,
-        slot_units: pictures.slot,
+        picture_units: pictures.picture_units,
+        slot_units: pictures.slot_units,
         buffer: viewer.buffer,
         delay: viewer.startup,
         played: 0,
@@ -63,9 +64,9 @@ struct Pictures {
     /// Their sizes on the wire, in bytes.
     sizes: Vec<u64>,
     /// The time of one picture.
-    picture: u32,
+    picture_units: u32,
     /// The time of one slot, in the same unit.
-    slot: u32,
+    slot_units: u32,
 }
 
 /// Reads a trace, which has one picture a slot.
@@ -76,7 +77,7 @@ fn trace_pictures<'a, L: Library>(
 ) -> Result<Pictures, Trouble<'a>>
     ensures library { IsReadOnly (L.files library.old) (L.files library.new) (L.faults library.old)
         (L.faults library.new) }
-    ensures limits { IfOk result (λ pictures. AreWithinLimits (pictures_of pictures)) }
+    ensures limits { IfOk result (λ pictures. MayHaveCurves (pictures_of pictures)) }
     ensures pictures { (held : List File) → L.files library.old ≡ Some held
         → IfOk result (λ pictures. AreOfTrace held name.entry.now (pictures_of pictures)) }
     ensures trouble { IfErr result (IsReadTrouble (IsNamed name.entry.now) IsTraceRefused
@@ -85,8 +86,8 @@ fn trace_pictures<'a, L: Library>(
     let sizes = load_trace(alloc, library, name)?;
     Ok(Pictures {
         sizes,
-        picture: 1,
-        slot: 1,
+        picture_units: 1,
+        slot_units: 1,
     })
 }
 
@@ -97,11 +98,10 @@ fn film_pictures<'a, L: Library>(
     name: &'a str,
     slot: u32,
 ) -> Result<Pictures, Trouble<'a>>
-    requires some_slot { 360 ≤ slot }
-    requires slot_fits { slot ≤ 360000 }
+    requires { MayBeSlot slot }
     ensures library { IsReadOnly (L.files library.old) (L.files library.new) (L.faults library.old)
         (L.faults library.new) }
-    ensures limits { IfOk result (λ pictures. AreWithinLimits (pictures_of pictures)) }
+    ensures limits { IfOk result (λ pictures. MayHaveCurves (pictures_of pictures)) }
     ensures pictures { (held : List File) → L.files library.old ≡ Some held
         → IfOk result (λ pictures. AreOfFilm held name.entry.now slot (pictures_of pictures)) }
     ensures trouble { IfErr result (IsReadTrouble (IsNamed name.entry.now) IsFilmRefused
@@ -109,9 +109,9 @@ fn film_pictures<'a, L: Library>(
 {
     let film = size_film(alloc, library, name)?;
     Ok(Pictures {
-        picture: picture_units(film.rate),
+        picture_units: picture_units(film.rate),
         sizes: film.sizes,
-        slot,
+        slot_units: slot,
     })
 }
 
@@ -124,7 +124,7 @@ fn source_pictures<'a, L: Library>(
     requires { IsSourceInRange source }
     ensures library { IsReadOnly (L.files library.old) (L.files library.new) (L.faults library.old)
         (L.faults library.new) }
-    ensures limits { IfOk result (λ pictures. AreWithinLimits (pictures_of pictures)) }
+    ensures limits { IfOk result (λ pictures. MayHaveCurves (pictures_of pictures)) }
     ensures pictures { (held : List File) → L.files library.old ≡ Some held
         → IfOk result (λ pictures.
         ArePictures held (source_read source.entry) (pictures_of pictures)) }

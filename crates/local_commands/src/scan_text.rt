@@ -1,7 +1,7 @@
 //! The text that `scan` prints: a line for the film, and one for each of its units.
 
 ghost use Rattle.std.specs.Prelude.{◌≡◌, ◌++◌, IfOk, OnOk};
-ghost use Rattle.local_commands.specs.ScanText.{kind_text, mark, unit_name, unit_places};
+ghost use Rattle.local_commands.specs.ScanText.{kind_text, word_if, unit_name, unit_places};
 ghost use Rattle.local_commands.specs.ScanText.{unit_marks, unit_line, unit_lines, film_line};
 ghost use Rattle.local_commands.specs.ScanText.{scan_text};
 
@@ -28,8 +28,8 @@ pub(crate) fn scan_text(
 }
 
 /// Appends a word where something is so.
-fn push_mark(text: &mut Vec<u8>, is: bool, word: &[u8]) -> Result<(), NoMemory>
-    ensures { OnOk result (text.new.items ≡ text.old.items ++ mark is word.now) }
+fn push_word_if(text: &mut Vec<u8>, is: bool, word: &[u8]) -> Result<(), NoMemory>
+    ensures { OnOk result (text.new.items ≡ text.old.items ++ word_if is word.now) }
 {
     if is { push(text, word) } else { Ok(()) }
 }
@@ -70,8 +70,8 @@ fn push_places(text: &mut Vec<u8>, unit: &Unit) -> Result<(), NoMemory>
 fn push_marks(text: &mut Vec<u8>, unit: &Unit) -> Result<(), NoMemory>
     ensures { OnOk result (text.new.items ≡ text.old.items ++ unit_marks unit.now) }
 {
-    push_mark(text, unit.has_sequence, b" sequence")?;
-    push_mark(text, unit.starts_group, b" group")?;
+    push_word_if(text, unit.has_sequence, b" sequence")?;
+    push_word_if(text, unit.starts_group, b" group")?;
     push(text, b"\n")
 }
 

@@ -1,42 +1,21 @@
 use Rattle.std.proofs.Common.{◌≡◌, ◌∙◌, List, ℕ, Some, None, Ok, refl, sym, ap, subst, arith, inl, inr}
 use Rattle.vod_base.specs.Outside.{File, file_named}
 use Rattle.command_words.specs.Words.{check_of}
-use Rattle.command_words.specs.Orders.{source_name, source_read, viewer_of}
+use Rattle.command_words.specs.Orders.{viewer_of}
 use Rattle.troubles.proofs.CauseLemmas.{trouble_map}
 use Rattle.inputs.specs.Files.{IsMissing, IsNamed}
 use Rattle.local_commands.specs.Carrying.{IsDone, IsInputRefused, IsRead}
 use Rattle.std.specs.Prelude.{codes}
-use Rattle.local_commands.specs.Plans.{IsViewerTrouble}
 use Rattle.local_commands.specs.Verdict.{refused_line}
-use Rattle.inputs.proofs.ScanLemmas.{handed_on, ok_map}
+use Rattle.inputs.proofs.ScanLemmas.{handed_on, ok_map, read_trouble_map}
 use Rattle.local_commands.proofs.CommandLemmas.{text_of, HasCertificate, least_checked, fault_checked}
 use Rattle.local_commands.proofs.checks.check_viewer.Goals as goal
 
 pub returns-in_err-curves-clause-trouble : goal.returns-in_err-curves-clause-trouble
 returns-in_err-curves-clause-trouble g c =
     handed_on _ c.from_residual.result c.from_residual.ensures.1
-    (trouble_map (record {
-      Reads = IsNamed (source_name (source_read c.args.viewer.source));
-      Refuses = IsViewerTrouble (viewer_of c.args.viewer);
-      told = g.L.Library.files c.args.library.now;
-      before = g.L.Library.faults c.args.library.now;
-      after = g.L.Library.faults c.viewer_curves.new.library;
-    })
-    (record {
-      Reads = IsRead (check_of (viewer_of c.args.viewer) c.args.cert.now);
-      Refuses = IsInputRefused (check_of (viewer_of c.args.viewer) c.args.cert.now);
-      told = g.L.Library.files c.args.library.now;
-      before = g.L.Library.faults c.args.library.now;
-      after = g.L.Library.faults c.viewer_curves.new.library;
-    })
-    c.in_err-curves.field-0.0
-    (record {
-      reads = λ name is. inl is;
-      refuses = λ held name fault told is refused. inl (is, refused);
-      keeps = λ held told. told;
-      low = omega arith;
-      high = omega arith;
-    })
+    (read_trouble_map _ _ c.in_err-curves.field-0.0 (λ name is. inl is)
+    (λ held name fault told is refused. inl (is, refused))
     ((c.in_err-curves.ensures {u = tt}).trouble))
 
 pub returns-in_err-written-clause-trouble : goal.returns-in_err-written-clause-trouble

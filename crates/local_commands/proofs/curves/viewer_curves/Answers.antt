@@ -1,40 +1,18 @@
-use Rattle.std.proofs.Common.{List, ℕ, arith, inl, inr, subst, sym}
+use Rattle.std.proofs.Common.{List, ℕ, inl, inr, subst, sym}
 use Rattle.wire_curve.specs.FilmCurves.{IsWithinLimits}
-use Rattle.command_words.specs.Orders.{source_name, source_read, viewer_of}
-use Rattle.troubles.proofs.CauseLemmas.{trouble_map}
-use Rattle.inputs.specs.Files.{IsNamed}
+use Rattle.command_words.specs.Orders.{viewer_of}
 use Rattle.local_commands.specs.Pictures.{pictures_of}
 use Rattle.wire_curve.specs.Refusal.{HasFault, IsRefused}
-use Rattle.local_commands.specs.Plans.{IsSourceTrouble, IsViewerTrouble, Pictures, timing_of}
-use Rattle.inputs.proofs.ScanLemmas.{handed_on}
+use Rattle.local_commands.specs.Plans.{Pictures, timing_of}
+use Rattle.inputs.proofs.ScanLemmas.{handed_on, read_trouble_map}
 use Rattle.local_commands.proofs.PictureLemmas.{limits_of}
 use Rattle.local_commands.proofs.curves.viewer_curves.Goals as goal
 
 pub returns-in_err-pictures-clause-trouble : goal.returns-in_err-pictures-clause-trouble
 returns-in_err-pictures-clause-trouble g c =
     handed_on _ c.from_residual.result c.from_residual.ensures.1
-    (trouble_map (record {
-      Reads = IsNamed (source_name (source_read c.args.viewer.source));
-      Refuses = IsSourceTrouble (source_read c.args.viewer.source);
-      told = g.L.Library.files c.args.library.now;
-      before = g.L.Library.faults c.args.library.now;
-      after = g.L.Library.faults c.source_pictures.new.library;
-    })
-    (record {
-      Reads = IsNamed (source_name (source_read c.args.viewer.source));
-      Refuses = IsViewerTrouble (viewer_of c.args.viewer);
-      told = g.L.Library.files c.args.library.now;
-      before = g.L.Library.faults c.args.library.now;
-      after = g.L.Library.faults c.source_pictures.new.library;
-    })
-    c.in_err-pictures.field-0.0
-    (record {
-      reads = λ name is. is;
-      refuses = λ held name fault told is refused. inl refused;
-      keeps = λ held told. told;
-      low = omega arith;
-      high = omega arith;
-    })
+    (read_trouble_map _ _ c.in_err-pictures.field-0.0 (λ name is. is)
+    (λ held name fault told is refused. inl refused)
     ((c.in_err-pictures.ensures {u = tt}).trouble))
 
 pub film_curves-requires : goal.film_curves-requires
@@ -42,7 +20,7 @@ film_curves-requires g c =
     subst (λ (l : List ℕ). IsWithinLimits l
     (timing_of (viewer_of c.args.viewer) (pictures_of c.in_ok-pictures.pictures))) (sym c.deref.ensures.value)
     (limits_of (viewer_of c.args.viewer) (pictures_of c.in_ok-pictures.pictures)
-    ((c.in_ok-pictures.ensures {u = tt}).limits) c.requires.some_buffer c.requires.buffer_fits c.requires.startup_fits)
+    ((c.in_ok-pictures.ensures {u = tt}).limits) c.requires.buffer c.requires.startup)
 
 pub returns-in-Ok-clause-curves : goal.returns-in-Ok-clause-curves
 returns-in-Ok-clause-curves g c = λ held told. record {
