@@ -1,11 +1,11 @@
-pub mod RunLemmas
-pub mod WorkerLemmas
-pub mod GateLemmas
-pub mod ServeLemmas
-pub mod JournalLemmas
-pub mod ServeLaws
-pub mod ConnectionLaws
-pub mod TextReading
-pub mod LineReading
-pub mod WatchLemmas
-pub mod OneDay
+mod RunLemmas
+mod WorkerLemmas
+mod GateLemmas
+mod ServeLemmas
+mod JournalLemmas
+mod ServeLaws
+mod ConnectionLaws
+mod TextReading
+mod LineReading
+mod WatchLemmas
+mod OneDay

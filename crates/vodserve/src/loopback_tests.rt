@@ -13,7 +13,7 @@ use std::time::{Clock, Duration};
 use vod_base::{Gate, MemorySink, NoMemory, Opening};
 
 /// How often a client asks for a server that isn't there yet.
-const MOST_DIALS: u32 = 1_000;
+const MAX_DIALS: u32 = 1_000;
 
 /// What a run left.
 #[derive(Drop)]
@@ -89,7 +89,7 @@ fn watch<R: Net<Listener = TcpListener, Stream = TcpStream> + Clock + Threads + 
     port: u16,
 ) -> Result<Left, NoMemory> {
     let line = format!(in alloc; "watch film=b.mpg startup=2 slot=3600 port={port}")?;
-    for _ in 0..MOST_DIALS {
+    for _ in 0..MAX_DIALS {
         match carry_out(rt, alloc, line.as_str(), &mut DialGate::new(rt, alloc)) {
             Ok(left) if left.status != 6 && left.status != 7 => return Ok(left),
             _ => {}

@@ -31,7 +31,7 @@ struct Sends {
 }
 
 /// How often a link looks for the other's third send, each time for up to a millisecond.
-const MOST_LOOKS: u64 = 20_000;
+const MAX_LOOKS: u64 = 20_000;
 
 /// A link that hears requests, slot 1, once the other made its third send the slots 2 to 4, and its
 /// end.
@@ -48,7 +48,7 @@ struct MeetingLink<'a, R> {
 impl<R: Wait> MeetingLink<'_, R> {
     /// Whether the other made its third send.
     fn meets(&self) -> bool {
-        for _ in 0..MOST_LOOKS {
+        for _ in 0..MAX_LOOKS {
             let sends = self.other.load(Ordering::SeqCst);
             if sends >= 3 {
                 return true;

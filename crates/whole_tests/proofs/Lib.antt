@@ -1,1 +1,1 @@
-pub mod ServerFilms
+mod ServerFilms

@@ -448,7 +448,7 @@ fn serves_a_film(rt: HostRuntime) -> Result<(), Fail> {
 }
 
 #[test]
-fn a_failing_call_is_the_end(rt: HostRuntime) -> Result<(), Fail> {
+fn ends_at_a_failing_call(rt: HostRuntime) -> Result<(), Fail> {
     if fail_everywhere(&rt, rt.alloc()).is_err() {
         fail_everywhere(&rt, rt.alloc())?;
     }

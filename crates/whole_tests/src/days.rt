@@ -22,7 +22,8 @@ fn profile_of(rt: &impl Abort, alloc: Global, steps: &[(u64, u64)]) -> Result<Pr
     Ok(Profile::new(list))
 }
 
-/// A script, the steps of the link's capacity, the most entries of its journal, and what is printed.
+/// A script, the steps of the link's capacity, the most entries of its journal, and what is
+/// printed.
 #[derive(Clone, Copy)]
 struct Row {
     script: &'static str,
@@ -81,7 +82,7 @@ const DAYS: [Row; 2] = [
 ];
 
 #[test]
-fn days_of_traces(rt: HostRuntime) -> Result<(), Fail> {
+fn runs_traces(rt: HostRuntime) -> Result<(), Fail> {
     let alloc = rt.alloc();
     for row in DAYS {
         let sizes = Vec::from_slice(alloc, &[1, 1, 5])?;
@@ -91,7 +92,7 @@ fn days_of_traces(rt: HostRuntime) -> Result<(), Fail> {
 }
 
 #[test]
-fn a_pause_in_a_report(rt: HostRuntime) -> Result<(), Fail> {
+fn pauses_in_a_report(rt: HostRuntime) -> Result<(), Fail> {
     let alloc = rt.alloc();
     let film = short_film(alloc)?;
     let row = Row {
@@ -119,7 +120,7 @@ const BAD_LINES: [(&str, u64); 6] = [
 ];
 
 #[test]
-fn refused_lines(rt: HostRuntime) -> Result<(), Fail> {
+fn refuses_bad_lines(rt: HostRuntime) -> Result<(), Fail> {
     for (text, line) in BAD_LINES {
         match read_script(rt.alloc(), text.as_bytes()) {
             Err(refused) => assert_eq!(rt; refused, ScriptRefused::BadScript { line }, "{text}"),
@@ -130,7 +131,7 @@ fn refused_lines(rt: HostRuntime) -> Result<(), Fail> {
 }
 
 #[test]
-fn fairs(rt: HostRuntime) -> Result<(), Fail> {
+fn runs_drawn_plays(rt: HostRuntime) -> Result<(), Fail> {
     let alloc = rt.alloc();
     let day = fair(alloc, 7, 2000, Profile::flat(alloc, 50_000)?)?;
     let text = "fair turns=2000 admitted=975 overflow=728 halted=975 full=0 last=2886 \

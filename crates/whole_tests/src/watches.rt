@@ -182,7 +182,7 @@ fn watch_film<R: Wait + Abort>(
 }
 
 #[test]
-fn a_film_comes_back(rt: HostRuntime) -> Result<(), Fail> {
+fn watches_a_film(rt: HostRuntime) -> Result<(), Fail> {
     let alloc = rt.alloc();
     for (pictures, buffer, startup) in [
         (1, 16_384, 0),
