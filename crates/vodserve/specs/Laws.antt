@@ -54,8 +54,8 @@ ServesWhatItMay =
     Serves before after seed serving ended → IsServable serving before.store.told →
     HasNoFault before after → (ended.status ≡ 0) ⊎ (ended.status ≡ 6)
 
--- a film that is refused is never served: the server does nothing, opens no gate, and says so by its
--- status
+-- a film that is refused is never served: the server does nothing, opens no gate, and says so by
+-- its status
 abbrev pub ServesNoRefused : Type 0
 ServesNoRefused =
     (before after : World) (seed : List ℕ) (serving : Serving) (ended : Ended) (held : List File)
@@ -150,9 +150,9 @@ pub record IsServedPart (films : List Stored) (seed : List ℕ) (serving : Servi
       (slice_index_or reports k no_report)
   pub entries : entries_told reports ≡ map receipt_for (made_by (worker + 1) journal)
 
--- the films are those of the library, the journal is a legal history over the capacity, the gate was
--- opened once, each connection of each worker was served, and the reports are those of the first
--- worker, then those of the next, and so on
+-- the films are those of the library, the journal is a legal history over the capacity, the gate
+-- was opened once, each connection of each worker was served, and the reports are those of the
+-- first worker, then those of the next, and so on
 pub record HasServedAll (before : World) (seed : List ℕ) (serving : Serving) (ended : Ended)
     (gate : Content) : Type 0 where
   pub films : List Stored

@@ -154,8 +154,8 @@ Ends out out' err err' text end ended =
     × Fails err err' trouble ended))
 
 -- a server that served: the films as they were loaded, the journal, what the workers did over the
--- one opening of the gate, and the text that tells of it, whose counts are numbers of 64 bits; where
--- a worker ended by a fault of the gate, the gate counted one
+-- one opening of the gate, and the text that tells of it, whose counts are numbers of 64 bits;
+-- where a worker ended by a fault of the gate, the gate counted one
 pub record HasServed (before after : World) (seed : List ℕ) (serving : Serving) (ended : Ended)
     : Type 0 where
   pub films : List Stored
@@ -191,7 +191,8 @@ IsUsage before after ended =
 abbrev pub IsTextWritten : Seen (List ℕ) → Seen (List ℕ) → Seen (List ℕ) → Seen (List ℕ) → List ℕ →
     Ended → Type 0
 IsTextWritten out out' err err' text ended =
-    ((ended.status ≡ 0) × (ended.plan ≡ None) × (out'.told ≡ told_more out.told text) × (err' ≡ err))
+    ((ended.status ≡ 0) × (ended.plan ≡ None) × (out'.told ≡ told_more out.told text)
+    × (err' ≡ err))
     ⊎ (HasRisen out.faults out'.faults × IsFrontMore out.told out'.told text
     × Fails err err' SinkFault ended)
 

@@ -40,8 +40,8 @@ settings_of serving =
       startup = serving.pace.startup;
     }
 
--- what a worker's seat is asked under: the capacity and the most entries that the words say, and the
--- number after the worker's own
+-- what a worker's seat is asked under: the capacity and the most entries that the words say, and
+-- the number after the worker's own
 abbrev pub terms_for : Serving → ℕ → Terms
 terms_for serving worker =
     record { steps = serving.capacity; limit = serving.journal; maker = worker + 1 }
