@@ -14,3 +14,11 @@ returns-in-New-clause-goes_on c =
     (counts_for stored.film c.args.source setup c.args.counts c.args.paused w) (run_of w)) c.in-New.is
     (goes_on c.args.counts c.requires.paused
     c.requires.wanted.1))
+
+pub returns-in-Resumed-clause-goes_on : goal.returns-in-Resumed-clause-goes_on
+returns-in-Resumed-clause-goes_on c =
+    let stored = c.args.stored.now in
+    let setup = c.args.setup.now in
+    subst (λ (w : Wanted). IsRunOf stored c.args.source setup
+    (counts_for stored.film c.args.source setup c.args.counts c.args.paused w) (run_of w)) c.in-Resumed.is
+    (goes_on c.args.counts c.requires.paused c.requires.wanted.1)
