@@ -56,8 +56,8 @@ pub record HasToldRefusal (refused : PlayRefused) (before after : Connection) : 
 gone_refused : {before after : Connection} (seat next : SeatState) (heard : ℕ) (plan : List Segment) (refused : PlayRefused) →
     IsRefused seat next heard plan refused → before.booking ≡ None → HasToldRefusal refused before after →
     HasGone (business seat.mine before) (business next.mine after)
-gone_refused seat next heard plan (JournalFull asked entries live) is none told =
-    gone_full entries live is.1.mine told.booking told.handed.receipts
+gone_refused seat next heard plan (JournalFull asked entries open_plays) is none told =
+    gone_full entries open_plays is.1.mine told.booking told.handed.receipts
 gone_refused seat next heard plan (Overflow place slot booked bytes) is none told =
     gone_overflow none told.booking (record { mine = is.mine; receipts = told.handed.receipts })
 
@@ -77,7 +77,7 @@ pub answered_refused : {plan : List Segment} {seat next : SeatState} {after : St
     IsAsking seat next before → IsRefused seat next before.session.heard plan refused →
     after ≡ after_refusal before.session refused →
     HasAnswered before.session (AskPlay plan) after seat next
-answered_refused before (JournalFull asked entries live) asking is told = answered_full asking.same is.1 (told, refl)
+answered_refused before (JournalFull asked entries open_plays) asking is told = answered_full asking.same is.1 (told, refl)
 answered_refused before (Overflow place slot booked bytes) asking is told =
     answered_entry asking.kept asking.also asking.same is refl (refl, told)
 

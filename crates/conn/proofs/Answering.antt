@@ -70,7 +70,7 @@ asked_replied is Unasked new same heard answered = absurd answered
 asked_replied is (Entered placed) new same heard answered =
     entry_replied (record { asked = is; same = same; command = answered.0 ∙ ap (λ h. play_of h is.planned.plan) heard })
     placed.entry.answer new answered.1
-asked_replied {asking} is (WasFull more entries live) new same heard answered =
+asked_replied {asking} is (WasFull more entries open_plays) new same heard answered =
     (sequence_of asking.awaited, ap (λ (s : Standing). s.text) answered.0)
 asked_replied is (Offered at_slot note) new same heard answered = absurd answered
 
@@ -80,7 +80,7 @@ lacks_replied : {old : Standing} {ask : Ask} {asking : Standing} (outcome : Outc
 lacks_replied {old} {ask} {asking} Unasked new lacks answered =
     subst (HasCode 500) (sym (ap (λ (s : Standing). s.text) answered)) (memory_code old ask asking lacks)
 lacks_replied {ask} (Entered placed) new lacks answered = absurd answered
-lacks_replied {ask} (WasFull more entries live) new lacks answered = absurd answered
+lacks_replied {ask} (WasFull more entries open_plays) new lacks answered = absurd answered
 lacks_replied {ask} (Offered at_slot note) new lacks answered = absurd answered
 
 either_replied : {old : Standing} {ask : Ask} {asking : Standing} (outcome : Outcome) (new : Standing) →

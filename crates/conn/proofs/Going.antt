@@ -24,7 +24,7 @@ entry_receipts-append : (xs ys : List Receipt) → entry_receipts (xs ++ ys) ≡
 entry_receipts-append [] ys = refl
 entry_receipts-append (EntryReceipt place answer ∷ xs) ys =
     ap (λ rs. EntryReceipt place answer ∷ rs) (entry_receipts-append xs ys)
-entry_receipts-append (FullReceipt entries live ∷ xs) ys = entry_receipts-append xs ys
+entry_receipts-append (FullReceipt entries open_plays ∷ xs) ys = entry_receipts-append xs ys
 
 -- no entry was made, and the receipts tell none
 pub gone_none : {old new : Business} (full : List Receipt) → new.mine ≡ old.mine → new.booking ≡ old.booking →
@@ -109,9 +109,9 @@ pub record HasEntered (old new : Business) (placed : Placed) : Type 0 where
   pub receipts : new.receipts ≡ old.receipts ++ receipt_for placed ∷ []
 
 -- the calls at the station, each with what it leaves
-pub gone_full : {old new : Business} (entries live : ℕ) → new.mine ≡ old.mine → new.booking ≡ old.booking →
-    new.receipts ≡ old.receipts ++ FullReceipt entries live ∷ [] → HasGone old new
-gone_full {new} entries live mine booking receipts = gone_none (FullReceipt entries live ∷ []) mine booking receipts refl
+pub gone_full : {old new : Business} (entries open_plays : ℕ) → new.mine ≡ old.mine → new.booking ≡ old.booking →
+    new.receipts ≡ old.receipts ++ FullReceipt entries open_plays ∷ [] → HasGone old new
+gone_full {new} entries open_plays mine booking receipts = gone_none (FullReceipt entries open_plays ∷ []) mine booking receipts refl
 
 -- the values of a look's entry in the journal
 pub record LookEntry : Type 0 where

@@ -36,11 +36,11 @@ answered_entry {ask} {new} {seat} {next} {more} {command} {place} {answer} kept 
   noted = record { mine = made.mine; seat = same; agree = entry_agrees kept also same made needed };
 }
 
-pub answered_full : {old : Standing} {ask : Ask} {new : Standing} {seat next : SeatState} {more entries live : ℕ}
+pub answered_full : {old : Standing} {ask : Ask} {new : Standing} {seat next : SeatState} {more entries open_plays : ℕ}
     → IsSameSeat seat next
-    → IsFull seat next more entries live → IsAnswered old ask (WasFull more entries live) new → HasAnswered old ask new seat next
-answered_full {ask} {new} {seat} {next} {more} {entries} {live} same full answered = record {
-  outcome = WasFull more entries live;
+    → IsFull seat next more entries open_plays → IsAnswered old ask (WasFull more entries open_plays) new → HasAnswered old ask new seat next
+answered_full {ask} {new} {seat} {next} {more} {entries} {open_plays} same full answered = record {
+  outcome = WasFull more entries open_plays;
   answered = answered;
   noted = record { mine = full.mine ∙ sym (append-nil seat.mine); seat = same; agree = full_agrees same full };
 }

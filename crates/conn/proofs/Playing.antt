@@ -43,14 +43,14 @@ no_halt : (old : Standing) (keep : ℕ) (outcome : Outcome) (new : Standing) →
     → IsUnhalted outcome → ⊥
 no_halt old keep Unasked new halted free = halted
 no_halt old keep (Entered placed) new halted free = subst IsNoHalt halted.command free
-no_halt old keep (WasFull more entries live) new halted free = halted
+no_halt old keep (WasFull more entries open_plays) new halted free = halted
 no_halt old keep (Offered at_slot note) new halted free = halted
 
 finished_same : (asks : Awaits) (old : Standing) (halt : Outcome) (new : Standing)
     → IsFinished asks old halt new → IsUnhalted halt → new ≡ old
 finished_same NoAnswer old Unasked new is free = is
 finished_same NoAnswer old (Entered placed) new is free = absurd is
-finished_same NoAnswer old (WasFull more entries live) new is free = absurd is
+finished_same NoAnswer old (WasFull more entries open_plays) new is free = absurd is
 finished_same NoAnswer old (Offered at_slot note) new is free = absurd is
 finished_same (PlayAnswer plan) old halt new is free = absurd is
 finished_same (HaltAnswer keep) old halt new is free = absurd (no_halt old keep halt new is free)
@@ -257,21 +257,21 @@ answer_left : {setup : Setup} {play : Played} {old new : Standing} (ask : Ask) (
     old.state ≡ Playing setup play → UnhaltedAnswer old ask outcome new → IsLeft old new
 answer_left {old} AskReply Unasked is given = subst (IsLeft old) (sym given.answered) (refl, refl)
 answer_left AskReply (Entered placed) is given = absurd given.answered
-answer_left AskReply (WasFull more entries live) is given = absurd given.answered
+answer_left AskReply (WasFull more entries open_plays) is given = absurd given.answered
 answer_left AskReply (Offered at_slot note) is given = absurd given.answered
 answer_left (AskPlay plan) Unasked is given = absurd given.answered
 answer_left {old} {new} (AskPlay plan) (Entered placed) is given =
     play_left old placed placed.entry.answer new is given.answered.1
-answer_left {old} (AskPlay plan) (WasFull more entries live) is given = subst (IsLeft old) (sym given.answered.0) (refl, refl)
+answer_left {old} (AskPlay plan) (WasFull more entries open_plays) is given = subst (IsLeft old) (sym given.answered.0) (refl, refl)
 answer_left (AskPlay plan) (Offered at_slot note) is given = absurd given.answered
 answer_left {old} {new} (AskHalt keep) outcome is given = absurd (no_halt old keep outcome new given.answered given.free)
 answer_left (AskLook slot) Unasked is given = absurd given.answered
 answer_left {old} {new} (AskLook slot) (Entered placed) is given = look_left old placed placed.entry.answer new given.answered.1
-answer_left {old} (AskLook slot) (WasFull more entries live) is given = subst (IsLeft old) (sym given.answered.0) (refl, refl)
+answer_left {old} (AskLook slot) (WasFull more entries open_plays) is given = subst (IsLeft old) (sym given.answered.0) (refl, refl)
 answer_left (AskLook slot) (Offered at_slot note) is given = absurd given.answered
 answer_left (AskOffer plan offers) Unasked is given = absurd given.answered
 answer_left (AskOffer plan offers) (Entered placed) is given = absurd given.answered
-answer_left (AskOffer plan offers) (WasFull more entries live) is given = absurd given.answered
+answer_left (AskOffer plan offers) (WasFull more entries open_plays) is given = absurd given.answered
 answer_left {old} (AskOffer plan offers) (Offered at_slot note) is given = subst (IsLeft old) (sym given.answered.2) (refl, refl)
 
 left_on : (a b c : Standing) → IsLeft a b → IsLeft b c → IsLeft a c

@@ -149,7 +149,7 @@ halted_well {old} {new} {film} keep (Entered placed) well halted =
       settings = well.settings;
       state = halted_values (ground_of made film) old.state old.awaited well.values;
     })
-halted_well {new} keep (WasFull more entries live) well halted = absurd halted
+halted_well {new} keep (WasFull more entries open_plays) well halted = absurd halted
 halted_well {new} keep (Offered at_slot note) well halted = absurd halted
 
 values_in : (ground : Ground) (state : State) →
@@ -172,12 +172,12 @@ answered_well : {new : Standing} (old : Standing) (ask : Ask) (outcome : Outcome
     IsAnswered old ask outcome new → IsWell new (film_since film outcome)
 answered_well {new} old AskReply Unasked film well answered = subst (λ s. IsWell s film) (sym answered) well
 answered_well {new} old AskReply (Entered placed) film well answered = absurd answered
-answered_well {new} old AskReply (WasFull more entries live) film well answered = absurd answered
+answered_well {new} old AskReply (WasFull more entries open_plays) film well answered = absurd answered
 answered_well {new} old AskReply (Offered at_slot note) film well answered = absurd answered
 answered_well {new} old (AskPlay plan) Unasked film well answered = absurd answered
 answered_well {new} old (AskPlay plan) (Entered placed) film well answered =
     play_answered placed placed.entry.answer plan well answered.1
-answered_well {new} old (AskPlay plan) (WasFull more entries live) film well answered =
+answered_well {new} old (AskPlay plan) (WasFull more entries open_plays) film well answered =
     subst (λ s. IsWell s film) (sym answered.0)
     (record { films = well.0.films; settings = well.0.settings; state = well.0.state })
 answered_well {new} old (AskPlay plan) (Offered at_slot note) film well answered = absurd answered
@@ -185,12 +185,12 @@ answered_well {new} old (AskHalt keep) outcome film well answered = halted_well 
 answered_well {new} old (AskLook slot) Unasked film well answered = absurd answered
 answered_well {new} old (AskLook slot) (Entered placed) film well answered =
     look_answered placed placed.entry.answer well answered.1
-answered_well {new} old (AskLook slot) (WasFull more entries live) film well answered =
+answered_well {new} old (AskLook slot) (WasFull more entries open_plays) film well answered =
     subst (λ s. IsWell s film) (sym answered.0) (record { films = well.films; settings = well.settings; state = well.state })
 answered_well {new} old (AskLook slot) (Offered at_slot note) film well answered = absurd answered
 answered_well {new} old (AskOffer plan offers) Unasked film well answered = absurd answered
 answered_well {new} old (AskOffer plan offers) (Entered placed) film well answered = absurd answered
-answered_well {new} old (AskOffer plan offers) (WasFull more entries live) film well answered = absurd answered
+answered_well {new} old (AskOffer plan offers) (WasFull more entries open_plays) film well answered = absurd answered
 answered_well {new} old (AskOffer plan offers) (Offered at_slot note) film well answered =
     subst (λ s. IsWell s film) (sym answered.2) (record { films = well.films; settings = well.settings; state = well.state })
 
@@ -386,7 +386,7 @@ finish_well : {old new : Standing} {film : List ℕ} (asks : Awaits) (halt : Out
     → IsFinished asks old halt new → IsWell new film
 finish_well {new} {film} NoAnswer Unasked well is = subst (λ s. IsWell s film) (sym is) well
 finish_well {new} NoAnswer (Entered placed) well is = absurd is
-finish_well {new} NoAnswer (WasFull more entries live) well is = absurd is
+finish_well {new} NoAnswer (WasFull more entries open_plays) well is = absurd is
 finish_well {new} NoAnswer (Offered at_slot note) well is = absurd is
 finish_well {new} (PlayAnswer plan) halt well is = absurd is
 finish_well {old} {new} {film} (HaltAnswer keep) halt well is = halted_well keep halt (halting_of old film well) is

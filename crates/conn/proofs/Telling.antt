@@ -46,9 +46,9 @@ overflow_not_full : (sequence slot booked asked : ℕ) → HasCode 503 (overflow
 unfolding reply_text reply_front status_line digits
 overflow_not_full sequence slot booked asked is = other (λ p. absurd (omega (arith, p))) is
 
-full_not_overflow : (sequence entries live : ℕ) → HasCode 453 (full_text sequence entries live) → ⊥
+full_not_overflow : (sequence entries open_plays : ℕ) → HasCode 453 (full_text sequence entries open_plays) → ⊥
 unfolding reply_text reply_front status_line digits
-full_not_overflow sequence entries live is = other (λ p. absurd (omega (arith, p))) is
+full_not_overflow sequence entries open_plays is = other (λ p. absurd (omega (arith, p))) is
 
 -- what a reply tells, by a seat's entries and the station's answers
 pub record TellsOver (mine : List Placed) (text : List ℕ) : Type 0 where
@@ -105,8 +105,8 @@ refusal_more mine mine' made made' text told = record {
       record {
         more = its.more;
         entries = its.entries;
-        live = its.live;
-        full = Contains-append_left made made' (WasFull its.more its.entries its.live) its.full;
+        open_plays = its.open_plays;
+        full = Contains-append_left made made' (WasFull its.more its.entries its.open_plays) its.full;
         sequence = its.sequence;
         text_is = its.text_is;
       };
@@ -146,15 +146,15 @@ told_overflow {slot} {booked} {asked} made placed sequence answer = record {
   full = λ is. absurd (overflow_not_full sequence slot booked asked is);
 }
 
-told_full : (made : List Outcome) (more entries live sequence : ℕ)
-    → IsTold (made ++ WasFull more entries live ∷ []) (full_text sequence entries live)
-told_full made more entries live sequence = record {
-  overflow = λ is. absurd (full_not_overflow sequence entries live is);
+told_full : (made : List Outcome) (more entries open_plays sequence : ℕ)
+    → IsTold (made ++ WasFull more entries open_plays ∷ []) (full_text sequence entries open_plays)
+told_full made more entries open_plays sequence = record {
+  overflow = λ is. absurd (full_not_overflow sequence entries open_plays is);
   full = λ is. record {
     more = more;
     entries = entries;
-    live = live;
-    full = Contains-push made (WasFull more entries live);
+    open_plays = open_plays;
+    full = Contains-push made (WasFull more entries open_plays);
     sequence = sequence;
     text_is = refl;
   };
@@ -190,18 +190,18 @@ look_told made old placed (Looked now at booked) new answered =
     subst (IsTold (made ++ Entered placed ∷ [])) (sym (ap (λ (s : Standing). s.text) answered))
     (told_plain (made ++ Entered placed ∷ []) _ (ok_plain _ _ _))
 
-full_told : {new : Standing} (made : List Outcome) (old : Standing) (more entries live : ℕ) → new ≡ after_full old entries live →
-    IsTold (made ++ WasFull more entries live ∷ []) new.text
-full_told {new} made old more entries live is =
-    subst (IsTold (made ++ WasFull more entries live ∷ [])) (sym (ap (λ (s : Standing). s.text) is))
-    (told_full made more entries live _)
+full_told : {new : Standing} (made : List Outcome) (old : Standing) (more entries open_plays : ℕ) → new ≡ after_full old entries open_plays →
+    IsTold (made ++ WasFull more entries open_plays ∷ []) new.text
+full_told {new} made old more entries open_plays is =
+    subst (IsTold (made ++ WasFull more entries open_plays ∷ [])) (sym (ap (λ (s : Standing). s.text) is))
+    (told_full made more entries open_plays _)
 
 -- a halt leaves the reply
 halted_text : (old : Standing) (keep : ℕ) (outcome : Outcome) (new : Standing) → IsHalted old keep outcome new
     → new.text ≡ old.text
 halted_text old keep Unasked new halted = absurd halted
 halted_text old keep (Entered placed) new halted = ap (λ (s : Standing). s.text) halted.halts
-halted_text old keep (WasFull more entries live) new halted = absurd halted
+halted_text old keep (WasFull more entries open_plays) new halted = absurd halted
 halted_text old keep (Offered at_slot note) new halted = absurd halted
 
 -- the station's answer to a session whose text tells of no refusal
@@ -215,12 +215,12 @@ answered_told {old} made AskReply Unasked given =
     subst (IsTold (made ++ Unasked ∷ [])) (sym (ap (λ (s : Standing). s.text) given.answered))
     (told_plain (made ++ Unasked ∷ []) old.text given.plain)
 answered_told made AskReply (Entered placed) given = absurd given.answered
-answered_told made AskReply (WasFull more entries live) given = absurd given.answered
+answered_told made AskReply (WasFull more entries open_plays) given = absurd given.answered
 answered_told made AskReply (Offered at_slot note) given = absurd given.answered
 answered_told made (AskPlay plan) Unasked given = absurd given.answered
 answered_told {old} made (AskPlay plan) (Entered placed) given =
     play_told {old = old} made given.plain (record { answer_is = refl; answered = given.answered.1 })
-answered_told {old} made (AskPlay plan) (WasFull more entries live) given = full_told made old more entries live given.answered.0
+answered_told {old} made (AskPlay plan) (WasFull more entries open_plays) given = full_told made old more entries open_plays given.answered.0
 answered_told made (AskPlay plan) (Offered at_slot note) given = absurd given.answered
 answered_told {old} {new} made (AskHalt keep) outcome given =
     subst (IsTold (made ++ outcome ∷ [])) (sym (halted_text old keep outcome new given.answered))
@@ -228,11 +228,11 @@ answered_told {old} {new} made (AskHalt keep) outcome given =
 answered_told made (AskLook slot) Unasked given = absurd given.answered
 answered_told {old} {new} made (AskLook slot) (Entered placed) given =
     look_told made old placed placed.entry.answer new given.answered.1
-answered_told {old} made (AskLook slot) (WasFull more entries live) given = full_told made old more entries live given.answered.0
+answered_told {old} made (AskLook slot) (WasFull more entries open_plays) given = full_told made old more entries open_plays given.answered.0
 answered_told made (AskLook slot) (Offered at_slot note) given = absurd given.answered
 answered_told made (AskOffer plan offers) Unasked given = absurd given.answered
 answered_told made (AskOffer plan offers) (Entered placed) given = absurd given.answered
-answered_told made (AskOffer plan offers) (WasFull more entries live) given = absurd given.answered
+answered_told made (AskOffer plan offers) (WasFull more entries open_plays) given = absurd given.answered
 answered_told made (AskOffer plan offers) (Offered at_slot note) given =
     subst (IsTold (made ++ Offered at_slot note ∷ [])) (sym (ap (λ (s : Standing). s.text) given.answered.2))
     (told_plain (made ++ Offered at_slot note ∷ []) _ (ok_plain _ _ _))
@@ -329,7 +329,7 @@ finished_text : (asks : Awaits) (old : Standing) (halt : Outcome) (new : Standin
     → IsFinished asks old halt new → new.text ≡ old.text
 finished_text NoAnswer old Unasked new is = ap (λ (s : Standing). s.text) is
 finished_text NoAnswer old (Entered placed) new is = absurd is
-finished_text NoAnswer old (WasFull more entries live) new is = absurd is
+finished_text NoAnswer old (WasFull more entries open_plays) new is = absurd is
 finished_text NoAnswer old (Offered at_slot note) new is = absurd is
 finished_text (PlayAnswer plan) old halt new is = absurd is
 finished_text (HaltAnswer keep) old halt new is = halted_text old keep halt new is

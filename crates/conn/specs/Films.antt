@@ -51,7 +51,7 @@ IsNoHalt (Look slot) = ⊤
 abbrev pub IsUnhalted : Outcome → Type 0
 IsUnhalted Unasked = ⊤
 IsUnhalted (Entered placed) = IsNoHalt placed.entry.command
-IsUnhalted (WasFull more entries live) = ⊤
+IsUnhalted (WasFull more entries open_plays) = ⊤
 IsUnhalted (Offered at_slot note) = ⊤
 
 abbrev pub AreUnhalted : List Outcome → Type 0

@@ -21,7 +21,7 @@ use Rattle.conn.specs.declared.connections.Connection.{Connection}
 abbrev pub entry_receipts : List Receipt → List Receipt
 entry_receipts [] = []
 entry_receipts (EntryReceipt place answer ∷ rest) = EntryReceipt place answer ∷ entry_receipts rest
-entry_receipts (FullReceipt entries live ∷ rest) = entry_receipts rest
+entry_receipts (FullReceipt entries open_plays ∷ rest) = entry_receipts rest
 
 -- the receipt for an entry: its place and its answer
 abbrev pub receipt_for : Placed → Receipt

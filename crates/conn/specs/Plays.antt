@@ -36,7 +36,7 @@ pub record IsShown (stored : Stored) : Type 0 where
 abbrev pub is_admitted : Outcome → Bool
 is_admitted Unasked = false
 is_admitted (Entered placed) = is_admission placed.entry.answer
-is_admitted (WasFull more entries live) = false
+is_admitted (WasFull more entries open_plays) = false
 is_admitted (Offered at_slot note) = false
 
 -- The film's bytes that were sent since the last admission: with one more answer of the station,

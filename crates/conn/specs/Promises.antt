@@ -53,10 +53,10 @@ pub record TellsOverflowOf (seat : SeatState) (text : List ℕ) : Type 0 where
 pub record TellsFullOf (outcomes : List Outcome) (text : List ℕ) : Type 0 where
   pub more : ℕ
   pub entries : ℕ
-  pub live : ℕ
-  pub full : Contains outcomes (WasFull more entries live)
+  pub open_plays : ℕ
+  pub full : Contains outcomes (WasFull more entries open_plays)
   pub sequence : ℕ
-  pub text_is : text ≡ full_text sequence entries live
+  pub text_is : text ≡ full_text sequence entries open_plays
 
 -- a reply is 453 only where a slot has no room for the play that was asked for, and 503 only where
 -- the journal was full

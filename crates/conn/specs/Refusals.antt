@@ -10,11 +10,11 @@ use Rattle.session.specs.Hearings.{after_full, after_overflow}
 use Rattle.session.specs.Standings.{Standing}
 
 abbrev pub after_refusal : Standing → PlayRefused → Standing
-after_refusal old (JournalFull plan entries live) = after_full old entries live
+after_refusal old (JournalFull plan entries open_plays) = after_full old entries open_plays
 after_refusal old (PlayOverflow place slot booked asked) =
     after_overflow old place slot booked asked
 
 abbrev pub refusal_receipt : PlayRefused → Receipt
-refusal_receipt (JournalFull plan entries live) = FullReceipt entries live
+refusal_receipt (JournalFull plan entries open_plays) = FullReceipt entries open_plays
 refusal_receipt (PlayOverflow place slot booked asked) =
     EntryReceipt place (Overflow slot booked asked)

@@ -84,7 +84,7 @@ pub record IsHaltAnswered (old : Standing) (keep : ℕ) (placed : Placed) (new :
 abbrev pub IsHalted : Standing → ℕ → Outcome → Standing → Type 0
 IsHalted old keep Unasked new = ⊥
 IsHalted old keep (Entered placed) new = IsHaltAnswered old keep placed new
-IsHalted old keep (WasFull more entries live) new = ⊥
+IsHalted old keep (WasFull more entries open_plays) new = ⊥
 IsHalted old keep (Offered at_slot note) new = ⊥
 
 -- what the session asked, what came of it, and the session after it
@@ -93,13 +93,13 @@ IsAnswered old AskReply Unasked new = new ≡ old
 IsAnswered old (AskPlay plan) (Entered placed) new =
     (placed.entry.command ≡ play_of old.heard plan)
     × IsPlayAnswered old placed placed.entry.answer new
-IsAnswered old (AskPlay plan) (WasFull more entries live) new =
-    (new ≡ after_full old entries live) × (more ≡ 2)
+IsAnswered old (AskPlay plan) (WasFull more entries open_plays) new =
+    (new ≡ after_full old entries open_plays) × (more ≡ 2)
 IsAnswered old (AskHalt keep) outcome new = IsHalted old keep outcome new
 IsAnswered old (AskLook slot) (Entered placed) new =
     (placed.entry.command ≡ look_at slot) × IsLookAnswered old placed placed.entry.answer new
-IsAnswered old (AskLook slot) (WasFull more entries live) new =
-    (new ≡ after_full old entries live) × (more ≡ 1)
+IsAnswered old (AskLook slot) (WasFull more entries open_plays) new =
+    (new ≡ after_full old entries open_plays) × (more ≡ 1)
 IsAnswered old (AskOffer plan offers) (Offered at_slot note) new =
     (note.plan ≡ plan) × (note.offers.wait ≡ offers.wait) × (new ≡ after_offer old note)
     × (at_slot ≡ old.heard)
@@ -191,5 +191,5 @@ IsClosed _ _ _ _ = ⊥
 abbrev pub entry_in : Outcome → List Placed
 entry_in Unasked = []
 entry_in (Entered placed) = placed ∷ []
-entry_in (WasFull more entries live) = []
+entry_in (WasFull more entries open_plays) = []
 entry_in (Offered at_slot note) = []

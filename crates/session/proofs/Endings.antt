@@ -311,7 +311,7 @@ happening_calm old (Admission place start) new is calm =
     inr (subst IsCalm (sym is) (record { tearing = calm.tearing; torn = calm.torn; awaited = refl }))
 happening_calm old (Overflow place slot booked asked) new is calm =
     inr (subst IsCalm (sym is) (record { tearing = calm.tearing; torn = calm.torn; awaited = refl }))
-happening_calm old (Full entries live) new is calm =
+happening_calm old (Full entries open_plays) new is calm =
     inr (subst IsCalm (sym is) (record { tearing = calm.tearing; torn = calm.torn; awaited = refl }))
 happening_calm old (Halt place) new is calm = inr (subst IsCalm (sym is) (halt_calm old place calm))
 happening_calm old (Look place now at booked) new is calm =

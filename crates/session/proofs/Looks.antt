@@ -80,7 +80,7 @@ happening_room : (old : Standing) (happening : Happening) (new : Standing) → I
 happening_room old (Message message ask) new is = comes_room old new message ask (comes_to old message ask new is)
 happening_room old (Admission place start) new is = same_room old new (ap (λ (s : Standing). s.looks_left) is)
 happening_room old (Overflow place slot booked asked) new is = same_room old new (ap (λ (s : Standing). s.looks_left) is)
-happening_room old (Full entries live) new is = same_room old new (ap (λ (s : Standing). s.looks_left) is)
+happening_room old (Full entries open_plays) new is = same_room old new (ap (λ (s : Standing). s.looks_left) is)
 happening_room old (Halt place) new is = same_room old new (ap (λ (s : Standing). s.looks_left) is)
 happening_room old (Look place now at booked) new is = same_room old new (ap (λ (s : Standing). s.looks_left) is)
 happening_room old (Offer note) new is = same_room old new (ap (λ (s : Standing). s.looks_left) is)

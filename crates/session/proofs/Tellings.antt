@@ -426,11 +426,11 @@ overflow_told old place slot booked asked = record {
   asked_is = refl;
 }
 
-pub full_told : (old : Standing) (entries live : ℕ)
-    → IsFullTold (sequence_of old.awaited) entries live (after_full old entries live).text
+pub full_told : (old : Standing) (entries open_plays : ℕ)
+    → IsFullTold (sequence_of old.awaited) entries open_plays (after_full old entries open_plays).text
 unfolding value_named
-full_told old entries live = record {
-  fields = field (codes "x-Entries") (decimal entries) ∷ field (codes "x-Open") (decimal live) ∷ [];
+full_told old entries open_plays = record {
+  fields = field (codes "x-Entries") (decimal entries) ∷ field (codes "x-Open") (decimal open_plays) ∷ [];
   text_is = refl;
   entries_are = refl;
   open_is = refl;

@@ -31,7 +31,7 @@ IsAfter old (Message message ask) new = Hears old message ask new
 IsAfter old (Admission place start) new = new ≡ after_admission old place start
 IsAfter old (Overflow place slot booked asked) new =
     new ≡ after_overflow old place slot booked asked
-IsAfter old (Full entries live) new = new ≡ after_full old entries live
+IsAfter old (Full entries open_plays) new = new ≡ after_full old entries open_plays
 IsAfter old (Halt place) new = new ≡ after_halt old place
 IsAfter old (Look place now at booked) new = new ≡ after_look old place now at booked
 IsAfter old (Offer note) new = new ≡ after_offer old note

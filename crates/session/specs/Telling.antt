@@ -168,11 +168,11 @@ pub record IsOverflowTold (sequence slot booked asked : ℕ) (text : List ℕ) :
   pub booked_is : value_named (codes "x-Booked") fields ≡ Some (decimal booked)
   pub asked_is : value_named (codes "x-Asked") fields ≡ Some (decimal asked)
 
-pub record IsFullTold (sequence entries live : ℕ) (text : List ℕ) : Type 0 where
+pub record IsFullTold (sequence entries open_plays : ℕ) (text : List ℕ) : Type 0 where
   pub fields : List Field
   pub text_is : text ≡ reply_text 503 (Some sequence) fields []
   pub entries_are : value_named (codes "x-Entries") fields ≡ Some (decimal entries)
-  pub open_is : value_named (codes "x-Open") fields ≡ Some (decimal live)
+  pub open_is : value_named (codes "x-Open") fields ≡ Some (decimal open_plays)
 
 -- a body's line: a name and a number
 abbrev pub number_line : List ℕ → ℕ → List ℕ

@@ -98,10 +98,10 @@ impl<'a> Session<'a> {
 
     /// The journal had no room for the play or the look that was asked for: its entries and the
     /// open plays.
-    pub fn hear_full(&mut self, entries: u64, live: u64)
+    pub fn hear_full(&mut self, entries: u64, open_plays: u64)
         requires asked { IsPlayOrLook (awaited_answer self.old) }
-        ensures exact { self.new ≡ after_full self.old entries live }
-        ensures handed { IsHandedIn self.old (Receipt.Full entries live) self.new }
+        ensures exact { self.new ≡ after_full self.old entries open_plays }
+        ensures handed { IsHandedIn self.old (Receipt.Full entries open_plays) self.new }
         ensures replies { self.new.waits ≡ true }
         ensures open { open_of self.new ≡ open_of self.old }
         ensures notes { AreNotesKept self.old self.new }
@@ -111,8 +111,11 @@ impl<'a> Session<'a> {
             Awaited::Look(sequence) => sequence,
             _ => unreachable!(),
         };
-        self.log.note(Receipt::Full { entries, live });
-        put_full(&mut self.reply, sequence, entries, live);
+        self.log.note(Receipt::Full {
+            entries,
+            open_plays,
+        });
+        put_full(&mut self.reply, sequence, entries, open_plays);
         self.waits = true;
     }
 

@@ -164,8 +164,9 @@ pub fn law_answers_told()
     ensures overflow { (old : Standing) (place slot booked asked : ℕ)
         → IsOverflowTold (sequence_of old.awaited) slot booked asked
         (after_overflow old place slot booked asked).text }
-    ensures full { (old : Standing) (entries live : ℕ)
-        → IsFullTold (sequence_of old.awaited) entries live (after_full old entries live).text }
+    ensures full { (old : Standing) (entries open_plays : ℕ)
+        → IsFullTold (sequence_of old.awaited) entries open_plays
+        (after_full old entries open_plays).text }
     ensures look { (old : Standing) (place now at booked : ℕ)
         → IsLookTold (sequence_of old.awaited) now at booked
         (after_look old place now at booked).text }

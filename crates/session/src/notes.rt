@@ -19,7 +19,7 @@ pub enum Receipt {
         /// How many entries it had.
         entries: u64,
         /// How many plays were open.
-        live: u64,
+        open_plays: u64,
     },
 }
 

@@ -238,13 +238,13 @@ pub(crate) fn put_overflow(reply: &mut Reply, sequence: u64, slot: u64, booked: 
 }
 
 /// The 503 of a full journal.
-pub(crate) fn put_full(reply: &mut Reply, sequence: u64, entries: u64, live: u64)
-    ensures { reply.new ≡ full_text sequence entries live }
+pub(crate) fn put_full(reply: &mut Reply, sequence: u64, entries: u64, open_plays: u64)
+    ensures { reply.new ≡ full_text sequence entries open_plays }
 {
     reply.clear();
     reply.start(503, Some(sequence));
     reply.number_field(b"x-Entries", entries);
-    reply.number_field(b"x-Open", live);
+    reply.number_field(b"x-Open", open_plays);
     reply.finish(&[]);
 }
 

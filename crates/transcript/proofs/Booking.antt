@@ -42,14 +42,14 @@ kept_more : (outcome : Outcome) (made : List Placed) (all : ℕ)
     → kept_with outcome (kept_among made all) ≡ kept_among (entry_in outcome ++ made) all
 kept_more Unasked made all = refl
 kept_more (Entered placed) made all = refl
-kept_more (WasFull more entries live) made all = refl
+kept_more (WasFull more entries open_plays) made all = refl
 kept_more (Offered at_slot note) made all = refl
 
 told_more : (outcome : Outcome) (made : List Placed)
     → told_by outcome made ++ booked_plays made ≡ booked_plays (entry_in outcome ++ made)
 told_more Unasked made = refl
 told_more (Entered placed) made = refl
-told_more (WasFull more entries live) made = refl
+told_more (WasFull more entries open_plays) made = refl
 told_more (Offered at_slot note) made = refl
 
 kept_same : (askings : List Asking) (all : ℕ) → kept_in askings all ≡ kept_among (entries_in (outcomes_in askings)) all
@@ -121,14 +121,14 @@ halt_told asked Unasked none given = absurd given.halted
 halt_told asked (Entered placed) none given = λ askings made keeps.
     ap (map booking_of) (none placed.entry.answer askings)
     ∙ sym (ap (λ c. booked_by (play_admitted c placed.entry.answer) made) given.halted.command)
-halt_told asked (WasFull more entries live) none given = absurd given.halted
+halt_told asked (WasFull more entries open_plays) none given = absurd given.halted
 halt_told asked (Offered at_slot note) none given = absurd given.halted
 
 unasked_told : (asked : Awaited) (s : Standing) (halt : Outcome) (new : Standing)
     → IsFinished NoAnswer s halt new → IsToldBy asked halt
 unasked_told asked s Unasked new is = λ askings made keeps. refl
 unasked_told asked s (Entered placed) new is = absurd is
-unasked_told asked s (WasFull more entries live) new is = absurd is
+unasked_told asked s (WasFull more entries open_plays) new is = absurd is
 unasked_told asked s (Offered at_slot note) new is = absurd is
 
 finished_told : (asked : Awaited) (s : Standing) (halt : Outcome) (new : Standing)

@@ -181,7 +181,7 @@ halted_step : {s : Standing} {setup : Setup} {play : Played} {halt : Outcome} {k
     → IsHalted s keep halt new → Step s new (Asks s.awaited halt ∷ []) []
 halted_step {s} {halt = Unasked} {new} is sound done sent asks halted = absurd halted
 halted_step {s} {halt = Entered placed} {new} is sound done sent asks halted = done_step is sound done sent asks halted
-halted_step {s} {halt = WasFull more entries live} {new} is sound done sent asks halted = absurd halted
+halted_step {s} {halt = WasFull more entries open_plays} {new} is sound done sent asks halted = absurd halted
 halted_step {s} {halt = Offered at_slot note} {new} is sound done sent asks halted = absurd halted
 
 finishes : {s : Standing} {state : State} {halt : Outcome} {new : Standing} → s.state ≡ state
@@ -211,7 +211,7 @@ unasked_same : (s : Standing) (halt : Outcome) (new : Standing) → Stands s →
     → Step s new (Asks s.awaited halt ∷ []) []
 unasked_same s Unasked new stands finished = same_step s new stands finished
 unasked_same s (Entered placed) new stands finished = absurd finished
-unasked_same s (WasFull more entries live) new stands finished = absurd finished
+unasked_same s (WasFull more entries open_plays) new stands finished = absurd finished
 unasked_same s (Offered at_slot note) new stands finished = absurd finished
 
 unasked_step : (s : Standing) (halt : Outcome) (new : Standing) → Stands s

@@ -48,14 +48,14 @@ takes_left old new (Answered message outcome parts ∷ takings) takes rest =
 halted_heard : (s : Standing) (keep : ℕ) (halt : Outcome) (new : Standing) → IsHalted s keep halt new → new.heard ≡ s.heard
 halted_heard s keep Unasked new halted = absurd halted
 halted_heard s keep (Entered placed) new halted = ap (λ (n : Standing). n.heard) halted.halts
-halted_heard s keep (WasFull more entries live) new halted = absurd halted
+halted_heard s keep (WasFull more entries open_plays) new halted = absurd halted
 halted_heard s keep (Offered at_slot note) new halted = absurd halted
 
 finished_heard : (asks : Awaits) (s : Standing) (halt : Outcome) (new : Standing) → IsFinished asks s halt new
     → new.heard ≡ s.heard
 finished_heard NoAnswer s Unasked new is = ap (λ (n : Standing). n.heard) is
 finished_heard NoAnswer s (Entered placed) new is = absurd is
-finished_heard NoAnswer s (WasFull more entries live) new is = absurd is
+finished_heard NoAnswer s (WasFull more entries open_plays) new is = absurd is
 finished_heard NoAnswer s (Offered at_slot note) new is = absurd is
 finished_heard (PlayAnswer plan) s halt new is = absurd is
 finished_heard (HaltAnswer keep) s halt new is = halted_heard s keep halt new is

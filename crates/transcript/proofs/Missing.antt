@@ -52,27 +52,27 @@ looked-late asking placed Halted new answered = absurd answered
 halted-late : (s : Standing) (keep : ℕ) (halt : Outcome) (new : Standing) → IsHalted s keep halt new → new.late ≡ s.late
 halted-late s keep Unasked new halted = absurd halted
 halted-late s keep (Entered placed) new halted = ap (λ (n : Standing). n.late) halted.halts
-halted-late s keep (WasFull more entries live) new halted = absurd halted
+halted-late s keep (WasFull more entries open_plays) new halted = absurd halted
 halted-late s keep (Offered at_slot note) new halted = absurd halted
 
 answered-late : (asking : Standing) (ask : Ask) (outcome : Outcome) (new : Standing)
     → IsAnswered asking ask outcome new → new.late ≡ asking.late
 answered-late asking AskReply Unasked new answered = ap (λ (s : Standing). s.late) answered
 answered-late asking AskReply (Entered placed) new answered = absurd answered
-answered-late asking AskReply (WasFull more entries live) new answered = absurd answered
+answered-late asking AskReply (WasFull more entries open_plays) new answered = absurd answered
 answered-late asking AskReply (Offered at_slot note) new answered = absurd answered
 answered-late asking (AskPlay plan) Unasked new answered = absurd answered
 answered-late asking (AskPlay plan) (Entered placed) new answered = played-late asking placed placed.entry.answer new answered.1
-answered-late asking (AskPlay plan) (WasFull more entries live) new answered = ap (λ (s : Standing). s.late) answered.0
+answered-late asking (AskPlay plan) (WasFull more entries open_plays) new answered = ap (λ (s : Standing). s.late) answered.0
 answered-late asking (AskPlay plan) (Offered at_slot note) new answered = absurd answered
 answered-late asking (AskHalt keep) outcome new answered = halted-late asking keep outcome new answered
 answered-late asking (AskLook slot) Unasked new answered = absurd answered
 answered-late asking (AskLook slot) (Entered placed) new answered = looked-late asking placed placed.entry.answer new answered.1
-answered-late asking (AskLook slot) (WasFull more entries live) new answered = ap (λ (s : Standing). s.late) answered.0
+answered-late asking (AskLook slot) (WasFull more entries open_plays) new answered = ap (λ (s : Standing). s.late) answered.0
 answered-late asking (AskLook slot) (Offered at_slot note) new answered = absurd answered
 answered-late asking (AskOffer plan offers) Unasked new answered = absurd answered
 answered-late asking (AskOffer plan offers) (Entered placed) new answered = absurd answered
-answered-late asking (AskOffer plan offers) (WasFull more entries live) new answered = absurd answered
+answered-late asking (AskOffer plan offers) (WasFull more entries open_plays) new answered = absurd answered
 answered-late asking (AskOffer plan offers) (Offered at_slot note) new answered = ap (λ (s : Standing). s.late) answered.2
 
 heard-late : (old : Standing) (message : List ℕ) (outcome : Outcome) (new : Standing)
@@ -99,7 +99,7 @@ takes-late old new (Answered message outcome parts ∷ takings) takes =
 finished-late : (asks : Awaits) (s : Standing) (halt : Outcome) (new : Standing) → IsFinished asks s halt new → new.late ≡ s.late
 finished-late NoAnswer s Unasked new is = ap (λ (n : Standing). n.late) is
 finished-late NoAnswer s (Entered placed) new is = absurd is
-finished-late NoAnswer s (WasFull more entries live) new is = absurd is
+finished-late NoAnswer s (WasFull more entries open_plays) new is = absurd is
 finished-late NoAnswer s (Offered at_slot note) new is = absurd is
 finished-late (PlayAnswer plan) s halt new is = absurd is
 finished-late (HaltAnswer keep) s halt new is = halted-late s keep halt new is
@@ -166,7 +166,7 @@ closed-late : (held : Option Open) (last closed : Standing) (halt : Outcome) →
     → closed.late ≡ last.late
 closed-late None last closed Unasked closes = ap (λ (s : Standing). s.late) closes
 closed-late None last closed (Entered placed) closes = absurd closes
-closed-late None last closed (WasFull more entries live) closes = absurd closes
+closed-late None last closed (WasFull more entries open_plays) closes = absurd closes
 closed-late None last closed (Offered at_slot note) closes = absurd closes
 closed-late (Some booking) last closed halt closes = halted-late last booking.due halt closed closes
 

@@ -117,7 +117,7 @@ unasked-finished s new Unasked is =
     let C : Standing → Type 0 = λ n. CarriesOf s (turn_of s Unasked ∷ []) n in
     subst C (sym is) (unasked-turn s.plays s.state s)
 unasked-finished s new (Entered placed) is = absurd is
-unasked-finished s new (WasFull more entries live) is = absurd is
+unasked-finished s new (WasFull more entries open_plays) is = absurd is
 unasked-finished s new (Offered at_slot note) is = absurd is
 
 finished-turn : (s new : Standing) (awaited : Awaited) (halt : Outcome) → s.awaited ≡ awaited
@@ -271,7 +271,7 @@ shut-none last closed Unasked none closes =
     let C : Standing → Type 0 = λ s. IsShut last s Unasked in
     subst C (sym closes) (record { on = unasked-turn last.plays last.state last; none = none })
 shut-none last closed (Entered placed) none closes = absurd closes
-shut-none last closed (WasFull more entries live) none closes = absurd closes
+shut-none last closed (WasFull more entries open_plays) none closes = absurd closes
 shut-none last closed (Offered at_slot note) none closes = absurd closes
 
 shut-halted : {last closed : Standing} {halt : Outcome} (keep : ℕ) → IsKept last.state last.awaited keep
@@ -284,7 +284,7 @@ shut-halted {last} {closed} {halt = Entered placed} keep kept rest halted = reco
       (λ prepared asks. let no : Nothing ≡ Play prepared = sym rest ∙ asks in cc no));
   none = λ later. ap (λ (s : Standing). open_note s.state later) halted.halts ∙ halted-open last.state last.awaited later;
 }
-shut-halted {last} {closed} {halt = WasFull more entries live} keep kept rest halted = absurd halted
+shut-halted {last} {closed} {halt = WasFull more entries open_plays} keep kept rest halted = absurd halted
 shut-halted {last} {closed} {halt = Offered at_slot note} keep kept rest halted = absurd halted
 
 shut-in : {state : State} {last closed : Standing} {halt : Outcome} → last.state ≡ state

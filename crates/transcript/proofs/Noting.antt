@@ -169,7 +169,7 @@ halt-turn {halt = Entered placed} {s} given asking kept none =
     }
   where
     open given use {new, halted}
-halt-turn {halt = WasFull more entries live} given asking kept none = absurd given.halted
+halt-turn {halt = WasFull more entries open_plays} given asking kept none = absurd given.halted
 halt-turn {halt = Offered at_slot note} given asking kept none = absurd given.halted
 
 -- ---- a request
@@ -192,7 +192,7 @@ replied-on {asking} {outcome = Unasked} old new answered plays state =
     (ap (λ (s : Standing). s.plays) answered ∙ plays)
     (λ later. ap (λ (s : Standing). open_note s.state later) answered ∙ state later) (unasked-turn old.plays old.state asking)
 replied-on {outcome = Entered placed} old new answered plays state = absurd answered
-replied-on {outcome = WasFull more entries live} old new answered plays state = absurd answered
+replied-on {outcome = WasFull more entries open_plays} old new answered plays state = absurd answered
 replied-on {outcome = Offered at_slot note} old new answered plays state = absurd answered
 
 -- a play that begins
@@ -258,7 +258,7 @@ asks-play : {asking : Standing} {setup : Setup} {paused : Option Run} {prepared 
 asks-play {outcome = Unasked} new answered ready same awaited = absurd answered
 asks-play {outcome = Entered placed} new answered ready same awaited =
     play-on new (record { answer_is = refl; command = answered.0 }) answered.1 ready same awaited
-asks-play {outcome = WasFull more entries live} {old} new answered ready same awaited =
+asks-play {outcome = WasFull more entries open_plays} {old} new answered ready same awaited =
     stays-on old new (ap (λ (s : Standing). s.plays) answered.0 ∙ same.plays)
     (ap (λ (s : Standing). s.state) answered.0 ∙ same.state)
     (λ later. refl) (λ k. refl)
@@ -292,7 +292,7 @@ asks-look : {asking : Standing} {sequence : ℕ} {outcome : Outcome} {old : Stan
 asks-look {outcome = Unasked} new slot answered same awaited = absurd answered
 asks-look {outcome = Entered placed} new slot answered same awaited =
     look-on placed.entry.answer (record { slot = slot; command = answered.0; answered = answered.1 }) same awaited
-asks-look {outcome = WasFull more entries live} {old} new slot answered same awaited =
+asks-look {outcome = WasFull more entries open_plays} {old} new slot answered same awaited =
     stays-on old new (ap (λ (s : Standing). s.plays) answered.0 ∙ same.plays)
     (ap (λ (s : Standing). s.state) answered.0 ∙ same.state)
     (λ later. refl) (λ k. refl)
@@ -303,7 +303,7 @@ asks-offer : {asking : Standing} {outcome : Outcome} {old : Standing} (new : Sta
     CarriesOn old asking outcome new
 asks-offer {outcome = Unasked} new plan offers answered same = absurd answered
 asks-offer {outcome = Entered placed} new plan offers answered same = absurd answered
-asks-offer {outcome = WasFull more entries live} new plan offers answered same = absurd answered
+asks-offer {outcome = WasFull more entries open_plays} new plan offers answered same = absurd answered
 asks-offer {outcome = Offered at_slot note} {old} new plan offers answered same =
     stays-on old new (ap (λ (s : Standing). s.plays) answered.2 ∙ same.plays)
     (ap (λ (s : Standing). s.state) answered.2 ∙ same.state)

@@ -55,13 +55,13 @@ hears_same {old} {one} {other} {message} {ask} {again} films hears also alike =
 abbrev IsAnswer : Outcome → Type 0
 IsAnswer Unasked = ⊥
 IsAnswer (Entered placed) = ⊤
-IsAnswer (WasFull more entries live) = ⊤
+IsAnswer (WasFull more entries open_plays) = ⊤
 IsAnswer (Offered at_slot note) = ⊤
 
 answer_one : (outcome : Outcome) → IsAnswer outcome → answer_in outcome ≡ outcome ∷ []
 answer_one Unasked is = absurd is
 answer_one (Entered placed) is = refl
-answer_one (WasFull more entries live) is = refl
+answer_one (WasFull more entries open_plays) is = refl
 answer_one (Offered at_slot note) is = refl
 
 heads_same : {one other : Outcome} (ones others : List Outcome) → IsAnswer one → IsAnswer other
@@ -83,27 +83,27 @@ halted_answer : (old : Standing) (keep : ℕ) (outcome : Outcome) (new : Standin
     → IsAnswer outcome
 halted_answer old keep Unasked new halted = absurd halted
 halted_answer old keep (Entered placed) new halted = tt
-halted_answer old keep (WasFull more entries live) new halted = absurd halted
+halted_answer old keep (WasFull more entries open_plays) new halted = absurd halted
 halted_answer old keep (Offered at_slot note) new halted = absurd halted
 
 outcome_of : (old : Standing) (ask : Ask) (outcome : Outcome) (new : Standing) → IsAnswered old ask outcome new
     → IsOutcomeOf ask outcome
 outcome_of old AskReply Unasked new is = refl
 outcome_of old AskReply (Entered placed) new is = absurd is
-outcome_of old AskReply (WasFull more entries live) new is = absurd is
+outcome_of old AskReply (WasFull more entries open_plays) new is = absurd is
 outcome_of old AskReply (Offered at_slot note) new is = absurd is
 outcome_of old (AskPlay plan) Unasked new is = absurd is
 outcome_of old (AskPlay plan) (Entered placed) new is = tt
-outcome_of old (AskPlay plan) (WasFull more entries live) new is = tt
+outcome_of old (AskPlay plan) (WasFull more entries open_plays) new is = tt
 outcome_of old (AskPlay plan) (Offered at_slot note) new is = absurd is
 outcome_of old (AskHalt keep) outcome new is = halted_answer old keep outcome new is
 outcome_of old (AskLook slot) Unasked new is = absurd is
 outcome_of old (AskLook slot) (Entered placed) new is = tt
-outcome_of old (AskLook slot) (WasFull more entries live) new is = tt
+outcome_of old (AskLook slot) (WasFull more entries open_plays) new is = tt
 outcome_of old (AskLook slot) (Offered at_slot note) new is = absurd is
 outcome_of old (AskOffer plan offers) Unasked new is = absurd is
 outcome_of old (AskOffer plan offers) (Entered placed) new is = absurd is
-outcome_of old (AskOffer plan offers) (WasFull more entries live) new is = absurd is
+outcome_of old (AskOffer plan offers) (WasFull more entries open_plays) new is = absurd is
 outcome_of old (AskOffer plan offers) (Offered at_slot note) new is = tt
 
 outcomes_same : {one other : Outcome} (ask : Ask) (ones others : List Outcome) → IsOutcomeOf ask one → IsOutcomeOf ask other
@@ -137,27 +137,27 @@ halted_once : {one other : Standing} (old : Standing) (keep : ℕ) (outcome : Ou
     → other ≡ one
 halted_once {one} {other} old keep Unasked is also = absurd is
 halted_once {one} {other} old keep (Entered placed) is also = also.halts ∙ sym is.halts
-halted_once {one} {other} old keep (WasFull more entries live) is also = absurd is
+halted_once {one} {other} old keep (WasFull more entries open_plays) is also = absurd is
 halted_once {one} {other} old keep (Offered at_slot note) is also = absurd is
 
 answered_once : {one other : Standing} (old : Standing) (ask : Ask) (outcome : Outcome) → IsAnswered old ask outcome one
     → IsAnswered old ask outcome other → other ≡ one
 answered_once {one} {other} old AskReply Unasked is also = also ∙ sym is
 answered_once {one} {other} old AskReply (Entered placed) is also = absurd is
-answered_once {one} {other} old AskReply (WasFull more entries live) is also = absurd is
+answered_once {one} {other} old AskReply (WasFull more entries open_plays) is also = absurd is
 answered_once {one} {other} old AskReply (Offered at_slot note) is also = absurd is
 answered_once {one} {other} old (AskPlay plan) Unasked is also = absurd is
 answered_once {one} {other} old (AskPlay plan) (Entered placed) is also = play_once old placed placed.entry.answer is.1 also.1
-answered_once {one} {other} old (AskPlay plan) (WasFull more entries live) is also = also.0 ∙ sym is.0
+answered_once {one} {other} old (AskPlay plan) (WasFull more entries open_plays) is also = also.0 ∙ sym is.0
 answered_once {one} {other} old (AskPlay plan) (Offered at_slot note) is also = absurd is
 answered_once {one} {other} old (AskHalt keep) outcome is also = halted_once old keep outcome is also
 answered_once {one} {other} old (AskLook slot) Unasked is also = absurd is
 answered_once {one} {other} old (AskLook slot) (Entered placed) is also = look_once old placed placed.entry.answer is.1 also.1
-answered_once {one} {other} old (AskLook slot) (WasFull more entries live) is also = also.0 ∙ sym is.0
+answered_once {one} {other} old (AskLook slot) (WasFull more entries open_plays) is also = also.0 ∙ sym is.0
 answered_once {one} {other} old (AskLook slot) (Offered at_slot note) is also = absurd is
 answered_once {one} {other} old (AskOffer plan offers) Unasked is also = absurd is
 answered_once {one} {other} old (AskOffer plan offers) (Entered placed) is also = absurd is
-answered_once {one} {other} old (AskOffer plan offers) (WasFull more entries live) is also = absurd is
+answered_once {one} {other} old (AskOffer plan offers) (WasFull more entries open_plays) is also = absurd is
 answered_once {one} {other} old (AskOffer plan offers) (Offered at_slot note) is also = also.2 ∙ sym is.2
 
 -- answers that begin with these two are the same
@@ -181,7 +181,7 @@ unasked : (old : Standing) (outcome : Outcome) (new : Standing) → IsFinished N
     → (outcome ≡ Unasked) × (new ≡ old)
 unasked old Unasked new is = (refl, is)
 unasked old (Entered placed) new is = absurd is
-unasked old (WasFull more entries live) new is = absurd is
+unasked old (WasFull more entries open_plays) new is = absurd is
 unasked old (Offered at_slot note) new is = absurd is
 
 finished_same : {new again : Standing} {one other : Outcome} (asks : Awaits) (old : Standing)
@@ -234,27 +234,27 @@ halted_films : (old : Standing) (keep : ℕ) (outcome : Outcome) (new : Standing
     → new.films ≡ old.films
 halted_films old keep Unasked new is = absurd is
 halted_films old keep (Entered placed) new is = ap (λ (s : Standing). s.films) is.halts
-halted_films old keep (WasFull more entries live) new is = absurd is
+halted_films old keep (WasFull more entries open_plays) new is = absurd is
 halted_films old keep (Offered at_slot note) new is = absurd is
 
 pub answered_films : (old : Standing) (ask : Ask) (outcome : Outcome) (new : Standing)
     → IsAnswered old ask outcome new → new.films ≡ old.films
 answered_films old AskReply Unasked new is = ap (λ (s : Standing). s.films) is
 answered_films old AskReply (Entered placed) new is = absurd is
-answered_films old AskReply (WasFull more entries live) new is = absurd is
+answered_films old AskReply (WasFull more entries open_plays) new is = absurd is
 answered_films old AskReply (Offered at_slot note) new is = absurd is
 answered_films old (AskPlay plan) Unasked new is = absurd is
 answered_films old (AskPlay plan) (Entered placed) new is = play_films old placed placed.entry.answer new is.1
-answered_films old (AskPlay plan) (WasFull more entries live) new is = ap (λ (s : Standing). s.films) is.0
+answered_films old (AskPlay plan) (WasFull more entries open_plays) new is = ap (λ (s : Standing). s.films) is.0
 answered_films old (AskPlay plan) (Offered at_slot note) new is = absurd is
 answered_films old (AskHalt keep) outcome new is = halted_films old keep outcome new is
 answered_films old (AskLook slot) Unasked new is = absurd is
 answered_films old (AskLook slot) (Entered placed) new is = look_films old placed placed.entry.answer new is.1
-answered_films old (AskLook slot) (WasFull more entries live) new is = ap (λ (s : Standing). s.films) is.0
+answered_films old (AskLook slot) (WasFull more entries open_plays) new is = ap (λ (s : Standing). s.films) is.0
 answered_films old (AskLook slot) (Offered at_slot note) new is = absurd is
 answered_films old (AskOffer plan offers) Unasked new is = absurd is
 answered_films old (AskOffer plan offers) (Entered placed) new is = absurd is
-answered_films old (AskOffer plan offers) (WasFull more entries live) new is = absurd is
+answered_films old (AskOffer plan offers) (WasFull more entries open_plays) new is = absurd is
 answered_films old (AskOffer plan offers) (Offered at_slot note) new is = ap (λ (s : Standing). s.films) is.2
 
 reply_films : (goes : Bool) (s : Standing) → (if goes then sent_reply s else s).films ≡ s.films

@@ -91,18 +91,18 @@ logs-look asking new placed (Admitted start) is answered = absurd answered
 logs-look asking new placed (Overflow slot booked asked) is answered = absurd answered
 logs-look asking new placed Halted is answered = absurd answered
 
-logs-full : {asking new : Standing} {more entries live : ℕ}
-    → new.receipts ≡ asking.receipts ++ receipt_in (WasFull more entries live) → new.offers ≡ asking.offers
-    → Logs asking new (WasFull more entries live ∷ [])
-logs-full {asking} {new} {more} {entries} {live} receipts offers =
-    logs-one asking new (WasFull more entries live) receipts (offers ∙ sym (append-nil asking.offers))
+logs-full : {asking new : Standing} {more entries open_plays : ℕ}
+    → new.receipts ≡ asking.receipts ++ receipt_in (WasFull more entries open_plays) → new.offers ≡ asking.offers
+    → Logs asking new (WasFull more entries open_plays ∷ [])
+logs-full {asking} {new} {more} {entries} {open_plays} receipts offers =
+    logs-one asking new (WasFull more entries open_plays) receipts (offers ∙ sym (append-nil asking.offers))
 
 logs-halt : (asking new : Standing) (keep : ℕ) (outcome : Outcome) → IsHalted asking keep outcome new
     → Logs asking new (outcome ∷ [])
 logs-halt asking new keep Unasked halted = absurd halted
 logs-halt asking new keep (Entered placed) halted =
     logs-entry halted.answer (ap (λ (s : Standing). s.receipts) halted.halts) (ap (λ (s : Standing). s.offers) halted.halts)
-logs-halt asking new keep (WasFull more entries live) halted = absurd halted
+logs-halt asking new keep (WasFull more entries open_plays) halted = absurd halted
 logs-halt asking new keep (Offered at_slot note) halted = absurd halted
 
 -- nothing was asked
@@ -111,29 +111,29 @@ logs-unasked old new Unasked is =
     logs-one old new Unasked (ap (λ (s : Standing). s.receipts) is ∙ sym (append-nil old.receipts))
     (ap (λ (s : Standing). s.offers) is ∙ sym (append-nil old.offers))
 logs-unasked old new (Entered placed) is = absurd is
-logs-unasked old new (WasFull more entries live) is = absurd is
+logs-unasked old new (WasFull more entries open_plays) is = absurd is
 logs-unasked old new (Offered at_slot note) is = absurd is
 
 logs-answer : (asking new : Standing) (ask : Ask) (outcome : Outcome) → IsAnswered asking ask outcome new
     → Logs asking new (outcome ∷ [])
 logs-answer asking new AskReply Unasked answered = logs-unasked asking new Unasked answered
 logs-answer asking new AskReply (Entered placed) answered = absurd answered
-logs-answer asking new AskReply (WasFull more entries live) answered = absurd answered
+logs-answer asking new AskReply (WasFull more entries open_plays) answered = absurd answered
 logs-answer asking new AskReply (Offered at_slot note) answered = absurd answered
 logs-answer asking new (AskPlay plan) Unasked answered = absurd answered
 logs-answer asking new (AskPlay plan) (Entered placed) answered = logs-play asking new placed placed.entry.answer refl answered.1
-logs-answer asking new (AskPlay plan) (WasFull more entries live) answered =
+logs-answer asking new (AskPlay plan) (WasFull more entries open_plays) answered =
     logs-full (ap (λ (s : Standing). s.receipts) answered.0) (ap (λ (s : Standing). s.offers) answered.0)
 logs-answer asking new (AskPlay plan) (Offered at_slot note) answered = absurd answered
 logs-answer asking new (AskHalt keep) outcome answered = logs-halt asking new keep outcome answered
 logs-answer asking new (AskLook slot) Unasked answered = absurd answered
 logs-answer asking new (AskLook slot) (Entered placed) answered = logs-look asking new placed placed.entry.answer refl answered.1
-logs-answer asking new (AskLook slot) (WasFull more entries live) answered =
+logs-answer asking new (AskLook slot) (WasFull more entries open_plays) answered =
     logs-full (ap (λ (s : Standing). s.receipts) answered.0) (ap (λ (s : Standing). s.offers) answered.0)
 logs-answer asking new (AskLook slot) (Offered at_slot note) answered = absurd answered
 logs-answer asking new (AskOffer plan offers) Unasked answered = absurd answered
 logs-answer asking new (AskOffer plan offers) (Entered placed) answered = absurd answered
-logs-answer asking new (AskOffer plan offers) (WasFull more entries live) answered = absurd answered
+logs-answer asking new (AskOffer plan offers) (WasFull more entries open_plays) answered = absurd answered
 logs-answer asking new (AskOffer plan offers) (Offered at_slot note) answered =
     logs-one asking new (Offered at_slot note) (ap (λ (s : Standing). s.receipts) answered.2 ∙ sym (append-nil asking.receipts))
     (ap (λ (s : Standing). s.offers) answered.2)
@@ -250,7 +250,7 @@ logs-closed : (booking : Option Open) (last closed : Standing) (halt : Outcome)
     → IsClosed booking last halt closed → Logs last closed (halt ∷ [])
 logs-closed None last closed Unasked is = logs-unasked last closed Unasked is
 logs-closed None last closed (Entered placed) is = absurd is
-logs-closed None last closed (WasFull more entries live) is = absurd is
+logs-closed None last closed (WasFull more entries open_plays) is = absurd is
 logs-closed None last closed (Offered at_slot note) is = absurd is
 logs-closed (Some booking) last closed halt is = logs-halt last closed booking.due halt is
 

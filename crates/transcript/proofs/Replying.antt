@@ -113,7 +113,7 @@ halted_waiting : (s : Standing) (keep : ℕ) (halt : Outcome) (new : Standing) �
 halted_waiting s keep Unasked new done halted = absurd halted
 halted_waiting s keep (Entered placed) new done halted =
     ap waiting_reply halted.halts ∙ ap (λ n. if (if is_answered n then true else s.waits) then s.text ∷ [] else []) done
-halted_waiting s keep (WasFull more entries live) new done halted = absurd halted
+halted_waiting s keep (WasFull more entries open_plays) new done halted = absurd halted
 halted_waiting s keep (Offered at_slot note) new done halted = absurd halted
 
 finished_waiting : (asks : Awaits) (s : Standing) (halt : Outcome) (new : Standing) → next_of s.awaited ≡ Done
@@ -121,7 +121,7 @@ finished_waiting : (asks : Awaits) (s : Standing) (halt : Outcome) (new : Standi
     → waiting_reply new ≡ waiting_reply s
 finished_waiting NoAnswer s Unasked new done is = ap waiting_reply is
 finished_waiting NoAnswer s (Entered placed) new done is = absurd is
-finished_waiting NoAnswer s (WasFull more entries live) new done is = absurd is
+finished_waiting NoAnswer s (WasFull more entries open_plays) new done is = absurd is
 finished_waiting NoAnswer s (Offered at_slot note) new done is = absurd is
 finished_waiting (PlayAnswer plan) s halt new done is = absurd is
 finished_waiting (HaltAnswer keep) s halt new done is = halted_waiting s keep halt new done is

@@ -54,7 +54,7 @@ kept-command (LookCommand slot) = inl (λ later. refl)
 kept-outcome : (outcome : Outcome) → IsKeptSome (kept_with outcome)
 kept-outcome Unasked = inl (λ later. refl)
 kept-outcome (Entered placed) = kept-command placed.entry.command
-kept-outcome (WasFull more entries live) = inl (λ later. refl)
+kept-outcome (WasFull more entries open_plays) = inl (λ later. refl)
 kept-outcome (Offered slot note) = inl (λ later. refl)
 
 kept-both : (one two : ℕ → ℕ) → IsKeptSome one → IsKeptSome two → IsKeptSome (λ later. one (two later))
@@ -104,7 +104,7 @@ entered-either (Offer sequence) placed answer is = BeginsNone (λ askings. refl)
 either : (asked : Awaited) (outcome : Outcome) → Beginning asked outcome
 either asked Unasked = BeginsNone (λ askings. refl)
 either asked (Entered placed) = entered-either asked placed placed.entry.answer refl
-either asked (WasFull more entries live) = BeginsNone (λ askings. refl)
+either asked (WasFull more entries open_plays) = BeginsNone (λ askings. refl)
 either asked (Offered slot note) = BeginsNone (λ askings. refl)
 
 -- none at all, none so far
@@ -244,12 +244,12 @@ halt-none : (asked : Awaited) (halt : Outcome) (s new : Standing)
     → IsFinished (awaited_answer_of asked) s halt new → (askings : List Asking) → plays_begun asked halt askings ≡ []
 halt-none Nothing Unasked s new is = λ askings. refl
 halt-none Nothing (Entered placed) s new is = absurd is
-halt-none Nothing (WasFull more entries live) s new is = λ askings. refl
+halt-none Nothing (WasFull more entries open_plays) s new is = λ askings. refl
 halt-none Nothing (Offered slot note) s new is = λ askings. refl
 halt-none (Play prepared) halt s new is = absurd is
 halt-none (Halt keep next) Unasked s new is = λ askings. refl
 halt-none (Halt keep next) (Entered placed) s new is = λ askings. refl
-halt-none (Halt keep next) (WasFull more entries live) s new is = λ askings. refl
+halt-none (Halt keep next) (WasFull more entries open_plays) s new is = λ askings. refl
 halt-none (Halt keep next) (Offered slot note) s new is = λ askings. refl
 halt-none (Look sequence) halt s new is = absurd is
 halt-none (Offer sequence) halt s new is = absurd is

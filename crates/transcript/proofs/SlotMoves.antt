@@ -49,7 +49,7 @@ unasked_move : (s : Standing) (halt : Outcome) (new : Standing) (pending : Optio
     → Move s new pending (Asks s.awaited halt ∷ []) [] []
 unasked_move s Unasked new pending held finishing = still_move finishing (unasked_still s.awaited) held
 unasked_move s (Entered placed) new pending held finishing = absurd finishing
-unasked_move s (WasFull more entries live) new pending held finishing = absurd finishing
+unasked_move s (WasFull more entries open_plays) new pending held finishing = absurd finishing
 unasked_move s (Offered at_slot note) new pending held finishing = absurd finishing
 
 rest_move : {s : Standing} {halt : Outcome} {new : Standing} {pending : Option ℕ} → s.awaited ≡ Nothing
@@ -132,7 +132,7 @@ halted_move : {s : Standing} {setup : Setup} {play : Played} {halt : Outcome} {k
 halted_move {s} {halt = Unasked} {new} finished halted held = absurd halted
 halted_move {s} {halt = Entered placed} {new} finished halted held =
     done_move finished halted held
-halted_move {s} {halt = WasFull more entries live} {new} finished halted held = absurd halted
+halted_move {s} {halt = WasFull more entries open_plays} {new} finished halted held = absurd halted
 halted_move {s} {halt = Offered at_slot note} {new} finished halted held = absurd halted
 
 finishes_move : {s : Standing} {state : State} {halt : Outcome} {new : Standing} {pending : Option ℕ} → s.state ≡ state

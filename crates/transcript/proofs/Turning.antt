@@ -54,7 +54,7 @@ pub record IsAfter (old new : Standing) : Type 0 where
 abbrev pub told_by : Outcome → List Placed → List Booked
 told_by Unasked made = []
 told_by (Entered placed) made = booked_by (play_admitted placed.entry.command placed.entry.answer) made
-told_by (WasFull more entries live) made = []
+told_by (WasFull more entries open_plays) made = []
 told_by (Offered at_slot note) made = []
 
 -- neither begins nor halts a play
@@ -117,7 +117,7 @@ reply_turns {old} {outcome = Unasked} {new} {asked} answered rest waiting =
   where
     open waiting use {sends, heard, awaited, waits}
 reply_turns {outcome = Entered placed} {new} answered rest waiting = absurd answered
-reply_turns {outcome = WasFull more entries live} {new} answered rest waiting = absurd answered
+reply_turns {outcome = WasFull more entries open_plays} {new} answered rest waiting = absurd answered
 reply_turns {outcome = Offered at_slot note} {new} answered rest waiting = absurd answered
 
 admitted_sends : {state : State} {setup : Setup} {paused : Option Run} {prepared : Prepared} {awaited : Awaited}
@@ -196,7 +196,7 @@ asked_play {outcome = Unasked} {new} asked answered ready state heard awaited = 
 asked_play {outcome = Entered placed} {new} asked answered ready state heard awaited =
     play_turns {asked = asked} (record { answer_is = refl; command = answered.0 }) answered.1 ready
     (record { state = state; heard = heard }) awaited
-asked_play {outcome = WasFull more entries live} {new} asked answered ready state heard awaited =
+asked_play {outcome = WasFull more entries open_plays} {new} asked answered ready state heard awaited =
     Stays (ap (λ (s : Standing). sends_in s.state) answered.0 ∙ ap sends_in state) (record {
       heard = ap (λ (s : Standing). s.heard) answered.0 ∙ heard;
       awaited = ap (λ (s : Standing). s.awaited) answered.0;
@@ -256,7 +256,7 @@ asked_halt : {old : Standing} {setup : Setup} {play : Played} {keep : ℕ} {next
 asked_halt {next} {outcome = Unasked} {new} halted told keep_is halt heard = absurd halted
 asked_halt {next} {outcome = Entered placed} {new} halted told keep_is halt heard =
     halt_turns halted told keep_is halt heard
-asked_halt {next} {outcome = WasFull more entries live} {new} halted told keep_is halt heard = absurd halted
+asked_halt {next} {outcome = WasFull more entries open_plays} {new} halted told keep_is halt heard = absurd halted
 asked_halt {next} {outcome = Offered at_slot note} {new} halted told keep_is halt heard = absurd halted
 
 -- a look's answer, and an offer's
@@ -285,7 +285,7 @@ asked_look {slot} {outcome = Unasked} {new} asked answered slot_is state heard a
 asked_look {slot} {outcome = Entered placed} {new} asked answered slot_is state heard awaited =
     look_answered {asked = asked} placed.entry.answer (answered.0 ∙ ap look_at slot_is) answered.1
     (record { state = state; heard = heard }) awaited
-asked_look {slot} {outcome = WasFull more entries live} {new} asked answered slot_is state heard awaited =
+asked_look {slot} {outcome = WasFull more entries open_plays} {new} asked answered slot_is state heard awaited =
     Stays (ap (λ (s : Standing). sends_in s.state) answered.0 ∙ ap sends_in state) (record {
       heard = ap (λ (s : Standing). s.heard) answered.0 ∙ heard;
       awaited = ap (λ (s : Standing). s.awaited) answered.0;
@@ -299,7 +299,7 @@ asked_offer : {old : Standing} {outcome : Outcome} {new : Standing} (plan : List
     → TurnsAs old asked.awaited outcome new
 asked_offer {outcome = Unasked} {new} plan offers asked answered state heard = absurd answered
 asked_offer {outcome = Entered placed} {new} plan offers asked answered state heard = absurd answered
-asked_offer {outcome = WasFull more entries live} {new} plan offers asked answered state heard = absurd answered
+asked_offer {outcome = WasFull more entries open_plays} {new} plan offers asked answered state heard = absurd answered
 asked_offer {outcome = Offered at_slot note} {new} plan offers asked answered state heard =
     Stays (ap (λ (s : Standing). sends_in s.state) answered.2 ∙ ap sends_in state) (record {
       heard = ap (λ (s : Standing). s.heard) answered.2 ∙ heard;

@@ -42,7 +42,7 @@ all_heard (round ∷ rounds) = heard_in round.event ++ all_heard rounds
 abbrev pub answer_in : Outcome → List Outcome
 answer_in Unasked = []
 answer_in (Entered placed) = Entered placed ∷ []
-answer_in (WasFull more entries live) = WasFull more entries live ∷ []
+answer_in (WasFull more entries open_plays) = WasFull more entries open_plays ∷ []
 answer_in (Offered at_slot note) = Offered at_slot note ∷ []
 
 abbrev pub answers_in : List Outcome → List Outcome

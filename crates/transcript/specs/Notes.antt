@@ -119,7 +119,7 @@ noted_entry _ _ placed turns = []
 abbrev pub notes_of_turns : Standing → Outcome → List Turn → List PlayNote
 notes_of_turns asking Unasked turns = []
 notes_of_turns asking (Entered placed) turns = noted_entry asking.state asking.awaited placed turns
-notes_of_turns asking (WasFull more entries live) turns = []
+notes_of_turns asking (WasFull more entries open_plays) turns = []
 notes_of_turns asking (Offered at_slot note) turns = []
 
 -- one note for each play that was admitted, in order

@@ -73,7 +73,7 @@ kept_by (LookCommand slot) later = later
 abbrev pub kept_with : Outcome → ℕ → ℕ
 kept_with Unasked later = later
 kept_with (Entered placed) later = kept_by placed.entry.command later
-kept_with (WasFull more entries live) later = later
+kept_with (WasFull more entries open_plays) later = later
 kept_with (Offered at_slot note) later = later
 
 abbrev pub kept_in : List Asking → ℕ → ℕ
@@ -94,7 +94,7 @@ plays_admitted _ _ askings = []
 abbrev pub plays_begun : Awaited → Outcome → List Asking → List FilmPlay
 plays_begun asked Unasked askings = []
 plays_begun asked (Entered placed) askings = plays_admitted asked placed.entry.answer askings
-plays_begun asked (WasFull more entries live) askings = []
+plays_begun asked (WasFull more entries open_plays) askings = []
 plays_begun asked (Offered at_slot note) askings = []
 
 -- the plays that were admitted, in order

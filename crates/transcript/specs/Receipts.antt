@@ -11,7 +11,7 @@ use Rattle.conn.specs.Turns.{Outcome, Unasked, Entered, WasFull, Offered}
 abbrev pub receipt_in : Outcome → List Receipt
 receipt_in Unasked = []
 receipt_in (Entered placed) = Entry placed.place placed.entry.answer ∷ []
-receipt_in (WasFull more entries live) = Full entries live ∷ []
+receipt_in (WasFull more entries open_plays) = Full entries open_plays ∷ []
 receipt_in (Offered at_slot note) = []
 
 abbrev pub receipts_in : List Outcome → List Receipt
@@ -21,7 +21,7 @@ receipts_in (outcome ∷ outcomes) = receipt_in outcome ++ receipts_in outcomes
 abbrev pub offer_in : Outcome → List OfferNote
 offer_in Unasked = []
 offer_in (Entered placed) = []
-offer_in (WasFull more entries live) = []
+offer_in (WasFull more entries open_plays) = []
 offer_in (Offered at_slot note) = note ∷ []
 
 abbrev pub offers_in : List Outcome → List OfferNote

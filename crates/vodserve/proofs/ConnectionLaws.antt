@@ -46,8 +46,8 @@ all_receipts journal seat (EntryReceipt place answer ∷ rest) all =
     All-cons (IsReceiptIn journal seat) (EntryReceipt place answer) rest
     (All-head (IsReceiptIn journal seat) (EntryReceipt place answer) (entry_receipts rest) all)
     (all_receipts journal seat rest (All-tail (IsReceiptIn journal seat) (EntryReceipt place answer) (entry_receipts rest) all))
-all_receipts journal seat (FullReceipt entries live ∷ rest) all =
-    All-cons (IsReceiptIn journal seat) (FullReceipt entries live) rest tt (all_receipts journal seat rest all)
+all_receipts journal seat (FullReceipt entries open_plays ∷ rest) all =
+    All-cons (IsReceiptIn journal seat) (FullReceipt entries open_plays) rest tt (all_receipts journal seat rest all)
 
 -- the receipt for an entry of a seat tells that entry
 receipt_in : (journal : List Entry) (seat : ℕ) (placed : Placed)

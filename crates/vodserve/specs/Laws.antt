@@ -109,7 +109,7 @@ IsReceiptIn journal seat (EntryReceipt place answer) =
     (place < length journal)
     × ((none : Entry) → ((slice_index_or journal place none).maker ≡ seat)
     × ((slice_index_or journal place none).answer ≡ answer))
-IsReceiptIn journal seat (FullReceipt entries live) = ⊤
+IsReceiptIn journal seat (FullReceipt entries open_plays) = ⊤
 
 -- so does each receipt of a connection, whose worker has the seat of the number after its own
 abbrev pub IsReportIn : List Entry → ConnReport → Type 0
