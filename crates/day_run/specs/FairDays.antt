@@ -89,7 +89,8 @@ state_in words turn = state_at turn.mid (client_of words)
 -- a turn by the next words: how many slots later, 0 to 3, and one of 256 clients
 pub record IsTurn (link : Link) (words : ℕ → ℕ) (turn : Turn) : Type 0 where
   pub slot : turn.mid ≡ at_later turn.old (words 0 % 4)
-  pub done : IsDone link (words_after 2 words) (client_of words) (state_in words turn) turn.mid turn.new
+  pub done : IsDone link (words_after 2 words) (client_of words) (state_in words turn) turn.mid
+      turn.new
       turn.text
 
 -- the words that a turn leaves

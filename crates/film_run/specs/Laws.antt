@@ -34,8 +34,8 @@ pub record IsUnplayed (run : Run) (unit : ℕ) : Type 0 where
   pub from : run.from_unit ≤ unit
   pub before_end : unit < run.end_unit
 
--- The time of a unit begins in a slot of the play: the first unplayed one is shown once the delay is
--- over, and each of the others a picture's time after the one before it.
+-- The time of a unit begins in a slot of the play: the first unplayed one is shown once the delay
+-- is over, and each of the others a picture's time after the one before it.
 pub record IsTimeOf (playback : Playback) (run : Run) (unit slot : ℕ) : Type 0 where
   pub delayed : playback.delay ≤ slot
   pub begins : (slot - playback.delay) * playback.slot_units

@@ -8,7 +8,8 @@ use Rattle.film_frames.specs.Pieces.{wire_size}
 
 -- the sizes of the units of a film on the wire, in order
 abbrev pub sizes_of : List ℕ → List ℕ
-sizes_of film = map (λ unit. wire_size (slices_in (film_calls film)) unit) (units_in (film_calls film))
+sizes_of film =
+    map (λ unit. wire_size (slices_in (film_calls film)) unit) (units_in (film_calls film))
 
 -- the unit that is being told, and the sizes of those that have ended
 pub record Sizing : Type 0 where

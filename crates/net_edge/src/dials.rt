@@ -10,8 +10,8 @@ use std::time::Clock;
 use std::{io, mem};
 use vod_base::{Gate, GateFault, Opening};
 
-/// A connection to a TCP port of this machine. Slots count from its opening, which connects, and are
-/// as long as [`Opening`] says, in 1/360,000 second.
+/// A connection to a TCP port of this machine. Slots count from its opening, which connects, and
+/// are as long as [`Opening`] says, in 1/360,000 second.
 ///
 /// The first part that is split from it gives the connection; no other part gives one.
 #[derive(Drop)]

@@ -33,8 +33,8 @@ pub fn law_meter_within(wish: &Wish)
 }
 
 /// The meter tells when the bytes that came leave the space between the two curves: where a film's
-/// first units were heard and no reading was over or under, what came lay between the curves at each
-/// reading; and the most that waited is above the buffer exactly where a reading was over.
+/// first units were heard and no reading was over or under, what came lay between the curves at
+/// each reading; and the most that waited is above the buffer exactly where a reading was over.
 pub fn law_meter_tells(wish: &Wish)
     requires { IsWish wish.now }
     ensures between { (sizes : List ℕ) (picture_time : ℕ) (h : History) → 0 < picture_time →

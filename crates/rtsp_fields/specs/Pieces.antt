@@ -23,8 +23,8 @@ pub record IsPiece (c : ℕ) (text : List ℕ) (from to : ℕ) : Type 0 where
   pub start : IsStart c text from
   pub end : IsEnd c text from to
 
--- `piece` begins at `from`, and ends before the next separator or with the text; `next` is the place
--- after that
+-- `piece` begins at `from`, and ends before the next separator or with the text; `next` is the
+-- place after that
 pub record IsNextPiece (c : ℕ) (text : List ℕ) (from next : ℕ) (piece : List ℕ) : Type 0 where
   pub end : ℕ
   pub is_end : IsEnd c text from end

@@ -120,7 +120,8 @@ after_overflow old place slot booked asked =
 -- once the journal had no room for the play or the look
 abbrev pub after_full : Standing → ℕ → ℕ → Standing
 after_full old entries open_plays =
-    after_answer old (Full entries open_plays) (full_text (sequence_of old.awaited) entries open_plays)
+    after_answer old (Full entries open_plays)
+    (full_text (sequence_of old.awaited) entries open_plays)
 
 -- what was sent in all, once a play is done that kept so many bytes of its run
 abbrev pub counts_done : Source → Counts → Setup → Run → ℕ → Option Stored → Counts

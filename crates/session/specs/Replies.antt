@@ -108,7 +108,8 @@ overflow_text sequence slot booked asked = reply_text 453 (Some sequence)
 
 abbrev pub full_text : ℕ → ℕ → ℕ → List ℕ
 full_text sequence entries open_plays = reply_text 503 (Some sequence)
-    (field (codes "x-Entries") (decimal entries) ∷ field (codes "x-Open") (decimal open_plays) ∷ []) []
+    (field (codes "x-Entries") (decimal entries) ∷ field (codes "x-Open") (decimal open_plays) ∷ [])
+    []
 
 abbrev pub parameters_text : ℕ → List ℕ → List ℕ
 parameters_text sequence body = reply_text 200 (Some sequence)

@@ -57,8 +57,8 @@ pub enum Fault {
     TurnsSpent,
 }
 
-/// Why the words weren't carried out. [`say`](crate::say) writes it on the error stream as a line of
-/// names and numbers; its `Display` is prose.
+/// Why the words weren't carried out. [`say`](crate::say) writes it on the error stream as a line
+/// of names and numbers; its `Display` is prose.
 #[derive(Clone, Copy, Debug, Error)]
 pub enum Trouble<'a> {
     /// The words have no meaning.

@@ -55,8 +55,8 @@ HasOut c = length c.own.back < c.own.given
 abbrev pub fresh_part : ℕ → Part
 fresh_part number = record { number = number; given = 0; back = []; last = NoneYet }
 
--- after an `open`, which is counted: as it was opened, without parts; after one that failed it isn't
--- open
+-- after an `open`, which is counted: as it was opened, without parts; after one that failed it
+-- isn't open
 abbrev pub after_open : Option Opening → Content → Content
 after_open how c = record c { openings = one_more c.openings; opening = how; parts = [] }
 

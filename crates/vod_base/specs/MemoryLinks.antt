@@ -59,7 +59,8 @@ without_first_bytes count events = events
 
 -- the events from a front on
 abbrev pub left_from : List Event → Front → List Doing
-left_from events front = without_first_bytes front.offset (drop front.event (map heard_whole events))
+left_from events front =
+    without_first_bytes front.offset (drop front.event (map heard_whole events))
 
 -- the same events without those of no bytes in front, which are passed over
 abbrev pub without_empty_front : List Doing → List Doing

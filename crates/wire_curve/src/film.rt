@@ -1,7 +1,8 @@
 //! The curves of a film, from the sizes of its pictures and the times at which they are used.
 
 ghost use Rattle.std.specs.Prelude.{◌≡◌, ℕ, ◌+◌, ◌-◌, ◌<◌, ◌≤◌, ◌^◌, length, sum, slice_index};
-ghost use Rattle.std.specs.Prelude.{vec_len, IsTrue, ◌↔◌, MatchOption, IfOk, IfErr, IfSome, IfNone, OnOk, All, max, min};
+ghost use Rattle.std.specs.Prelude.{vec_len, IsTrue, ◌↔◌, MatchOption, IfOk, IfErr, IfSome, IfNone};
+ghost use Rattle.std.specs.Prelude.{OnOk, All, max, min};
 ghost use Rattle.wire_curve.specs.Sound.{IsSound};
 ghost use Rattle.wire_curve.specs.FilmCurves.{due_slot, bytes_used_in, total_of, slot_count};
 ghost use Rattle.wire_curve.specs.FilmCurves.{IsWithinLimits};
@@ -60,8 +61,8 @@ impl Timing {
 
     /// Whether [`film_curves`] may be called for pictures of these sizes: each field is in its
     /// range; they are at most 4,194,304 pictures, and their bytes and those used before slot 0 at
-    /// most 2^42; and the bytes sent before slot 0 are at least those used by then, at most all, and
-    /// leave in the buffer no more than it holds.
+    /// most 2^42; and the bytes sent before slot 0 are at least those used by then, at most all,
+    /// and leave in the buffer no more than it holds.
     ///
     /// It takes no memory, and time linear in the pictures.
     pub fn is_within_limits(&self, sizes: &[u64]) -> bool
