@@ -1,5 +1,5 @@
 -- The laws over a server's run.
-use Rattle.std.proofs.Common.{◌≡◌, ◌≢◌, ◌⊎◌, ◌∙◌, ◌<◌, ℕ, List, length, Option, Some, None, inl, inr, sym, subst, refl, arith, zero-add}
+use Rattle.std.proofs.Common.{◌≡◌, ◌≢◌, ◌⊎◌, ◌∙◌, ◌<◌, ℕ, List, length, Option, Some, None, Err, inl, inr, sym, subst, refl, arith, zero-add}
 use Rattle.std.specs.Prelude.{All, IfSome, slice_index_or}
 use Rattle.std.specs.List.{Contains}
 use Rattle.vod_base.specs.Outside.{File, HasRisen}
@@ -41,7 +41,7 @@ kept_by_memory LinkFault may none is = absurd is
 -- and so is what goes wrong at the end
 ended_by_memory : {before after : World} {end : PartEnd} (text : List ℕ) (trouble : Trouble) → HasNoFault before after →
     (end ≡ PartFault → HasRisen before.gate.faults after.gate.faults) →
-    IsPrinted before.out.faults after.out.faults before.out.told after.out.told text end (Some trouble) → status_of trouble ≡ 6
+    IsPrinted before.out.faults after.out.faults before.out.told after.out.told text end (Err trouble) → status_of trouble ≡ 6
 ended_by_memory {end} text Usage none fault is = absurd is
 ended_by_memory {end} text (Refused name cause) none fault is = absurd is
 ended_by_memory {end} text (StoreFault name) none fault is = absurd is
@@ -129,7 +129,7 @@ record Printing : Type 0 where
 
 -- want of memory in a worker is told by status 6
 not_memory : (printing : Printing) (trouble : Trouble) →
-    IsPrinted printing.faults printing.faults_after printing.told printing.told_after printing.text PartNoMemory (Some trouble) →
+    IsPrinted printing.faults printing.faults_after printing.told printing.told_after printing.text PartNoMemory (Err trouble) →
     status_of trouble ≢ 6 → ⊥
 not_memory printing Usage printed status = printed
 not_memory printing (Refused name fault) printed status = printed
@@ -157,7 +157,7 @@ ended_whole {end} {ended} before after text (inr wrong) status memory =
       told_after = after.out.told;
       text = text;
     }) wrong.0 (subst
-    (λ (e : PartEnd). IsPrinted before.out.faults after.out.faults before.out.told after.out.told text e (Some wrong.0)) memory
+    (λ (e : PartEnd). IsPrinted before.out.faults after.out.faults before.out.told after.out.told text e (Err wrong.0)) memory
     wrong.1.0) (λ six. status (wrong.1.1.status ∙ six))
 
 -- a status with which the workers ran

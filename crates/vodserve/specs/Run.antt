@@ -147,10 +147,10 @@ pub record Prints (before after : World) (order : Order) (ended : Ended) : Type 
 abbrev pub Ends : Seen (List ℕ) → Seen (List ℕ) → Seen (List ℕ) → Seen (List ℕ) → List ℕ → PartEnd →
     Ended → Type 0
 Ends out out' err err' text end ended =
-    (IsPrinted out.faults out'.faults out.told out'.told text end None × (ended.status ≡ 0)
+    (IsPrinted out.faults out'.faults out.told out'.told text end (Ok tt) × (ended.status ≡ 0)
     × (ended.plan ≡ None) × (err' ≡ err))
     ⊎ ((trouble : Trouble)
-    × (IsPrinted out.faults out'.faults out.told out'.told text end (Some trouble)
+    × (IsPrinted out.faults out'.faults out.told out'.told text end (Err trouble)
     × Fails err err' trouble ended))
 
 -- a server that served: the films as they were loaded, the journal, what the workers did over the

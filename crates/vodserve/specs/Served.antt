@@ -1,6 +1,6 @@
 -- What a server prints and leaves.
 use Rattle.std.specs.Prelude.{◌≡◌, ◌≢◌, ◌⊎◌, ℕ, ◌<◌, ◌≤◌, List, [], ◌∷◌, ◌++◌, length, codes}
-use Rattle.std.specs.Prelude.{decimal, All, Option, Some, None, IfSome}
+use Rattle.std.specs.Prelude.{decimal, All, Option, Some, Result, Ok, Err, IfSome}
 use Rattle.std.specs.List.{Contains}
 use Rattle.vod_base.specs.Outside.{File, HasRisen, IsFrontMore, told_more}
 use Rattle.vod_base.specs.Gates.{Content}
@@ -98,11 +98,12 @@ IsWordNamed word name = setting_value (codes "film") word ≡ Some name
 -- wrong: want of memory left a front of it; where no worker lacked memory a fault of the output,
 -- which was counted, left a front of it; else a part of the gate failed
 abbrev pub IsPrinted : ℕ → ℕ → Option (List ℕ) → Option (List ℕ) → List ℕ → PartEnd →
-    Option Trouble → Type 0
-IsPrinted faults faults' told told' text end None = (told' ≡ told_more told text) × (end ≡ AllTaken)
-IsPrinted faults faults' told told' text end (Some SinkFault) = HasRisen faults faults'
+    Result (Unit {0}) Trouble → Type 0
+IsPrinted faults faults' told told' text end (Ok done) = (told' ≡ told_more told text)
+    × (end ≡ AllTaken)
+IsPrinted faults faults' told told' text end (Err SinkFault) = HasRisen faults faults'
     × IsFrontMore told told' text × (end ≢ PartNoMemory)
-IsPrinted faults faults' told told' text end (Some NoMemory) = IsFrontMore told told' text
-IsPrinted faults faults' told told' text end (Some GateFault) = (told' ≡ told_more told text)
+IsPrinted faults faults' told told' text end (Err NoMemory) = IsFrontMore told told' text
+IsPrinted faults faults' told told' text end (Err GateFault) = (told' ≡ told_more told text)
     × (end ≡ PartFault)
-IsPrinted faults faults' told told' text end (Some _) = ⊥
+IsPrinted faults faults' told told' text end (Err _) = ⊥

@@ -77,21 +77,10 @@ fn end_day<O: Sink, E: Sink>(alloc: Global, out: &mut O, err: &mut E, day: Day) 
         day.text.items result }
 {
     let Day { text, journal } = day;
-    match out.write_all(&text) {
-        Ok(()) => Ended {
-            status: 0,
-            plan: None,
-            journal,
-            reports: Vec::new(alloc),
-        },
-        Err(_) => {
-            let ended = end_with(alloc, err, Trouble::SinkFault);
-            Ended {
-                status: ended.status,
-                plan: None,
-                journal,
-                reports: Vec::new(alloc),
-            }
-        }
-    }
+    let mut ended = match out.write_all(&text) {
+        Ok(()) => Ended::with_status(alloc, 0),
+        Err(_) => end_with(alloc, err, Trouble::SinkFault),
+    };
+    ended.journal = journal;
+    ended
 }

@@ -76,6 +76,23 @@ fn sent_of(alloc: Global, gate: &MemoryGate) -> Result<Vec<Vec<u8>>, NoMemory> {
     Ok(sent)
 }
 
+/// Reads all that was written, which is to be that text.
+fn read_text<R: Abort>(
+    rt: &R,
+    alloc: Global,
+    written: &mut Vec<u8>,
+    text: &str,
+) -> Result<(), NoMemory> {
+    let want = bytes_of(alloc, text, b"\n")?;
+    let got = std::mem::replace(written, Vec::new(alloc));
+    assert!(rt;
+        got.as_slice() == want.as_slice(),
+        "not {text} but {}",
+        String::from_utf8_lossy(alloc, &got)?
+    );
+    Ok(())
+}
+
 impl Outcome {
     /// Nothing, before the first run.
     pub(crate) fn nothing(alloc: Global) -> Outcome {
@@ -92,7 +109,8 @@ impl Outcome {
         }
     }
 
-    /// What the run of this line left, in which each play has its halt. Want of memory is the error.
+    /// What the run of this line left, in which each play has its halt. Want of memory is the
+    /// error.
     pub(crate) fn of_run<R: Abort>(
         rt: &R,
         alloc: Global,
@@ -180,7 +198,8 @@ impl Outcome {
     ) -> Result<(), NoMemory> {
         let (first, more) = word_and_rest(rest);
         match word {
-            "out" | "err" => self.read_text(rt, alloc, word == "out", rest)?,
+            "out" => read_text(rt, alloc, &mut self.out, rest)?,
+            "err" => read_text(rt, alloc, &mut self.err, rest)?,
             "is" => {
                 let out = std::mem::replace(&mut self.out, Vec::new(alloc));
                 assert!(rt;
@@ -227,7 +246,7 @@ impl Outcome {
                 self.read = self.read.saturating_add(want.len());
             }
             "sends" => {
-                let want = files.joined(alloc, rest)?;
+                let want = files.joined(rt, alloc, rest)?;
                 assert!(rt; self.unread().starts_with(&want), "other bytes than {rest}");
                 self.read = self.read.saturating_add(want.len());
             }
@@ -249,31 +268,13 @@ impl Outcome {
             }
             _ => {
                 assert_eq!(rt; self.status, number_of(word), "at {word} {rest}");
-                self.read_text(rt, alloc, word == "0" || word == "1", rest)?;
+                let written = match word {
+                    "0" | "1" => &mut self.out,
+                    _ => &mut self.err,
+                };
+                read_text(rt, alloc, written, rest)?;
             }
         }
-        Ok(())
-    }
-
-    /// Reads the whole text of the output, or of the error stream.
-    fn read_text<R: Abort>(
-        &mut self,
-        rt: &R,
-        alloc: Global,
-        is_out: bool,
-        text: &str,
-    ) -> Result<(), NoMemory> {
-        let want = bytes_of(alloc, text, b"\n")?;
-        let got = if is_out {
-            std::mem::replace(&mut self.out, Vec::new(alloc))
-        } else {
-            std::mem::replace(&mut self.err, Vec::new(alloc))
-        };
-        assert!(rt;
-            got.as_slice() == want.as_slice(),
-            "not {text} but {}",
-            String::from_utf8_lossy(alloc, &got)?
-        );
         Ok(())
     }
 }

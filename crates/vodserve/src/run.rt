@@ -52,6 +52,22 @@ pub struct Ended {
     pub reports: Vec<ConnReport>,
 }
 
+impl Ended {
+    /// An end with that status alone: without a plan, and with nothing served.
+    pub(crate) fn with_status(alloc: Global, status: u8) -> Ended
+        ensures status { result.status ≡ status }
+        ensures no_plan { result.plan ≡ None }
+        ensures nothing { HasServedNothing result }
+    {
+        Ended {
+            status,
+            plan: None,
+            journal: Vec::new(alloc),
+            reports: Vec::new(alloc),
+        }
+    }
+}
+
 /// Ends with a trouble: says its line, whose own faults change nothing.
 pub(crate) fn end_with<E: Sink>(alloc: Global, err: &mut E, trouble: Trouble<'_>) -> Ended
     ensures fails { Fails
@@ -61,12 +77,7 @@ pub(crate) fn end_with<E: Sink>(alloc: Global, err: &mut E, trouble: Trouble<'_>
 {
     let status = status_of(&trouble);
     let _ = say(err, trouble);
-    Ended {
-        status,
-        plan: None,
-        journal: Vec::new(alloc),
-        reports: Vec::new(alloc),
-    }
+    Ended::with_status(alloc, status)
 }
 
 /// Writes the text of what was done, or says what kept from it.
@@ -88,12 +99,11 @@ fn print<O: Sink, E: Sink>(
         Err(trouble) => return end_with(alloc, err, trouble),
     };
     match out.write_all(&done.text) {
-        Ok(()) => Ended {
-            status: done.status,
-            plan: done.plan,
-            journal: Vec::new(alloc),
-            reports: Vec::new(alloc),
-        },
+        Ok(()) => {
+            let mut ended = Ended::with_status(alloc, done.status);
+            ended.plan = done.plan;
+            ended
+        }
         Err(_) => end_with(alloc, err, Trouble::SinkFault),
     }
 }
@@ -145,26 +155,18 @@ fn end_server<O: Sink, E: Sink>(alloc: Global, out: &mut O, err: &mut E, closed:
         (sight_of E.faults E.written err.old) (sight_of E.faults E.written err.new)
         (served_text closed.book.entries (length closed.reports.items)) closed.end result }
 {
-    let trouble = print_served(alloc, out, &closed);
+    let mut ended = match print_served(alloc, out, &closed) {
+        Ok(()) => Ended::with_status(alloc, 0),
+        Err(trouble) => end_with(alloc, err, trouble),
+    };
     let Closed {
         book,
         reports,
         end: _,
     } = closed;
-    let status = match trouble {
-        Some(trouble) => {
-            let status = status_of(&trouble);
-            let _ = say(err, trouble);
-            status
-        }
-        None => 0,
-    };
-    Ended {
-        status,
-        plan: None,
-        journal: book.into_entries(),
-        reports,
-    }
+    ended.journal = book.into_entries();
+    ended.reports = reports;
+    ended
 }
 
 /// Serves films until no worker takes a connection any more.

@@ -134,7 +134,13 @@ impl Stage {
     }
 
     /// Takes up a line on the objects of the next run; answers whether it is one.
-    fn set(&mut self, alloc: Global, word: &str, rest: &str) -> Result<bool, NoMemory> {
+    fn set<R: Abort>(
+        &mut self,
+        rt: &R,
+        alloc: Global,
+        word: &str,
+        rest: &str,
+    ) -> Result<bool, NoMemory> {
         let (first, more) = word_and_rest(rest);
         match word {
             "file" => self
@@ -144,18 +150,18 @@ impl Stage {
                 .files
                 .keep(alloc, first, bytes_of(alloc, more, b"\r\n")?)?,
             "bytes" => {
-                let bytes = self.files.joined(alloc, more)?;
+                let bytes = self.files.joined(rt, alloc, more)?;
                 self.files.keep(alloc, first, bytes)?;
             }
             "sizes" => {
-                let sizes = self.files.sizes_of(alloc, more)?;
+                let sizes = self.files.sizes_of(rt, alloc, more)?;
                 self.files.keep(alloc, first, sizes)?;
             }
             "hears" => self
                 .events
                 .push(Event::Bytes(bytes_of(alloc, rest, b"\r\n")?))?,
             "gets" => {
-                let bytes = self.files.joined(alloc, rest)?;
+                let bytes = self.files.joined(rt, alloc, rest)?;
                 self.events.push(Event::Bytes(bytes))?;
             }
             "slots" => {
@@ -224,7 +230,7 @@ fn play_out<R: Threads + Wait + Sync + Abort>(
         if word == ">" {
             stage.left.check_all_read(rt, rest);
             stage.run(rt, alloc, rest)?;
-        } else if !line.is_empty() && word != "#" && !stage.set(alloc, word, rest)? {
+        } else if !line.is_empty() && word != "#" && !stage.set(rt, alloc, word, rest)? {
             stage.left.check(rt, alloc, &mut stage.files, word, rest)?;
         }
     }

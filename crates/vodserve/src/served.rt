@@ -11,13 +11,17 @@ use std::alloc::Global;
 use troubles::Trouble;
 use vod_base::{NoMemory, Sink};
 
-/// Writes the text of a closed server, and answers what went wrong: want of memory before the
-/// output before the gate.
+/// Writes the text of a closed server.
+///
+/// # Errors
+///
+/// What went wrong: want of memory, here or in a worker, before a fault of the output before one of
+/// the gate.
 pub(crate) fn print_served<O: Sink>(
     alloc: Global,
     out: &mut O,
     closed: &Closed,
-) -> Option<Trouble<'static>>
+) -> Result<(), Trouble<'static>>
     ensures count { O.faults out.old ≤ O.faults out.new }
     ensures printed { IsPrinted (O.faults out.old) (O.faults out.new) (O.written out.old)
         (O.written out.new)
@@ -25,20 +29,20 @@ pub(crate) fn print_served<O: Sink>(
         closed.now.end result }
 {
     let Ok(text) = served_text(alloc, &closed.book, closed.reports.len() as u64) else {
-        return Some(Trouble::NoMemory);
+        return Err(Trouble::NoMemory);
     };
     match closed.end {
         PartEnd::NoMemory => {
             let _ = out.write_all(&text);
-            Some(Trouble::NoMemory)
+            Err(Trouble::NoMemory)
         }
         PartEnd::GateFault => match out.write_all(&text) {
-            Ok(()) => Some(Trouble::GateFault),
-            Err(_) => Some(Trouble::SinkFault),
+            Ok(()) => Err(Trouble::GateFault),
+            Err(_) => Err(Trouble::SinkFault),
         },
         PartEnd::AllTaken => match out.write_all(&text) {
-            Ok(()) => None,
-            Err(_) => Some(Trouble::SinkFault),
+            Ok(()) => Ok(()),
+            Err(_) => Err(Trouble::SinkFault),
         },
     }
 }

@@ -1,8 +1,10 @@
 //! What tests hand to `run`: words, the files of a library, and a library of one film.
 
 use film_frames::Stored;
-use mpeg_scan::scan;
+use hex::FromHexError;
+use mpeg_scan::{ScanRefused, scan};
 use std::alloc::Global;
+use std::process::Abort;
 use vod_base::{MemoryLibrary, NoMemory, read_number};
 
 /// Two pictures: a sequence header, a group header, an I picture of one slice, and a P picture of
@@ -87,26 +89,41 @@ impl Files {
         None
     }
 
-    /// The bytes of words, each of which names a file or has hexadecimal digits.
-    pub(crate) fn joined(&self, alloc: Global, words: &str) -> Result<Vec<u8>, NoMemory> {
+    /// The bytes of words, each of which names a file or has hexadecimal digits. At another word
+    /// the test stops.
+    pub(crate) fn joined<R: Abort>(
+        &self,
+        rt: &R,
+        alloc: Global,
+        words: &str,
+    ) -> Result<Vec<u8>, NoMemory> {
         let mut bytes = Vec::new(alloc);
         for word in words.split_whitespace() {
             match self.bytes(word) {
                 Some(held) => bytes.extend_from_slice(held)?,
                 None => match hex::decode(alloc, word) {
                     Ok(part) => bytes.extend_from_slice(&part)?,
-                    Err(_) => return Err(NoMemory),
+                    Err(FromHexError::OutOfMemory) => return Err(NoMemory),
+                    Err(_) => panic!(rt; "{word} names no file, and has other bytes than digits"),
                 },
             }
         }
         Ok(bytes)
     }
 
-    /// The sizes of a film's units on the wire, as a trace.
-    pub(crate) fn sizes_of(&self, alloc: Global, film: &str) -> Result<Vec<u8>, NoMemory> {
-        let bytes = self.bytes(film).unwrap_or(&[]);
-        let Ok(film) = scan(alloc, Vec::from_slice(alloc, bytes)?) else {
-            return Err(NoMemory);
+    /// The sizes of a film's units on the wire, as a trace. Where there is no such film the test
+    /// stops.
+    pub(crate) fn sizes_of<R: Abort>(
+        &self,
+        rt: &R,
+        alloc: Global,
+        name: &str,
+    ) -> Result<Vec<u8>, NoMemory> {
+        let bytes = self.bytes(name).unwrap_or(&[]);
+        let film = match scan(alloc, Vec::from_slice(alloc, bytes)?) {
+            Ok(film) => film,
+            Err(ScanRefused::NoMemory) => return Err(NoMemory),
+            Err(ScanRefused::Fault(_)) => panic!(rt; "no film is named {name}"),
         };
         let film = Stored::new(alloc, String::new(alloc), film)?;
         let mut text = Vec::new(alloc);

@@ -162,19 +162,14 @@ fn watch_gate<O: Sink, G: Gate + Drop>(
 }
 
 /// Ends with what the meter of the client's buffer read.
-fn end_watched<E: Sink>(alloc: Global, err: &mut E, watched: Watched) -> Ended
+fn end_with_meter<E: Sink>(alloc: Global, err: &mut E, watched: Watched) -> Ended
     ensures nothing { HasServedNothing result }
     ensures says { SaysWatched
         (sight_of E.faults E.written err.old) (sight_of E.faults E.written err.new)
         watched result }
 {
     let _ = say_watched(err, watched);
-    Ended {
-        status: 0,
-        plan: None,
-        journal: Vec::new(alloc),
-        reports: Vec::new(alloc),
-    }
+    Ended::with_status(alloc, 0)
 }
 
 /// Ends a watching: says what the meter read, or what kept from the film's end.
@@ -185,7 +180,7 @@ fn end_watch<E: Sink>(alloc: Global, err: &mut E, film: &str, end: WatchEnd) -> 
         film.entry.now end result }
 {
     match end {
-        WatchEnd::Done(watched) => end_watched(alloc, err, watched),
+        WatchEnd::Done(watched) => end_with_meter(alloc, err, watched),
         WatchEnd::Fault(fault) => {
             let refusal = refusal_of(fault);
             end_with(alloc, err, Trouble::Refused(film, refusal))

@@ -4,9 +4,9 @@ use Rattle.day_run.specs.Scripts.{AreLines}
 use Rattle.admission.specs.Histories.{IsLegal}
 use Rattle.admission.specs.declared.entries.Entry.{Entry}
 use Rattle.std.specs.List.{Contains}
-use Rattle.inputs.specs.Files.{IsNamed}
 use Rattle.troubles.proofs.CauseLemmas.{trouble_map}
-use Rattle.local_commands.specs.Days.{IsDayInput, IsDayRefused, IsFirstNamedRefused, IsScriptRefused, names_in}
+use Rattle.inputs.proofs.ScanLemmas.{read_trouble_map}
+use Rattle.local_commands.specs.Days.{IsDayInput, IsDayRefused, IsFirstNamedRefused, names_in}
 use Rattle.vodserve.proofs.day_ends.day.Goals as goal
 
 pub returns-in-Err-clause-runs : goal.returns-in-Err-clause-runs
@@ -14,28 +14,8 @@ returns-in-Err-clause-runs g c =
     inl (
       c.in-Err.trouble,
       (
-        trouble_map (record {
-          Reads = IsNamed c.args.run.now.script.now;
-          Refuses = IsScriptRefused;
-          told = g.L.Library.files c.args.library.now;
-          before = g.L.Library.faults c.args.library.now;
-          after = g.L.Library.faults c.load_script.new.library;
-        })
-            (record {
-              Reads = IsDayInput (g.L.Library.files c.args.library.now) c.args.run.now.script.now;
-              Refuses = IsDayRefused c.args.run.now.script.now;
-              told = g.L.Library.files c.args.library.now;
-              before = g.L.Library.faults c.args.library.now;
-              after = g.L.Library.faults c.load_script.new.library;
-            })
-            c.in-Err.trouble
-            (record {
-              reads = λ name is. inl is;
-              refuses = λ held name fault told is refused. inl (is, refused);
-              keeps = λ held told. told;
-              low = omega arith;
-              high = omega arith;
-            })
+        read_trouble_map _ _ c.in-Err.trouble (λ name is. inl is)
+            (λ held name fault told is refused. inl (is, refused))
             ((c.in-Err.ensures {u = tt}).trouble),
         refl,
         c.end_with.ensures.nothing,

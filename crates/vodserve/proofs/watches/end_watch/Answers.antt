@@ -7,8 +7,8 @@ use Rattle.vodserve.proofs.watches.end_watch.Goals as goal
 pub returns-in-Done-clause-ends : goal.returns-in-Done-clause-ends
 returns-in-Done-clause-ends g c =
     subst (λ (e : WatchEnd). EndsWatch (sight_of g.E.Sink.faults g.E.Sink.written c.args.err.now)
-    (sight_of g.E.Sink.faults g.E.Sink.written c.end_watched.new.err) c.args.film.now e c.end_watched.result)
-    (sym c.in-Done.is) c.end_watched.ensures.says
+    (sight_of g.E.Sink.faults g.E.Sink.written c.end_with_meter.new.err) c.args.film.now e c.end_with_meter.result)
+    (sym c.in-Done.is) c.end_with_meter.ensures.says
 
 pub returns-in-Fault-clause-ends : goal.returns-in-Fault-clause-ends
 returns-in-Fault-clause-ends g c =
