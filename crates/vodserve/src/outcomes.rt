@@ -76,23 +76,6 @@ fn sent_of(alloc: Global, gate: &MemoryGate) -> Result<Vec<Vec<u8>>, NoMemory> {
     Ok(sent)
 }
 
-/// Reads all that was written, which is to be that text.
-fn read_text<R: Abort>(
-    rt: &R,
-    alloc: Global,
-    written: &mut Vec<u8>,
-    text: &str,
-) -> Result<(), NoMemory> {
-    let want = bytes_of(alloc, text, b"\n")?;
-    let got = std::mem::replace(written, Vec::new(alloc));
-    assert!(rt;
-        got.as_slice() == want.as_slice(),
-        "not {text} but {}",
-        String::from_utf8_lossy(alloc, &got)?
-    );
-    Ok(())
-}
-
 impl Outcome {
     /// Nothing, before the first run.
     pub(crate) fn nothing(alloc: Global) -> Outcome {
@@ -198,8 +181,7 @@ impl Outcome {
     ) -> Result<(), NoMemory> {
         let (first, more) = word_and_rest(rest);
         match word {
-            "out" => read_text(rt, alloc, &mut self.out, rest)?,
-            "err" => read_text(rt, alloc, &mut self.err, rest)?,
+            "out" | "err" => self.read_text(rt, alloc, word == "out", rest)?,
             "is" => {
                 let out = std::mem::replace(&mut self.out, Vec::new(alloc));
                 assert!(rt;
@@ -268,13 +250,31 @@ impl Outcome {
             }
             _ => {
                 assert_eq!(rt; self.status, number_of(word), "at {word} {rest}");
-                let written = match word {
-                    "0" | "1" => &mut self.out,
-                    _ => &mut self.err,
-                };
-                read_text(rt, alloc, written, rest)?;
+                self.read_text(rt, alloc, word == "0" || word == "1", rest)?;
             }
         }
+        Ok(())
+    }
+
+    /// Reads the whole text of the output, or of the error stream.
+    fn read_text<R: Abort>(
+        &mut self,
+        rt: &R,
+        alloc: Global,
+        is_out: bool,
+        text: &str,
+    ) -> Result<(), NoMemory> {
+        let want = bytes_of(alloc, text, b"\n")?;
+        let got = if is_out {
+            std::mem::replace(&mut self.out, Vec::new(alloc))
+        } else {
+            std::mem::replace(&mut self.err, Vec::new(alloc))
+        };
+        assert!(rt;
+            got.as_slice() == want.as_slice(),
+            "not {text} but {}",
+            String::from_utf8_lossy(alloc, &got)?
+        );
         Ok(())
     }
 }
